@@ -1,0 +1,73 @@
+ghost use Rattle.std.specs.Prelude.{◌≡◌};
+
+use std::alloc::{AllocError, AllocFailed};
+
+/// A function of a program, by its number from 0; 0 is the program itself.
+#[derive(Clone, Copy, Debug, PartialEq, Eq)]
+pub struct FnId(pub u32);
+
+/// A node of a function, by its number from 0; 0 is the function's entry.
+#[derive(Clone, Copy, Debug, PartialEq, Eq)]
+pub struct NodeId(pub u32);
+
+/// A place where objects are made, by its number from 0; 0 makes the global object.
+#[derive(Clone, Copy, Debug, PartialEq, Eq)]
+pub struct Site(pub u32);
+
+/// A name of a program, by its number from 0.
+#[derive(Clone, Copy, Debug, PartialEq, Eq)]
+pub struct NameId(pub u32);
+
+/// A register of a function, by its number from 0.
+#[derive(Clone, Copy, Debug, PartialEq, Eq)]
+pub struct Reg(pub u32);
+
+/// Objects of one site: the last one made there, or all others (the recency abstraction of
+/// Balakrishnan and Reps, SAS 2006).
+#[derive(Clone, Copy, Debug, PartialEq, Eq)]
+pub struct Label {
+    pub site: Site,
+    pub old: bool,
+}
+
+/// A function and the label of its receiver at the call (Jensen, Møller and Thiemann, SAS 2009).
+#[derive(Clone, Copy, Debug, PartialEq, Eq)]
+pub struct Context {
+    pub function: FnId,
+    pub receiver: Label,
+}
+
+/// A place in a text: a line and a column, each from 1. A column counts characters.
+#[derive(Clone, Copy, Debug, PartialEq, Eq)]
+pub struct Place {
+    pub line: u32,
+    pub column: u32,
+}
+
+/// Why a run leaves the profile: a text would have more than 1,048,576 units, or a register holds
+/// no value that its node takes.
+#[derive(Clone, Copy, Debug, PartialEq, Eq)]
+pub enum ScopeKind {
+    TextLength,
+    Register,
+}
+
+/// Memory was refused.
+#[derive(Clone, Copy, Debug, PartialEq, Eq)]
+pub struct Memory;
+
+/// A source or a sink has failed.
+#[derive(Clone, Copy, Debug, PartialEq, Eq)]
+pub struct Failed;
+
+impl From<AllocError> for Memory {
+    fn from(_: AllocError) -> Self {
+        Memory
+    }
+}
+
+impl<T: Drop> From<AllocFailed<T>> for Memory {
+    fn from(_: AllocFailed<T>) -> Self {
+        Memory
+    }
+}
