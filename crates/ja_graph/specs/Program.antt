@@ -1,0 +1,32 @@
+-- The named parts of a program.
+use Rattle.std.specs.Prelude.{ℕ, ◌==◌, List, [], Option, slice_get, find}
+use Rattle.std.specs.Option.{option_and_then, option_map_or}
+use Rattle.ja_base.specs.declared.ids.FnId.{FnId}
+use Rattle.ja_base.specs.declared.ids.NodeId.{NodeId}
+use Rattle.ja_base.specs.declared.ids.Site.{Site}
+use Rattle.ja_graph.specs.declared.node.NodeInfo.{NodeInfo}
+use Rattle.ja_graph.specs.declared.program.Function.{Function}
+use Rattle.ja_graph.specs.declared.program.ObjectSpec.{ObjectSpec}
+use Rattle.ja_graph.specs.declared.program.Program.{Program}
+
+-- the nodes of a function
+abbrev pub nodes_of : Program → FnId → List NodeInfo
+nodes_of p f = option_map_or (λ (fn : Function). fn.nodes) (slice_get p.functions f.0) []
+
+-- a node of a function, if it has that number
+abbrev pub node_at : Program → FnId → NodeId → Option NodeInfo
+node_at p f n = slice_get (nodes_of p f) n.0
+
+-- the object that a site has when a run begins
+abbrev pub object_spec : Program → ℕ → Option ObjectSpec
+object_spec p s = find (λ (o : ObjectSpec). o.site.0 == s) p.opening
+
+-- the site of the global object, and those of the prototypes of the errors that a node throws
+abbrev pub global : Site
+global = record { 0 = 0 }
+
+abbrev pub reference_error_prototype : Site
+reference_error_prototype = record { 0 = 3 }
+
+abbrev pub type_error_prototype : Site
+type_error_prototype = record { 0 = 4 }

@@ -1,0 +1,2 @@
+//! From the tree of a text to its flow graph.
+#![tactic(auto)]

@@ -1,0 +1,6 @@
+//! From a program's text to its tree.
+#![tactic(auto)]
+
+mod tree;
+
+pub use tree::{Operand, Statement, Target};

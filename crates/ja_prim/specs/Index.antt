@@ -1,0 +1,24 @@
+-- Which numbers and texts are array indices (ES3 15.4): 0 to 4,294,967,294, and their decimal texts.
+use Rattle.std.specs.Prelude.{ℕ, ◌+◌, ◌-◌, ◌*◌, ℤ, pos, negsuc, Bool, true, false, not, ◌&&◌, ◌||◌, ◌==◌, nat_lt, nat_le, List, [], ◌∷◌, length}
+use Rattle.std.specs.List.{list_all}
+
+abbrev pub is_index : ℤ → Bool
+is_index (pos n) = nat_lt n 4294967295
+is_index (negsuc n) = false
+
+abbrev pub is_digit : ℕ → Bool
+is_digit c = nat_le 48 c && nat_le c 57
+
+-- the number that the digits write, from the first on
+abbrev pub digits_value : ℕ → List ℕ → ℕ
+digits_value n [] = n
+digits_value n (c ∷ cs) = digits_value (10 * n + (c - 48)) cs
+
+abbrev pub starts_with_zero : List ℕ → Bool
+starts_with_zero [] = false
+starts_with_zero (c ∷ cs) = c == 48
+
+-- one to ten digits, the first not 0 unless it stands alone, of a number that is an index
+abbrev pub is_index_text : List ℕ → Bool
+is_index_text t =
+    nat_lt 0 (length t) && nat_le (length t) 10 && list_all is_digit t && (not (starts_with_zero t) || (length t == 1)) && nat_lt (digits_value 0 t) 4294967295

@@ -1,0 +1,10 @@
+//! Primitive values of ES3 (section 8) in the profile: whole numbers and NaN, and texts of 16-bit units.
+#![tactic(auto)]
+
+mod primitive;
+mod int;
+mod text16;
+
+pub use int::Int;
+pub use primitive::{Num, Prim, Primitive};
+pub use text16::Text16;
