@@ -3,6 +3,7 @@ use Rattle.std.specs.Prelude.{ℕ, ◌==◌, List, [], Option, slice_get, find}
 use Rattle.std.specs.Option.{option_and_then, option_map_or}
 use Rattle.ja_base.specs.declared.ids.FnId.{FnId}
 use Rattle.ja_base.specs.declared.ids.NodeId.{NodeId}
+use Rattle.ja_base.specs.declared.ids.NameId.{NameId}
 use Rattle.ja_base.specs.declared.ids.Site.{Site}
 use Rattle.ja_graph.specs.declared.node.NodeInfo.{NodeInfo}
 use Rattle.ja_graph.specs.declared.program.Function.{Function}
@@ -30,3 +31,7 @@ reference_error_prototype = record { 0 = 3 }
 
 abbrev pub type_error_prototype : Site
 type_error_prototype = record { 0 = 4 }
+
+-- the name `message`
+abbrev pub message : NameId
+message = record { 0 = 1 }

@@ -1,0 +1,10 @@
+pub mod AbstractState
+pub mod AbstractValue
+pub mod Heap
+pub mod Machine
+pub mod Meaning
+pub mod Reading
+pub mod Sound
+pub mod Table
+pub mod Transfer
+pub mod Warning

@@ -1,0 +1,98 @@
+-- The warnings of a table, and what the machine does where an operation goes wrong.
+use Rattle.std.specs.Prelude.{◌≡◌, ◌⊎◌, ◌<◌, ◌↔◌, ℕ, Bool, true, false, if◌then◌else◌, IsTrue, List, [], ◌∷◌, Option, Some, None, Any}
+use Rattle.std.specs.Option.{option_and_then}
+use Rattle.std.specs.List.{list_any, AllByRecursion}
+use Rattle.ja_base.specs.declared.ids.Context.{Context}
+use Rattle.ja_base.specs.declared.ids.NodeId.{NodeId}
+use Rattle.ja_base.specs.declared.ids.Place.{Place}
+use Rattle.ja_prim.specs.declared.primitive.Primitive.TheVariants as primitive
+use Rattle.ja_graph.specs.declared.node.Node.{Node}
+use Rattle.ja_graph.specs.declared.node.Node.TheVariants.{ReadRef, Call}
+use Rattle.ja_graph.specs.declared.node.NodeInfo.{NodeInfo}
+use Rattle.ja_graph.specs.declared.program.Program.{Program}
+use Rattle.ja_graph.specs.Program.{node_at}
+use Rattle.ja_model.specs.declared.machine.Value.{Value}
+use Rattle.ja_model.specs.declared.machine.Value.TheVariants as value
+use Rattle.ja_model.specs.declared.machine.Frame.{Frame}
+use Rattle.ja_model.specs.declared.machine.Conf.{Conf}
+use Rattle.ja_model.specs.declared.table.WarningKind.{WarningKind}
+use Rattle.ja_model.specs.declared.table.WarningKind.TheVariants.{NotAFunction, UnboundName}
+use Rattle.ja_model.specs.declared.table.Warning.{Warning}
+use Rattle.ja_model.specs.Machine.{register_of}
+use Rattle.ja_model.specs.AbstractValue.{has_part}
+use Rattle.ja_model.specs.AbstractState.{AbstractState, labels_of}
+use Rattle.ja_model.specs.Table.{Table}
+
+-- what may go wrong at a node
+abbrev pub kind_of : Node → Option WarningKind
+kind_of (Call dst callee receiver error) = Some NotAFunction
+kind_of (ReadRef dst base name error) = Some UnboundName
+kind_of node = None
+
+-- the state allows it to go wrong: the callee has a part that can't be called (no part can yet), the base has null
+abbrev pub allows_fault : Program → AbstractState → Node → Bool
+allows_fault p a (Call dst callee receiver error) = has_part (labels_of p) (a.register callee.0)
+allows_fault p a (ReadRef dst base name error) = (a.register base.0).flags.null
+allows_fault p a node = false
+
+-- the state allows anything else: the callee has a label that can be called, the base has a label
+abbrev pub allows_more : Program → AbstractState → Node → Bool
+allows_more p a (ReadRef dst base name error) = list_any (a.register base.0).label (labels_of p)
+allows_more p a node = false
+
+-- the table has a state at a node that is an operation of this kind at this place
+pub record IsReached (p : Program) (t : Table) (kind : WarningKind) (place : Place) (node : Node) (a : AbstractState) : Type 0 where
+  pub context : Context
+  pub number : NodeId
+  pub info : NodeInfo
+  pub info_is : node_at p context.function number ≡ Some info
+  pub node_is : info.node ≡ node
+  pub kind_is : kind_of node ≡ Some kind
+  pub place_is : info.place ≡ place
+  pub state_is : t.state context number.0 ≡ Some a
+
+-- by line, column and kind
+abbrev pub kind_number : WarningKind → ℕ
+kind_number NotAFunction = 1
+kind_number UnboundName = 3
+
+abbrev pub IsBefore : Warning → Warning → Type 0
+IsBefore v w =
+    (v.place.line < w.place.line) ⊎ ((v.place.line ≡ w.place.line) × ((v.place.column < w.place.column) ⊎ ((v.place.column ≡ w.place.column) × (kind_number v.kind < kind_number w.kind))))
+
+abbrev pub AreOrdered : List Warning → Type 0
+AreOrdered [] = Unit {0}
+AreOrdered (w ∷ ws) = AllByRecursion (IsBefore w) ws × AreOrdered ws
+
+-- some state at the operation allows it to go wrong; the warning is certain where none allows anything else
+pub record IsWarned (p : Program) (t : Table) (w : Warning) : Type 0 where
+  pub node : Node
+  pub state : AbstractState
+  pub reached : IsReached p t w.kind w.place node state
+  pub fault : IsTrue (allows_fault p state node)
+  pub certain : IsTrue w.certain ↔ ((m : Node) (b : AbstractState) → IsReached p t w.kind w.place m b → allows_more p b m ≡ false)
+
+-- the warnings are in order, each operation is warned that may go wrong, and no other
+pub record AreWarnings (p : Program) (t : Table) (ws : List Warning) : Type 0 where
+  pub ordered : AreOrdered ws
+  pub warned : AllByRecursion (IsWarned p t) ws
+  pub complete : (kind : WarningKind) (place : Place) (node : Node) (a : AbstractState) → IsReached p t kind place node a → IsTrue (allows_fault p a node) → Any (λ (w : Warning). (w.kind ≡ kind) × (w.place ≡ place)) ws
+
+-- ---- in the machine
+
+-- what goes wrong at the next step: the callee is no function (none is yet), the base of a name is null
+abbrev pub is_null : Value → Bool
+is_null (value.Primitive primitive.Null) = true
+is_null v = false
+
+abbrev pub fault_at : Frame → NodeInfo → Node → Option (WarningKind × Place)
+fault_at f info (Call dst callee receiver error) = Some (NotAFunction, info.place)
+fault_at f info (ReadRef dst base name error) = if is_null (register_of f base) then Some (UnboundName, info.place) else None
+fault_at f info node = None
+
+abbrev pub fault_of_frames : Program → List Frame → Option (WarningKind × Place)
+fault_of_frames p [] = None
+fault_of_frames p (f ∷ below) = option_and_then (λ (info : NodeInfo). fault_at f info info.node) (node_at p f.function f.node)
+
+abbrev pub fault_of : Program → Conf → Option (WarningKind × Place)
+fault_of p c = fault_of_frames p c.frames
