@@ -1,5 +1,5 @@
 -- Abstract states: maps from registers to values, from labels and keys to properties, from sites to masks.
-use Rattle.std.specs.Prelude.{ℕ, ◌+◌, pos, Bool, true, false, ◌&&◌, ◌||◌, if◌then◌else◌, ◌==◌, List, [], ◌∷◌, ◌++◌, map, length}
+use Rattle.std.specs.Prelude.{ℕ, ◌+◌, ◌*◌, pos, Bool, true, false, ◌&&◌, ◌||◌, if◌then◌else◌, ◌==◌, List, [], ◌∷◌, ◌++◌, map, length}
 use Rattle.std.specs.List.{flat_map, range_with_len}
 use Rattle.ja_base.specs.declared.ids.Label.{Label}
 use Rattle.ja_base.specs.declared.ids.Reg.{Reg}
@@ -31,9 +31,16 @@ old s = record { site = s; old = true }
 abbrev pub site_of : ℕ → Site
 site_of s = record { 0 = s }
 
--- the labels of a program in order
+-- the labels of the first n sites in order, and those of a program
+abbrev pub labels_below : ℕ → List Label
+labels_below n = flat_map (λ s. new (site_of s) ∷ old (site_of s) ∷ []) (range_with_len 0 n)
+
 abbrev pub labels_of : Program → List Label
-labels_of p = flat_map (λ s. new (site_of s) ∷ old (site_of s) ∷ []) (range_with_len 0 (length p.sites))
+labels_of p = labels_below (length p.sites)
+
+-- labels have numbers in this order
+abbrev pub label_number : Label → ℕ
+label_number l = 2 * l.site.0 + (if l.old then 1 else 0)
 
 -- keys have numbers, so that they can be compared
 abbrev pub slot_number : Slot → ℕ

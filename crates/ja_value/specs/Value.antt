@@ -1,0 +1,18 @@
+-- What the analyser's sets of labels, values and properties stand for.
+use Rattle.std.specs.Prelude.{ℕ, Bool}
+use Rattle.std.specs.Ordering.{nat_cmp}
+use Rattle.std.specs.BTreeSet.{contains}
+use Rattle.ja_value.specs.declared.label_set.LabelSet.{LabelSet}
+use Rattle.ja_value.specs.declared.value.AValue.{AValue}
+use Rattle.ja_value.specs.declared.property.AProp.{AProp}
+use Rattle.ja_model.specs.AbstractValue.{Labels, AbstractValue, AbstractProperty}
+use Rattle.ja_model.specs.AbstractState.{label_number}
+
+abbrev pub labels_in : LabelSet → Labels
+labels_in set l = contains nat_cmp set.numbers (label_number l)
+
+abbrev pub value_of : AValue → AbstractValue
+value_of v = record { flags = v.flags; number = v.number; text = v.text; label = labels_in v.labels }
+
+abbrev pub property_of : AProp → AbstractProperty
+property_of q = record { value = value_of q.value; attrs = q.attrs }

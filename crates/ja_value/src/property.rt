@@ -1,0 +1,115 @@
+ghost use Rattle.std.specs.Prelude.{◌≡◌, ◌≢◌, IfOk, true, false};
+ghost use Rattle.ja_model.specs.AbstractValue.{join_properties, join_attrs, of_attrs, unknown_attrs, absent_property, entry_property};
+ghost use Rattle.ja_model.specs.AbstractState.{aged_property};
+
+use crate::AValue;
+use ja_base::{Memory, Site};
+use ja_graph::Attrs;
+use ja_model::{AAttrs, Flags, May};
+use std::alloc::Global;
+
+/// An abstract property: its value, and what is known of its attributes.
+#[derive(Drop)]
+pub struct AProp {
+    pub value: AValue,
+    pub attrs: AAttrs,
+}
+
+/// Nothing is known of the attributes.
+pub fn unknown_attrs() -> AAttrs
+    ensures { result ≡ unknown_attrs }
+{
+    let unknown = May {
+        set: false,
+        unset: false,
+    };
+    AAttrs {
+        read_only: unknown,
+        dont_enum: unknown,
+        dont_delete: unknown,
+    }
+}
+
+/// Exactly these attributes.
+pub fn exact_attrs(attrs: Attrs) -> AAttrs
+    ensures { result ≡ of_attrs attrs }
+{
+    let exactly = |set: bool| May { set, unset: !set };
+    AAttrs {
+        read_only: exactly(attrs.read_only),
+        dont_enum: exactly(attrs.dont_enum),
+        dont_delete: exactly(attrs.dont_delete),
+    }
+}
+
+/// What either side knows.
+pub fn join_attrs(a: AAttrs, b: AAttrs) -> AAttrs
+    ensures { result ≡ join_attrs a b }
+{
+    let join = |a: May, b: May| May {
+        set: a.set | b.set,
+        unset: a.unset | b.unset,
+    };
+    AAttrs {
+        read_only: join(a.read_only, b.read_only),
+        dont_enum: join(a.dont_enum, b.dont_enum),
+        dont_delete: join(a.dont_delete, b.dont_delete),
+    }
+}
+
+impl AProp {
+    ghost use Rattle.ja_value.specs.Value.{property_of};
+
+    /// Exactly absent.
+    pub fn absent(alloc: Global) -> AProp
+        ensures { property_of result ≡ absent_property }
+    {
+        let mut value = AValue::empty(alloc);
+        value.flags.absent = true;
+        AProp {
+            value,
+            attrs: unknown_attrs(),
+        }
+    }
+
+    /// Exactly as at entry.
+    pub fn entry(alloc: Global) -> AProp
+        ensures { property_of result ≡ entry_property }
+    {
+        let mut value = AValue::empty(alloc);
+        value.flags.entry = true;
+        AProp {
+            value,
+            attrs: unknown_attrs(),
+        }
+    }
+
+    /// The same property once more.
+    pub fn copy(&self, alloc: Global) -> Result<AProp, Memory>
+        ensures { IfOk result (λ q. property_of q ≡ property_of self.now) }
+    {
+        Ok(AProp {
+            value: self.value.copy(alloc)?,
+            attrs: self.attrs,
+        })
+    }
+
+    /// Joins another property in, and tells whether the property changed. After `Memory` it may be anything.
+    pub fn join(&mut self, alloc: Global, other: &AProp) -> Result<bool, Memory>
+        ensures joined { IfOk result (λ _. property_of self.new ≡ join_properties (property_of self.old) (property_of other.now)) }
+        ensures changed { IfOk result (λ c. c ≡ true → property_of self.new ≢ property_of self.old) }
+        ensures same { IfOk result (λ c. c ≡ false → property_of self.new ≡ property_of self.old) }
+    {
+        Err(Memory)
+    }
+
+    /// The property after an object more was made at a site.
+    pub fn aged(&self, alloc: Global, site: Site) -> Result<AProp, Memory>
+        ensures { IfOk result (λ q. property_of q ≡ aged_property site (property_of self.now)) }
+    {
+        Ok(AProp {
+            value: self.value.aged(alloc, site)?,
+            attrs: self.attrs,
+        })
+    }
+}
