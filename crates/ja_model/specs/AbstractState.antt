@@ -31,6 +31,9 @@ old s = record { site = s; old = true }
 abbrev pub site_of : ℕ → Site
 site_of s = record { 0 = s }
 
+abbrev pub sites_below : ℕ → List Site
+sites_below n = map site_of (range_with_len 0 n)
+
 -- the labels of the first n sites in order, and those of a program
 abbrev pub labels_below : ℕ → List Label
 labels_below n = flat_map (λ s. new (site_of s) ∷ old (site_of s) ∷ []) (range_with_len 0 n)
@@ -62,9 +65,12 @@ same_key a b = key_number a == key_number b
 abbrev pub name_key : ℕ → Key
 name_key n = key.Name (record { 0 = n })
 
+abbrev pub keys_below : ℕ → List Key
+keys_below n =
+    map name_key (range_with_len 0 n) ++ (key.OtherIndex ∷ key.OtherName ∷ key.Slot slot.Prototype ∷ key.Slot slot.Outer ∷ key.Slot slot.Scope ∷ key.Slot slot.Value ∷ [])
+
 abbrev pub keys_of : Program → List Key
-keys_of p =
-    map name_key (range_with_len 0 (length p.names)) ++ (key.OtherIndex ∷ key.OtherName ∷ key.Slot slot.Prototype ∷ key.Slot slot.Outer ∷ key.Slot slot.Scope ∷ key.Slot slot.Value ∷ [])
+keys_of p = keys_below (length p.names)
 
 -- ---- masks
 

@@ -1,0 +1,62 @@
+-- What the analyser's objects, states and values at entry stand for.
+use Rattle.std.specs.Prelude.{◌≡◌, ℕ, is_some, map, filter, List, Bool, true, false, Option, Some, None, unwrap_or, slice_get}
+use Rattle.std.specs.Option.{option_map, option_map_or, option_and_then}
+use Rattle.std.specs.List.{flat_map}
+use Rattle.std.specs.Ordering.{nat_cmp}
+use Rattle.std.specs.BTreeMap.{get}
+use Rattle.ja_base.specs.declared.ids.Label.{Label}
+use Rattle.ja_base.specs.declared.ids.Site.{Site}
+use denote.Ref.{Bor}
+use Rattle.ja_model.specs.declared.abstraction.Key.{Key}
+use Rattle.ja_model.specs.declared.abstraction.Mask.{Mask}
+use Rattle.ja_model.specs.AbstractValue.{AbstractValue, AbstractProperty, entry_property, undefined_value}
+use Rattle.ja_model.specs.AbstractState.{AbstractState, label_number, key_number, exactly_none}
+use Rattle.ja_model.specs.Reading.{Entries}
+use Rattle.ja_value.specs.declared.property.AProp.{AProp}
+use Rattle.ja_value.specs.declared.value.AValue.{AValue}
+use Rattle.ja_value.specs.Value.{value_of, property_of}
+use Rattle.ja_state.specs.declared.object.AObject.{AObject}
+use Rattle.ja_state.specs.declared.state.AState.{AState}
+use Rattle.ja_state.specs.declared.entries.DemandedEntries.{DemandedEntries}
+
+-- the property of an object at a key: the one that is listed, else the common one
+abbrev pub object_of : AObject → Key → AbstractProperty
+object_of o k = option_map_or property_of (get nat_cmp o.listed (key_number k)) (property_of o.common)
+
+-- an object that isn't kept is as at entry
+abbrev pub property_at : AState → Label → Key → AbstractProperty
+property_at a l k = option_map_or (λ (o : AObject). object_of o k) (get nat_cmp a.objects (label_number l)) entry_property
+
+abbrev pub register_at : AState → ℕ → AbstractValue
+register_at a r = option_map_or value_of (slice_get a.registers.items r) undefined_value
+
+abbrev pub mask_at : AState → ℕ → Mask
+mask_at a s = unwrap_or (get nat_cmp a.masks s) exactly_none
+
+abbrev pub state_of : AState → AbstractState
+state_of a = record { register = register_at a; property = property_at a; mask = mask_at a }
+
+-- the values at entry that were demanded
+abbrev pub entries_of : DemandedEntries → Entries
+entries_of e l k = option_and_then (λ (o : _). option_map property_of (get nat_cmp o (key_number k))) (get nat_cmp e.objects (label_number l))
+
+-- an object that is kept, and a mask
+abbrev pub is_listed : AState → Label → Bool
+is_listed a l = is_some (get nat_cmp a.objects (label_number l))
+
+abbrev pub is_masked : AState → Site → Bool
+is_masked a s = is_some (get nat_cmp a.masks s.0)
+
+-- the object of a label, where one is kept
+abbrev pub IsObjectAt : AState → Label → Option (Bor AObject) → Type 0
+IsObjectAt a l None = (is_listed a l ≡ false) × ((k : Key) → property_at a l k ≡ entry_property)
+IsObjectAt a l (Some o) = (is_listed a l ≡ true) × ((k : Key) → property_at a l k ≡ object_of o.now k)
+
+abbrev pub IsEntryAt : DemandedEntries → Label → Key → Option (Bor AProp) → Type 0
+IsEntryAt e l k None = entries_of e l k ≡ None
+IsEntryAt e l k (Some q) = entries_of e l k ≡ Some (property_of q.now)
+
+-- the demanded pairs of these labels and keys, in order
+abbrev pub pairs_of : Entries → List Label → List Key → List (Label × Key)
+pairs_of entries labels keys =
+    flat_map (λ (l : Label). map (λ (k : Key). (l, k)) (filter (λ (k : Key). is_some (entries l k)) keys)) labels

@@ -1,0 +1,13 @@
+//! Abstract states and values at entry as the analyser keeps them: what differs from the state at a
+//! function's entry. Each stands for a map of the definitions.
+#![tactic(auto)]
+
+mod entries;
+mod keys;
+mod object;
+mod state;
+
+pub use entries::DemandedEntries;
+pub use keys::key_number;
+pub use object::AObject;
+pub use state::AState;

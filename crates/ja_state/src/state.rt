@@ -1,0 +1,119 @@
+ghost use Rattle.std.specs.Prelude.{◌≡◌, ◌≢◌, ◌<◌, ◌≤◌, ℕ, IfOk, IsTrue, true, false, vec_len, filter};
+ghost use Rattle.ja_base.specs.declared.ids.Label.{Label};
+ghost use Rattle.ja_model.specs.declared.abstraction.Key.{Key};
+ghost use Rattle.ja_model.specs.AbstractValue.{Labels, entry_property};
+ghost use Rattle.ja_model.specs.AbstractState.{entry_state, join_states, with_register, with_property, with_made, labels_below, sites_below};
+ghost use Rattle.ja_value.specs.Value.{value_of, property_of};
+
+use crate::AObject;
+use crate::keys::label_number;
+use ja_base::{Label, Memory, Reg, Site};
+use ja_model::{Key, Mask};
+use ja_value::{AProp, AValue};
+use std::alloc::Global;
+use std::collections::BTreeMap;
+
+/// An abstract state: the registers, and the objects and masks that aren't as at entry.
+#[derive(Drop)]
+pub struct AState {
+    pub registers: Vec<AValue>,
+    objects: BTreeMap<u64, AObject>,
+    masks: BTreeMap<u32, Mask>,
+}
+
+impl AState {
+    ghost use Rattle.ja_state.specs.State.{state_of, property_at, mask_at, is_listed, is_masked, IsObjectAt};
+
+    /// The state at the entry of the program, with this many registers.
+    pub fn entry(alloc: Global, registers: usize) -> Result<AState, Memory>
+        requires { 6 ≤ registers }
+        ensures state { IfOk result (λ a. state_of a ≡ entry_state) }
+        ensures registers { IfOk result (λ a. vec_len a.registers ≡ registers) }
+    {
+        Err(Memory)
+    }
+
+    /// The value of a register.
+    pub fn register(&self, register: Reg) -> &AValue
+        requires { register.0 < vec_len self.now.registers }
+        ensures { value_of result.now ≡ (state_of self.now).register register.0 }
+    {
+        &self.registers[register.0 as usize]
+    }
+
+    /// Sets a register.
+    pub fn set_register(&mut self, register: Reg, value: AValue)
+        requires { register.0 < vec_len self.old.registers }
+        ensures state { state_of self.new ≡ with_register (state_of self.old) register (value_of value) }
+        ensures registers { vec_len self.new.registers ≡ vec_len self.old.registers }
+    {
+        self.registers[register.0 as usize] = value;
+    }
+
+    /// The object of a label, or `None` where each property of it is exactly as at entry.
+    pub fn object(&self, label: Label) -> Option<&AObject>
+        ensures { IsObjectAt self.now label result }
+    {
+        self.objects.get(&label_number(label))
+    }
+
+    /// The mask of a site.
+    pub fn mask(&self, site: Site) -> Mask
+        ensures { result ≡ (state_of self.now).mask site.0 }
+    {
+        Mask {
+            none: true,
+            some: false,
+        }
+    }
+
+    /// Replaces a property. After `Memory` the state may be anything.
+    pub fn write(&mut self, alloc: Global, label: Label, key: Key, property: AProp) -> Result<(), Memory>
+        ensures state { IfOk result (λ _. state_of self.new ≡ with_property (state_of self.old) label key (property_of property)) }
+        ensures registers { vec_len self.new.registers ≡ vec_len self.old.registers }
+    {
+        Err(Memory)
+    }
+
+    /// The same state once more.
+    pub fn copy(&self, alloc: Global) -> Result<AState, Memory>
+        ensures state { IfOk result (λ a. state_of a ≡ state_of self.now) }
+        ensures registers { IfOk result (λ a. vec_len a.registers ≡ vec_len self.now.registers) }
+    {
+        Err(Memory)
+    }
+
+    /// Joins another state in, and tells whether the state changed. After `Memory` it may be anything.
+    pub fn join(&mut self, alloc: Global, other: &AState) -> Result<bool, Memory>
+        requires { vec_len self.old.registers ≡ vec_len other.now.registers }
+        ensures joined { IfOk result (λ _. state_of self.new ≡ join_states (state_of self.old) (state_of other.now)) }
+        ensures changed { IfOk result (λ c. c ≡ true → state_of self.new ≢ state_of self.old) }
+        ensures same { IfOk result (λ c. c ≡ false → state_of self.new ≡ state_of self.old) }
+        ensures registers { IfOk result (λ _. vec_len self.new.registers ≡ vec_len self.old.registers) }
+    {
+        Err(Memory)
+    }
+
+    /// The state after an object more was made at a site: the object that was new is old, and the
+    /// new one has each property exactly absent (Balakrishnan and Reps, SAS 2006).
+    pub fn with_made(&self, alloc: Global, site: Site) -> Result<AState, Memory>
+        ensures state { IfOk result (λ a. state_of a ≡ with_made (state_of self.now) site) }
+        ensures registers { IfOk result (λ a. vec_len a.registers ≡ vec_len self.now.registers) }
+    {
+        Err(Memory)
+    }
+
+    /// The labels of the first `sites` sites whose objects are kept, in order; all others are as at entry.
+    pub fn listed(&self, alloc: Global, sites: u32) -> Result<Vec<Label>, Memory>
+        ensures { IfOk result (λ v. v.items ≡ filter (is_listed self.now) (labels_below sites)) }
+    {
+        Err(Memory)
+    }
+
+    /// The sites below `sites` that have a mask of their own, in order; all others have exactly none.
+    pub fn masked(&self, alloc: Global, sites: u32) -> Result<Vec<Site>, Memory>
+        ensures { IfOk result (λ v. v.items ≡ filter (is_masked self.now) (sites_below sites)) }
+    {
+        Err(Memory)
+    }
+}
