@@ -1,1 +1,4 @@
+pub mod Growing
+pub mod Heaps
 pub mod Interface
+pub mod Lists
