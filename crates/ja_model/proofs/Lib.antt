@@ -1,3 +1,5 @@
+pub mod Assumed
+pub mod Closed
 pub mod Growing
 pub mod Heaps
 pub mod Interface

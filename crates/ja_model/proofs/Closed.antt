@@ -1,0 +1,108 @@
+-- What a closed table has: the states that its nodes give, the values at entry that they demand, and the opening.
+use Rattle.std.proofs.Common.{◌≡◌, ◌≢◌, ◌⊎◌, ℕ, zero, suc, ◌+◌, ◌<◌, ◌≤◌, Bool, true, false, not, cond, List, [], ◌∷◌, ◌++◌, length, map, Some, None, Option, inl, inr, refl, sym, ap, ◌∙◌, subst, arith}
+use Rattle.std.specs.Prelude.{IsTrue, IsSome, slice_get, unwrap_or, ◌&&◌, ◌||◌, ◌==◌, if◌then◌else◌}
+use Rattle.std.specs.Option.{is_some, option_and_then, option_map, option_map_or}
+use Rattle.std.proofs.lemmas.Bool.{and_parts, and_from, and_left, and_right, or_left, or_right, cases_Bool, cases_eq, false≢true, eq-eqb, ne_eqb, cond-true, cond-false}
+use Rattle.ja_base.specs.declared.ids.Label.{Label}
+use Rattle.ja_base.specs.declared.ids.Site.{Site}
+use Rattle.ja_base.specs.declared.ids.NodeId.{NodeId}
+use Rattle.ja_base.specs.declared.ids.Context.{Context}
+use Rattle.ja_graph.specs.declared.node.NodeInfo.{NodeInfo}
+use Rattle.ja_graph.specs.declared.node.Node.{Node}
+use Rattle.ja_graph.specs.declared.program.Program.{Program}
+use Rattle.ja_graph.specs.Program.{node_at, global}
+use Rattle.ja_model.specs.declared.abstraction.Key.{Key}
+use Rattle.ja_model.specs.declared.machine.Addr.{Addr}
+use Rattle.ja_model.specs.declared.machine.Value.{Value}
+use Rattle.ja_model.specs.declared.machine.Heap.{Heap}
+use Rattle.ja_model.specs.declared.machine.Frame.{Frame}
+use Rattle.ja_model.specs.declared.table.Item.{Item}
+use Rattle.ja_model.specs.declared.table.Item.TheVariants.{Open, Step}
+use Rattle.ja_model.specs.Heap.{count, object_at}
+use Rattle.ja_model.specs.Machine.{program_function, opening_heap}
+use Rattle.ja_model.specs.AbstractValue.{AbstractValue, AbstractProperty, join, join_properties, no_property}
+use Rattle.ja_model.specs.AbstractState.{AbstractState, join_states, entry_state}
+use Rattle.ja_model.specs.Reading.{Entries, Demands}
+use Rattle.ja_model.specs.Transfer.{Out, transfer, transfer_node, view_of}
+use Rattle.ja_model.specs.Meaning.{Spot, Holds, IsAsAtEntry, content, knows, label_of, key_of, LeqState, opened}
+use Rattle.ja_model.specs.Table.{Table, root, same_context, opened_entries, visit_open, demanded, with_demands, joined_state, with_state, with_states, with_out, visit_step, visited, IsItem, HasOpening, IsClosed}
+use Rattle.ja_model.proofs.Interface.{IsFilled}
+use Rattle.ja_model.proofs.Lists.{Member, some_value, is_some_from, same_some}
+use Rattle.ja_model.proofs.Assumed.{has_value-join_left, has_value-join_right, knows-join_left, knows-join_right}
+
+-- whatever the first state holds of, the second does
+pub record IsWithin (p : Program) (a b : AbstractState) : Type 0 where
+  pub holds : (e c : Heap) (f : Frame) → Holds p e c f a → Holds p e c f b
+
+pub IsWithin-refl : (p : Program) (a : AbstractState) → IsWithin p a a
+IsWithin-refl p a = record { holds = λ e c f h. h }
+
+pub IsWithin_trans : (p : Program) (a b d : AbstractState) → IsWithin p a b → IsWithin p b d → IsWithin p a d
+IsWithin_trans p a b d x y = record { holds = λ e c f h. y.holds e c f (x.holds e c f h) }
+
+pub IsWithin-join_left : (p : Program) (a b : AbstractState) → IsWithin p a (join_states a b)
+IsWithin-join_left p a b = record {
+  holds = λ e c f h. record {
+    registers = λ r v k. has_value-join_left c (a.register r) (b.register r) v (h.registers r v k);
+    objects = λ o x there. elim (h.objects o x there) [ inl k ↦ inl (knows-join_left c (a.property (label_of c o) (key_of p x)) (b.property (label_of c o) (key_of p x)) (content c o x) k) | inr k ↦ inr (or_left _ _ k.0, k.1) ];
+    some = λ t l. or_left _ _ (h.some t l);
+    none = λ t l. or_left _ _ (h.none t l);
+  };
+}
+
+pub IsWithin-join_right : (p : Program) (a b : AbstractState) → IsWithin p b (join_states a b)
+IsWithin-join_right p a b = record {
+  holds = λ e c f h. record {
+    registers = λ r v k. has_value-join_right c (a.register r) (b.register r) v (h.registers r v k);
+    objects = λ o x there. elim (h.objects o x there) [ inl k ↦ inl (knows-join_right c (a.property (label_of c o) (key_of p x)) (b.property (label_of c o) (key_of p x)) (content c o x) k) | inr k ↦ inr (or_right _ _ k.0, k.1) ];
+    some = λ t l. or_right _ _ (h.some t l);
+    none = λ t l. or_right _ _ (h.none t l);
+  };
+}
+
+pub IsWithin-from_leq : (p : Program) (a b : AbstractState) → LeqState a b → IsWithin p a b
+IsWithin-from_leq p a b l = ?
+
+-- ---- a table's state at a node of the program that a state is within
+
+pub record HasWithin (p : Program) (t : Table) (n : ℕ) (a : AbstractState) : Type 0 where
+  pub state : AbstractState
+  pub state_is : t.state root n ≡ Some state
+  pub within : IsWithin p a state
+
+joined_within : (p : Program) (o : Option AbstractState) (a : AbstractState) → IsWithin p a (joined_state o a)
+joined_within p None a = IsWithin-refl p a
+joined_within p (Some b) a = IsWithin-join_right p b a
+
+with_state_has : (p : Program) (t : Table) (n : ℕ) (a : AbstractState) → HasWithin p (with_state t root (n, a)) n a
+with_state_has p t n a = ?
+
+with_state_keeps : (p : Program) (t : Table) (n : ℕ) (a : AbstractState) (given : ℕ × AbstractState) → HasWithin p t n a → HasWithin p (with_state t root given) n a
+with_state_keeps p t n a given h = ?
+
+with_states_keep : (p : Program) (t : Table) (n : ℕ) (a : AbstractState) (xs : List (ℕ × AbstractState)) → HasWithin p t n a → HasWithin p (with_states t root xs) n a
+with_states_keep p t n a [] h = h
+with_states_keep p t n a (given ∷ xs) h = with_states_keep p (with_state t root given) n a xs (with_state_keeps p t n a given h)
+
+with_states_have : (p : Program) (t : Table) (n : ℕ) (a : AbstractState) (xs : List (ℕ × AbstractState)) → Member (n, a) xs → HasWithin p (with_states t root xs) n a
+with_states_have p t n a [] m = elim m [ ]
+with_states_have p t n a (given ∷ xs) (inl e) = with_states_keep p (with_state t root given) n a xs (subst (λ g. HasWithin p (with_state t root g) n a) (sym e) (with_state_has p t n a))
+with_states_have p t n a (given ∷ xs) (inr m) = with_states_have p (with_state t root given) n a xs m
+
+with_states-entry : (t : Table) (xs : List (ℕ × AbstractState)) → (with_states t root xs).entry ≡ t.entry
+with_states-entry t [] = refl
+with_states-entry t (given ∷ xs) = with_states-entry (with_state t root given) xs
+
+-- ---- what a node's step leaves as it is
+
+pub record IsSettled (p : Program) (t : Table) (a : AbstractState) (info : NodeInfo) (node : Node) : Type 0 where
+  pub goes : (n : ℕ) (b : AbstractState) → Member (n, b) (transfer_node p (view_of p (t.entry root) a) info node).states → HasWithin p t n b
+  pub filled : IsFilled (t.entry root) (transfer_node p (view_of p (t.entry root) a) info node).demands
+
+pub settled_step : (p : Program) (t : Table) (n : NodeId) (a : AbstractState) (info : NodeInfo) → IsClosed p t → node_at p program_function n ≡ Some info → t.state root n.0 ≡ Some a → IsSettled p t a info info.node
+settled_step p t n a info closed node_is state_is = ?
+
+-- ---- the opening
+
+pub settled_open : (p : Program) (t : Table) → IsClosed p t → (l : Label) (k : Key) (q : AbstractProperty) → t.entry root l k ≡ Some q → q ≡ join_properties q (opened p l k)
+settled_open p t closed l k q e = ?
