@@ -1,2 +1,4 @@
 pub mod Interface
+pub mod Labels
+pub mod Rounds
 pub mod Values
