@@ -1,4 +1,5 @@
 pub mod Interface
+pub mod Keys
 pub mod Labels
 pub mod Rounds
 pub mod Values
