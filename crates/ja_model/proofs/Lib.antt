@@ -3,4 +3,9 @@ pub mod Closed
 pub mod Growing
 pub mod Heaps
 pub mod Interface
+pub mod Keys
+pub mod Labels
 pub mod Lists
+pub mod Parts
+pub mod Rounds
+pub mod Values
