@@ -20,27 +20,8 @@ use Rattle.ja_model.specs.Reading.{View, own, may_accept, may_refuse, found, dem
 use Rattle.ja_model.specs.Transfer.{read_value, demands_of_read}
 use Rattle.ja_model.proofs.Interface.{IsObjectOf, IsValueOf, IsHeap, IsFilled, IsRead}
 
-pub has_value-join_left : (h : Heap) (a b : AbstractValue) (v : Value) → IsTrue (has_value h a v) → IsTrue (has_value h (join a b) v)
-has_value-join_left h a b v k = ?
-
-pub has_value-join_right : (h : Heap) (a b : AbstractValue) (v : Value) → IsTrue (has_value h b v) → IsTrue (has_value h (join a b) v)
-has_value-join_right h a b v k = ?
-
-pub knows-join_left : (h : Heap) (q r : AbstractProperty) (c : Content) → IsTrue (knows h q c) → IsTrue (knows h (join_properties q r) c)
-knows-join_left h q r c k = ?
-
-pub knows-join_right : (h : Heap) (q r : AbstractProperty) (c : Content) → IsTrue (knows h r c) → IsTrue (knows h (join_properties q r) c)
-knows-join_right h q r c k = ?
-
--- both labels of a site are a program's
-pub label_listed : (p : Program) (l : Label) (set : Labels) → l.site.0 < length p.sites → IsTrue (set l) → IsTrue (list_any set (labels_of p))
-label_listed p l set s k = ?
-
 pub has_value_is_present : (p : Program) (h : Heap) (v : AbstractValue) (x : Value) → IsHeap p h → IsValueOf h x → IsTrue (has_value h v x) → IsTrue (is_present (labels_of p) v)
 has_value_is_present p h v x k o e = ?
-
-pub key_of_name : (p : Program) (n : NameId) → IsWellFormed p → IsName p n → key_of p (named (name_text p n)) ≡ key.Name n
-key_of_name p n w r = ?
 
 -- the resolved reading
 pub own_knows : (p : Program) (e c : Heap) (w : View) (a : Addr) (x : Spot) (k : Key) → IsRead p e c w → IsObjectOf c a → key_of p x ≡ k → IsFilled w.entries (demands_of w.state (label_of c a) k) → IsTrue (knows c (own w (label_of c a) k) (content c a x))

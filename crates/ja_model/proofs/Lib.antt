@@ -6,6 +6,5 @@ pub mod Interface
 pub mod Keys
 pub mod Labels
 pub mod Lists
-pub mod Parts
 pub mod Rounds
 pub mod Values
