@@ -1,10 +1,12 @@
 pub mod Assumed
 pub mod Closed
+pub mod Entered
 pub mod Growing
 pub mod Heaps
 pub mod Interface
 pub mod Keys
 pub mod Labels
 pub mod Lists
+pub mod Opening
 pub mod Rounds
 pub mod Values
