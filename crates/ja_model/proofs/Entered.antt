@@ -73,7 +73,8 @@ named_key None true n e = cc
 named_key None false n e = cc
 named_key (Some m) b n e = cc
 
-no_slot_key : (o : Option ℕ) (b : Bool) (s : Slot) → option_map_or name_key o (cond b key.OtherIndex key.OtherName) ≡ key.Slot s → ⊥
+-- no text has the key of a slot
+pub no_slot_key : (o : Option ℕ) (b : Bool) (s : Slot) → option_map_or name_key o (cond b key.OtherIndex key.OtherName) ≡ key.Slot s → ⊥
 no_slot_key None true s e = cc
 no_slot_key None false s e = cc
 no_slot_key (Some m) b s e = cc
@@ -83,6 +84,9 @@ pub text_of_key : (p : Program) (t : List ℕ) (n : NameId) → key_of p (named 
 text_of_key p t n e =
     let at : (n.0 < length p.names) × (same_text (get_or p.names n.0 []) t ≡ true) × ((k : ℕ) → k < n.0 → same_text (get_or p.names k []) t ≡ false) = position-Some (λ name. same_text name t) p.names n.0 [] (named_key (name_of p t) _ n e) in
     unwrap_or-slice_get p.names n.0 [] ∙ Heaps.text_same _ t at.1
+
+pub no_slot_of_text : (p : Program) (t : List ℕ) (s : Slot) → key_of p (named t) ≡ key.Slot s → ⊥
+no_slot_of_text p t s e = no_slot_key (name_of p t) _ s e
 
 module _ (p : Program) (good : IsWellFormed p) where
   -- a text of no name is no property of an opening object

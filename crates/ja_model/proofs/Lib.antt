@@ -1,12 +1,14 @@
 pub mod Assumed
 pub mod Closed
 pub mod Entered
+pub mod Frames
 pub mod Growing
 pub mod Heaps
 pub mod Interface
 pub mod Keys
 pub mod Labels
 pub mod Lists
+pub mod Made
 pub mod Opening
 pub mod Rounds
 pub mod Values
