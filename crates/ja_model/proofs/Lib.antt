@@ -2,4 +2,5 @@ pub mod Interface
 pub mod Keys
 pub mod Labels
 pub mod Rounds
+pub mod Parts
 pub mod Values
