@@ -3,4 +3,5 @@ pub mod Keys
 pub mod Labels
 pub mod Rounds
 pub mod Parts
+pub mod Resolved
 pub mod Values
