@@ -5,3 +5,4 @@ pub mod Rounds
 pub mod Parts
 pub mod Resolved
 pub mod Values
+pub mod Walks

@@ -1,8 +1,8 @@
 -- What the changed values of readings keep: no flag of `absent` and `entry`, other labels, lists of joins.
-use Rattle.std.specs.Prelude.{◌≡◌, ◌<◌, ◌||◌, ◌&&◌, ℕ, Bool, true, false, if◌then◌else◌, length, IsTrue, List, [], ◌∷◌, map, Option, Some, None, IsSome}
+use Rattle.std.specs.Prelude.{ℕ, Bool, true, false, IsTrue, List, [], ◌∷◌, map}
 use Rattle.std.specs.List.{list_any}
-use Rattle.std.proofs.Common.{refl, sym, subst, ap, arith, inl, inr}
-use Rattle.std.proofs.lemmas.Bool.{or_left, or_right, or_cases, and_parts, and_from, false≢true, cond-true}
+use Rattle.std.proofs.Common.{refl, subst, arith, inl, inr}
+use Rattle.std.proofs.lemmas.Bool.{or_left, or_right, or_cases, and_parts, and_from, false≢true}
 use Rattle.ja_base.specs.declared.ids.Label.{Label}
 use Rattle.ja_prim.specs.declared.primitive.Num.TheVariants.{NaN, Whole}
 use Rattle.ja_prim.specs.declared.primitive.Primitive.{Primitive}
@@ -12,12 +12,11 @@ use Rattle.ja_model.specs.declared.machine.Addr.{Addr}
 use Rattle.ja_model.specs.declared.machine.Value.{Value}
 use Rattle.ja_model.specs.declared.machine.Value.TheVariants as value
 use Rattle.ja_model.specs.declared.machine.Heap.{Heap}
-use Rattle.ja_model.specs.declared.abstraction.Flags.{Flags}
 use Rattle.ja_model.specs.declared.abstraction.NumberPart.{NumberPart}
 use Rattle.ja_model.specs.declared.abstraction.NumberPart.TheVariants as number_part
 use Rattle.ja_model.specs.declared.abstraction.TextPart.{TextPart}
 use Rattle.ja_model.specs.declared.abstraction.TextPart.TheVariants as text_part
-use Rattle.ja_model.specs.AbstractValue.{Labels, AbstractValue, AbstractProperty, same_label, has_present_flag, has_number, has_text, is_present, has_part, present_part, join, join_properties}
+use Rattle.ja_model.specs.AbstractValue.{Labels, AbstractValue, AbstractProperty, same_label, has_present_flag, has_number, has_text, is_present, has_part, present_part}
 use Rattle.ja_model.specs.AbstractState.{labels_of}
 use Rattle.ja_model.specs.Meaning.{label_of, number_has, text_has, has_primitive, has_value, Content, missing, held, present, knows}
 use Rattle.ja_model.specs.Reading.{known_part, join_all, join_values}

@@ -1,9 +1,8 @@
 -- The resolved reading of an abstract state knows what each object has now.
-use Rattle.std.specs.Prelude.{◌≡◌, ◌⊎◌, ◌<◌, ◌≤◌, ◌+◌, ◌&&◌, ◌||◌, ◌==◌, ℕ, Bool, true, false, not, if◌then◌else◌, length, IsTrue, List, [], ◌∷◌, Option, Some, None, IsSome, slice_get}
-use Rattle.std.specs.List.{list_any}
+use Rattle.std.specs.Prelude.{◌≡◌, ◌⊎◌, ◌<◌, ◌≤◌, ◌+◌, ◌&&◌, ◌==◌, ℕ, Bool, true, false, not, if◌then◌else◌, length, IsTrue, List, [], ◌∷◌, Option, Some, None, IsSome, slice_get}
 use Rattle.std.specs.Option.{option_map_or}
 use Rattle.std.proofs.Common.{refl, sym, subst, ap, arith, inl, inr, ◌∙◌}
-use Rattle.std.proofs.lemmas.Bool.{or_left, or_right, or_cases, and_parts, and_from, false≢true, cond_both, cases_order}
+use Rattle.std.proofs.lemmas.Bool.{or_left, or_right, and_parts, and_from, false≢true, cond_both, cases_order}
 use Rattle.std.proofs.lemmas.Bool.Decides.{nat_tests}
 use Rattle.std.proofs.lemmas.Option.{slice_get_within, slice_get-get_or}
 use Rattle.ja_base.specs.declared.ids.Label.{Label}
@@ -12,17 +11,16 @@ use Rattle.ja_graph.specs.declared.program.Program.{Program}
 use Rattle.ja_model.specs.declared.machine.Addr.{Addr}
 use Rattle.ja_model.specs.declared.machine.Value.{Value}
 use Rattle.ja_model.specs.declared.machine.Value.TheVariants as value
-use Rattle.ja_model.specs.declared.machine.Object.{Object}
 use Rattle.ja_model.specs.declared.machine.Heap.{Heap}
 use Rattle.ja_model.specs.declared.abstraction.Mask.{Mask}
 use Rattle.ja_model.specs.declared.abstraction.Key.{Key}
 use Rattle.ja_model.specs.Heap.{count, objects_of, object_at}
 use Rattle.ja_model.specs.AbstractValue.{Labels, AbstractValue, AbstractProperty, same_label, join_properties, no_property}
-use Rattle.ja_model.specs.AbstractState.{AbstractState, new, old, same_key}
-use Rattle.ja_model.specs.Meaning.{label_of, has_value, Spot, Content, missing, held, present, content, key_of, knows, IsAsAtEntry, EntriesHold}
-use Rattle.ja_model.specs.Reading.{Entries, View, origins, renamed_labels, renamed, known_part, from_entry, resolved, demands_of, own}
-use Rattle.ja_model.proofs.Interface.{IsObjectOf, IsValueOf, IsContentOf, IsHeap, Grows, IsFilled, IsRead}
-use Rattle.ja_model.proofs.Keys.{same_key-true, same_key-self, same_key_from}
+use Rattle.ja_model.specs.AbstractState.{new, old, same_key}
+use Rattle.ja_model.specs.Meaning.{label_of, has_value, Spot, Content, missing, held, present, content, key_of, knows, IsAsAtEntry}
+use Rattle.ja_model.specs.Reading.{View, origins, renamed_labels, renamed, known_part, from_entry, demands_of, own}
+use Rattle.ja_model.proofs.Interface.{IsObjectOf, IsValueOf, IsContentOf, Grows, IsFilled, IsRead}
+use Rattle.ja_model.proofs.Keys.{same_key-true, same_key-self}
 use Rattle.ja_model.proofs.Labels.{IsAmong, same_label-self, some_among}
 use Rattle.ja_model.proofs.Parts.{has_primitive-labels, knows-known_part, knows-join_all}
 use Rattle.ja_model.proofs.Values.{and_three, knows-join_left, knows-join_right}
