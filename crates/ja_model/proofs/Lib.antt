@@ -4,5 +4,6 @@ pub mod Labels
 pub mod Rounds
 pub mod Parts
 pub mod Resolved
+pub mod Searches
 pub mod Values
 pub mod Walks

@@ -65,12 +65,14 @@ chain_none : (link : Object → Option Addr) (h : Heap) (n : ℕ) → heap.chain
 chain_none link h zero = refl
 chain_none link h (suc n) = refl
 
-prototype_before : (p : Program) (h : Heap) (good : IsHeap p h) (a b : Addr) → link_of heap.prototype_of h a ≡ Some b → IsObjectOf h b × (good.rank b < good.rank a)
+-- the prototype of an object is an object of lower rank
+pub prototype_before : (p : Program) (h : Heap) (good : IsHeap p h) (a b : Addr) → link_of heap.prototype_of h a ≡ Some b → IsObjectOf h b × (good.rank b < good.rank a)
 prototype_before p h good a b e =
     let (o, at, is) = linked heap.prototype_of (heap.object_at h a) b e in
     good.prototype_before a b o at is
 
-outer_before : (p : Program) (h : Heap) (good : IsHeap p h) (a b : Addr) → link_of heap.outer_of h a ≡ Some b → IsObjectOf h b × (good.rank b < good.rank a)
+-- .. and so is its outer object
+pub outer_before : (p : Program) (h : Heap) (good : IsHeap p h) (a b : Addr) → link_of heap.outer_of h a ≡ Some b → IsObjectOf h b × (good.rank b < good.rank a)
 outer_before p h good a b e =
     let (o, at, is) = linked heap.outer_of (heap.object_at h a) b e in
     good.outer_before a b o at is
@@ -94,7 +96,8 @@ pub record IsLast (h : Heap) (set : Labels) (t : List ℕ) (d : Addr) : Type 0 w
   pub has_none : heap.own h d t ≡ None
   pub ends : link_of heap.prototype_of h d ≡ None
 
-abbrev Walked : Heap → Labels → List ℕ → Option Property → Type 0
+-- what the walk along prototypes ends with
+abbrev pub Walked : Heap → Labels → List ℕ → Option Property → Type 0
 Walked h set t None = (d : Addr) × IsLast h set t d
 Walked h set t (Some q) = (d : Addr) × IsHolder h set t q d
 
@@ -126,7 +129,7 @@ module _ (p : Program) (h : Heap) (good : IsHeap p h) (set : Labels) (t : List �
   walk (suc n) a o s below = walk_own n (walk n) a o s below (heap.own h a t) refl
 
   -- the walk from an object that is reached ends with a property, or behind an object that has neither
-  get_walked : (a : Addr) → IsObjectOf h a → IsTrue (set (label_of h a)) → Walked h set t (heap.get h a t)
+  pub get_walked : (a : Addr) → IsObjectOf h a → IsTrue (set (label_of h a)) → Walked h set t (heap.get h a t)
   get_walked a o s = walk (heap.size h) a o s (good.ranked a o)
 
   -- the objects of the chain are reached as long as those before them lack the name
@@ -158,7 +161,8 @@ pub record IsScope (h : Heap) (set : Labels) (t : List ℕ) (d : Addr) : Type 0 
   pub is_reached : IsTrue (set (label_of h d))
   pub has_one : heap.has h d t ≡ true
 
-abbrev Searched : Heap → Labels → List ℕ → Option Addr → Type 0
+-- what the search of a scope chain ends with
+abbrev pub Searched : Heap → Labels → List ℕ → Option Addr → Type 0
 Searched h set t None = (d : Addr) × IsOutermost h set t d
 Searched h set t (Some d) = IsScope h set t d
 
@@ -193,7 +197,7 @@ module _ (p : Program) (h : Heap) (good : IsHeap p h) (set : Labels) (t : List �
   scope_search (suc n) a o s below = search_own n (scope_search n) a o s below (heap.has h a t) refl
 
   -- the search from an object that is reached ends with one that has the name, or behind one that lacks it
-  find_searched : (a : Addr) → IsObjectOf h a → IsTrue (set (label_of h a)) → Searched h set t (find (λ (b : Addr). heap.has h b t) (heap.scopes h a))
+  pub find_searched : (a : Addr) → IsObjectOf h a → IsTrue (set (label_of h a)) → Searched h set t (find (λ (b : Addr). heap.has h b t) (heap.scopes h a))
   find_searched a o s = scope_search (heap.size h) a o s (good.ranked a o)
 
 -- ---- what the abstract walks give
@@ -221,11 +225,13 @@ module _ (p : Program) (e c : Heap) (w : View) (r : IsRead p e c w) where
   pub some_label-object : (test : Labels) (a : Addr) → IsObjectOf c a → IsTrue (test (label_of c a)) → IsTrue (some_label w test)
   some_label-object test a o h = some_among test w.labels (label_of c a) (label-among a o) h
 
-  no_link_absent : (link : Object → Option Addr) (x : Spot) (k : Key) (a : Addr) → content c a x ≡ held_address (link_of link c a) → IsTrue (same_key (key_of p x) k) → IsObjectOf c a → IsFilled w.entries (demands_of w.state (label_of c a) k) → link_of link c a ≡ None → IsTrue (may_be_absent w (label_of c a) k)
+  -- an empty slot may be absent
+  pub no_link_absent : (link : Object → Option Addr) (x : Spot) (k : Key) (a : Addr) → content c a x ≡ held_address (link_of link c a) → IsTrue (same_key (key_of p x) k) → IsObjectOf c a → IsFilled w.entries (demands_of w.state (label_of c a) k) → link_of link c a ≡ None → IsTrue (may_be_absent w (label_of c a) k)
   no_link_absent link x k a slot_is same o filled none =
       subst (λ y. IsTrue (knows c (own w (label_of c a) k) y)) (slot_is ∙ ap held_address none) (own-knows p e c w r a x k same o filled)
 
-  link_label : (link : Object → Option Addr) (x : Spot) (k : Key) (a b : Addr) → content c a x ≡ held_address (link_of link c a) → IsTrue (same_key (key_of p x) k) → IsObjectOf c a → IsFilled w.entries (demands_of w.state (label_of c a) k) → link_of link c a ≡ Some b → IsTrue ((own w (label_of c a) k).value.label (label_of c b))
+  -- an object that a slot holds has a label that the slot has
+  pub link_label : (link : Object → Option Addr) (x : Spot) (k : Key) (a b : Addr) → content c a x ≡ held_address (link_of link c a) → IsTrue (same_key (key_of p x) k) → IsObjectOf c a → IsFilled w.entries (demands_of w.state (label_of c a) k) → link_of link c a ≡ Some b → IsTrue ((own w (label_of c a) k).value.label (label_of c b))
   link_label link x k a b slot_is same o filled some =
       subst (λ y. IsTrue (knows c (own w (label_of c a) k) y)) (slot_is ∙ ap held_address some) (own-knows p e c w r a x k same o filled)
 
