@@ -1,5 +1,5 @@
 -- Keys: their numbers tell them apart, and each name of a program has its own.
-use Rattle.std.specs.Prelude.{◌≡◌, ◌<◌, ◌≤◌, ◌+◌, ◌==◌, ℕ, zero, suc, Bool, true, false, cond, nat_eq, nat_lt, length, IsTrue, List, [], ◌∷◌, slice_get, Option, Some, None, unwrap_or, get_or, position}
+use Rattle.std.specs.Prelude.{◌≡◌, ◌<◌, ◌+◌, ℕ, zero, suc, cond, nat_eq, nat_lt, length, IsTrue, List, [], slice_get, Some, None, get_or}
 use Rattle.std.specs.List.{position_or_len}
 use Rattle.std.specs.Option.{option_map_or}
 use Rattle.std.proofs.Common.{refl, sym, subst, ap, ◌∙◌, arith}
@@ -10,7 +10,6 @@ use lib.Pointwise.{pointwise, bytes_decides}
 use Rattle.ja_base.specs.declared.ids.NameId.{NameId}
 use Rattle.ja_graph.specs.declared.program.Program.{Program}
 use Rattle.ja_graph.specs.WellFormed.{IsWellFormed}
-use Rattle.ja_model.specs.declared.abstraction.Slot.{Slot}
 use Rattle.ja_model.specs.declared.abstraction.Slot.TheVariants as slot
 use Rattle.ja_model.specs.declared.abstraction.Key.{Key}
 use Rattle.ja_model.specs.declared.abstraction.Key.TheVariants as key

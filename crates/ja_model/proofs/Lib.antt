@@ -11,4 +11,8 @@ pub mod Lists
 pub mod Made
 pub mod Opening
 pub mod Rounds
+pub mod Parts
+pub mod Resolved
+pub mod Searches
 pub mod Values
+pub mod Walks
