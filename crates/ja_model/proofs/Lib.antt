@@ -10,9 +10,9 @@ pub mod Labels
 pub mod Lists
 pub mod Made
 pub mod Opening
-pub mod Rounds
 pub mod Parts
 pub mod Resolved
+pub mod Rounds
 pub mod Searches
 pub mod Values
 pub mod Walks
