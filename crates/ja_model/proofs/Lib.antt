@@ -1,4 +1,4 @@
-pub mod Assumed
+pub mod Attributes
 pub mod Closed
 pub mod Entered
 pub mod Frames
@@ -16,3 +16,4 @@ pub mod Rounds
 pub mod Searches
 pub mod Values
 pub mod Walks
+pub mod Written
