@@ -14,6 +14,7 @@ pub mod Parts
 pub mod Resolved
 pub mod Rounds
 pub mod Searches
+pub mod Steps
 pub mod Values
 pub mod Walks
 pub mod Written

@@ -36,7 +36,7 @@ use Rattle.ja_model.proofs.Walks.{some_label-object, label-among, may_accept-can
 use Rattle.ja_model.proofs.Attributes.{label_of-new, written_attrs-Some, written_attrs-None}
 use Rattle.ja_model.proofs.Made.{Tells}
 
-member_gives : (b : Bool) (next : NodeId) (a : AbstractState) → b ≡ true → Member (next.0, a) (gives b next a)
+pub member_gives : (b : Bool) (next : NodeId) (a : AbstractState) → b ≡ true → Member (next.0, a) (gives b next a)
 member_gives b next a e = subst (λ (xs : List (ℕ × AbstractState)). Member (next.0, a) xs) (sym (cond-true b ((next.0, a) ∷ []) [] e)) (inl refl)
 
 -- one of the states holds of the heap after the put and of the frame that goes on
