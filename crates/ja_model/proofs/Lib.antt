@@ -13,6 +13,7 @@ pub mod Opening
 pub mod Parts
 pub mod Resolved
 pub mod Rounds
+pub mod Runs
 pub mod Searches
 pub mod Steps
 pub mod Values
