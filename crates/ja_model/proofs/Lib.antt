@@ -1,3 +1,4 @@
+pub mod Attributes
 pub mod Interface
 pub mod Keys
 pub mod Labels
