@@ -58,6 +58,10 @@ module _ (p : Program) (e c : Heap) (w : View) (r : IsRead p e c w) (t : List â„
     read_of_heap_by (Some q) is = (got-Some p e c w r t k same a o (filled_walk base filled a o b) q is).of_heap
     read_of_heap_by None is = tt
 
+    -- .. and is undefined or a value of the heap
+    pub read-of_heap : IsValueOf c (read c a t)
+    read-of_heap = read_of_heap_by (heap.get c a t) refl
+
   -- ---- searching
 
   module _ (start : Labels) (filled : IsFilled w.entries (demands_of_search w start k)) where
