@@ -27,9 +27,11 @@ key_from (suc (suc (suc (suc zero)))) = key.OtherIndex
 key_from (suc (suc (suc (suc (suc zero))))) = key.OtherName
 key_from (suc (suc (suc (suc (suc (suc n)))))) = key.Name (record { 0 = n })
 
+-- six more, as a number of patterns
 six_more : (n : ℕ) → 6 + n ≡ suc (suc (suc (suc (suc (suc n)))))
 six_more n = omega arith
 
+-- the number of a key gives the key back
 key_from-number : (k : Key) → key_from (key_number k) ≡ k
 key_from-number (key.Slot slot.Prototype) = refl
 key_from-number (key.Slot slot.Outer) = refl
@@ -64,6 +66,7 @@ position_of names once i h =
     absurd (omega arith)))
     (λ _. (bytes_decides (get_or names i []) (get_or names i [])).1 refl)
 
+-- the name of the text of a name is that name
 name_of-name : (p : Program) → IsWellFormed p → (n : NameId) → n.0 < length p.names → name_of p (get_or p.names n.0 []) ≡ Some n.0
 name_of-name p good n h =
     let at : position_or_len (λ name. pointwise nat_eq name (get_or p.names n.0 [])) p.names ≡ n.0 = position_of p.names good.distinct n.0 h in

@@ -9,12 +9,14 @@ use Rattle.ja_graph.specs.declared.program.Program.{Program}
 use Rattle.ja_model.specs.AbstractValue.{Labels, same_label}
 use Rattle.ja_model.specs.AbstractState.{new, old, site_of, labels_of}
 
+-- bits that the test calls equal are
 beq_true : (a b : Bool) → IsTrue (beq a b) → a ≡ b
 beq_true true true e = refl
 beq_true true false e = absurd (false≢true e)
 beq_true false true e = absurd (false≢true e)
 beq_true false false e = refl
 
+-- a bit is equal to itself
 beq_self : (a : Bool) → IsTrue (beq a a)
 beq_self true = refl
 beq_self false = refl
@@ -59,9 +61,11 @@ among_some test (m ∷ ms) e =
 
 -- ---- the labels of a program
 
+-- the labels of a site
 abbrev pub site_labels : ℕ → List Label
 site_labels s = new (site_of s) ∷ old (site_of s) ∷ []
 
+-- a label of a site is among its two
 head_among : (s : ℕ) (rest : List Label) (l : Label) → l.site.0 ≡ s → IsAmong l (new (site_of s) ∷ old (site_of s) ∷ rest)
 head_among s rest l e =
     elim (cases_Bool l.old) [
@@ -69,9 +73,11 @@ head_among s rest l e =
       | inr o ↦ or_left (same_label l (new (site_of s))) (same_label l (old (site_of s)) || list_any (same_label l) rest) (and_from (l.site.0 == s) (beq l.old false) (eq-eqb l.site.0 s e) (subst (λ b. IsTrue (beq b false)) (sym o) refl))
     ]
 
+-- .. or behind them
 tail_among : (s : ℕ) (rest : List Label) (l : Label) → IsAmong l rest → IsAmong l (new (site_of s) ∷ old (site_of s) ∷ rest)
 tail_among s rest l a = or_right (same_label l (new (site_of s))) (same_label l (old (site_of s)) || list_any (same_label l) rest) (or_right (same_label l (old (site_of s))) (list_any (same_label l) rest) a)
 
+-- a label whose site is in a range of sites is among their labels
 among_range : (a n : ℕ) (l : Label) → a ≤ l.site.0 → l.site.0 < a + n → IsAmong l (flat_map site_labels (range_with_len a n))
 among_range a zero l low high = absurd (omega arith)
 among_range a (suc n) l low high =

@@ -117,16 +117,20 @@ has_number_from : (n : NumberPart) (z : _) → IsTrue (number_has n z) → IsTru
 has_number_from number_part.Nothing z e = e
 has_number_from n z e = refl
 
+-- .. nor a text part that has a text
 has_text_from : (s : TextPart) (t : List ℕ) → IsTrue (text_has s t) → IsTrue (has_text s)
 has_text_from text_part.Nothing t e = e
 has_text_from s t e = refl
 
+-- where a flag is there some part is present
 by_flag : (labels : List Label) (v : AbstractValue) → IsTrue (has_present_flag v.flags) → IsTrue (is_present labels v)
 by_flag labels v e = grind (arith, e, or_left, or_right)
 
+-- where a number is there some part is present
 by_number : (labels : List Label) (v : AbstractValue) → IsTrue (has_number v.number) → IsTrue (is_present labels v)
 by_number labels v e = grind (arith, e, or_left, or_right)
 
+-- where a text is there some part is present
 by_text : (labels : List Label) (v : AbstractValue) → IsTrue (has_text v.text) → IsTrue (is_present labels v)
 by_text labels v e = grind (arith, e, or_left, or_right)
 

@@ -27,6 +27,7 @@ use Rattle.ja_model.proofs.Values.{and_three, knows-join_left, knows-join_right}
 
 -- ---- objects and how many there are
 
+-- a place with an element is below the length
 some_within : {X : Type 0} (xs : List X) (i : ℕ) (o : Option X) → slice_get xs i ≡ o → IsSome o → i < length xs
 some_within xs i None e h = absurd (false≢true h)
 some_within xs i (Some x) e h = slice_get_within xs i x e
@@ -35,6 +36,7 @@ some_within xs i (Some x) e h = slice_get_within xs i x e
 pub ordinal-below : (h : Heap) (a : Addr) → IsObjectOf h a → a.ordinal < count h a.site
 ordinal-below h a o = some_within (objects_of h a.site) a.ordinal (object_at h a) refl o
 
+-- a place below the length has an element
 some_at : {X : Type 0} (xs : List X) (i : ℕ) → i < length xs → IsSome (slice_get xs i)
 some_at [] i h = absurd (omega arith)
 some_at (x ∷ xs) i h = subst IsSome (sym (slice_get-get_or (x ∷ xs) i x h)) refl
@@ -66,9 +68,11 @@ aged_from_read p e c w read = record { grows = read.grows; some = read.some; non
 abbrev IsRelabelled : (ℕ → Mask) → Site → Bool → Bool → Type 0
 IsRelabelled mask s before now = ((before ≡ now) × IsTrue (mask s.0).none) ⊎ ((now ≡ true) × IsTrue (mask s.0).some)
 
+-- an ordinal below an earlier count is not the last one
 last_below : (i m n : ℕ) → i < m → m < n → not (i + 1 == n) ≡ true
 last_below i m n h l = grind (arith, h, l, nat_tests)
 
+-- the masks tell how the label of an object changed
 relabelled : (e c : Heap) (mask : ℕ → Mask) → IsAged e c mask → (a : Addr) → IsObjectOf e a → IsRelabelled mask a.site (label_of e a).old (label_of c a).old
 relabelled e c mask aged a o =
     let below : a.ordinal < count e a.site = ordinal-below e a o in
@@ -81,9 +85,11 @@ relabelled e c mask aged a o =
       ]
     ]
 
+-- a label by its parts
 abbrev label_at : Site → Bool → Label
 label_at s o = record { site = s; old = o }
 
+-- a renamed set has the label now of what it had
 renamed_at : (mask : ℕ → Mask) (set : Labels) (s : Site) (before now : Bool) → IsRelabelled mask s before now → IsTrue (set (label_at s before)) → IsTrue (renamed_labels mask set (label_at s now))
 renamed_at mask set s true true r e = or_left (set (old s)) (set (new s) && (mask s.0).some) e
 renamed_at mask set s true false (inl r) e = absurd (false≢true (sym r.0))
@@ -93,10 +99,12 @@ renamed_at mask set s false true (inr r) e = or_right (set (old s)) (set (new s)
 renamed_at mask set s false false (inl r) e = and_from (set (new s)) (mask s.0).none e r.1
 renamed_at mask set s false false (inr r) e = absurd (false≢true r.0)
 
+-- a label that is there is among that one
 if_there : (b : Bool) (l : Label) → IsTrue b → IsAmong l (if b then l ∷ [] else [])
 if_there true l e = or_left (same_label l l) false (same_label-self l)
 if_there false l e = absurd (false≢true e)
 
+-- .. and its label at the entry is an origin of that
 origin_at : (mask : ℕ → Mask) (s : Site) (before now : Bool) → IsRelabelled mask s before now → IsAmong (label_at s before) (origins mask (label_at s now))
 origin_at mask s true true r = or_left (same_label (old s) (old s)) _ (same_label-self (old s))
 origin_at mask s true false (inl r) = absurd (false≢true (sym r.0))
@@ -116,6 +124,7 @@ origins-has e c mask aged a o = origin_at mask a.site (label_of e a).old (label_
 
 -- ---- contents at the entry, now
 
+-- a value of the entry is one of the renamed value now
 has_value-renamed : (e c : Heap) (mask : ℕ → Mask) → IsAged e c mask → (v : AbstractValue) (u : Value) → IsValueOf e u → IsTrue (has_value e v u) → IsTrue (has_value c (record v { label = renamed_labels mask v.label }) u)
 has_value-renamed e c mask aged v (value.Primitive q) o h = has_primitive-labels v (renamed_labels mask v.label) q h
 has_value-renamed e c mask aged v (value.Object a) o h = renamed_labels-has e c mask aged a o v.label h
@@ -136,6 +145,7 @@ entry_known c mask x None s f = absurd (false≢true s)
 entry_known c mask x (Some q) s f = f q refl
 
 module _ (p : Program) (e c : Heap) (w : View) (read : IsRead p e c w) where
+  -- what the objects of a label had at entry is known
   from_entry-knows : (a : Addr) (x : Spot) (k : Key) → IsTrue (same_key (key_of p x) k) → IsFilled w.entries (demands_of w.state (label_of c a) k) → IsTrue (w.state.property (label_of c a) k).value.flags.entry → IsObjectOf e a → IsTrue (knows c (from_entry w.state w.entries (label_of c a) k) (content e a x))
   from_entry-knows a x k same filled entry o =
       let aged = aged_from_read p e c w read in
@@ -148,6 +158,7 @@ module _ (p : Program) (e c : Heap) (w : View) (read : IsRead p e c w) where
       (entry_known c mask (content e a x) (w.entries m k) (filled m k demanded) (λ q found.
       knows-renamed e c mask aged q (content e a x) (read.heap_at_entry.inside a x) (read.entries m k q found a x o (same_label-self m) same)))
 
+  -- either way that the state holds of an object
   own-at : (a : Addr) (x : Spot) (k : Key) → IsTrue (same_key (key_of p x) k) → IsFilled w.entries (demands_of w.state (label_of c a) k) → (let q = w.state.property (label_of c a) k in IsTrue (knows c q (content c a x)) ⊎ (IsTrue q.value.flags.entry × IsAsAtEntry e c a x)) → IsTrue (knows c (own w (label_of c a) k) (content c a x))
   own-at a x k same filled (inl known) =
       let q = w.state.property (label_of c a) k in

@@ -10,28 +10,35 @@ use Rattle.ja_model.proofs.Labels.{IsAmong, same_label-true, some_among, among_s
 
 -- ---- how many of a list are in a set
 
+-- one for each that is in
 abbrev bit : Bool → ℕ
 bit true = 1
 bit false = 0
 
+-- how many of the list are in the set
 abbrev among : Labels → List Label → ℕ
 among set [] = 0
 among set (l ∷ ls) = bit (set l) + among set ls
 
+-- a bit is at most one
 bit-le : (b : Bool) → bit b ≤ 1
 bit-le true = omega arith
 bit-le false = omega arith
 
+-- a test that follows from another counts no less
 bit_more : (a b : Bool) → (IsTrue a → IsTrue b) → bit a ≤ bit b
 bit_more true b f = subst (λ c. 1 ≤ bit c) (sym (f refl)) (omega arith)
 bit_more false b f = omega arith
 
+-- what is in counts one
 bit_true : (b : Bool) → b ≡ true → bit b ≡ 1
 bit_true b e = subst (λ c. bit c ≡ 1) (sym e) refl
 
+-- what is not in counts none
 bit_false : (b : Bool) → b ≡ false → bit b ≡ 0
 bit_false b e = subst (λ c. bit c ≡ 0) (sym e) refl
 
+-- at most as many are in the set as there are
 among-le : (set : Labels) (ls : List Label) → among set ls ≤ length ls
 among-le set [] = omega arith
 among-le set (l ∷ ls) = omega (arith, bit-le (set l), among-le set ls)
@@ -45,10 +52,12 @@ among_all set (m ∷ ms) e l a =
       | inr r ↦ among_all set ms (omega (arith, bit-le (set m), among-le set ms)) l r
     ]
 
+-- of a greater set no fewer are in the list
 among_more-le : (s t : Labels) → ((l : Label) → IsTrue (s l) → IsTrue (t l)) → (ls : List Label) → among s ls ≤ among t ls
 among_more-le s t f [] = omega arith
 among_more-le s t f (l ∷ ls) = omega (arith, bit_more (s l) (t l) (f l), among_more-le s t f ls)
 
+-- what of the list is in the first set is in the second
 abbrev IsIn : Labels → Labels → List Label → Type 0
 IsIn t s ls = (l : Label) → IsAmong l ls → IsTrue (t l) → IsTrue (s l)
 
@@ -82,12 +91,15 @@ module _ (next : Label → Labels) (labels : List Label) where
   abbrev IsClosed : Labels → Type 0
   IsClosed set = (l m : Label) → IsAmong l labels → IsAmong m labels → IsTrue (set l) → IsTrue (next l m) → IsTrue (set m)
 
+  -- a round keeps what the set has
   one_more-keeps : (set : Labels) (l : Label) → IsTrue (set l) → IsTrue (one_more next labels set l)
   one_more-keeps set l e = or_left (set l) (list_any (λ (m : Label). set m && next m l) labels) e
 
+  -- .. and adds what a step from it leads to
   one_more-adds : (set : Labels) (l m : Label) → IsAmong l labels → IsTrue (set l) → IsTrue (next l m) → IsTrue (one_more next labels set m)
   one_more-adds set l m a e n = or_right (set m) (list_any (λ (k : Label). set k && next k m) labels) (some_among (λ (k : Label). set k && next k m) labels l a (and_from (set l) (next l m) e n))
 
+  -- .. and nothing that a greater closed set lacks
   one_more-from : (set all : Labels) → ((l : Label) → IsTrue (set l) → IsTrue (all l)) → ((l m : Label) → IsAmong l labels → IsTrue (all l) → IsTrue (next l m) → IsTrue (all m)) → (m : Label) → IsTrue (one_more next labels set m) → IsTrue (all m)
   one_more-from set all f g m e =
       elim (or_cases (set m) (list_any (λ (k : Label). set k && next k m) labels) e) [
@@ -98,10 +110,12 @@ module _ (next : Label → Labels) (labels : List Label) where
             g l m a (f l s) n
       ]
 
+  -- rounds keep what they start with
   rounds-keep : (start : Labels) (n : ℕ) (l : Label) → IsTrue (start l) → IsTrue (rounds next labels start n l)
   rounds-keep start zero l e = e
   rounds-keep start (suc n) l e = one_more-keeps (rounds next labels start n) l (rounds-keep start n l e)
 
+  -- .. and add nothing that a greater closed set lacks
   rounds-least : (start all : Labels) → ((l : Label) → IsTrue (start l) → IsTrue (all l)) → ((l m : Label) → IsAmong l labels → IsTrue (all l) → IsTrue (next l m) → IsTrue (all m)) → (n : ℕ) (l : Label) → IsTrue (rounds next labels start n l) → IsTrue (all l)
   rounds-least start all f g zero l e = f l e
   rounds-least start all f g (suc n) l e = one_more-from (rounds next labels start n) all (rounds-least start all f g n) g l e
@@ -121,6 +135,7 @@ module _ (next : Label → Labels) (labels : List Label) where
             c l m a b s n
       ]
 
+  -- a closed set stays closed
   closed_more : (set : Labels) → IsClosed set → IsClosed (one_more next labels set)
   closed_more set c l m a b e n = one_more-keeps set m (c l m a b (closed-same set c l a e) n)
 

@@ -32,12 +32,15 @@ module _ (p : Program) (e c : Heap) (w : View) (r : IsRead p e c w) (t : List �
   filled_walk base filled a o b m j d = filled m j (some_label-object p e c w r (λ l. base l && demands_of_walk w l k m j) a o (and_from _ _ b d))
 
   module _ (base : Labels) (filled : IsFilled w.entries (demands_of_read w base k)) (a : Addr) (o : IsObjectOf c a) (b : IsTrue (base (label_of c a))) where
+    -- what a label of the base gives
     abbrev of_base : Label → AbstractValue
     of_base l = if base l then got w l k else no_value
 
+    -- .. at the label of the object
     of_base_here : of_base (label_of c a) ≡ got w (label_of c a) k
     of_base_here = cond-true (base (label_of c a)) (got w (label_of c a) k) no_value b
 
+    -- by what [[Get]] finds
     read_by : (g : Option Property) → heap.get c a t ≡ g → IsTrue (has_value c (read_value w base k) (option_map_or (λ (q : Property). q.value) g undefined))
     read_by (Some q) is =
         let gets = got-Some p e c w r t k same a o (filled_walk base filled a o b) q is in
@@ -50,33 +53,44 @@ module _ (p : Program) (e c : Heap) (w : View) (r : IsRead p e c w) (t : List �
     pub read_value-read : IsTrue (has_value c (read_value w base k) (read c a t))
     read_value-read = read_by (heap.get c a t) refl
 
+    -- by what [[Get]] finds
     read_of_heap_by : (g : Option Property) → heap.get c a t ≡ g → IsValueOf c (option_map_or (λ (q : Property). q.value) g undefined)
     read_of_heap_by (Some q) is = (got-Some p e c w r t k same a o (filled_walk base filled a o b) q is).of_heap
     read_of_heap_by None is = tt
 
+    -- .. and is undefined or a value of the heap
+    pub read-of_heap : IsValueOf c (read c a t)
+    read-of_heap = read_of_heap_by (heap.get c a t) refl
+
   -- ---- searching
 
   module _ (start : Labels) (filled : IsFilled w.entries (demands_of_search w start k)) where
+    -- the search demands what the walk from an object that is searched does
     filled_scope : (a : Addr) → IsObjectOf c a → IsTrue (searched w start k (label_of c a)) → IsFilled w.entries (demands_of_walk w (label_of c a) k)
     filled_scope a o s m j d =
         filled m j (some_label-object p e c w r (λ x. searched w start k x && (demands_of_walk w x k m j || (may_lack w x k && demands_of w.state x outer m j))) a o (and_from _ _ s (or_left _ _ d)))
 
+    -- .. and what the reading of its outer object does, where it may lack the name
     filled_outer : (a : Addr) → IsObjectOf c a → IsTrue (searched w start k (label_of c a)) → IsTrue (may_lack w (label_of c a) k) → IsFilled w.entries (demands_of w.state (label_of c a) outer)
     filled_outer a o s lack m j d =
         filled m j (some_label-object p e c w r (λ x. searched w start k x && (demands_of_walk w x k m j || (may_lack w x k && demands_of w.state x outer m j))) a o (and_from _ _ s (or_right _ _ (and_from _ _ lack d))))
 
+    -- what is searched leads out to outer objects
     searched-leads : LeadsOut c (searched w start k) t
     searched-leads a b o s none link =
         let lack : IsTrue (may_lack w (label_of c a) k) = may_lack-has p e c w r t k same a o (filled_scope a o s) none in
         let label : IsTrue ((own w (label_of c a) outer).value.label (label_of c b)) = link_label p e c w r heap.outer_of (internal slot.Outer) outer a b (content-outer c a) (same_key-self outer) o (filled_outer a o s lack) link in
         reached-next (next_scope w k) w.labels start (label_of c a) (label_of c b) (label-among p e c w r a o) (label-among p e c w r b (outer_before p c r.heap_now a b link).0) s (and_from _ _ lack label)
 
+    -- the labels that may have the name
     abbrev with_name : Labels
     with_name l = searched w start k l && may_have w l k
 
+    -- null where the chain may end
     abbrev at_end : AbstractValue
     at_end = if some_label w (λ l. searched w start k l && may_lack w l k && may_be_absent w l outer) then null_value else no_value
 
+    -- by how the search in the heap ends
     found_by : (d : Option Addr) → Searched c (searched w start k) t d → IsTrue (has_value c (found w start k) (name_base d))
     found_by (Some d) here =
         has_value-join_left c (of_labels with_name) at_end (name_base (Some d)) (and_from _ _ here.is_reached (may_have-has p e c w r t k same d here.is_object (filled_scope d here.is_object here.is_reached) here.has_one))
@@ -86,11 +100,13 @@ module _ (p : Program) (e c : Heap) (w : View) (r : IsRead p e c w) (t : List �
         let there : IsTrue (some_label w (λ l. searched w start k l && may_lack w l k && may_be_absent w l outer)) = some_label-object p e c w r (λ l. searched w start k l && may_lack w l k && may_be_absent w l outer) d last.is_object (and_three _ _ _ last.is_reached lack ends) in
         has_value-join_right c (of_labels with_name) at_end (name_base None) (subst (λ v. IsTrue (has_value c v (name_base None))) (sym (cond-true (some_label w (λ l. searched w start k l && may_lack w l k && may_be_absent w l outer)) null_value no_value there)) refl)
 
+    -- by how the search in the heap ends
     of_heap_by : (d : Option Addr) → Searched c (searched w start k) t d → IsValueOf c (name_base d)
     of_heap_by (Some d) here = here.is_object
     of_heap_by None last = tt
 
     module _ (a : Addr) (o : IsObjectOf c a) (s : IsTrue (start (label_of c a))) where
+      -- how the search from it ends
       name_searched : Searched c (searched w start k) t (find (λ (b : Addr). heap.has c b t) (heap.scopes c a))
       name_searched = find_searched p c r.heap_now (searched w start k) t searched-leads a o (reached-start (next_scope w k) w.labels start (label_of c a) s)
 
