@@ -1,16 +1,16 @@
 -- What a closed table has: the states that its nodes give, the values at entry that they demand, and the opening.
-use Rattle.std.proofs.Common.{◌≡◌, ◌≢◌, ◌⊎◌, ℕ, zero, suc, ◌+◌, ◌<◌, ◌≤◌, Bool, true, false, not, cond, List, [], ◌∷◌, ◌++◌, length, map, Some, None, Option, inl, inr, refl, sym, ap, ◌∙◌, subst, arith}
-use Rattle.std.specs.Prelude.{IsTrue, IsSome, slice_get, unwrap_or, ◌&&◌, ◌||◌, ◌==◌, if◌then◌else◌}
-use Rattle.std.specs.Option.{is_some, option_and_then, option_map, option_map_or}
-use Rattle.std.proofs.lemmas.Bool.{and_parts, and_from, and_left, and_right, or_left, or_right, cases_Bool, cases_eq, false≢true, eq-eqb, ne_eqb, cond-true, cond-false}
+use Rattle.std.proofs.Common.{◌≡◌, ℕ, true, false, List, [], ◌∷◌, Some, None, Option, inl, inr, refl, sym, ap, ◌∙◌, subst}
+use Rattle.std.specs.Prelude.{IsTrue, IsSome, ◌==◌}
+use Rattle.std.specs.Option.{is_some, option_map, option_map_or}
+use Rattle.std.proofs.lemmas.Option.{same_Some}
+use Rattle.std.proofs.lemmas.Bool.{and_parts, and_from, or_left, or_right, cases_Bool, eq-eqb, cond-true, cond-false}
 use Rattle.ja_base.specs.declared.ids.Label.{Label}
-use Rattle.ja_base.specs.declared.ids.Site.{Site}
 use Rattle.ja_base.specs.declared.ids.NodeId.{NodeId}
 use Rattle.ja_base.specs.declared.ids.Context.{Context}
 use Rattle.ja_graph.specs.declared.node.NodeInfo.{NodeInfo}
 use Rattle.ja_graph.specs.declared.node.Node.{Node}
 use Rattle.ja_graph.specs.declared.program.Program.{Program}
-use Rattle.ja_graph.specs.Program.{node_at, global}
+use Rattle.ja_graph.specs.Program.{node_at}
 use Rattle.ja_model.specs.declared.abstraction.Key.{Key}
 use Rattle.ja_model.specs.declared.abstraction.Flags.{Flags}
 use Rattle.ja_model.specs.declared.abstraction.Mask.{Mask}
@@ -18,22 +18,19 @@ use Rattle.ja_prim.specs.declared.primitive.Num.TheVariants.{NaN, Whole}
 use Rattle.ja_prim.specs.declared.primitive.Primitive.{Primitive}
 use Rattle.ja_prim.specs.declared.primitive.Primitive.TheVariants as primitive
 use Rattle.ja_model.specs.declared.machine.Value.TheVariants as value
-use Rattle.ja_model.specs.declared.machine.Addr.{Addr}
 use Rattle.ja_model.specs.declared.machine.Value.{Value}
 use Rattle.ja_model.specs.declared.machine.Heap.{Heap}
 use Rattle.ja_model.specs.declared.machine.Frame.{Frame}
-use Rattle.ja_model.specs.declared.table.Item.{Item}
 use Rattle.ja_model.specs.declared.table.Item.TheVariants.{Open, Step}
-use Rattle.ja_model.specs.Heap.{count, object_at}
-use Rattle.ja_model.specs.Machine.{program_function, opening_heap}
-use Rattle.ja_model.specs.AbstractValue.{AbstractValue, AbstractProperty, join, join_properties, no_property}
-use Rattle.ja_model.specs.AbstractState.{AbstractState, join_states, entry_state}
-use Rattle.ja_model.specs.Reading.{Entries, Demands}
+use Rattle.ja_model.specs.Machine.{program_function}
+use Rattle.ja_model.specs.AbstractValue.{AbstractValue, AbstractProperty, join_properties}
+use Rattle.ja_model.specs.AbstractState.{AbstractState, join_states}
+use Rattle.ja_model.specs.Reading.{Entries}
 use Rattle.ja_model.specs.Transfer.{Out, transfer, transfer_node, view_of}
-use Rattle.ja_model.specs.Meaning.{Content, missing, held, present, has_primitive, has_value, allows_attrs, LeqValue, LeqProperty, Spot, Holds, IsAsAtEntry, content, knows, label_of, key_of, LeqState, opened}
-use Rattle.ja_model.specs.Table.{Table, root, same_context, opened_entries, visit_open, demanded, with_demands, joined_state, with_state, with_states, with_out, visit_step, visited, IsItem, HasOpening, IsClosed}
+use Rattle.ja_model.specs.Meaning.{Content, missing, held, present, has_primitive, has_value, allows_attrs, LeqValue, LeqProperty, Holds, content, knows, label_of, key_of, LeqState, opened}
+use Rattle.ja_model.specs.Table.{Table, root, with_demands, joined_state, with_state, with_states, with_out, visit_step, IsClosed}
 use Rattle.ja_model.proofs.Interface.{IsFilled}
-use Rattle.ja_model.proofs.Lists.{Member, some_value, is_some_from, same_some}
+use Rattle.ja_model.proofs.Lists.{Member, is_some_from}
 use Rattle.ja_model.proofs.Values.{allows_attrs-join_left, has_value-join_left, has_value-join_right, knows-join_left, knows-join_right}
 
 -- whatever the first state holds of, the second does
@@ -91,8 +88,9 @@ IsWithin-from_leq p a b l = record {
   holds = λ e c f h. record {
     registers = λ r v k. leq_has_value c (a.register r) (b.register r) v (l.register r) (h.registers r v k);
     objects = λ o x there. elim (h.objects o x there) [
-        inl k ↦ inl (leq_knows c (a.property (label_of c o) (key_of p x)) (b.property (label_of c o) (key_of p x)) (content c o x) (l.property (label_of c o) (key_of p x)) k)
-      | inr k ↦ inr (sym (ap (λ (g : Flags). g.entry) (l.property (label_of c o) (key_of p x)).value.flags) ∙ or_left _ _ k.0, k.1) ];
+      | inl k ↦ inl (leq_knows c (a.property (label_of c o) (key_of p x)) (b.property (label_of c o) (key_of p x)) (content c o x) (l.property (label_of c o) (key_of p x)) k)
+      | inr k ↦ inr (sym (ap (λ (g : Flags). g.entry) (l.property (label_of c o) (key_of p x)).value.flags) ∙ or_left _ _ k.0, k.1)
+    ];
     some = λ t k. sym (ap (λ (m : Mask). m.some) (l.mask t.0)) ∙ or_left _ _ (h.some t k);
     none = λ t k. sym (ap (λ (m : Mask). m.none) (l.mask t.0)) ∙ or_left _ _ (h.none t k);
   };
@@ -119,12 +117,13 @@ with_state_has p t n a = record {
 with_state_keeps : (p : Program) (t : Table) (n : ℕ) (a : AbstractState) (given : ℕ × AbstractState) → HasWithin p t n a → HasWithin p (with_state t root given) n a
 with_state_keeps p t n a given h =
     elim (cases_Bool (given.0 == n)) [
-      inl e ↦ record {
+      | inl e ↦ record {
         state = joined_state (t.state root n) given.1;
         state_is = cond-true _ _ _ e;
         within = subst (λ o. IsWithin p a (joined_state o given.1)) (sym h.state_is) (IsWithin_trans p a h.state (join_states h.state given.1) h.within (IsWithin-join_left p h.state given.1));
       }
-    | inr e ↦ record { state = h.state; state_is = cond-false _ _ _ e ∙ h.state_is; within = h.within } ]
+      | inr e ↦ record { state = h.state; state_is = cond-false _ _ _ e ∙ h.state_is; within = h.within }
+    ]
 
 with_states_keep : (p : Program) (t : Table) (n : ℕ) (a : AbstractState) (xs : List (ℕ × AbstractState)) → HasWithin p t n a → HasWithin p (with_states t root xs) n a
 with_states_keep p t n a [] h = h
@@ -150,7 +149,7 @@ settled_step p t n a info closed node_is state_is =
     let out : Out = transfer p (t.entry root) a info in
     let item : IsSome (node_at p program_function n) × IsSome (t.state root n.0) = (is_some_from _ info node_is, is_some_from _ a state_is) in
     let same : visit_step p t root n ≡ with_out t root out =
-      ap (λ o. option_map_or (λ (i : NodeInfo). option_map_or (λ (b : AbstractState). with_out t root (transfer p (t.entry root) b i)) (t.state root n.0) t) o t) node_is ∙ ap (λ o. option_map_or (λ (b : AbstractState). with_out t root (transfer p (t.entry root) b info)) o t) state_is in
+    ap (λ o. option_map_or (λ (i : NodeInfo). option_map_or (λ (b : AbstractState). with_out t root (transfer p (t.entry root) b i)) (t.state root n.0) t) o t) node_is ∙ ap (λ o. option_map_or (λ (b : AbstractState). with_out t root (transfer p (t.entry root) b info)) o t) state_is in
     let closed_is : with_out t root out ≡ t = sym same ∙ closed.settled (Step root n) item in
     record {
       goes = λ m b k. subst (λ (u : Table). HasWithin p u m b) closed_is (with_states_have p (with_demands t root out.demands) m b out.states k);
@@ -163,4 +162,4 @@ pub settled_open : (p : Program) (t : Table) → IsClosed p t → (l : Label) (k
 settled_open p t closed l k q e =
     let same : option_map (λ (r : AbstractProperty). join_properties r (opened p l k)) (t.entry root l k) ≡ t.entry root l k = ap (λ (u : Table). u.entry root l k) (closed.settled Open tt) in
     let at : Some (join_properties q (opened p l k)) ≡ Some q = ap (option_map (λ (r : AbstractProperty). join_properties r (opened p l k))) (sym e) ∙ (same ∙ e) in
-    sym (same_some _ _ at)
+    sym (same_Some _ _ at)

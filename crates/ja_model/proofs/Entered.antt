@@ -1,9 +1,8 @@
 -- The values at entry of a table that Open leaves as it is hold of the heap in which a run begins.
-use Rattle.std.proofs.Common.{◌≡◌, ◌≢◌, ◌⊎◌, ℕ, zero, suc, ◌+◌, ◌<◌, ◌≤◌, Bool, true, false, not, cond, List, [], ◌∷◌, ◌++◌, length, map, get_or, Some, None, Option, inl, inr, refl, sym, ap, ◌∙◌, subst, arith}
-use Rattle.std.specs.Prelude.{IsTrue, IsSome, slice_get, unwrap_or, find, ◌&&◌, ◌||◌, ◌==◌, nat_eq}
-use Rattle.std.specs.List.{position}
-use Rattle.std.specs.Option.{is_some, option_map_or}
-use Rattle.std.proofs.lemmas.Bool.{and_parts, and_from, cases_Bool, false≢true, eq-eqb, cond-true, cond-false}
+use Rattle.std.proofs.Common.{◌≡◌, ℕ, suc, ◌<◌, Bool, true, false, not, cond, List, [], ◌∷◌, length, map, get_or, Some, None, Option, inl, inr, refl, sym, ap, ◌∙◌, subst, arith}
+use Rattle.std.specs.Prelude.{IsTrue, slice_get, find}
+use Rattle.std.specs.Option.{option_map_or}
+use Rattle.std.proofs.lemmas.Bool.{and_from, cases_Bool, cond-false}
 use Rattle.std.proofs.lemmas.Cmp.{int_eq_equiv}
 use Rattle.std.proofs.lemmas.List.Quantifiers.{position-Some}
 use Rattle.std.proofs.lemmas.Option.{unwrap_or-slice_get}
@@ -25,14 +24,13 @@ use Rattle.ja_model.specs.declared.machine.Value.TheVariants as value
 use Rattle.ja_model.specs.declared.machine.Property.{Property}
 use Rattle.ja_model.specs.declared.machine.Object.{Object}
 use Rattle.ja_model.specs.declared.machine.Heap.{Heap}
-use Rattle.ja_model.specs.Heap.{count, object_at, same_text}
+use Rattle.ja_model.specs.Heap.{count, same_text}
 use Rattle.ja_model.specs.Machine.{name_text, first_of, opening_property, opening_object, opening_heap}
-use Rattle.ja_model.specs.AbstractValue.{AbstractProperty, join_properties, no_property, of_primitive, of_attrs, same_label}
-use Rattle.ja_model.specs.AbstractState.{name_key, same_key}
+use Rattle.ja_model.specs.AbstractValue.{AbstractProperty, join_properties, no_property, of_primitive, of_attrs}
+use Rattle.ja_model.specs.AbstractState.{name_key}
 use Rattle.ja_model.specs.Reading.{Entries}
-use Rattle.ja_model.specs.Meaning.{Content, missing, held, present, Spot, named, internal, content, object_content, property_content, label_of, name_of, rest_key, key_of, has_primitive, has_value, allows, allows_attrs, knows, of_value, of_content, key_content, opened_at, opened, EntriesHold}
+use Rattle.ja_model.specs.Meaning.{Content, missing, held, present, Spot, named, internal, content, property_content, label_of, name_of, key_of, has_primitive, has_value, allows, allows_attrs, knows, of_value, of_content, key_content, opened_at, opened, EntriesHold}
 use Rattle.ja_model.proofs.Interface.{IsObjectOf}
-use Rattle.ja_model.proofs.Lists.{same_some}
 use Rattle.ja_model.proofs.Heaps
 use Rattle.ja_model.proofs.Opening.{IsOpened, opened_at_address, count-opening}
 use Rattle.ja_model.proofs.Keys.{same_key-true, key_of-name}
@@ -94,8 +92,9 @@ module _ (p : Program) (good : IsWellFormed p) where
   none_named [] t names other = refl
   none_named (q ∷ qs) t names other =
       elim (cases_Bool (same_text (name_text p q.name) t)) [
-        inl e ↦ absurd (other q.name (subst (λ u. key_of p (named u) ≡ key.Name q.name) (Heaps.text_same _ t e) (key_of-name p good q.name (names 0 q refl))))
-      | inr e ↦ ap property_content (cond-false _ _ _ e) ∙ none_named qs t (λ j r k. names (suc j) r k) other ]
+        | inl e ↦ absurd (other q.name (subst (λ u. key_of p (named u) ≡ key.Name q.name) (Heaps.text_same _ t e) (key_of-name p good q.name (names 0 q refl))))
+        | inr e ↦ ap property_content (cond-false _ _ _ e) ∙ none_named qs t (λ j r k. names (suc j) r k) other
+      ]
 
   no_name_key : (t : List ℕ) (k : Key) → key_of p (named t) ≡ k → ((n : NameId) → k ≡ key.Name n → ⊥) → (n : NameId) → key_of p (named t) ≡ key.Name n → ⊥
   no_name_key t k e other n f = other n (sym e ∙ f)
@@ -124,7 +123,7 @@ module _ (p : Program) (good : IsWellFormed p) where
       let is_new : (label_of (opening_heap p) a).old ≡ false = Heaps.label_is_new (opening_heap p) a (omega arith) in
       let first : first_of a.site ≡ a = Heaps.same_address (first_of a.site) a refl (sym zero_is) in
       let opened_is : opened p (label_of (opening_heap p) a) k ≡ of_content (opening_heap p) (content (opening_heap p) a x) =
-        cond-false _ no_property (opened_at p k (first_of a.site)) is_new ∙ (ap (opened_at p k) first ∙ (ap (λ r. option_map_or (λ (q : Object). of_content (opening_heap p) (key_content p a k)) r no_property) o.object_is ∙ ap (of_content (opening_heap p)) (key_content_is a x k there e))) in
+      cond-false _ no_property (opened_at p k (first_of a.site)) is_new ∙ (ap (opened_at p k) first ∙ (ap (λ r. option_map_or (λ (q : Object). of_content (opening_heap p) (key_content p a k)) r no_property) o.object_is ∙ ap (of_content (opening_heap p)) (key_content_is a x k there e))) in
       subst (λ q. IsTrue (knows (opening_heap p) q (content (opening_heap p) a x))) (sym opened_is) (of_content_knows (opening_heap p) (content (opening_heap p) a x))
 
   pub entries_hold : (entries : Entries) → ((l : Label) (k : Key) (q : AbstractProperty) → entries l k ≡ Some q → q ≡ join_properties q (opened p l k)) → EntriesHold p (opening_heap p) entries

@@ -1,7 +1,7 @@
 -- The frame of a run: what its registers hold, and that its result is kept by the state with a register set.
-use Rattle.std.proofs.Common.{◌≡◌, ◌≢◌, ◌⊎◌, ℕ, zero, suc, ◌+◌, ◌<◌, ◌≤◌, Bool, true, false, not, cond, List, [], ◌∷◌, length, Some, None, Option, inl, inr, refl, sym, ap, ◌∙◌, subst, arith, length-set}
-use Rattle.std.specs.Prelude.{IsTrue, IsSome, slice_get, slice_set, unwrap_or, ◌==◌}
-use Rattle.std.specs.Option.{is_some}
+use Rattle.std.proofs.Common.{◌≡◌, ◌≢◌, ◌⊎◌, ℕ, ◌<◌, List, [], ◌∷◌, length, Some, None, Option, inl, inr, refl, sym, ap, ◌∙◌, subst, length-set}
+use Rattle.std.specs.Prelude.{IsTrue, slice_get, slice_set, unwrap_or, ◌==◌}
+use Rattle.std.proofs.lemmas.Option.{same_Some}
 use Rattle.std.proofs.lemmas.Bool.{cases_eq, eq-eqb, ne_eqb, cond-true, cond-false}
 use Rattle.ja_base.specs.declared.ids.Reg.{Reg}
 use Rattle.ja_base.specs.declared.ids.NodeId.{NodeId}
@@ -20,7 +20,7 @@ use Rattle.ja_model.specs.AbstractState.{AbstractState, with_register}
 use Rattle.ja_model.specs.Meaning.{Holds, has_value}
 use Rattle.ja_model.specs.Table.{Table, root}
 use Rattle.ja_model.proofs.Interface.{IsValueOf}
-use Rattle.ja_model.proofs.Lists.{slice_get-set_same, slice_get-set_other, slice_get_some, same_some}
+use Rattle.ja_model.proofs.Lists.{slice_get-set_same, slice_get-set_other, slice_get_some}
 use Rattle.ja_model.proofs.Growing.{IsRunHeap}
 use Rattle.ja_model.proofs.Closed.{HasWithin}
 
@@ -77,8 +77,9 @@ register_of_heap p text h f r k l = k.values r.0 (register_of f r) (register_hel
 pub written_cases : (registers : List Value) (d r : ℕ) (v u : Value) → d < length registers → slice_get (slice_set registers d v) r ≡ Some u → ((r ≡ d) × (v ≡ u)) ⊎ ((r ≢ d) × (slice_get registers r ≡ Some u))
 written_cases registers d r v u l e =
     elim (cases_eq r d) [
-      inl f ↦ inl (f, same_some v u (sym (slice_get-set_same registers d v l) ∙ (ap (slice_get (slice_set registers d v)) (sym f) ∙ e)))
-    | inr f ↦ inr (f, sym (slice_get-set_other registers d r v f) ∙ e) ]
+      | inl f ↦ inl (f, same_Some v u (sym (slice_get-set_same registers d v l) ∙ (ap (slice_get (slice_set registers d v)) (sym f) ∙ e)))
+      | inr f ↦ inr (f, sym (slice_get-set_other registers d r v f) ∙ e)
+    ]
 
 module _ (p : Program) (text : Function) (h now : Heap) (f : Frame) (stays : (v : Value) → IsValueOf h v → IsValueOf now v) (k : IsRunFrame p text h f) where
   -- the frame goes on with a result
@@ -104,8 +105,9 @@ module _ (p : Program) (text : Function) (h now : Heap) (f : Frame) (stays : (v 
 pub registers_with_result : (h : Heap) (f : Frame) (a : AbstractState) (dst : Reg) (v : Value) (u : AbstractValue) → dst.0 < length f.registers → IsTrue (has_value h u v) → ((r : ℕ) (w : Value) → slice_get f.registers r ≡ Some w → IsTrue (has_value h (a.register r) w)) → (r : ℕ) (w : Value) → slice_get (slice_set f.registers dst.0 v) r ≡ Some w → IsTrue (has_value h ((with_register a dst u).register r) w)
 registers_with_result h f a dst v u l new old r w e =
     elim (written_cases f.registers dst.0 r v w l e) [
-      inl g ↦ subst (λ (s : AbstractValue). IsTrue (has_value h s w)) (sym (cond-true (dst.0 == r) u (a.register r) (eq-eqb dst.0 r (sym g.0)))) (subst (λ x. IsTrue (has_value h u x)) g.1 new)
-    | inr g ↦ subst (λ (s : AbstractValue). IsTrue (has_value h s w)) (sym (cond-false (dst.0 == r) u (a.register r) (ne_eqb dst.0 r (λ k. g.0 (sym k))))) (old r w g.1) ]
+      | inl g ↦ subst (λ (s : AbstractValue). IsTrue (has_value h s w)) (sym (cond-true (dst.0 == r) u (a.register r) (eq-eqb dst.0 r (sym g.0)))) (subst (λ x. IsTrue (has_value h u x)) g.1 new)
+      | inr g ↦ subst (λ (s : AbstractValue). IsTrue (has_value h s w)) (sym (cond-false (dst.0 == r) u (a.register r) (ne_eqb dst.0 r (λ k. g.0 (sym k))))) (old r w g.1)
+    ]
 
 pub holds_with_result : (p : Program) (e h : Heap) (f : Frame) (a : AbstractState) (dst : Reg) (v : Value) (u : AbstractValue) (next : NodeId) → Holds p e h f a → dst.0 < length f.registers → IsTrue (has_value h u v) → Holds p e h (with_result f dst v next) (with_register a dst u)
 holds_with_result p e h f a dst v u next holds l new = record {

@@ -1,22 +1,21 @@
 -- What is known of a run's heaps stays so: after an object more, and after a write to a property.
-use Rattle.std.proofs.Common.{◌≡◌, ◌≢◌, ◌⊎◌, ℕ, zero, suc, ◌+◌, ◌<◌, ◌≤◌, Bool, true, false, not, cond, List, [], ◌∷◌, ◌++◌, length, map, Some, None, Option, inl, inr, refl, sym, ap, ◌∙◌, subst, arith, length-append, length-set}
-use Rattle.std.specs.Prelude.{IsTrue, IsSome, slice_get, slice_set, unwrap_or, find, filter, ◌&&◌, ◌||◌, ◌==◌, nat_eq}
-use Rattle.std.specs.Option.{is_some, option_and_then, option_map_or}
-use Rattle.std.proofs.lemmas.Bool.{and_parts, and_from, and_left, and_right, cases_Bool, cases_eq, false≢true, eq-eqb, ne_eqb, eqb-true, eqb-false, cond-true, cond-false}
-use Rattle.ja_base.specs.declared.ids.Label.{Label}
+use Rattle.std.proofs.Common.{◌≡◌, ℕ, suc, ◌<◌, ◌≤◌, cond, List, [], ◌∷◌, ◌++◌, length, Some, Option, inl, inr, refl, sym, ap, ◌∙◌, subst, arith, length-set}
+use Rattle.std.specs.Prelude.{◌&&◌, ◌==◌}
+use Rattle.std.specs.Option.{is_some}
+use Rattle.std.proofs.lemmas.Option.{same_Some}
+use Rattle.std.proofs.lemmas.Bool.{and_from, and_left, and_right, cases_Bool, cases_eq, eq-eqb, ne_eqb, cond-true, cond-false}
 use Rattle.ja_base.specs.declared.ids.Site.{Site}
-use Rattle.ja_graph.specs.declared.node.Attrs.{Attrs}
 use Rattle.ja_graph.specs.declared.program.Program.{Program}
 use Rattle.ja_model.specs.declared.machine.Addr.{Addr}
 use Rattle.ja_model.specs.declared.machine.Value.{Value}
-use Rattle.ja_model.specs.declared.machine.Value.TheVariants as value
 use Rattle.ja_model.specs.declared.machine.Object.{Object}
 use Rattle.ja_model.specs.declared.machine.Heap.{Heap}
-use Rattle.ja_model.specs.Heap.{objects_of, count, size, object_at, with_new, new_address, with_object, object_with_value, property_of, prototype_of, outer_of}
+use Rattle.ja_model.specs.Heap.{objects_of, count, size, object_at, with_new, new_address, with_object, object_with_value, prototype_of, outer_of}
 use Rattle.ja_model.specs.Machine.{opening_heap}
-use Rattle.ja_model.specs.Meaning.{Content, missing, held, present, Spot, named, internal, content, object_content, label_of}
+use Rattle.ja_model.specs.Meaning.{Content, missing, held, present, Spot, content, object_content}
 use Rattle.ja_model.proofs.Interface.{IsObjectOf, IsValueOf, IsContentOf, IsHeap, Grows}
-use Rattle.ja_model.proofs.Lists.{some_value, is_some_from, same_some}
+use Rattle.ja_model.proofs.Lists.{is_some_from}
+use Rattle.ja_model.proofs.Resolved.{ordinal-below}
 use Rattle.ja_model.proofs.Heaps
 
 -- What is known of each heap of a run: the heap is as it should be, has a row for each site, and one object of each site
@@ -55,18 +54,20 @@ module _ (p : Program) (h : Heap) (s : Site) (o : Object) (known : IsRunHeap p h
   unfolding new_rank
   rank_old a there =
       elim (cases_eq a.site.0 s.0) [
-        inl e ↦
-          let b : a.ordinal < count h a.site = Heaps.ordinal_below h a there in
-          let c : count h a.site ≡ count h s = Heaps.count-same_site h a.site s e in
-          cond-false _ _ _ (and_right _ _ (ne_eqb a.ordinal (count h s) (λ f. omega arith)))
-      | inr ne ↦ cond-false _ _ _ (and_left _ _ (ne_eqb a.site.0 s.0 ne)) ]
+        | inl e ↦
+            let b : a.ordinal < count h a.site = ordinal-below h a there in
+            let c : count h a.site ≡ count h s = Heaps.count-same_site h a.site s e in
+            cond-false _ _ _ (and_right _ _ (ne_eqb a.ordinal (count h s) (λ f. omega arith)))
+        | inr ne ↦ cond-false _ _ _ (and_left _ _ (ne_eqb a.site.0 s.0 ne))
+      ]
 
   ranked_now : (a : Addr) → IsObjectOf (with_new h s o) a → new_rank a < size (with_new h s o)
   ranked_now a there =
       let e : size (with_new h s o) ≡ suc (size h) = Heaps.size-with_new h s o row in
       elim (Heaps.old_or_new h s o row a there) [
-        inl k ↦ let r : known.heap.rank a < size h = known.heap.ranked a k in let f : new_rank a ≡ known.heap.rank a = rank_old a k in omega arith
-      | inr f ↦ let g : new_rank a ≡ size h = ap new_rank f ∙ rank_new in omega arith ]
+        | inl k ↦ let r : known.heap.rank a < size h = known.heap.ranked a k in let f : new_rank a ≡ known.heap.rank a = rank_old a k in omega arith
+        | inr f ↦ let g : new_rank a ≡ size h = ap new_rank f ∙ rank_new in omega arith
+      ]
 
   sites_now : (a : Addr) → IsObjectOf (with_new h s o) a → a.site.0 < length p.sites
   sites_now a there =
@@ -75,30 +76,32 @@ module _ (p : Program) (h : Heap) (s : Site) (o : Object) (known : IsRunHeap p h
   inside_now : (a : Addr) (x : Spot) → IsContentOf (with_new h s o) (content (with_new h s o) a x)
   inside_now a x =
       elim (cases_Bool (is_some (object_at (with_new h s o) a))) [
-        inl there ↦
-          elim (Heaps.old_or_new h s o row a there) [
-            inl k ↦ subst (λ c. IsContentOf (with_new h s o) c) (sym (Heaps.content-with_new_old h s o row a x k)) (content_stays _ (known.heap.inside a x))
-          | inr f ↦ subst (λ b. IsContentOf (with_new h s o) (content (with_new h s o) b x)) (sym f) (subst (λ c. IsContentOf (with_new h s o) c) (sym (Heaps.content-with_new_new h s o row x)) (content_stays _ (fits.inside x))) ]
-      | inr none ↦ subst (λ c. IsContentOf (with_new h s o) c) (sym (Heaps.content-no_object (with_new h s o) a x none)) tt ]
+        | inl there ↦
+            elim (Heaps.old_or_new h s o row a there) [
+              | inl k ↦ subst (λ c. IsContentOf (with_new h s o) c) (sym (Heaps.content-with_new_old h s o row a x k)) (content_stays _ (known.heap.inside a x))
+              | inr f ↦ subst (λ b. IsContentOf (with_new h s o) (content (with_new h s o) b x)) (sym f) (subst (λ c. IsContentOf (with_new h s o) c) (sym (Heaps.content-with_new_new h s o row x)) (content_stays _ (fits.inside x)))
+            ]
+        | inr none ↦ subst (λ c. IsContentOf (with_new h s o) c) (sym (Heaps.content-no_object (with_new h s o) a x none)) tt
+      ]
 
   -- a link leads to an object that was made before
   linked_now : (link : Object → Option Addr) → ((a b : Addr) (q : Object) → object_at h a ≡ Some q → link q ≡ Some b → IsObjectOf h b × (known.heap.rank b < known.heap.rank a)) → ((b : Addr) → link o ≡ Some b → IsObjectOf h b) → (a b : Addr) (q : Object) → object_at (with_new h s o) a ≡ Some q → link q ≡ Some b → IsObjectOf (with_new h s o) b × (new_rank b < new_rank a)
   linked_now link before fit a b q there e =
       elim (Heaps.old_or_new h s o row a (is_some_from _ q there)) [
-        inl k ↦
-          let r : IsObjectOf h b × (known.heap.rank b < known.heap.rank a) = before a b q (sym (Heaps.object-with_new_old h s o row a k) ∙ there) e in
-          let f : new_rank a ≡ known.heap.rank a = rank_old a k in
-          let g : new_rank b ≡ known.heap.rank b = rank_old b r.0 in
-          let l : known.heap.rank b < known.heap.rank a = r.1 in
-          (Heaps.object_stays h s o row b r.0, omega arith)
-      | inr f ↦
-          let same : o ≡ q = same_some o q (sym (Heaps.object-with_new_new h s o row) ∙ (ap (object_at (with_new h s o)) (sym f) ∙ there)) in
-          let k : IsObjectOf h b = fit b (ap link same ∙ e) in
-          let m : new_rank a ≡ size h = ap new_rank f ∙ rank_new in
-          let g : new_rank b ≡ known.heap.rank b = rank_old b k in
-          let l : known.heap.rank b < size h = known.heap.ranked b k in
-          (Heaps.object_stays h s o row b k, omega arith) ]
-
+        | inl k ↦
+            let r : IsObjectOf h b × (known.heap.rank b < known.heap.rank a) = before a b q (sym (Heaps.object-with_new_old h s o row a k) ∙ there) e in
+            let f : new_rank a ≡ known.heap.rank a = rank_old a k in
+            let g : new_rank b ≡ known.heap.rank b = rank_old b r.0 in
+            let l : known.heap.rank b < known.heap.rank a = r.1 in
+            (Heaps.object_stays h s o row b r.0, omega arith)
+        | inr f ↦
+            let same : o ≡ q = same_Some o q (sym (Heaps.object-with_new_new h s o row) ∙ (ap (object_at (with_new h s o)) (sym f) ∙ there)) in
+            let k : IsObjectOf h b = fit b (ap link same ∙ e) in
+            let m : new_rank a ≡ size h = ap new_rank f ∙ rank_new in
+            let g : new_rank b ≡ known.heap.rank b = rank_old b k in
+            let l : known.heap.rank b < size h = known.heap.ranked b k in
+            (Heaps.object_stays h s o row b k, omega arith)
+      ]
 
   pub IsHeap-with_new : IsHeap p (with_new h s o)
   IsHeap-with_new = record {
@@ -129,21 +132,23 @@ module _ (p : Program) (h : Heap) (a : Addr) (o : Object) (t : List ℕ) (v : Va
   inside_written : (b : Addr) (x : Spot) → IsContentOf (with_object h a (object_with_value o t v)) (content (with_object h a (object_with_value o t v)) b x)
   inside_written b x =
       elim (Heaps.spot_cases a b t x) [
-        inl e ↦
-          subst (λ c. IsContentOf (with_object h a (object_with_value o t v)) (content (with_object h a (object_with_value o t v)) c x)) (sym e.0) (subst (λ y. IsContentOf (with_object h a (object_with_value o t v)) (content (with_object h a (object_with_value o t v)) a y)) (sym e.1) (subst (λ c. IsContentOf (with_object h a (object_with_value o t v)) c) (sym (Heaps.content-with_object_written h a o there t v)) (Heaps.value_written h a o there t v v of_heap)))
-      | inr ne ↦ subst (λ c. IsContentOf (with_object h a (object_with_value o t v)) c) (sym (Heaps.content-with_object_other h a o there t v b x ne)) (content_written _ (known.heap.inside b x)) ]
+        | inl e ↦
+            subst (λ c. IsContentOf (with_object h a (object_with_value o t v)) (content (with_object h a (object_with_value o t v)) c x)) (sym e.0) (subst (λ y. IsContentOf (with_object h a (object_with_value o t v)) (content (with_object h a (object_with_value o t v)) a y)) (sym e.1) (subst (λ c. IsContentOf (with_object h a (object_with_value o t v)) c) (sym (Heaps.content-with_object_written h a o there t v)) (Heaps.value_written h a o there t v v of_heap)))
+        | inr ne ↦ subst (λ c. IsContentOf (with_object h a (object_with_value o t v)) c) (sym (Heaps.content-with_object_other h a o there t v b x ne)) (content_written _ (known.heap.inside b x))
+      ]
 
   -- links are as they were
   linked_written : (link : Object → Option Addr) → ((q : Object) → link (object_with_value q t v) ≡ link q) → ((b c : Addr) (q : Object) → object_at h b ≡ Some q → link q ≡ Some c → IsObjectOf h c × (known.heap.rank c < known.heap.rank b)) → (b c : Addr) (q : Object) → object_at (with_object h a (object_with_value o t v)) b ≡ Some q → link q ≡ Some c → IsObjectOf (with_object h a (object_with_value o t v)) c × (known.heap.rank c < known.heap.rank b)
   linked_written link stays before b c q k e =
       elim (Heaps.address_cases b a) [
-        inl f ↦
-          let same : object_with_value o t v ≡ q = same_some _ q (sym (Heaps.object-with_object_same h a o (object_with_value o t v) there) ∙ (ap (object_at (with_object h a (object_with_value o t v))) (sym f) ∙ k)) in
-          let r : IsObjectOf h c × (known.heap.rank c < known.heap.rank b) = before b c o (ap (object_at h) f ∙ there) (sym (stays o) ∙ (ap link same ∙ e)) in
-          (Heaps.object_written h a o there t v c r.0, r.1)
-      | inr f ↦
-          let r : IsObjectOf h c × (known.heap.rank c < known.heap.rank b) = before b c q (sym (Heaps.object-with_object_other h a o (object_with_value o t v) there b f) ∙ k) e in
-          (Heaps.object_written h a o there t v c r.0, r.1) ]
+        | inl f ↦
+            let same : object_with_value o t v ≡ q = same_Some _ q (sym (Heaps.object-with_object_same h a o (object_with_value o t v) there) ∙ (ap (object_at (with_object h a (object_with_value o t v))) (sym f) ∙ k)) in
+            let r : IsObjectOf h c × (known.heap.rank c < known.heap.rank b) = before b c o (ap (object_at h) f ∙ there) (sym (stays o) ∙ (ap link same ∙ e)) in
+            (Heaps.object_written h a o there t v c r.0, r.1)
+        | inr f ↦
+            let r : IsObjectOf h c × (known.heap.rank c < known.heap.rank b) = before b c q (sym (Heaps.object-with_object_other h a o (object_with_value o t v) there b f) ∙ k) e in
+            (Heaps.object_written h a o there t v c r.0, r.1)
+      ]
 
   pub IsRunHeap-written : IsRunHeap p (with_object h a (object_with_value o t v))
   IsRunHeap-written = record {

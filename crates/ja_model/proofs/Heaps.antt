@@ -1,10 +1,10 @@
 -- What a heap has after an object more, and after a write to a property.
-use Rattle.std.proofs.Common.{◌≡◌, ◌≢◌, ◌⊎◌, ℕ, zero, suc, ◌+◌, ◌<◌, ◌≤◌, Bool, true, false, not, cond, List, [], ◌∷◌, ◌++◌, length, map, Some, None, Option, inl, inr, refl, sym, ap, ◌∙◌, subst, arith, length-append, length-set}
-use Rattle.std.specs.Prelude.{IsTrue, IsSome, slice_get, slice_set, unwrap_or, find, filter, ◌&&◌, ◌||◌, ◌==◌, nat_eq}
+use Rattle.std.proofs.Common.{◌≡◌, ◌≢◌, ◌⊎◌, ℕ, zero, suc, ◌+◌, ◌<◌, ◌≤◌, true, false, not, List, [], ◌∷◌, ◌++◌, length, Some, None, Option, inl, inr, refl, sym, ap, ◌∙◌, subst, arith, length-append, length-set}
+use Rattle.std.specs.Prelude.{IsSome, slice_get, slice_set, unwrap_or, find, ◌==◌}
 use Rattle.std.specs.List.{sum_by}
-use Rattle.std.specs.Option.{is_some, option_and_then, option_map_or}
-use Rattle.std.specs.Cmp.Lexicographic.{same_text as text_is, other_text}
-use Rattle.std.proofs.lemmas.Bool.{and_parts, and_from, or_cases, or_left, or_right, cases_Bool, cases_eq, false≢true, eq-eqb, ne_eqb, eqb-true, eqb-false, cond-true, cond-false}
+use Rattle.std.specs.Option.{is_some, option_map_or}
+use Rattle.std.specs.Cmp.Lexicographic.{same_text as text_is}
+use Rattle.std.proofs.lemmas.Bool.{cases_Bool, cases_eq, false≢true, eq-eqb, ne_eqb}
 use Rattle.std.proofs.lemmas.Cmp.{nat_list_eq_equiv}
 use Rattle.std.proofs.lemmas.List.Sums.{sum_by-cons}
 use Rattle.ja_base.specs.declared.ids.Label.{Label}
@@ -16,13 +16,13 @@ use Rattle.ja_model.specs.declared.machine.Value.TheVariants as value
 use Rattle.ja_model.specs.declared.machine.Property.{Property}
 use Rattle.ja_model.specs.declared.machine.Object.{Object}
 use Rattle.ja_model.specs.declared.machine.Heap.{Heap}
-use Rattle.ja_model.specs.declared.abstraction.Slot.{Slot}
 use Rattle.ja_model.specs.declared.abstraction.Slot.TheVariants.{Prototype, Outer, Scope}
 use Rattle.ja_model.specs.declared.abstraction.Slot.TheVariants as slot
 use Rattle.ja_model.specs.Heap.{objects_of, count, size, object_at, with_new, new_address, with_object, same_text, property_of, with_value, object_with_value, with_own, no_attrs}
-use Rattle.ja_model.specs.Meaning.{Content, missing, held, present, Spot, named, internal, content, object_content, property_content, label_of}
-use Rattle.ja_model.proofs.Interface.{IsObjectOf, IsValueOf, IsContentOf}
-use Rattle.ja_model.proofs.Lists.{slice_get-set_same, slice_get-set_other, slice_get-append_left, slice_get-append_end, slice_get_some, within_from_some, some_value, is_some_from, same_some}
+use Rattle.ja_model.specs.Meaning.{missing, present, Spot, named, internal, content, object_content, property_content, label_of}
+use Rattle.ja_model.proofs.Interface.{IsObjectOf, IsValueOf}
+use Rattle.ja_model.proofs.Resolved.{ordinal-below, object_from_ordinal}
+use Rattle.ja_model.proofs.Lists.{slice_get-set_same, slice_get-set_other, slice_get-append_left, slice_get-append_end, within_from_some, is_some_from}
 
 -- ---- addresses, and the objects of a site
 
@@ -32,21 +32,15 @@ same_address a b s o = λ i. record { site = record { 0 = s i }; ordinal = o i }
 pub address_cases : (a b : Addr) → (a ≡ b) ⊎ (a ≡ b → ⊥)
 address_cases a b =
     elim (cases_eq a.site.0 b.site.0) [
-      inl e ↦ elim (cases_eq a.ordinal b.ordinal) [ inl f ↦ inl (same_address a b e f) | inr f ↦ inr (λ g. f (ap (λ (c : Addr). c.ordinal) g)) ]
-    | inr e ↦ inr (λ g. e (ap (λ (c : Addr). c.site.0) g)) ]
+      | inl e ↦ elim (cases_eq a.ordinal b.ordinal) [ inl f ↦ inl (same_address a b e f) | inr f ↦ inr (λ g. f (ap (λ (c : Addr). c.ordinal) g)) ]
+      | inr e ↦ inr (λ g. e (ap (λ (c : Addr). c.site.0) g))
+    ]
 
 pub objects-same_site : (h : Heap) (s t : Site) → s.0 ≡ t.0 → objects_of h s ≡ objects_of h t
 objects-same_site h s t e = ap (λ n. unwrap_or (slice_get h.objects n) []) e
 
 pub count-same_site : (h : Heap) (s t : Site) → s.0 ≡ t.0 → count h s ≡ count h t
 count-same_site h s t e = ap length (objects-same_site h s t e)
-
--- an object's ordinal is below how many there are
-pub ordinal_below : (h : Heap) (a : Addr) → IsObjectOf h a → a.ordinal < count h a.site
-ordinal_below h a o = within_from_some (objects_of h a.site) a.ordinal o
-
-pub object_below : (h : Heap) (a : Addr) → a.ordinal < count h a.site → IsObjectOf h a
-object_below h a o = let (q, e) = slice_get_some (objects_of h a.site) a.ordinal o in is_some_from _ q e
 
 -- a row of the heap is a site with objects
 pub row_within : (xs : List (List Object)) (s : ℕ) → 0 < length (unwrap_or (slice_get xs s) []) → s < length xs
@@ -93,16 +87,18 @@ module _ (h : Heap) (s : Site) (o : Object) (fits : s.0 < length h.objects) wher
   pub count-with_new-le : (t : Site) → count h t ≤ count (with_new h s o) t
   count-with_new-le t =
       elim (cases_eq t.0 s.0) [
-        inl e ↦ let u : count (with_new h s o) t ≡ suc (count h s) = count-with_new_same t e in let v : count h t ≡ count h s = count-same_site h t s e in omega arith
-      | inr ne ↦ let u : count (with_new h s o) t ≡ count h t = count-with_new_other t ne in omega arith ]
+        | inl e ↦ let u : count (with_new h s o) t ≡ suc (count h s) = count-with_new_same t e in let v : count h t ≡ count h s = count-same_site h t s e in omega arith
+        | inr ne ↦ let u : count (with_new h s o) t ≡ count h t = count-with_new_other t ne in omega arith
+      ]
 
   -- an old object stays
   pub object-with_new_old : (a : Addr) → IsObjectOf h a → object_at (with_new h s o) a ≡ object_at h a
   object-with_new_old a there =
       elim (cases_eq a.site.0 s.0) [
-        inl e ↦ 
-          ap (λ r. slice_get r a.ordinal) (objects-with_new_same a.site e) ∙ (slice_get-append_left (objects_of h s) (o ∷ []) a.ordinal (subst (λ r. a.ordinal < length r) (objects-same_site h a.site s e) (ordinal_below h a there)) ∙ ap (λ r. slice_get r a.ordinal) (sym (objects-same_site h a.site s e)))
-      | inr ne ↦ ap (λ r. slice_get r a.ordinal) (objects-with_new_other a.site ne) ]
+        | inl e ↦
+            ap (λ r. slice_get r a.ordinal) (objects-with_new_same a.site e) ∙ (slice_get-append_left (objects_of h s) (o ∷ []) a.ordinal (subst (λ r. a.ordinal < length r) (objects-same_site h a.site s e) (ordinal-below h a there)) ∙ ap (λ r. slice_get r a.ordinal) (sym (objects-same_site h a.site s e)))
+        | inr ne ↦ ap (λ r. slice_get r a.ordinal) (objects-with_new_other a.site ne)
+      ]
 
   -- the new address has the new object
   pub object-with_new_new : object_at (with_new h s o) (new_address h s) ≡ Some o
@@ -112,12 +108,13 @@ module _ (h : Heap) (s : Site) (o : Object) (fits : s.0 < length h.objects) wher
   pub old_or_new : (a : Addr) → IsObjectOf (with_new h s o) a → IsObjectOf h a ⊎ (a ≡ new_address h s)
   old_or_new a there =
       elim (cases_eq a.site.0 s.0) [
-        inl e ↦
-          let b : a.ordinal < count (with_new h s o) a.site = ordinal_below (with_new h s o) a there in
-          let u : count (with_new h s o) a.site ≡ suc (count h s) = count-with_new_same a.site e in
-          let v : count h a.site ≡ count h s = count-same_site h a.site s e in
-          elim (cases_eq a.ordinal (count h s)) [ inl f ↦ inr (same_address a (new_address h s) e f) | inr g ↦ inl (object_below h a (omega arith)) ]
-      | inr ne ↦ inl (subst (λ r. IsSome (slice_get r a.ordinal)) (objects-with_new_other a.site ne) there) ]
+        | inl e ↦
+            let b : a.ordinal < count (with_new h s o) a.site = ordinal-below (with_new h s o) a there in
+            let u : count (with_new h s o) a.site ≡ suc (count h s) = count-with_new_same a.site e in
+            let v : count h a.site ≡ count h s = count-same_site h a.site s e in
+            elim (cases_eq a.ordinal (count h s)) [ inl f ↦ inr (same_address a (new_address h s) e f) | inr g ↦ inl (object_from_ordinal h a (omega arith)) ]
+        | inr ne ↦ inl (subst (λ r. IsSome (slice_get r a.ordinal)) (objects-with_new_other a.site ne) there)
+      ]
 
   pub object_stays : (a : Addr) → IsObjectOf h a → IsObjectOf (with_new h s o) a
   object_stays a there = subst (λ r. IsSome r) (sym (object-with_new_old a there)) there
@@ -139,7 +136,7 @@ module _ (h : Heap) (s : Site) (o : Object) (fits : s.0 < length h.objects) wher
 
   pub label-with_new_aged : (a : Addr) → IsObjectOf h a → a.site.0 ≡ s.0 → label_of (with_new h s o) a ≡ record { site = s; old = true }
   label-with_new_aged a there e =
-      let b : a.ordinal < count h a.site = ordinal_below h a there in
+      let b : a.ordinal < count h a.site = ordinal-below h a there in
       let u : count (with_new h s o) a.site ≡ suc (count h s) = count-with_new_same a.site e in
       let v : count h a.site ≡ count h s = count-same_site h a.site s e in
       same_parts _ _ e (label_is_old (with_new h s o) a (λ f. omega arith))
@@ -179,8 +176,9 @@ module _ (h : Heap) (a : Addr) (old new : Object) (there : object_at h a ≡ Som
   pub count-with_object : (t : Site) → count (with_object h a new) t ≡ count h t
   count-with_object t =
       elim (cases_eq t.0 a.site.0) [
-        inl e ↦ ap length (objects-with_object_same t e) ∙ (length-set (objects_of h a.site) a.ordinal new ∙ count-same_site h a.site t (sym e))
-      | inr ne ↦ ap length (objects-with_object_other t ne) ]
+        | inl e ↦ ap length (objects-with_object_same t e) ∙ (length-set (objects_of h a.site) a.ordinal new ∙ count-same_site h a.site t (sym e))
+        | inr ne ↦ ap length (objects-with_object_other t ne)
+      ]
 
   pub label-with_object : (b : Addr) → label_of (with_object h a new) b ≡ label_of h b
   label-with_object b = label_by_count (with_object h a new) h b (count-with_object b.site)
@@ -192,9 +190,10 @@ module _ (h : Heap) (a : Addr) (old new : Object) (there : object_at h a ≡ Som
   pub object-with_object_other : (b : Addr) → (b ≡ a → ⊥) → object_at (with_object h a new) b ≡ object_at h b
   object-with_object_other b ne =
       elim (cases_eq b.site.0 a.site.0) [
-        inl e ↦
-          ap (λ r. slice_get r b.ordinal) (objects-with_object_same b.site e) ∙ (slice_get-set_other (objects_of h a.site) a.ordinal b.ordinal new (λ f. ne (same_address b a e f)) ∙ ap (λ r. slice_get r b.ordinal) (sym (objects-same_site h b.site a.site e)))
-      | inr other ↦ ap (λ r. slice_get r b.ordinal) (objects-with_object_other b.site other) ]
+        | inl e ↦
+            ap (λ r. slice_get r b.ordinal) (objects-with_object_same b.site e) ∙ (slice_get-set_other (objects_of h a.site) a.ordinal b.ordinal new (λ f. ne (same_address b a e f)) ∙ ap (λ r. slice_get r b.ordinal) (sym (objects-same_site h b.site a.site e)))
+        | inr other ↦ ap (λ r. slice_get r b.ordinal) (objects-with_object_other b.site other)
+      ]
 
   pub size-with_object : size (with_object h a new) ≡ size h
   size-with_object = omega (arith, sum-set h.objects a.site.0 (slice_set (objects_of h a.site) a.ordinal new) row_fits, length-set (objects_of h a.site) a.ordinal new)
@@ -228,8 +227,9 @@ pub with_value_other : (qs : List Property) (t u : List ℕ) (v : Value) → sam
 with_value_other [] t u v ne = simp ne
 with_value_other (q ∷ qs) t u v ne =
     elim (cases_Bool (same_text q.name t)) [
-      inl e ↦ let f : same_text q.name u ≡ false = subst (λ n. same_text n u ≡ false) (sym (text_same q.name t e)) ne in simp (e, f)
-    | inr e ↦ elim (cases_Bool (same_text q.name u)) [ inl f ↦ simp (e, f) | inr f ↦ simp (e, f, with_value_other qs t u v ne) ] ]
+      | inl e ↦ let f : same_text q.name u ≡ false = subst (λ n. same_text n u ≡ false) (sym (text_same q.name t e)) ne in simp (e, f)
+      | inr e ↦ elim (cases_Bool (same_text q.name u)) [ inl f ↦ simp (e, f) | inr f ↦ simp (e, f, with_value_other qs t u v ne) ]
+    ]
 
 -- a spot is the one that is written, or another
 pub named_cases : (x : Spot) (t : List ℕ) → (x ≡ named t) ⊎ (x ≡ named t → ⊥)
@@ -240,8 +240,9 @@ named_cases (internal s) t = inr (λ f. cc)
 pub spot_cases : (a b : Addr) (t : List ℕ) (x : Spot) → ((b ≡ a) × (x ≡ named t)) ⊎ ((b ≡ a) × (x ≡ named t) → ⊥)
 spot_cases a b t x =
     elim (address_cases b a) [
-      inl e ↦ elim (named_cases x t) [ inl f ↦ inl (e, f) | inr f ↦ inr (λ k. f k.1) ]
-    | inr e ↦ inr (λ k. e k.0) ]
+      | inl e ↦ elim (named_cases x t) [ inl f ↦ inl (e, f) | inr f ↦ inr (λ k. f k.1) ]
+      | inr e ↦ inr (λ k. e k.0)
+    ]
 
 -- ---- the heap after the value of a name is set
 
@@ -266,16 +267,17 @@ module _ (h : Heap) (a : Addr) (o : Object) (there : object_at h a ≡ Some o) (
   pub content-with_object_other : (b : Addr) (x : Spot) → ((b ≡ a) × (x ≡ named t) → ⊥) → content (with_object h a (object_with_value o t v)) b x ≡ content h b x
   content-with_object_other b x ne =
       elim (address_cases b a) [
-        inl e ↦
-          subst (λ c. content (with_object h a (object_with_value o t v)) c x ≡ content h c x) (sym e) (ap (λ r. option_map_or (λ (q : Object). object_content q x) r missing) (object-with_object_same h a o (object_with_value o t v) there) ∙ (object_content_other x (λ f. ne (e, f)) ∙ sym (ap (λ r. option_map_or (λ (q : Object). object_content q x) r missing) there)))
-      | inr f ↦ ap (λ r. option_map_or (λ (q : Object). object_content q x) r missing) (object-with_object_other h a o (object_with_value o t v) there b f) ]
+        | inl e ↦
+            subst (λ c. content (with_object h a (object_with_value o t v)) c x ≡ content h c x) (sym e) (ap (λ r. option_map_or (λ (q : Object). object_content q x) r missing) (object-with_object_same h a o (object_with_value o t v) there) ∙ (object_content_other x (λ f. ne (e, f)) ∙ sym (ap (λ r. option_map_or (λ (q : Object). object_content q x) r missing) there)))
+        | inr f ↦ ap (λ r. option_map_or (λ (q : Object). object_content q x) r missing) (object-with_object_other h a o (object_with_value o t v) there b f)
+      ]
 
   -- an object stays one, and nothing else is one
   pub object_written : (b : Addr) → IsObjectOf h b → IsObjectOf (with_object h a (object_with_value o t v)) b
-  object_written b k = object_below (with_object h a (object_with_value o t v)) b (let e : count (with_object h a (object_with_value o t v)) b.site ≡ count h b.site = count-with_object h a o (object_with_value o t v) there b.site in let l : b.ordinal < count h b.site = ordinal_below h b k in omega arith)
+  object_written b k = object_from_ordinal (with_object h a (object_with_value o t v)) b (let e : count (with_object h a (object_with_value o t v)) b.site ≡ count h b.site = count-with_object h a o (object_with_value o t v) there b.site in let l : b.ordinal < count h b.site = ordinal-below h b k in omega arith)
 
   pub object_unwritten : (b : Addr) → IsObjectOf (with_object h a (object_with_value o t v)) b → IsObjectOf h b
-  object_unwritten b k = object_below h b (let e : count (with_object h a (object_with_value o t v)) b.site ≡ count h b.site = count-with_object h a o (object_with_value o t v) there b.site in let l : b.ordinal < count (with_object h a (object_with_value o t v)) b.site = ordinal_below (with_object h a (object_with_value o t v)) b k in omega arith)
+  object_unwritten b k = object_from_ordinal h b (let e : count (with_object h a (object_with_value o t v)) b.site ≡ count h b.site = count-with_object h a o (object_with_value o t v) there b.site in let l : b.ordinal < count (with_object h a (object_with_value o t v)) b.site = ordinal-below (with_object h a (object_with_value o t v)) b k in omega arith)
 
   pub value_written : (u : Value) → IsValueOf h u → IsValueOf (with_object h a (object_with_value o t v)) u
   value_written (value.Primitive q) k = tt

@@ -1,9 +1,9 @@
 -- Lists, options and tests: what is read after a write, and what an entry of a list is.
-use Rattle.std.proofs.Common.{◌≡◌, ◌≢◌, ◌⊎◌, ℕ, zero, suc, ◌+◌, ◌<◌, ◌≤◌, Bool, true, false, cond, List, [], ◌∷◌, ◌++◌, length, map, Some, None, Option, inl, inr, refl, sym, ap, ◌∙◌, subst, arith}
-use Rattle.std.specs.Prelude.{IsTrue, IsSome, slice_get, slice_set, unwrap_or, find, filter, ◌&&◌, ◌||◌, ◌==◌}
-use Rattle.std.specs.List.{list_any, range_with_len, sum_by}
-use Rattle.std.specs.Option.{is_some, option_and_then, option_map_or}
-use Rattle.std.proofs.lemmas.Bool.{and_parts, and_from, or_cases, or_left, or_right, false≢true}
+use Rattle.std.proofs.Common.{◌≡◌, ◌≢◌, ◌⊎◌, ℕ, zero, suc, ◌<◌, Bool, true, false, cond, List, [], ◌∷◌, ◌++◌, length, Some, None, Option, inl, inr, refl, ap, arith}
+use Rattle.std.specs.Prelude.{IsTrue, IsSome, slice_get, slice_set, filter, ◌&&◌, ◌||◌}
+use Rattle.std.specs.List.{list_any}
+use Rattle.std.specs.Option.{is_some}
+use Rattle.std.proofs.lemmas.Bool.{or_cases, or_left, or_right, false≢true}
 
 -- an entry of a list
 abbrev pub Member : {X : Type 0} → X → List X → Type 0
@@ -55,11 +55,6 @@ within_from_some [] i h = absurd (false≢true h)
 within_from_some (x ∷ xs) zero h = omega arith
 within_from_some (x ∷ xs) (suc i) h = let r : i < length xs = within_from_some xs i h in omega arith
 
-pub slice_get-replicate_like : {X : Type 0} (xs ys : List X) (i : ℕ) (x : X) → slice_get (xs ++ ys) i ≡ Some x → (slice_get xs i ≡ Some x) ⊎ ((j : ℕ) × (slice_get ys j ≡ Some x))
-slice_get-replicate_like [] ys i x e = inr (i, e)
-slice_get-replicate_like (y ∷ xs) ys zero x e = inl e
-slice_get-replicate_like (y ∷ xs) ys (suc i) x e = slice_get-replicate_like xs ys i x e
-
 -- ---- options
 
 pub some_value : {X : Type 0} (o : Option X) → IsSome o → (x : X) × (o ≡ Some x)
@@ -68,9 +63,6 @@ some_value (Some x) h = (x, refl)
 
 pub is_some_from : {X : Type 0} (o : Option X) (x : X) → o ≡ Some x → IsSome o
 is_some_from o x e = ap is_some e
-
-pub same_some : {X : Type 0} (x y : X) → Some x ≡ Some y → x ≡ y
-same_some x y e = ap (λ o. unwrap_or o x) e
 
 -- ---- tests of lists
 

@@ -1,9 +1,9 @@
 -- The state after an object more was made holds, and so does the one in which an error was made and thrown.
-use Rattle.std.proofs.Common.{◌≡◌, ◌≢◌, ◌⊎◌, ℕ, zero, suc, ◌+◌, ◌<◌, ◌≤◌, Bool, true, false, not, cond, List, [], ◌∷◌, ◌++◌, length, Some, None, Option, inl, inr, refl, sym, ap, ◌∙◌, subst, arith}
-use Rattle.std.specs.Prelude.{IsTrue, IsSome, slice_get, slice_set, unwrap_or, find, ◌&&◌, ◌||◌, ◌==◌, nat_eq}
+use Rattle.std.proofs.Common.{◌≡◌, ◌≢◌, ◌⊎◌, ℕ, suc, ◌<◌, ◌≤◌, Bool, true, false, cond, List, [], length, Some, None, inl, inr, refl, sym, ap, ◌∙◌, subst, arith}
+use Rattle.std.specs.Prelude.{IsTrue, slice_get, unwrap_or, ◌||◌, ◌==◌}
 use Rattle.std.specs.Bool.{beq}
 use Rattle.std.specs.Option.{is_some}
-use Rattle.std.proofs.lemmas.Bool.{and_parts, and_from, and_left, and_right, or_left, or_right, or_from, cases_Bool, cases_eq, false≢true, eq-eqb, ne_eqb, cond-true, cond-false, false_from_ne_true}
+use Rattle.std.proofs.lemmas.Bool.{and_parts, and_from, and_left, and_right, or_left, or_right, cases_Bool, cases_eq, false≢true, eq-eqb, ne_eqb, cond-true, cond-false, false_from_ne_true}
 use lib.Chars.{codes}
 use Rattle.ja_base.specs.declared.ids.Label.{Label}
 use Rattle.ja_base.specs.declared.ids.Site.{Site}
@@ -21,22 +21,21 @@ use Rattle.ja_model.specs.declared.abstraction.Key.TheVariants as key
 use Rattle.ja_model.specs.declared.machine.Addr.{Addr}
 use Rattle.ja_model.specs.declared.machine.Value.{Value}
 use Rattle.ja_model.specs.declared.machine.Value.TheVariants as value
-use Rattle.ja_model.specs.declared.machine.Property.{Property}
 use Rattle.ja_model.specs.declared.machine.Object.{Object}
 use Rattle.ja_model.specs.declared.machine.Heap.{Heap}
 use Rattle.ja_model.specs.declared.machine.Frame.{Frame}
-use Rattle.ja_model.specs.Heap.{count, object_at, with_new, new_address, same_text, property_of, no_attrs}
-use Rattle.std.proofs.lemmas.Option.{slice_get_within}
-use Rattle.ja_model.proofs.Lists.{same_some}
-use Rattle.ja_model.specs.Machine.{name_text, first_of, error_object, thrown, with_result, opening_heap}
-use Rattle.ja_model.specs.AbstractValue.{AbstractValue, AbstractProperty, join_properties, same_label, of_label, of_primitive, of_attrs, bare, absent_property}
-use Rattle.ja_model.specs.AbstractState.{AbstractState, new, old, same_key, with_register, with_property, aged, aged_property, made_property, with_made, exactly_some}
+use Rattle.ja_model.specs.Heap.{count, with_new, new_address, same_text, no_attrs}
+use Rattle.std.proofs.lemmas.Option.{same_Some, slice_get_within}
+use Rattle.ja_model.specs.Machine.{name_text, first_of, error_object, thrown, with_result}
+use Rattle.ja_model.specs.AbstractValue.{AbstractValue, AbstractProperty, join_properties, same_label, of_label, bare, absent_property}
+use Rattle.ja_model.specs.AbstractState.{AbstractState, new, old, same_key, with_property, aged, aged_property, made_property, with_made, exactly_some}
 use Rattle.ja_model.specs.Reading.{prototype}
 use Rattle.ja_model.specs.Transfer.{message_property, with_error}
 use Rattle.ja_model.specs.Meaning.{property_content, Content, missing, held, present, Spot, named, internal, content, object_content, label_of, key_of, has_primitive, has_value, knows, allows_attrs, Holds, IsAsAtEntry}
 use Rattle.ja_model.proofs.Interface.{IsObjectOf, IsValueOf, IsContentOf, Grows}
+use Rattle.ja_model.proofs.Resolved.{object_from_ordinal}
 use Rattle.ja_model.proofs.Heaps
-use Rattle.ja_model.proofs.Keys.{same_key-true, same_key-self, same_key_from, key_of-name}
+use Rattle.ja_model.proofs.Keys.{same_key-true, key_of-name}
 use Rattle.ja_model.proofs.Labels.{same_label-self, same_label_from}
 use Rattle.ja_model.proofs.Values.{knows-join_left, knows-join_right}
 use Rattle.ja_model.proofs.Entered.{of_primitive_has, of_attrs_allows, text_of_key, no_slot_of_text}
@@ -74,12 +73,14 @@ module _ (h : Heap) (s : Site) (o : Object) (row : s.0 < length h.objects) where
   aged_has_object : (v : AbstractValue) (b : Addr) → IsObjectOf h b → IsTrue (v.label (label_of h b)) → IsTrue ((aged s v).label (label_of (with_new h s o) b))
   aged_has_object v b there e =
       elim (cases_eq b.site.0 s.0) [
-        inl f ↦
-          subst (λ l. IsTrue ((aged s v).label l)) (sym (Heaps.label-with_new_aged h s o row b there f)) (aged_at s v ∙ elim (label_parts (label_of h b) s f) [
-              inl g ↦ or_left _ _ (subst (λ l. IsTrue (v.label l)) g e)
-            | inr g ↦ or_right _ _ (subst (λ l. IsTrue (v.label l)) g e) ])
-      | inr ne ↦
-          subst (λ l. IsTrue ((aged s v).label l)) (sym (Heaps.label-with_new_other h s o row b ne)) (aged_other s v (label_of h b) ne ∙ e) ]
+        | inl f ↦
+            subst (λ l. IsTrue ((aged s v).label l)) (sym (Heaps.label-with_new_aged h s o row b there f)) (aged_at s v ∙ elim (label_parts (label_of h b) s f) [
+              | inl g ↦ or_left _ _ (subst (λ l. IsTrue (v.label l)) g e)
+              | inr g ↦ or_right _ _ (subst (λ l. IsTrue (v.label l)) g e)
+            ])
+        | inr ne ↦
+            subst (λ l. IsTrue ((aged s v).label l)) (sym (Heaps.label-with_new_other h s o row b ne)) (aged_other s v (label_of h b) ne ∙ e)
+      ]
 
   -- a value's parts are kept, with the labels that they have now
   pub aged_has : (v : AbstractValue) (x : Value) → IsValueOf h x → IsTrue (has_value h v x) → IsTrue (has_value (with_new h s o) (aged s v) x)
@@ -97,19 +98,20 @@ module _ (h : Heap) (s : Site) (o : Object) (row : s.0 < length h.objects) where
 abbrev pub Tells : Heap → Heap → Addr → Spot → AbstractProperty → Type 0
 Tells e c b x q = IsTrue (knows c q (content c b x)) ⊎ (IsTrue q.value.flags.entry × IsAsAtEntry e c b x)
 
+-- a join tells what each side does
+pub join_tells_left : (e c : Heap) (b : Addr) (x : Spot) (q r : AbstractProperty) → Tells e c b x q → Tells e c b x (join_properties q r)
+join_tells_left e c b x q r (inl k) = inl (knows-join_left c q r (content c b x) k)
+join_tells_left e c b x q r (inr k) = inr (or_left _ _ k.0, k.1)
+
+pub join_tells_right : (e c : Heap) (b : Addr) (x : Spot) (q r : AbstractProperty) → Tells e c b x r → Tells e c b x (join_properties q r)
+join_tells_right e c b x q r (inl k) = inl (knows-join_right c q r (content c b x) k)
+join_tells_right e c b x q r (inr k) = inr (or_right _ _ k.0, k.1)
+
 module _ (p : Program) (e h : Heap) (s : Site) (o : Object) (row : s.0 < length h.objects) (a : AbstractState) (f : Frame) (grown : Grows e h) (inside : (b : Addr) (x : Spot) → IsContentOf h (content h b x)) (holds : Holds p e h f a) where
   -- from what is told before to what is told after
   aged_tells : (b : Addr) (x : Spot) (q : AbstractProperty) → IsObjectOf h b → Tells e h b x q → Tells e (with_new h s o) b x (aged_property s q)
   aged_tells b x q there (inl k) = inl (subst (λ c. IsTrue (knows (with_new h s o) (aged_property s q) c)) (sym (Heaps.content-with_new_old h s o row b x there)) (aged_knows h s o row q (content h b x) (inside b x) k))
   aged_tells b x q there (inr k) = inr (k.0, record { there = k.1.there; same = Heaps.content-with_new_old h s o row b x there ∙ k.1.same })
-
-  join_tells_left : (c : Heap) (b : Addr) (x : Spot) (q r : AbstractProperty) → Tells e c b x q → Tells e c b x (join_properties q r)
-  join_tells_left c b x q r (inl k) = inl (knows-join_left c q r (content c b x) k)
-  join_tells_left c b x q r (inr k) = inr (or_left _ _ k.0, k.1)
-
-  join_tells_right : (c : Heap) (b : Addr) (x : Spot) (q r : AbstractProperty) → Tells e c b x r → Tells e c b x (join_properties q r)
-  join_tells_right c b x q r (inl k) = inl (knows-join_right c q r (content c b x) k)
-  join_tells_right c b x q r (inr k) = inr (or_right _ _ k.0, k.1)
 
   made_at_old : (k : Key) → made_property a s (old s) k ≡ join_properties (aged_property s (a.property (old s) k)) (aged_property s (a.property (new s) k))
   made_at_old k = cond-false _ _ _ (new_not_old s s) ∙ cond-true _ _ _ (same_label-self (old s))
@@ -122,39 +124,44 @@ module _ (p : Program) (e h : Heap) (s : Site) (o : Object) (row : s.0 < length 
   made_tells b x there =
       let before : Tells e h b x (a.property (label_of h b) (key_of p x)) = holds.objects b x there in
       elim (cases_eq b.site.0 s.0) [
-        inl g ↦
-          subst (λ l. Tells e (with_new h s o) b x (made_property a s l (key_of p x))) (sym (Heaps.label-with_new_aged h s o row b there g)) (subst (λ q. Tells e (with_new h s o) b x q) (sym (made_at_old (key_of p x))) (elim (label_parts (label_of h b) s g) [
-              inl i ↦ join_tells_left (with_new h s o) b x (aged_property s (a.property (old s) (key_of p x))) (aged_property s (a.property (new s) (key_of p x))) (aged_tells b x (a.property (old s) (key_of p x)) there (subst (λ l. Tells e h b x (a.property l (key_of p x))) i before))
-            | inr i ↦ join_tells_right (with_new h s o) b x (aged_property s (a.property (old s) (key_of p x))) (aged_property s (a.property (new s) (key_of p x))) (aged_tells b x (a.property (new s) (key_of p x)) there (subst (λ l. Tells e h b x (a.property l (key_of p x))) i before)) ]))
-      | inr ne ↦
-          subst (λ l. Tells e (with_new h s o) b x (made_property a s l (key_of p x))) (sym (Heaps.label-with_new_other h s o row b ne)) (subst (λ q. Tells e (with_new h s o) b x q) (sym (made_at_other (label_of h b) (key_of p x) ne)) (aged_tells b x (a.property (label_of h b) (key_of p x)) there before)) ]
+        | inl g ↦
+            subst (λ l. Tells e (with_new h s o) b x (made_property a s l (key_of p x))) (sym (Heaps.label-with_new_aged h s o row b there g)) (subst (λ q. Tells e (with_new h s o) b x q) (sym (made_at_old (key_of p x))) (elim (label_parts (label_of h b) s g) [
+              | inl i ↦ join_tells_left e (with_new h s o) b x (aged_property s (a.property (old s) (key_of p x))) (aged_property s (a.property (new s) (key_of p x))) (aged_tells b x (a.property (old s) (key_of p x)) there (subst (λ l. Tells e h b x (a.property l (key_of p x))) i before))
+              | inr i ↦ join_tells_right e (with_new h s o) b x (aged_property s (a.property (old s) (key_of p x))) (aged_property s (a.property (new s) (key_of p x))) (aged_tells b x (a.property (new s) (key_of p x)) there (subst (λ l. Tells e h b x (a.property l (key_of p x))) i before))
+            ]))
+        | inr ne ↦
+            subst (λ l. Tells e (with_new h s o) b x (made_property a s l (key_of p x))) (sym (Heaps.label-with_new_other h s o row b ne)) (subst (λ q. Tells e (with_new h s o) b x q) (sym (made_at_other (label_of h b) (key_of p x) ne)) (aged_tells b x (a.property (label_of h b) (key_of p x)) there before))
+      ]
 
   pub made_some : (t : Site) → count e t < count (with_new h s o) t → IsTrue ((with_made a s).mask t.0).some
   made_some t l =
       elim (cases_eq t.0 s.0) [
-        inl g ↦ ap (λ (m : Mask). m.some) (cond-true (s.0 == t.0) exactly_some (a.mask t.0) (eq-eqb s.0 t.0 (sym g)))
-      | inr ne ↦
-          let u : count (with_new h s o) t ≡ count h t = Heaps.count-with_new_other h s o row t ne in
-          ap (λ (m : Mask). m.some) (cond-false (s.0 == t.0) exactly_some (a.mask t.0) (ne_eqb s.0 t.0 (λ g. ne (sym g)))) ∙ holds.some t (omega arith) ]
+        | inl g ↦ ap (λ (m : Mask). m.some) (cond-true (s.0 == t.0) exactly_some (a.mask t.0) (eq-eqb s.0 t.0 (sym g)))
+        | inr ne ↦
+            let u : count (with_new h s o) t ≡ count h t = Heaps.count-with_new_other h s o row t ne in
+            ap (λ (m : Mask). m.some) (cond-false (s.0 == t.0) exactly_some (a.mask t.0) (ne_eqb s.0 t.0 (λ g. ne (sym g)))) ∙ holds.some t (omega arith)
+      ]
 
   pub made_none : (t : Site) → count e t ≡ count (with_new h s o) t → IsTrue ((with_made a s).mask t.0).none
   made_none t l =
       elim (cases_eq t.0 s.0) [
-        inl g ↦
-          let u : count (with_new h s o) t ≡ suc (count h s) = Heaps.count-with_new_same h s o row t g in
-          let v : count h t ≡ count h s = Heaps.count-same_site h t s g in
-          let w : count e t ≤ count h t = grown t in
-          absurd (omega arith)
-      | inr ne ↦
-          let u : count (with_new h s o) t ≡ count h t = Heaps.count-with_new_other h s o row t ne in
-          ap (λ (m : Mask). m.none) (cond-false (s.0 == t.0) exactly_some (a.mask t.0) (ne_eqb s.0 t.0 (λ g. ne (sym g)))) ∙ holds.none t (l ∙ u) ]
+        | inl g ↦
+            let u : count (with_new h s o) t ≡ suc (count h s) = Heaps.count-with_new_same h s o row t g in
+            let v : count h t ≡ count h s = Heaps.count-same_site h t s g in
+            let w : count e t ≤ count h t = grown t in
+            absurd (omega arith)
+        | inr ne ↦
+            let u : count (with_new h s o) t ≡ count h t = Heaps.count-with_new_other h s o row t ne in
+            ap (λ (m : Mask). m.none) (cond-false (s.0 == t.0) exactly_some (a.mask t.0) (ne_eqb s.0 t.0 (λ g. ne (sym g)))) ∙ holds.none t (l ∙ u)
+      ]
 
   -- an old object's label is not the new one
   pub old_not_new : (b : Addr) → IsObjectOf h b → same_label (new s) (label_of (with_new h s o) b) ≡ false
   old_not_new b there =
       elim (cases_eq b.site.0 s.0) [
-        inl g ↦ ap (same_label (new s)) (Heaps.label-with_new_aged h s o row b there g) ∙ new_not_old s s
-      | inr ne ↦ other_site (new s) (label_of (with_new h s o) b) (λ g. ne (sym g)) ]
+        | inl g ↦ ap (same_label (new s)) (Heaps.label-with_new_aged h s o row b there g) ∙ new_not_old s s
+        | inr ne ↦ other_site (new s) (label_of (with_new h s o) b) (λ g. ne (sym g))
+      ]
 
 -- ---- an error that is made and thrown
 
@@ -162,12 +169,12 @@ module _ (p : Program) (good : IsWellFormed p) (e h : Heap) (s proto : Site) (te
   pub fitting : IsFitting h (error_object proto text)
   fitting = record {
     inside = inside_error;
-    prototype = λ b link. subst (λ c. IsObjectOf h c) (same_some _ _ link) first_there;
+    prototype = λ b link. subst (λ c. IsObjectOf h c) (same_Some _ _ link) first_there;
     outer = λ b link. absurd (false≢true (ap is_some link));
   }
     where
       first_there : IsObjectOf h (first_of proto)
-      first_there = Heaps.object_below h (first_of proto) (let one : count h proto ≡ 1 = known.single proto first in omega arith)
+      first_there = object_from_ordinal h (first_of proto) (let one : count h proto ≡ 1 = known.single proto first in omega arith)
 
       inside_named : (u : List ℕ) (b : Bool) → IsContentOf h (property_content (cond b (Some (record { name = codes "message"; value = value.Primitive (primitive.Text text); attrs = no_attrs })) None))
       inside_named u true = tt
@@ -242,8 +249,9 @@ module _ (p : Program) (good : IsWellFormed p) (e h : Heap) (s proto : Site) (te
     error_tells : (b : Addr) (x : Spot) → IsObjectOf now b → Tells e now b x (error_state.property (label_of now b) (key_of p x))
     error_tells b x there =
         elim (Heaps.old_or_new h s (error_object proto text) row b there) [
-          inl k ↦ subst (λ q. Tells e now b x q) (sym (property_elsewhere (label_of now b) (key_of p x) (old_not_new p e h s (error_object proto text) row a f grown known.heap.inside holds b k))) (made_tells p e h s (error_object proto text) row a f grown known.heap.inside holds b x k)
-        | inr k ↦ subst (λ c. Tells e now c x (error_state.property (label_of now c) (key_of p x))) (sym k) (inl (subst (λ l. IsTrue (knows now (error_state.property l (key_of p x)) (content now (new_address h s) x))) (sym (Heaps.label-with_new_new h s (error_object proto text) row)) (subst (λ c. IsTrue (knows now (error_state.property (new s) (key_of p x)) c)) (sym (Heaps.content-with_new_new h s (error_object proto text) row x)) (error_knows x)))) ]
+          | inl k ↦ subst (λ q. Tells e now b x q) (sym (property_elsewhere (label_of now b) (key_of p x) (old_not_new p e h s (error_object proto text) row a f grown known.heap.inside holds b k))) (made_tells p e h s (error_object proto text) row a f grown known.heap.inside holds b x k)
+          | inr k ↦ subst (λ c. Tells e now c x (error_state.property (label_of now c) (key_of p x))) (sym k) (inl (subst (λ l. IsTrue (knows now (error_state.property l (key_of p x)) (content now (new_address h s) x))) (sym (Heaps.label-with_new_new h s (error_object proto text) row)) (subst (λ c. IsTrue (knows now (error_state.property (new s) (key_of p x)) c)) (sym (Heaps.content-with_new_new h s (error_object proto text) row x)) (error_knows x))))
+        ]
 
     -- the state with the error holds of the heap and the frame after the throw
     pub holds_with_error : (values : (r : ℕ) (v : Value) → slice_get f.registers r ≡ Some v → IsValueOf h v) (next : NodeId) → 0 < length f.registers → Holds p e now (with_result f thrown (value.Object (new_address h s)) next) (with_error a s proto text)

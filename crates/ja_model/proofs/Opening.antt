@@ -1,31 +1,28 @@
 -- The heap in which a run begins: its objects, its links, and what the values at entry say of it.
-use Rattle.std.proofs.Common.{◌≡◌, ◌≢◌, ◌⊎◌, ℕ, zero, suc, ◌+◌, ◌<◌, ◌≤◌, Bool, true, false, not, cond, List, [], ◌∷◌, ◌++◌, length, map, get_or, Some, None, Option, inl, inr, refl, sym, ap, ◌∙◌, subst, arith}
-use Rattle.std.specs.Prelude.{IsTrue, IsSome, slice_get, unwrap_or, find, ◌&&◌, ◌||◌, ◌==◌, nat_eq}
-use Rattle.std.specs.List.{sum_by, range_with_len, position}
-use Rattle.std.specs.Option.{is_some, option_and_then, option_map, option_map_or, option_to_list}
-use Rattle.std.proofs.lemmas.Bool.{and_parts, and_from, cases_Bool, cases_eq, false≢true, eq-eqb, eqb-true, cond-true, cond-false}
+use Rattle.std.proofs.Common.{◌≡◌, ℕ, zero, suc, ◌+◌, ◌<◌, ◌≤◌, Bool, true, cond, List, [], ◌∷◌, length, map, Some, None, Option, inl, inr, refl, sym, ap, ◌∙◌, subst, arith}
+use Rattle.std.specs.Prelude.{IsSome, slice_get, unwrap_or, find, ◌==◌}
+use Rattle.std.specs.List.{sum_by, range_with_len}
+use Rattle.std.specs.Option.{is_some, option_map, option_to_list}
+use Rattle.std.proofs.lemmas.Option.{same_Some}
+use Rattle.std.proofs.lemmas.Bool.{cases_Bool, false≢true, eq-eqb, eqb-true, cond-true, cond-false}
 use Rattle.std.proofs.lemmas.List.Sums.{sum_by-cons}
 use Rattle.std.proofs.lemmas.List.FromFn.{length-map-range_with_len}
-use Rattle.ja_base.specs.declared.ids.Label.{Label}
 use Rattle.ja_base.specs.declared.ids.Site.{Site}
 use Rattle.ja_graph.specs.declared.program.ObjectSpec.{ObjectSpec}
 use Rattle.ja_graph.specs.declared.program.PropertySpec.{PropertySpec}
 use Rattle.ja_graph.specs.declared.program.Program.{Program}
 use Rattle.ja_graph.specs.Program.{object_spec}
-use Rattle.ja_graph.specs.WellFormed.{IsWellFormed, IsObjectWellFormed}
-use Rattle.ja_model.specs.declared.abstraction.Slot.{Slot}
+use Rattle.ja_graph.specs.WellFormed.{IsWellFormed}
 use Rattle.ja_model.specs.declared.abstraction.Slot.TheVariants as slot
 use Rattle.ja_model.specs.declared.machine.Addr.{Addr}
-use Rattle.ja_model.specs.declared.machine.Value.{Value}
-use Rattle.ja_model.specs.declared.machine.Value.TheVariants as value
 use Rattle.ja_model.specs.declared.machine.Property.{Property}
 use Rattle.ja_model.specs.declared.machine.Object.{Object}
-use Rattle.ja_model.specs.declared.machine.Heap.{Heap}
-use Rattle.ja_model.specs.Heap.{objects_of, count, size, object_at, same_text, property_of, prototype_of, outer_of}
+use Rattle.ja_model.specs.Heap.{objects_of, count, size, object_at, same_text, prototype_of, outer_of}
 use Rattle.ja_model.specs.Machine.{name_text, first_of, opening_property, opening_object, opening_objects, opening_heap}
-use Rattle.ja_model.specs.Meaning.{Content, missing, held, present, Spot, named, internal, content, object_content, property_content, held_address, label_of}
-use Rattle.ja_model.proofs.Interface.{IsObjectOf, IsValueOf, IsContentOf, IsHeap, Grows}
-use Rattle.ja_model.proofs.Lists.{some_value, is_some_from, same_some, within_from_some}
+use Rattle.ja_model.specs.Meaning.{Spot, named, internal, content, object_content, property_content, held_address}
+use Rattle.ja_model.proofs.Interface.{IsObjectOf, IsContentOf}
+use Rattle.ja_model.proofs.Lists.{is_some_from, within_from_some}
+use Rattle.ja_model.proofs.Resolved.{ordinal-below, object_from_ordinal}
 use Rattle.ja_model.proofs.Heaps
 use Rattle.ja_model.proofs.Growing.{IsRunHeap}
 
@@ -39,21 +36,23 @@ found_at : {X : Type 0} (test : X → Bool) (xs : List X) (x : X) → find test 
 found_at test [] x e = absurd (false≢true (ap is_some e))
 found_at test (y ∷ ys) x e =
     elim (cases_Bool (test y)) [
-      inl t ↦
-        let s : y ≡ x = same_some y x (sym (cond-true _ _ _ t) ∙ e) in
-        (subst (λ n. slice_get (y ∷ ys) n ≡ Some x) (sym (cond-true (test y) 0 (suc (place test ys)) t)) (ap Some s), ap test (sym s) ∙ t)
-    | inr f ↦
-        let r : (slice_get ys (place test ys) ≡ Some x) × (test x ≡ true) = found_at test ys x (sym (cond-false _ _ _ f) ∙ e) in
-        (subst (λ n. slice_get (y ∷ ys) n ≡ Some x) (sym (cond-false (test y) 0 (suc (place test ys)) f)) r.0, r.1) ]
+      | inl t ↦
+          let s : y ≡ x = same_Some y x (sym (cond-true _ _ _ t) ∙ e) in
+          (subst (λ n. slice_get (y ∷ ys) n ≡ Some x) (sym (cond-true (test y) 0 (suc (place test ys)) t)) (ap Some s), ap test (sym s) ∙ t)
+      | inr f ↦
+          let r : (slice_get ys (place test ys) ≡ Some x) × (test x ≡ true) = found_at test ys x (sym (cond-false _ _ _ f) ∙ e) in
+          (subst (λ n. slice_get (y ∷ ys) n ≡ Some x) (sym (cond-false (test y) 0 (suc (place test ys)) f)) r.0, r.1)
+    ]
 
 place_first : {X : Type 0} (test : X → Bool) (xs : List X) (j : ℕ) (x : X) → slice_get xs j ≡ Some x → test x ≡ true → place test xs ≤ j
 place_first test [] j x e t = omega arith
-place_first test (y ∷ ys) zero x e t = let c : place test (y ∷ ys) ≡ 0 = cond-true (test y) 0 (suc (place test ys)) (ap test (same_some y x e) ∙ t) in omega arith
+place_first test (y ∷ ys) zero x e t = let c : place test (y ∷ ys) ≡ 0 = cond-true (test y) 0 (suc (place test ys)) (ap test (same_Some y x e) ∙ t) in omega arith
 place_first test (y ∷ ys) (suc j) x e t =
     let r : place test ys ≤ j = place_first test ys j x e t in
     elim (cases_Bool (test y)) [
-      inl k ↦ let c : place test (y ∷ ys) ≡ 0 = cond-true (test y) 0 (suc (place test ys)) k in omega arith
-    | inr k ↦ let c : place test (y ∷ ys) ≡ suc (place test ys) = cond-false (test y) 0 (suc (place test ys)) k in omega arith ]
+      | inl k ↦ let c : place test (y ∷ ys) ≡ 0 = cond-true (test y) 0 (suc (place test ys)) k in omega arith
+      | inr k ↦ let c : place test (y ∷ ys) ≡ suc (place test ys) = cond-false (test y) 0 (suc (place test ys)) k in omega arith
+    ]
 
 -- ---- rows made from the numbers of sites
 
@@ -99,7 +98,7 @@ module _ (p : Program) (good : IsWellFormed p) where
       ap length (objects-opening s (omega arith)) ∙ one_object (object_spec p s.0) (good.all_objects s.0 h)
 
   pub first-opening : (s : Site) → s.0 < length p.opening → IsObjectOf (opening_heap p) (first_of s)
-  first-opening s h = Heaps.object_below (opening_heap p) (first_of s) (let e : count (opening_heap p) s ≡ 1 = count-opening s h in omega arith)
+  first-opening s h = object_from_ordinal (opening_heap p) (first_of s) (let e : count (opening_heap p) s ≡ 1 = count-opening s h in omega arith)
 
   opened_list : (o : Option ObjectSpec) (i : ℕ) → IsSome (slice_get (option_to_list (option_map (opening_object p) o)) i) → (spec : ObjectSpec) × (o ≡ Some spec) × (i ≡ 0)
   opened_list None i h = absurd (false≢true h)
@@ -108,7 +107,7 @@ module _ (p : Program) (good : IsWellFormed p) where
 
   site_in_range : (a : Addr) → IsObjectOf (opening_heap p) a → a.site.0 < length p.sites
   site_in_range a there =
-      let b : a.ordinal < count (opening_heap p) a.site = Heaps.ordinal_below (opening_heap p) a there in
+      let b : a.ordinal < count (opening_heap p) a.site = ordinal-below (opening_heap p) a there in
       let r : a.site.0 < length (opening_heap p).objects = Heaps.row_within (opening_heap p).objects a.site.0 (omega arith) in
       let e : length (opening_heap p).objects ≡ length p.sites = length-map-range_with_len (opening_objects p) 0 (length p.sites) in
       omega arith
@@ -143,12 +142,12 @@ module _ (p : Program) (good : IsWellFormed p) where
 
   linked : (o : Option Site) (b : Addr) → option_map first_of o ≡ Some b → (s : Site) × (o ≡ Some s) × (b ≡ first_of s)
   linked None b e = absurd (false≢true (ap is_some e))
-  linked (Some s) b e = (s, refl, sym (same_some _ _ e))
+  linked (Some s) b e = (s, refl, sym (same_Some _ _ e))
 
   prototype-opening : (a b : Addr) (o : Object) → object_at (opening_heap p) a ≡ Some o → prototype_of o ≡ Some b → IsObjectOf (opening_heap p) b × (place_of p b < place_of p a)
   prototype-opening a b o there link =
       let k : IsOpened p a = opened_at_address a (is_some_from _ o there) in
-      let same : opening_object p k.spec ≡ o = same_some _ _ (sym k.object_is ∙ there) in
+      let same : opening_object p k.spec ≡ o = same_Some _ _ (sym k.object_is ∙ there) in
       let (s, proto_is, b_is) = linked k.spec.prototype b (ap prototype_of same ∙ link) in
       let (j, q, before, at, site_is) = (good.objects _ k.spec k.spec_is).prototype s proto_is in
       let fits : q.site.0 < length p.opening = (good.objects j q at).site in
@@ -159,7 +158,7 @@ module _ (p : Program) (good : IsWellFormed p) where
   outer-opening : (a b : Addr) (o : Object) → object_at (opening_heap p) a ≡ Some o → outer_of o ≡ Some b → IsObjectOf (opening_heap p) b × (place_of p b < place_of p a)
   outer-opening a b o there link =
       let k : IsOpened p a = opened_at_address a (is_some_from _ o there) in
-      let same : opening_object p k.spec ≡ o = same_some _ _ (sym k.object_is ∙ there) in
+      let same : opening_object p k.spec ≡ o = same_Some _ _ (sym k.object_is ∙ there) in
       absurd (false≢true (ap is_some (ap outer_of same ∙ link)))
 
   -- ---- contents
@@ -168,8 +167,9 @@ module _ (p : Program) (good : IsWellFormed p) where
   found_inside [] t = tt
   found_inside (q ∷ qs) t =
       elim (cases_Bool (same_text (name_text p q.name) t)) [
-        inl e ↦ subst (λ r. IsContentOf (opening_heap p) (property_content r)) (sym (cond-true _ (Some (opening_property p q)) (find (λ (r : Property). same_text r.name t) (map (opening_property p) qs)) e)) tt
-      | inr e ↦ subst (λ r. IsContentOf (opening_heap p) (property_content r)) (sym (cond-false _ (Some (opening_property p q)) (find (λ (r : Property). same_text r.name t) (map (opening_property p) qs)) e)) (found_inside qs t) ]
+        | inl e ↦ subst (λ r. IsContentOf (opening_heap p) (property_content r)) (sym (cond-true _ (Some (opening_property p q)) (find (λ (r : Property). same_text r.name t) (map (opening_property p) qs)) e)) tt
+        | inr e ↦ subst (λ r. IsContentOf (opening_heap p) (property_content r)) (sym (cond-false _ (Some (opening_property p q)) (find (λ (r : Property). same_text r.name t) (map (opening_property p) qs)) e)) (found_inside qs t)
+      ]
 
   prototype_inside : (o : Option Site) → ((s : Site) → o ≡ Some s → s.0 < length p.opening) → IsContentOf (opening_heap p) (held_address (option_map first_of o))
   prototype_inside None h = tt
@@ -191,10 +191,11 @@ module _ (p : Program) (good : IsWellFormed p) where
   inside-opening : (a : Addr) (x : Spot) → IsContentOf (opening_heap p) (content (opening_heap p) a x)
   inside-opening a x =
       elim (cases_Bool (is_some (object_at (opening_heap p) a))) [
-        inl there ↦
-          let k : IsOpened p a = opened_at_address a there in
-          subst (λ c. IsContentOf (opening_heap p) c) (sym (Heaps.content-at (opening_heap p) a (opening_object p k.spec) x k.object_is)) (object_inside a k x)
-      | inr none ↦ subst (λ c. IsContentOf (opening_heap p) c) (sym (Heaps.content-no_object (opening_heap p) a x none)) tt ]
+        | inl there ↦
+            let k : IsOpened p a = opened_at_address a there in
+            subst (λ c. IsContentOf (opening_heap p) c) (sym (Heaps.content-at (opening_heap p) a (opening_object p k.spec) x k.object_is)) (object_inside a k x)
+        | inr none ↦ subst (λ c. IsContentOf (opening_heap p) c) (sym (Heaps.content-no_object (opening_heap p) a x none)) tt
+      ]
 
   pub IsRunHeap-opening : IsRunHeap p (opening_heap p)
   IsRunHeap-opening = record {

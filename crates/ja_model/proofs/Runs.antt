@@ -1,17 +1,14 @@
 -- A closed table covers every run of its program, and an operation without a warning never goes wrong in one.
-use Rattle.std.proofs.Common.{◌≡◌, ◌≢◌, ◌⊎◌, ℕ, zero, suc, ◌+◌, ◌-◌, ◌<◌, ◌≤◌, Bool, true, false, not, cond, List, [], ◌∷◌, ◌++◌, length, drop, replicate, Some, None, Option, inl, inr, refl, sym, ap, ◌∙◌, subst, arith}
-use Rattle.std.specs.Prelude.{pos, IsTrue, IsSome, slice_get, unwrap_or, ◌&&◌, ◌||◌, ◌==◌, if◌then◌else◌, Any}
+use Rattle.std.proofs.Common.{◌≡◌, ℕ, zero, suc, ◌-◌, ◌<◌, ◌≤◌, true, List, [], ◌∷◌, length, replicate, Some, None, Option, inr, refl, sym, ap, ◌∙◌, subst, arith}
+use Rattle.std.specs.Prelude.{pos, IsTrue, slice_get, ◌==◌}
 use Rattle.std.specs.Option.{is_some, option_and_then, option_map_or}
-use Rattle.std.proofs.lemmas.Bool.{cases_Bool, false≢true, ne_eqb, cond-true, cond-false}
+use Rattle.std.proofs.lemmas.Bool.{false≢true, ne_eqb, cond-false}
 use Rattle.std.proofs.lemmas.List.{drop_all, length-replicate}
-use Rattle.std.proofs.lemmas.Option.{option_and_then_some, cond_some, some_pair_parts}
-use Rattle.ja_base.specs.declared.ids.Context.{Context}
-use Rattle.ja_base.specs.declared.ids.Label.{Label}
+use Rattle.std.proofs.lemmas.Option.{same_Some, option_and_then_some, cond_some, some_pair_parts}
 use Rattle.ja_base.specs.declared.ids.NodeId.{NodeId}
 use Rattle.ja_base.specs.declared.ids.FnId.{FnId}
 use Rattle.ja_base.specs.declared.ids.Place.{Place}
 use Rattle.ja_base.specs.declared.ids.Reg.{Reg}
-use Rattle.ja_base.specs.declared.ids.Site.{Site}
 use Rattle.ja_prim.specs.declared.primitive.Primitive.TheVariants as primitive
 use Rattle.ja_prim.specs.declared.primitive.Num.TheVariants.{Whole}
 use Rattle.ja_graph.specs.declared.node.Node.{Node}
@@ -19,7 +16,7 @@ use Rattle.ja_graph.specs.declared.node.Node.TheVariants.{Const, FindName, ReadR
 use Rattle.ja_graph.specs.declared.node.NodeInfo.{NodeInfo}
 use Rattle.ja_graph.specs.declared.program.Function.{Function}
 use Rattle.ja_graph.specs.declared.program.Program.{Program}
-use Rattle.ja_graph.specs.Program.{node_at, nodes_of, global}
+use Rattle.ja_graph.specs.Program.{node_at, global}
 use Rattle.ja_graph.specs.WellFormed.{IsWellFormed, IsNodeInRange, IsRegister}
 use Rattle.ja_model.specs.declared.machine.Value.{Value}
 use Rattle.ja_model.specs.declared.machine.Value.TheVariants as value
@@ -35,26 +32,25 @@ use Rattle.ja_model.specs.declared.table.WarningKind.{WarningKind}
 use Rattle.ja_model.specs.declared.table.WarningKind.TheVariants.{NotAFunction, UnboundName}
 use Rattle.ja_model.specs.Heap.{count}
 use Rattle.ja_model.specs.Machine.{first_of, program_function, opening_heap, opening_frame, opening_registers, opening_state, registers_of, register_of, undefined, node_step, frames_step, step, next_of, state_of, earlier_state}
-use Rattle.ja_model.specs.AbstractValue.{AbstractValue, undefined_value, has_part}
-use Rattle.ja_model.specs.AbstractState.{AbstractState, new, labels_of, entry_registers, entry_state}
+use Rattle.ja_model.specs.AbstractValue.{AbstractValue, undefined_value}
+use Rattle.ja_model.specs.AbstractState.{new, entry_registers, entry_state}
 use Rattle.ja_model.specs.Meaning.{Holds, EntriesHold, label_of, has_value, context_of}
 use Rattle.ja_model.specs.Table.{Table, root, IsClosed}
-use Rattle.ja_model.specs.Warning.{IsReached, AreWarnings, kind_of, allows_fault, is_null, fault_at, fault_of_frames, fault_of}
-use Rattle.ja_model.specs.Sound.{IsCovered, CoversRuns, WarnsOfFaults}
-use Rattle.ja_model.proofs.Interface.{IsObjectOf, IsValueOf}
-use Rattle.ja_model.proofs.Lists.{same_some}
+use Rattle.ja_model.specs.Warning.{AreWarnings, kind_of, allows_fault, is_null, fault_at, fault_of_frames}
+use Rattle.ja_model.specs.Sound.{CoversRuns, WarnsOfFaults}
+use Rattle.ja_model.proofs.Interface.{IsValueOf}
 use Rattle.ja_model.proofs.Heaps
 use Rattle.ja_model.proofs.Labels.{same_label_from}
 use Rattle.ja_model.proofs.Parts.{has_part-has_value}
 use Rattle.ja_model.proofs.Opening.{IsRunHeap-opening, count-opening, first-opening}
 use Rattle.ja_model.proofs.Entered.{entries_hold}
 use Rattle.ja_model.proofs.Closed.{IsWithin-from_leq, settled_step, settled_open}
-use Rattle.ja_model.proofs.Frames.{IsRunFrame, IsKept, OnNext, OnStep, register_has, register_of_heap}
+use Rattle.ja_model.proofs.Frames.{IsKept, OnNext, OnStep, register_has, register_of_heap}
 use Rattle.ja_model.proofs.Steps.{step_kept}
 
 of_replicate : {X : Type 0} (n i : ℕ) (x y : X) → slice_get (replicate n x) i ≡ Some y → x ≡ y
 of_replicate zero i x y e = absurd (false≢true (ap is_some e))
-of_replicate (suc n) zero x y e = same_some x y e
+of_replicate (suc n) zero x y e = same_Some x y e
 of_replicate (suc n) (suc i) x y e = of_replicate n i x y e
 
 null_allowed : (h : Heap) (a : AbstractValue) (v : Value) → is_null v ≡ true → IsTrue (has_value h a v) → IsTrue a.flags.null
@@ -99,11 +95,11 @@ module _ (p : Program) (t : Table) (good : IsWellFormed p) (closed : IsClosed p 
   global_at_entry = (first-opening p good global global_fits, same_label_from (new global) _ (sym global_label))
 
   register_at_entry : (n r : ℕ) (v : Value) → slice_get (opening_registers n) r ≡ Some v → AtEntry r v
-  register_at_entry n zero v e = subst (AtEntry 0) (same_some undefined v e) (tt, refl)
-  register_at_entry n (suc zero) v e = subst (AtEntry 1) (same_some (value.Object (first_of global)) v e) global_at_entry
-  register_at_entry n (suc (suc zero)) v e = subst (AtEntry 2) (same_some (value.Object (first_of global)) v e) global_at_entry
-  register_at_entry n (suc (suc (suc zero))) v e = subst (AtEntry 3) (same_some undefined v e) (tt, refl)
-  register_at_entry n (suc (suc (suc (suc zero)))) v e = subst (AtEntry 4) (same_some (value.Primitive (primitive.Number (Whole (pos 0)))) v e) (tt, refl)
+  register_at_entry n zero v e = subst (AtEntry 0) (same_Some undefined v e) (tt, refl)
+  register_at_entry n (suc zero) v e = subst (AtEntry 1) (same_Some (value.Object (first_of global)) v e) global_at_entry
+  register_at_entry n (suc (suc zero)) v e = subst (AtEntry 2) (same_Some (value.Object (first_of global)) v e) global_at_entry
+  register_at_entry n (suc (suc (suc zero))) v e = subst (AtEntry 3) (same_Some undefined v e) (tt, refl)
+  register_at_entry n (suc (suc (suc (suc zero)))) v e = subst (AtEntry 4) (same_Some (value.Primitive (primitive.Number (Whole (pos 0)))) v e) (tt, refl)
   register_at_entry n (suc (suc (suc (suc (suc r))))) v e =
       subst (AtEntry (suc (suc (suc (suc (suc r)))))) (of_replicate (n - 5) r undefined v e) (tt, subst (λ u. IsTrue (has_value (opening_heap p) u undefined)) (sym (no_fixed_register (suc (suc (suc (suc (suc r))))) (omega arith))) refl)
 
@@ -148,7 +144,7 @@ module _ (p : Program) (t : Table) (good : IsWellFormed p) (closed : IsClosed p 
       subst (λ fs. OnStep (IsKept p good.text t) (frames_step p c fs)) (sym k.frames_are) (subst (λ (g : FnId). OnStep (IsKept p good.text t) (option_and_then (λ (info : NodeInfo). node_step p c k.frame [] info info.node) (node_at p g k.frame.node))) (sym k.run_frame.function_is) (node_kept c k (node_at p program_function k.frame.node) refl))
 
   next_kept : (e : Event) (c : Conf) → OnNext (IsKept p good.text t) e → next_of e ≡ Some c → IsKept p good.text t c
-  next_kept (event.Next d) c k e = subst (IsKept p good.text t) (same_some d c e) k
+  next_kept (event.Next d) c k e = subst (IsKept p good.text t) (same_Some d c e) k
   next_kept (event.End x d) c k e = absurd (false≢true (ap is_some e))
 
   event_kept : (o : Option Event) (c : Conf) → OnStep (IsKept p good.text t) o → option_and_then next_of o ≡ Some c → IsKept p good.text t c
@@ -156,7 +152,7 @@ module _ (p : Program) (t : Table) (good : IsWellFormed p) (closed : IsClosed p 
   event_kept (Some x) c k e = next_kept x c k e
 
   pub kept : (answers : List Answer) (c : Conf) → state_of p answers ≡ Some c → IsKept p good.text t c
-  kept [] c e = subst (IsKept p good.text t) (same_some (opening_state p) c e) opening_kept
+  kept [] c e = subst (IsKept p good.text t) (same_Some (opening_state p) c e) opening_kept
   kept (answer ∷ earlier) c e =
       option_and_then_some (λ (d : Conf). option_and_then next_of (step p d answer)) (state_of p earlier) c e (λ d was next. event_kept (step p d answer) c (step_keeps d answer (kept earlier d was)) next)
 
@@ -212,5 +208,5 @@ module _ (p : Program) (t : Table) (good : IsWellFormed p) (closed : IsClosed p 
       let at_frame : fault_of_frames p (k.frame ∷ []) ≡ Some (kind, place) = sym (ap (fault_of_frames p) k.frames_are) ∙ fault in
       let at_program : option_and_then (λ (info : NodeInfo). fault_at k.frame info info.node) (node_at p program_function k.frame.node) ≡ Some (kind, place) = sym (ap (λ g. option_and_then (λ (info : NodeInfo). fault_at k.frame info info.node) (node_at p g k.frame.node)) k.run_frame.function_is) ∙ at_frame in
       option_and_then_some (λ (info : NodeInfo). fault_at k.frame info info.node) (node_at p program_function k.frame.node) (kind, place) at_program (λ info info_is fault_is.
-        let parts : (kind_of info.node ≡ Some kind) × (info.place ≡ place) × IsTrue (allows_fault p k.state info.node) = fault_allowed c k info kind place info.node (node_in_range k.frame.node info info_is) fault_is in
-        warnings.complete kind place info.node k.state (record { context = root; number = k.frame.node; info = info; info_is = info_is; node_is = refl; kind_is = parts.0; place_is = parts.1; state_is = k.state_is }) parts.2)
+      let parts : (kind_of info.node ≡ Some kind) × (info.place ≡ place) × IsTrue (allows_fault p k.state info.node) = fault_allowed c k info kind place info.node (node_in_range k.frame.node info info_is) fault_is in
+      warnings.complete kind place info.node k.state (record { context = root; number = k.frame.node; info = info; info_is = info_is; node_is = refl; kind_is = parts.0; place_is = parts.1; state_is = k.state_is }) parts.2)

@@ -1,10 +1,7 @@
 -- Each step of a run leads to a state that the table holds of.
-use Rattle.std.proofs.Common.{◌≡◌, ◌≢◌, ◌⊎◌, ℕ, zero, suc, ◌+◌, ◌<◌, ◌≤◌, Bool, true, false, not, cond, List, [], ◌∷◌, ◌++◌, length, Some, None, Option, inl, inr, refl, sym, ap, ◌∙◌, subst, arith}
-use Rattle.std.specs.Prelude.{IsTrue, IsSome, slice_get, unwrap_or, ◌&&◌, ◌||◌, ◌==◌}
-use Rattle.std.specs.Option.{is_some, option_and_then, option_map_or}
-use Rattle.std.proofs.lemmas.Bool.{and_parts, and_from, or_left, or_right, cases_Bool, false≢true, cond-true, cond-false}
-use Rattle.ja_base.specs.declared.ids.Label.{Label}
-use Rattle.ja_base.specs.declared.ids.NodeId.{NodeId}
+use Rattle.std.proofs.Common.{◌≡◌, ℕ, suc, ◌<◌, ◌≤◌, true, List, [], length, inl, inr, refl, sym, ap, ◌∙◌, subst, arith}
+use Rattle.std.specs.Prelude.{IsTrue}
+use Rattle.std.proofs.lemmas.Bool.{and_from, or_left, or_right, cases_Bool, cond-true, cond-false}
 use Rattle.ja_base.specs.declared.ids.NameId.{NameId}
 use Rattle.ja_base.specs.declared.ids.Reg.{Reg}
 use Rattle.ja_base.specs.declared.ids.Site.{Site}
@@ -16,14 +13,10 @@ use Rattle.ja_graph.specs.declared.node.NodeInfo.{NodeInfo}
 use Rattle.ja_graph.specs.declared.program.Program.{Program}
 use Rattle.ja_graph.specs.Program.{global, reference_error_prototype, type_error_prototype}
 use Rattle.ja_graph.specs.WellFormed.{IsWellFormed, IsDestination, IsRegister, IsName, IsNodeSite, IsNodeInRange}
-use Rattle.ja_model.specs.declared.abstraction.Key.{Key}
 use Rattle.ja_model.specs.declared.abstraction.Key.TheVariants as key
 use Rattle.ja_model.specs.declared.machine.Addr.{Addr}
 use Rattle.ja_model.specs.declared.machine.Value.{Value}
 use Rattle.ja_model.specs.declared.machine.Value.TheVariants as value
-use Rattle.ja_model.specs.declared.machine.Property.{Property}
-use Rattle.ja_model.specs.declared.machine.Object.{Object}
-use Rattle.ja_model.specs.declared.machine.Heap.{Heap}
 use Rattle.ja_model.specs.declared.machine.Frame.{Frame}
 use Rattle.ja_model.specs.declared.machine.Conf.{Conf}
 use Rattle.ja_model.specs.declared.machine.Event.{Event}
@@ -31,20 +24,20 @@ use Rattle.ja_model.specs.Heap.{count, object_at, with_new, new_address, with_ob
 use Rattle.ja_model.specs.Heap as heap
 use Rattle.ja_model.specs.Machine.{first_of, name_text, opening_heap, program_function, register_of, scope, thrown, with_result, moved_to, next_state, find_name, find_name_step, read, read_step, write_step, call_step, error_object, is_text_length, unbound_message, not_a_function_message, undefined, node_step}
 use Rattle.ja_model.specs.Machine as machine
-use Rattle.ja_model.specs.AbstractValue.{AbstractValue, Labels, same_label, of_primitive, has_part}
+use Rattle.ja_model.specs.AbstractValue.{AbstractValue, Labels, of_primitive, has_part}
 use Rattle.ja_model.specs.AbstractState.{AbstractState, new, labels_of, with_register}
 use Rattle.ja_model.specs.Reading.{View, found}
-use Rattle.ja_model.specs.Transfer.{view_of, gives, sets, throws, read_value, with_error, written_labels, put, transfer_node}
+use Rattle.ja_model.specs.Transfer.{view_of, sets, throws, read_value, with_error, written_labels, put}
 use Rattle.ja_model.specs.Meaning.{Spot, named, internal, Holds, EntriesHold, label_of, key_of, has_value}
 use Rattle.ja_model.specs.Table.{Table, root}
 use Rattle.ja_model.proofs.Interface.{IsObjectOf, IsValueOf, IsRead, IsFilled}
-use Rattle.ja_model.proofs.Lists.{Member, member-append_left, member-append_right, some_value}
+use Rattle.ja_model.proofs.Lists.{member-append_left, member-append_right, some_value}
+use Rattle.ja_model.proofs.Resolved.{object_from_ordinal}
 use Rattle.ja_model.proofs.Heaps
 use Rattle.ja_model.proofs.Keys.{key_of-name, same_key_from}
 use Rattle.ja_model.proofs.Labels.{same_label_from}
 use Rattle.ja_model.proofs.Parts.{has_part-has_value}
-use Rattle.ja_model.proofs.Walks.{got-Some}
-use Rattle.ja_model.proofs.Searches.{filled_walk, read_value-read, found-find_name, find_name-of_heap}
+use Rattle.ja_model.proofs.Searches.{filled_walk, read_value-read, read-of_heap, found-find_name, find_name-of_heap}
 use Rattle.ja_model.proofs.Growing.{IsRunHeap, IsFitting, IsRunHeap-with_new, IsRunHeap-written}
 use Rattle.ja_model.proofs.Opening.{IsRunHeap-opening}
 use Rattle.ja_model.proofs.Entered.{of_primitive_has, text_of_key}
@@ -100,8 +93,9 @@ module _ (p : Program) (good : IsWellFormed p) (t : Table) (entries : EntriesHol
   throw_kept : (error proto : Site) (text : List ℕ) → IsNodeSite p error → proto.0 < length p.opening → (is_text_length text ≡ true → HasWithin p t info.handler.0 (with_error a error proto text)) → Kept (machine.throws c f [] info error proto text)
   throw_kept error proto text site first within =
       elim (cases_Bool (is_text_length text)) [
-        inl e ↦ subst (λ v. Kept v) (sym (cond-true _ _ _ e)) (kept_next p good.text t (with_new c.heap error (error_object proto text)) (with_result f thrown (value.Object (new_address c.heap error)) info.handler) _ (with_error a error proto text) (IsRunHeap-with_new p c.heap error (error_object proto text) run_heap fits site.0 site.1) (IsRunFrame-with_result p good.text c.heap (with_new c.heap error (error_object proto text)) f (λ v o. Heaps.value_stays c.heap error (error_object proto text) row v o) run_frame thrown (value.Object (new_address c.heap error)) info.handler zero_fits (Heaps.object_below (with_new c.heap error (error_object proto text)) (new_address c.heap error) below)) (within e) (holds_with_error p good (opening_heap p) c.heap error proto text a f run_heap site.0 site.1 first run_heap.grows holds run_frame.values info.handler zero_fits))
-      | inr e ↦ subst (λ v. Kept v) (sym (cond-false _ _ _ e)) tt ]
+        | inl e ↦ subst (λ v. Kept v) (sym (cond-true _ _ _ e)) (kept_next p good.text t (with_new c.heap error (error_object proto text)) (with_result f thrown (value.Object (new_address c.heap error)) info.handler) _ (with_error a error proto text) (IsRunHeap-with_new p c.heap error (error_object proto text) run_heap fits site.0 site.1) (IsRunFrame-with_result p good.text c.heap (with_new c.heap error (error_object proto text)) f (λ v o. Heaps.value_stays c.heap error (error_object proto text) row v o) run_frame thrown (value.Object (new_address c.heap error)) info.handler zero_fits (object_from_ordinal (with_new c.heap error (error_object proto text)) (new_address c.heap error) below)) (within e) (holds_with_error p good (opening_heap p) c.heap error proto text a f run_heap site.0 site.1 first run_heap.grows holds run_frame.values info.handler zero_fits))
+        | inr e ↦ subst (λ v. Kept v) (sym (cond-false _ _ _ e)) tt
+      ]
     where
       fits : IsFitting c.heap (error_object proto text)
       fits = fitting p good (opening_heap p) c.heap error proto text a f run_heap site.0 site.1 first
@@ -130,13 +124,6 @@ module _ (p : Program) (good : IsWellFormed p) (t : Table) (entries : EntriesHol
       let v_there : IsValueOf c.heap (find_name c.heap b (name_text p name)) = find_name-of_heap p (opening_heap p) c.heap w is_read (name_text p name) (key.Name name) same start settled.filled b of_heap has in
       result_kept dst (find_name c.heap b (name_text p name)) (found w start (key.Name name)) in_range.0 v_there v_has (settled.goes info.next.0 (with_register a dst (found w start (key.Name name))) (member_gives _ info.next (with_register a dst (found w start (key.Name name))) (part (find_name c.heap b (name_text p name)) (found w start (key.Name name)) v_there v_has)))
 
-  read_of_heap : (b : Addr) (u : List ℕ) (k : Key) → ((q : Property) → get c.heap b u ≡ Some q → IsValueOf c.heap q.value) → IsValueOf c.heap (read c.heap b u)
-  read_of_heap b u k each = by_get (get c.heap b u) refl
-    where
-      by_get : (g : Option Property) → get c.heap b u ≡ g → IsValueOf c.heap (option_map_or (λ (q : Property). q.value) g undefined)
-      by_get None e = tt
-      by_get (Some q) e = each q e
-
   read_by : (dst base : Reg) (name : NameId) (error : Site) (x : Value) → IsNodeInRange p good.text (ReadRef dst base name error) → IsSettled p t a info (ReadRef dst base name error) → IsValueOf c.heap x → IsTrue (has_value c.heap (a.register base.0) x) → Kept (read_step p c f [] info dst name error x)
   read_by dst base name error (value.Object b) in_range settled of_heap has =
       let labels : Labels = (a.register base.0).label in
@@ -144,7 +131,7 @@ module _ (p : Program) (good : IsWellFormed p) (t : Table) (entries : EntriesHol
       let v : Value = read c.heap b (name_text p name) in
       let same : IsTrue (Rattle.ja_model.specs.AbstractState.same_key (key_of p (named (name_text p name))) (key.Name name)) = same_key_from _ (key.Name name) (name_key name in_range.2) in
       let v_has : IsTrue (has_value c.heap u v) = read_value-read p (opening_heap p) c.heap w is_read (name_text p name) (key.Name name) same labels settled.filled b of_heap has in
-      let v_there : IsValueOf c.heap v = read_of_heap b (name_text p name) (key.Name name) (λ q e. (got-Some p (opening_heap p) c.heap w is_read (name_text p name) (key.Name name) same b of_heap (filled_walk p (opening_heap p) c.heap w is_read (name_text p name) (key.Name name) same labels settled.filled b of_heap has) q e).of_heap) in
+      let v_there : IsValueOf c.heap v = read-of_heap p (opening_heap p) c.heap w is_read (name_text p name) (key.Name name) same labels settled.filled b of_heap has in
       result_kept dst v u in_range.0 v_there v_has (settled.goes info.next.0 (with_register a dst u) (member-append_right (info.next.0, with_register a dst u) (throws w (a.register base.0).flags.null info error reference_error_prototype (unbound_message (name_text p name))) (sets w dst u info.next) (member_gives _ info.next (with_register a dst u) (part v u v_there v_has))))
   read_by dst base name error (value.Primitive primitive.Null) in_range settled of_heap has =
       throw_kept error reference_error_prototype (unbound_message (name_text p name)) in_range.3 (let l : 5 ≤ length p.opening = good.builtin_objects in omega arith) (λ e. settled.goes info.handler.0 (with_error a error reference_error_prototype (unbound_message (name_text p name))) (member-append_left (info.handler.0, with_error a error reference_error_prototype (unbound_message (name_text p name))) (throws w (a.register base.0).flags.null info error reference_error_prototype (unbound_message (name_text p name))) (sets w dst (read_value w (a.register base.0).label (key.Name name)) info.next) (member_gives _ info.handler _ (and_from _ _ has e))))
@@ -158,10 +145,11 @@ module _ (p : Program) (good : IsWellFormed p) (t : Table) (entries : EntriesHol
   put_run_heap b u v there of_heap =
       let (o, object_is) = some_value (object_at c.heap b) there in
       elim (cases_Bool (can_put c.heap b u)) [
-        inl e ↦
-          subst (λ h. IsRunHeap p h × ((x : Value) → IsValueOf c.heap x → IsValueOf h x)) (sym (cond-true (can_put c.heap b u) (with_own c.heap b u v) c.heap e ∙ Heaps.with_own_is c.heap b o object_is u v)) (IsRunHeap-written p c.heap b o u v run_heap object_is of_heap, λ x k. Heaps.value_written c.heap b o object_is u v x k)
-      | inr e ↦
-          subst (λ h. IsRunHeap p h × ((x : Value) → IsValueOf c.heap x → IsValueOf h x)) (sym (cond-false (can_put c.heap b u) (with_own c.heap b u v) c.heap e)) (run_heap, λ x k. k) ]
+        | inl e ↦
+            subst (λ h. IsRunHeap p h × ((x : Value) → IsValueOf c.heap x → IsValueOf h x)) (sym (cond-true (can_put c.heap b u) (with_own c.heap b u v) c.heap e ∙ Heaps.with_own_is c.heap b o object_is u v)) (IsRunHeap-written p c.heap b o u v run_heap object_is of_heap, λ x k. Heaps.value_written c.heap b o object_is u v x k)
+        | inr e ↦
+            subst (λ h. IsRunHeap p h × ((x : Value) → IsValueOf c.heap x → IsValueOf h x)) (sym (cond-false (can_put c.heap b u) (with_own c.heap b u v) c.heap e)) (run_heap, λ x k. k)
+      ]
 
   write_at : (base : Reg) (name : NameId) (src : Reg) (b : Addr) → IsNodeInRange p good.text (WriteRef base name src) → IsSettled p t a info (WriteRef base name src) → IsObjectOf c.heap b → IsTrue (written_labels (a.register base.0) (label_of c.heap b)) → Kept (next_state c (heap.put c.heap b (name_text p name) (register_of f src)) (moved_to f info.next) [])
   write_at base name src b in_range settled there among =
@@ -171,12 +159,12 @@ module _ (p : Program) (good : IsWellFormed p) (t : Table) (entries : EntriesHol
       let v_has : IsTrue (has_value c.heap (a.register src.0) (register_of f src)) = register_has p (opening_heap p) c.heap f a src holds (in_frame src in_range.2) in
       let filled : IsFilled (t.entry root) (Rattle.ja_model.specs.Reading.demands_of_walk w (label_of c.heap b) (key.Name name)) = filled_walk p (opening_heap p) c.heap w is_read (name_text p name) (key.Name name) same target settled.filled b there among in
       let after : IsPut p (opening_heap p) (heap.put c.heap b (name_text p name) (register_of f src)) f info.next (put w target (key.Name name) (a.register src.0) info.next) =
-        put_holds p (opening_heap p) c.heap (t.entry root) a f is_read holds b there (name_text p name) (key.Name name) same (only_name name) filled (a.register src.0) info.next target (register_of f src) among v_has in
+      put_holds p (opening_heap p) c.heap (t.entry root) a f is_read holds b there (name_text p name) (key.Name name) same (only_name name) filled (a.register src.0) info.next target (register_of f src) among v_has in
       let now : IsRunHeap p (heap.put c.heap b (name_text p name) (register_of f src)) × ((x : Value) → IsValueOf c.heap x → IsValueOf (heap.put c.heap b (name_text p name) (register_of f src)) x) = put_run_heap b (name_text p name) (register_of f src) there v_there in
       kept_next p good.text t (heap.put c.heap b (name_text p name) (register_of f src)) (moved_to f info.next) _ after.state now.0 (IsRunFrame-moved p good.text c.heap (heap.put c.heap b (name_text p name) (register_of f src)) f now.1 run_frame info.next) (settled.goes info.next.0 after.state after.member) after.holds
 
   global_there : IsObjectOf c.heap (first_of global)
-  global_there = Heaps.object_below c.heap (first_of global) (let one : count c.heap global ≡ 1 = run_heap.single global (let l : 5 ≤ length p.opening = good.builtin_objects in omega arith) in omega arith)
+  global_there = object_from_ordinal c.heap (first_of global) (let one : count c.heap global ≡ 1 = run_heap.single global (let l : 5 ≤ length p.opening = good.builtin_objects in omega arith) in omega arith)
 
   global_label : new global ≡ label_of c.heap (first_of global)
   global_label =

@@ -1,6 +1,6 @@
 -- A write to a property: the states that a put gives hold of the heap after it.
-use Rattle.std.proofs.Common.{◌≡◌, ◌≢◌, ◌⊎◌, ℕ, zero, suc, ◌+◌, ◌<◌, ◌≤◌, Bool, true, false, not, cond, List, [], ◌∷◌, ◌++◌, length, Some, None, Option, inl, inr, refl, sym, ap, ◌∙◌, subst, arith}
-use Rattle.std.specs.Prelude.{IsTrue, IsSome, slice_get, unwrap_or, filter, ◌&&◌, ◌||◌, ◌==◌}
+use Rattle.std.proofs.Common.{◌≡◌, ℕ, ◌<◌, Bool, true, false, List, [], ◌∷◌, Some, None, Option, inl, inr, refl, sym, ap, ◌∙◌, subst, arith}
+use Rattle.std.specs.Prelude.{IsTrue, slice_get, filter, ◌&&◌, ◌||◌}
 use Rattle.std.specs.List.{list_any}
 use Rattle.std.specs.Option.{is_some}
 use Rattle.std.proofs.lemmas.Bool.{and_parts, and_from, or_left, or_right, or_cases, cases_Bool, false≢true, cond-true, cond-false}
@@ -21,20 +21,20 @@ use Rattle.ja_model.specs.Heap as heap
 use Rattle.ja_model.specs.Machine.{moved_to}
 use Rattle.ja_model.specs.AbstractValue.{Labels, AbstractValue, AbstractProperty, same_label, join_properties}
 use Rattle.ja_model.specs.AbstractState.{AbstractState, labels_of, same_key, with_property}
-use Rattle.ja_model.specs.Reading.{View, Entries, demands_of, demands_of_walk, next_prototype, asked, may_be_absent, may_accept, may_refuse, prototype, some_label}
+use Rattle.ja_model.specs.Reading.{View, Entries, demands_of, demands_of_walk, next_prototype, asked, may_be_absent, may_accept, may_refuse, prototype}
 use Rattle.ja_model.specs.Transfer.{view_of, gives, written_attrs, written, strong_put, weakly_written, weak_put, put_at, put}
-use Rattle.ja_model.specs.Meaning.{Content, missing, held, present, Spot, named, content, object_content, label_of, key_of, has_value, knows, allows_attrs, Holds, IsAsAtEntry}
-use Rattle.ja_model.proofs.Interface.{IsObjectOf, IsValueOf, IsFilled, IsRead}
+use Rattle.ja_model.specs.Meaning.{Content, missing, held, present, Spot, named, content, label_of, key_of, has_value, knows, allows_attrs, Holds}
+use Rattle.ja_model.proofs.Interface.{IsObjectOf, IsFilled, IsRead}
 use Rattle.ja_model.proofs.Lists.{Member, member-append_left, member-append_right, list_any-filter, some_value}
 use Rattle.ja_model.proofs.Heaps
 use Rattle.ja_model.proofs.Heaps.{attrs_after}
 use Rattle.ja_model.proofs.Keys.{same_key-true, same_key_from}
 use Rattle.ja_model.proofs.Labels.{same_label-true, same_label-self, same_label_from}
-use Rattle.ja_model.proofs.Values.{and_three, knows-join_left, knows-join_right}
+use Rattle.ja_model.proofs.Values.{and_three, knows-join_right}
 use Rattle.ja_model.proofs.Rounds.{reached-start}
-use Rattle.ja_model.proofs.Walks.{some_label-object, label-among, may_accept-can_put, may_refuse-can_put}
+use Rattle.ja_model.proofs.Walks.{some_label-object, may_accept-can_put, may_refuse-can_put}
 use Rattle.ja_model.proofs.Attributes.{label_of-new, written_attrs-Some, written_attrs-None}
-use Rattle.ja_model.proofs.Made.{Tells}
+use Rattle.ja_model.proofs.Made.{Tells, join_tells_left}
 
 pub member_gives : (b : Bool) (next : NodeId) (a : AbstractState) → b ≡ true → Member (next.0, a) (gives b next a)
 member_gives b next a e = subst (λ (xs : List (ℕ × AbstractState)). Member (next.0, a) xs) (sym (cond-true b ((next.0, a) ∷ []) [] e)) (inl refl)
@@ -44,10 +44,6 @@ pub record IsPut (p : Program) (e now : Heap) (f : Frame) (next : NodeId) (state
   pub state : AbstractState
   pub member : Member (next.0, state) states
   pub holds : Holds p e now (moved_to f next) state
-
-join_tells_left : (e c : Heap) (b : Addr) (x : Spot) (q r : AbstractProperty) → Tells e c b x q → Tells e c b x (join_properties q r)
-join_tells_left e c b x q r (inl k) = inl (knows-join_left c q r (content c b x) k)
-join_tells_left e c b x q r (inr k) = inr (or_left _ _ k.0, k.1)
 
 -- heaps with the same labels have the same parts of values
 same_has : (h now : Heap) (v : AbstractValue) (x : Value) → ((b : Addr) → label_of now b ≡ label_of h b) → IsTrue (has_value h v x) → IsTrue (has_value now v x)
@@ -84,8 +80,9 @@ module _ (p : Program) (e h : Heap) (entries : Entries) (a : AbstractState) (f :
   weak_tells : (target : Labels) (c : Heap) (d : Addr) (x : Spot) (l : Label) (j : Key) → Tells e c d x (a.property l j) → Tells e c d x ((weakly_written w target k u).property l j)
   weak_tells target c d x l j told =
       elim (cases_Bool (target l && same_key k j && may_accept w l k)) [
-        inl g ↦ subst (λ q. Tells e c d x q) (sym (cond-true _ (join_properties (a.property l j) (written w l k u)) (a.property l j) g)) (join_tells_left e c d x (a.property l j) (written w l k u) told)
-      | inr g ↦ subst (λ q. Tells e c d x q) (sym (cond-false _ (join_properties (a.property l j) (written w l k u)) (a.property l j) g)) told ]
+        | inl g ↦ subst (λ q. Tells e c d x q) (sym (cond-true _ (join_properties (a.property l j) (written w l k u)) (a.property l j) g)) (join_tells_left e c d x (a.property l j) (written w l k u) told)
+        | inr g ↦ subst (λ q. Tells e c d x q) (sym (cond-false _ (join_properties (a.property l j) (written w l k u)) (a.property l j) g)) told
+      ]
 
   weak_refused : (target : Labels) → IsTrue (target (label_of h b)) → can_put h b t ≡ false → IsPut p e h f next (weak_put w target k u next)
   weak_refused target i c = record {
@@ -158,9 +155,10 @@ module _ (p : Program) (e h : Heap) (entries : Entries) (a : AbstractState) (f :
     weak_objects : (target : Labels) → IsTrue (target (label_of h b)) → IsTrue (may_accept w (label_of h b) k) → (d : Addr) (x : Spot) → IsObjectOf now d → Tells e now d x ((weakly_written w target k u).property (label_of now d) (key_of p x))
     weak_objects target i accepts d x there_now =
         elim (Heaps.spot_cases b d t x) [
-          inl g ↦
-            subst (λ l. Tells e (with_object h b (object_with_value o t v)) d x ((weakly_written w target k u).property l (key_of p x))) (sym (label_there d g.0)) (subst (λ q. Tells e (with_object h b (object_with_value o t v)) d x q) (sym (cond-true _ (join_properties (a.property (label_of h b) (key_of p x)) (written w (label_of h b) k u)) (a.property (label_of h b) (key_of p x)) (and_three _ _ _ i (same_key_from k (key_of p x) (key_there x g.1)) accepts))) (there_told d x (join_properties (a.property (label_of h b) (key_of p x)) (written w (label_of h b) k u)) (knows-join_right (with_object h b (object_with_value o t v)) (a.property (label_of h b) (key_of p x)) (written w (label_of h b) k u) (content (with_object h b (object_with_value o t v)) b (named t)) written_told) g.0 g.1))
-        | inr ne ↦ weak_tells target (with_object h b (object_with_value o t v)) d x (label_of (with_object h b (object_with_value o t v)) d) (key_of p x) (at_label_now d x there_now ne) ]
+          | inl g ↦
+              subst (λ l. Tells e (with_object h b (object_with_value o t v)) d x ((weakly_written w target k u).property l (key_of p x))) (sym (label_there d g.0)) (subst (λ q. Tells e (with_object h b (object_with_value o t v)) d x q) (sym (cond-true _ (join_properties (a.property (label_of h b) (key_of p x)) (written w (label_of h b) k u)) (a.property (label_of h b) (key_of p x)) (and_three _ _ _ i (same_key_from k (key_of p x) (key_there x g.1)) accepts))) (there_told d x (join_properties (a.property (label_of h b) (key_of p x)) (written w (label_of h b) k u)) (knows-join_right (with_object h b (object_with_value o t v)) (a.property (label_of h b) (key_of p x)) (written w (label_of h b) k u) (content (with_object h b (object_with_value o t v)) b (named t)) written_told) g.0 g.1))
+          | inr ne ↦ weak_tells target (with_object h b (object_with_value o t v)) d x (label_of (with_object h b (object_with_value o t v)) d) (key_of p x) (at_label_now d x there_now ne)
+        ]
 
     weak_accepted : (target : Labels) → IsTrue (target (label_of h b)) → can_put h b t ≡ true → IsPut p e now f next (weak_put w target k u next)
     weak_accepted target i c =
@@ -174,13 +172,14 @@ module _ (p : Program) (e h : Heap) (entries : Entries) (a : AbstractState) (f :
     strong_objects : (label_of h b).old ≡ false → (d : Addr) (x : Spot) → IsObjectOf now d → Tells e now d x ((with_property a (label_of h b) k (written w (label_of h b) k u)).property (label_of now d) (key_of p x))
     strong_objects new d x there_now =
         elim (cases_Bool (same_label (label_of h b) (label_of now d) && same_key k (key_of p x))) [
-          inl g ↦
-            let parts : IsTrue (same_label (label_of h b) (label_of now d)) × IsTrue (same_key k (key_of p x)) = and_parts _ _ g in
-            let d_is : d ≡ b = label_of-new h b d new (sym (label_now d) ∙ sym (same_label-true (label_of h b) (label_of now d) parts.0)) in
-            let x_is : x ≡ named t = only x (sym (same_key-true k (key_of p x) parts.1)) in
-            subst (λ q. Tells e (with_object h b (object_with_value o t v)) d x q) (sym (cond-true _ (written w (label_of h b) k u) (a.property (label_of now d) (key_of p x)) g)) (there_told d x (written w (label_of h b) k u) written_told d_is x_is)
-        | inr g ↦
-            subst (λ q. Tells e (with_object h b (object_with_value o t v)) d x q) (sym (cond-false _ (written w (label_of h b) k u) (a.property (label_of now d) (key_of p x)) g)) (at_label_now d x there_now (λ m. false≢true (sym g ∙ and_from _ _ (same_label_from (label_of h b) (label_of now d) (sym (label_there d m.0))) (same_key_from k (key_of p x) (key_there x m.1))))) ]
+          | inl g ↦
+              let parts : IsTrue (same_label (label_of h b) (label_of now d)) × IsTrue (same_key k (key_of p x)) = and_parts _ _ g in
+              let d_is : d ≡ b = label_of-new h b d new (sym (label_now d) ∙ sym (same_label-true (label_of h b) (label_of now d) parts.0)) in
+              let x_is : x ≡ named t = only x (sym (same_key-true k (key_of p x) parts.1)) in
+              subst (λ q. Tells e (with_object h b (object_with_value o t v)) d x q) (sym (cond-true _ (written w (label_of h b) k u) (a.property (label_of now d) (key_of p x)) g)) (there_told d x (written w (label_of h b) k u) written_told d_is x_is)
+          | inr g ↦
+              subst (λ q. Tells e (with_object h b (object_with_value o t v)) d x q) (sym (cond-false _ (written w (label_of h b) k u) (a.property (label_of now d) (key_of p x)) g)) (at_label_now d x there_now (λ m. false≢true (sym g ∙ and_from _ _ (same_label_from (label_of h b) (label_of now d) (sym (label_there d m.0))) (same_key_from k (key_of p x) (key_there x m.1)))))
+        ]
 
     strong_accepted : (label_of h b).old ≡ false → can_put h b t ≡ true → IsPut p e now f next (strong_put w (label_of h b) k u next)
     strong_accepted new c = record {
@@ -204,16 +203,18 @@ module _ (p : Program) (e h : Heap) (entries : Entries) (a : AbstractState) (f :
   by_labels target after (l ∷ []) alone weakly strongly =
       let l_is : label_of h b ≡ l = alone l refl in
       elim (cases_Bool l.old) [
-        inl o ↦ subst (λ xs. IsPut p e after f next xs) (sym (cond-true l.old (weak_put w target k u next) (strong_put w l k u next) o)) weakly
-      | inr o ↦
-          subst (λ xs. IsPut p e after f next xs) (sym (cond-false l.old (weak_put w target k u next) (strong_put w l k u next) o)) (subst (λ m. IsPut p e after f next (strong_put w m k u next)) l_is (strongly (ap (λ (m : Label). m.old) l_is ∙ o))) ]
+        | inl o ↦ subst (λ xs. IsPut p e after f next xs) (sym (cond-true l.old (weak_put w target k u next) (strong_put w l k u next) o)) weakly
+        | inr o ↦
+            subst (λ xs. IsPut p e after f next xs) (sym (cond-false l.old (weak_put w target k u next) (strong_put w l k u next) o)) (subst (λ m. IsPut p e after f next (strong_put w m k u next)) l_is (strongly (ap (λ (m : Label). m.old) l_is ∙ o)))
+      ]
 
   -- the states of a put hold of the heap after it
   pub put_holds : (target : Labels) (v : Value) → IsTrue (target (label_of h b)) → IsTrue (has_value h u v) → IsPut p e (heap.put h b t v) f next (put w target k u next)
   put_holds target v i has =
       let (o, object_is) = some_value (object_at h b) there in
       elim (cases_Bool (can_put h b t)) [
-        inl c ↦
-          subst (λ n. IsPut p e n f next (put w target k u next)) (sym (cond-true (can_put h b t) (with_own h b t v) h c ∙ Heaps.with_own_is h b o object_is t v)) (by_labels target (with_object h b (object_with_value o t v)) (filter target (labels_of p)) (λ l g. only_label target l i g) (weak_accepted o object_is v has target i c) (λ new. strong_accepted o object_is v has new c))
-      | inr c ↦
-          subst (λ n. IsPut p e n f next (put w target k u next)) (sym (cond-false (can_put h b t) (with_own h b t v) h c)) (by_labels target h (filter target (labels_of p)) (λ l g. only_label target l i g) (weak_refused target i c) (λ new. strong_refused c)) ]
+        | inl c ↦
+            subst (λ n. IsPut p e n f next (put w target k u next)) (sym (cond-true (can_put h b t) (with_own h b t v) h c ∙ Heaps.with_own_is h b o object_is t v)) (by_labels target (with_object h b (object_with_value o t v)) (filter target (labels_of p)) (λ l g. only_label target l i g) (weak_accepted o object_is v has target i c) (λ new. strong_accepted o object_is v has new c))
+        | inr c ↦
+            subst (λ n. IsPut p e n f next (put w target k u next)) (sym (cond-false (can_put h b t) (with_own h b t v) h c)) (by_labels target h (filter target (labels_of p)) (λ l g. only_label target l i g) (weak_refused target i c) (λ new. strong_refused c))
+      ]

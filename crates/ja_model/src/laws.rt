@@ -13,13 +13,11 @@ ghost use Rattle.ja_model.specs.Sound.{CoversRuns, WarnsOfFaults};
 /// values at entry hold of the heap in which the frame was entered.
 pub fn closed_covers()
     ensures { (p : Program) (t : Table) → IsWellFormed p → IsClosed p t → CoversRuns p t }
-{
-}
+{}
 
 /// An operation without a warning never goes wrong: where a run comes to the call of what is no
 /// function, or to the read of a name that no object of its scope chain has, the warnings of a closed
 /// table have one of that kind at that place.
 pub fn warned_of_faults()
     ensures { (p : Program) (t : Table) (ws : List Warning) → IsWellFormed p → IsClosed p t → AreWarnings p t ws → WarnsOfFaults p ws }
-{
-}
+{}
