@@ -37,12 +37,15 @@ use Rattle.ja_model.proofs.Values.{allows_attrs-join_left, has_value-join_left, 
 pub record IsWithin (p : Program) (a b : AbstractState) : Type 0 where
   pub holds : (e c : Heap) (f : Frame) → Holds p e c f a → Holds p e c f b
 
+-- a state is within itself
 pub IsWithin-refl : (p : Program) (a : AbstractState) → IsWithin p a a
 IsWithin-refl p a = record { holds = λ e c f h. h }
 
+-- .. and within what a state is within that it is within
 pub IsWithin_trans : (p : Program) (a b d : AbstractState) → IsWithin p a b → IsWithin p b d → IsWithin p a d
 IsWithin_trans p a b d x y = record { holds = λ e c f h. y.holds e c f (x.holds e c f h) }
 
+-- each side of a join is within the join
 pub IsWithin-join_left : (p : Program) (a b : AbstractState) → IsWithin p a (join_states a b)
 IsWithin-join_left p a b = record {
   holds = λ e c f h. record {
@@ -53,6 +56,7 @@ IsWithin-join_left p a b = record {
   };
 }
 
+-- .. the right one
 pub IsWithin-join_right : (p : Program) (a b : AbstractState) → IsWithin p b (join_states a b)
 IsWithin-join_right p a b = record {
   holds = λ e c f h. record {
@@ -83,6 +87,7 @@ leq_knows h q r (present v attrs) l e =
     let k : IsTrue (has_value h q.value v) × IsTrue (allows_attrs q.attrs attrs) = and_parts _ _ e in
     and_from _ _ (leq_has_value h q.value r.value v l.value k.0) (subst (λ m. IsTrue (allows_attrs m attrs)) l.attrs (allows_attrs-join_left q.attrs r.attrs attrs k.1))
 
+-- a state is within one that has each of its parts
 pub IsWithin-from_leq : (p : Program) (a b : AbstractState) → LeqState a b → IsWithin p a b
 IsWithin-from_leq p a b l = record {
   holds = λ e c f h. record {
@@ -144,6 +149,7 @@ pub record IsSettled (p : Program) (t : Table) (a : AbstractState) (info : NodeI
   pub goes : (n : ℕ) (b : AbstractState) → Member (n, b) (transfer_node p (view_of p (t.entry root) a) info node).states → HasWithin p t n b
   pub filled : IsFilled (t.entry root) (transfer_node p (view_of p (t.entry root) a) info node).demands
 
+-- what the step of a node gives, a closed table has
 pub settled_step : (p : Program) (t : Table) (n : NodeId) (a : AbstractState) (info : NodeInfo) → IsClosed p t → node_at p program_function n ≡ Some info → t.state root n.0 ≡ Some a → IsSettled p t a info info.node
 settled_step p t n a info closed node_is state_is =
     let out : Out = transfer p (t.entry root) a info in
@@ -158,6 +164,7 @@ settled_step p t n a info closed node_is state_is =
 
 -- ---- the opening
 
+-- what the opening heap has, the values at entry of a closed table have
 pub settled_open : (p : Program) (t : Table) → IsClosed p t → (l : Label) (k : Key) (q : AbstractProperty) → t.entry root l k ≡ Some q → q ≡ join_properties q (opened p l k)
 settled_open p t closed l k q e =
     let same : option_map (λ (r : AbstractProperty). join_properties r (opened p l k)) (t.entry root l k) ≡ t.entry root l k = ap (λ (u : Table). u.entry root l k) (closed.settled Open tt) in

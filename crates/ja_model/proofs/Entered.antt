@@ -39,6 +39,7 @@ use Rattle.ja_model.proofs.Values.{and_three, knows-join_right}
 
 -- ---- what is exactly a content has it
 
+-- exactly a primitive has it
 pub of_primitive_has : (q : Primitive) → IsTrue (has_primitive (of_primitive q) q)
 of_primitive_has primitive.Undefined = refl
 of_primitive_has primitive.Null = refl
@@ -56,6 +57,7 @@ allows_exactly : (b : Bool) → IsTrue (allows (record { set = b; unset = not b 
 allows_exactly true = refl
 allows_exactly false = refl
 
+-- exactly the attributes allow them
 pub of_attrs_allows : (a : Attrs) → IsTrue (allows_attrs (of_attrs a) a)
 of_attrs_allows a = and_three _ _ _ (allows_exactly a.read_only) (allows_exactly a.dont_enum) (allows_exactly a.dont_delete)
 
@@ -83,6 +85,7 @@ text_of_key p t n e =
     let at : (n.0 < length p.names) × (same_text (get_or p.names n.0 []) t ≡ true) × ((k : ℕ) → k < n.0 → same_text (get_or p.names k []) t ≡ false) = position-Some (λ name. same_text name t) p.names n.0 [] (named_key (name_of p t) _ n e) in
     unwrap_or-slice_get p.names n.0 [] ∙ Heaps.text_same _ t at.1
 
+-- .. in a program
 pub no_slot_of_text : (p : Program) (t : List ℕ) (s : Slot) → key_of p (named t) ≡ key.Slot s → ⊥
 no_slot_of_text p t s e = no_slot_key (name_of p t) _ s e
 
@@ -126,6 +129,7 @@ module _ (p : Program) (good : IsWellFormed p) where
       cond-false _ no_property (opened_at p k (first_of a.site)) is_new ∙ (ap (opened_at p k) first ∙ (ap (λ r. option_map_or (λ (q : Object). of_content (opening_heap p) (key_content p a k)) r no_property) o.object_is ∙ ap (of_content (opening_heap p)) (key_content_is a x k there e))) in
       subst (λ q. IsTrue (knows (opening_heap p) q (content (opening_heap p) a x))) (sym opened_is) (of_content_knows (opening_heap p) (content (opening_heap p) a x))
 
+  -- each value at entry has what the opening heap has
   pub entries_hold : (entries : Entries) → ((l : Label) (k : Key) (q : AbstractProperty) → entries l k ≡ Some q → q ≡ join_properties q (opened p l k)) → EntriesHold p (opening_heap p) entries
   entries_hold entries settled l k q e a x there same_l same_k =
       let label_is : label_of (opening_heap p) a ≡ l = same_label-true _ l same_l in

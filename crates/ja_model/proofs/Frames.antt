@@ -47,10 +47,12 @@ abbrev pub OnNext : (Conf → Type 0) → Event → Type 0
 OnNext P (event.Next c) = P c
 OnNext P (event.End e c) = Unit {0}
 
+-- .. that a step leads to
 abbrev pub OnStep : (Conf → Type 0) → Option Event → Type 0
 OnStep P None = Unit {0}
 OnStep P (Some e) = OnNext P e
 
+-- a state of a run from its parts
 pub kept_next : (p : Program) (text : Function) (t : Table) (h : Heap) (f : Frame) (steps : ℕ) (b : AbstractState) → IsRunHeap p h → IsRunFrame p text h f → HasWithin p t f.node.0 b → Holds p (opening_heap p) h f b → IsKept p text t (record { heap = h; frames = f ∷ []; steps = steps })
 kept_next p text t h f steps b run_heap run_frame has holds = record {
   frame = f;
@@ -64,12 +66,15 @@ kept_next p text t h f steps b run_heap run_frame has holds = record {
 
 -- ---- registers
 
+-- a register of the frame holds its value
 pub register_held : (f : Frame) (r : Reg) → r.0 < length f.registers → slice_get f.registers r.0 ≡ Some (register_of f r)
 register_held f r l = let (v, e) = slice_get_some f.registers r.0 l in e ∙ ap Some (sym (ap (λ o. unwrap_or o undefined) e))
 
+-- .. which the state has
 pub register_has : (p : Program) (e h : Heap) (f : Frame) (a : AbstractState) (r : Reg) → Holds p e h f a → r.0 < length f.registers → IsTrue (has_value h (a.register r.0) (register_of f r))
 register_has p e h f a r holds l = holds.registers r.0 (register_of f r) (register_held f r l)
 
+-- .. and which is one of the heap
 pub register_of_heap : (p : Program) (text : Function) (h : Heap) (f : Frame) (r : Reg) → IsRunFrame p text h f → r.0 < length f.registers → IsValueOf h (register_of f r)
 register_of_heap p text h f r k l = k.values r.0 (register_of f r) (register_held f r l)
 
@@ -92,6 +97,7 @@ module _ (p : Program) (text : Function) (h now : Heap) (f : Frame) (stays : (v 
     values = λ r u e. elim (written_cases f.registers dst.0 r v u l e) [ inl g ↦ subst (λ w. IsValueOf now w) g.1 o | inr g ↦ stays u (k.values r u g.1) ];
   }
 
+  -- .. or without one
   pub IsRunFrame-moved : (next : NodeId) → IsRunFrame p text now (moved_to f next)
   IsRunFrame-moved next = record {
     function_is = k.function_is;
@@ -109,6 +115,7 @@ registers_with_result h f a dst v u l new old r w e =
       | inr g ↦ subst (λ (s : AbstractValue). IsTrue (has_value h s w)) (sym (cond-false (dst.0 == r) u (a.register r) (ne_eqb dst.0 r (λ k. g.0 (sym k))))) (old r w g.1)
     ]
 
+-- the state with the register set holds of the frame with the result
 pub holds_with_result : (p : Program) (e h : Heap) (f : Frame) (a : AbstractState) (dst : Reg) (v : Value) (u : AbstractValue) (next : NodeId) → Holds p e h f a → dst.0 < length f.registers → IsTrue (has_value h u v) → Holds p e h (with_result f dst v next) (with_register a dst u)
 holds_with_result p e h f a dst v u next holds l new = record {
   registers = registers_with_result h f a dst v u l new holds.registers;

@@ -103,6 +103,7 @@ module _ (p : Program) (h : Heap) (s : Site) (o : Object) (known : IsRunHeap p h
             (Heaps.object_stays h s o row b k, omega arith)
       ]
 
+  -- the heap with an object more is as it should be
   pub IsHeap-with_new : IsHeap p (with_new h s o)
   IsHeap-with_new = record {
     sites = sites_now;
@@ -113,6 +114,7 @@ module _ (p : Program) (h : Heap) (s : Site) (o : Object) (known : IsRunHeap p h
     outer_before = linked_now outer_of known.heap.outer_before fits.outer;
   }
 
+  -- .. and one of a run
   pub IsRunHeap-with_new : IsRunHeap p (with_new h s o)
   IsRunHeap-with_new = record {
     heap = IsHeap-with_new;
@@ -150,6 +152,7 @@ module _ (p : Program) (h : Heap) (a : Addr) (o : Object) (t : List ℕ) (v : Va
             (Heaps.object_written h a o there t v c r.0, r.1)
       ]
 
+  -- the heap after the write is one of a run
   pub IsRunHeap-written : IsRunHeap p (with_object h a (object_with_value o t v))
   IsRunHeap-written = record {
     heap = record {

@@ -26,9 +26,11 @@ use Rattle.ja_model.proofs.Lists.{slice_get-set_same, slice_get-set_other, slice
 
 -- ---- addresses, and the objects of a site
 
+-- addresses are equal whose parts are
 pub same_address : (a b : Addr) → a.site.0 ≡ b.site.0 → a.ordinal ≡ b.ordinal → a ≡ b
 same_address a b s o = λ i. record { site = record { 0 = s i }; ordinal = o i }
 
+-- two addresses are equal or not
 pub address_cases : (a b : Addr) → (a ≡ b) ⊎ (a ≡ b → ⊥)
 address_cases a b =
     elim (cases_eq a.site.0 b.site.0) [
@@ -36,9 +38,11 @@ address_cases a b =
       | inr e ↦ inr (λ g. e (ap (λ (c : Addr). c.site.0) g))
     ]
 
+-- equal sites have the same objects
 pub objects-same_site : (h : Heap) (s t : Site) → s.0 ≡ t.0 → objects_of h s ≡ objects_of h t
 objects-same_site h s t e = ap (λ n. unwrap_or (slice_get h.objects n) []) e
 
+-- .. and as many
 pub count-same_site : (h : Heap) (s t : Site) → s.0 ≡ t.0 → count h s ≡ count h t
 count-same_site h s t e = ap length (objects-same_site h s t e)
 
@@ -52,12 +56,15 @@ row_within (x ∷ xs) (suc s) h = let r : s < length xs = row_within xs s h in o
 pub same_parts : (l m : Label) → l.site.0 ≡ m.site.0 → l.old ≡ m.old → l ≡ m
 same_parts l m s o = λ i. record { site = record { 0 = s i }; old = o i }
 
+-- the object made last is new
 pub label_is_new : (h : Heap) (a : Addr) → a.ordinal + 1 ≡ count h a.site → (label_of h a).old ≡ false
 label_is_new h a e = ap not (eq-eqb (a.ordinal + 1) (count h a.site) e)
 
+-- .. and each other one old
 pub label_is_old : (h : Heap) (a : Addr) → (a.ordinal + 1 ≡ count h a.site → ⊥) → (label_of h a).old ≡ true
 label_is_old h a e = ap not (ne_eqb (a.ordinal + 1) (count h a.site) e)
 
+-- a label depends on the count of its site alone
 pub label_by_count : (h k : Heap) (a : Addr) → count h a.site ≡ count k a.site → label_of h a ≡ label_of k a
 label_by_count h k a e = ap (λ n. let l : Label = record { site = a.site; old = not (a.ordinal + 1 == n) } in l) e
 
@@ -71,19 +78,24 @@ sum-set (x ∷ xs) (suc i) row h =
 -- ---- an object more
 
 module _ (h : Heap) (s : Site) (o : Object) (fits : s.0 < length h.objects) where
+  -- the site has one object more
   pub objects-with_new_same : (t : Site) → t.0 ≡ s.0 → objects_of (with_new h s o) t ≡ objects_of h s ++ o ∷ []
   objects-with_new_same t e =
       ap (λ n. unwrap_or (slice_get (slice_set h.objects s.0 (objects_of h s ++ o ∷ [])) n) []) e ∙ ap (λ r. unwrap_or r []) (slice_get-set_same h.objects s.0 (objects_of h s ++ o ∷ []) fits)
 
+  -- each other site has its objects
   pub objects-with_new_other : (t : Site) → t.0 ≢ s.0 → objects_of (with_new h s o) t ≡ objects_of h t
   objects-with_new_other t ne = ap (λ r. unwrap_or r []) (slice_get-set_other h.objects s.0 t.0 (objects_of h s ++ o ∷ []) ne)
 
+  -- the counts: one more at the site, and the same elsewhere
   pub count-with_new_same : (t : Site) → t.0 ≡ s.0 → count (with_new h s o) t ≡ suc (count h s)
   count-with_new_same t e = ap length (objects-with_new_same t e) ∙ (length-append (objects_of h s) (o ∷ []) ∙ omega arith)
 
+  -- .. elsewhere
   pub count-with_new_other : (t : Site) → t.0 ≢ s.0 → count (with_new h s o) t ≡ count h t
   count-with_new_other t ne = ap length (objects-with_new_other t ne)
 
+  -- no count falls
   pub count-with_new-le : (t : Site) → count h t ≤ count (with_new h s o) t
   count-with_new-le t =
       elim (cases_eq t.0 s.0) [
@@ -116,16 +128,20 @@ module _ (h : Heap) (s : Site) (o : Object) (fits : s.0 < length h.objects) wher
         | inr ne ↦ inl (subst (λ r. IsSome (slice_get r a.ordinal)) (objects-with_new_other a.site ne) there)
       ]
 
+  -- so an object stays one
   pub object_stays : (a : Addr) → IsObjectOf h a → IsObjectOf (with_new h s o) a
   object_stays a there = subst (λ r. IsSome r) (sym (object-with_new_old a there)) there
 
+  -- .. and a value of the heap
   pub value_stays : (v : Value) → IsValueOf h v → IsValueOf (with_new h s o) v
   value_stays (value.Primitive q) there = tt
   value_stays (value.Object a) there = object_stays a there
 
+  -- an old object has what it had
   pub content-with_new_old : (a : Addr) (x : Spot) → IsObjectOf h a → content (with_new h s o) a x ≡ content h a x
   content-with_new_old a x there = ap (λ r. option_map_or (λ (q : Object). object_content q x) r missing) (object-with_new_old a there)
 
+  -- .. and the new one what it was made with
   pub content-with_new_new : (x : Spot) → content (with_new h s o) (new_address h s) x ≡ object_content o x
   content-with_new_new x = ap (λ r. option_map_or (λ (q : Object). object_content q x) r missing) object-with_new_new
 
@@ -134,6 +150,7 @@ module _ (h : Heap) (s : Site) (o : Object) (fits : s.0 < length h.objects) wher
   label-with_new_new =
       same_parts _ _ refl (label_is_new (with_new h s o) (new_address h s) (let u : count (with_new h s o) s ≡ suc (count h s) = count-with_new_same s refl in omega arith))
 
+  -- .. an object of the site
   pub label-with_new_aged : (a : Addr) → IsObjectOf h a → a.site.0 ≡ s.0 → label_of (with_new h s o) a ≡ record { site = s; old = true }
   label-with_new_aged a there e =
       let b : a.ordinal < count h a.site = ordinal-below h a there in
@@ -141,9 +158,11 @@ module _ (h : Heap) (s : Site) (o : Object) (fits : s.0 < length h.objects) wher
       let v : count h a.site ≡ count h s = count-same_site h a.site s e in
       same_parts _ _ e (label_is_old (with_new h s o) a (λ f. omega arith))
 
+  -- .. an object of another site
   pub label-with_new_other : (a : Addr) → a.site.0 ≢ s.0 → label_of (with_new h s o) a ≡ label_of h a
   label-with_new_other a ne = label_by_count (with_new h s o) h a (count-with_new_other a.site ne)
 
+  -- there is one object more in all
   pub size-with_new : size (with_new h s o) ≡ suc (size h)
   size-with_new = omega (arith, sum-set h.objects s.0 (objects_of h s ++ o ∷ []) fits, length-append (objects_of h s) (o ∷ []))
 
@@ -152,9 +171,11 @@ none_is_missing : (r : Option Object) (x : Spot) → is_some r ≡ false → opt
 none_is_missing None x e = refl
 none_is_missing (Some q) x e = absurd (false≢true (sym e))
 
+-- .. in a heap
 pub content-no_object : (h : Heap) (a : Addr) (x : Spot) → is_some (object_at h a) ≡ false → content h a x ≡ missing
 content-no_object h a x e = none_is_missing (object_at h a) x e
 
+-- an object has its own contents
 pub content-at : (h : Heap) (a : Addr) (o : Object) (x : Spot) → object_at h a ≡ Some o → content h a x ≡ object_content o x
 content-at h a o x e = ap (λ r. option_map_or (λ (q : Object). object_content q x) r missing) e
 
@@ -166,13 +187,16 @@ module _ (h : Heap) (a : Addr) (old new : Object) (there : object_at h a ≡ Som
       let b : a.ordinal < length (objects_of h a.site) = within_from_some (objects_of h a.site) a.ordinal (is_some_from _ old there) in
       row_within h.objects a.site.0 (omega arith)
 
+  -- the site has the object replaced
   pub objects-with_object_same : (t : Site) → t.0 ≡ a.site.0 → objects_of (with_object h a new) t ≡ slice_set (objects_of h a.site) a.ordinal new
   objects-with_object_same t e =
       ap (λ n. unwrap_or (slice_get (slice_set h.objects a.site.0 (slice_set (objects_of h a.site) a.ordinal new)) n) []) e ∙ ap (λ r. unwrap_or r []) (slice_get-set_same h.objects a.site.0 (slice_set (objects_of h a.site) a.ordinal new) row_fits)
 
+  -- .. and each other site its objects
   pub objects-with_object_other : (t : Site) → t.0 ≢ a.site.0 → objects_of (with_object h a new) t ≡ objects_of h t
   objects-with_object_other t ne = ap (λ r. unwrap_or r []) (slice_get-set_other h.objects a.site.0 t.0 (slice_set (objects_of h a.site) a.ordinal new) ne)
 
+  -- no count changes
   pub count-with_object : (t : Site) → count (with_object h a new) t ≡ count h t
   count-with_object t =
       elim (cases_eq t.0 a.site.0) [
@@ -180,13 +204,16 @@ module _ (h : Heap) (a : Addr) (old new : Object) (there : object_at h a ≡ Som
         | inr ne ↦ ap length (objects-with_object_other t ne)
       ]
 
+  -- .. and so no label
   pub label-with_object : (b : Addr) → label_of (with_object h a new) b ≡ label_of h b
   label-with_object b = label_by_count (with_object h a new) h b (count-with_object b.site)
 
+  -- at the address stands the new object
   pub object-with_object_same : object_at (with_object h a new) a ≡ Some new
   object-with_object_same =
       ap (λ r. slice_get r a.ordinal) (objects-with_object_same a.site refl) ∙ slice_get-set_same (objects_of h a.site) a.ordinal new (within_from_some (objects_of h a.site) a.ordinal (is_some_from _ old there))
 
+  -- .. and elsewhere what stood there
   pub object-with_object_other : (b : Addr) → (b ≡ a → ⊥) → object_at (with_object h a new) b ≡ object_at h b
   object-with_object_other b ne =
       elim (cases_eq b.site.0 a.site.0) [
@@ -195,14 +222,17 @@ module _ (h : Heap) (a : Addr) (old new : Object) (there : object_at h a ≡ Som
         | inr other ↦ ap (λ r. slice_get r b.ordinal) (objects-with_object_other b.site other)
       ]
 
+  -- there are as many objects in all
   pub size-with_object : size (with_object h a new) ≡ size h
   size-with_object = omega (arith, sum-set h.objects a.site.0 (slice_set (objects_of h a.site) a.ordinal new) row_fits, length-set (objects_of h a.site) a.ordinal new)
 
+  -- .. and as many sites
   pub rows-with_object : length (with_object h a new).objects ≡ length h.objects
   rows-with_object = length-set h.objects a.site.0 (slice_set (objects_of h a.site) a.ordinal new)
 
 -- ---- a write to a property
 
+-- texts are equal that the test calls the same
 pub text_same : (t u : List ℕ) → same_text t u ≡ true → t ≡ u
 text_same t u e = text_is t u (sym e)
 
@@ -211,6 +241,7 @@ abbrev pub attrs_after : Option Property → Attrs
 attrs_after None = no_attrs
 attrs_after (Some q) = q.attrs
 
+-- a text is the same as itself
 pub same_text_refl : (t : List ℕ) → same_text t t ≡ true
 same_text_refl t = nat_list_eq_equiv.refl t
 
@@ -218,11 +249,13 @@ abbrev text_of : Spot → List ℕ
 text_of (named t) = t
 text_of (internal s) = []
 
+-- the name has the value then, with the attributes that it had
 pub with_value_same : (qs : List Property) (t : List ℕ) (v : Value) → property_content (find (λ (q : Property). same_text q.name t) (with_value qs t v)) ≡ present v (attrs_after (find (λ (q : Property). same_text q.name t) qs))
 with_value_same [] t v = simp (same_text_refl t)
 with_value_same (q ∷ qs) t v =
     elim (cases_Bool (same_text q.name t)) [ inl e ↦ simp e | inr e ↦ simp (e, with_value_same qs t v) ]
 
+-- .. and each other name what it had
 pub with_value_other : (qs : List Property) (t u : List ℕ) (v : Value) → same_text t u ≡ false → property_content (find (λ (q : Property). same_text q.name u) (with_value qs t v)) ≡ property_content (find (λ (q : Property). same_text q.name u) qs)
 with_value_other [] t u v ne = simp ne
 with_value_other (q ∷ qs) t u v ne =
@@ -237,6 +270,7 @@ named_cases (named u) t =
     elim (cases_Bool (same_text u t)) [ inl e ↦ inl (ap named (text_same u t e)) | inr e ↦ inr (λ f. false≢true (sym e ∙ (ap (λ w. same_text w t) (ap text_of f) ∙ same_text_refl t))) ]
 named_cases (internal s) t = inr (λ f. cc)
 
+-- .. at an object
 pub spot_cases : (a b : Addr) (t : List ℕ) (x : Spot) → ((b ≡ a) × (x ≡ named t)) ⊎ ((b ≡ a) × (x ≡ named t) → ⊥)
 spot_cases a b t x =
     elim (address_cases b a) [
@@ -247,6 +281,7 @@ spot_cases a b t x =
 -- ---- the heap after the value of a name is set
 
 module _ (h : Heap) (a : Addr) (o : Object) (there : object_at h a ≡ Some o) (t : List ℕ) (v : Value) where
+  -- the write replaces the object at the address
   pub with_own_is : with_own h a t v ≡ with_object h a (object_with_value o t v)
   with_own_is = ap (λ r. option_map_or (λ (q : Object). with_object h a (object_with_value q t v)) r h) there
 
@@ -264,6 +299,7 @@ module _ (h : Heap) (a : Addr) (o : Object) (there : object_at h a ≡ Some o) (
   object_content_other (internal Scope) ne = refl
   object_content_other (internal slot.Value) ne = refl
 
+  -- .. in the heap
   pub content-with_object_other : (b : Addr) (x : Spot) → ((b ≡ a) × (x ≡ named t) → ⊥) → content (with_object h a (object_with_value o t v)) b x ≡ content h b x
   content-with_object_other b x ne =
       elim (address_cases b a) [
@@ -276,9 +312,11 @@ module _ (h : Heap) (a : Addr) (o : Object) (there : object_at h a ≡ Some o) (
   pub object_written : (b : Addr) → IsObjectOf h b → IsObjectOf (with_object h a (object_with_value o t v)) b
   object_written b k = object_from_ordinal (with_object h a (object_with_value o t v)) b (let e : count (with_object h a (object_with_value o t v)) b.site ≡ count h b.site = count-with_object h a o (object_with_value o t v) there b.site in let l : b.ordinal < count h b.site = ordinal-below h b k in omega arith)
 
+  -- .. and the other way round
   pub object_unwritten : (b : Addr) → IsObjectOf (with_object h a (object_with_value o t v)) b → IsObjectOf h b
   object_unwritten b k = object_from_ordinal h b (let e : count (with_object h a (object_with_value o t v)) b.site ≡ count h b.site = count-with_object h a o (object_with_value o t v) there b.site in let l : b.ordinal < count (with_object h a (object_with_value o t v)) b.site = ordinal-below (with_object h a (object_with_value o t v)) b k in omega arith)
 
+  -- a value of the heap stays one
   pub value_written : (u : Value) → IsValueOf h u → IsValueOf (with_object h a (object_with_value o t v)) u
   value_written (value.Primitive q) k = tt
   value_written (value.Object b) k = object_written b k

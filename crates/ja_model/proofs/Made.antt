@@ -103,6 +103,7 @@ pub join_tells_left : (e c : Heap) (b : Addr) (x : Spot) (q r : AbstractProperty
 join_tells_left e c b x q r (inl k) = inl (knows-join_left c q r (content c b x) k)
 join_tells_left e c b x q r (inr k) = inr (or_left _ _ k.0, k.1)
 
+-- .. the right one
 pub join_tells_right : (e c : Heap) (b : Addr) (x : Spot) (q r : AbstractProperty) → Tells e c b x r → Tells e c b x (join_properties q r)
 join_tells_right e c b x q r (inl k) = inl (knows-join_right c q r (content c b x) k)
 join_tells_right e c b x q r (inr k) = inr (or_right _ _ k.0, k.1)
@@ -133,6 +134,7 @@ module _ (p : Program) (e h : Heap) (s : Site) (o : Object) (row : s.0 < length 
             subst (λ l. Tells e (with_new h s o) b x (made_property a s l (key_of p x))) (sym (Heaps.label-with_new_other h s o row b ne)) (subst (λ q. Tells e (with_new h s o) b x q) (sym (made_at_other (label_of h b) (key_of p x) ne)) (aged_tells b x (a.property (label_of h b) (key_of p x)) there before))
       ]
 
+  -- the masks after it
   pub made_some : (t : Site) → count e t < count (with_new h s o) t → IsTrue ((with_made a s).mask t.0).some
   made_some t l =
       elim (cases_eq t.0 s.0) [
@@ -142,6 +144,7 @@ module _ (p : Program) (e h : Heap) (s : Site) (o : Object) (row : s.0 < length 
             ap (λ (m : Mask). m.some) (cond-false (s.0 == t.0) exactly_some (a.mask t.0) (ne_eqb s.0 t.0 (λ g. ne (sym g)))) ∙ holds.some t (omega arith)
       ]
 
+  -- .. where none was made
   pub made_none : (t : Site) → count e t ≡ count (with_new h s o) t → IsTrue ((with_made a s).mask t.0).none
   made_none t l =
       elim (cases_eq t.0 s.0) [
@@ -166,6 +169,7 @@ module _ (p : Program) (e h : Heap) (s : Site) (o : Object) (row : s.0 < length 
 -- ---- an error that is made and thrown
 
 module _ (p : Program) (good : IsWellFormed p) (e h : Heap) (s proto : Site) (text : List ℕ) (a : AbstractState) (f : Frame) (known : IsRunHeap p h) (node_site : length p.opening ≤ s.0) (in_range : s.0 < length p.sites) (first : proto.0 < length p.opening) where
+  -- the error can be made in a heap of the run
   pub fitting : IsFitting h (error_object proto text)
   fitting = record {
     inside = inside_error;

@@ -28,6 +28,7 @@ use Rattle.ja_model.proofs.Growing.{IsRunHeap}
 
 -- ---- the first place of a list at which a test passes
 
+-- how many stand before it
 abbrev pub place : {X : Type 0} → (X → Bool) → List X → ℕ
 place test [] = 0
 place test (x ∷ xs) = cond (test x) 0 (suc (place test xs))
@@ -85,6 +86,7 @@ pub record IsOpened (p : Program) (a : Addr) : Type 0 where
   pub site_fits : a.site.0 < length p.opening
 
 module _ (p : Program) (good : IsWellFormed p) where
+  -- the objects of a site, from the list of those that are there when a run begins
   pub objects-opening : (s : Site) → s.0 < length p.sites → objects_of (opening_heap p) s ≡ opening_objects p s.0
   objects-opening s h = ap (λ r. unwrap_or r []) (row_of_range (opening_objects p) 0 (length p.sites) s.0 h ∙ ap (λ m. Some (opening_objects p m)) (omega arith))
 
@@ -92,11 +94,13 @@ module _ (p : Program) (good : IsWellFormed p) where
   one_object None h = absurd (false≢true h)
   one_object (Some o) h = refl
 
+  -- each site without a node has one object
   pub count-opening : (s : Site) → s.0 < length p.opening → count (opening_heap p) s ≡ 1
   count-opening s h =
       let w : length p.opening ≤ length p.sites = good.sites in
       ap length (objects-opening s (omega arith)) ∙ one_object (object_spec p s.0) (good.all_objects s.0 h)
 
+  -- .. which is its first
   pub first-opening : (s : Site) → s.0 < length p.opening → IsObjectOf (opening_heap p) (first_of s)
   first-opening s h = object_from_ordinal (opening_heap p) (first_of s) (let e : count (opening_heap p) s ≡ 1 = count-opening s h in omega arith)
 
@@ -112,6 +116,7 @@ module _ (p : Program) (good : IsWellFormed p) where
       let e : length (opening_heap p).objects ≡ length p.sites = length-map-range_with_len (opening_objects p) 0 (length p.sites) in
       omega arith
 
+  -- each object of the opening heap is one of that list
   pub opened_at_address : (a : Addr) → IsObjectOf (opening_heap p) a → IsOpened p a
   opened_at_address a there =
       let row : objects_of (opening_heap p) a.site ≡ opening_objects p a.site.0 = objects-opening a.site (site_in_range a there) in
@@ -197,6 +202,7 @@ module _ (p : Program) (good : IsWellFormed p) where
         | inr none ↦ subst (λ c. IsContentOf (opening_heap p) c) (sym (Heaps.content-no_object (opening_heap p) a x none)) tt
       ]
 
+  -- the heap in which a run begins is as it should be
   pub IsRunHeap-opening : IsRunHeap p (opening_heap p)
   IsRunHeap-opening = record {
     heap = record {

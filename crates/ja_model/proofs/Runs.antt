@@ -151,6 +151,7 @@ module _ (p : Program) (t : Table) (good : IsWellFormed p) (closed : IsClosed p 
   event_kept None c k e = absurd (false≢true (ap is_some e))
   event_kept (Some x) c k e = next_kept x c k e
 
+  -- .. after each list of answers
   pub kept : (answers : List Answer) (c : Conf) → state_of p answers ≡ Some c → IsKept p good.text t c
   kept [] c e = subst (IsKept p good.text t) (same_Some (opening_state p) c e) opening_kept
   kept (answer ∷ earlier) c e =
@@ -166,6 +167,7 @@ module _ (p : Program) (t : Table) (good : IsWellFormed p) (closed : IsClosed p 
       let label_is : label_of (opening_heap p) f.receiver ≡ new global = ap (label_of (opening_heap p)) receiver_is ∙ global_label in
       λ i. record { function = function_is i; receiver = label_is i }
 
+  -- a closed table covers every run
   pub covered : CoversRuns p t
   covered answers c e =
       let k : IsKept p good.text t c = kept answers c e in
@@ -202,6 +204,7 @@ module _ (p : Program) (t : Table) (good : IsWellFormed p) (closed : IsClosed p 
       let parts : (NotAFunction ≡ kind) × (info.place ≡ place) = some_pair_parts _ _ _ _ e in
       (ap Some parts.0, parts.1, has_part-has_value p c.heap k.run_heap.heap (k.state.register callee.0) (register_of k.frame callee) (register_of_heap p good.text c.heap k.frame callee k.run_frame (in_frame c k callee in_range.1)) (register_has p (opening_heap p) c.heap k.frame k.state callee k.holds (in_frame c k callee in_range.1)))
 
+  -- .. so it has a warning
   pub warned : (ws : List Warning) → AreWarnings p t ws → WarnsOfFaults p ws
   warned ws warnings answers c kind place e fault =
       let k : IsKept p good.text t c = kept answers c e in

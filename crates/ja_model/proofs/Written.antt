@@ -36,6 +36,7 @@ use Rattle.ja_model.proofs.Walks.{some_label-object, may_accept-can_put, may_ref
 use Rattle.ja_model.proofs.Attributes.{label_of-new, written_attrs-Some, written_attrs-None}
 use Rattle.ja_model.proofs.Made.{Tells, join_tells_left}
 
+-- a state that is given
 pub member_gives : (b : Bool) (next : NodeId) (a : AbstractState) → b ≡ true → Member (next.0, a) (gives b next a)
 member_gives b next a e = subst (λ (xs : List (ℕ × AbstractState)). Member (next.0, a) xs) (sym (cond-true b ((next.0, a) ∷ []) [] e)) (inl refl)
 
