@@ -41,7 +41,7 @@ pub record IsWithin (p : Program) (a b : AbstractState) : Type 0 where
 pub IsWithin-refl : (p : Program) (a : AbstractState) → IsWithin p a a
 IsWithin-refl p a = record { holds = λ e c f h. h }
 
--- .. and within what a state is within that it is within
+-- .. and what is within a state is within all that the state is within
 pub IsWithin_trans : (p : Program) (a b d : AbstractState) → IsWithin p a b → IsWithin p b d → IsWithin p a d
 IsWithin_trans p a b d x y = record { holds = λ e c f h. y.holds e c f (x.holds e c f h) }
 
