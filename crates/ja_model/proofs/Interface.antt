@@ -1,5 +1,5 @@
 -- What is known of the heaps of a run, and of an abstract state at a moment of it.
-use Rattle.std.specs.Prelude.{◌≡◌, ◌⊎◌, ◌<◌, ◌≤◌, ℕ, length, IsTrue, Option, Some, IsSome}
+use Rattle.std.specs.Prelude.{◌≡◌, ◌⊎◌, ◌<◌, ◌≤◌, ℕ, length, IsTrue, Some, IsSome}
 use Rattle.ja_base.specs.declared.ids.Label.{Label}
 use Rattle.ja_base.specs.declared.ids.Site.{Site}
 use Rattle.ja_graph.specs.declared.program.Program.{Program}
@@ -11,7 +11,7 @@ use Rattle.ja_model.specs.declared.machine.Object.{Object}
 use Rattle.ja_model.specs.declared.machine.Heap.{Heap}
 use Rattle.ja_model.specs.Heap.{count, size, object_at, prototype_of, outer_of}
 use Rattle.ja_model.specs.Meaning.{Content, missing, held, present, Spot, content, label_of, key_of, knows, IsAsAtEntry, EntriesHold}
-use Rattle.ja_model.specs.AbstractState.{AbstractState, labels_of}
+use Rattle.ja_model.specs.AbstractState.{labels_of}
 use Rattle.ja_model.specs.Reading.{View, Demands, Entries}
 
 -- an object of the heap

@@ -2,9 +2,11 @@
 #![tactic(auto)]
 
 mod abstraction;
+mod laws;
 mod machine;
 mod table;
 
 pub use abstraction::{AAttrs, Flags, Key, Mask, May, NumberPart, Slot, TextPart};
+pub use laws::{closed_covers, warned_of_faults};
 pub use machine::{Addr, Answer, Conf, End, Event, Frame, Heap, Object, Property, Slots, Value};
 pub use table::{Item, Warning, WarningKind};

@@ -1,0 +1,7 @@
+-- proofs/laws/closed_covers/Answers.antt
+-- By induction on the answers, as proved in Runs.
+use Rattle.ja_model.proofs.laws.closed_covers.Goals as goal
+use Rattle.ja_model.proofs.Runs.{covered}
+
+pub returns : goal.returns
+returns c = λ p t good closed. covered p t good closed
