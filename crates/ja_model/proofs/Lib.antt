@@ -10,6 +10,7 @@ pub mod Labels
 pub mod Lists
 pub mod Made
 pub mod Opening
+pub mod Order
 pub mod Parts
 pub mod Resolved
 pub mod Rounds

@@ -1,5 +1,5 @@
 -- Abstract states: maps from registers to values, from labels and keys to properties, from sites to masks.
-use Rattle.std.specs.Prelude.{ℕ, ◌+◌, ◌*◌, pos, Bool, true, false, ◌&&◌, ◌||◌, if◌then◌else◌, ◌==◌, List, [], ◌∷◌, ◌++◌, map, length}
+use Rattle.std.specs.Prelude.{ℕ, ◌+◌, ◌*◌, pos, Bool, true, false, ◌&&◌, ◌||◌, if◌then◌else◌, ◌==◌, nat_lt, List, [], ◌∷◌, ◌++◌, map, length}
 use Rattle.std.specs.List.{flat_map, range_with_len}
 use Rattle.ja_base.specs.declared.ids.Label.{Label}
 use Rattle.ja_base.specs.declared.ids.Reg.{Reg}
@@ -71,6 +71,11 @@ keys_below n =
 
 abbrev pub keys_of : Program → List Key
 keys_of p = keys_below (length p.names)
+
+-- a key is one of a program if it is none of a name that the program doesn't have
+abbrev pub is_key : Program → Key → Bool
+is_key p (key.Name n) = nat_lt n.0 (length p.names)
+is_key p k = true
 
 -- ---- masks
 
