@@ -1,6 +1,6 @@
 -- What the calls of sources and sinks do. What is left, what was written and whether a sink is finished
 -- are each told (`Some`) or not told (`None`).
-use Rattle.std.specs.Prelude.{◌≡◌, ◌⊎◌, ℕ, ◌+◌, ◌-◌, ◌^◌, ◌<◌, ◌≤◌, Bool, List, [], ◌++◌, length, take, ⊤, Option, None, Some, Result, OnErr, is_some}
+use Rattle.std.specs.Prelude.{◌≡◌, ◌⊎◌, ℕ, ◌-◌, ◌^◌, ◌<◌, ◌≤◌, List, [], ◌++◌, length, take, ⊤, Option, None, Some, Result, OnErr, is_some}
 use Rattle.std.specs.Option.{option_map}
 
 -- a count of faults rose: it is greater than before, or stands at its last value

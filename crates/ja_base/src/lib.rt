@@ -16,5 +16,8 @@ pub use seq::Seq;
 pub use sink::Sink;
 pub use source::Source;
 pub use std_streams::{StdSink, StdSource};
-pub use sure_streams::SureSource;
+pub use sure_streams::{SureSink, SureSource};
 pub use whole::{ReadFault, read_all, write_all};
+
+#[cfg(test)]
+mod stream_tests;

@@ -1,4 +1,4 @@
-ghost use Rattle.std.specs.Prelude.{◌≡◌, ◌↔◌, ◌+◌, ◌-◌, ◌<◌, ◌≤◌, ◌^◌, ◌++◌, [], Some, min, max, length, take, drop, Contains, IsErr, IfOk, OnOk, OnErr, IsTrue, true, false};
+ghost use Rattle.std.specs.Prelude.{◌≡◌, ◌↔◌, ◌⊎◌, ◌+◌, ◌-◌, ◌<◌, ◌≤◌, ◌^◌, ◌++◌, [], Some, min, max, length, take, drop, vec_len, vec_capacity, Contains, IsErr, IfOk, OnOk, OnErr, IsTrue, true, false};
 ghost use Rattle.std.specs.Bool.{OnTrue, OnFalse};
 ghost use Rattle.ja_base.specs.Counts.{counted, piece_of};
 ghost use Rattle.ja_base.specs.Streams.{Rose, NeverFalls, HasCause, Takes, Appends};
@@ -137,9 +137,11 @@ impl Sink for MemorySink {
         ensures failed { OnErr result (Some self.new.bytes.items ≡ Some self.old.bytes.items) }
         ensures cause { HasCause self.old.faults self.new.faults result }
 
-        // And exactly which calls fail unless memory is refused, how many bytes a call takes, and
-        // what changes.
+        // And which calls fail: those listed, and those that memory is refused to, which comes only
+        // where room is missing. How many bytes a call takes, and what changes.
         ensures fails { Contains self.old.fail_at.items (counted self.old.calls) → IsErr result }
+        ensures refused { OnErr result (Contains self.old.fail_at.items (counted self.old.calls)
+            ⊎ (vec_capacity self.old.bytes < vec_len self.old.bytes + min (piece_of self.old.piece) (length bytes.now))) }
         ensures amount { IfOk result (λ n. n ≡ min (piece_of self.old.piece) (length bytes.now)) }
         ensures calls { self.new.calls ≡ counted self.old.calls }
         ensures faults { OnErr result (self.new.faults ≡ counted self.old.faults) }
