@@ -1,4 +1,7 @@
-ghost use Rattle.std.specs.Prelude.{◌≡◌, None};
+ghost use Rattle.std.specs.Prelude.{◌≡◌, ◌<◌, ◌≤◌, None, length, IfOk, OnOk, OnErr};
+ghost use Rattle.ja_base.specs.Counts.{counted};
+ghost use Rattle.ja_base.specs.Streams.{HasCause};
+ghost use Rattle.ja_base.specs.StdStreams.{source_faults, sink_faults};
 
 use crate::{Failed, Sink, Source};
 use std::io::{Read, Write};
@@ -14,7 +17,7 @@ pub struct StdSource<R: Read> {
 impl<R: Read> StdSource<R> {
     /// A source that has not failed yet.
     pub fn new(inner: R) -> Self
-        ensures { ⟦<StdSource<R> as Source>⟧.faults result ≡ 0 }
+        ensures { source_faults result ≡ 0 }
     {
         StdSource { inner, faults: 0 }
     }
@@ -23,9 +26,17 @@ impl<R: Read> StdSource<R> {
 impl<R: Read> Source for StdSource<R> {
     ghost left = { λ _. None };
 
-    ghost faults = { λ s. s.faults };
+    ghost faults = { source_faults };
 
-    fn read(&mut self, buffer: &mut [u8]) -> Result<usize, Failed> {
+    fn read(&mut self, buffer: &mut [u8]) -> Result<usize, Failed>
+        requires { 0 < length buffer.old }
+        ensures count { IfOk result (λ n. n ≤ length buffer.new) }
+        ensures cause { HasCause (source_faults self.old) (source_faults self.new) result }
+
+        // And exactly how the count rises.
+        ensures ok { OnOk result (source_faults self.new ≡ source_faults self.old) }
+        ensures err { OnErr result (source_faults self.new ≡ counted (source_faults self.old)) }
+    {
         match self.inner.read(buffer) {
             Ok(n) => Ok(n),
             Err(_) => {
@@ -47,7 +58,7 @@ pub struct StdSink<W: Write> {
 impl<W: Write> StdSink<W> {
     /// A sink that has not failed yet.
     pub fn new(inner: W) -> Self
-        ensures { ⟦<StdSink<W> as Sink>⟧.faults result ≡ 0 }
+        ensures { sink_faults result ≡ 0 }
     {
         StdSink { inner, faults: 0 }
     }
@@ -58,9 +69,18 @@ impl<W: Write> Sink for StdSink<W> {
 
     ghost finished = { λ _. None };
 
-    ghost faults = { λ s. s.faults };
+    ghost faults = { sink_faults };
 
-    fn write(&mut self, bytes: &[u8]) -> Result<usize, Failed> {
+    fn write(&mut self, bytes: &[u8]) -> Result<usize, Failed>
+        requires { 0 < length bytes.now }
+        ensures some { IfOk result (λ n. 0 < n) }
+        ensures count { IfOk result (λ n. n ≤ length bytes.now) }
+        ensures cause { HasCause (sink_faults self.old) (sink_faults self.new) result }
+
+        // And exactly how the count rises.
+        ensures ok { OnOk result (sink_faults self.new ≡ sink_faults self.old) }
+        ensures err { OnErr result (sink_faults self.new ≡ counted (sink_faults self.old)) }
+    {
         match self.inner.write(bytes) {
             Ok(n) if n > 0 => Ok(n),
             _ => {
@@ -71,7 +91,13 @@ impl<W: Write> Sink for StdSink<W> {
     }
 
     /// Flushes the writer.
-    fn finish(&mut self) -> Result<(), Failed> {
+    fn finish(&mut self) -> Result<(), Failed>
+        ensures cause { HasCause (sink_faults self.old) (sink_faults self.new) result }
+
+        // And exactly how the count rises.
+        ensures ok { OnOk result (sink_faults self.new ≡ sink_faults self.old) }
+        ensures err { OnErr result (sink_faults self.new ≡ counted (sink_faults self.old)) }
+    {
         match self.inner.flush() {
             Ok(()) => Ok(()),
             Err(_) => {
