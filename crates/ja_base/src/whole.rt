@@ -1,6 +1,6 @@
 ghost use Rattle.std.specs.Prelude.{◌≡◌, ◌≢◌, ◌+◌, ◌<◌, ◌≤◌, ◌^◌, ◌++◌, [], false, length, take, vec_len, vec_capacity, IfOk, OnOk, OnErr, IsErrOf};
 ghost use Rattle.ja_base.specs.declared.whole.ReadFault.TheVariants.{Memory as NoMemory, Failed as SourceFailed};
-ghost use Rattle.ja_base.specs.Streams.{Rose, NeverFalls, HasCause, Keeps, TurnsTo, IsToldAsBefore, Takes, TakesAtMost, IsAtEnd, Took, IsLonger, Appends, AppendsFront};
+ghost use Rattle.ja_base.specs.Streams.{Rose, NeverFalls, HasCause, Keeps, TurnsTo, IsToldAsBefore, Takes, TakesAtMost, TakesCount, IsAtEnd, Took, IsLonger, Appends, AppendsFront};
 
 use crate::{Failed, Sink, Source};
 use std::alloc::{AllocError, Global};
@@ -52,6 +52,7 @@ pub fn read_all<S: Source>(
     ensures whole { IfOk result (λ bytes. Took (S.left source.old) bytes.items) }
     ensures end { OnOk result (IsAtEnd (S.left source.new)) }
     ensures too_long { IsErrOf result ReadFault.TooLong → IsLonger limit (S.left source.old) }
+    ensures one_too_many { IsErrOf result ReadFault.TooLong → TakesCount (limit + 1) (S.left source.old) (S.left source.new) }
     ensures failed { IsErrOf result ReadFault.Failed → Rose (S.faults source.old) (S.faults source.new) }
     ensures never_falls { NeverFalls (S.faults source.old) (S.faults source.new) }
     ensures taken { TakesAtMost (limit + 1) (S.left source.old) (S.left source.new) }
