@@ -2,7 +2,22 @@
 #![tactic(auto)]
 
 mod ids;
+mod memory_streams;
 mod seq;
+mod sink;
+mod source;
+mod std_streams;
+mod sure_streams;
+mod whole;
 
 pub use ids::{Context, Failed, FnId, Label, Memory, NameId, NodeId, Place, Reg, ScopeKind, Site};
+pub use memory_streams::{MemorySink, MemorySource};
 pub use seq::Seq;
+pub use sink::Sink;
+pub use source::Source;
+pub use std_streams::{StdSink, StdSource};
+pub use sure_streams::{SureSink, SureSource};
+pub use whole::{ReadFault, read_all, write_all};
+
+#[cfg(test)]
+mod stream_tests;
