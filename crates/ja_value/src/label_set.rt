@@ -80,7 +80,7 @@ impl LabelSet {
     pub fn has_below(&self, sites: u32) -> bool
         ensures { result ≡ list_any (labels_in self.now) (labels_below sites) }
     {
-        match self.numbers.first() {
+        match self.numbers.iter().next() {
             Some(number) => *number < 2 * u64::from(sites),
             None => false,
         }
