@@ -1,1 +1,4 @@
+pub mod DigitLemmas
 pub mod LabelLemmas
+pub mod TextLemmas
+pub mod ValueLemmas
