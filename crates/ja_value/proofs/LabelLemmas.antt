@@ -1,13 +1,11 @@
 -- Labels and their numbers, and sets of labels by sets of numbers.
-use Rattle.std.proofs.Common.{◌≡◌, ◌≢◌, ℕ, ◌+◌, ◌*◌, ◌<◌, ◌≤◌, ◌/◌, ◌%◌, Bool, true, false, ◌&&◌, ◌||◌, not, cond, if◌then◌else◌, ◌==◌, nat_lt, List, [], ◌∷◌, ◌++◌, map, filter, refl, ap, sym, ◌∙◌, subst, arith, Some, slice_get, length, ⊎_elim, append-nil, ◌↔◌, suc, zero}
+use Rattle.std.proofs.Common.{◌≡◌, ◌≢◌, ℕ, ◌+◌, ◌*◌, ◌<◌, ◌≤◌, ◌/◌, ◌%◌, Bool, true, false, ◌||◌, cond, nat_lt, List, [], ◌∷◌, ◌++◌, map, filter, refl, ap, sym, ◌∙◌, subst, arith, length, ⊎_elim, append-nil, ◌↔◌, suc, zero}
 use Rattle.std.specs.List.{list_any, range_with_len, flat_map, AllByRecursion}
 use Rattle.std.specs.List.Sorted.{IsStrictlySortedBy}
-use Rattle.std.specs.Ordering.{nat_cmp, is_eq}
-use Rattle.std.specs.declared.cmp.Ordering.{Ordering}
-use Rattle.std.specs.declared.cmp.Ordering.TheVariants.{Less, Equal, Greater}
-use Rattle.std.specs.Bool.{beq}
+use Rattle.std.specs.Ordering.{nat_cmp}
+use Rattle.std.specs.declared.cmp.Ordering.TheVariants.{Less}
 use Rattle.std.specs.BTreeMap.{is_at}
-use Rattle.std.proofs.lemmas.Bool.{le-ltb, lt-ltb, ne_eqb, eq-eqb, cases_order, cases_lt, true≢false}
+use Rattle.std.proofs.lemmas.Bool.{le-ltb, lt-ltb, cases_order, cases_lt, true≢false}
 use Rattle.std.proofs.lemmas.Bool.Decides.{nat_tests}
 use Rattle.std.proofs.lemmas.Cmp.{ranked}
 use Rattle.std.proofs.lemmas.List.{map-append}
@@ -85,10 +83,10 @@ one_label b n = elim b as (λ v. map label_at (cond v (n ∷ []) []) ≡ cond v 
 numbers_list_more : (ks : List ℕ) → IsStrictlySortedBy nat_cmp ks → (n : ℕ) → map label_at (filter (below n) ks) ≡ filter (in_numbers ks) (map label_at (range_with_len 0 n)) → map label_at (filter (below (n + 1)) ks) ≡ filter (in_numbers ks) (map label_at (range_with_len 0 (n + 1)))
 numbers_list_more ks s n rest =
     ap (map label_at) (below_more n ks s)
-        ∙ map-append label_at (filter (below n) ks) (cond (has ks n) (n ∷ []) [])
-        ∙ ap (λ (ls : List Label). ls ++ map label_at (cond (has ks n) (n ∷ []) [])) rest
-        ∙ ap (λ (ls : List Label). filter (in_numbers ks) (map label_at (range_with_len 0 n)) ++ ls) (one_label (has ks n) n ∙ ap (λ (b : Bool). cond b (label_at n ∷ []) []) (ap (has ks) (sym (number_label n))))
-        ∙ sym (filter_of_map_range_with_len_more (in_numbers ks) label_at 0 n n (omega arith))
+    ∙ map-append label_at (filter (below n) ks) (cond (has ks n) (n ∷ []) [])
+    ∙ ap (λ (ls : List Label). ls ++ map label_at (cond (has ks n) (n ∷ []) [])) rest
+    ∙ ap (λ (ls : List Label). filter (in_numbers ks) (map label_at (range_with_len 0 n)) ++ ls) (one_label (has ks n) n ∙ ap (λ (b : Bool). cond b (label_at n ∷ []) []) (ap (has ks) (sym (number_label n))))
+    ∙ sym (filter_of_map_range_with_len_more (in_numbers ks) label_at 0 n n (omega arith))
 
 -- the numbers of a sorted list that are below n, as labels
 pub numbers_list : (ks : List ℕ) → IsStrictlySortedBy nat_cmp ks → (n : ℕ) → map label_at (filter (below n) ks) ≡ filter (in_numbers ks) (map label_at (range_with_len 0 n))

@@ -1,7 +1,6 @@
 -- Texts that differ join to a class.
-use Rattle.std.proofs.Common.{◌≡◌, ℕ, List, true, false, refl, rules, if◌then◌else◌}
+use Rattle.std.proofs.Common.{◌≡◌, ℕ, List, true, false, refl}
 use Rattle.std.specs.Prelude.{nat_eq}
-use Rattle.std.proofs.lemmas.Bool.{iff_false}
 use Rattle.std.proofs.lemmas.Slice.Eq.{bytes_eq-Decides}
 use lib.Pointwise.{pointwise}
 use Rattle.ja_model.specs.declared.abstraction.TextPart.{TextPart}

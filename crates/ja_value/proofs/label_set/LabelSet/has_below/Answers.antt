@@ -1,5 +1,5 @@
 use Rattle.std.proofs.Common.{ap, sym, ◌∙◌, ℕ, ◌*◌, nat_lt}
-use Rattle.ja_value.proofs.LabelLemmas.{listed, labels_apart, no_labels_is, any_by_first, any_of_none}
+use Rattle.ja_value.proofs.LabelLemmas.{any_by_first, any_of_none}
 use Rattle.ja_value.proofs.label_set.LabelSet.has_below.Goals as goal
 
 pub returns-in-Some : goal.returns-in-Some

@@ -1,4 +1,4 @@
-use Rattle.ja_value.proofs.LabelLemmas.{listed, labels_apart, no_labels_is, any_by_first, any_of_none}
+use Rattle.ja_value.proofs.LabelLemmas.{no_labels_is}
 use Rattle.ja_value.proofs.label_set.LabelSet.is_empty.Goals as goal
 
 pub returns : goal.returns

@@ -1,4 +1,4 @@
-use Rattle.ja_value.proofs.LabelLemmas.{listed, labels_apart, no_labels_is, any_by_first, any_of_none}
+use Rattle.ja_value.proofs.LabelLemmas.{labels_apart}
 use Rattle.ja_value.proofs.label_set.LabelSet.join.Goals as goal
 
 pub returns-clause-changed : goal.returns-clause-changed

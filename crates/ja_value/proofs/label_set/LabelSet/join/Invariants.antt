@@ -1,7 +1,4 @@
-use Rattle.std.proofs.Common.{◌≡◌, ◌≢◌, ◌||◌, true, false, ℕ}
-use Rattle.std.specs.BTreeSet.{contains}
-use Rattle.std.specs.Ordering.{nat_cmp}
-use Rattle.ja_value.proofs.LabelLemmas.{has, Joining}
+use Rattle.ja_value.proofs.LabelLemmas.{Joining}
 use Rattle.ja_value.proofs.label_set.LabelSet.join.Given as goal
 
 abbrev pub invariant-loop-number : goal.invariant-loop-number

@@ -1,5 +1,5 @@
 use Rattle.std.proofs.Common.{ap, ℕ, ◌*◌}
-use Rattle.ja_value.proofs.LabelLemmas.{listed, labels_apart, no_labels_is, any_by_first, any_of_none}
+use Rattle.ja_value.proofs.LabelLemmas.{listed}
 use Rattle.ja_value.proofs.label_set.LabelSet.list.Goals as goal
 
 pub returns : goal.returns
