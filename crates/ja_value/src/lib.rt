@@ -16,3 +16,6 @@ pub use texts::{
     widen_text,
 };
 pub use value::{AValue, join_flags, same_flags, widen_flags};
+
+#[cfg(test)]
+mod tests;
