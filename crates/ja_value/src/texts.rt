@@ -12,11 +12,18 @@ use std::alloc::Global;
 /// One more than the greatest array index (ES3 15.4).
 const INDEX_END: u64 = 4_294_967_295;
 
+/// The units of the first and the last decimal digit.
+const DIGIT_ZERO: u16 = 48;
+
+const DIGIT_NINE: u16 = 57;
+
 /// Whether each unit is a decimal digit.
 fn all_digits(units: &[u16]) -> bool
     ensures { result ≡ list_all is_digit units.now }
 {
-    units.iter().all(|unit| 48 <= *unit && *unit <= 57)
+    units
+        .iter()
+        .all(|unit| DIGIT_ZERO <= *unit && *unit <= DIGIT_NINE)
 }
 
 /// The number that up to ten decimal digits write.
@@ -27,7 +34,7 @@ fn digits_value(units: &[u16]) -> u64
 {
     let mut value = 0;
     for unit in units {
-        value = 10 * value + u64::from(*unit - 48);
+        value = 10 * value + u64::from(*unit - DIGIT_ZERO);
     }
     value
 }
@@ -40,7 +47,7 @@ pub fn is_index_text(text: &Text16) -> bool
     if units.is_empty() || units.len() > 10 || !all_digits(units) {
         return false;
     }
-    if units[0] == 48 && units.len() != 1 {
+    if units[0] == DIGIT_ZERO && units.len() != 1 {
         return false;
     }
     digits_value(units) < INDEX_END

@@ -21,6 +21,7 @@ pub struct AValue {
     pub labels: LabelSet,
 }
 
+/// No flag.
 const NO_FLAGS: Flags = Flags {
     absent: false,
     entry: false,
