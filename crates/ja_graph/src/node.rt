@@ -13,9 +13,15 @@ pub struct Attrs {
 #[derive(Drop)]
 pub enum Node {
     /// `dst` is `value`.
-    Const { dst: Reg, value: Primitive },
+    Const {
+        dst: Reg,
+        value: Primitive,
+    },
     /// `dst` is the first object of the scope chain that has the name, or null (10.1.4).
-    FindName { dst: Reg, name: NameId },
+    FindName {
+        dst: Reg,
+        name: NameId,
+    },
     /// `dst` is what `[[Get]]` of the base gives (8.7.1); a null base throws a ReferenceError.
     ReadRef {
         dst: Reg,
@@ -24,7 +30,11 @@ pub enum Node {
         error: Site,
     },
     /// `[[Put]]` on the base, or on the global object where the base is null (8.7.2).
-    WriteRef { base: Reg, name: NameId, src: Reg },
+    WriteRef {
+        base: Reg,
+        name: NameId,
+        src: Reg,
+    },
     /// Calls `callee` (11.2.3); what can't be called throws a TypeError.
     Call {
         dst: Reg,
@@ -33,7 +43,9 @@ pub enum Node {
         error: Site,
     },
     /// Leaves the function with `src`; the program's Return ends the run normally.
-    Return { src: Reg },
+    Return {
+        src: Reg,
+    },
     /// Leaves the function with what was thrown; the program's Escape ends the run as uncaught.
     Escape,
 }

@@ -1,7 +1,6 @@
+use crate::{Attrs, NodeInfo};
 use ja_base::{NameId, Place, Seq, Site};
 use ja_prim::{Primitive, Text16};
-
-use crate::{Attrs, NodeInfo};
 
 /// The class of an object (ES3 8.6.2), which its site fixes.
 #[derive(Clone, Copy, Debug, PartialEq, Eq)]

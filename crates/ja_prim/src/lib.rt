@@ -1,8 +1,8 @@
 //! Primitive values of ES3 (section 8) in the profile: whole numbers and NaN, and texts of 16-bit units.
 #![tactic(auto)]
 
-mod primitive;
 mod int;
+mod primitive;
 mod text16;
 
 pub use int::Int;
