@@ -1,5 +1,5 @@
 -- The tokens of bytes, by what stands first.
-use Rattle.std.proofs.Common.{◌≡◌, ◌≤◌, ◌<◌, ℕ, zero, suc, ◌+◌, ◌-◌, ℤ, Bool, true, false, Option, Some, None, if◌then◌else◌, List, [], ◌∷◌, take, drop, length, get_or, length-take, length-drop, arith, refl, ap, ◌∙◌, sym, add-one, subst}
+use Rattle.std.proofs.Common.{◌≡◌, ◌≤◌, ◌<◌, ℕ, zero, suc, ◌+◌, ◌-◌, ◌==◌, ℤ, Bool, true, false, Option, Some, None, if◌then◌else◌, List, [], ◌∷◌, take, drop, length, get_or, length-take, length-drop, arith, refl, ap, ◌∙◌, sym, add-one, subst}
 use Rattle.std.proofs.lemmas.List.{take_all}
 use Rattle.std.specs.List.{take_while}
 use Rattle.ja_base.specs.declared.ids.Place.{Place}
@@ -84,11 +84,27 @@ word-not_end n (Some v) w e = cc
 word-not_end true None w e = cc
 word-not_end false None w e = cc
 
+either-not_end : (x : Bool) (a b : Symbol) → (a ≡ End → ⊥) → (b ≡ End → ⊥) → (if x then a else b) ≡ End → ⊥
+either-not_end true a b f g = f
+either-not_end false a b f g = g
+
 mark-not_end : (b : ℕ) → mark_symbol b ≡ End → ⊥
-mark-not_end b e = ?
+mark-not_end b = either-not_end (b == 61) _ _ (λ e. cc) (either-not_end (b == 40) _ _ (λ e. cc) (either-not_end (b == 41) _ _ (λ e. cc) (either-not_end (b == 59) _ _ (λ e. cc) (λ e. cc))))
+
+pub first-same : {X : Type 0} {x y : X} {xs ys : List X} → x ∷ xs ≡ y ∷ ys → x ≡ y
+first-same e = cc
+
+pub others-same : {X : Type 0} {x y : X} {xs ys : List X} → x ∷ xs ≡ y ∷ ys → xs ≡ ys
+others-same e = cc
+
+pub symbol-same : {s t : Symbol} {p q : Place} {more others : List Token} → token s p ∷ more ≡ token t q ∷ others → s ≡ t
+symbol-same e = ap (λ (t : Token). t.symbol) (first-same e)
+
+pub place-same : {s t : Symbol} {p q : Place} {more others : List Token} → token s p ∷ more ≡ token t q ∷ others → p ≡ q
+place-same e = ap (λ (t : Token). t.place) (first-same e)
 
 led-goes_on : (s : Symbol) (p : Place) (more : List Token) → (s ≡ End → ⊥) → GoesOn (led s p more)
-led-goes_on s p more n place others e = n cc
+led-goes_on s p more n place others e = n (symbol-same e)
 
 pub some-left : (p : Place) (bytes : List ℕ) → 1 ≤ length bytes → IsShown bytes → GoesOn (tokens_from p bytes)
 some-left p [] h s = absurd (omega arith)

@@ -9,7 +9,7 @@ ghost use Rattle.ja_parse.specs.Reading.{IsNotEmpty, IsEnding, IsClosing, IsBehi
 
 use crate::fault::ParseFault;
 use crate::lexer::Lexer;
-use crate::token::Symbol;
+use crate::token::{Symbol, Token};
 use crate::tree::{Operand, Statement, Target};
 use ja_base::{Place, Seq};
 use ja_prim::Text16;
@@ -27,10 +27,10 @@ fn read_semicolon(alloc: Global, lexer: &mut Lexer<'_>) -> Result<Place, ParseFa
     ensures taken { IfOk result (λ stop. spec.tokens_from lexer.old.place lexer.old.rest.now ≡ spec.token symbol.Semicolon stop ∷ spec.tokens_from lexer.new.place lexer.new.rest.now) }
     ensures fault { IfErr result (Refuses IsEnding (spec.tokens_from lexer.old.place lexer.old.rest.now)) }
 {
-    let token = lexer.next_token(alloc)?;
-    match token.symbol {
-        Symbol::Semicolon => Ok(token.place),
-        _ => Err(ParseFault::Unbuilt { place: token.place }),
+    let Token { symbol, place: at } = lexer.next_token(alloc)?;
+    match symbol {
+        Symbol::Semicolon => Ok(at),
+        _ => Err(ParseFault::Unbuilt { place: at }),
     }
 }
 
@@ -39,13 +39,13 @@ fn read_closing(alloc: Global, lexer: &mut Lexer<'_>) -> Result<(), ParseFault>
     ensures taken { OnOk result ((close : PlaceOf) × (stop : PlaceOf) × (spec.tokens_from lexer.old.place lexer.old.rest.now ≡ spec.token symbol.Close close ∷ spec.token symbol.Semicolon stop ∷ spec.tokens_from lexer.new.place lexer.new.rest.now)) }
     ensures fault { IfErr result (Refuses IsClosing (spec.tokens_from lexer.old.place lexer.old.rest.now)) }
 {
-    let token = lexer.next_token(alloc)?;
-    match token.symbol {
+    let Token { symbol, place: at } = lexer.next_token(alloc)?;
+    match symbol {
         Symbol::Close => {
             let _stop = read_semicolon(alloc, lexer)?;
             Ok(())
         }
-        _ => Err(ParseFault::Unbuilt { place: token.place }),
+        _ => Err(ParseFault::Unbuilt { place: at }),
     }
 }
 
@@ -54,23 +54,23 @@ fn read_behind_name(alloc: Global, lexer: &mut Lexer<'_>, name: Text16, place: P
     ensures part { IfOk result (λ part. IsPart (spec.token (symbol.Name name) place ∷ spec.tokens_from lexer.old.place lexer.old.rest.now) part (spec.tokens_from lexer.new.place lexer.new.rest.now)) }
     ensures fault { IfErr result (Refuses IsBehindName (spec.tokens_from lexer.old.place lexer.old.rest.now)) }
 {
-    let mark = lexer.next_token(alloc)?;
-    match mark.symbol {
+    let Token { symbol, place: at } = lexer.next_token(alloc)?;
+    match symbol {
         Symbol::Assign => Ok(Part::Target(Target {
             name,
             place,
-            assign: mark.place,
+            assign: at,
         })),
         Symbol::Open => {
             read_closing(alloc, lexer)?;
             Ok(Part::Operand(Operand::Call {
                 name,
                 place,
-                bracket: mark.place,
+                bracket: at,
             }))
         }
         Symbol::Semicolon => Ok(Part::Operand(Operand::Name { name, place })),
-        _ => Err(ParseFault::Unbuilt { place: mark.place }),
+        _ => Err(ParseFault::Unbuilt { place: at }),
     }
 }
 
@@ -79,20 +79,20 @@ fn read_part(alloc: Global, lexer: &mut Lexer<'_>) -> Result<Part, ParseFault>
     ensures part { IfOk result (λ part. IsPart (spec.tokens_from lexer.old.place lexer.old.rest.now) part (spec.tokens_from lexer.new.place lexer.new.rest.now)) }
     ensures fault { IfErr result (Refuses IsNotEmpty (spec.tokens_from lexer.old.place lexer.old.rest.now)) }
 {
-    let head = lexer.next_token(alloc)?;
-    match head.symbol {
+    let Token { symbol, place: at } = lexer.next_token(alloc)?;
+    match symbol {
         Symbol::Number(value) => {
             let _stop = read_semicolon(alloc, lexer)?;
             Ok(Part::Operand(Operand::Number {
                 value,
-                place: head.place,
+                place: at,
             }))
         }
         Symbol::Name(name) => {
-            let part = read_behind_name(alloc, lexer, name, head.place)?;
+            let part = read_behind_name(alloc, lexer, name, at)?;
             Ok(part)
         }
-        _ => Err(ParseFault::Unbuilt { place: head.place }),
+        _ => Err(ParseFault::Unbuilt { place: at }),
     }
 }
 
