@@ -1,5 +1,5 @@
 -- The number that digits write grows with each digit, so a beginning that is too large decides.
-use Rattle.std.proofs.Common.{◌≡◌, ◌≤◌, ◌<◌, ℕ, ◌+◌, ◌-◌, ◌*◌, Some, None, List, [], ◌∷◌, drop, length, get_or, drop-cons, add-one, arith, refl, ap, ◌∙◌, sym}
+use Rattle.std.proofs.Common.{◌≡◌, ◌≤◌, ◌<◌, ℕ, ◌+◌, ◌-◌, ◌*◌, None, List, [], ◌∷◌, drop, length, get_or, drop-cons, add-one, arith, refl, ◌∙◌, sym}
 use Rattle.std.proofs.lemmas.Bool.Decides.{nat_tests}
 use Rattle.ja_prim.specs.Index.{digits_value}
 use Rattle.ja_parse.specs.Words.{value}

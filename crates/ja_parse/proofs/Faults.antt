@@ -1,5 +1,5 @@
 -- Where a token is wrong within a statement: at once, or behind the tokens that are read.
-use Rattle.std.proofs.Common.{◌≡◌, ◌⊎◌, ℤ, ℕ, List, [], ◌∷◌, ◌++◌, refl, ◌∙◌, sym, ap, subst, inl, inr}
+use Rattle.std.proofs.Common.{◌≡◌, ℤ, ℕ, List, [], ◌∷◌, refl, ◌∙◌, sym, ap, subst, inl, inr}
 use Rattle.ja_base.specs.declared.ids.Place.{Place}
 use Rattle.ja_parse.specs.declared.token.Symbol.{Symbol}
 use Rattle.ja_parse.specs.declared.token.Symbol.TheVariants as symbol

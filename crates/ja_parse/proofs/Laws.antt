@@ -1,5 +1,5 @@
 -- Laws of the grammar: a statement is known by its tokens, and a wrong token behind what is read is one of the text.
-use Rattle.std.proofs.Common.{◌≡◌, ◌⊎◌, ℕ, ◌≤◌, ◌<◌, ◌+◌, ℤ, pos, List, [], ◌∷◌, ◌++◌, length, append_assoc, refl, ap, ◌∙◌, sym, subst, inl, inr, arith, length-append}
+use Rattle.std.proofs.Common.{◌≡◌, ℕ, ℤ, pos, List, [], ◌∷◌, ◌++◌, append_assoc, refl, ap, ◌∙◌, sym, subst, inl, inr}
 use Rattle.ja_base.specs.declared.ids.Place.{Place}
 use Rattle.ja_parse.specs.declared.token.Symbol.{Symbol}
 use Rattle.ja_parse.specs.declared.token.Symbol.TheVariants as symbol
@@ -10,10 +10,11 @@ use Rattle.ja_parse.specs.declared.tree.Target.{Target}
 use Rattle.ja_parse.specs.declared.tree.Statement.{Statement}
 use Rattle.ja_parse.specs.declared.fault.ParseFault.{ParseFault}
 use Rattle.ja_parse.specs.declared.fault.ParseFault.TheVariants.{Unbuilt, Memory}
-use Rattle.ja_parse.specs.Tokens.{place_at, token, tokens, GoesOn}
+use Rattle.ja_parse.specs.declared.parser.Part.TheVariants as part
+use Rattle.ja_parse.specs.Tokens.{place_at, token, GoesOn}
 use Rattle.ja_parse.specs.Grammar.{operand_tokens, expression_tokens, statement_tokens, SpellsUpTo, AreTokensOf}
 use Rattle.ja_parse.specs.Refusal.{IsText, FirstWrong, Refuses}
-use Rattle.ja_parse.specs.Reading.{IsNotEmpty, IsEnding, IsClosing, IsBehindName, targets_tokens}
+use Rattle.ja_parse.specs.Reading.{IsNotEmpty, IsEnding, IsClosing, IsBehindName, IsPart, targets_tokens}
 use Rattle.ja_parse.proofs.Steps.{symbol-same, place-same, first-same, others-same}
 
 abbrev Tokens : Type 0
@@ -251,3 +252,23 @@ not_empty-wrong i (Unbuilt place) g w = record {
   before = (w.before.0, not_empty-text _ w.before.1);
   here = λ more h. w.here more (text-not_empty _ (goes_on-along w.front w.wrong w.back more (subst GoesOn w.split g)) h);
 }
+
+-- ---- the loops' steps
+
+pub targets-more : (us vs : List Target) (u : Target) (i j k : Tokens) → i ≡ targets_tokens us ++ j → j ≡ targets_tokens (u ∷ []) ++ k → vs ≡ us ++ u ∷ [] → i ≡ targets_tokens vs ++ k
+targets-more us vs u i j k e f g = e ∙ ap (λ ts. targets_tokens us ++ ts) f ∙ sym (targets-push us u k) ∙ ap (λ ts. targets_tokens ts ++ k) (sym g)
+
+pub targets-end : (us vs : List Target) (o : Operand) (i j k : Tokens) → i ≡ targets_tokens us ++ j → IsPart j (part.Operand o) k → vs ≡ us
+    → (close : Place) × (stop : Place) × (i ≡ statement_tokens close stop (statement vs o) ++ k)
+targets-end us vs o i j k e (close, stop, f) g =
+    (close, stop, e ∙ ap (λ ts. targets_tokens us ++ ts) f ∙ targets-whole us o close stop k ∙ ap (λ ts. statement_tokens close stop (statement ts o) ++ k) (sym g))
+
+pub statement-more : (ss xs : List Statement) (s : Statement) (i j k m : Tokens) → SpellsUpTo i ss j → k ≡ j
+    → (close : Place) × (stop : Place) × (k ≡ statement_tokens close stop s ++ m) → xs ≡ ss ++ s ∷ [] → SpellsUpTo i xs m
+statement-more ss xs s i j k m h e (close, stop, f) g = subst (λ (ys : List Statement). SpellsUpTo i ys m) (sym g) (upto-push ss s close stop i j m h (sym e ∙ f))
+
+pub statement-wrong : (ss : List Statement) (i j k : Tokens) (fault : ParseFault) → SpellsUpTo i ss j → k ≡ j → GoesOn k → Refuses IsNotEmpty k fault → Refuses IsText i fault
+statement-wrong ss i j k fault h e g w = upto-wrong ss i j fault h (subst (λ (ts : Tokens). Refuses IsText ts fault) e (not_empty-wrong k fault g w))
+
+pub end-only : (ss xs others : List Statement) (i j k : Tokens) (p : Place) → SpellsUpTo i ss j → k ≡ j → k ≡ token symbol.End p ∷ [] → xs ≡ ss → AreTokensOf i others → others ≡ xs
+end-only ss xs others i j k p h e f g (q, t) = upto-only ss others i p q (subst (λ (ts : Tokens). SpellsUpTo i ss ts) (sym e ∙ f) h) t ∙ sym g

@@ -1,5 +1,5 @@
 -- The tokens of bytes, by what stands first.
-use Rattle.std.proofs.Common.{◌≡◌, ◌≤◌, ◌<◌, ℕ, zero, suc, ◌+◌, ◌-◌, ◌==◌, ℤ, Bool, true, false, Option, Some, None, if◌then◌else◌, List, [], ◌∷◌, take, drop, length, get_or, length-take, length-drop, arith, refl, ap, ◌∙◌, sym, add-one, subst}
+use Rattle.std.proofs.Common.{◌≡◌, ◌≤◌, ◌<◌, ℕ, zero, suc, ◌+◌, ◌-◌, ◌==◌, ℤ, Bool, true, false, Option, Some, None, if◌then◌else◌, List, [], ◌∷◌, take, drop, length, get_or, length-take, length-drop, arith, refl, ap, ◌∙◌}
 use Rattle.std.proofs.lemmas.List.{take_all}
 use Rattle.std.specs.List.{take_while}
 use Rattle.ja_base.specs.declared.ids.Place.{Place}

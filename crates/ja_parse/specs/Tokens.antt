@@ -1,9 +1,9 @@
 -- The tokens of a text.
-use Rattle.std.specs.Prelude.{◌≡◌, ℕ, zero, suc, ◌+◌, Bool, true, false, ◌||◌, ◌==◌, if◌then◌else◌, List, [], ◌∷◌, length, drop}
+use Rattle.std.specs.Prelude.{◌≡◌, ℕ, zero, suc, ◌+◌, Bool, false, ◌||◌, ◌==◌, if◌then◌else◌, List, [], ◌∷◌, length, drop}
 use Rattle.std.specs.List.{take_while}
 use Rattle.ja_base.specs.declared.ids.Place.{Place}
 use Rattle.ja_parse.specs.declared.token.Symbol.{Symbol}
-use Rattle.ja_parse.specs.declared.token.Symbol.TheVariants.{Number, Name, Assign, Open, Close, Semicolon, Refused, End}
+use Rattle.ja_parse.specs.declared.token.Symbol.TheVariants.{Refused, End}
 use Rattle.ja_parse.specs.declared.token.Token.{Token}
 use Rattle.ja_parse.specs.Words.{is_name_byte, word_symbol, mark_symbol}
 

@@ -1,4 +1,3 @@
-use Rattle.std.proofs.Common.{◌≡◌}
 use Rattle.std.proofs.lemmas.Result.{err_from_is_err_and}
 use Rattle.ja_parse.proofs.Faults.{behind_name-wrong, call-behind}
 use Rattle.ja_parse.proofs.parser.read_behind_name.Goals as goal

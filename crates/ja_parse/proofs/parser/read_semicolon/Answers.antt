@@ -1,4 +1,3 @@
-use Rattle.std.proofs.Common.{◌≡◌}
 use Rattle.ja_parse.proofs.Faults.{ending-wrong}
 use Rattle.ja_parse.proofs.parser.read_semicolon.Goals as goal
 use Rattle.ja_parse.proofs.parser.read_semicolon.Goals.{in-Semicolon, in_default}

@@ -1,4 +1,4 @@
-use Rattle.std.proofs.Common.{◌≡◌, ◌<◌, ◌+◌, ◌-◌, ◌*◌, get_or, arith}
+use Rattle.std.proofs.Common.{arith}
 use Rattle.ja_parse.proofs.Digits.{value-too_large}
 use Rattle.ja_parse.proofs.words.value.Goals as goal
 

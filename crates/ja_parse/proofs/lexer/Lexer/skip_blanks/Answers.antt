@@ -1,5 +1,5 @@
 use Rattle.std.proofs.Common.{◌≡◌, true, get_or, ◌∙◌, sym}
-use Rattle.ja_parse.specs.Tokens.{is_blank, after, tokens_from}
+use Rattle.ja_parse.specs.Tokens.{is_blank}
 use Rattle.ja_parse.proofs.Steps.{blank-first}
 use Rattle.ja_parse.proofs.lexer.Lexer.skip_blanks.Goals as goal
 

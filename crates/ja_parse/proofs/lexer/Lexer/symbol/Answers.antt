@@ -1,4 +1,4 @@
-use Rattle.std.proofs.Common.{◌≡◌, true, false, get_or, ◌∙◌, sym}
+use Rattle.std.proofs.Common.{◌≡◌, true, false, get_or}
 use Rattle.ja_parse.specs.Words.{is_name_byte}
 use Rattle.ja_parse.proofs.Steps.{none-left, word-first, mark-first}
 use Rattle.ja_parse.proofs.lexer.Lexer.symbol.Goals as goal
