@@ -1,5 +1,5 @@
 -- Laws of the grammar: a statement is known by its tokens, and a wrong token behind what is read is one of the text.
-use Rattle.std.proofs.Common.{◌≡◌, ℕ, ℤ, pos, List, [], ◌∷◌, ◌++◌, append_assoc, refl, ap, ◌∙◌, sym, subst, inl, inr}
+use Rattle.std.proofs.Common.{◌+◌, ◌≡◌, ℕ, ℤ, pos, List, [], ◌∷◌, ◌++◌, append_assoc, refl, ap, ◌∙◌, sym, subst, inl, inr}
 use Rattle.ja_base.specs.declared.ids.Place.{Place}
 use Rattle.ja_parse.specs.declared.token.Symbol.{Symbol}
 use Rattle.ja_parse.specs.declared.token.Symbol.TheVariants as symbol
@@ -11,10 +11,9 @@ use Rattle.ja_parse.specs.declared.tree.Statement.{Statement}
 use Rattle.ja_parse.specs.declared.fault.ParseFault.{ParseFault}
 use Rattle.ja_parse.specs.declared.fault.ParseFault.TheVariants.{Unbuilt, Memory}
 use Rattle.ja_parse.specs.declared.parser.Part.TheVariants as part
-use Rattle.ja_parse.specs.Tokens.{place_at, token, GoesOn}
+use Rattle.ja_parse.specs.Tokens.{place_at, token, tokens_within, tokens_from, GoesOn}
 use Rattle.ja_parse.specs.Grammar.{operand_tokens, expression_tokens, statement_tokens, SpellsUpTo, AreTokensOf}
-use Rattle.ja_parse.specs.Refusal.{IsText, FirstWrong, Refuses}
-use Rattle.ja_parse.specs.Reading.{IsNotEmpty, IsEnding, IsClosing, IsBehindName, IsPart, targets_tokens}
+use Rattle.ja_parse.specs.Reading.{WrongToken, Refuses, IsWhole, IsNotEmpty, IsEnding, IsClosing, IsBehindName, IsPart, targets_tokens}
 use Rattle.ja_parse.proofs.Steps.{symbol-same, place-same, first-same, others-same}
 
 abbrev Tokens : Type 0
@@ -26,47 +25,33 @@ statement ts operand = record { targets = ts; operand = operand }
 -- ---- a wrong token behind c
 
 pub under : (P Q : Tokens → Type 0) (c i : Tokens) (place : Place) → ((j : Tokens) → P j → Q (c ++ j)) → ((j : Tokens) → Q (c ++ j) → P j)
-    → FirstWrong P i place → FirstWrong Q (c ++ i) place
+    → WrongToken P i place → WrongToken Q (c ++ i) place
 under P Q c i place on back w = record {
   front = c ++ w.front;
   wrong = w.wrong;
   back = w.back;
   split = ap (λ ts. c ++ ts) w.split ∙ sym (append_assoc c w.front (w.wrong ∷ w.back));
   stands = w.stands;
-  before = (w.before.0, subst Q (sym (append_assoc c w.front w.before.0)) (on _ w.before.1));
+  before = (w.before.0, λ p. subst Q (sym (append_assoc c w.front (tokens_from p (32 ∷ w.before.0)))) (on _ (w.before.1 p)));
   here = λ more h. w.here more (back _ (subst Q (append_assoc c w.front (w.wrong ∷ more)) h));
 }
 
-pub at_once : (P : Tokens → Type 0) (t : Token) (back : Tokens) → (more : Tokens) × P more → ((more : Tokens) → P (t ∷ more) → ⊥) → FirstWrong P (t ∷ back) t.place
+pub at_once : (P : Tokens → Type 0) (t : Token) (back : Tokens) → (rest : List ℕ) × ((p : Place) → P (tokens_from p (32 ∷ rest))) → ((more : Tokens) → P (t ∷ more) → ⊥) → WrongToken P (t ∷ back) t.place
 at_once P t back some none_here = record { front = []; wrong = t; back = back; split = refl; stands = refl; before = some; here = none_here }
-
--- ---- the shortest ways on
 
 abbrev origin : Place
 origin = place_at 1 1
 
-abbrev pub last_end : (end : Place) → IsText (token symbol.End end ∷ [])
+abbrev pub last_end : (end : Place) → IsWhole (token symbol.End end ∷ [])
 last_end end = ([], (end, refl))
-
-abbrev pub some_ending : (more : Tokens) × IsEnding more
-some_ending = (token symbol.Semicolon origin ∷ token symbol.End origin ∷ [], (origin, token symbol.End origin ∷ [], refl, last_end origin))
-
-abbrev pub some_closing : (more : Tokens) × IsClosing more
-some_closing = (token symbol.Close origin ∷ some_ending.0, (origin, some_ending.0, refl, some_ending.1))
-
-abbrev pub some_behind_name : (more : Tokens) × IsBehindName more
-some_behind_name = (some_ending.0, inr (inr some_ending.1))
 
 -- ---- a number, a name and what stands behind
 
 pub number-on : (n : ℤ) (p : Place) (j : Tokens) → IsEnding j → IsNotEmpty (token (symbol.Number n) p ∷ j)
 number-on n p j (stop, more, e, t) = (statement [] (operand.Number n p), origin, stop, more, ap (λ ts. token (symbol.Number n) p ∷ ts) e, t)
 
-abbrev pub some_not_empty : (more : Tokens) × IsNotEmpty more
-some_not_empty = (token (symbol.Number (pos 0)) origin ∷ some_ending.0, number-on (pos 0) origin some_ending.0 some_ending.1)
-
 number-back-by : (n : ℤ) (p close stop : Place) (ts : List Target) (o : Operand) (j more : Tokens)
-    → token (symbol.Number n) p ∷ j ≡ (expression_tokens close ts o ++ token symbol.Semicolon stop ∷ []) ++ more → IsText more → IsEnding j
+    → token (symbol.Number n) p ∷ j ≡ (expression_tokens close ts o ++ token symbol.Semicolon stop ∷ []) ++ more → IsWhole more → IsEnding j
 number-back-by n p close stop [] (operand.Number m q) j more e t = (stop, more, others-same e, t)
 number-back-by n p close stop [] (operand.Name m q) j more e t = absurd (cc (symbol-same e))
 number-back-by n p close stop [] (operand.Call m q b) j more e t = absurd (cc (symbol-same e))
@@ -79,13 +64,18 @@ pub name-on : (n : List ℕ) (p : Place) (j : Tokens) → IsBehindName j → IsN
 name-on n p j (inl (assign, more, e, (s, close, stop, others, f, t))) =
     let u : Target = record { name = n; place = p; assign = assign } in
     (statement (u ∷ s.targets) s.operand, close, stop, others, ap (λ ts. token (symbol.Name n) p ∷ ts) (e ∙ ap (λ ts. token symbol.Assign assign ∷ ts) f), t)
-name-on n p j (inr (inl (bracket, more, e, (close, others, f, (stop, last, g, t))))) =
-    (statement [] (operand.Call n p bracket), close, stop, last,
-        ap (λ ts. token (symbol.Name n) p ∷ ts) (e ∙ ap (λ ts. token symbol.Open bracket ∷ ts) (f ∙ ap (λ ts. token symbol.Close close ∷ ts) g)), t)
+name-on n p j (inr (inl (bracket, more, e, (close, others, f, (stop, last, g, t))))) = (
+  statement [] (operand.Call n p bracket),
+  close,
+  stop,
+  last,
+  ap (λ ts. token (symbol.Name n) p ∷ ts) (e ∙ ap (λ ts. token symbol.Open bracket ∷ ts) (f ∙ ap (λ ts. token symbol.Close close ∷ ts) g)),
+  t,
+)
 name-on n p j (inr (inr (stop, more, e, t))) = (statement [] (operand.Name n p), origin, stop, more, ap (λ ts. token (symbol.Name n) p ∷ ts) e, t)
 
 name-back-by : (n : List ℕ) (p close stop : Place) (ts : List Target) (o : Operand) (j more : Tokens)
-    → token (symbol.Name n) p ∷ j ≡ (expression_tokens close ts o ++ token symbol.Semicolon stop ∷ []) ++ more → IsText more → IsBehindName j
+    → token (symbol.Name n) p ∷ j ≡ (expression_tokens close ts o ++ token symbol.Semicolon stop ∷ []) ++ more → IsWhole more → IsBehindName j
 name-back-by n p close stop [] (operand.Number m q) j more e t = absurd (cc (symbol-same e))
 name-back-by n p close stop [] (operand.Name m q) j more e t = inr (inr (stop, more, others-same e, t))
 name-back-by n p close stop [] (operand.Call m q b) j more e t =
@@ -106,6 +96,37 @@ other-back-by k p close stop (u ∷ us) o j more f g e = g u.name (symbol-same e
 
 pub other-back : (k : Symbol) (p : Place) (j : Tokens) → ((n : ℤ) → k ≡ symbol.Number n → ⊥) → ((n : List ℕ) → k ≡ symbol.Name n → ⊥) → IsNotEmpty (token k p ∷ j) → ⊥
 other-back k p j f g (s, close, stop, more, e, t) = other-back-by k p close stop s.targets s.operand j more f g e
+
+-- ---- the shortest ways on: `;`, `);` and `0;`
+
+ending-tokens : (p : Place) → tokens_from p (32 ∷ 59 ∷ []) ≡ token symbol.Semicolon (place_at p.line (p.column + 1)) ∷ token symbol.End (place_at p.line (p.column + 1 + 1)) ∷ []
+unfolding tokens_from tokens_within
+ending-tokens p = refl
+
+closing-tokens : (p : Place)
+    → tokens_from p (32 ∷ 41 ∷ 59 ∷ []) ≡ token symbol.Close (place_at p.line (p.column + 1)) ∷ token symbol.Semicolon (place_at p.line (p.column + 1 + 1)) ∷ token symbol.End (place_at p.line (p.column + 1 + 1 + 1)) ∷ []
+unfolding tokens_from tokens_within
+closing-tokens p = refl
+
+number-tokens : (p : Place)
+    → tokens_from p (32 ∷ 48 ∷ 59 ∷ []) ≡ token (symbol.Number (pos 0)) (place_at p.line (p.column + 1)) ∷ token symbol.Semicolon (place_at p.line (p.column + 1 + 1)) ∷ token symbol.End (place_at p.line (p.column + 1 + 1 + 1)) ∷ []
+unfolding tokens_from tokens_within
+number-tokens p = refl
+
+ending-at : (p q : Place) → IsEnding (token symbol.Semicolon p ∷ token symbol.End q ∷ [])
+ending-at p q = (p, token symbol.End q ∷ [], refl, last_end q)
+
+pub some_ending : (rest : List ℕ) × ((p : Place) → IsEnding (tokens_from p (32 ∷ rest)))
+some_ending = (59 ∷ [], λ p. subst IsEnding (sym (ending-tokens p)) (ending-at _ _))
+
+pub some_closing : (rest : List ℕ) × ((p : Place) → IsClosing (tokens_from p (32 ∷ rest)))
+some_closing = (41 ∷ 59 ∷ [], λ p. subst IsClosing (sym (closing-tokens p)) (place_at p.line (p.column + 1), _, refl, ending-at _ _))
+
+pub some_behind_name : (rest : List ℕ) × ((p : Place) → IsBehindName (tokens_from p (32 ∷ rest)))
+some_behind_name = (59 ∷ [], λ p. inr (inr (subst IsEnding (sym (ending-tokens p)) (ending-at _ _))))
+
+pub some_not_empty : (rest : List ℕ) × ((p : Place) → IsNotEmpty (tokens_from p (32 ∷ rest)))
+some_not_empty = (48 ∷ 59 ∷ [], λ p. subst IsNotEmpty (sym (number-tokens p)) (number-on (pos 0) _ _ (ending-at _ _)))
 
 -- ---- behind targets
 
@@ -193,7 +214,7 @@ statement-same c d s t x y j k e =
 
 -- ---- texts
 
-pub text-on : (close stop : Place) (s : Statement) (j : Tokens) → IsText j → IsText (statement_tokens close stop s ++ j)
+pub text-on : (close stop : Place) (s : Statement) (j : Tokens) → IsWhole j → IsWhole (statement_tokens close stop s ++ j)
 text-on close stop s j (ss, (end, h)) = (s ∷ ss, (end, (close, stop, j, refl, h)))
 
 not_end-by : (close stop end : Place) (ts : List Target) (o : Operand) (j more : Tokens)
@@ -203,7 +224,7 @@ not_end-by close stop end [] (operand.Name m q) j more e = cc (symbol-same e)
 not_end-by close stop end [] (operand.Call m q b) j more e = cc (symbol-same e)
 not_end-by close stop end (u ∷ us) o j more e = cc (symbol-same e)
 
-pub text-back : (close stop : Place) (s : Statement) (j : Tokens) → IsText (statement_tokens close stop s ++ j) → IsText j
+pub text-back : (close stop : Place) (s : Statement) (j : Tokens) → IsWhole (statement_tokens close stop s ++ j) → IsWhole j
 text-back close stop s j ([], (end, h)) = absurd (not_end-by close stop end s.targets s.operand j [] h)
 text-back close stop s j (x ∷ xs, (end, (d, t, more, e, h))) =
     (xs, (end, subst (λ (ts : Tokens). SpellsUpTo ts xs (token symbol.End end ∷ [])) (statement-same close d stop t s x j more e).1 h))
@@ -212,12 +233,12 @@ pub upto-push : (ss : List Statement) (s : Statement) (close stop : Place) (i j 
 upto-push [] s close stop i j k h e = (close, stop, k, h ∙ e, refl)
 upto-push (x ∷ xs) s close stop i j k (d, t, more, f, h) e = (d, t, more, f, upto-push xs s close stop more j k h e)
 
-pub upto-wrong : (ss : List Statement) (i j : Tokens) (fault : ParseFault) → SpellsUpTo i ss j → Refuses IsText j fault → Refuses IsText i fault
+pub upto-wrong : (ss : List Statement) (i j : Tokens) (fault : ParseFault) → SpellsUpTo i ss j → Refuses IsWhole j fault → Refuses IsWhole i fault
 upto-wrong ss i j Memory h w = tt
-upto-wrong [] i j (Unbuilt place) h w = subst (λ (ts : Tokens). FirstWrong IsText ts place) (sym h) w
+upto-wrong [] i j (Unbuilt place) h w = subst (λ (ts : Tokens). WrongToken IsWhole ts place) (sym h) w
 upto-wrong (x ∷ xs) i j (Unbuilt place) (close, stop, more, e, h) w =
-    subst (λ (ts : Tokens). FirstWrong IsText ts place) (sym e)
-    (under IsText IsText (statement_tokens close stop x) more place (text-on close stop x) (text-back close stop x) (upto-wrong xs more j (Unbuilt place) h w))
+    subst (λ (ts : Tokens). WrongToken IsWhole ts place) (sym e)
+    (under IsWhole IsWhole (statement_tokens close stop x) more place (text-on close stop x) (text-back close stop x) (upto-wrong xs more j (Unbuilt place) h w))
 
 pub upto-only : (ss others : List Statement) (i : Tokens) (p q : Place) → SpellsUpTo i ss (token symbol.End p ∷ []) → SpellsUpTo i others (token symbol.End q ∷ []) → others ≡ ss
 upto-only [] [] i p q h k = refl
@@ -230,10 +251,10 @@ upto-only (x ∷ xs) (y ∷ ys) i p q (c, s, j, e, h) (d, t, m, f, k) =
 
 -- ---- a text that is not empty
 
-not_empty-text : (i : Tokens) → IsNotEmpty i → IsText i
-not_empty-text i (s, close, stop, more, e, t) = subst IsText (sym e) (text-on close stop s more t)
+not_empty-text : (i : Tokens) → IsNotEmpty i → IsWhole i
+not_empty-text i (s, close, stop, more, e, t) = subst IsWhole (sym e) (text-on close stop s more t)
 
-text-not_empty : (i : Tokens) → GoesOn i → IsText i → IsNotEmpty i
+text-not_empty : (i : Tokens) → GoesOn i → IsWhole i → IsNotEmpty i
 text-not_empty i g ([], (end, h)) = absurd (g end [] h)
 text-not_empty i g (s ∷ ss, (end, (close, stop, more, e, h))) = (s, close, stop, more, e, (ss, (end, h)))
 
@@ -241,7 +262,7 @@ goes_on-along : (front : Tokens) (t : Token) (back more : Tokens) → GoesOn (fr
 goes_on-along [] t back more g place others e = g place back (ap (λ z. z ∷ back) (first-same e))
 goes_on-along (x ∷ xs) t back more g place others e = g place (xs ++ t ∷ back) (ap (λ z. z ∷ (xs ++ t ∷ back)) (first-same e))
 
-pub not_empty-wrong : (i : Tokens) (fault : ParseFault) → GoesOn i → Refuses IsNotEmpty i fault → Refuses IsText i fault
+pub not_empty-wrong : (i : Tokens) (fault : ParseFault) → GoesOn i → Refuses IsNotEmpty i fault → Refuses IsWhole i fault
 not_empty-wrong i Memory g w = tt
 not_empty-wrong i (Unbuilt place) g w = record {
   front = w.front;
@@ -249,7 +270,7 @@ not_empty-wrong i (Unbuilt place) g w = record {
   back = w.back;
   split = w.split;
   stands = w.stands;
-  before = (w.before.0, not_empty-text _ w.before.1);
+  before = (w.before.0, λ p. not_empty-text _ (w.before.1 p));
   here = λ more h. w.here more (text-not_empty _ (goes_on-along w.front w.wrong w.back more (subst GoesOn w.split g)) h);
 }
 
@@ -267,8 +288,8 @@ pub statement-more : (ss xs : List Statement) (s : Statement) (i j k m : Tokens)
     → (close : Place) × (stop : Place) × (k ≡ statement_tokens close stop s ++ m) → xs ≡ ss ++ s ∷ [] → SpellsUpTo i xs m
 statement-more ss xs s i j k m h e (close, stop, f) g = subst (λ (ys : List Statement). SpellsUpTo i ys m) (sym g) (upto-push ss s close stop i j m h (sym e ∙ f))
 
-pub statement-wrong : (ss : List Statement) (i j k : Tokens) (fault : ParseFault) → SpellsUpTo i ss j → k ≡ j → GoesOn k → Refuses IsNotEmpty k fault → Refuses IsText i fault
-statement-wrong ss i j k fault h e g w = upto-wrong ss i j fault h (subst (λ (ts : Tokens). Refuses IsText ts fault) e (not_empty-wrong k fault g w))
+pub statement-wrong : (ss : List Statement) (i j k : Tokens) (fault : ParseFault) → SpellsUpTo i ss j → k ≡ j → GoesOn k → Refuses IsNotEmpty k fault → Refuses IsWhole i fault
+statement-wrong ss i j k fault h e g w = upto-wrong ss i j fault h (subst (λ (ts : Tokens). Refuses IsWhole ts fault) e (not_empty-wrong k fault g w))
 
 pub end-only : (ss xs others : List Statement) (i j k : Tokens) (p : Place) → SpellsUpTo i ss j → k ≡ j → k ≡ token symbol.End p ∷ [] → xs ≡ ss → AreTokensOf i others → others ≡ xs
 end-only ss xs others i j k p h e f g (q, t) = upto-only ss others i p q (subst (λ (ts : Tokens). SpellsUpTo i ss ts) (sym e ∙ f) h) t ∙ sym g

@@ -25,16 +25,16 @@ enough (suc n) (suc m) p (b ∷ bs) h k =
     choose (is_blank b)
     (λ _. enough n m (after p b) bs (omega arith) (omega arith))
     (λ _. choose (is_name_byte b)
-        (λ y. let w : 0 < length (take_while is_name_byte (b ∷ bs)) = word-not_empty is_name_byte b bs y in
-            ap (λ ts. led (word_symbol (take_while is_name_byte (b ∷ bs))) p ts)
-            (enough n m (place_at p.line (p.column + length (take_while is_name_byte (b ∷ bs)))) (drop (length (take_while is_name_byte (b ∷ bs))) (b ∷ bs))
-                (simp length-drop (omega arith)) (simp length-drop (omega arith))))
-        (λ _. ap (λ ts. led (mark_symbol b) p ts) (enough n m (after p b) bs (omega arith) (omega arith))))
+    (λ y. let w : 0 < length (take_while is_name_byte (b ∷ bs)) = word-not_empty is_name_byte b bs y in
+    ap (λ ts. led (word_symbol (take_while is_name_byte (b ∷ bs))) p ts)
+    (enough n m (place_at p.line (p.column + length (take_while is_name_byte (b ∷ bs)))) (drop (length (take_while is_name_byte (b ∷ bs))) (b ∷ bs))
+    (simp length-drop (omega arith)) (simp length-drop (omega arith))))
+    (λ _. ap (λ ts. led (mark_symbol b) p ts) (enough n m (after p b) bs (omega arith) (omega arith))))
 
-first-true : {A : Type 0} {x : Bool} (a b : A) → x ≡ true → (if x then a else b) ≡ a
+pub first-true : {A : Type 0} {x : Bool} (a b : A) → x ≡ true → (if x then a else b) ≡ a
 first-true a b h = rw h refl
 
-first-false : {A : Type 0} {x : Bool} (a b : A) → x ≡ false → (if x then a else b) ≡ b
+pub first-false : {A : Type 0} {x : Bool} (a b : A) → x ≡ false → (if x then a else b) ≡ b
 first-false a b h = rw h refl
 
 pub none-left : (p : Place) (bytes : List ℕ) → length bytes < 1 → tokens_from p bytes ≡ token End p ∷ []
@@ -42,20 +42,20 @@ unfolding tokens_from tokens_within
 none-left p [] h = refl
 none-left p (b ∷ bs) h = absurd (omega arith)
 
-blank-cons : (p : Place) (b : ℕ) (bs : List ℕ) → is_blank b ≡ true → tokens_from p (b ∷ bs) ≡ tokens_from (after p b) bs
+pub blank-cons : (p : Place) (b : ℕ) (bs : List ℕ) → is_blank b ≡ true → tokens_from p (b ∷ bs) ≡ tokens_from (after p b) bs
 unfolding tokens_from tokens_within
 blank-cons p b bs h = first-true _ _ h ∙ enough (length (b ∷ bs)) (suc (length bs)) (after p b) bs (omega arith) (omega arith)
 
-word-cons : (p : Place) (b : ℕ) (bs : List ℕ) → is_blank b ≡ false → is_name_byte b ≡ true
+pub word-cons : (p : Place) (b : ℕ) (bs : List ℕ) → is_blank b ≡ false → is_name_byte b ≡ true
     → tokens_from p (b ∷ bs) ≡ led (word_symbol (take_while is_name_byte (b ∷ bs))) p
-        (tokens_from (place_at p.line (p.column + length (take_while is_name_byte (b ∷ bs)))) (drop (length (take_while is_name_byte (b ∷ bs))) (b ∷ bs)))
+    (tokens_from (place_at p.line (p.column + length (take_while is_name_byte (b ∷ bs)))) (drop (length (take_while is_name_byte (b ∷ bs))) (b ∷ bs)))
 unfolding tokens_from tokens_within
 word-cons p b bs h y = let w : 0 < length (take_while is_name_byte (b ∷ bs)) = word-not_empty is_name_byte b bs y in
     first-false _ _ h ∙ first-true _ _ y ∙ ap (λ ts. led (word_symbol (take_while is_name_byte (b ∷ bs))) p ts)
     (enough (length (b ∷ bs)) (suc (length (drop (length (take_while is_name_byte (b ∷ bs))) (b ∷ bs)))) (place_at p.line (p.column + length (take_while is_name_byte (b ∷ bs))))
-        (drop (length (take_while is_name_byte (b ∷ bs))) (b ∷ bs)) (simp length-drop (omega arith)) (omega arith))
+    (drop (length (take_while is_name_byte (b ∷ bs))) (b ∷ bs)) (simp length-drop (omega arith)) (omega arith))
 
-mark-cons : (p : Place) (b : ℕ) (bs : List ℕ) → is_blank b ≡ false → is_name_byte b ≡ false → tokens_from p (b ∷ bs) ≡ led (mark_symbol b) p (tokens_from (after p b) bs)
+pub mark-cons : (p : Place) (b : ℕ) (bs : List ℕ) → is_blank b ≡ false → is_name_byte b ≡ false → tokens_from p (b ∷ bs) ≡ led (mark_symbol b) p (tokens_from (after p b) bs)
 unfolding tokens_from tokens_within
 mark-cons p b bs h y = first-false _ _ h ∙ first-false _ _ y ∙ ap (λ ts. led (mark_symbol b) p ts) (enough (length (b ∷ bs)) (suc (length bs)) (after p b) bs (omega arith) (omega arith))
 

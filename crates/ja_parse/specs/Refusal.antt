@@ -6,28 +6,29 @@ use Rattle.ja_parse.specs.declared.tree.Statement.{Statement}
 use Rattle.ja_parse.specs.declared.fault.ParseFault.{ParseFault}
 use Rattle.ja_parse.specs.declared.fault.ParseFault.TheVariants.{Unbuilt, Memory}
 use Rattle.ja_parse.specs.Tokens.{tokens}
-use Rattle.ja_parse.specs.Grammar.{AreTokensOf}
+use Rattle.ja_parse.specs.Grammar.{Spells}
 
--- some statements have these tokens
-abbrev pub IsText : List Token → Type 0
-IsText i = (ss : List Statement) × AreTokensOf i ss
+-- the bytes are a text of the language
+abbrev pub IsText : List ℕ → Type 0
+IsText text = (ss : List Statement) × Spells text ss
 
--- The token at this place is the first wrong one of i, for a set of lists of tokens: some list of the set goes on from what stands
--- before the token (the viable prefix), and none from there by that token.
-pub record FirstWrong (Allowed : List Token → Type 0) (i : List Token) (place : Place) : Type 0 where
+-- The place is that of the first wrong token: some text of the language begins with the tokens before it (they are a viable prefix),
+-- and none with those and this one.
+pub record FirstWrong (text : List ℕ) (place : Place) : Type 0 where
   pub front : List Token
   pub wrong : Token
   pub back : List Token
-  pub split : i ≡ front ++ wrong ∷ back
+  pub split : tokens text ≡ front ++ wrong ∷ back
   pub stands : wrong.place ≡ place
-  pub before : (more : List Token) × Allowed (front ++ more)
-  pub here : (more : List Token) → Allowed (front ++ wrong ∷ more) → ⊥
+  pub before : (other : List ℕ) × (more : List Token) × (tokens other ≡ front ++ more) × IsText other
+  pub here : (other : List ℕ) (more : List Token) → tokens other ≡ front ++ wrong ∷ more → IsText other → ⊥
 
--- what a refusal of tokens says
-abbrev pub Refuses : (List Token → Type 0) → List Token → ParseFault → Type 0
-Refuses Allowed i (Unbuilt place) = FirstWrong Allowed i place
-Refuses Allowed i Memory = Unit {0}
-
--- what a refusal of a text says
+-- what a refusal says
 abbrev pub Explains : List ℕ → ParseFault → Type 0
-Explains text fault = Refuses IsText (tokens text) fault
+Explains text (Unbuilt place) = FirstWrong text place
+Explains text Memory = Unit {0}
+
+-- a text with a wrong token is none of the language
+abbrev pub IsNone : List ℕ → ParseFault → Type 0
+IsNone text (Unbuilt place) = IsText text → ⊥
+IsNone text Memory = Unit {0}

@@ -4,6 +4,8 @@
 mod fault;
 mod lexer;
 mod parser;
+#[cfg(test)]
+mod tests;
 mod token;
 mod tree;
 mod words;

@@ -4,8 +4,8 @@ ghost use Rattle.ja_parse.specs.declared.token.Symbol.TheVariants as symbol;
 ghost use Rattle.ja_parse.specs.declared.tree.Statement.{Statement as StatementOf};
 ghost use Rattle.ja_parse.specs.Tokens as spec;
 ghost use Rattle.ja_parse.specs.Grammar.{Spells, statement_tokens};
-ghost use Rattle.ja_parse.specs.Refusal.{Explains, Refuses};
-ghost use Rattle.ja_parse.specs.Reading.{IsNotEmpty, IsEnding, IsClosing, IsBehindName, IsPart};
+ghost use Rattle.ja_parse.specs.Refusal.{Explains, IsNone};
+ghost use Rattle.ja_parse.specs.Reading.{Refuses, IsNotEmpty, IsEnding, IsClosing, IsBehindName, IsPart};
 
 use crate::fault::ParseFault;
 use crate::lexer::Lexer;
@@ -50,7 +50,12 @@ fn read_closing(alloc: Global, lexer: &mut Lexer<'_>) -> Result<(), ParseFault>
 }
 
 /// Takes what stands behind a name up to the end of the part.
-fn read_behind_name(alloc: Global, lexer: &mut Lexer<'_>, name: Text16, place: Place) -> Result<Part, ParseFault>
+fn read_behind_name(
+    alloc: Global,
+    lexer: &mut Lexer<'_>,
+    name: Text16,
+    place: Place,
+) -> Result<Part, ParseFault>
     ensures part { IfOk result (λ part. IsPart (spec.token (symbol.Name name) place ∷ spec.tokens_from lexer.old.place lexer.old.rest.now) part (spec.tokens_from lexer.new.place lexer.new.rest.now)) }
     ensures fault { IfErr result (Refuses IsBehindName (spec.tokens_from lexer.old.place lexer.old.rest.now)) }
 {
@@ -83,10 +88,7 @@ fn read_part(alloc: Global, lexer: &mut Lexer<'_>) -> Result<Part, ParseFault>
     match symbol {
         Symbol::Number(value) => {
             let _stop = read_semicolon(alloc, lexer)?;
-            Ok(Part::Operand(Operand::Number {
-                value,
-                place: at,
-            }))
+            Ok(Part::Operand(Operand::Number { value, place: at }))
         }
         Symbol::Name(name) => {
             let part = read_behind_name(alloc, lexer, name, at)?;
@@ -125,6 +127,7 @@ pub fn parse(alloc: Global, text: &[u8]) -> Result<Seq<Statement>, ParseFault>
     ensures tree { IfOk result (λ statements. Spells text.now statements) }
     ensures only { IfOk result (λ statements. (others : List StatementOf) → Spells text.now others → others ≡ statements) }
     ensures fault { IfErr result (Explains text.now) }
+    ensures none { IfErr result (IsNone text.now) }
 {
     let mut lexer = Lexer::new(text);
     let mut statements = Vec::new(alloc);

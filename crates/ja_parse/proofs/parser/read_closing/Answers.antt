@@ -10,5 +10,6 @@ returns-in_err-_stop-in-Close-clause-fault c =
 
 pub returns-clause-fault : goal.returns-clause-fault
 returns-clause-fault c = elim c.match-symbol.branch [
-  in-Close+in_ok-_stop-in-Close w ↦ rw w.result-is tt
-  | in_default w ↦ rw w.result-is (closing-wrong _ _ _ _ c.in_ok-symbol.ensures w.in_default.not-Close) ]
+  | in-Close+in_ok-_stop-in-Close w ↦ rw w.result-is tt
+  | in_default w ↦ rw w.result-is (closing-wrong _ _ _ _ c.in_ok-symbol.ensures w.in_default.not-Close)
+]

@@ -10,7 +10,7 @@ pub returns-in_ok-symbol-in-len1-up : goal.returns-in_ok-symbol-in-len1-up
 returns-in_ok-symbol-in-len1-up c =
     let named : is_name_byte (get_or c.args.self.now.rest.now 0 0) ≡ true = cc in
     rw c.in_ok-symbol-in-len1-up.ensures (word-first c.args.self.now.place c.word-word.new.self.place c.args.self.now.rest.now c.word-word.result.now c.word-word.new.self.rest.now
-        c.in-len1-up.len_at_least c.requires named c.word-word.ensures.word c.word-word.ensures.rest c.word-word.ensures.place)
+    c.in-len1-up.len_at_least c.requires named c.word-word.ensures.word c.word-word.ensures.rest c.word-word.ensures.place)
 
 pub returns-in-len1-up-2 : goal.returns-in-len1-up-2
 returns-in-len1-up-2 c =
