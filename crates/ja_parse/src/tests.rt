@@ -28,6 +28,37 @@ fn texts_of_the_language(rt: HostRuntime) {
     }
 }
 
+/// The line and the column of a place.
+fn shown(place: Place) -> (u32, u32) {
+    (place.line, place.column)
+}
+
+#[test]
+fn the_tree_of_a_call(rt: HostRuntime) -> Result<(), ParseFault> {
+    let statements = parse(rt.alloc(), b"ab = c\n= f ();")?;
+    let [statement] = statements.as_slice() else {
+        panic!(rt; "one statement");
+    };
+    let [outer, inner] = statement.targets.as_slice() else {
+        panic!(rt; "two targets");
+    };
+    assert_eq!(rt; outer.name.units(), &[97u16, 98] as &[u16]);
+    assert_eq!(rt; (shown(outer.place), shown(outer.assign)), ((1, 1), (1, 4)));
+    assert_eq!(rt; inner.name.units(), &[99u16] as &[u16]);
+    assert_eq!(rt; (shown(inner.place), shown(inner.assign)), ((1, 6), (2, 1)));
+    let Operand::Call {
+        name,
+        place,
+        bracket,
+    } = &statement.operand
+    else {
+        panic!(rt; "a call");
+    };
+    assert_eq!(rt; name.units(), &[102u16] as &[u16]);
+    assert_eq!(rt; (shown(*place), shown(*bracket)), ((2, 3), (2, 5)));
+    Ok(())
+}
+
 #[test]
 fn places_of_refusals(rt: HostRuntime) {
     let cases: [(&str, u32, u32); 26] = [
