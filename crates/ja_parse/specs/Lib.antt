@@ -1,0 +1,5 @@
+pub mod Words
+pub mod Tokens
+pub mod Grammar
+pub mod Refusal
+pub mod Reading
