@@ -1,7 +1,7 @@
 -- How many statements, nodes and names there are, by the size of the statements.
-use Rattle.std.proofs.Common.{◌≡◌, ℕ, ◌+◌, ◌*◌, ◌≤◌, List, [], ◌∷◌, ◌++◌, length, arith, length-append}
+use Rattle.std.proofs.Common.{◌≡◌, ℕ, ◌+◌, ◌*◌, ◌≤◌, List, [], ◌∷◌, ◌++◌, length, take, get_or, ◌<◌, ap, sym, ◌∙◌, arith, length-append}
 use Rattle.std.specs.List.{flat_map}
-use Rattle.std.proofs.lemmas.List.Sums.{sum_by-cons}
+use Rattle.std.proofs.lemmas.List.Sums.{sum_by-cons, sum_by_more}
 use Rattle.ja_parse.specs.declared.tree.Operand.{Operand}
 use Rattle.ja_parse.specs.declared.tree.Operand.TheVariants.{Number, Name, Call}
 use Rattle.ja_parse.specs.declared.tree.Statement.{Statement}
@@ -48,3 +48,7 @@ pub length-error_places : (o : Operand) → length (error_places o) ≤ 2
 length-error_places (Number value place) = omega arith
 length-error_places (Name name place) = omega arith
 length-error_places (Call name place bracket) = omega arith
+
+pub size_of-take-more : (ss : List Statement) (i : ℕ) (s : Statement) → i < length ss → s ≡ get_or ss i s → size_of (take (i + 1) ss) ≡ size_of (take i ss) + (length s.targets + 1)
+size_of-take-more ss i s within is =
+    sum_by_more (λ (t : Statement). length t.targets + 1) ss i s within ∙ ap (λ (t : Statement). size_of (take i ss) + (length t.targets + 1)) (sym is)

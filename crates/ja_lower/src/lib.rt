@@ -19,6 +19,7 @@ use std::alloc::Global;
 
 /// The program of a text, whose statements and targets together are fewer than 16,777,216. The
 /// only error is that memory was refused.
+#[tactic(auto, unfolding(crate::specs::Lowering::program_of))]
 pub fn lower(alloc: Global, statements: &[Statement]) -> Result<Program, Memory>
     requires { IsSmall statements.now }
     ensures program { IfOk result (λ p. p ≡ program_of statements.now) }

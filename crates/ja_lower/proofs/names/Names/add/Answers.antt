@@ -34,6 +34,6 @@ returns c =
     let fresh = with_name-new (nows c.self.inside.texts.items) c.args.text.now (any ∙ c.if-contains_key.false) in
     let named : nows c.push.new.self.items ≡ c.args.self.now ++ c.args.text.now ∷ [] = ap nows items ∙ map_push _ _ _ ∙ ap (λ names. names ++ c.args.text.now ∷ []) c.self.view_is in
     record {
-      names = named ∙ ?;
-      few = ?;
+      names = named ∙ subst (λ names. names ++ c.args.text.now ∷ [] ≡ with_name names c.args.text.now) c.self.view_is fresh;
+      few = omega (arith, ap length named, length_push c.args.self.now c.args.text.now);
     }
