@@ -236,7 +236,7 @@ functions-well_formed ss small zero fn is =
     subst (IsFunctionWellFormed (program_of ss)) same (function-well_formed ss small)
 functions-well_formed ss small (suc f) fn is = absurd (cc)
 
-pub program-well_formed : (ss : List Statement) → IsSmall ss → IsWellFormed (program_of ss)
+program-well_formed : (ss : List Statement) → IsSmall ss → IsWellFormed (program_of ss)
 unfolding program_of
 program-well_formed ss small =
     let errors = flat_map (λ (s : Statement). map error_site (error_places s.operand)) ss in
@@ -255,3 +255,15 @@ program-well_formed ss small =
       distinct = names-distinct ss;
       few_names = omega (arith, few_names ss);
     }
+
+-- a program with these parts is well formed
+pub well_formed_from_parts : (p : Program) (ss : List Statement) (function : Function) → p.functions ≡ function ∷ [] → function ≡ text_function (names_of ss) ss → p.sites ≡ sites_of ss → p.names ≡ names_of ss → p.opening ≡ opening_objects → IsSmall ss → IsWellFormed p
+unfolding program_of
+well_formed_from_parts p ss function functions text sites names opening small =
+    let is : p ≡ program_of ss = λ i. record {
+      functions = (functions ∙ ap (λ (f : Function). f ∷ []) text) i;
+      sites = sites i;
+      names = names i;
+      opening = opening i;
+    } in
+    subst IsWellFormed (sym is) (program-well_formed ss small)

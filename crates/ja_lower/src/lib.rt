@@ -2,6 +2,7 @@
 #![tactic(auto)]
 
 ghost use Rattle.std.specs.Prelude.{◌≡◌, IfOk};
+ghost use Rattle.ja_graph.specs.WellFormed.{IsWellFormed};
 ghost use Rattle.ja_lower.specs.Lowering.{IsSmall, program_of};
 
 mod builtins;
@@ -23,6 +24,7 @@ use std::alloc::Global;
 pub fn lower(alloc: Global, statements: &[Statement]) -> Result<Program, Memory>
     requires { IsSmall statements.now }
     ensures program { IfOk result (λ p. p ≡ program_of statements.now) }
+    ensures well_formed { IfOk result IsWellFormed }
 {
     let builtin = builtin_names(alloc)?;
     let mut names = Names::new(alloc);
