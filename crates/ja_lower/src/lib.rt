@@ -41,3 +41,6 @@ pub fn lower(alloc: Global, statements: &[Statement]) -> Result<Program, Memory>
         opening,
     })
 }
+
+#[cfg(test)]
+mod tests;
