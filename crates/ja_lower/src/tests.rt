@@ -1,10 +1,10 @@
-//! The nodes of small texts, in words, against the rows that a person wrote.
+//! The nodes of small texts, against rows that were written by hand.
 
 ghost use Rattle.std.specs.Prelude.{◌≡◌, length, IfOk, IfSome};
 
 use crate::lower;
 use ja_base::{Place, Seq};
-use ja_graph::{Node, NodeInfo, Program};
+use ja_graph::{Node, Program};
 use ja_parse::{Operand, Statement, Target};
 use ja_prim::{Int, Num, Primitive, Text16};
 use std::alloc::{AllocError, Global};
@@ -16,91 +16,51 @@ fn letter(alloc: Global, unit: u16) -> Result<Text16, AllocError> {
     Ok(Text16::from_units(vec![in alloc; unit]?))
 }
 
-/// A node in words.
-fn node_words(alloc: Global, node: &Node) -> Result<String, AllocError> {
+/// The kind of a node, and its numbers in the order of its fields.
+fn node_row(node: &Node) -> (&'static str, [u32; 4]) {
     match node {
-        Node::Const { dst, value } => {
-            let dst = dst.0;
-            match value {
-                Primitive::Undefined => format!(in alloc; "{dst} is undefined"),
-                Primitive::Number(Num::Whole(n)) => {
-                    let n = n.get();
-                    format!(in alloc; "{dst} is {n}")
-                }
-                _ => format!(in alloc; "{dst} is another value"),
-            }
-        }
-        Node::FindName { dst, name } => {
-            let dst = dst.0;
-            let name = name.0;
-            format!(in alloc; "{dst} finds {name}")
-        }
+        Node::Const { dst, value } => match value {
+            Primitive::Undefined => ("Const undefined", [dst.0, 0, 0, 0]),
+            Primitive::Number(Num::Whole(_)) => ("Const number", [dst.0, 0, 0, 0]),
+            _ => ("Const", [dst.0, 0, 0, 0]),
+        },
+        Node::FindName { dst, name } => ("FindName", [dst.0, name.0, 0, 0]),
         Node::ReadRef {
             dst,
             base,
             name,
             error,
-        } => {
-            let dst = dst.0;
-            let base = base.0;
-            let name = name.0;
-            let error = error.0;
-            format!(in alloc; "{dst} reads {name} of {base} or {error}")
-        }
-        Node::WriteRef { base, name, src } => {
-            let base = base.0;
-            let name = name.0;
-            let src = src.0;
-            format!(in alloc; "{src} is written to {name} of {base}")
-        }
+        } => ("ReadRef", [dst.0, base.0, name.0, error.0]),
+        Node::WriteRef { base, name, src } => ("WriteRef", [base.0, name.0, src.0, 0]),
         Node::Call {
             dst,
             callee,
             receiver,
             error,
-        } => {
-            let dst = dst.0;
-            let callee = callee.0;
-            let receiver = receiver.0;
-            let error = error.0;
-            format!(in alloc; "{dst} calls {callee} on {receiver} or {error}")
-        }
-        Node::Return { src } => {
-            let src = src.0;
-            format!(in alloc; "returns {src}")
-        }
-        Node::Escape => format!(in alloc; "escapes"),
+        } => ("Call", [dst.0, callee.0, receiver.0, error.0]),
+        Node::Return { src } => ("Return", [src.0, 0, 0, 0]),
+        Node::Escape => ("Escape", [0, 0, 0, 0]),
     }
 }
 
-/// A node with its edges and its place in words.
-fn words(alloc: Global, info: &NodeInfo) -> Result<String, AllocError> {
-    let node = node_words(alloc, &info.node)?;
-    let next = info.next.0;
-    let handler = info.handler.0;
-    let line = info.place.line;
-    let column = info.place.column;
-    format!(in alloc; "{node}, then {next} or {handler}, at {line}:{column}")
-}
+/// A node as it is expected: its kind, its numbers, its next node and its handler, its line and column.
+#[derive(Clone, Copy)]
+struct Row(&'static str, [u32; 4], [u32; 2], [u32; 2]);
 
 /// The text of a program has this many registers, and these nodes.
-fn assert_text(
-    rt: &impl Abort,
-    alloc: Global,
-    program: &Program,
-    registers: u32,
-    nodes: &[&str],
-) -> Result<(), AllocError> {
+fn assert_text(rt: &impl Abort, program: &Program, registers: u32, rows: &[Row]) {
     assert_eq!(rt; program.functions.len(), 1);
     if let Some(function) = program.functions.as_slice().first() {
         assert_eq!(rt; function.registers, registers);
-        assert_eq!(rt; function.nodes.len(), nodes.len());
-        for (info, expected) in function.nodes.as_slice().iter().zip(nodes) {
-            let found = words(alloc, info)?;
-            assert_eq!(rt; found.as_str(), *expected);
+        assert_eq!(rt; function.nodes.len(), rows.len());
+        for (info, row) in function.nodes.as_slice().iter().zip(rows) {
+            let (kind, numbers) = node_row(&info.node);
+            assert_eq!(rt; kind, row.0);
+            assert_eq!(rt; numbers, row.1);
+            assert_eq!(rt; [info.next.0, info.handler.0], row.2);
+            assert_eq!(rt; [info.place.line, info.place.column], row.3);
         }
     }
-    Ok(())
 }
 
 /// The statement `x = 3;` in line 1.
@@ -138,79 +98,59 @@ fn call(alloc: Global) -> Result<Statement, AllocError>
     })
 }
 
-#[test]
-fn lowers_an_assignment_and_a_call(rt: HostRuntime) -> Result<(), Fail> {
-    let alloc = rt.alloc();
-    let first = assignment(alloc)?.expect(&rt, "3 is a number");
-    let second = call(alloc)?;
-    let statements = vec![in alloc; first, second]?;
-    let program = lower(alloc, &statements)?;
-    assert_eq!(rt; program.sites.len(), 7);
-    assert_eq!(rt; program.names.len(), 7);
-    assert_eq!(rt; program.opening.len(), 5);
-    let nodes = [
-        "6 finds 5, then 1 or 8, at 1:1",
-        "7 is 3, then 2 or 8, at 1:5",
-        "7 is written to 5 of 6, then 3 or 8, at 1:3",
-        "6 finds 6, then 4 or 8, at 2:1",
-        "7 reads 6 of 6 or 5, then 5 or 8, at 2:1",
-        "8 calls 7 on 6 or 6, then 6 or 8, at 2:2",
-        "6 is undefined, then 7 or 8, at 1:1",
-        "returns 6, then 8 or 8, at 1:1",
-        "escapes, then 8 or 8, at 1:1",
-    ];
-    assert_text(&rt, alloc, &program, 9, &nodes)?;
-    Ok(())
-}
-
-/// The statement `a = b = a;` in line 1.
+/// The statement `a = b = a;` in line 3.
 fn chain(alloc: Global) -> Result<Statement, AllocError>
     ensures { IfOk result (λ s. length s.targets ≡ 2) }
 {
     let first = Target {
         name: letter(alloc, 97)?,
-        place: Place { line: 1, column: 1 },
-        assign: Place { line: 1, column: 3 },
+        place: Place { line: 3, column: 1 },
+        assign: Place { line: 3, column: 3 },
     };
     let second = Target {
         name: letter(alloc, 98)?,
-        place: Place { line: 1, column: 5 },
-        assign: Place { line: 1, column: 7 },
+        place: Place { line: 3, column: 5 },
+        assign: Place { line: 3, column: 7 },
     };
     Ok(Statement {
         targets: Seq::from_vec(vec![in alloc; first, second]?),
         operand: Operand::Name {
             name: letter(alloc, 97)?,
-            place: Place { line: 1, column: 9 },
+            place: Place { line: 3, column: 9 },
         },
     })
 }
 
+/// The nodes of `x = 3;`, `y();` and `a = b = a;`.
+static ROWS: [Row; 15] = [
+    Row("FindName", [6, 5, 0, 0], [1, 14], [1, 1]),
+    Row("Const number", [7, 0, 0, 0], [2, 14], [1, 5]),
+    Row("WriteRef", [6, 5, 7, 0], [3, 14], [1, 3]),
+    Row("FindName", [6, 6, 0, 0], [4, 14], [2, 1]),
+    Row("ReadRef", [7, 6, 6, 5], [5, 14], [2, 1]),
+    Row("Call", [8, 7, 6, 6], [6, 14], [2, 2]),
+    Row("FindName", [6, 7, 0, 0], [7, 14], [3, 1]),
+    Row("FindName", [7, 8, 0, 0], [8, 14], [3, 5]),
+    Row("FindName", [8, 7, 0, 0], [9, 14], [3, 9]),
+    Row("ReadRef", [9, 8, 7, 7], [10, 14], [3, 9]),
+    Row("WriteRef", [7, 8, 9, 0], [11, 14], [3, 7]),
+    Row("WriteRef", [6, 7, 9, 0], [12, 14], [3, 3]),
+    Row("Const undefined", [6, 0, 0, 0], [13, 14], [1, 1]),
+    Row("Return", [6, 0, 0, 0], [14, 14], [1, 1]),
+    Row("Escape", [0, 0, 0, 0], [14, 14], [1, 1]),
+];
+
 #[test]
-fn lowers_no_text_and_a_chain(rt: HostRuntime) -> Result<(), Fail> {
+fn lowers_three_statements(rt: HostRuntime) -> Result<(), Fail> {
     let alloc = rt.alloc();
-    let empty = lower(alloc, &[])?;
-    let nodes = [
-        "6 is undefined, then 1 or 2, at 1:1",
-        "returns 6, then 2 or 2, at 1:1",
-        "escapes, then 2 or 2, at 1:1",
-    ];
-    assert_text(&rt, alloc, &empty, 7, &nodes)?;
-    let statements = vec![in alloc; chain(alloc)?]?;
+    let first = assignment(alloc)?.expect(&rt, "3 is a number");
+    let second = call(alloc)?;
+    let third = chain(alloc)?;
+    let statements = vec![in alloc; first, second, third]?;
     let program = lower(alloc, &statements)?;
-    assert_eq!(rt; program.sites.len(), 6);
-    assert_eq!(rt; program.names.len(), 7);
-    let nodes = [
-        "6 finds 5, then 1 or 8, at 1:1",
-        "7 finds 6, then 2 or 8, at 1:5",
-        "8 finds 5, then 3 or 8, at 1:9",
-        "9 reads 5 of 8 or 5, then 4 or 8, at 1:9",
-        "9 is written to 6 of 7, then 5 or 8, at 1:7",
-        "9 is written to 5 of 6, then 6 or 8, at 1:3",
-        "6 is undefined, then 7 or 8, at 1:1",
-        "returns 6, then 8 or 8, at 1:1",
-        "escapes, then 8 or 8, at 1:1",
-    ];
-    assert_text(&rt, alloc, &program, 10, &nodes)?;
+    assert_eq!(rt; program.sites.len(), 8);
+    assert_eq!(rt; program.names.len(), 9);
+    assert_eq!(rt; program.opening.len(), 5);
+    assert_text(&rt, &program, 10, &ROWS);
     Ok(())
 }
