@@ -1,35 +1,18 @@
 -- The names of a program: each stands once, few enough, the built-in ones first.
-use Rattle.std.proofs.Common.{◌≡◌, ℕ, zero, suc, ◌+◌, ◌-◌, ◌*◌, ◌<◌, ◌≤◌, ◌^◌, max, Bool, true, false, cond, not, ◌||◌, List, [], ◌∷◌, ◌++◌, length, map, Option, Some, None, refl, sym, ap, ◌∙◌, subst, inl, inr, arith, length-append}
-use Rattle.std.specs.List.{slice_get, filter, flat_map, fold, list_any}
+use Rattle.std.proofs.Common.{◌≡◌, ℕ, zero, suc, ◌+◌, ◌≤◌, Bool, true, false, cond, not, ◌||◌, List, [], ◌∷◌, ◌++◌, length, map, Some, refl, sym, ap, ◌∙◌, arith, length-append}
+use Rattle.std.specs.List.{slice_get, filter, flat_map, list_any}
 use Rattle.std.specs.Str.{bytes_eq}
 use Rattle.std.specs.Cmp.Lexicographic.{nat_list_eq_equiv}
 use lib.Chars.{codes}
 use mathlib.Core.Bool.{true≢false}
 use Rattle.std.proofs.lemmas.List.{length-map}
-use Rattle.std.proofs.lemmas.Option.{slice_get_within}
-use Rattle.ja_base.specs.declared.ids.NodeId.{NodeId}
-use Rattle.ja_base.specs.declared.ids.Site.{Site}
-use Rattle.ja_graph.specs.declared.node.Node.{Node}
-use Rattle.ja_graph.specs.declared.node.Node.TheVariants.{Const, FindName, ReadRef, WriteRef, Call, Return, Escape}
-use Rattle.ja_graph.specs.declared.node.NodeInfo.{NodeInfo}
-use Rattle.ja_graph.specs.declared.program.Function.{Function}
-use Rattle.ja_graph.specs.declared.program.ObjectSpec.{ObjectSpec}
-use Rattle.ja_graph.specs.declared.program.PropertySpec.{PropertySpec}
-use Rattle.ja_graph.specs.declared.program.Program.{Program}
-use Rattle.ja_graph.specs.Program.{object_spec}
-use Rattle.ja_graph.specs.WellFormed.{IsInfoInRange, IsFunctionWellFormed, IsObjectWellFormed, IsWellFormed}
 use Rattle.ja_parse.specs.declared.tree.Operand.{Operand}
 use Rattle.ja_parse.specs.declared.tree.Operand.TheVariants as operand
 use Rattle.ja_parse.specs.declared.tree.Statement.{Statement}
 use Rattle.ja_parse.specs.declared.tree.Target.{Target}
-use Rattle.ja_lower.specs.declared.steps.Step.{Step}
 use Rattle.ja_lower.specs.Names.{builtin_names, operand_names, statement_names, once, names_of}
-use Rattle.ja_lower.specs.Steps.{temporaries, error_places, text_steps, closing_steps}
-use Rattle.ja_lower.specs.Builtins.{opening_objects}
-use Rattle.ja_lower.specs.Lowering.{size_of, IsSmall, steps_of, next_of, linked, error_site, sites_of, registers_of, text_function, program_of}
-use Rattle.ja_lower.proofs.LinkLemmas.{info_at}
-use Rattle.ja_lower.proofs.RangeLemmas.{Each, each-append, each-at, InRange, text_steps-range, closing_steps-range, fold-max-ge}
-use Rattle.ja_lower.proofs.SizeLemmas.{size_of-cons, length-text_steps, length-error_places}
+use Rattle.ja_lower.specs.Lowering.{size_of}
+use Rattle.ja_lower.proofs.SizeLemmas.{size_of-cons}
 
 -- no text is one of those behind it
 abbrev Apart : List (List ℕ) → Type 0

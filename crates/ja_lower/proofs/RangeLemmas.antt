@@ -1,21 +1,19 @@
 -- The nodes of a text have registers, names and sites that are there.
-use Rattle.std.proofs.Common.{◌≡◌, ℕ, zero, suc, ◌+◌, ◌*◌, ◌<◌, ◌≤◌, max, Bool, true, false, cond, List, [], ◌∷◌, ◌++◌, length, map, Option, Some, None, unwrap_or, refl, sym, ap, ◌∙◌, subst, inl, inr, ◌⊎◌, arith, length-append}
+use Rattle.std.proofs.Common.{◌≡◌, ℕ, zero, suc, ◌+◌, ◌<◌, ◌≤◌, max, Bool, true, false, cond, List, [], ◌∷◌, ◌++◌, length, map, Option, Some, None, unwrap_or, refl, ap, ◌∙◌, subst, inr, arith, length-append}
 use Rattle.std.specs.List.{slice_get, flat_map, fold, position_from}
 use Rattle.std.specs.Str.{bytes_eq}
 use Rattle.std.proofs.lemmas.List.{length-map}
 use Rattle.ja_base.specs.declared.ids.Reg.{Reg}
-use Rattle.ja_graph.specs.declared.node.Node.{Node}
-use Rattle.ja_graph.specs.declared.node.Node.TheVariants as node
 use Rattle.ja_graph.specs.declared.program.Function.{Function}
 use Rattle.ja_graph.specs.declared.program.Program.{Program}
-use Rattle.ja_graph.specs.WellFormed.{IsRegister, IsDestination, IsName, IsNodeSite, IsNodeInRange}
+use Rattle.ja_graph.specs.WellFormed.{IsRegister, IsDestination, IsName, IsNodeInRange}
 use Rattle.ja_parse.specs.declared.tree.Operand.{Operand}
 use Rattle.ja_parse.specs.declared.tree.Operand.TheVariants.{Number, Name, Call}
 use Rattle.ja_parse.specs.declared.tree.Statement.{Statement}
 use Rattle.ja_parse.specs.declared.tree.Target.{Target}
 use Rattle.ja_lower.specs.declared.steps.Step.{Step}
 use Rattle.ja_lower.specs.Names.{name_id}
-use Rattle.ja_lower.specs.Steps.{temporary, temporaries, operand_temporaries, error_places, read_steps, find_steps, operand_steps, operand_value, write_steps, statement_steps, text_steps, closing_steps}
+use Rattle.ja_lower.specs.Steps.{temporary, temporaries, operand_temporaries, error_places, find_steps, operand_steps, operand_value, write_steps, statement_steps, text_steps, closing_steps}
 use Rattle.ja_lower.specs.Lowering.{error_site}
 
 -- P holds of each element

@@ -1,13 +1,11 @@
 -- How many statements, nodes and names there are, by the size of the statements.
 use Rattle.std.proofs.Common.{◌≡◌, ℕ, ◌+◌, ◌*◌, ◌≤◌, List, [], ◌∷◌, ◌++◌, length, take, get_or, ◌<◌, ap, sym, ◌∙◌, arith, length-append}
-use Rattle.std.specs.List.{flat_map}
 use Rattle.std.proofs.lemmas.List.Sums.{sum_by-cons, sum_by_more}
 use Rattle.ja_parse.specs.declared.tree.Operand.{Operand}
 use Rattle.ja_parse.specs.declared.tree.Operand.TheVariants.{Number, Name, Call}
 use Rattle.ja_parse.specs.declared.tree.Statement.{Statement}
 use Rattle.ja_parse.specs.declared.tree.Target.{Target}
-use Rattle.ja_lower.specs.Names.{operand_names, statement_names}
-use Rattle.ja_lower.specs.Steps.{find_steps, operand_steps, operand_value, write_steps, statement_steps, text_steps, error_places}
+use Rattle.ja_lower.specs.Steps.{find_steps, operand_steps, operand_value, write_steps, text_steps, error_places}
 use Rattle.ja_lower.specs.Lowering.{size_of}
 use Rattle.ja_base.specs.declared.ids.Reg.{Reg}
 

@@ -1,11 +1,10 @@
 -- The program of a text is well formed.
-use Rattle.std.proofs.Common.{◌≡◌, ◌≢◌, ℕ, zero, suc, ◌+◌, ◌-◌, ◌*◌, ◌<◌, ◌≤◌, ◌^◌, max, List, [], ◌∷◌, ◌++◌, length, map, Option, Some, None, refl, sym, ap, ◌∙◌, subst, ◌⊎◌, inl, inr, arith, length-append}
+use Rattle.std.proofs.Common.{◌≡◌, ◌≢◌, ℕ, zero, suc, ◌+◌, ◌-◌, ◌*◌, ◌<◌, ◌≤◌, max, List, [], ◌∷◌, ◌++◌, length, map, Option, Some, None, refl, sym, ap, ◌∙◌, subst, ◌⊎◌, inl, inr, arith, length-append}
 use Rattle.std.specs.List.{slice_get, flat_map, fold}
 use Rattle.std.specs.Option.{option_map, IsSome}
 use Rattle.std.proofs.lemmas.Bool.{cases_lt}
 use Rattle.std.proofs.lemmas.List.{length-map}
 use Rattle.std.proofs.lemmas.Option.{slice_get_within}
-use Rattle.ja_base.specs.declared.ids.NodeId.{NodeId}
 use Rattle.ja_base.specs.declared.ids.Site.{Site}
 use Rattle.ja_graph.specs.declared.node.Node.{Node}
 use Rattle.ja_graph.specs.declared.node.Node.TheVariants.{Const, FindName, ReadRef, WriteRef, Call, Return, Escape}
@@ -24,7 +23,7 @@ use Rattle.ja_lower.specs.declared.steps.Step.{Step}
 use Rattle.ja_lower.specs.Names.{names_of}
 use Rattle.ja_lower.specs.Steps.{step, first_place, operand_temporaries, temporaries, error_places, text_steps, closing_steps}
 use Rattle.ja_lower.specs.Builtins.{builtin_sites, opening_objects, object_prototype, error_prototype, builtin_object, builtin_property, error_properties}
-use Rattle.ja_lower.specs.Lowering.{size_of, IsSmall, steps_of, next_of, linked, error_site, sites_of, registers_of, text_function, program_of}
+use Rattle.ja_lower.specs.Lowering.{size_of, IsSmall, steps_of, next_of, linked, error_site, sites_of, text_function, program_of}
 use Rattle.ja_lower.proofs.LinkLemmas.{info_at}
 use Rattle.ja_lower.proofs.RangeLemmas.{Each, each-append, each-at, InRange, text_steps-range, closing_steps-range, fold-max-ge}
 use Rattle.ja_lower.proofs.SizeLemmas.{size_of-cons, length-text_steps, length-error_places}

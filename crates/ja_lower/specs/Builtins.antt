@@ -1,11 +1,8 @@
 -- The built-in objects, as far as they are built (ES3 15.1, 15.2.4, 15.11.4, 15.11.7), and their sites.
 use Rattle.std.specs.Prelude.{ℕ, true, false, List, [], ◌∷◌, Option, Some, None}
 use lib.Chars.{codes}
-use Rattle.ja_base.specs.declared.ids.NameId.{NameId}
-use Rattle.ja_base.specs.declared.ids.Place.{Place}
 use Rattle.ja_base.specs.declared.ids.Site.{Site}
 use Rattle.ja_prim.specs.declared.primitive.Primitive.TheVariants.{Text}
-use Rattle.ja_graph.specs.declared.node.Attrs.{Attrs}
 use Rattle.ja_graph.specs.declared.program.Class.{Class}
 use Rattle.ja_graph.specs.declared.program.Class.TheVariants.{Object, Error}
 use Rattle.ja_graph.specs.declared.program.ObjectSpec.{ObjectSpec}
