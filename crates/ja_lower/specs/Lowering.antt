@@ -13,7 +13,7 @@ use Rattle.ja_graph.specs.declared.program.SiteInfo.{SiteInfo}
 use Rattle.ja_parse.specs.declared.tree.Statement.{Statement}
 use Rattle.ja_lower.specs.declared.steps.Step.{Step}
 use Rattle.ja_lower.specs.Names.{names_of}
-use Rattle.ja_lower.specs.Steps.{temporaries, error_places, text_steps, closing_steps}
+use Rattle.ja_lower.specs.Steps.{temporaries, error_places, first_site, text_steps, closing_steps}
 use Rattle.ja_lower.specs.Builtins.{builtin_sites, opening_objects}
 
 -- how many targets and statements there are
@@ -26,7 +26,7 @@ IsSmall statements = size_of statements < 2 ^ 24
 
 -- the nodes of a text in order, Escape the last
 abbrev pub steps_of : List (List ℕ) → List Statement → List Step
-steps_of names statements = text_steps names 5 statements ++ closing_steps
+steps_of names statements = text_steps names first_site statements ++ closing_steps
 
 -- the node that follows the one with the number n: Return and Escape have none, and lead to Escape
 abbrev pub next_of : ℕ → ℕ → Node → NodeId

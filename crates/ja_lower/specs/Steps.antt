@@ -70,6 +70,10 @@ write_steps names value k [] = []
 write_steps names value k (t ∷ ts) =
     write_steps names value (k + 1) ts ++ step (WriteRef (temporary k) (name_id names t.name) value) t.assign ∷ []
 
+-- the first error site of a node, behind the sites of the five built-in objects
+abbrev pub first_site : ℕ
+first_site = 5
+
 -- the nodes of a statement, with error sites from `site` on
 abbrev pub statement_steps : List (List ℕ) → ℕ → Statement → List Step
 statement_steps names site s =

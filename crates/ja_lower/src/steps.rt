@@ -1,7 +1,7 @@
 //! The nodes of a text in order, each with its place, before their edges are known.
 
 ghost use Rattle.std.specs.Prelude.{◌≡◌, ◌+◌, ◌<◌, ◌^◌, ◌++◌, length, IfOk, OnOk};
-ghost use Rattle.ja_lower.specs.Steps.{temporary, read_steps, error_places, find_steps, operand_steps, operand_value, write_steps, statement_steps, text_steps, closing_steps};
+ghost use Rattle.ja_lower.specs.Steps.{temporary, read_steps, error_places, find_steps, operand_steps, operand_value, write_steps, statement_steps, first_site, text_steps, closing_steps};
 ghost use Rattle.ja_lower.specs.Lowering.{IsSmall};
 
 use crate::names::Names;
@@ -20,6 +20,9 @@ pub(crate) struct Step {
 
 /// Where the nodes behind the statements stand.
 const FIRST_PLACE: Place = Place { line: 1, column: 1 };
+
+/// The first error site of a node, behind the sites of the built-in objects.
+const FIRST_NODE_SITE: u32 = 5;
 
 /// The register of a statement's temporary.
 fn temporary(k: usize) -> Reg
@@ -179,16 +182,16 @@ fn lower_statement(
     Ok(())
 }
 
-/// Lowers the statements, with error sites from 5 on.
+/// Lowers the statements, with error sites behind those of the built-in objects.
 fn lower_statements(
     names: &Names,
     statements: &[Statement],
     steps: &mut Vec<Step>,
 ) -> Result<(), Memory>
     requires { IsSmall statements.now }
-    ensures { OnOk result (steps.new.items ≡ steps.old.items ++ text_steps names.now 5 statements.now) }
+    ensures { OnOk result (steps.new.items ≡ steps.old.items ++ text_steps names.now first_site statements.now) }
 {
-    let mut site = 5;
+    let mut site = FIRST_NODE_SITE;
     for statement in statements {
         lower_statement(names, site, statement, steps)?;
         site += error_count(&statement.operand);
@@ -226,7 +229,7 @@ pub(crate) fn steps_of(
     statements: &[Statement],
 ) -> Result<Vec<Step>, Memory>
     requires { IsSmall statements.now }
-    ensures { IfOk result (λ steps. steps.items ≡ text_steps names.now 5 statements.now ++ closing_steps) }
+    ensures { IfOk result (λ steps. steps.items ≡ text_steps names.now first_site statements.now ++ closing_steps) }
 {
     let mut steps = Vec::new(alloc);
     lower_statements(names, statements, &mut steps)?;
