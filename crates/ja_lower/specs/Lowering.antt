@@ -20,7 +20,7 @@ use Rattle.ja_lower.specs.Builtins.{builtin_sites, opening_objects}
 abbrev pub size_of : List Statement → ℕ
 size_of statements = sum_by (λ (s : Statement). length s.targets + 1) statements
 
--- the numbers of nodes, sites, registers and names fit
+-- fewer than 16,777,216 of them, so that the numbers of nodes, sites, registers and names fit
 abbrev pub IsSmall : List Statement → Type 0
 IsSmall statements = size_of statements < 2 ^ 24
 
