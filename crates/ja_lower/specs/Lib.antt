@@ -1,0 +1,4 @@
+pub mod Names
+pub mod Steps
+pub mod Builtins
+pub mod Lowering

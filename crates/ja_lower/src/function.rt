@@ -1,0 +1,126 @@
+//! The function of a text: its nodes with their edges, its registers, and the sites of its errors.
+
+ghost use Rattle.std.specs.Prelude.{◌≡◌, ◌+◌, ◌-◌, ◌<◌, ◌≤◌, ◌^◌, ◌++◌, length, map, vec_len, IfOk, OnOk};
+ghost use Rattle.ja_lower.specs.Steps.{temporaries, error_places};
+ghost use Rattle.ja_lower.specs.Lowering.{IsSmall, next_of, linked, registers_of, error_site, sites_of, text_function};
+
+use crate::builtins::builtin_sites;
+use crate::names::Names;
+use crate::steps::{Step, steps_of};
+use ja_base::{Memory, NodeId, Place, Seq};
+use ja_graph::{Class, FIXED_REGISTERS, Function, Node, NodeInfo, SiteInfo};
+use ja_parse::{Operand, Statement};
+use std::alloc::Global;
+
+/// The node that follows the node with the number `at`; Return and Escape lead to Escape.
+fn next_of(escape: u32, at: u32, node: &Node) -> NodeId
+    requires { at + 1 < 2 ^ 32 }
+    ensures { result ≡ next_of escape at node.now }
+{
+    match node {
+        Node::Return { .. } | Node::Escape => NodeId(escape),
+        _ => NodeId(at + 1),
+    }
+}
+
+/// The nodes with their edges.
+fn linked(alloc: Global, steps: Vec<Step>) -> Result<Seq<NodeInfo>, Memory>
+    requires some { 0 < vec_len steps }
+    requires few { vec_len steps < 2 ^ 31 }
+    ensures { IfOk result (λ nodes. nodes ≡ linked (vec_len steps - 1) 0 steps.items) }
+{
+    let escape = (steps.len() - 1) as u32;
+    let mut nodes = Vec::with_capacity(alloc, steps.len())?;
+    let mut at = 0;
+    for step in steps {
+        let Step { node, place } = step;
+        let next = next_of(escape, at, &node);
+        nodes.push(NodeInfo {
+            node,
+            next,
+            handler: NodeId(escape),
+            place,
+        })?;
+        at += 1;
+    }
+    Ok(Seq::from_vec(nodes))
+}
+
+/// How many temporaries a statement takes.
+fn temporaries(statement: &Statement) -> usize
+    requires { length statement.now.targets < 2 ^ 24 }
+    ensures { result ≡ temporaries statement.now }
+{
+    let operand = match &statement.operand {
+        Operand::Number { .. } => 1,
+        Operand::Name { .. } => 2,
+        Operand::Call { .. } => 3,
+    };
+    statement.targets.len() + operand
+}
+
+/// How many registers the text takes.
+fn registers_of(statements: &[Statement]) -> u32
+    requires { IsSmall statements.now }
+    ensures { result ≡ registers_of statements.now }
+{
+    let mut most = 1;
+    for statement in statements {
+        most = most.max(temporaries(statement));
+    }
+    FIXED_REGISTERS + most as u32
+}
+
+/// The text as a function.
+pub(crate) fn text_function(
+    alloc: Global,
+    names: &Names,
+    statements: &[Statement],
+) -> Result<Function, Memory>
+    requires { IsSmall statements.now }
+    ensures { IfOk result (λ function. function ≡ text_function names.now statements.now) }
+{
+    let steps = steps_of(alloc, names, statements)?;
+    let nodes = linked(alloc, steps)?;
+    Ok(Function {
+        registers: registers_of(statements),
+        nodes,
+    })
+}
+
+/// The site of an error that a node makes.
+fn error_site(place: Place) -> SiteInfo
+    ensures { result ≡ error_site place }
+{
+    SiteInfo {
+        class: Class::Error,
+        place,
+        builtin: None,
+    }
+}
+
+/// Adds the sites of the errors of an operand's nodes.
+fn push_error_sites(operand: &Operand, sites: &mut Vec<SiteInfo>) -> Result<(), Memory>
+    ensures { OnOk result (sites.new.items ≡ sites.old.items ++ map error_site (error_places operand.now)) }
+{
+    match operand {
+        Operand::Number { .. } => {}
+        Operand::Name { place, .. } => sites.push(error_site(*place))?,
+        Operand::Call { place, bracket, .. } => {
+            sites.push(error_site(*place))?;
+            sites.push(error_site(*bracket))?;
+        }
+    }
+    Ok(())
+}
+
+/// The sites of a program.
+pub(crate) fn sites_of(alloc: Global, statements: &[Statement]) -> Result<Seq<SiteInfo>, Memory>
+    ensures { IfOk result (λ sites. sites ≡ sites_of statements.now) }
+{
+    let mut sites = builtin_sites(alloc)?;
+    for statement in statements {
+        push_error_sites(&statement.operand, &mut sites)?;
+    }
+    Ok(Seq::from_vec(sites))
+}
