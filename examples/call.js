@@ -1,0 +1,2 @@
+price = 12;
+price();

@@ -1,0 +1,5 @@
+total = 0;
+limit = total = 10;
+limit;
+totla;
+limit();

@@ -1,0 +1,3 @@
+width = 640;
+height = 480;
+area = width;
