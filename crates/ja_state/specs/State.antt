@@ -20,8 +20,11 @@ use Rattle.ja_state.specs.declared.state.AState.{AState}
 use Rattle.ja_state.specs.declared.entries.DemandedEntries.{DemandedEntries}
 
 -- the property of an object at a key: the one that is listed, else the common one
+abbrev pub at : AObject → ℕ → AbstractProperty
+at o q = option_map_or property_of (get nat_cmp o.listed q) (property_of o.common)
+
 abbrev pub object_of : AObject → Key → AbstractProperty
-object_of o k = option_map_or property_of (get nat_cmp o.listed (key_number k)) (property_of o.common)
+object_of o k = at o (key_number k)
 
 -- an object that isn't kept is as at entry
 abbrev pub property_at : AState → Label → Key → AbstractProperty

@@ -4,6 +4,7 @@
 
 mod entries;
 mod keys;
+mod maps;
 mod object;
 mod state;
 
