@@ -1,3 +1,5 @@
 pub mod MapLemmas
 pub mod SpreadLemmas
 pub mod ObjectLemmas
+pub mod RegisterLemmas
+pub mod MaskLemmas

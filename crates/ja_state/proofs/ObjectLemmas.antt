@@ -11,8 +11,9 @@ use Rattle.ja_model.specs.AbstractState.{key_number}
 use Rattle.ja_value.specs.declared.property.AProp.{AProp}
 use Rattle.ja_value.specs.Value.{property_of}
 use Rattle.ja_state.specs.declared.object.AObject.{AObject}
+use Rattle.ja_state.specs.Joined.{IsJoined}
 use Rattle.ja_state.specs.State.{at, object_of}
-use Rattle.ja_state.proofs.SpreadLemmas.{SpreadJoined, SpreadSteps, spread, spread_join}
+use Rattle.ja_state.proofs.SpreadLemmas.{SpreadSteps, spread, spread_join}
 
 -- each number is a key's
 pub numbered : (q : ℕ) → (k : Key) × (key_number k ≡ q)
@@ -30,7 +31,7 @@ pub object_join : (a mid last other : AObject) (common : AProp) (listed_changed 
     → (listed_changed ≡ true → (q : ℕ) × (option_map property_of (get nat_cmp last.listed q) ≢ option_map property_of (get nat_cmp mid.listed q)))
     → (listed_changed ≡ false → (q : ℕ) → option_map property_of (get nat_cmp last.listed q) ≡ option_map property_of (get nat_cmp mid.listed q)) → last.common ≡ mid.common
     → property_of common ≡ join_properties (property_of last.common) (property_of other.common) → (common_changed ≡ true → property_of common ≢ property_of last.common) → (common_changed ≡ false → property_of common ≡ property_of last.common)
-    → SpreadJoined join_properties (at a) (at other) (spread property_of last.listed (property_of common)) (listed_changed || common_changed)
+    → IsJoined join_properties (at a) (at other) (spread property_of last.listed (property_of common)) (listed_changed || common_changed)
 object_join a mid last other common listed_changed common_changed kept all first joined differs same second rest rest_differs rest_same =
     let e : property_of last.common ≡ property_of a.common = ap property_of (second ∙ first) in
     spread_join property_of join_properties a.listed mid.listed last.listed other.listed (property_of common) (property_of a.common) (property_of other.common) listed_changed common_changed (record {
@@ -45,14 +46,14 @@ object_join a mid last other common listed_changed common_changed kept all first
     })
 
 -- the same for whole objects
-pub whole_joined : (a other new : AObject) (changed : Bool) → SpreadJoined join_properties (at a) (at other) (at new) changed → object_of new ≡ (λ k. join_properties (object_of a k) (object_of other k))
+pub whole_joined : (a other new : AObject) (changed : Bool) → IsJoined join_properties (at a) (at other) (at new) changed → object_of new ≡ (λ k. join_properties (object_of a k) (object_of other k))
 whole_joined a other new changed h = λ i k. (h.joined (key_number k)) i
 
-pub whole_differs : (a other new : AObject) (changed : Bool) → SpreadJoined join_properties (at a) (at other) (at new) changed → changed ≡ true → object_of new ≢ object_of a
+pub whole_differs : (a other new : AObject) (changed : Bool) → IsJoined join_properties (at a) (at other) (at new) changed → changed ≡ true → object_of new ≢ object_of a
 whole_differs a other new changed h said same =
     let there = h.differs said in
     let k = numbered there.0 in
     there.1 (sym (ap (at new) k.1) ∙ ap (λ (o : Key → AbstractProperty). o k.0) same ∙ ap (at a) k.1)
 
-pub whole_same : (a other new : AObject) (changed : Bool) → SpreadJoined join_properties (at a) (at other) (at new) changed → changed ≡ false → object_of new ≡ object_of a
+pub whole_same : (a other new : AObject) (changed : Bool) → IsJoined join_properties (at a) (at other) (at new) changed → changed ≡ false → object_of new ≡ object_of a
 whole_same a other new changed h said = λ i k. (h.same said (key_number k)) i

@@ -1,10 +1,11 @@
 -- Maps with a value for each number that isn't listed.
-use Rattle.std.proofs.Common.{◌≡◌, ◌≢◌, ◌==◌, ◌||◌, ◌+◌, ℕ, ◌<◌, ◌≤◌, List, [], ◌∷◌, Bool, true, false, Option, Some, None, is_some, refl, ap, sym, ◌∙◌, arith, ◌⊎◌, inl, inr, ⊎_elim, subst}
+use Rattle.std.proofs.Common.{◌≡◌, ◌≢◌, ◌==◌, ◌||◌, ◌+◌, ℕ, ◌<◌, ◌≤◌, List, [], ◌∷◌, Bool, true, false, Option, Some, None, is_some, unwrap_or, refl, ap, sym, ◌∙◌, arith, ◌⊎◌, inl, inr, ⊎_elim, subst}
 use Rattle.std.proofs.lemmas.Grind.{common_steps}
 use Rattle.std.proofs.lemmas.Map.Entries.{lookup_tail}
 use Rattle.std.specs.Option.{option_map, option_map_or}
 use Rattle.std.specs.Ordering.{nat_cmp}
 use Rattle.std.specs.BTreeMap.{BTreeMap, get, is_at}
+use Rattle.ja_state.specs.Joined.{IsJoined}
 use Rattle.ja_state.proofs.MapLemmas.{found, some_is, or_false}
 
 -- equal where they are listed, and elsewhere
@@ -50,12 +51,6 @@ unlisted (e ∷ es) q far =
     let rest : beyond es ≤ q = omega arith in
     lookup_tail (is_at (nat_cmp q)) e es (grind (arith, common_steps)) ∙ unlisted es q rest
 
--- what a join of two spreads says
-pub record SpreadJoined {Z : Type 0} (j : Z → Z → Z) (old other new : ℕ → Z) (changed : Bool) : Type 0 where
-  pub joined : (q : ℕ) → new q ≡ j (old q) (other q)
-  pub differs : changed ≡ true → (q : ℕ) × (new q ≢ old q)
-  pub same : changed ≡ false → (q : ℕ) → new q ≡ old q
-
 abbrev pub spread : {X Z : Type 0} → (X → Z) → BTreeMap ℕ X → Z → ℕ → Z
 spread f m c q = option_map_or f (get nat_cmp m q) c
 
@@ -94,10 +89,37 @@ spread_differs f j old mid new other c d e listed common h (inr said) =
     (q, λ same. h.rest_differs said (sym (ap (λ (o : Option _). option_map_or f o c) none') ∙ same ∙ sym (h.kept q) ∙ ap (λ (o : Option _). option_map_or f o d) none))
 
 pub spread_join : {X Z : Type 0} (f : X → Z) (j : Z → Z → Z) (old mid new other : BTreeMap ℕ X) (c d e : Z) (listed common : Bool)
-    → SpreadSteps f j old mid new other c d e listed common → SpreadJoined j (spread f old d) (spread f other e) (spread f new c) (listed || common)
+    → SpreadSteps f j old mid new other c d e listed common → IsJoined j (spread f old d) (spread f other e) (spread f new c) (listed || common)
 spread_join f j old mid new other c d e listed common h = record {
   joined = λ q. spread_joined f j (get nat_cmp new q) (get nat_cmp mid q) (get nat_cmp other q) c d e (h.joined q) h.rest_joined (λ said. h.all q ∙ or_left _ _ said)
       ∙ ap (λ (z : _). j z (spread f other e q)) (h.kept q);
   differs = λ said. spread_differs f j old mid new other c d e listed common h (or_true listed common said);
   same = λ said. let none = or_false listed common said in λ q. spread_same f (get nat_cmp new q) (get nat_cmp mid q) c d (h.same none.0 q) (h.rest_same none.1) ∙ h.kept q;
 }
+
+pub or_none : (b : Bool) → (b || false) ≡ b
+or_none true = refl
+or_none false = refl
+
+-- the join where what isn't listed stays
+pub spread_join_listed : {X Z : Type 0} (f : X → Z) (j : Z → Z → Z) (old mid new other : BTreeMap ℕ X) (d : Z) (listed : Bool)
+    → d ≡ j d d → ((q : ℕ) → spread f mid d q ≡ spread f old d q) → ((q : ℕ) → is_some (get nat_cmp mid q) ≡ (is_some (get nat_cmp other q) || is_some (get nat_cmp old q)))
+    → ((q : ℕ) → option_map f (get nat_cmp new q) ≡ option_map (λ (x : X). j (f x) (spread f other d q)) (get nat_cmp mid q))
+    → (listed ≡ true → (q : ℕ) × (option_map f (get nat_cmp new q) ≢ option_map f (get nat_cmp mid q))) → (listed ≡ false → (q : ℕ) → option_map f (get nat_cmp new q) ≡ option_map f (get nat_cmp mid q))
+    → IsJoined j (spread f old d) (spread f other d) (spread f new d) listed
+spread_join_listed f j old mid new other d listed idle kept all joined differs same =
+    subst (λ (b : Bool). IsJoined j (spread f old d) (spread f other d) (spread f new d) b) (or_none listed)
+      (spread_join f j old mid new other d d d listed false (record {
+        kept = kept;
+        all = all;
+        joined = joined;
+        differs = differs;
+        same = same;
+        rest_joined = idle;
+        rest_differs = λ said. absurd (cc);
+        rest_same = λ said. refl;
+      }))
+
+pub or_default : {X : Type 0} (o : Option X) (d : X) → unwrap_or o d ≡ option_map_or (λ (x : X). x) o d
+or_default None d = refl
+or_default (Some x) d = refl

@@ -3,14 +3,14 @@ use Rattle.std.specs.Prelude.{◌≡◌, ℕ, is_some, map, filter, List, Bool, 
 use Rattle.std.specs.Option.{option_map, option_map_or, option_and_then}
 use Rattle.std.specs.List.{flat_map}
 use Rattle.std.specs.Ordering.{nat_cmp}
-use Rattle.std.specs.BTreeMap.{get}
+use Rattle.std.specs.BTreeMap.{BTreeMap, get}
 use Rattle.ja_base.specs.declared.ids.Label.{Label}
 use Rattle.ja_base.specs.declared.ids.Site.{Site}
 use denote.Ref.{Bor}
 use Rattle.ja_model.specs.declared.abstraction.Key.{Key}
 use Rattle.ja_model.specs.declared.abstraction.Mask.{Mask}
-use Rattle.ja_model.specs.AbstractValue.{AbstractValue, AbstractProperty, entry_property, undefined_value}
-use Rattle.ja_model.specs.AbstractState.{AbstractState, label_number, key_number, exactly_none}
+use Rattle.ja_model.specs.AbstractValue.{AbstractValue, AbstractProperty, entry_property, undefined_value, join_properties}
+use Rattle.ja_model.specs.AbstractState.{AbstractState, label_number, key_number, exactly_none, aged_property}
 use Rattle.ja_model.specs.Reading.{Entries}
 use Rattle.ja_value.specs.declared.property.AProp.{AProp}
 use Rattle.ja_value.specs.declared.value.AValue.{AValue}
@@ -26,15 +26,39 @@ at o q = option_map_or property_of (get nat_cmp o.listed q) (property_of o.commo
 abbrev pub object_of : AObject → Key → AbstractProperty
 object_of o k = at o (key_number k)
 
+-- whole objects, as what they have at each key
+abbrev pub Keyed : Type 0
+Keyed = Key → AbstractProperty
+
+abbrev pub entry_keyed : Keyed
+entry_keyed k = entry_property
+
+abbrev pub join_keyed : Keyed → Keyed → Keyed
+join_keyed a b k = join_properties (a k) (b k)
+
+abbrev pub aged_keyed : Site → Keyed → Keyed
+aged_keyed s a k = aged_property s (a k)
+
 -- an object that isn't kept is as at entry
+abbrev pub object_in : BTreeMap ℕ AObject → ℕ → Keyed
+object_in objects q = option_map_or object_of (get nat_cmp objects q) entry_keyed
+
 abbrev pub property_at : AState → Label → Key → AbstractProperty
-property_at a l k = option_map_or (λ (o : AObject). object_of o k) (get nat_cmp a.objects (label_number l)) entry_property
+property_at a l k = object_in a.objects (label_number l) k
+
+-- a register that there isn't is undefined
+abbrev pub register_in : List AValue → ℕ → AbstractValue
+register_in values r = option_map_or value_of (slice_get values r) undefined_value
 
 abbrev pub register_at : AState → ℕ → AbstractValue
-register_at a r = option_map_or value_of (slice_get a.registers.items r) undefined_value
+register_at a r = register_in a.registers.items r
+
+-- a site without a mask of its own has exactly none
+abbrev pub mask_in : BTreeMap ℕ Mask → ℕ → Mask
+mask_in masks s = unwrap_or (get nat_cmp masks s) exactly_none
 
 abbrev pub mask_at : AState → ℕ → Mask
-mask_at a s = unwrap_or (get nat_cmp a.masks s) exactly_none
+mask_at a s = mask_in a.masks s
 
 abbrev pub state_of : AState → AbstractState
 state_of a = record { register = register_at a; property = property_at a; mask = mask_at a }

@@ -5,7 +5,10 @@
 mod entries;
 mod keys;
 mod maps;
+mod masks;
 mod object;
+mod objects;
+mod registers;
 mod state;
 
 pub use entries::DemandedEntries;

@@ -18,7 +18,7 @@ use std::collections::BTreeMap;
 pub struct AState {
     pub registers: Vec<AValue>,
     objects: BTreeMap<u64, AObject>,
-    masks: BTreeMap<u32, Mask>,
+    masks: BTreeMap<u64, Mask>,
 }
 
 impl AState {
