@@ -3,3 +3,4 @@ pub mod SpreadLemmas
 pub mod ObjectLemmas
 pub mod RegisterLemmas
 pub mod MaskLemmas
+pub mod StateLemmas

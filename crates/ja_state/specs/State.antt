@@ -1,5 +1,5 @@
 -- What the analyser's objects, states and values at entry stand for.
-use Rattle.std.specs.Prelude.{◌≡◌, ℕ, is_some, map, filter, List, Bool, true, false, Option, Some, None, unwrap_or, slice_get}
+use Rattle.std.specs.Prelude.{◌≡◌, ◌==◌, ℕ, if◌then◌else◌, is_some, map, filter, List, Bool, true, false, Option, Some, None, unwrap_or, slice_get}
 use Rattle.std.specs.Option.{option_map, option_map_or, option_and_then}
 use Rattle.std.specs.List.{flat_map}
 use Rattle.std.specs.Ordering.{nat_cmp}
@@ -9,8 +9,8 @@ use Rattle.ja_base.specs.declared.ids.Site.{Site}
 use denote.Ref.{Bor}
 use Rattle.ja_model.specs.declared.abstraction.Key.{Key}
 use Rattle.ja_model.specs.declared.abstraction.Mask.{Mask}
-use Rattle.ja_model.specs.AbstractValue.{AbstractValue, AbstractProperty, entry_property, undefined_value, join_properties}
-use Rattle.ja_model.specs.AbstractState.{AbstractState, label_number, key_number, exactly_none, aged_property}
+use Rattle.ja_model.specs.AbstractValue.{AbstractValue, AbstractProperty, entry_property, absent_property, undefined_value, join_properties}
+use Rattle.ja_model.specs.AbstractState.{AbstractState, label_number, key_number, exactly_none, aged_property, new, old}
 use Rattle.ja_model.specs.Reading.{Entries}
 use Rattle.ja_value.specs.declared.property.AProp.{AProp}
 use Rattle.ja_value.specs.declared.value.AValue.{AValue}
@@ -42,6 +42,11 @@ aged_keyed s a k = aged_property s (a k)
 -- an object that isn't kept is as at entry
 abbrev pub object_in : BTreeMap ℕ AObject → ℕ → Keyed
 object_in objects q = option_map_or object_of (get nat_cmp objects q) entry_keyed
+
+-- the objects by number after an object more was made at a site
+abbrev pub made_keyed : (ℕ → Keyed) → Site → ℕ → Keyed
+made_keyed objects s q =
+    if label_number (new s) == q then (λ (k : Key). absent_property) else if label_number (old s) == q then join_keyed (aged_keyed s (objects (label_number (old s)))) (aged_keyed s (objects (label_number (new s)))) else aged_keyed s (objects q)
 
 abbrev pub property_at : AState → Label → Key → AbstractProperty
 property_at a l k = object_in a.objects (label_number l) k

@@ -1,13 +1,18 @@
-ghost use Rattle.std.specs.Prelude.{◌≡◌, ◌≢◌, ◌==◌, ◌||◌, ℕ, IfOk, true, false, is_some};
+ghost use Rattle.std.specs.Prelude.{◌≡◌, ◌≢◌, ◌==◌, ◌||◌, ℕ, IfOk, true, false, None, is_some, if◌then◌else◌};
 ghost use Rattle.std.specs.Option.{option_map};
 ghost use Rattle.std.specs.Ordering.{nat_cmp};
 ghost use Rattle.std.specs.BTreeMap.{get};
-ghost use Rattle.ja_state.specs.State.{object_of, object_in, entry_keyed, join_keyed, aged_keyed};
+ghost use Rattle.ja_model.specs.AbstractState.{same_key};
+ghost use Rattle.ja_value.specs.Value.{property_of};
+ghost use Rattle.ja_state.specs.State.{object_of, object_in, entry_keyed, join_keyed, aged_keyed, made_keyed};
 ghost use Rattle.ja_state.specs.Joined.{IsJoined};
 
 use crate::AObject;
+use crate::keys::label_number;
 use crate::maps::put;
-use ja_base::{Memory, Site};
+use ja_base::{Label, Memory, Site};
+use ja_model::Key;
+use ja_value::AProp;
 use std::alloc::Global;
 use std::collections::BTreeMap;
 use std::mem;
@@ -90,4 +95,40 @@ pub fn aged_objects(alloc: Global, objects: &BTreeMap<u64, AObject>, site: Site)
         put(&mut aged, *number, object.aged(alloc, site)?)?;
     }
     Ok(aged)
+}
+
+/// Takes out the object at a number, as it is.
+fn take_out(objects: &mut BTreeMap<u64, AObject>, alloc: Global, number: u64) -> AObject
+    ensures object { object_of result ≡ object_in objects.old number }
+    ensures others { (q : ℕ) → get nat_cmp objects.new q ≡ (if number == q then None else get nat_cmp objects.old q) }
+{
+    match objects.remove(&number) {
+        Some(object) => object,
+        None => AObject::entry(alloc),
+    }
+}
+
+/// Replaces a property of the object at a number.
+pub fn write_at(objects: &mut BTreeMap<u64, AObject>, alloc: Global, number: u64, key: Key, property: AProp) -> Result<(), Memory>
+    ensures { IfOk result (λ _. (q : ℕ) → object_in objects.new q ≡ (if number == q then (λ k. if same_key key k then property_of property else object_in objects.old number k) else object_in objects.old q)) }
+{
+    let mut object = take_out(objects, alloc, number);
+    object.write(key, property)?;
+    put(objects, number, object)?;
+    Ok(())
+}
+
+/// The objects after an object more was made at a site.
+pub fn made_objects(alloc: Global, objects: &BTreeMap<u64, AObject>, site: Site) -> Result<BTreeMap<u64, AObject>, Memory>
+    ensures { IfOk result (λ m. (q : ℕ) → object_in m q ≡ made_keyed (object_in objects.now) site q) }
+{
+    let new = label_number(Label { site, old: false });
+    let old = label_number(Label { site, old: true });
+    let mut made = aged_objects(alloc, objects, site)?;
+    let mut older = take_out(&mut made, alloc, old);
+    let newer = take_out(&mut made, alloc, new);
+    let _changed = older.join(alloc, &newer)?;
+    put(&mut made, old, older)?;
+    put(&mut made, new, AObject::absent(alloc))?;
+    Ok(made)
 }

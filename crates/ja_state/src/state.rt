@@ -7,6 +7,10 @@ ghost use Rattle.ja_value.specs.Value.{value_of, property_of};
 
 use crate::AObject;
 use crate::keys::label_number;
+use crate::maps::put;
+use crate::masks::{copy_masks, join_masks, mask_at};
+use crate::objects::{copy_objects, join_objects, made_objects, write_at};
+use crate::registers::{aged_values, copy_values, entry_values, join_values};
 use ja_base::{Label, Memory, Reg, Site};
 use ja_model::{Key, Mask};
 use ja_value::{AProp, AValue};
@@ -30,7 +34,11 @@ impl AState {
         ensures state { IfOk result (λ a. state_of a ≡ entry_state) }
         ensures registers { IfOk result (λ a. vec_len a.registers ≡ registers) }
     {
-        Err(Memory)
+        Ok(AState {
+            registers: entry_values(alloc, registers)?,
+            objects: BTreeMap::new(alloc),
+            masks: BTreeMap::new(alloc),
+        })
     }
 
     /// The value of a register.
@@ -61,10 +69,7 @@ impl AState {
     pub fn mask(&self, site: Site) -> Mask
         ensures { result ≡ (state_of self.now).mask site.0 }
     {
-        Mask {
-            none: true,
-            some: false,
-        }
+        mask_at(&self.masks, u64::from(site.0))
     }
 
     /// Replaces a property. After `Memory` the state may be anything.
@@ -72,7 +77,8 @@ impl AState {
         ensures state { IfOk result (λ _. state_of self.new ≡ with_property (state_of self.old) label key (property_of property)) }
         ensures registers { vec_len self.new.registers ≡ vec_len self.old.registers }
     {
-        Err(Memory)
+        write_at(&mut self.objects, alloc, label_number(label), key, property)?;
+        Ok(())
     }
 
     /// The same state once more.
@@ -80,7 +86,11 @@ impl AState {
         ensures state { IfOk result (λ a. state_of a ≡ state_of self.now) }
         ensures registers { IfOk result (λ a. vec_len a.registers ≡ vec_len self.now.registers) }
     {
-        Err(Memory)
+        Ok(AState {
+            registers: copy_values(alloc, &self.registers)?,
+            objects: copy_objects(alloc, &self.objects)?,
+            masks: copy_masks(alloc, &self.masks)?,
+        })
     }
 
     /// Joins another state in, and tells whether the state changed. After `Memory` it may be anything.
@@ -91,7 +101,10 @@ impl AState {
         ensures same { IfOk result (λ c. c ≡ false → state_of self.new ≡ state_of self.old) }
         ensures registers { IfOk result (λ _. vec_len self.new.registers ≡ vec_len self.old.registers) }
     {
-        Err(Memory)
+        let registers = join_values(&mut self.registers, alloc, &other.registers)?;
+        let objects = join_objects(&mut self.objects, alloc, &other.objects)?;
+        let masks = join_masks(&mut self.masks, alloc, &other.masks)?;
+        Ok(registers | objects | masks)
     }
 
     /// The state after an object more was made at a site: the object that was new is old, and the
@@ -100,7 +113,17 @@ impl AState {
         ensures state { IfOk result (λ a. state_of a ≡ with_made (state_of self.now) site) }
         ensures registers { IfOk result (λ a. vec_len a.registers ≡ vec_len self.now.registers) }
     {
-        Err(Memory)
+        let mut masks = copy_masks(alloc, &self.masks)?;
+        let made = Mask {
+            none: false,
+            some: true,
+        };
+        put(&mut masks, u64::from(site.0), made)?;
+        Ok(AState {
+            registers: aged_values(alloc, &self.registers, site)?,
+            objects: made_objects(alloc, &self.objects, site)?,
+            masks,
+        })
     }
 
     /// The labels of the first `sites` sites whose objects are kept, in order; all others are as at entry.
