@@ -4,3 +4,6 @@ pub mod ObjectLemmas
 pub mod RegisterLemmas
 pub mod MaskLemmas
 pub mod StateLemmas
+pub mod EntryLemmas
+pub mod ListLemmas
+pub mod NumberLemmas

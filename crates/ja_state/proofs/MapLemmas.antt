@@ -1,21 +1,21 @@
 -- Maps from numbers, as what a look-up finds in the entries that a loop has still to pass.
-use Rattle.std.proofs.Common.{◌≡◌, ◌≢◌, ◌==◌, ◌||◌, ◌&&◌, ℕ, ◌<◌, ◌≤◌, List, [], ◌∷◌, Bool, true, false, Option, Some, None, is_some, if◌then◌else◌, refl, ap, sym, ◌∙◌, arith, rules, nat_eq, ◌⊎◌, inl, inr, ⊎_elim, subst}
+use Rattle.std.proofs.Common.{Less, ◌≡◌, ◌≢◌, ◌==◌, ◌||◌, ℕ, ◌<◌, List, [], ◌∷◌, Bool, true, false, Option, Some, None, if◌then◌else◌, refl, ap, sym, ◌∙◌, arith, ⊎_elim, subst}
 use Rattle.std.proofs.lemmas.Grind.{common_steps}
 use Rattle.std.proofs.lemmas.Bool.{cases_eq}
 use Rattle.std.proofs.lemmas.Bool.Decides.{nat_tests}
 use Rattle.std.proofs.lemmas.Cmp.{nat_cmp_total}
-use Rattle.std.proofs.lemmas.Map.{NonePasses, lookup-none}
-use Rattle.std.proofs.lemmas.Map.Keys.{sorted_head, sorted_tail, IsDistinct-from_sorted}
+use Rattle.std.proofs.lemmas.Map.{lookup-none}
+use Rattle.std.proofs.lemmas.Map.Keys.{sorted_tail, IsDistinct-from_sorted}
 use Rattle.std.proofs.lemmas.Map.Entries.{none_past_head, lookup_head, lookup_tail}
 use Rattle.std.proofs.lemmas.Map.Iter.{rest_more}
 use Rattle.std.specs.Map.Iter.{deref_pair, TakesFirst}
 use denote.Ref.{Bor}
 use Rattle.std.specs.Cmp.{eq_by_cmp_equiv}
-use Rattle.std.specs.Option.{option_map, option_map_or}
+use Rattle.std.specs.Option.{option_map}
 use Rattle.std.specs.Ordering.{nat_cmp}
 use Rattle.std.specs.Map.{lookup, keys_of}
 use Rattle.std.specs.List.Sorted.{IsStrictlySortedBy}
-use Rattle.std.specs.BTreeMap.{BTreeMap, get, is_at, Updates, IsOrdered, IsEmpty}
+use Rattle.std.specs.BTreeMap.{BTreeMap, get, is_at, Updates}
 
 -- what entries have at a number
 abbrev pub found : {X : Type 0} → List (ℕ × X) → ℕ → Option X
@@ -25,6 +25,15 @@ found es q = lookup (is_at (nat_cmp q)) es
 abbrev pub over : {X : Type 0} → Option X → Option X → Option X
 over (Some x) o = Some x
 over None o = o
+
+pub equal_from_test : (a b : ℕ) → (a == b) ≡ true → a ≡ b
+equal_from_test a b same = grind (arith, common_steps, nat_tests)
+
+pub less_than : (a b : ℕ) → nat_cmp a b ≡ Less → a < b
+less_than a b less = grind (arith, common_steps, nat_tests)
+
+pub same_number : (a : ℕ) → (a == a) ≡ true
+same_number a = grind (arith, common_steps, nat_tests)
 
 pub is_at_eq : (a b : ℕ) → is_at (nat_cmp a) b ≡ (b == a)
 is_at_eq a b = grind (arith, common_steps)
@@ -128,3 +137,7 @@ pub joining_turn : {X Z : Type 0} (f : X → Z) (j : ℕ → Z → Z) (all rest 
     → f w ≡ j e.0 (f e.1) → (more ≡ true → f w ≢ f e.1) → (more ≡ false → f w ≡ f e.1) → Joining f j all left next (changed || more)
 joining_turn f j all rest left out next changed more e w is h =
     joining_step f j all left out next changed more e w (subst (λ (es : List (ℕ × _)). Joining f j all es out changed) is h)
+
+-- when nothing is left
+pub moved_end : {X Z : Type 0} (f : ℕ → X → Z) (g : X → Z) (all rest : List (ℕ × X)) (out : BTreeMap ℕ X) → rest ≡ [] → Moved f g all rest out → (q : ℕ) → option_map g (get nat_cmp out q) ≡ option_map (f q) (found all q)
+moved_end f g all rest out none h q = sym (ap (λ (es : List (ℕ × _)). over (option_map (f q) (found es q)) (option_map g (get nat_cmp out q))) none) ∙ h.each q

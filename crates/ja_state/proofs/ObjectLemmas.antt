@@ -1,5 +1,5 @@
 -- Objects by the numbers of keys.
-use Rattle.std.proofs.Common.{◌≡◌, ◌≢◌, ◌||◌, ◌+◌, ℕ, zero, suc, Bool, true, false, Option, is_some, refl, ap, sym, ◌∙◌, arith}
+use Rattle.std.proofs.Common.{◌≡◌, ◌≢◌, ◌||◌, ℕ, zero, suc, Bool, true, false, is_some, refl, ap, sym, ◌∙◌, arith}
 use Rattle.std.specs.Option.{option_map}
 use Rattle.std.specs.Ordering.{nat_cmp}
 use Rattle.std.specs.BTreeMap.{get}
@@ -13,7 +13,7 @@ use Rattle.ja_value.specs.Value.{property_of}
 use Rattle.ja_state.specs.declared.object.AObject.{AObject}
 use Rattle.ja_state.specs.Joined.{IsJoined}
 use Rattle.ja_state.specs.State.{at, object_of}
-use Rattle.ja_state.proofs.SpreadLemmas.{SpreadSteps, spread, spread_join}
+use Rattle.ja_state.proofs.SpreadLemmas.{spread, spread_join}
 
 -- each number is a key's
 pub numbered : (q : ℕ) → (k : Key) × (key_number k ≡ q)

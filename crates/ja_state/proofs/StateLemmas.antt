@@ -1,5 +1,5 @@
 -- States by their registers, objects and masks.
-use Rattle.std.proofs.Common.{◌≡◌, ◌≢◌, ◌==◌, ◌||◌, ◌&&◌, ◌+◌, ◌*◌, ◌<◌, ◌≤◌, ℕ, List, [], Bool, true, false, Option, Some, None, is_some, if◌then◌else◌, length, map, refl, ap, sym, ◌∙◌, arith, ◌⊎◌, inl, inr, ⊎_elim, ◌/◌, ◌%◌, zero-add, unwrap_or}
+use Rattle.std.proofs.Common.{◌≡◌, ◌≢◌, ◌==◌, ◌||◌, ◌&&◌, ◌+◌, ◌*◌, ◌<◌, ◌≤◌, ℕ, List, Bool, true, false, Option, Some, None, if◌then◌else◌, length, map, refl, ap, sym, ◌∙◌, arith, ⊎_elim, ◌/◌, ◌%◌, zero-add, unwrap_or}
 use Rattle.std.proofs.lemmas.Grind.{common_steps}
 use Rattle.std.proofs.lemmas.Bool.Decides.{nat_tests}
 use Rattle.std.proofs.lemmas.Option.{slice_get-map, slice_get-get_or}
@@ -14,23 +14,20 @@ use Rattle.ja_base.specs.declared.ids.Label.{Label}
 use Rattle.ja_base.specs.declared.ids.Site.{Site}
 use Rattle.ja_model.specs.declared.abstraction.Key.{Key}
 use Rattle.ja_model.specs.declared.abstraction.Mask.{Mask}
-use Rattle.ja_model.specs.AbstractValue.{AbstractValue, AbstractProperty, Labels, no_labels, join, join_properties, same_label, undefined_value, absent_property, entry_property}
-use Rattle.ja_model.specs.AbstractState.{AbstractState, label_number, new, old, aged, aged_property, entry_registers, made_property, join_masks, exactly_none, exactly_some, with_made}
+use Rattle.ja_model.specs.AbstractValue.{AbstractProperty, no_labels, join, same_label, undefined_value, absent_property, entry_property}
+use Rattle.ja_model.specs.AbstractState.{AbstractState, label_number, new, old, aged, entry_registers, made_property, join_masks, exactly_none, exactly_some, with_made}
 use Rattle.ja_value.specs.declared.value.AValue.{AValue}
 use Rattle.ja_value.specs.Value.{value_of}
 use Rattle.ja_state.specs.declared.object.AObject.{AObject}
 use Rattle.ja_state.specs.declared.state.AState.{AState}
 use Rattle.ja_state.specs.Joined.{IsJoined}
+use Rattle.ja_state.specs.Numbers.{label_of}
 use Rattle.ja_state.specs.State.{Keyed, state_of, register_in, object_of, object_in, mask_in, entry_keyed, join_keyed, aged_keyed, made_keyed}
 use Rattle.ja_state.proofs.SpreadLemmas.{spread_same, spread_mapped, or_true}
 use Rattle.ja_state.proofs.MapLemmas.{some_is, found}
 use Rattle.ja_state.proofs.RegisterLemmas.{register_past}
 
 -- ---- labels
-
--- the label of a number
-abbrev pub label_of : ℕ → Label
-label_of q = record { site = record { 0 = q / 2 }; old = (q % 2) == 1 }
 
 pub halves : (q r b : ℕ) → q % 2 ≡ r → (b ≡ (if r == 1 then 1 else 0)) → 2 * (q / 2) + b ≡ q
 halves q r b rest bit =

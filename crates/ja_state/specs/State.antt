@@ -1,6 +1,6 @@
 -- What the analyser's objects, states and values at entry stand for.
 use Rattle.std.specs.Prelude.{◌≡◌, ◌==◌, ℕ, if◌then◌else◌, is_some, map, filter, List, Bool, true, false, Option, Some, None, unwrap_or, slice_get}
-use Rattle.std.specs.Option.{option_map, option_map_or, option_and_then}
+use Rattle.std.specs.Option.{option_map_or}
 use Rattle.std.specs.List.{flat_map}
 use Rattle.std.specs.Ordering.{nat_cmp}
 use Rattle.std.specs.BTreeMap.{BTreeMap, get}
@@ -17,6 +17,7 @@ use Rattle.ja_value.specs.declared.value.AValue.{AValue}
 use Rattle.ja_value.specs.Value.{value_of, property_of}
 use Rattle.ja_state.specs.declared.object.AObject.{AObject}
 use Rattle.ja_state.specs.declared.state.AState.{AState}
+use Rattle.ja_state.specs.Numbers.{entry_in}
 use Rattle.ja_state.specs.declared.entries.DemandedEntries.{DemandedEntries}
 
 -- the property of an object at a key: the one that is listed, else the common one
@@ -70,7 +71,7 @@ state_of a = record { register = register_at a; property = property_at a; mask =
 
 -- the values at entry that were demanded
 abbrev pub entries_of : DemandedEntries → Entries
-entries_of e l k = option_and_then (λ (o : _). option_map property_of (get nat_cmp o (key_number k))) (get nat_cmp e.objects (label_number l))
+entries_of e l k = entry_in e.objects (label_number l) (key_number k)
 
 -- an object that is kept, and a mask
 abbrev pub is_listed : AState → Label → Bool

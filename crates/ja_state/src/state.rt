@@ -1,12 +1,13 @@
-ghost use Rattle.std.specs.Prelude.{◌≡◌, ◌≢◌, ◌<◌, ◌≤◌, ℕ, IfOk, IsTrue, true, false, vec_len, filter};
+ghost use Rattle.std.specs.Prelude.{◌≡◌, ◌≢◌, ◌<◌, ◌≤◌, ◌*◌, ℕ, nat_lt, [], ◌∷◌, ◌++◌, IfOk, true, false, if◌then◌else◌, vec_len, filter};
 ghost use Rattle.ja_base.specs.declared.ids.Label.{Label};
 ghost use Rattle.ja_model.specs.declared.abstraction.Key.{Key};
 ghost use Rattle.ja_model.specs.AbstractValue.{Labels, entry_property};
-ghost use Rattle.ja_model.specs.AbstractState.{entry_state, join_states, with_register, with_property, with_made, labels_below, sites_below};
+ghost use Rattle.ja_model.specs.AbstractState.{entry_state, join_states, with_register, with_property, with_made, labels_below, sites_below, site_of};
+ghost use Rattle.ja_state.specs.Numbers.{label_of};
 ghost use Rattle.ja_value.specs.Value.{value_of, property_of};
 
 use crate::AObject;
-use crate::keys::label_number;
+use crate::keys::{label_at, label_number};
 use crate::maps::put;
 use crate::masks::{copy_masks, join_masks, mask_at};
 use crate::objects::{copy_objects, join_objects, made_objects, write_at};
@@ -130,13 +131,41 @@ impl AState {
     pub fn listed(&self, alloc: Global, sites: u32) -> Result<Vec<Label>, Memory>
         ensures { IfOk result (λ v. v.items ≡ filter (is_listed self.now) (labels_below sites)) }
     {
-        Err(Memory)
+        let mut labels = Vec::new(alloc);
+        for (number, _) in &self.objects {
+            push_label(&mut labels, *number, sites)?;
+        }
+        Ok(labels)
     }
 
     /// The sites below `sites` that have a mask of their own, in order; all others have exactly none.
     pub fn masked(&self, alloc: Global, sites: u32) -> Result<Vec<Site>, Memory>
         ensures { IfOk result (λ v. v.items ≡ filter (is_masked self.now) (sites_below sites)) }
     {
-        Err(Memory)
+        let mut kept = Vec::new(alloc);
+        for (site, _) in &self.masks {
+            push_site(&mut kept, *site, sites)?;
+        }
+        Ok(kept)
     }
+}
+
+/// Adds the label of a number, if it is of the first sites.
+fn push_label(labels: &mut Vec<Label>, number: u64, sites: u32) -> Result<(), Memory>
+    ensures { IfOk result (λ _. labels.new.items ≡ labels.old.items ++ (if nat_lt number (2 * sites) then label_of number ∷ [] else [])) }
+{
+    if let Some(label) = label_at(number, sites) {
+        labels.push(label)?;
+    }
+    Ok(())
+}
+
+/// Adds a site, if it is of the first.
+fn push_site(kept: &mut Vec<Site>, site: u64, sites: u32) -> Result<(), Memory>
+    ensures { IfOk result (λ _. kept.new.items ≡ kept.old.items ++ (if nat_lt site sites then site_of site ∷ [] else [])) }
+{
+    if site < u64::from(sites) {
+        kept.push(Site(site as u32))?;
+    }
+    Ok(())
 }
