@@ -1,5 +1,4 @@
 -- What the analyser's sets of labels, values and properties stand for.
-use Rattle.std.specs.Prelude.{ℕ, Bool}
 use Rattle.std.specs.Ordering.{nat_cmp}
 use Rattle.std.specs.BTreeSet.{contains}
 use Rattle.ja_value.specs.declared.label_set.LabelSet.{LabelSet}

@@ -1,8 +1,10 @@
-ghost use Rattle.std.specs.Prelude.{◌≡◌, ◌||◌, filter, IfOk};
+ghost use Rattle.std.specs.Prelude.{◌≡◌, ◌≢◌, ◌||◌, ◌&&◌, ◌<◌, ◌↔◌, ◌==◌, ◌^◌, if◌then◌else◌, filter, IfOk, IsTrue, true, false};
+ghost use Rattle.std.specs.List.{list_any};
 ghost use Rattle.ja_model.specs.AbstractValue.{same_label, no_labels};
-ghost use Rattle.ja_model.specs.AbstractState.{labels_below};
+ghost use Rattle.ja_model.specs.AbstractState.{labels_below, label_number, new, old};
+ghost use Rattle.ja_value.specs.Labels.{label_at, aged_labels};
 
-use ja_base::{Label, Memory};
+use ja_base::{Label, Memory, Site};
 use std::alloc::Global;
 use std::collections::BTreeSet;
 
@@ -10,6 +12,24 @@ use std::collections::BTreeSet;
 #[derive(Drop)]
 pub struct LabelSet {
     numbers: BTreeSet<u64>,
+}
+
+/// The number of a label.
+fn label_number(label: Label) -> u64
+    ensures { result ≡ label_number label }
+{
+    2 * u64::from(label.site.0) + u64::from(label.old)
+}
+
+/// The label of a number.
+fn label_at(number: u64) -> Label
+    requires { number < 2 ^ 33 }
+    ensures { result ≡ label_at number }
+{
+    Label {
+        site: Site((number / 2) as u32),
+        old: number % 2 == 1,
+    }
 }
 
 impl LabelSet {
@@ -24,25 +44,87 @@ impl LabelSet {
         }
     }
 
+    /// The same set once more.
+    pub fn copy(&self) -> Result<LabelSet, Memory>
+        ensures { IfOk result (λ s. labels_in s ≡ labels_in self.now) }
+    {
+        let numbers = self.numbers.clone()?;
+        Ok(LabelSet { numbers })
+    }
+
     /// Adds a label.
     pub fn insert(&mut self, label: Label) -> Result<(), Memory>
         ensures { IfOk result (λ _. labels_in self.new ≡ (λ l. labels_in self.old l || same_label label l)) }
     {
-        Err(Memory)
+        let number = label_number(label);
+        self.numbers.insert(number)?;
+        Ok(())
     }
 
     /// Whether the label is in the set.
     pub fn contains(&self, label: Label) -> bool
         ensures { result ≡ labels_in self.now label }
     {
-        self.numbers
-            .contains(&(u64::from(label.site.0) * 2 + u64::from(label.old)))
+        let number = label_number(label);
+        self.numbers.contains(&number)
+    }
+
+    /// Whether no label is in the set.
+    pub fn is_empty(&self) -> bool
+        ensures { IsTrue result ↔ (labels_in self.now ≡ no_labels) }
+    {
+        self.numbers.is_empty()
+    }
+
+    /// Whether a label of the first `sites` sites is in the set.
+    pub fn has_below(&self, sites: u32) -> bool
+        ensures { result ≡ list_any (labels_in self.now) (labels_below sites) }
+    {
+        match self.numbers.iter().next() {
+            Some(number) => *number < 2 * u64::from(sites),
+            None => false,
+        }
     }
 
     /// The labels of the first `sites` sites that are in the set, in order.
     pub fn list(&self, alloc: Global, sites: u32) -> Result<Vec<Label>, Memory>
         ensures { IfOk result (λ v. v.items ≡ filter (labels_in self.now) (labels_below sites)) }
     {
-        Err(Memory)
+        let end = 2 * u64::from(sites);
+        let mut labels = Vec::new(alloc);
+        for number in &self.numbers {
+            if *number < end {
+                labels.push(label_at(*number))?;
+            }
+        }
+        Ok(labels)
+    }
+
+    /// Adds the labels of another set, and tells whether one of them is new. After `Memory` some of
+    /// them may have been added.
+    pub fn join(&mut self, other: &LabelSet) -> Result<bool, Memory>
+        ensures joined { IfOk result (λ _. labels_in self.new ≡ (λ l. labels_in self.old l || labels_in other.now l)) }
+        ensures changed { IfOk result (λ c. c ≡ true → labels_in self.new ≢ labels_in self.old) }
+        ensures same { IfOk result (λ c. c ≡ false → labels_in self.new ≡ labels_in self.old) }
+    {
+        let mut changed = false;
+        for number in &other.numbers {
+            let added = self.numbers.insert(*number)?;
+            changed = changed | added;
+        }
+        Ok(changed)
+    }
+
+    /// An object more was made at a site: its new label becomes its old one. After `Memory` the set
+    /// may have lost the label.
+    pub fn age(&mut self, site: Site) -> Result<(), Memory>
+        ensures { IfOk result (λ _. labels_in self.new ≡ aged_labels site (labels_in self.old)) }
+    {
+        let new = label_number(Label { site, old: false });
+        if self.numbers.remove(&new) {
+            let old = label_number(Label { site, old: true });
+            self.numbers.insert(old)?;
+        }
+        Ok(())
     }
 }

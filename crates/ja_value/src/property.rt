@@ -1,4 +1,4 @@
-ghost use Rattle.std.specs.Prelude.{◌≡◌, ◌≢◌, IfOk, true, false};
+ghost use Rattle.std.specs.Prelude.{◌≡◌, ◌≢◌, ◌↔◌, IfOk, IsTrue, true, false};
 ghost use Rattle.ja_model.specs.AbstractValue.{join_properties, join_attrs, of_attrs, unknown_attrs, absent_property, entry_property};
 ghost use Rattle.ja_model.specs.AbstractState.{aged_property};
 
@@ -57,6 +57,25 @@ pub fn join_attrs(a: AAttrs, b: AAttrs) -> AAttrs
     }
 }
 
+/// Whether the same is known.
+pub fn same_attrs(a: AAttrs, b: AAttrs) -> bool
+    ensures { IsTrue result ↔ (a ≡ b) }
+{
+    a == b
+}
+
+/// Adds what another side knows, and tells whether that is new.
+pub fn widen_attrs(attrs: &mut AAttrs, other: AAttrs) -> bool
+    ensures joined { attrs.new ≡ join_attrs attrs.old other }
+    ensures changed { result ≡ true → attrs.new ≢ attrs.old }
+    ensures same { result ≡ false → attrs.new ≡ attrs.old }
+{
+    let joined = join_attrs(*attrs, other);
+    let same = same_attrs(joined, *attrs);
+    *attrs = joined;
+    !same
+}
+
 impl AProp {
     ghost use Rattle.ja_value.specs.Value.{property_of};
 
@@ -100,7 +119,9 @@ impl AProp {
         ensures changed { IfOk result (λ c. c ≡ true → property_of self.new ≢ property_of self.old) }
         ensures same { IfOk result (λ c. c ≡ false → property_of self.new ≡ property_of self.old) }
     {
-        Err(Memory)
+        let value = self.value.join(alloc, &other.value)?;
+        let attrs = widen_attrs(&mut self.attrs, other.attrs);
+        Ok(value | attrs)
     }
 
     /// The property after an object more was made at a site.

@@ -1,0 +1,17 @@
+//! Tables of abstract states: the abstract step of a node, the visits that build a table, the solver
+//! that makes a closed one, and the warnings of a table.
+#![tactic(auto)]
+
+mod demands;
+mod faults;
+mod reader;
+mod solver;
+mod step;
+mod table;
+
+pub use demands::DemandList;
+pub use faults::warnings;
+pub use reader::{Reader, Walk};
+pub use solver::{SolveFault, Solved, solve};
+pub use step::{Outcome, transfer};
+pub use table::{ATable, opening, visit};

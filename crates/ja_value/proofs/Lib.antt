@@ -1,0 +1,5 @@
+pub mod DigitLemmas
+pub mod FlagLemmas
+pub mod LabelLemmas
+pub mod TextLemmas
+pub mod ValueLemmas

@@ -1,0 +1,68 @@
+use crate::{AProp, AValue, LabelSet, exact_attrs, is_index_text};
+use ja_base::{Label, Site};
+use ja_graph::Attrs;
+use ja_model::{NumberPart, TextPart};
+use ja_prim::{Int, Num, Primitive, Text16};
+use std::alloc::Global;
+use std::test::Fail;
+
+fn text(alloc: Global, units: &[u16]) -> Result<Text16, Fail> {
+    Ok(Text16::from_units(units.to_vec(alloc)?))
+}
+
+#[test]
+fn values_join(rt: HostRuntime) -> Result<(), Fail> {
+    let alloc = rt.alloc();
+    let five = Int::new(5).ok_or("5")?;
+    let minus_one = Int::new(-1).ok_or("-1")?;
+    let mut value = AValue::of_primitive(alloc, &Primitive::Number(Num::Whole(five)))?;
+    assert!(rt; !value.join(alloc, &AValue::of_number(alloc, five))?);
+    assert_eq!(rt; value.number, NumberPart::One(five));
+    assert!(rt; value.join(alloc, &AValue::of_number(alloc, minus_one))?);
+    assert_eq!(rt; value.number, NumberPart::Whole);
+
+    let word = AValue::of_text(alloc, text(alloc, &[120])?);
+    assert!(rt; value.join(alloc, &word)?);
+    let other = AValue::of_text(alloc, text(alloc, &[48, 49])?);
+    assert!(rt; value.join(alloc, &other)?);
+    assert!(rt; matches!(value.text, TextPart::OtherText));
+    assert!(rt; is_index_text(&text(alloc, &[52, 50, 57, 52, 57, 54, 55, 50, 57, 52])?));
+    assert!(rt; !is_index_text(&text(alloc, &[52, 50, 57, 52, 57, 54, 55, 50, 57, 53])?));
+    Ok(())
+}
+
+#[test]
+fn labels_age(rt: HostRuntime) -> Result<(), Fail> {
+    let alloc = rt.alloc();
+    let site = Site(3);
+    let value = AValue::of_label(alloc, Label { site, old: false })?;
+    assert!(rt; !value.is_present(3));
+    assert!(rt; value.has_part(4));
+    let aged = value.aged(alloc, site)?;
+    let labels = aged.labels.list(alloc, 4)?;
+    assert_eq!(rt; labels.as_slice(), [Label { site, old: true }].as_slice());
+
+    let mut both = aged.labels.copy()?;
+    assert!(rt; both.join(&value.labels)?);
+    both.insert(Label {
+        site: Site(0),
+        old: true,
+    })?;
+    assert_eq!(rt; both.list(alloc, 4)?.len(), 3);
+    assert_eq!(rt; both.list(alloc, 3)?.len(), 1);
+    assert!(rt; LabelSet::new(alloc).is_empty());
+
+    let attrs = Attrs {
+        read_only: true,
+        dont_enum: false,
+        dont_delete: false,
+    };
+    let mut property = AProp {
+        value: value.copy(alloc)?,
+        attrs: exact_attrs(attrs),
+    };
+    assert!(rt; !property.join(alloc, &property.copy(alloc)?)?);
+    assert!(rt; property.join(alloc, &AProp::absent(alloc))?);
+    assert!(rt; property.aged(alloc, site)?.value.flags.absent);
+    Ok(())
+}

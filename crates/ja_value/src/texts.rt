@@ -1,0 +1,194 @@
+ghost use Rattle.std.specs.Prelude.{◌≡◌, ◌≢◌, ◌↔◌, ◌<◌, ◌≤◌, IsTrue, IfOk, true, false, length};
+ghost use Rattle.std.specs.List.{list_all};
+ghost use Rattle.ja_prim.specs.Index.{is_index_text, is_digit, digits_value};
+ghost use Rattle.ja_model.specs.AbstractValue.{text_class, join_text_classes, join_texts};
+ghost use Rattle.ja_model.specs.declared.abstraction.TextPart.TheVariants as text_part;
+
+use ja_base::Memory;
+use ja_model::TextPart;
+use ja_prim::Text16;
+use std::alloc::Global;
+
+/// One more than the greatest array index (ES3 15.4).
+const INDEX_END: u64 = 4_294_967_295;
+
+/// The units of the first and the last decimal digit.
+const DIGIT_ZERO: u16 = 48;
+
+const DIGIT_NINE: u16 = 57;
+
+/// Whether each unit is a decimal digit.
+fn all_digits(units: &[u16]) -> bool
+    ensures { result ≡ list_all is_digit units.now }
+{
+    units
+        .iter()
+        .all(|unit| DIGIT_ZERO <= *unit && *unit <= DIGIT_NINE)
+}
+
+/// The number that up to ten decimal digits write.
+fn digits_value(units: &[u16]) -> u64
+    requires few { length units.now ≤ 10 }
+    requires digits { list_all is_digit units.now ≡ true }
+    ensures { result ≡ digits_value 0 units.now }
+{
+    let mut value = 0;
+    for unit in units {
+        value = 10 * value + u64::from(*unit - DIGIT_ZERO);
+    }
+    value
+}
+
+/// Whether a text is the decimal text of an array index (ES3 15.4).
+pub fn is_index_text(text: &Text16) -> bool
+    ensures { result ≡ is_index_text text.now }
+{
+    let units = text.units();
+    if units.is_empty() || units.len() > 10 || !all_digits(units) {
+        return false;
+    }
+    if units[0] == DIGIT_ZERO && units.len() != 1 {
+        return false;
+    }
+    digits_value(units) < INDEX_END
+}
+
+/// The same text once more.
+pub fn copy_text(alloc: Global, text: &Text16) -> Result<Text16, Memory>
+    ensures { IfOk result (λ t. t ≡ text.now) }
+{
+    let units = text.units().to_vec(alloc)?;
+    Ok(Text16::from_units(units))
+}
+
+/// Whether two texts are the same.
+pub fn same_text(a: &Text16, b: &Text16) -> bool
+    ensures { IsTrue result ↔ (a.now ≡ b.now) }
+{
+    a.units() == b.units()
+}
+
+/// The same text part once more.
+pub fn copy_text_part(alloc: Global, part: &TextPart) -> Result<TextPart, Memory>
+    ensures { IfOk result (λ p. p ≡ part.now) }
+{
+    match part {
+        TextPart::Nothing => Ok(TextPart::Nothing),
+        TextPart::One(text) => {
+            let text = copy_text(alloc, text)?;
+            Ok(TextPart::One(text))
+        }
+        TextPart::IndexText => Ok(TextPart::IndexText),
+        TextPart::OtherText => Ok(TextPart::OtherText),
+        TextPart::Text => Ok(TextPart::Text),
+    }
+}
+
+/// The class of a text part: a constant's, or the part itself.
+pub fn text_class(part: &TextPart) -> TextPart
+    ensures { result ≡ text_class part.now }
+{
+    match part {
+        TextPart::Nothing => TextPart::Nothing,
+        TextPart::One(text) => {
+            if is_index_text(text) {
+                TextPart::IndexText
+            } else {
+                TextPart::OtherText
+            }
+        }
+        TextPart::IndexText => TextPart::IndexText,
+        TextPart::OtherText => TextPart::OtherText,
+        TextPart::Text => TextPart::Text,
+    }
+}
+
+/// The least class that holds two classes, neither of them `Nothing`.
+fn join_text_classes(a: &TextPart, b: &TextPart) -> TextPart
+    ensures { result ≡ join_text_classes a.now b.now }
+{
+    match a {
+        TextPart::IndexText => match b {
+            TextPart::IndexText => TextPart::IndexText,
+            _ => TextPart::Text,
+        },
+        TextPart::OtherText => match b {
+            TextPart::OtherText => TextPart::OtherText,
+            _ => TextPart::Text,
+        },
+        _ => TextPart::Text,
+    }
+}
+
+/// A constant joined with a part.
+fn join_one(alloc: Global, text: &Text16, part: &TextPart) -> Result<TextPart, Memory>
+    ensures { IfOk result (λ p. p ≡ join_texts (text_part.One text.now) part.now) }
+{
+    let class = class_of_text(text);
+    match part {
+        TextPart::Nothing => Ok(TextPart::One(copy_text(alloc, text)?)),
+        TextPart::One(other) => {
+            if same_text(text, other) {
+                return Ok(TextPart::One(copy_text(alloc, text)?));
+            }
+            Ok(join_text_classes(&class, &class_of_text(other)))
+        }
+        _ => Ok(join_text_classes(&class, part)),
+    }
+}
+
+/// The class of a text.
+fn class_of_text(text: &Text16) -> TextPart
+    ensures { result ≡ text_class (text_part.One text.now) }
+{
+    if is_index_text(text) {
+        TextPart::IndexText
+    } else {
+        TextPart::OtherText
+    }
+}
+
+/// The least text part that holds two.
+pub fn join_texts(alloc: Global, a: &TextPart, b: &TextPart) -> Result<TextPart, Memory>
+    ensures { IfOk result (λ p. p ≡ join_texts a.now b.now) }
+{
+    match a {
+        TextPart::Nothing => copy_text_part(alloc, b),
+        TextPart::One(text) => join_one(alloc, text, b),
+        _ => match b {
+            TextPart::Nothing => copy_text_part(alloc, a),
+            _ => Ok(join_text_classes(a, &text_class(b))),
+        },
+    }
+}
+
+/// Whether two text parts are the same.
+pub fn same_texts(a: &TextPart, b: &TextPart) -> bool
+    ensures { IsTrue result ↔ (a.now ≡ b.now) }
+{
+    match a {
+        TextPart::Nothing => matches!(b, TextPart::Nothing),
+        TextPart::One(text) => match b {
+            TextPart::One(other) => same_text(text, other),
+            _ => false,
+        },
+        TextPart::IndexText => matches!(b, TextPart::IndexText),
+        TextPart::OtherText => matches!(b, TextPart::OtherText),
+        TextPart::Text => matches!(b, TextPart::Text),
+    }
+}
+
+/// Joins a text part in, and tells whether the part changed. After `Memory` the part is as it was.
+pub fn widen_text(alloc: Global, part: &mut TextPart, other: &TextPart) -> Result<bool, Memory>
+    ensures joined { IfOk result (λ _. part.new ≡ join_texts part.old other.now) }
+    ensures changed { IfOk result (λ c. c ≡ true → part.new ≢ part.old) }
+    ensures same { IfOk result (λ c. c ≡ false → part.new ≡ part.old) }
+{
+    if same_texts(part, other) || matches!(other, TextPart::Nothing) {
+        return Ok(false);
+    }
+    let joined = join_texts(alloc, part, other)?;
+    let same = same_texts(&joined, part);
+    *part = joined;
+    Ok(!same)
+}
