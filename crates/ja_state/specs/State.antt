@@ -1,44 +1,77 @@
 -- What the analyser's objects, states and values at entry stand for.
-use Rattle.std.specs.Prelude.{◌≡◌, ℕ, is_some, map, filter, List, Bool, true, false, Option, Some, None, unwrap_or, slice_get}
-use Rattle.std.specs.Option.{option_map, option_map_or, option_and_then}
+use Rattle.std.specs.Prelude.{◌≡◌, ◌==◌, ℕ, if◌then◌else◌, is_some, map, filter, List, Bool, true, false, Option, Some, None, unwrap_or, slice_get}
+use Rattle.std.specs.Option.{option_map_or}
 use Rattle.std.specs.List.{flat_map}
 use Rattle.std.specs.Ordering.{nat_cmp}
-use Rattle.std.specs.BTreeMap.{get}
+use Rattle.std.specs.BTreeMap.{BTreeMap, get}
 use Rattle.ja_base.specs.declared.ids.Label.{Label}
 use Rattle.ja_base.specs.declared.ids.Site.{Site}
 use denote.Ref.{Bor}
 use Rattle.ja_model.specs.declared.abstraction.Key.{Key}
 use Rattle.ja_model.specs.declared.abstraction.Mask.{Mask}
-use Rattle.ja_model.specs.AbstractValue.{AbstractValue, AbstractProperty, entry_property, undefined_value}
-use Rattle.ja_model.specs.AbstractState.{AbstractState, label_number, key_number, exactly_none}
+use Rattle.ja_model.specs.AbstractValue.{AbstractValue, AbstractProperty, entry_property, absent_property, undefined_value, join_properties}
+use Rattle.ja_model.specs.AbstractState.{AbstractState, label_number, key_number, exactly_none, aged_property, new, old}
 use Rattle.ja_model.specs.Reading.{Entries}
 use Rattle.ja_value.specs.declared.property.AProp.{AProp}
 use Rattle.ja_value.specs.declared.value.AValue.{AValue}
 use Rattle.ja_value.specs.Value.{value_of, property_of}
 use Rattle.ja_state.specs.declared.object.AObject.{AObject}
 use Rattle.ja_state.specs.declared.state.AState.{AState}
+use Rattle.ja_state.specs.Numbers.{entry_in}
 use Rattle.ja_state.specs.declared.entries.DemandedEntries.{DemandedEntries}
 
 -- the property of an object at a key: the one that is listed, else the common one
+abbrev pub at : AObject → ℕ → AbstractProperty
+at o q = option_map_or property_of (get nat_cmp o.listed q) (property_of o.common)
+
 abbrev pub object_of : AObject → Key → AbstractProperty
-object_of o k = option_map_or property_of (get nat_cmp o.listed (key_number k)) (property_of o.common)
+object_of o k = at o (key_number k)
+
+-- whole objects, as what they have at each key
+abbrev pub Keyed : Type 0
+Keyed = Key → AbstractProperty
+
+abbrev pub entry_keyed : Keyed
+entry_keyed k = entry_property
+
+abbrev pub join_keyed : Keyed → Keyed → Keyed
+join_keyed a b k = join_properties (a k) (b k)
+
+abbrev pub aged_keyed : Site → Keyed → Keyed
+aged_keyed s a k = aged_property s (a k)
 
 -- an object that isn't kept is as at entry
+abbrev pub object_in : BTreeMap ℕ AObject → ℕ → Keyed
+object_in objects q = option_map_or object_of (get nat_cmp objects q) entry_keyed
+
+-- the objects by number after an object more was made at a site
+abbrev pub made_keyed : (ℕ → Keyed) → Site → ℕ → Keyed
+made_keyed objects s q =
+    if label_number (new s) == q then (λ (k : Key). absent_property) else if label_number (old s) == q then join_keyed (aged_keyed s (objects (label_number (old s)))) (aged_keyed s (objects (label_number (new s)))) else aged_keyed s (objects q)
+
 abbrev pub property_at : AState → Label → Key → AbstractProperty
-property_at a l k = option_map_or (λ (o : AObject). object_of o k) (get nat_cmp a.objects (label_number l)) entry_property
+property_at a l k = object_in a.objects (label_number l) k
+
+-- a register that there isn't is undefined
+abbrev pub register_in : List AValue → ℕ → AbstractValue
+register_in values r = option_map_or value_of (slice_get values r) undefined_value
 
 abbrev pub register_at : AState → ℕ → AbstractValue
-register_at a r = option_map_or value_of (slice_get a.registers.items r) undefined_value
+register_at a r = register_in a.registers.items r
+
+-- a site without a mask of its own has exactly none
+abbrev pub mask_in : BTreeMap ℕ Mask → ℕ → Mask
+mask_in masks s = unwrap_or (get nat_cmp masks s) exactly_none
 
 abbrev pub mask_at : AState → ℕ → Mask
-mask_at a s = unwrap_or (get nat_cmp a.masks s) exactly_none
+mask_at a s = mask_in a.masks s
 
 abbrev pub state_of : AState → AbstractState
 state_of a = record { register = register_at a; property = property_at a; mask = mask_at a }
 
 -- the values at entry that were demanded
 abbrev pub entries_of : DemandedEntries → Entries
-entries_of e l k = option_and_then (λ (o : _). option_map property_of (get nat_cmp o (key_number k))) (get nat_cmp e.objects (label_number l))
+entries_of e l k = entry_in e.objects (label_number l) (key_number k)
 
 -- an object that is kept, and a mask
 abbrev pub is_listed : AState → Label → Bool

@@ -1,12 +1,18 @@
-ghost use Rattle.std.specs.Prelude.{◌≡◌, ◌≢◌, ◌&&◌, List, IfOk, Option, Some, None, is_some, true, false, if◌then◌else◌, unwrap_or};
+ghost use Rattle.std.specs.Prelude.{◌≡◌, ◌≢◌, ◌==◌, ◌&&◌, ◌+◌, ◌-◌, ◌*◌, ℕ, nat_lt, nat_le, List, [], ◌∷◌, ◌++◌, map, filter, IfOk, Option, Some, None, is_some, true, false, if◌then◌else◌, unwrap_or};
+ghost use Rattle.std.specs.Ordering.{nat_cmp};
+ghost use Rattle.std.specs.BTreeMap.{get};
 ghost use Rattle.std.specs.Option.{option_map};
 ghost use Rattle.ja_model.specs.AbstractValue.{same_label, no_property, join_properties};
-ghost use Rattle.ja_model.specs.AbstractState.{same_key, labels_below, keys_below};
+ghost use Rattle.ja_model.specs.AbstractState.{same_key, labels_below, keys_below, name_key};
 ghost use Rattle.ja_value.specs.Value.{property_of};
+ghost use Rattle.ja_state.specs.Numbers.{label_of, property_in, entry_in, is_demanded, keys_in};
 
-use ja_base::{Label, Memory};
-use ja_model::Key;
-use ja_value::AProp;
+use crate::keys::{key_number, label_at, label_number};
+use crate::maps::put;
+use crate::object::copy_properties;
+use ja_base::{Label, Memory, NameId};
+use ja_model::{Key, Slot};
+use ja_value::{AProp, AValue, unknown_attrs};
 use std::alloc::Global;
 use std::collections::BTreeMap;
 
@@ -32,7 +38,10 @@ impl DemandedEntries {
     pub fn get(&self, label: Label, key: Key) -> Option<&AProp>
         ensures { IsEntryAt self.now label key result }
     {
-        None
+        match self.objects.get(&label_number(label)) {
+            Some(properties) => properties.get(&key_number(key)),
+            None => None,
+        }
     }
 
     /// Demands a pair, which has no value yet if it wasn't demanded before, and tells whether it wasn't.
@@ -42,7 +51,11 @@ impl DemandedEntries {
         ensures changed { IfOk result (λ c. c ≡ true → entries_of self.new ≢ entries_of self.old) }
         ensures same { IfOk result (λ c. c ≡ false → entries_of self.new ≡ entries_of self.old) }
     {
-        Err(Memory)
+        let number = label_number(label);
+        let mut properties = take_out(&mut self.objects, alloc, number);
+        let changed = demand_key(&mut properties, alloc, key_number(key))?;
+        put(&mut self.objects, number, properties)?;
+        Ok(changed)
     }
 
     /// Joins a property into the value of a pair, if it is demanded, and tells whether the value changed.
@@ -52,20 +65,158 @@ impl DemandedEntries {
         ensures changed { IfOk result (λ c. c ≡ true → entries_of self.new ≢ entries_of self.old) }
         ensures same { IfOk result (λ c. c ≡ false → entries_of self.new ≡ entries_of self.old) }
     {
-        Err(Memory)
+        let number = label_number(label);
+        let mut properties = take_out(&mut self.objects, alloc, number);
+        let changed = join_key(&mut properties, alloc, key_number(key), property)?;
+        put(&mut self.objects, number, properties)?;
+        Ok(changed)
     }
 
     /// The same entries once more.
     pub fn copy(&self, alloc: Global) -> Result<DemandedEntries, Memory>
         ensures { IfOk result (λ e. entries_of e ≡ entries_of self.now) }
     {
-        Err(Memory)
+        let mut objects = BTreeMap::new(alloc);
+        for (number, properties) in &self.objects {
+            put(&mut objects, *number, copy_properties(alloc, properties)?)?;
+        }
+        Ok(DemandedEntries { objects })
     }
 
     /// The pairs that were demanded of the first `sites` sites and the first `names` names, by label and key.
     pub fn pairs(&self, alloc: Global, sites: u32, names: u32) -> Result<Vec<(Label, Key)>, Memory>
         ensures { IfOk result (λ v. v.items ≡ pairs_of (entries_of self.now) (labels_below sites) (keys_below names)) }
     {
-        Err(Memory)
+        let mut pairs = Vec::new(alloc);
+        for (number, properties) in &self.objects {
+            push_label(&mut pairs, alloc, *number, properties, sites, names)?;
+        }
+        Ok(pairs)
     }
+}
+
+/// Takes out the demanded properties at the number of a label.
+fn take_out(
+    objects: &mut BTreeMap<u64, BTreeMap<u64, AProp>>,
+    alloc: Global,
+    number: u64,
+) -> BTreeMap<u64, AProp>
+    ensures taken { (q : ℕ) → property_in result q ≡ entry_in objects.old number q }
+    ensures others { (q : ℕ) → get nat_cmp objects.new q ≡ (if number == q then None else get nat_cmp objects.old q) }
+{
+    match objects.remove(&number) {
+        Some(properties) => properties,
+        None => BTreeMap::new(alloc),
+    }
+}
+
+/// Demands the number of a key, and tells whether it wasn't demanded.
+fn demand_key(properties: &mut BTreeMap<u64, AProp>, alloc: Global, number: u64) -> Result<bool, Memory>
+    ensures demanded { IfOk result (λ _. (q : ℕ) → property_in properties.new q ≡ (if number == q then Some (unwrap_or (property_in properties.old q) no_property) else property_in properties.old q)) }
+    ensures changed { IfOk result (λ c. c ≡ true → property_in properties.new number ≢ property_in properties.old number) }
+    ensures same { IfOk result (λ c. c ≡ false → property_in properties.new number ≡ property_in properties.old number) }
+{
+    if properties.contains_key(&number) {
+        return Ok(false);
+    }
+    let property = AProp {
+        value: AValue::empty(alloc),
+        attrs: unknown_attrs(),
+    };
+    put(properties, number, property)?;
+    Ok(true)
+}
+
+/// Joins a property into the one at the number of a key, if it is demanded, and tells whether it changed.
+fn join_key(properties: &mut BTreeMap<u64, AProp>, alloc: Global, number: u64, property: &AProp) -> Result<bool, Memory>
+    ensures joined { IfOk result (λ _. (q : ℕ) → property_in properties.new q ≡ (if number == q then option_map (λ p. join_properties p (property_of property.now)) (property_in properties.old q) else property_in properties.old q)) }
+    ensures changed { IfOk result (λ c. c ≡ true → property_in properties.new number ≢ property_in properties.old number) }
+    ensures same { IfOk result (λ c. c ≡ false → property_in properties.new number ≡ property_in properties.old number) }
+{
+    match properties.remove(&number) {
+        Some(mut mine) => {
+            let changed = mine.join(alloc, property)?;
+            put(properties, number, mine)?;
+            Ok(changed)
+        }
+        None => Ok(false),
+    }
+}
+
+/// Adds the demanded pairs of the label of a number, if it is of the first sites.
+fn push_label(
+    pairs: &mut Vec<(Label, Key)>,
+    alloc: Global,
+    number: u64,
+    properties: &BTreeMap<u64, AProp>,
+    sites: u32,
+    names: u32,
+) -> Result<(), Memory>
+    ensures { IfOk result (λ _. pairs.new.items ≡ pairs.old.items ++ (if nat_lt number (2 * sites) then map (λ k. (label_of number, k)) (keys_in properties.now names) else [])) }
+{
+    if let Some(label) = label_at(number, sites) {
+        let keys = demanded_keys(alloc, properties, names)?;
+        push_pairs(pairs, label, &keys)?;
+    }
+    Ok(())
+}
+
+/// Adds the pairs of a label with keys.
+fn push_pairs(pairs: &mut Vec<(Label, Key)>, label: Label, keys: &[Key]) -> Result<(), Memory>
+    ensures { IfOk result (λ _. pairs.new.items ≡ pairs.old.items ++ map (λ k. (label, k)) keys.now) }
+{
+    for key in keys {
+        pairs.push((label, *key))?;
+    }
+    Ok(())
+}
+
+/// The keys of the first names that are demanded, in order.
+fn demanded_keys(alloc: Global, properties: &BTreeMap<u64, AProp>, names: u32) -> Result<Vec<Key>, Memory>
+    ensures { IfOk result (λ v. v.items ≡ keys_in properties.now names) }
+{
+    let mut keys = Vec::new(alloc);
+    for (number, _) in properties {
+        push_name(&mut keys, *number, names)?;
+    }
+    let others = [
+        Key::OtherIndex,
+        Key::OtherName,
+        Key::Slot(Slot::Prototype),
+        Key::Slot(Slot::Outer),
+        Key::Slot(Slot::Scope),
+        Key::Slot(Slot::Value),
+    ];
+    push_keys(&mut keys, properties, &others)?;
+    Ok(keys)
+}
+
+/// Adds the key of a number, if it is of the first names.
+fn push_name(keys: &mut Vec<Key>, number: u64, names: u32) -> Result<(), Memory>
+    ensures { IfOk result (λ _. keys.new.items ≡ keys.old.items ++ (if nat_le 6 number && nat_lt number (6 + names) then name_key (number - 6) ∷ [] else [])) }
+{
+    if 6 <= number && number < 6 + u64::from(names) {
+        keys.push(Key::Name(NameId((number - 6) as u32)))?;
+    }
+    Ok(())
+}
+
+/// Adds those keys that are demanded.
+fn push_keys(keys: &mut Vec<Key>, properties: &BTreeMap<u64, AProp>, others: &[Key]) -> Result<(), Memory>
+    ensures { IfOk result (λ _. keys.new.items ≡ keys.old.items ++ filter (is_demanded properties.now) others.now) }
+{
+    for key in others {
+        push_key(keys, properties, *key)?;
+    }
+    Ok(())
+}
+
+/// Adds a key if it is demanded.
+fn push_key(keys: &mut Vec<Key>, properties: &BTreeMap<u64, AProp>, key: Key) -> Result<(), Memory>
+    ensures { IfOk result (λ _. keys.new.items ≡ keys.old.items ++ (if is_demanded properties.now key then key ∷ [] else [])) }
+{
+    if properties.contains_key(&key_number(key)) {
+        keys.push(key)?;
+    }
+    Ok(())
 }

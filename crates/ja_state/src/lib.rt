@@ -4,7 +4,11 @@
 
 mod entries;
 mod keys;
+mod maps;
+mod masks;
 mod object;
+mod objects;
+mod registers;
 mod state;
 
 pub use entries::DemandedEntries;

@@ -1,13 +1,19 @@
-ghost use Rattle.std.specs.Prelude.{◌≡◌, ◌≢◌, IfOk, true, false, if◌then◌else◌};
+ghost use Rattle.std.specs.Prelude.{◌≡◌, ◌≢◌, ◌==◌, ◌||◌, ℕ, IfOk, true, false, if◌then◌else◌, is_some};
+ghost use Rattle.std.specs.Option.{option_map};
+ghost use Rattle.std.specs.Ordering.{nat_cmp};
+ghost use Rattle.std.specs.BTreeMap.{get};
 ghost use Rattle.ja_model.specs.AbstractValue.{absent_property, entry_property, join_properties};
 ghost use Rattle.ja_model.specs.AbstractState.{same_key, aged_property};
 ghost use Rattle.ja_value.specs.Value.{property_of};
 
+use crate::keys::key_number;
+use crate::maps::put;
 use ja_base::{Memory, Site};
 use ja_model::Key;
 use ja_value::AProp;
 use std::alloc::Global;
 use std::collections::BTreeMap;
+use std::mem;
 
 /// The properties of an abstract object by key: those that are listed, and one common to all other keys.
 #[derive(Drop)]
@@ -17,7 +23,7 @@ pub struct AObject {
 }
 
 impl AObject {
-    ghost use Rattle.ja_state.specs.State.{object_of};
+    ghost use Rattle.ja_state.specs.State.{object_of, at};
 
     /// Each property is exactly as at entry.
     pub fn entry(alloc: Global) -> AObject
@@ -43,21 +49,35 @@ impl AObject {
     pub fn read(&self, key: Key) -> &AProp
         ensures { property_of result.now ≡ object_of self.now key }
     {
-        &self.common
+        self.at(key_number(key))
+    }
+
+    /// The property at the number of a key.
+    fn at(&self, number: u64) -> &AProp
+        ensures { property_of result.now ≡ at self.now number }
+    {
+        match self.listed.get(&number) {
+            Some(property) => property,
+            None => &self.common,
+        }
     }
 
     /// Replaces the property at a key. After `Memory` the object may be anything.
     pub fn write(&mut self, key: Key, property: AProp) -> Result<(), Memory>
         ensures { IfOk result (λ _. object_of self.new ≡ (λ k. if same_key key k then property_of property else object_of self.old k)) }
     {
-        Err(Memory)
+        self.listed.insert(key_number(key), property)?;
+        Ok(())
     }
 
     /// The same object once more.
     pub fn copy(&self, alloc: Global) -> Result<AObject, Memory>
         ensures { IfOk result (λ o. object_of o ≡ object_of self.now) }
     {
-        Err(Memory)
+        Ok(AObject {
+            common: self.common.copy(alloc)?,
+            listed: copy_properties(alloc, &self.listed)?,
+        })
     }
 
     /// Joins another object in, key by key, and tells whether a property changed. After `Memory` it may be anything.
@@ -66,13 +86,86 @@ impl AObject {
         ensures changed { IfOk result (λ c. c ≡ true → object_of self.new ≢ object_of self.old) }
         ensures same { IfOk result (λ c. c ≡ false → object_of self.new ≡ object_of self.old) }
     {
-        Err(Memory)
+        self.list_all(alloc, other)?;
+        let listed = self.join_listed(alloc, other)?;
+        let common = self.common.join(alloc, &other.common)?;
+        Ok(listed | common)
+    }
+
+    /// Lists a key by its number, with the property that it has.
+    fn list(&mut self, alloc: Global, number: u64) -> Result<(), Memory>
+        ensures same { IfOk result (λ _. (q : ℕ) → at self.new q ≡ at self.old q) }
+        ensures listed { IfOk result (λ _. (q : ℕ) → is_some (get nat_cmp self.new.listed q) ≡ (number == q || is_some (get nat_cmp self.old.listed q))) }
+        ensures common { IfOk result (λ _. self.new.common ≡ self.old.common) }
+    {
+        if !self.listed.contains_key(&number) {
+            let property = self.common.copy(alloc)?;
+            put(&mut self.listed, number, property)?;
+        }
+        Ok(())
+    }
+
+    /// Lists each key that another object lists, with the property that it has.
+    fn list_all(&mut self, alloc: Global, other: &AObject) -> Result<(), Memory>
+        ensures same { IfOk result (λ _. (q : ℕ) → at self.new q ≡ at self.old q) }
+        ensures listed { IfOk result (λ _. (q : ℕ) → is_some (get nat_cmp self.new.listed q) ≡ (is_some (get nat_cmp other.now.listed q) || is_some (get nat_cmp self.old.listed q))) }
+        ensures common { IfOk result (λ _. self.new.common ≡ self.old.common) }
+    {
+        for (number, _) in &other.listed {
+            self.list(alloc, *number)?;
+        }
+        Ok(())
+    }
+
+    /// Joins the properties of another object into those that are listed, and tells whether one changed.
+    fn join_listed(&mut self, alloc: Global, other: &AObject) -> Result<bool, Memory>
+        ensures joined { IfOk result (λ _. (q : ℕ) → option_map property_of (get nat_cmp self.new.listed q) ≡ option_map (λ (p : _). join_properties (property_of p) (at other.now q)) (get nat_cmp self.old.listed q)) }
+        ensures changed { IfOk result (λ c. c ≡ true → (q : ℕ) × (option_map property_of (get nat_cmp self.new.listed q) ≢ option_map property_of (get nat_cmp self.old.listed q))) }
+        ensures same { IfOk result (λ c. c ≡ false → (q : ℕ) → option_map property_of (get nat_cmp self.new.listed q) ≡ option_map property_of (get nat_cmp self.old.listed q)) }
+        ensures common { IfOk result (λ _. self.new.common ≡ self.old.common) }
+    {
+        let mut rest = mem::replace(&mut self.listed, BTreeMap::new(alloc));
+        let mut changed = false;
+        while let Some((number, mut property)) = rest.pop_first() {
+            changed |= property.join(alloc, other.at(number))?;
+            put(&mut self.listed, number, property)?;
+        }
+        Ok(changed)
     }
 
     /// The object after an object more was made at a site.
     pub fn aged(&self, alloc: Global, site: Site) -> Result<AObject, Memory>
         ensures { IfOk result (λ o. object_of o ≡ (λ k. aged_property site (object_of self.now k))) }
     {
-        Err(Memory)
+        Ok(AObject {
+            common: self.common.aged(alloc, site)?,
+            listed: aged_properties(alloc, &self.listed, site)?,
+        })
     }
+}
+
+/// The same properties once more.
+pub fn copy_properties(alloc: Global, listed: &BTreeMap<u64, AProp>) -> Result<BTreeMap<u64, AProp>, Memory>
+    ensures { IfOk result (λ m. (q : ℕ) → option_map property_of (get nat_cmp m q) ≡ option_map property_of (get nat_cmp listed.now q)) }
+{
+    let mut copies = BTreeMap::new(alloc);
+    for (number, property) in listed {
+        put(&mut copies, *number, property.copy(alloc)?)?;
+    }
+    Ok(copies)
+}
+
+/// The properties after an object more was made at a site.
+fn aged_properties(
+    alloc: Global,
+    listed: &BTreeMap<u64, AProp>,
+    site: Site,
+) -> Result<BTreeMap<u64, AProp>, Memory>
+    ensures { IfOk result (λ m. (q : ℕ) → option_map property_of (get nat_cmp m q) ≡ option_map (λ (p : _). aged_property site (property_of p)) (get nat_cmp listed.now q)) }
+{
+    let mut aged = BTreeMap::new(alloc);
+    for (number, property) in listed {
+        put(&mut aged, *number, property.aged(alloc, site)?)?;
+    }
+    Ok(aged)
 }

@@ -1,12 +1,17 @@
-ghost use Rattle.std.specs.Prelude.{◌≡◌, ◌≢◌, ◌<◌, ◌≤◌, ℕ, IfOk, IsTrue, true, false, vec_len, filter};
+ghost use Rattle.std.specs.Prelude.{◌≡◌, ◌≢◌, ◌<◌, ◌≤◌, ◌*◌, ℕ, nat_lt, [], ◌∷◌, ◌++◌, IfOk, true, false, if◌then◌else◌, vec_len, filter};
 ghost use Rattle.ja_base.specs.declared.ids.Label.{Label};
 ghost use Rattle.ja_model.specs.declared.abstraction.Key.{Key};
 ghost use Rattle.ja_model.specs.AbstractValue.{Labels, entry_property};
-ghost use Rattle.ja_model.specs.AbstractState.{entry_state, join_states, with_register, with_property, with_made, labels_below, sites_below};
+ghost use Rattle.ja_model.specs.AbstractState.{entry_state, join_states, with_register, with_property, with_made, labels_below, sites_below, site_of};
+ghost use Rattle.ja_state.specs.Numbers.{label_of};
 ghost use Rattle.ja_value.specs.Value.{value_of, property_of};
 
 use crate::AObject;
-use crate::keys::label_number;
+use crate::keys::{label_at, label_number};
+use crate::maps::put;
+use crate::masks::{copy_masks, join_masks, mask_at};
+use crate::objects::{copy_objects, join_objects, made_objects, write_at};
+use crate::registers::{aged_values, copy_values, entry_values, join_values};
 use ja_base::{Label, Memory, Reg, Site};
 use ja_model::{Key, Mask};
 use ja_value::{AProp, AValue};
@@ -18,7 +23,7 @@ use std::collections::BTreeMap;
 pub struct AState {
     pub registers: Vec<AValue>,
     objects: BTreeMap<u64, AObject>,
-    masks: BTreeMap<u32, Mask>,
+    masks: BTreeMap<u64, Mask>,
 }
 
 impl AState {
@@ -30,7 +35,11 @@ impl AState {
         ensures state { IfOk result (λ a. state_of a ≡ entry_state) }
         ensures registers { IfOk result (λ a. vec_len a.registers ≡ registers) }
     {
-        Err(Memory)
+        Ok(AState {
+            registers: entry_values(alloc, registers)?,
+            objects: BTreeMap::new(alloc),
+            masks: BTreeMap::new(alloc),
+        })
     }
 
     /// The value of a register.
@@ -61,10 +70,7 @@ impl AState {
     pub fn mask(&self, site: Site) -> Mask
         ensures { result ≡ (state_of self.now).mask site.0 }
     {
-        Mask {
-            none: true,
-            some: false,
-        }
+        mask_at(&self.masks, u64::from(site.0))
     }
 
     /// Replaces a property. After `Memory` the state may be anything.
@@ -72,7 +78,8 @@ impl AState {
         ensures state { IfOk result (λ _. state_of self.new ≡ with_property (state_of self.old) label key (property_of property)) }
         ensures registers { vec_len self.new.registers ≡ vec_len self.old.registers }
     {
-        Err(Memory)
+        write_at(&mut self.objects, alloc, label_number(label), key, property)?;
+        Ok(())
     }
 
     /// The same state once more.
@@ -80,7 +87,11 @@ impl AState {
         ensures state { IfOk result (λ a. state_of a ≡ state_of self.now) }
         ensures registers { IfOk result (λ a. vec_len a.registers ≡ vec_len self.now.registers) }
     {
-        Err(Memory)
+        Ok(AState {
+            registers: copy_values(alloc, &self.registers)?,
+            objects: copy_objects(alloc, &self.objects)?,
+            masks: copy_masks(alloc, &self.masks)?,
+        })
     }
 
     /// Joins another state in, and tells whether the state changed. After `Memory` it may be anything.
@@ -91,7 +102,10 @@ impl AState {
         ensures same { IfOk result (λ c. c ≡ false → state_of self.new ≡ state_of self.old) }
         ensures registers { IfOk result (λ _. vec_len self.new.registers ≡ vec_len self.old.registers) }
     {
-        Err(Memory)
+        let registers = join_values(&mut self.registers, alloc, &other.registers)?;
+        let objects = join_objects(&mut self.objects, alloc, &other.objects)?;
+        let masks = join_masks(&mut self.masks, alloc, &other.masks)?;
+        Ok(registers | objects | masks)
     }
 
     /// The state after an object more was made at a site: the object that was new is old, and the
@@ -100,20 +114,58 @@ impl AState {
         ensures state { IfOk result (λ a. state_of a ≡ with_made (state_of self.now) site) }
         ensures registers { IfOk result (λ a. vec_len a.registers ≡ vec_len self.now.registers) }
     {
-        Err(Memory)
+        let mut masks = copy_masks(alloc, &self.masks)?;
+        let made = Mask {
+            none: false,
+            some: true,
+        };
+        put(&mut masks, u64::from(site.0), made)?;
+        Ok(AState {
+            registers: aged_values(alloc, &self.registers, site)?,
+            objects: made_objects(alloc, &self.objects, site)?,
+            masks,
+        })
     }
 
     /// The labels of the first `sites` sites whose objects are kept, in order; all others are as at entry.
     pub fn listed(&self, alloc: Global, sites: u32) -> Result<Vec<Label>, Memory>
         ensures { IfOk result (λ v. v.items ≡ filter (is_listed self.now) (labels_below sites)) }
     {
-        Err(Memory)
+        let mut labels = Vec::new(alloc);
+        for (number, _) in &self.objects {
+            push_label(&mut labels, *number, sites)?;
+        }
+        Ok(labels)
     }
 
     /// The sites below `sites` that have a mask of their own, in order; all others have exactly none.
     pub fn masked(&self, alloc: Global, sites: u32) -> Result<Vec<Site>, Memory>
         ensures { IfOk result (λ v. v.items ≡ filter (is_masked self.now) (sites_below sites)) }
     {
-        Err(Memory)
+        let mut kept = Vec::new(alloc);
+        for (site, _) in &self.masks {
+            push_site(&mut kept, *site, sites)?;
+        }
+        Ok(kept)
     }
+}
+
+/// Adds the label of a number, if it is of the first sites.
+fn push_label(labels: &mut Vec<Label>, number: u64, sites: u32) -> Result<(), Memory>
+    ensures { IfOk result (λ _. labels.new.items ≡ labels.old.items ++ (if nat_lt number (2 * sites) then label_of number ∷ [] else [])) }
+{
+    if let Some(label) = label_at(number, sites) {
+        labels.push(label)?;
+    }
+    Ok(())
+}
+
+/// Adds a site, if it is of the first.
+fn push_site(kept: &mut Vec<Site>, site: u64, sites: u32) -> Result<(), Memory>
+    ensures { IfOk result (λ _. kept.new.items ≡ kept.old.items ++ (if nat_lt site sites then site_of site ∷ [] else [])) }
+{
+    if site < u64::from(sites) {
+        kept.push(Site(site as u32))?;
+    }
+    Ok(())
 }

@@ -1,0 +1,9 @@
+pub mod MapLemmas
+pub mod SpreadLemmas
+pub mod ObjectLemmas
+pub mod RegisterLemmas
+pub mod MaskLemmas
+pub mod StateLemmas
+pub mod EntryLemmas
+pub mod ListLemmas
+pub mod NumberLemmas
