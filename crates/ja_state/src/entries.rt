@@ -72,6 +72,23 @@ impl DemandedEntries {
         Ok(changed)
     }
 
+    /// Sets the value of a pair, which is demanded then. After `Memory` the entries may be anything.
+    pub fn set(
+        &mut self,
+        alloc: Global,
+        label: Label,
+        key: Key,
+        property: AProp,
+    ) -> Result<(), Memory>
+        ensures { IfOk result (λ _. entries_of self.new ≡ (λ l k. if same_label label l && same_key key k then Some (property_of property) else entries_of self.old l k)) }
+    {
+        let number = label_number(label);
+        let mut properties = take_out(&mut self.objects, alloc, number);
+        set_key(&mut properties, key_number(key), property)?;
+        put(&mut self.objects, number, properties)?;
+        Ok(())
+    }
+
     /// The same entries once more.
     pub fn copy(&self, alloc: Global) -> Result<DemandedEntries, Memory>
         ensures { IfOk result (λ e. entries_of e ≡ entries_of self.now) }
@@ -125,6 +142,18 @@ fn demand_key(properties: &mut BTreeMap<u64, AProp>, alloc: Global, number: u64)
     };
     put(properties, number, property)?;
     Ok(true)
+}
+
+/// Sets the property at the number of a key.
+fn set_key(
+    properties: &mut BTreeMap<u64, AProp>,
+    number: u64,
+    property: AProp,
+) -> Result<(), Memory>
+    ensures { IfOk result (λ _. (q : ℕ) → property_in properties.new q ≡ (if number == q then Some (property_of property) else property_in properties.old q)) }
+{
+    put(properties, number, property)?;
+    Ok(())
 }
 
 /// Joins a property into the one at the number of a key, if it is demanded, and tells whether it changed.
