@@ -1,2 +1,5 @@
+pub mod Outcomes
 pub mod Readings
+pub mod Searching
 pub mod Solving
+pub mod Walking

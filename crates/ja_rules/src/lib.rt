@@ -5,9 +5,11 @@
 mod demands;
 mod faults;
 mod reader;
+mod search;
 mod solver;
 mod step;
 mod table;
+mod walk;
 
 pub use demands::DemandList;
 pub use faults::warnings;

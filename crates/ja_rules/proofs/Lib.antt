@@ -1,0 +1,3 @@
+pub mod Done
+pub mod ReadingLemmas
+pub mod WalkLemmas
