@@ -25,13 +25,13 @@ or_assoc : (a b c : Bool) → ((a || b) || c) ≡ (a || (b || c))
 or_assoc true b c = refl
 or_assoc false b c = refl
 
-or_comm : (a b : Bool) → (a || b) ≡ (b || a)
+pub or_comm : (a b : Bool) → (a || b) ≡ (b || a)
 or_comm true true = refl
 or_comm true false = refl
 or_comm false true = refl
 or_comm false false = refl
 
-or-false : (a : Bool) → a ≡ (a || false)
+pub or-false : (a : Bool) → a ≡ (a || false)
 or-false true = refl
 or-false false = refl
 
@@ -42,15 +42,15 @@ and_assoc false b c = refl
 and_true : (a b : Bool) → a ≡ true → b ≡ (a && b)
 and_true a b e = sym (ap (λ (v : Bool). v && b) e)
 
-and-true : (a : Bool) → a ≡ (a && true)
+pub and-true : (a : Bool) → a ≡ (a && true)
 and-true true = refl
 and-true false = refl
 
-and-false : (a : Bool) → false ≡ (a && false)
+pub and-false : (a : Bool) → false ≡ (a && false)
 and-false true = refl
 and-false false = refl
 
-any_and : (p : Label → Bool) (b : Bool) (xs : List Label) → list_any (λ (x : Label). p x && b) xs ≡ (b && list_any p xs)
+pub any_and : (p : Label → Bool) (b : Bool) (xs : List Label) → list_any (λ (x : Label). p x && b) xs ≡ (b && list_any p xs)
 any_and p true [] = refl
 any_and p false [] = refl
 any_and p true (x ∷ xs) =

@@ -69,6 +69,9 @@ join_values-filter f g (x ∷ xs) =
       | false ↦ join_values-filter f g xs
     ]
 
+pub read_over-filter : (f : Labels) (g : Label → AbstractValue) (labels members : List Label) → members ≡ filter f labels → join_values (map g members) ≡ join_values (map (λ (m : Label). if f m then g m else no_value) labels)
+read_over-filter f g labels members e = ap (λ (xs : List Label). join_values (map g xs)) e ∙ join_values-filter f g labels
+
 -- a walk over the objects that are asked is the walk
 pub walk_is : (w : View) (l : Label) (k : Key) (members : List Label) (over walk : Walk) → members ≡ filter (asked w l k) w.labels → IsWalkOver w k members over → Ends over walk → IsWalk w l k walk
 walk_is w l k members over walk e h ends =

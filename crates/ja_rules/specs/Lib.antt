@@ -3,3 +3,4 @@ pub mod Readings
 pub mod Searching
 pub mod Solving
 pub mod Walking
+pub mod Writing

@@ -1,20 +1,17 @@
-ghost use Rattle.std.specs.Prelude.{◌≡◌, ◌<◌, ◌++◌, ℕ, IfOk, All, length, vec_len};
-ghost use Rattle.ja_base.specs.declared.ids.NodeId.{NodeId};
-ghost use Rattle.ja_graph.specs.Program.{reference_error_prototype};
-ghost use Rattle.ja_model.specs.Machine.{name_text, unbound_message, not_a_function_message};
+ghost use Rattle.std.specs.Prelude.{◌≡◌, ◌<◌, ◌++◌, ℕ, List, IfOk, length, vec_len};
+ghost use Rattle.ja_model.specs.Machine.{name_text, is_text_length, unbound_message, not_a_function_message};
 ghost use Rattle.ja_model.specs.AbstractValue.{of_label, bare};
-ghost use Rattle.ja_model.specs.AbstractState.{new};
-ghost use Rattle.ja_model.specs.Transfer.{Out, sets, gives, throws, with_error, message_property};
-ghost use Rattle.ja_state.specs.declared.state.AState.{AState};
+ghost use Rattle.ja_model.specs.AbstractState.{AbstractState, new};
+ghost use Rattle.ja_model.specs.Transfer.{sets, gives, throws, with_error, message_property};
 ghost use Rattle.ja_state.specs.State.{state_of};
 ghost use Rattle.ja_value.specs.Value.{value_of, property_of};
-ghost use Rattle.ja_rules.specs.Readings.{view_of, demands_in, out_of};
-ghost use Rattle.ja_rules.specs.Outcomes.{given, HasRegisters, IsGiven};
+ghost use Rattle.ja_rules.specs.Readings.{view_of, demands_in};
+ghost use Rattle.ja_rules.specs.Outcomes.{IsGiven, IsOutcome};
 
 use crate::{DemandList, Outcome, Reader};
 use ja_base::{Label, Memory, NameId, NodeId, Reg, Site};
 use ja_graph::{Attrs, MESSAGE, NodeInfo, Program, THROWN};
-use ja_model::{Key, NumberPart, Slot, TextPart};
+use ja_model::{Key, Slot};
 use ja_prim::Text16;
 use ja_state::AState;
 use ja_value::{AProp, AValue, exact_attrs, unknown_attrs};
@@ -46,8 +43,7 @@ pub(crate) fn outcome(
     second: Alternative,
     demands: DemandList,
 ) -> Result<Outcome, Memory>
-    ensures out { IfOk result (λ o. out_of o ≡ record { states = given first ++ given second; demands = demands_in demands }) }
-    ensures registers { IfOk result (λ o. (n : ℕ) → HasRegisters n first → HasRegisters n second → All (λ (s : NodeId × AState). vec_len s.1.registers ≡ n) o.states.items) }
+    ensures { IfOk result (λ o. (n : ℕ) (s t : List (ℕ × AbstractState)) → IsGiven n s first → IsGiven n t second → IsOutcome n (record { states = s ++ t; demands = demands_in demands }) o) }
 {
     let mut states = Vec::new(alloc);
     if let Some(state) = first {
@@ -97,8 +93,8 @@ impl Reader<'_> {
         requires { 0 < vec_len self.now.state.now.registers }
         ensures { IfOk result (IsGiven (vec_len self.now.state.now.registers) (throws (view_of self.now) is_thrown info.now error prototype message)) }
     {
-        let fits = message.units().len() <= MAX_UNITS;
-        if !(is_thrown & fits) {
+        let is_given = is_thrown & is_text_length(&message);
+        if !is_given {
             return Ok(None);
         }
         let state = self.with_error(error, prototype, message)?;
@@ -123,6 +119,13 @@ impl Reader<'_> {
         state.set_register(THROWN, thrown);
         Ok(state)
     }
+}
+
+/// Whether a text isn't too long.
+fn is_text_length(text: &Text16) -> bool
+    ensures { result ≡ is_text_length text.now }
+{
+    text.units().len() <= MAX_UNITS
 }
 
 /// The internal property of an object whose prototype is the object of a site.

@@ -2,8 +2,10 @@
 //! that makes a closed one, and the warnings of a table.
 #![tactic(auto)]
 
+mod alternative;
 mod demands;
 mod faults;
+mod put;
 mod reader;
 mod search;
 mod solver;
