@@ -41,8 +41,11 @@ pub given_as : (n : ℕ) (s t : List (ℕ × AbstractState)) (alternative : Opti
 given_as n s t alternative g e = record { states_are = g.states_are ∙ e; registers = g.registers }
 
 -- .. and an outcome
+pub outcome_is_same : (n : ℕ) (s t : List (ℕ × AbstractState)) (d f : Demands) (o : Outcome) → IsOutcome n (record { states = s; demands = d }) o → s ≡ t → d ≡ f → IsOutcome n (record { states = t; demands = f }) o
+outcome_is_same n s t d f o h e g = record { out_is = h.out_is ∙ (λ i. record { states = e i; demands = g i }); registers = h.registers }
+
 pub outcome_as : (n : ℕ) (s t : List (ℕ × AbstractState)) (d : DemandList) (f : Demands) (o : Outcome) → IsOutcome n (record { states = s; demands = demands_in d }) o → s ≡ t → demands_in d ≡ f → IsOutcome n (record { states = t; demands = f }) o
-outcome_as n s t d f o h e g = record { out_is = h.out_is ∙ (λ i. record { states = e i; demands = g i }); registers = h.registers }
+outcome_as n s t d f o h e g = outcome_is_same n s t (demands_in d) f o h e g
 
 -- what is added to no demands is all that is demanded
 pub demands_first : (a b : DemandList) (f : Demands) → demands_in a ≡ (λ l k. false) → Adds a b f → demands_in b ≡ f

@@ -115,7 +115,12 @@ impl Reader<'_> {
         let thrown = AValue::of_label(self.alloc, label)?;
         let mut state = self.state.with_made(self.alloc, error)?;
         state.write(self.alloc, label, Key::Slot(Slot::Prototype), prototype)?;
-        state.write(self.alloc, label, Key::Name(MESSAGE), message_property(self.alloc, message))?;
+        state.write(
+            self.alloc,
+            label,
+            Key::Name(MESSAGE),
+            message_property(self.alloc, message),
+        )?;
         state.set_register(THROWN, thrown);
         Ok(state)
     }
@@ -164,7 +169,11 @@ fn with_ascii(mut units: Vec<u16>, text: &[u8]) -> Result<Vec<u16>, Memory>
 }
 
 /// The message that a name isn't bound.
-pub(crate) fn unbound_message(alloc: Global, program: &Program, name: NameId) -> Result<Text16, Memory>
+pub(crate) fn unbound_message(
+    alloc: Global,
+    program: &Program,
+    name: NameId,
+) -> Result<Text16, Memory>
     requires { name.0 < length program.now.names }
     ensures { IfOk result (λ t. t ≡ unbound_message (name_text program.now name)) }
 {

@@ -87,7 +87,8 @@ impl Reader<'_> {
         if label.old {
             origins.push(label)?;
         }
-        if if label.old { mask.some } else { mask.none } {
+        let was_new = if label.old { mask.some } else { mask.none };
+        if was_new {
             origins.push(Label {
                 site: label.site,
                 old: false,
@@ -134,7 +135,12 @@ impl Reader<'_> {
     }
 
     /// Demands what a reading of a label and a key takes from the entry.
-    pub(crate) fn demand(&self, label: Label, key: Key, demands: &mut DemandList) -> Result<(), Memory>
+    pub(crate) fn demand(
+        &self,
+        label: Label,
+        key: Key,
+        demands: &mut DemandList,
+    ) -> Result<(), Memory>
         ensures { IfOk result (λ _. Adds demands.old demands.new (demands_of (view_of self.now).state label key)) }
     {
         if self.may_be_as_at_entry(label, key) {

@@ -86,7 +86,12 @@ impl Reader<'_> {
         let value = AValue::of_primitive(self.alloc, value)?;
         let mut state = self.state.copy(self.alloc)?;
         state.set_register(dst, value);
-        let outcome = outcome(self.alloc, Some((next, state)), None, DemandList::new(self.alloc))?;
+        let outcome = outcome(
+            self.alloc,
+            Some((next, state)),
+            None,
+            DemandList::new(self.alloc),
+        )?;
         Ok(outcome)
     }
 
@@ -133,7 +138,13 @@ impl Reader<'_> {
         let base = self.state.register(base);
         let value = self.read(&base.labels, Key::Name(name), &mut demands)?;
         let message = unbound_message(self.alloc, program, name)?;
-        let thrown = self.throws(base.flags.null, info, error, REFERENCE_ERROR_PROTOTYPE, message)?;
+        let thrown = self.throws(
+            base.flags.null,
+            info,
+            error,
+            REFERENCE_ERROR_PROTOTYPE,
+            message,
+        )?;
         let given = self.sets(dst, value, info.next)?;
         let outcome = outcome(self.alloc, thrown, given, demands)?;
         Ok(outcome)

@@ -86,7 +86,12 @@ impl Reader<'_> {
         ensures same { IfOk result (λ c. c ≡ false → labels_in set.new ≡ labels_in set.old) }
     {
         let property = self.resolved(label, key)?;
-        self.add_links(label, Key::Slot(Slot::Prototype), property.value.flags.absent, set)
+        self.add_links(
+            label,
+            Key::Slot(Slot::Prototype),
+            property.value.flags.absent,
+            set,
+        )
     }
 
     /// Adds the prototypes of each object that is asked, and tells whether one of them is new.
@@ -166,7 +171,12 @@ impl Reader<'_> {
         ensures demands { IfOk result (λ _. Adds demands.old demands.new (demands_at (view_of self.now) key label)) }
     {
         let property = self.own(label, key, demands)?;
-        let ends = self.ask_slot(label, Key::Slot(Slot::Prototype), property.value.flags.absent, demands)?;
+        let ends = self.ask_slot(
+            label,
+            Key::Slot(Slot::Prototype),
+            property.value.flags.absent,
+            demands,
+        )?;
         let walk = self.met(property, ends, rest)?;
         Ok(walk)
     }
