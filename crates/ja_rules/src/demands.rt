@@ -28,6 +28,7 @@ impl DemandList {
     pub fn push(&mut self, label: Label, key: Key) -> Result<(), Memory>
         ensures { IfOk result (λ _. Adds self.old self.new (λ l k. same_label label l && same_key key k)) }
     {
-        Err(Memory)
+        self.pairs.push((label, key))?;
+        Ok(())
     }
 }

@@ -2,12 +2,16 @@
 //! that makes a closed one, and the warnings of a table.
 #![tactic(auto)]
 
+mod alternative;
 mod demands;
 mod faults;
+mod put;
 mod reader;
+mod search;
 mod solver;
 mod step;
 mod table;
+mod walk;
 
 pub use demands::DemandList;
 pub use faults::warnings;

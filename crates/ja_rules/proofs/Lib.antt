@@ -1,0 +1,6 @@
+pub mod Done
+pub mod ReadingLemmas
+pub mod SearchLemmas
+pub mod StepLemmas
+pub mod WalkLemmas
+pub mod WriteLemmas
