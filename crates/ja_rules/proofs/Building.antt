@@ -140,7 +140,7 @@ some_if true a s = refl
 some_if false a s = absurd (false≢true s)
 
 -- the step of a node that has a state is one in the program's context
-in_root : (a : ATable) (x : Context) (n : ℕ) → IsSome ((table_of a).state x n) → root ≡ x
+pub in_root : (a : ATable) (x : Context) (n : ℕ) → IsSome ((table_of a).state x n) → root ≡ x
 in_root a x n s = root_only x (some_if (same_context root x) _ s)
 
 some_within : {X : Type 0} (xs : List X) (n : ℕ) → IsSome (slice_get xs n) → n < length xs
