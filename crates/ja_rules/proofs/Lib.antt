@@ -1,4 +1,6 @@
+pub mod Building
 pub mod Done
+pub mod Operations
 pub mod ReadingLemmas
 pub mod SearchLemmas
 pub mod StepLemmas

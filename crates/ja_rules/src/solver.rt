@@ -1,14 +1,17 @@
-ghost use Rattle.std.specs.Prelude.{◌≡◌, ◌≤◌, length, IfOk, IfErr, vec_len};
+ghost use Rattle.std.specs.Prelude.{◌≡◌, ◌≤◌, ◌+◌, true, false, length, IfOk, IfErr, OnOk, vec_len};
 ghost use Rattle.ja_graph.specs.WellFormed.{IsWellFormed};
-ghost use Rattle.ja_model.specs.Table.{IsBuilt, IsClosed};
+ghost use Rattle.ja_model.specs.Table.{IsBuilt, IsClosed, IsItem, root, visited};
+ghost use Rattle.ja_model.specs.Sound.{CoversRuns};
 ghost use Rattle.ja_rules.specs.Readings.{table_of, Fits};
-ghost use Rattle.ja_rules.specs.Solving.{Explains};
+ghost use Rattle.ja_rules.specs.Solving.{AreSettled, Explains, GoesOn, HasBuilt, IsSettled, step_at};
+ghost use Rattle.ja_rules.specs.declared.solver.SolveFault.TheVariants as fault;
 
-use crate::ATable;
-use ja_base::{Memory, Seq};
-use ja_graph::Program;
-use ja_model::Item;
-use std::alloc::Global;
+use crate::{ATable, opening, visit};
+use ja_base::{Context, FnId, Label, Memory, NodeId, Seq};
+use ja_graph::{GLOBAL, Program};
+use ja_model::{Item, closed_covers};
+use std::alloc::{AllocFailed, Global};
+use std::mem;
 
 /// A closed table, and the visits that built it.
 #[derive(Drop)]
@@ -24,14 +27,145 @@ pub enum SolveFault {
     Memory,
 }
 
-/// Visits the items of the table as it stands, in rounds, until no visit changes it. Keeps the visits that did.
+impl From<Memory> for SolveFault {
+    ghost from_gives = { λ _ e. e ≡ fault.Memory };
+
+    fn from(_: Memory) -> Self {
+        SolveFault::Memory
+    }
+}
+
+impl<T: Drop> From<AllocFailed<T>> for SolveFault {
+    ghost from_gives = { λ _ e. e ≡ fault.Memory };
+
+    fn from(_: AllocFailed<T>) -> Self {
+        SolveFault::Memory
+    }
+}
+
+// The table so far, and the visits that built it.
+#[derive(Drop)]
+struct Work {
+    table: ATable,
+    visits: Vec<Item>,
+}
+
+// The step of a node in the context of the program itself.
+fn step_of(node: NodeId) -> Item
+    ensures { result ≡ step_at node.0 }
+{
+    Item::Step {
+        context: Context {
+            function: FnId(0),
+            receiver: Label {
+                site: GLOBAL,
+                old: false,
+            },
+        },
+        node,
+    }
+}
+
+impl Work {
+    // Visits an item, keeps the visit if the table changed, and tells whether it did.
+    fn take_turn(
+        &mut self,
+        alloc: Global,
+        program: &Program,
+        budget: u128,
+        item: Item,
+    ) -> Result<bool, SolveFault>
+        requires program { IsWellFormed program.now }
+        requires built { HasBuilt program.now budget self.old }
+        requires item { IsItem program.now (table_of self.old.table) item }
+        ensures built { OnOk result (HasBuilt program.now budget self.new) }
+        ensures visited { OnOk result (table_of self.new.table ≡ visited program.now (table_of self.old.table) item) }
+        ensures goes_on { OnOk result (GoesOn self.old self.new) }
+        ensures kept { IfOk result (λ k. k ≡ true → vec_len self.new.visits ≡ vec_len self.old.visits + 1) }
+        ensures same { IfOk result (λ k. k ≡ false → table_of self.new.table ≡ table_of self.old.table) }
+        ensures fault { IfErr result (Explains program.now budget) }
+    {
+        if !visit(alloc, program, &mut self.table, item)? {
+            return Ok(false);
+        }
+        if self.visits.len() as u128 >= budget {
+            return Err(SolveFault::Spent {
+                visits: Seq::from_vec(mem::replace(&mut self.visits, Vec::new(alloc))),
+            });
+        }
+        self.visits.push(item)?;
+        Ok(true)
+    }
+
+    // Takes the steps of a node until they change nothing. After each, what the program demands of
+    // its entry is filled, so that the node's next step finds it.
+    fn settle(
+        &mut self,
+        alloc: Global,
+        program: &Program,
+        budget: u128,
+        node: NodeId,
+    ) -> Result<(), SolveFault>
+        requires program { IsWellFormed program.now }
+        requires built { HasBuilt program.now budget self.old }
+        requires item { IsItem program.now (table_of self.old.table) (step_at node.0) }
+        ensures built { OnOk result (HasBuilt program.now budget self.new) }
+        ensures goes_on { OnOk result (GoesOn self.old self.new) }
+        ensures settled { OnOk result (IsSettled program.now (table_of self.new.table) (step_at node.0)) }
+        ensures fault { IfErr result (Explains program.now budget) }
+    {
+        let step = step_of(node);
+        'steps: while self.take_turn(alloc, program, budget, step)? {
+            self.take_turn(alloc, program, budget, Item::Open)?;
+        }
+        Ok(())
+    }
+
+    // Settles each node that has a state, in order.
+    fn round(&mut self, alloc: Global, program: &Program, budget: u128) -> Result<(), SolveFault>
+        requires program { IsWellFormed program.now }
+        requires built { HasBuilt program.now budget self.old }
+        ensures built { OnOk result (HasBuilt program.now budget self.new) }
+        ensures goes_on { OnOk result (GoesOn self.old self.new) }
+        ensures settled { OnOk result (vec_len self.new.visits ≡ vec_len self.old.visits → AreSettled program.now (table_of self.new.table)) }
+        ensures fault { IfErr result (Explains program.now budget) }
+    {
+        self.take_turn(alloc, program, budget, Item::Open)?;
+        for node in 0..self.table.states.len() {
+            if self.table.states[node].is_some() {
+                self.settle(alloc, program, budget, NodeId(node as u32))?;
+            }
+        }
+        Ok(())
+    }
+}
+
+/// Visits the items of the table as it stands, in rounds, until no visit changes it. Keeps the visits
+/// that did. `Spent` comes where one more would change the table.
 pub fn solve(alloc: Global, program: &Program, budget: u128) -> Result<Solved, SolveFault>
     requires { IsWellFormed program.now }
     ensures fits { IfOk result (λ s. Fits program.now s.table) }
     ensures built { IfOk result (λ s. IsBuilt program.now s.visits (table_of s.table)) }
     ensures closed { IfOk result (λ s. IsClosed program.now (table_of s.table)) }
     ensures few { IfOk result (λ s. length s.visits ≤ budget) }
+    ensures covers { IfOk result (λ s. CoversRuns program.now (table_of s.table)) }
     ensures spent { IfErr result (Explains program.now budget) }
 {
-    Err(SolveFault::Memory)
+    let mut work = Work {
+        table: opening(alloc, program)?,
+        visits: Vec::new(alloc),
+    };
+    'rounds: loop {
+        let before = work.visits.len();
+        work.round(alloc, program, budget)?;
+        if work.visits.len() == before {
+            break;
+        }
+    }
+    closed_covers();
+    let Work { table, visits } = work;
+    Ok(Solved {
+        table,
+        visits: Seq::from_vec(visits),
+    })
 }
