@@ -1,5 +1,5 @@
 -- What the opening heap has at a label and a key.
-use Rattle.std.specs.Prelude.{◌≡◌, ◌<◌, ◌≤◌, ◌==◌, ℕ, zero, suc, Bool, true, false, cond, List, [], ◌∷◌, length, map, find, Option, Some, None, IsTrue, IsSome, slice_get, unwrap_or}
+use Rattle.std.specs.Prelude.{◌≡◌, ◌<◌, ◌≤◌, ◌==◌, ℕ, suc, Bool, true, false, List, [], ◌∷◌, length, map, find, Option, Some, None, IsTrue, slice_get, unwrap_or}
 use Rattle.std.specs.Option.{is_some, option_map, option_map_or, option_to_list}
 use Rattle.std.proofs.Common.{inl, inr, refl, sym, ap, ◌∙◌, subst, arith}
 use Rattle.std.proofs.lemmas.Option.{same_Some}
@@ -20,16 +20,16 @@ use Rattle.ja_model.specs.declared.machine.Addr.{Addr}
 use Rattle.ja_model.specs.declared.machine.Property.{Property}
 use Rattle.ja_model.specs.declared.machine.Object.{Object}
 use Rattle.ja_model.specs.Heap.{object_at, count, same_text}
-use Rattle.ja_model.specs.Machine.{name_text, first_of, opening_property, opening_object, opening_objects, opening_heap}
-use Rattle.ja_model.specs.AbstractValue.{AbstractProperty, no_value, unknown_attrs, no_property, bare, of_label}
+use Rattle.ja_model.specs.Machine.{name_text, first_of, opening_property, opening_object, opening_heap}
+use Rattle.ja_model.specs.AbstractValue.{no_value, unknown_attrs, no_property, bare, of_label}
 use Rattle.ja_model.specs.AbstractState.{new, is_key}
-use Rattle.ja_model.specs.Meaning.{missing, named, internal, content, object_content, property_content, held_address, label_of, of_content, key_content, opened_at, opened}
+use Rattle.ja_model.specs.Meaning.{missing, named, internal, object_content, property_content, held_address, label_of, of_content, key_content, opened_at, opened}
 use Rattle.ja_model.proofs.Heaps
 use Rattle.ja_model.proofs.Lists.{slice_get_some, some_value}
 use Rattle.ja_model.proofs.Opening.{IsOpened, objects-opening, opened_at_address, count-opening}
 use Rattle.ja_value.specs.declared.property.AProp.{AProp}
 use Rattle.ja_value.specs.Value.{value_of, property_of}
-use Rattle.ja_rules.specs.Readings.{property_given, named_property, prototype_given, slot_property, opened_property}
+use Rattle.ja_rules.specs.Readings.{property_given, prototype_given, slot_property, opened_property}
 
 -- what a search finds is at some place, and passes the test
 pub find_at : {X : Type 0} (test : X → Bool) (xs : List X) (x : X) → find test xs ≡ Some x → (i : ℕ) × (slice_get xs i ≡ Some x) × (test x ≡ true)

@@ -1,30 +1,33 @@
 -- Tables of the program's own context, by the states at its nodes and its values at entry.
-use Rattle.std.specs.Prelude.{◌≡◌, ◌≢◌, ◌==◌, ◌<◌, ℕ, zero, suc, Bool, true, false, ◌&&◌, ◌||◌, if◌then◌else◌, List, [], ◌∷◌, length, map, replicate, Option, Some, None, IsTrue, IsSome, slice_get, vec_len}
-use Rattle.std.specs.Option.{is_some, option_map, option_map_or, option_and_then}
-use Rattle.std.proofs.Common.{inl, inr, refl, sym, ap, ◌∙◌, subst, set, arith}
-use Rattle.std.proofs.lemmas.Bool.{cases_Bool, true≢false, false≢true, eq-eqb, ne_eqb, and_parts, eqb-true}
-use Rattle.ja_base.specs.declared.ids.Label.{Label}
+use Rattle.std.specs.Prelude.{◌≡◌, ◌≢◌, ◌==◌, ◌<◌, ℕ, zero, suc, Bool, true, false, ◌&&◌, ◌||◌, if◌then◌else◌, List, [], ◌∷◌, map, replicate, Option, Some, None, IsTrue, IsSome, vec_len}
+use Rattle.std.specs.Option.{option_map, option_map_or, option_and_then}
+use Rattle.std.proofs.Common.{inl, inr, refl, sym, ap, ◌∙◌, subst, set}
+use Rattle.std.proofs.lemmas.List.{length-replicate}
+use Rattle.std.proofs.lemmas.Bool.{true≢false, false≢true, eq-eqb, ne_eqb, and_parts, eqb-true}
 use Rattle.ja_base.specs.declared.ids.NodeId.{NodeId}
 use Rattle.ja_base.specs.declared.ids.Context.{Context}
 use Rattle.ja_graph.specs.declared.node.NodeInfo.{NodeInfo}
 use Rattle.ja_graph.specs.declared.program.Program.{Program}
 use Rattle.ja_graph.specs.Program.{node_at}
-use Rattle.ja_model.specs.declared.abstraction.Key.{Key}
+use Rattle.ja_model.specs.declared.table.Item.{Item}
+use Rattle.ja_model.specs.declared.table.Item.TheVariants.{Step}
 use Rattle.ja_model.specs.Machine.{program_function}
 use Rattle.ja_model.specs.AbstractState.{AbstractState, entry_state}
 use Rattle.ja_model.specs.Reading.{Demands, Entries}
 use Rattle.ja_model.specs.Transfer.{Out, transfer}
-use Rattle.ja_model.specs.Table.{Table, root, same_context, opening_table, demanded, opened_entries, joined_state, with_demands, with_state, with_states, with_out, visit_open, visit_step}
+use Rattle.ja_model.specs.Table.{Table, root, same_context, opening_table, demanded, opened_entries, joined_state, with_demands, with_state, with_states, with_out, visit_open, visit_step, visited}
 use Rattle.ja_model.proofs.Labels.{same_label-true}
 use Rattle.ja_state.specs.declared.state.AState.{AState}
 use Rattle.ja_state.specs.State.{state_of}
 use Rattle.ja_rules.specs.declared.step.Outcome.{Outcome}
-use Rattle.ja_rules.specs.Readings.{states_in, with_given, with_all_given, given_by, demands_in, out_of}
-use Rattle.ja_rules.proofs.States.{set_at, same_or_apart}
+use Rattle.ja_rules.specs.Readings.{HaveRegisters, states_in, with_given, with_all_given, given_by, demands_in, out_of}
+use Rattle.ja_rules.proofs.States.{HaveRegisters-set, set_at, same_or_apart}
 
+-- nothing is demanded
 abbrev pub no_entries : Entries
 no_entries l k = None
 
+-- the table of these states and values at entry
 abbrev pub table_by : (ℕ → Option AbstractState) → Entries → Table
 table_by f e = record {
   state = λ x n. if same_context root x then f n else None;
@@ -88,13 +91,16 @@ table-step p f g e d n info a o node_is state_is out_is d_is g_is =
 pub table_states : (f g : ℕ → Option AbstractState) (e d : Entries) → table_by f e ≡ table_by g d → f ≡ g
 table_states f g e d h = ap (λ (t : Table). t.state root) h
 
+-- .. and the values at entry
 pub table_entries : (f g : ℕ → Option AbstractState) (e d : Entries) → table_by f e ≡ table_by g d → e ≡ d
 table_entries f g e d h = ap (λ (t : Table). t.entry root) h
 
+-- a table changed whose states or whose values at entry did
 pub table_changes : (f g : ℕ → Option AbstractState) (e d : Entries) (a b : Bool) → (a ≡ true → d ≢ e) → (b ≡ true → g ≢ f) → a || b ≡ true → table_by g d ≢ table_by f e
 table_changes f g e d true b first second h back = first refl (table_entries g f d e back)
 table_changes f g e d false b first second h back = second h (table_states g f d e back)
 
+-- .. and stayed if both did
 pub table_stays : (f g : ℕ → Option AbstractState) (e d : Entries) (a b : Bool) → (a ≡ false → d ≡ e) → (b ≡ false → g ≡ f) → a || b ≡ false → table_by g d ≡ table_by f e
 table_stays f g e d true b first second h = absurd (true≢false h)
 table_stays f g e d false b first second h = ap (λ (k : Entries). table_by g k) (first refl) ∙ ap (λ (k : ℕ → Option AbstractState). table_by k e) (second h)
@@ -108,7 +114,7 @@ none_at (suc count) (suc n) = none_at count n
 
 first_at : (count : ℕ) (s : AState) → 0 < count → (n : ℕ) → states_in (set (replicate count None) 0 (Some s)) n ≡ (if n == 0 then Some (state_of s) else None)
 first_at count s h n =
-    set_at (replicate count None) 0 s ? n ∙ elim (same_or_apart 0 n) [
+    set_at (replicate count None) 0 s (rw length-replicate h) n ∙ elim (same_or_apart 0 n) [
       | inl e ↦ rw (e.0, eq-eqb n 0 (sym e.1)) refl
       | inr e ↦ rw (e.0, ne_eqb n 0 e.1) (none_at count n)
     ]
@@ -121,8 +127,38 @@ entry_at : (b : Bool) (e : Entries) → e ≡ no_entries → (if b then e else n
 entry_at true e h = h
 entry_at false e h = refl
 
-pub table-opening : (count : ℕ) (s : AState) (e : Entries) → 0 < count → state_of s ≡ entry_state → e ≡ no_entries → table_by (states_in (set (replicate count None) 0 (Some s))) e ≡ opening_table
-table-opening count s e h state_is entry_is = λ i. record {
+opening_is : (count : ℕ) (s : AState) (e : Entries) → 0 < count → state_of s ≡ entry_state → e ≡ no_entries → table_by (states_in (set (replicate count None) 0 (Some s))) e ≡ opening_table
+opening_is count s e h state_is entry_is = λ i. record {
   state = λ x n. opening_at (same_context root x) (n == 0) (states_in (set (replicate count None) 0 (Some s)) n) (first_at count s h n ∙ ap (λ (a : AbstractState). if n == 0 then Some a else None) state_is) i;
   entry = λ x. entry_at (same_context root x) e entry_is i;
 }
+
+-- the table with the entry state at node 0
+pub table-opening : (states : List (Option AState)) (count : ℕ) (s : AState) (e : Entries) → states ≡ replicate count None → 0 < count → state_of s ≡ entry_state → e ≡ no_entries → table_by (states_in (set states 0 (Some s))) e ≡ opening_table
+table-opening states count s e states_are h state_is entry_is =
+    ap (λ (xs : List (Option AState)). table_by (states_in (set xs 0 (Some s))) e) states_are ∙ opening_is count s e h state_is entry_is
+
+registers_none : (count n : ℕ) → HaveRegisters (replicate count None) n
+registers_none count n m s at =
+    let h : Some (state_of s) ≡ None = ap (λ (o : Option (Option AState)). option_and_then (λ (q : Option AState). option_map state_of q) o) (sym at) ∙ none_at count m in
+    cc
+
+-- each state of it has the registers of that one
+pub registers-opening : (states : List (Option AState)) (count n : ℕ) (s : AState) → states ≡ replicate count None → 0 < count → vec_len s.registers ≡ n → HaveRegisters (set states 0 (Some s)) n
+registers-opening states count n s states_are h registers_are =
+    subst (λ (xs : List (Option AState)). HaveRegisters (set xs 0 (Some s)) n) (sym states_are) (HaveRegisters-set (replicate count None) 0 s n (rw length-replicate h) registers_are (registers_none count n))
+
+-- ---- the items of a table
+
+some_in : (b : Bool) (o : Option AbstractState) → IsSome (if b then o else None) → IsTrue b × IsSome o
+some_in true o h = (refl, h)
+some_in false o h = absurd (false≢true h)
+
+-- an item with a state is of the program's own context
+pub item_context : (f : ℕ → Option AbstractState) (e : Entries) (x : Context) (n : ℕ) → IsSome ((table_by f e).state x n) → (root ≡ x) × IsSome (f n)
+item_context f e x n h = let k = some_in (same_context root x) (f n) h in (same_context-true root x k.0, k.1)
+
+-- a step of the program's own context is the visit of its item
+pub visited_step : (p : Program) (t : Table) (item : Item) (x : Context) (n : NodeId) → item ≡ Step x n → root ≡ x → visit_step p t root n ≡ visited p t item
+visited_step p t item x n item_is root_is =
+    ap (λ (y : Context). visit_step p t y n) root_is ∙ sym (ap (visited p t) item_is)

@@ -1,11 +1,11 @@
 -- The visit of the opening: each pair that is demanded gets what the opening heap has.
-use Rattle.std.specs.Prelude.{◌≡◌, ◌≢◌, ◌⊎◌, ◌<◌, ◌≤◌, ◌+◌, ◌==◌, ℕ, zero, suc, Bool, true, false, ◌&&◌, ◌||◌, if◌then◌else◌, cond, List, [], ◌∷◌, ◌++◌, length, map, filter, Option, Some, None, IsTrue, IsSome}
+use Rattle.std.specs.Prelude.{◌≡◌, ◌≢◌, ◌⊎◌, ◌<◌, ◌≤◌, ◌+◌, ℕ, zero, suc, Bool, true, false, ◌&&◌, ◌||◌, if◌then◌else◌, List, [], ◌∷◌, ◌++◌, length, map, filter, Option, Some, None, IsTrue, IsSome}
 use Rattle.std.specs.Option.{is_some, option_map}
-use Rattle.std.specs.List.{list_any, range_with_len, flat_map}
+use Rattle.std.specs.List.{list_any, range_with_len}
 use Rattle.std.proofs.Common.{inl, inr, refl, sym, ap, ◌∙◌, subst, arith}
 use Rattle.std.proofs.lemmas.Option.{same_Some}
 use Rattle.std.proofs.lemmas.List.Folds.{list_any-append}
-use Rattle.std.proofs.lemmas.Bool.{cases_Bool, cases_eq, cases_lt, false≢true, true≢false, or_left, or_right, or_cases, and_from, and_parts, eq-eqb, cond-true, cond-false, ltb-true}
+use Rattle.std.proofs.lemmas.Bool.{cases_Bool, cases_eq, cases_lt, false≢true, true≢false, or_left, or_right, or_cases, and_from, and_parts, cond-true, cond-false, ltb-true}
 use Rattle.ja_base.specs.declared.ids.Label.{Label}
 use Rattle.ja_graph.specs.declared.program.Program.{Program}
 use Rattle.ja_graph.specs.WellFormed.{IsWellFormed}
@@ -27,7 +27,7 @@ use Rattle.ja_model.specs.Table.{opened_entries}
 use Rattle.ja_model.proofs.Keys.{same_key-true, same_key-self}
 use Rattle.ja_model.proofs.Labels.{IsAmong, labels_of-has, same_label-true, same_label-self}
 use Rattle.ja_model.proofs.Lists.{some_value}
-use Rattle.ja_model.proofs.Order.{LeqEntries, LeqOptionProperty, entries_equal, entries_both, no_entries_back, opened_entries-leq, option_property_same}
+use Rattle.ja_model.proofs.Order.{LeqEntries, LeqOptionProperty, no_entries_back, opened_entries-leq, option_property_same}
 use Rattle.ja_state.specs.State.{pairs_of}
 use Rattle.ja_rules.specs.Readings.{is_pair, opened_pair}
 use Rattle.ja_rules.proofs.Opened.{none_is, opened_far}
@@ -161,9 +161,11 @@ pub opened_pair_none : (p : Program) (before entries : Entries) (l : Label) (k :
 opened_pair_none p before entries l k h =
     λ i m j. pair_none (same_label l m && same_key k j) (before l k) (entries m j) (opened_entries p before l k) h i
 
+-- the value of a pair that was demanded
 pub opened_is : (p : Program) (before : Entries) (l : Label) (k : Key) (q : AbstractProperty) → before l k ≡ Some q → opened_entries p before l k ≡ Some (join_properties q (opened p l k))
 opened_is p before l k q h = ap (option_map (λ (s : AbstractProperty). join_properties s (opened p l k))) h
 
+-- a pair that wasn't demanded has none
 pub opened_is_none : (p : Program) (before : Entries) (l : Label) (k : Key) → before l k ≡ None → opened_entries p before l k ≡ None
 opened_is_none p before l k h = ap (option_map (λ (s : AbstractProperty). join_properties s (opened p l k))) h
 
@@ -172,6 +174,7 @@ pub opened_changes : (p : Program) (before : Entries) (l : Label) (k : Key) (q r
 opened_changes p before l k q r h g apart same =
     apart (g ∙ same_Some _ _ (sym (opened_is p before l k q h) ∙ (same ∙ h)))
 
+-- .. and stayed exactly if the entry did
 pub opened_stays : (p : Program) (before : Entries) (l : Label) (k : Key) (q r : AbstractProperty) → before l k ≡ Some q → r ≡ join_properties q (opened p l k) → r ≡ q → opened_entries p before l k ≡ before l k
 opened_stays p before l k q r h g same = opened_is p before l k q h ∙ (ap Some (sym g ∙ same) ∙ sym h)
 
@@ -290,6 +293,7 @@ module _ (p : Program) (before entries after : Entries) (rest all : List (Label 
   stays_after : (b ≡ false → opened_entries p before l k ≡ before l k) → (c ≡ false) × (b ≡ false) → after ≡ before
   stays_after same e = λ i m j. stays_by (same e.1) (was.stays e.0) m j (after_pair p before entries after l k step m j) i
 
+  -- what one pair more leaves
   pub opening_step : (b ≡ true → opened_entries p before l k ≢ before l k) → (b ≡ false → opened_entries p before l k ≡ before l k) → IsOpening p before after rest (c || b)
   opening_step apart same = record {
     settled = λ m j h. settled_by m j h (after_pair p before entries after l k step m j);

@@ -1,13 +1,11 @@
 -- What the analyser's readings, outcomes and tables stand for.
-use Rattle.std.specs.Prelude.{find, is_some, ◌≡◌, ◌<◌, ◌||◌, ◌&&◌, ◌==◌, ℕ, Bool, true, false, if◌then◌else◌, IsTrue, IsSome, List, [], ◌∷◌, map, length, Option, Some, None, slice_get, vec_len}
+use Rattle.std.specs.Prelude.{find, is_some, ◌≡◌, ◌||◌, ◌&&◌, ◌==◌, ℕ, Bool, if◌then◌else◌, IsTrue, IsSome, List, [], ◌∷◌, map, length, Option, Some, None, slice_get, vec_len}
 use Rattle.std.specs.Option.{option_map, option_and_then}
 use Rattle.std.specs.List.{list_any, AllByRecursion}
 use Rattle.ja_base.specs.declared.ids.Label.{Label}
 use Rattle.ja_base.specs.declared.ids.NodeId.{NodeId}
 use Rattle.ja_base.specs.declared.ids.NameId.{NameId}
 use Rattle.ja_base.specs.declared.ids.Site.{Site}
-use Rattle.ja_base.specs.declared.ids.Context.{Context}
-use Rattle.ja_graph.specs.declared.program.Function.{Function}
 use Rattle.ja_graph.specs.declared.program.ObjectSpec.{ObjectSpec}
 use Rattle.ja_graph.specs.declared.program.PropertySpec.{PropertySpec}
 use Rattle.ja_graph.specs.declared.program.Program.{Program}

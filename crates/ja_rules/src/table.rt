@@ -124,11 +124,7 @@ fn property_spec(object: &ObjectSpec, name: NameId) -> Option<&PropertySpec>
 }
 
 // What an object of the opening heap has at a name.
-fn named_property(
-    alloc: Global,
-    object: &ObjectSpec,
-    name: NameId,
-) -> Result<AProp, Memory>
+fn named_property(alloc: Global, object: &ObjectSpec, name: NameId) -> Result<AProp, Memory>
     ensures { IfOk result (λ q. property_of q ≡ named_property object.now name) }
 {
     match property_spec(object, name) {

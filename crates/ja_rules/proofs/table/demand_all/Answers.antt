@@ -1,4 +1,4 @@
-use Rattle.std.proofs.Common.{rules, arith, length, ◌≡◌, refl, sym, ◌∙◌, false}
+use Rattle.std.proofs.Common.{rules, length, ◌≡◌, refl, sym, ◌∙◌}
 use Rattle.std.proofs.lemmas.Bool.{false≢true}
 use Rattle.ja_model.proofs.Order.{LeqEntries, entries_same, entries_both, entries_equal}
 use Rattle.ja_state.specs.State.{entries_of}

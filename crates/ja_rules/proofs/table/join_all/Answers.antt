@@ -1,8 +1,8 @@
-use Rattle.std.proofs.Common.{rules, ◌≡◌, ◌<◌, ap, ◌∷◌, ℕ, refl, sym, ◌∙◌, false, length, arith}
+use Rattle.std.proofs.Common.{rules, ◌≡◌, ◌<◌, ap, ◌∷◌, refl, sym, ◌∙◌, length}
 use Rattle.std.proofs.lemmas.Bool.{false≢true}
 use Rattle.ja_state.specs.State.{state_of}
-use Rattle.ja_rules.specs.Readings.{states_in, HaveRegisters, HaveSameRegisters}
-use Rattle.ja_rules.proofs.States.{LeqStates, states_same, states_both, states_equal, rose, stayed, given_step, given-leq_step, first_removed, nodes_step, registers_step, all_rest}
+use Rattle.ja_rules.specs.Readings.{states_in}
+use Rattle.ja_rules.proofs.States.{LeqStates, states_same, states_both, states_equal, rose, stayed, given_step, given-leq_step, first_removed, nodes_step, registers_step}
 use Rattle.ja_rules.proofs.table.join_all.Goals as goal
 
 pub given-init : goal.given-init

@@ -1,6 +1,4 @@
-use Rattle.std.proofs.Common.{rules, refl, sym, ◌∙◌, ap, subst}
-use Rattle.ja_state.specs.State.{state_of}
-use Rattle.ja_rules.specs.Readings.{states_in, with_given, HaveRegisters}
+use Rattle.std.proofs.Common.{refl, sym, ◌∙◌}
 use Rattle.ja_rules.proofs.States.{given_none, given_some, given_none-changes, given_some-changes, given_some-same, HaveRegisters-set, read_at, set-set}
 use Rattle.ja_rules.proofs.table.join_one.Goals as goal
 

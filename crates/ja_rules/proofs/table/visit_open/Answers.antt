@@ -1,5 +1,5 @@
 use Rattle.std.proofs.Common.{◌≡◌, ◌∙◌, sym, ap, subst, length, rules}
-use Rattle.std.specs.Prelude.{IsSome, IsTrue}
+use Rattle.std.specs.Prelude.{IsSome}
 use Rattle.ja_model.specs.Reading.{Entries}
 use Rattle.ja_model.specs.Table.{opened_entries}
 use Rattle.ja_model.specs.AbstractState.{labels_below, keys_below}
