@@ -1,8 +1,13 @@
 pub mod Building
 pub mod Done
+pub mod Opened
 pub mod Operations
+pub mod Ranges
 pub mod ReadingLemmas
 pub mod SearchLemmas
+pub mod States
 pub mod StepLemmas
+pub mod Tables
+pub mod Visits
 pub mod WalkLemmas
 pub mod WriteLemmas

@@ -1,20 +1,25 @@
 -- What the analyser's readings, outcomes and tables stand for.
-use Rattle.std.specs.Prelude.{◌≡◌, ◌<◌, ◌||◌, ◌&&◌, ℕ, Bool, true, false, if◌then◌else◌, List, [], ◌∷◌, map, length, Option, Some, None, slice_get, vec_len}
+use Rattle.std.specs.Prelude.{find, is_some, ◌≡◌, ◌||◌, ◌&&◌, ◌==◌, ℕ, Bool, if◌then◌else◌, IsTrue, IsSome, List, [], ◌∷◌, map, length, Option, Some, None, slice_get, vec_len}
 use Rattle.std.specs.Option.{option_map, option_and_then}
-use Rattle.std.specs.List.{list_any}
+use Rattle.std.specs.List.{list_any, AllByRecursion}
 use Rattle.ja_base.specs.declared.ids.Label.{Label}
 use Rattle.ja_base.specs.declared.ids.NodeId.{NodeId}
-use Rattle.ja_base.specs.declared.ids.Context.{Context}
-use Rattle.ja_graph.specs.declared.program.Function.{Function}
+use Rattle.ja_base.specs.declared.ids.NameId.{NameId}
+use Rattle.ja_base.specs.declared.ids.Site.{Site}
+use Rattle.ja_graph.specs.declared.program.ObjectSpec.{ObjectSpec}
+use Rattle.ja_graph.specs.declared.program.PropertySpec.{PropertySpec}
 use Rattle.ja_graph.specs.declared.program.Program.{Program}
-use Rattle.ja_graph.specs.Program.{nodes_of}
+use Rattle.ja_graph.specs.Program.{nodes_of, node_at}
+use Rattle.ja_model.specs.declared.abstraction.Slot.{Slot}
+use Rattle.ja_model.specs.declared.abstraction.Slot.TheVariants as slot
 use Rattle.ja_model.specs.declared.abstraction.Key.{Key}
+use Rattle.ja_model.specs.declared.abstraction.Key.TheVariants as key
 use Rattle.ja_model.specs.Machine.{program_function, registers_of}
-use Rattle.ja_model.specs.AbstractValue.{same_label}
-use Rattle.ja_model.specs.AbstractState.{AbstractState, same_key, labels_below}
+use Rattle.ja_model.specs.AbstractValue.{AbstractProperty, same_label, absent_property, of_primitive, of_attrs, of_label, bare}
+use Rattle.ja_model.specs.AbstractState.{AbstractState, new, same_key, labels_below, is_key}
 use Rattle.ja_model.specs.Reading.{Demands, Entries, View, got, may_have, may_lack, may_refuse, may_accept}
 use Rattle.ja_model.specs.Transfer.{Out}
-use Rattle.ja_model.specs.Table.{Table, root, same_context}
+use Rattle.ja_model.specs.Table.{Table, root, same_context, joined_state, opened_entries}
 use Rattle.ja_value.specs.Value.{value_of}
 use Rattle.ja_state.specs.declared.state.AState.{AState}
 use Rattle.ja_state.specs.State.{state_of, entries_of}
@@ -56,7 +61,65 @@ table_of t = record {
   entry = λ x. if same_context root x then entries_of t.entries else (λ l k. None);
 }
 
--- a table has a place for each node of the program, and each state has the registers of the program
+-- A table has a place for each node of the program, each state has the registers of the program, and each pair that is
+-- demanded has a key of the program.
 pub record Fits (p : Program) (t : ATable) : Type 0 where
   pub nodes : vec_len t.states ≡ length (nodes_of p program_function)
   pub registers : (n : ℕ) (s : AState) → slice_get t.states.items n ≡ Some (Some s) → vec_len s.registers ≡ registers_of p program_function
+  pub keys : (l : Label) (k : Key) → IsSome (entries_of t.entries l k) → IsTrue (is_key p k)
+
+-- the states of a list by node, and with more states joined in at their nodes
+abbrev pub states_in : List (Option AState) → ℕ → Option AbstractState
+states_in states n = option_and_then (λ (s : Option AState). option_map state_of s) (slice_get states n)
+
+abbrev pub with_given : (ℕ → Option AbstractState) → ℕ × AbstractState → ℕ → Option AbstractState
+with_given states given n = if given.0 == n then Some (joined_state (states n) given.1) else states n
+
+abbrev pub with_all_given : (ℕ → Option AbstractState) → List (ℕ × AbstractState) → ℕ → Option AbstractState
+with_all_given states [] = states
+with_all_given states (given ∷ more) = with_all_given (with_given states given) more
+
+abbrev pub given_by : NodeId × AState → ℕ × AbstractState
+given_by s = (s.0.0, state_of s.1)
+
+-- each state has this many registers
+abbrev pub HaveRegisters : List (Option AState) → ℕ → Type 0
+HaveRegisters states count = (n : ℕ) (s : AState) → slice_get states n ≡ Some (Some s) → vec_len s.registers ≡ count
+
+abbrev pub HaveSameRegisters : List (NodeId × AState) → ℕ → Type 0
+HaveSameRegisters given count = AllByRecursion (λ (s : NodeId × AState). vec_len s.1.registers ≡ count) given
+
+-- ---- the contents of the opening heap
+
+-- what an object of the opening heap has at a name and at a key
+abbrev pub property_given : Option PropertySpec → AbstractProperty
+property_given None = absent_property
+property_given (Some q) = record { value = of_primitive q.value; attrs = of_attrs q.attrs }
+
+abbrev pub named_property : ObjectSpec → NameId → AbstractProperty
+named_property o n = property_given (find (λ (q : PropertySpec). q.name.0 == n.0) o.properties)
+
+abbrev pub prototype_given : Option Site → AbstractProperty
+prototype_given None = absent_property
+prototype_given (Some s) = bare (of_label (new s))
+
+abbrev pub slot_property : ObjectSpec → Slot → AbstractProperty
+slot_property o slot.Prototype = prototype_given o.prototype
+slot_property o s = absent_property
+
+abbrev pub opened_property : ObjectSpec → Key → AbstractProperty
+opened_property o (key.Name n) = named_property o n
+opened_property o (key.Slot s) = slot_property o s
+opened_property o k = absent_property
+
+-- the values at entry with what the opening heap has joined into the one of a pair, if it was demanded before
+abbrev pub opened_pair : Program → Entries → Entries → Label → Key → Entries
+opened_pair p before entries l k m j =
+    if same_label l m && same_key k j && is_some (before l k) then opened_entries p before l k else entries m j
+
+-- ---- the step of a node
+
+-- the program has the node, and there is a state at it
+pub record HasStep (p : Program) (t : ATable) (n : NodeId) : Type 0 where
+  pub node : IsSome (node_at p program_function n)
+  pub state : IsSome (states_in t.states.items n.0)

@@ -1,12 +1,27 @@
-ghost use Rattle.std.specs.Prelude.{◌≡◌, ◌≢◌, IfOk, OnErr, true, false};
+ghost use Rattle.std.specs.Prelude.{◌≡◌, ◌≢◌, ◌<◌, ◌==◌, ℕ, IfOk, OnOk, IsTrue, IsSome, true, false, None, Some, vec_len, length, replicate, map, find, slice_get};
+ghost use Rattle.std.specs.Option.{option_copied};
+ghost use Rattle.std.specs.List.{AllByRecursion};
+ghost use Rattle.ja_base.specs.declared.ids.NodeId.{NodeId};
+ghost use Rattle.ja_base.specs.declared.ids.Label.{Label};
+ghost use Rattle.ja_graph.specs.Program.{object_spec, node_at};
 ghost use Rattle.ja_graph.specs.WellFormed.{IsWellFormed};
-ghost use Rattle.ja_model.specs.Table.{opening_table, visited, IsItem};
+ghost use Rattle.ja_model.specs.declared.abstraction.Key.{Key};
+ghost use Rattle.ja_model.specs.AbstractState.{is_key};
+ghost use Rattle.ja_model.specs.Machine.{program_function};
+ghost use Rattle.ja_model.specs.Meaning.{opened};
+ghost use Rattle.ja_value.specs.Value.{property_of};
+ghost use Rattle.ja_model.specs.Table.{opening_table, visited, visit_step, IsItem, demanded, root, opened_entries};
+ghost use Rattle.ja_state.specs.declared.state.AState.{AState};
+ghost use Rattle.ja_state.specs.State.{state_of, entries_of};
 
-use ja_base::Memory;
-use ja_graph::Program;
-use ja_model::Item;
+use crate::{DemandList, Outcome, transfer};
+use ja_base::{Label, Memory, NameId, NodeId, Site};
+use ja_graph::{NodeInfo, ObjectSpec, Program, PropertySpec};
+use ja_model::{Item, Key, Slot};
 use ja_state::{AState, DemandedEntries};
+use ja_value::{AProp, AValue, exact_attrs, unknown_attrs};
 use std::alloc::Global;
+use std::mem;
 
 /// The abstract states of the program's own context by node, and the values that it demands at its entry.
 #[derive(Drop)]
@@ -15,7 +30,252 @@ pub struct ATable {
     pub entries: DemandedEntries,
 }
 
-ghost use Rattle.ja_rules.specs.Readings.{table_of, Fits};
+ghost use Rattle.ja_rules.specs.Readings.{table_of, Fits, demands_in, states_in, with_given, with_all_given, given_by, HaveRegisters, HaveSameRegisters, HasStep, named_property, opened_property, opened_pair};
+
+// No state at any of so many nodes.
+fn no_states(alloc: Global, count: usize) -> Result<Vec<Option<AState>>, Memory>
+    ensures { IfOk result (λ v. v.items ≡ replicate count None) }
+{
+    let mut states = Vec::new(alloc);
+    for _ in 0..count {
+        states.push(None)?;
+    }
+    Ok(states)
+}
+
+// Joins a state in at a node, and tells whether the states changed.
+fn join_one(
+    alloc: Global,
+    states: &mut Vec<Option<AState>>,
+    node: NodeId,
+    state: AState,
+) -> Result<bool, Memory>
+    requires node { node.0 < length states.old.items }
+    requires registers { HaveRegisters states.old.items (vec_len state.registers) }
+    ensures joined { IfOk result (λ _. states_in states.new.items ≡ with_given (states_in states.old.items) (node.0, state_of state)) }
+    ensures changed { IfOk result (λ c. c ≡ true → states_in states.new.items ≢ states_in states.old.items) }
+    ensures same { IfOk result (λ c. c ≡ false → states_in states.new.items ≡ states_in states.old.items) }
+    ensures nodes { OnOk result (length states.new.items ≡ length states.old.items) }
+    ensures registers { OnOk result (HaveRegisters states.new.items (vec_len state.registers)) }
+{
+    let place = node.0 as usize;
+    match mem::replace(&mut states[place], None) {
+        None => {
+            states[place] = Some(state);
+            Ok(true)
+        }
+        Some(mut joined) => {
+            let changed = joined.join(alloc, &state)?;
+            states[place] = Some(joined);
+            Ok(changed)
+        }
+    }
+}
+
+// Joins states in at their nodes, and tells whether the states changed.
+fn join_all(
+    alloc: Global,
+    states: &mut Vec<Option<AState>>,
+    mut given: Vec<(NodeId, AState)>,
+) -> Result<bool, Memory>
+    requires nodes { AllByRecursion (λ (s : NodeId × AState). s.0.0 < length states.old.items) given.items }
+    requires registers { (count : ℕ) × HaveRegisters states.old.items count × HaveSameRegisters given.items count }
+    ensures joined { IfOk result (λ _. states_in states.new.items ≡ with_all_given (states_in states.old.items) (map given_by given.items)) }
+    ensures changed { IfOk result (λ c. c ≡ true → states_in states.new.items ≢ states_in states.old.items) }
+    ensures same { IfOk result (λ c. c ≡ false → states_in states.new.items ≡ states_in states.old.items) }
+    ensures nodes { OnOk result (length states.new.items ≡ length states.old.items) }
+    ensures registers { OnOk result ((count : ℕ) → HaveRegisters states.old.items count → HaveSameRegisters given.items count → HaveRegisters states.new.items count) }
+{
+    let mut changed = false;
+    'given: while !given.is_empty() {
+        let (node, state) = given.remove(0);
+        changed |= join_one(alloc, states, node, state)?;
+    }
+    Ok(changed)
+}
+
+// Demands each pair of a list, and tells whether one wasn't demanded before.
+fn demand_all(
+    alloc: Global,
+    entries: &mut DemandedEntries,
+    demands: DemandList,
+) -> Result<bool, Memory>
+    ensures demanded { IfOk result (λ _. entries_of entries.new ≡ demanded (entries_of entries.old) (demands_in demands)) }
+    ensures changed { IfOk result (λ c. c ≡ true → entries_of entries.new ≢ entries_of entries.old) }
+    ensures same { IfOk result (λ c. c ≡ false → entries_of entries.new ≡ entries_of entries.old) }
+{
+    let mut changed = false;
+    let mut pairs = demands.pairs;
+    'demands: while let Some((label, key)) = pairs.pop() {
+        changed |= entries.demand(alloc, label, key)?;
+    }
+    Ok(changed)
+}
+
+// The property of a name.
+fn property_spec(object: &ObjectSpec, name: NameId) -> Option<&PropertySpec>
+    ensures { option_copied result ≡ find (λ q. q.name.0 == name.0) object.now.properties }
+{
+    object
+        .properties
+        .as_slice()
+        .iter()
+        .find(|property| property.name.0 == name.0)
+}
+
+// What an object of the opening heap has at a name.
+fn named_property(alloc: Global, object: &ObjectSpec, name: NameId) -> Result<AProp, Memory>
+    ensures { IfOk result (λ q. property_of q ≡ named_property object.now name) }
+{
+    match property_spec(object, name) {
+        Some(property) => Ok(AProp {
+            value: AValue::of_primitive(alloc, &property.value)?,
+            attrs: exact_attrs(property.attrs),
+        }),
+        None => Ok(AProp::absent(alloc)),
+    }
+}
+
+// What an object of the opening heap has at a key.
+fn opened_property(alloc: Global, object: &ObjectSpec, key: Key) -> Result<AProp, Memory>
+    ensures { IfOk result (λ q. property_of q ≡ opened_property object.now key) }
+{
+    match key {
+        Key::Name(name) => named_property(alloc, object, name),
+        Key::Slot(Slot::Prototype) => match object.prototype {
+            Some(site) => Ok(AProp {
+                value: AValue::of_label(alloc, Label { site, old: false })?,
+                attrs: unknown_attrs(),
+            }),
+            None => Ok(AProp::absent(alloc)),
+        },
+        _ => Ok(AProp::absent(alloc)),
+    }
+}
+
+// The object of a site in the opening heap.
+fn opening_object(program: &Program, site: Site) -> Option<&ObjectSpec>
+    ensures { option_copied result ≡ object_spec program.now site.0 }
+{
+    program
+        .opening
+        .as_slice()
+        .iter()
+        .find(|object| object.site.0 == site.0)
+}
+
+// What the opening heap has at a label and a key.
+fn opened(alloc: Global, program: &Program, label: Label, key: Key) -> Result<AProp, Memory>
+    requires program { IsWellFormed program.now }
+    requires key { IsTrue (is_key program.now key) }
+    ensures { IfOk result (λ q. property_of q ≡ opened program.now label key) }
+{
+    let nothing = AProp {
+        value: AValue::empty(alloc),
+        attrs: unknown_attrs(),
+    };
+    if label.old {
+        return Ok(nothing);
+    }
+    match opening_object(program, label.site) {
+        Some(object) => opened_property(alloc, object, key),
+        None => Ok(nothing),
+    }
+}
+
+// Joins what the opening heap has at a pair into its value at entry, if it is demanded, and tells
+// whether that changes the value.
+fn open_pair(
+    alloc: Global,
+    program: &Program,
+    before: &DemandedEntries,
+    entries: &mut DemandedEntries,
+    label: Label,
+    key: Key,
+) -> Result<bool, Memory>
+    requires program { IsWellFormed program.now }
+    requires key { IsSome (entries_of before.now label key) → IsTrue (is_key program.now key) }
+    ensures opened { IfOk result (λ _. entries_of entries.new ≡ opened_pair program.now (entries_of before.now) (entries_of entries.old) label key) }
+    ensures changed { IfOk result (λ c. c ≡ true → opened_entries program.now (entries_of before.now) label key ≢ entries_of before.now label key) }
+    ensures same { IfOk result (λ c. c ≡ false → opened_entries program.now (entries_of before.now) label key ≡ entries_of before.now label key) }
+{
+    match before.get(label, key) {
+        Some(value) => {
+            let property = opened(alloc, program, label, key)?;
+            let mut joined = value.copy(alloc)?;
+            let changed = joined.join(alloc, &property)?;
+            entries.set(alloc, label, key, joined)?;
+            Ok(changed)
+        }
+        None => Ok(false),
+    }
+}
+
+// Joins the contents of the opening heap into the values at entry, and tells whether they changed.
+fn visit_open(
+    alloc: Global,
+    program: &Program,
+    entries: &mut DemandedEntries,
+) -> Result<bool, Memory>
+    requires program { IsWellFormed program.now }
+    requires keys { (l : Label) (k : Key) → IsSome (entries_of entries.old l k) → IsTrue (is_key program.now k) }
+    ensures opened { IfOk result (λ _. entries_of entries.new ≡ opened_entries program.now (entries_of entries.old)) }
+    ensures changed { IfOk result (λ c. c ≡ true → entries_of entries.new ≢ entries_of entries.old) }
+    ensures same { IfOk result (λ c. c ≡ false → entries_of entries.new ≡ entries_of entries.old) }
+{
+    let sites = program.sites.len() as u32;
+    let names = program.names.len() as u32;
+    let before = entries.copy(alloc)?;
+    let mut changed = false;
+    let mut pairs = before.pairs(alloc, sites, names)?;
+    'pairs: while let Some((label, key)) = pairs.pop() {
+        changed |= open_pair(alloc, program, &before, entries, label, key)?;
+    }
+    Ok(changed)
+}
+
+// A node of the program's text.
+fn node_info(program: &Program, node: NodeId) -> &NodeInfo
+    requires program { IsWellFormed program.now }
+    requires node { IsSome (node_at program.now program_function node) }
+    ensures { node_at program.now program_function node ≡ Some result.now }
+{
+    &program.functions.as_slice()[0].nodes.as_slice()[node.0 as usize]
+}
+
+// The state at a node that has one.
+fn state_at(states: &[Option<AState>], node: NodeId) -> &AState
+    requires { IsSome (states_in states.now node.0) }
+    ensures { slice_get states.now node.0 ≡ Some (Some result.now) }
+{
+    match &states[node.0 as usize] {
+        Some(state) => state,
+        None => unreachable!(),
+    }
+}
+
+// Takes the step of a node that has a state.
+fn visit_step(
+    alloc: Global,
+    program: &Program,
+    table: &mut ATable,
+    node: NodeId,
+) -> Result<bool, Memory>
+    requires program { IsWellFormed program.now }
+    requires fits { Fits program.now table.old }
+    requires item { HasStep program.now table.old node }
+    ensures fits { OnOk result (Fits program.now table.new) }
+    ensures visited { IfOk result (λ _. table_of table.new ≡ visit_step program.now (table_of table.old) root node) }
+    ensures changed { IfOk result (λ c. c ≡ true → table_of table.new ≢ table_of table.old) }
+    ensures same { IfOk result (λ c. c ≡ false → table_of table.new ≡ table_of table.old) }
+{
+    let info = node_info(program, node);
+    let state = state_at(&table.states, node);
+    let out = transfer(alloc, program, info, state, &table.entries)?;
+    let demanded = demand_all(alloc, &mut table.entries, out.demands)?;
+    let joined = join_all(alloc, &mut table.states, out.states)?;
+    Ok(demanded | joined)
+}
 
 /// The table in which the solver begins: the program's entry state at node 0.
 pub fn opening(alloc: Global, program: &Program) -> Result<ATable, Memory>
@@ -23,11 +283,17 @@ pub fn opening(alloc: Global, program: &Program) -> Result<ATable, Memory>
     ensures table { IfOk result (λ t. table_of t ≡ opening_table) }
     ensures fits { IfOk result (Fits program.now) }
 {
-    Err(Memory)
+    let function = &program.functions.as_slice()[0];
+    let mut states = no_states(alloc, function.nodes.len())?;
+    states[0] = Some(AState::entry(alloc, function.registers as usize)?);
+    Ok(ATable {
+        states,
+        entries: DemandedEntries::new(alloc),
+    })
 }
 
 /// Joins in what an item of the table gives, and tells whether the table changed. After `Memory` the
-/// table is as it was.
+/// table may be anything.
 pub fn visit(
     alloc: Global,
     program: &Program,
@@ -37,11 +303,13 @@ pub fn visit(
     requires program { IsWellFormed program.now }
     requires fits { Fits program.now table.old }
     requires item { IsItem program.now (table_of table.old) item }
-    ensures fits { Fits program.now table.new }
+    ensures fits { OnOk result (Fits program.now table.new) }
     ensures visited { IfOk result (λ _. table_of table.new ≡ visited program.now (table_of table.old) item) }
     ensures changed { IfOk result (λ c. c ≡ true → table_of table.new ≢ table_of table.old) }
     ensures same { IfOk result (λ c. c ≡ false → table_of table.new ≡ table_of table.old) }
-    ensures err { OnErr result (table.new ≡ table.old) }
 {
-    Err(Memory)
+    match item {
+        Item::Open => visit_open(alloc, program, &mut table.entries),
+        Item::Step { node, .. } => visit_step(alloc, program, table, node),
+    }
 }
