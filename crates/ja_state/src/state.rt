@@ -4,6 +4,7 @@ ghost use Rattle.ja_model.specs.declared.abstraction.Key.{Key};
 ghost use Rattle.ja_model.specs.AbstractValue.{Labels, entry_property};
 ghost use Rattle.ja_model.specs.AbstractState.{entry_state, join_states, with_register, with_property, with_made, labels_below, sites_below, site_of};
 ghost use Rattle.ja_state.specs.Numbers.{label_of};
+ghost use Rattle.ja_model.specs.Reading.{renamed};
 ghost use Rattle.ja_value.specs.Value.{value_of, property_of};
 
 use crate::AObject;
@@ -125,6 +126,16 @@ impl AState {
             objects: made_objects(alloc, &self.objects, site)?,
             masks,
         })
+    }
+
+    /// A property at the entry, with the labels that its objects have now.
+    pub fn renamed(&self, alloc: Global, property: &AProp) -> Result<AProp, Memory>
+        ensures { IfOk result (λ q. property_of q ≡ renamed (state_of self.now).mask (property_of property.now)) }
+    {
+        if !self.masks.is_empty() {
+            return Err(Memory);
+        }
+        Ok(property.copy(alloc)?)
     }
 
     /// The labels of the first `sites` sites whose objects are kept, in order; all others are as at entry.
