@@ -186,7 +186,8 @@ fn warnings_of(alloc: Global, found: &[Operation]) -> Result<Vec<Warning>, Alloc
 }
 
 /// The warnings of a table, by line, column and kind: one for each kind and place at which a state
-/// allows an operation to go wrong.
+/// allows an operation to go wrong. It is certain where no state there allows anything else. `Memory`
+/// comes where memory was refused.
 pub fn warnings(alloc: Global, program: &Program, table: &ATable) -> Result<Seq<Warning>, Memory>
     requires program { IsWellFormed program.now }
     requires fits { Fits program.now table.now }

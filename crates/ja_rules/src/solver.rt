@@ -141,7 +141,8 @@ impl Work {
 }
 
 /// Visits the items of the table as it stands, in rounds, until no visit changes it. Keeps the visits
-/// that did. `Spent` comes where one more would change the table.
+/// that did. `Spent` comes where there are as many as the budget allows and one more would change the
+/// table, `Memory` where memory was refused.
 pub fn solve(alloc: Global, program: &Program, budget: u128) -> Result<Solved, SolveFault>
     requires { IsWellFormed program.now }
     ensures fits { IfOk result (λ s. Fits program.now s.table) }
