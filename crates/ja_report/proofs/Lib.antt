@@ -1,0 +1,8 @@
+pub mod EntryLemmas
+pub mod Lists
+pub mod NameLemmas
+pub mod ObjectLemmas
+pub mod OutputLemmas
+pub mod PartLemmas
+pub mod PointLemmas
+pub mod SiteLemmas

@@ -1,0 +1,8 @@
+use Rattle.std.proofs.Common.{◌≡◌, ◌++◌, take}
+use Rattle.std.specs.List.{flat_map}
+use Rattle.ja_report.specs.Texts.{unit_text}
+use Rattle.ja_report.proofs.texts.push_units.Given as goal
+
+-- the units so far are written
+abbrev pub invariant-loop-unit : goal.invariant-loop-unit
+invariant-loop-unit l = l.text.items ≡ l.initial.text.items ++ flat_map unit_text (take l.unit-index l.units)

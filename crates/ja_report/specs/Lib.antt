@@ -1,0 +1,5 @@
+pub mod Texts
+pub mod Lines
+pub mod Report
+pub mod Refusals
+pub mod Output

@@ -1,0 +1,104 @@
+-- The report of a table: its warnings, the sites that it names, its states, and the visits that built it.
+use Rattle.std.specs.Prelude.{ℕ, Bool, not, ◌&&◌, if◌then◌else◌, ◌==◌, List, [], ◌++◌, filter, length, slice_get, is_some}
+use Rattle.std.specs.List.{flat_map, list_any, range_with_len}
+use Rattle.std.specs.Option.{option_map_or}
+use Rattle.std.specs.Fmt.{decimal}
+use lib.Chars.{codes}
+use Rattle.ja_base.specs.declared.ids.Context.{Context}
+use Rattle.ja_graph.specs.declared.program.Class.{Class}
+use Rattle.ja_graph.specs.declared.program.Class.TheVariants as class
+use Rattle.ja_graph.specs.declared.program.Program.{Program}
+use Rattle.ja_graph.specs.declared.program.SiteInfo.{SiteInfo}
+use Rattle.ja_model.specs.declared.table.Item.{Item}
+use Rattle.ja_model.specs.declared.table.Item.TheVariants.{Open, Step}
+use Rattle.ja_model.specs.declared.table.WarningKind.{WarningKind}
+use Rattle.ja_model.specs.declared.table.WarningKind.TheVariants.{NotAFunction, UnboundName}
+use Rattle.ja_model.specs.declared.table.Warning.{Warning}
+use Rattle.ja_model.specs.AbstractState.{site_of}
+use Rattle.ja_model.specs.Table.{Table, root}
+use Rattle.ja_report.specs.Texts.{place_text, builtin_of, numbered_site, label_text}
+use Rattle.ja_report.specs.Lines.{line_text, line_sites, entry_lines, table_lines}
+
+-- ---- warnings
+
+abbrev pub kind_text : WarningKind → List ℕ
+kind_text NotAFunction = codes "call of a non-function"
+kind_text UnboundName = codes "unbound name"
+
+abbrev pub certainty_text : Bool → List ℕ
+certainty_text certain = if certain then codes "certain" else codes "possible"
+
+unfoldable pub warning_text : Warning → List ℕ
+warning_text w = place_text w.place ++ codes " " ++ kind_text w.kind ++ codes " " ++ certainty_text w.certain ++ codes "\n"
+
+unfoldable pub warnings_text : List Warning → List ℕ
+warnings_text ws = codes "warnings " ++ decimal (length ws) ++ codes "\n" ++ flat_map warning_text ws
+
+-- ---- visits
+
+unfoldable pub context_text : Program → Context → List ℕ
+context_text p x = decimal x.function.0 ++ codes " " ++ label_text p x.receiver
+
+unfoldable pub item_text : Program → Item → List ℕ
+item_text p Open = codes "open\n"
+item_text p (Step x n) = codes "step " ++ context_text p x ++ codes " " ++ decimal n.0 ++ codes "\n"
+
+unfoldable pub visits_text : Program → List Item → List ℕ
+visits_text p visits = codes "visits " ++ decimal (length visits) ++ codes "\n" ++ flat_map (item_text p) visits
+
+-- ---- the context
+
+unfoldable pub context_line : Program → Context → List ℕ
+context_line p x = codes "context " ++ context_text p x ++ codes "\n"
+
+unfoldable pub entries_line : ℕ → List ℕ
+entries_line n = codes "entries " ++ decimal n ++ codes "\n"
+
+-- the one context of a table, and how many values at entry it demands
+unfoldable pub context_head : Program → ℕ → List ℕ
+context_head p entries = codes "contexts 1\n" ++ context_line p root ++ entries_line entries
+
+abbrev pub context_lines : Program → Table → List ℕ
+context_lines p t = context_head p (length (entry_lines p (t.entry root))) ++ flat_map (line_text p) (table_lines p t)
+
+-- ---- sites
+
+-- the sites that the lines of a table name
+abbrev pub table_sites : Program → Table → List ℕ
+table_sites p t = flat_map (line_sites p) (table_lines p t)
+
+abbrev pub class_text : Class → List ℕ
+class_text class.Object = codes "Object"
+class_text class.Error = codes "Error"
+
+unfoldable pub info_text : Program → ℕ → List ℕ
+info_text p s = option_map_or (λ (info : SiteInfo). place_text info.place ++ codes " " ++ class_text info.class) (slice_get p.sites s) []
+
+unfoldable pub site_line : Program → ℕ → List ℕ
+site_line p s = numbered_site (site_of s) ++ codes " " ++ info_text p s ++ codes "\n"
+
+-- the sites among these, each once, but for those of built-in objects
+unfoldable pub is_text_site : Program → ℕ → Bool
+is_text_site p s = not (is_some (builtin_of p (site_of s)))
+
+unfoldable pub named_sites : Program → List ℕ → List ℕ
+named_sites p named =
+    filter (λ (s : ℕ). is_text_site p s && list_any (λ (n : ℕ). n == s) named) (range_with_len 0 (length p.sites))
+
+unfoldable pub sites_text : Program → List ℕ → List ℕ
+sites_text p named =
+    codes "sites " ++ decimal (length (named_sites p named)) ++ codes "\n" ++ flat_map (site_line p) (named_sites p named)
+
+-- ---- whole texts
+
+unfoldable pub report_head : Program → List Warning → List ℕ → List ℕ
+report_head p warnings named =
+    codes "tajs report 1\nbuilt yes\n" ++ warnings_text warnings ++ codes "edges 0\n" ++ sites_text p named
+
+unfoldable pub report_text : Program → Table → List Item → List Warning → List ℕ
+report_text p t visits warnings =
+    report_head p warnings (table_sites p t) ++ context_lines p t ++ visits_text p visits ++ codes "end\n"
+
+-- what is written where the budget of visits is spent
+unfoldable pub spent_text : Program → List Item → List ℕ
+spent_text p visits = codes "tajs spent " ++ decimal (length visits) ++ codes "\n" ++ flat_map (item_text p) visits ++ codes "end\n"

@@ -1,0 +1,17 @@
+//! What the program prints: reports, the visits of a spent budget, and refusals, as texts to the byte.
+#![tactic(auto)]
+
+mod lines;
+mod output;
+mod refusals;
+mod sections;
+mod table;
+mod texts;
+mod values;
+mod whole;
+
+pub use refusals::{Refusal, refusal_text};
+pub use whole::{report, spent_text};
+
+#[cfg(test)]
+mod tests;

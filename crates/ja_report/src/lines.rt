@@ -1,0 +1,290 @@
+//! Writers of the lines of a table: values at entry, and states.
+
+ghost use Rattle.std.specs.Prelude.{◌≡◌, ◌<◌, ◌++◌, [], ◌∷◌, OnOk, IfOk, length, map, vec_len};
+ghost use Rattle.std.specs.List.{range_with_len};
+ghost use Rattle.ja_graph.specs.WellFormed.{IsWellFormed};
+ghost use Rattle.ja_model.specs.Machine.{program_function, registers_of};
+ghost use Rattle.ja_model.specs.AbstractState.{keys_of};
+ghost use Rattle.ja_value.specs.Value.{value_of, property_of};
+ghost use Rattle.ja_state.specs.State.{object_of, state_of, entries_of};
+ghost use Rattle.ja_report.specs.Lines.{entry, point, owner_text, property_text, value_sites, is_undefined, register_line, register_lines, has_attrs, is_known, is_entry, property_line, object_lines, property_lines, mask_line, mask_lines, state_lines, entry_line, entry_lines};
+ghost use Rattle.ja_report.specs.Output.{Adds};
+
+use crate::output::Output;
+use crate::texts::{push_attrs, push_key, push_number, push_register, push_site};
+use crate::values::{name_label, push_value, site_count};
+use ja_base::{Label, Memory, NameId, Reg, Site};
+use ja_graph::Program;
+use ja_model::{AAttrs, Key, Mask, May, NumberPart, Slot, TextPart};
+use ja_state::{AObject, AState, DemandedEntries};
+use ja_value::{AProp, AValue};
+use std::alloc::Global;
+
+// ---- properties
+
+#[tactic(auto, unfolding(crate::specs::Lines::owner_text))]
+fn push_owner(out: &mut Output, program: &Program, label: Label, key: Key) -> Result<(), Memory>
+    ensures text { OnOk result (out.new.text.items ≡ out.old.text.items ++ owner_text program.now label key) }
+    ensures named { OnOk result (out.new.named.items ≡ out.old.named.items ++ label.site.0 ∷ []) }
+{
+    name_label(out, program, label)?;
+    out.text.push(b' ')?;
+    push_key(&mut out.text, program, key)?;
+    Ok(())
+}
+
+#[tactic(auto, unfolding(crate::specs::Lines::property_text))]
+pub(crate) fn push_property_text(
+    out: &mut Output,
+    alloc: Global,
+    program: &Program,
+    label: Label,
+    key: Key,
+    property: &AProp,
+) -> Result<(), Memory>
+    requires { IsWellFormed program.now }
+    ensures text { OnOk result (out.new.text.items ≡ out.old.text.items ++ property_text program.now label key (property_of property.now)) }
+    ensures named { OnOk result (out.new.named.items ≡ out.old.named.items ++ label.site.0 ∷ value_sites program.now (value_of property.now.value)) }
+{
+    push_owner(out, program, label, key)?;
+    out.text.push(b' ')?;
+    push_value(out, alloc, program, &property.value)?;
+    out.text.push(b' ')?;
+    push_attrs(&mut out.text, key, property.attrs)?;
+    out.text.push(b'\n')?;
+    Ok(())
+}
+
+fn is_known(attr: May) -> bool
+    ensures { result ≡ is_known attr }
+{
+    attr.set | attr.unset
+}
+
+/// Whether an attribute is known.
+fn has_attrs(attrs: AAttrs) -> bool
+    ensures { result ≡ has_attrs attrs }
+{
+    is_known(attrs.read_only) | is_known(attrs.dont_enum) | is_known(attrs.dont_delete)
+}
+
+/// Whether a property is exactly as at entry.
+#[tactic(auto, unfolding(crate::specs::Lines::is_entry))]
+fn is_entry(program: &Program, property: &AProp) -> bool
+    requires { IsWellFormed program.now }
+    ensures { result ≡ is_entry program.now (property_of property.now) }
+{
+    let value = &property.value;
+    let more = value.flags.absent | value.is_present(site_count(program));
+    value.flags.entry & !more & !has_attrs(property.attrs)
+}
+
+#[tactic(auto, using(crate::proofs::OutputLemmas::adds_none, crate::proofs::OutputLemmas::adds_one), unfolding(crate::specs::Lines::property_line, crate::specs::Lines::line_text, crate::specs::Lines::line_sites))]
+fn push_property(
+    out: &mut Output,
+    alloc: Global,
+    program: &Program,
+    label: Label,
+    key: Key,
+    property: &AProp,
+) -> Result<(), Memory>
+    requires { IsWellFormed program.now }
+    ensures { OnOk result (Adds program.now (property_line program.now label key (property_of property.now)) out.old out.new) }
+{
+    if is_entry(program, property) {
+        return Ok(());
+    }
+    push_property_text(out, alloc, program, label, key, property)?;
+    Ok(())
+}
+
+#[tactic(auto, using(crate::proofs::ObjectLemmas::keys_none, crate::proofs::ObjectLemmas::keys_more, crate::proofs::ObjectLemmas::keys_all))]
+fn push_object(
+    out: &mut Output,
+    alloc: Global,
+    program: &Program,
+    keys: &[Key],
+    label: Label,
+    object: &AObject,
+) -> Result<(), Memory>
+    requires program { IsWellFormed program.now }
+    requires keys { keys.now ≡ keys_of program.now }
+    ensures { OnOk result (Adds program.now (object_lines program.now label (object_of object.now)) out.old out.new) }
+{
+    for key in keys {
+        push_property(out, alloc, program, label, *key, object.read(*key))?;
+    }
+    Ok(())
+}
+
+#[tactic(auto, using(crate::proofs::ObjectLemmas::object_kept, crate::proofs::ObjectLemmas::object_unkept))]
+fn push_label_lines(
+    out: &mut Output,
+    alloc: Global,
+    program: &Program,
+    keys: &[Key],
+    label: Label,
+    state: &AState,
+) -> Result<(), Memory>
+    requires program { IsWellFormed program.now }
+    requires keys { keys.now ≡ keys_of program.now }
+    ensures { OnOk result (Adds program.now (object_lines program.now label ((state_of state.now).property label)) out.old out.new) }
+{
+    if let Some(object) = state.object(label) {
+        push_object(out, alloc, program, keys, label, object)?;
+    }
+    Ok(())
+}
+
+#[tactic(auto, using(crate::proofs::ObjectLemmas::label_lines_none, crate::proofs::ObjectLemmas::label_lines_more, crate::proofs::ObjectLemmas::label_lines_all))]
+fn push_properties(
+    out: &mut Output,
+    alloc: Global,
+    program: &Program,
+    keys: &[Key],
+    state: &AState,
+) -> Result<(), Memory>
+    requires program { IsWellFormed program.now }
+    requires keys { keys.now ≡ keys_of program.now }
+    ensures { OnOk result (Adds program.now (property_lines program.now (state_of state.now)) out.old out.new) }
+{
+    let labels = state.listed(alloc, site_count(program))?;
+    for label in &labels {
+        push_label_lines(out, alloc, program, keys, *label, state)?;
+    }
+    Ok(())
+}
+
+// ---- registers
+
+/// Whether a value is exactly undefined.
+#[tactic(auto, unfolding(crate::specs::Lines::is_undefined))]
+fn is_undefined(program: &Program, value: &AValue) -> bool
+    requires { IsWellFormed program.now }
+    ensures { result ≡ is_undefined program.now (value_of value.now) }
+{
+    let flags = value.flags;
+    let flagged = flags.absent | flags.entry | flags.row | flags.null | flags.is_true | flags.is_false | flags.nan;
+    let number = !matches!(value.number, NumberPart::Nothing);
+    let text = !matches!(&value.text, TextPart::Nothing);
+    let more = flagged | number | text | value.labels.has_below(site_count(program));
+    flags.undefined & !more
+}
+
+#[tactic(auto, using(crate::proofs::OutputLemmas::adds_none, crate::proofs::OutputLemmas::adds_one), unfolding(crate::specs::Lines::register_line, crate::specs::Lines::line_text, crate::specs::Lines::line_sites))]
+fn push_register_line(
+    out: &mut Output,
+    alloc: Global,
+    program: &Program,
+    number: u32,
+    value: &AValue,
+) -> Result<(), Memory>
+    requires { IsWellFormed program.now }
+    ensures { OnOk result (Adds program.now (register_line program.now number (value_of value.now)) out.old out.new) }
+{
+    if is_undefined(program, value) {
+        return Ok(());
+    }
+    push_register(&mut out.text, number)?;
+    out.text.push(b' ')?;
+    push_value(out, alloc, program, value)?;
+    out.text.push(b'\n')?;
+    Ok(())
+}
+
+/// How many registers the program's own function has.
+fn register_count(program: &Program) -> u32
+    ensures { result ≡ registers_of program.now program_function }
+{
+    match program.functions.as_slice().first() {
+        Some(text) => text.registers,
+        None => 0,
+    }
+}
+
+#[tactic(auto, using(crate::proofs::ObjectLemmas::registers_none, crate::proofs::ObjectLemmas::registers_more, crate::proofs::ObjectLemmas::registers_all))]
+fn push_registers(
+    out: &mut Output,
+    alloc: Global,
+    program: &Program,
+    state: &AState,
+) -> Result<(), Memory>
+    requires program { IsWellFormed program.now }
+    requires registers { vec_len state.now.registers ≡ registers_of program.now program_function }
+    ensures { OnOk result (Adds program.now (register_lines program.now (state_of state.now)) out.old out.new) }
+{
+    for number in 0..register_count(program) {
+        push_register_line(out, alloc, program, number, state.register(Reg(number)))?;
+    }
+    Ok(())
+}
+
+// ---- masks
+
+#[tactic(auto, using(crate::proofs::OutputLemmas::adds_none, crate::proofs::OutputLemmas::adds_one), unfolding(crate::specs::Lines::mask_line, crate::specs::Lines::line_text, crate::specs::Lines::line_sites))]
+fn push_mask(out: &mut Output, program: &Program, site: Site, mask: Mask) -> Result<(), Memory>
+    ensures { OnOk result (Adds program.now (mask_line site mask) out.old out.new) }
+{
+    if mask.none & !mask.some {
+        return Ok(());
+    }
+    out.text.extend_from_slice(b"alloc ")?;
+    push_site(&mut out.text, program, site)?;
+    match (mask.none, mask.some) {
+        (true, true) => out.text.extend_from_slice(b" maybe\n")?,
+        (false, true) => out.text.extend_from_slice(b" some\n")?,
+        (_, false) => out.text.extend_from_slice(b" none\n")?,
+    }
+    out.named.push(site.0)?;
+    Ok(())
+}
+
+#[tactic(auto, using(crate::proofs::ObjectLemmas::site_lines_none, crate::proofs::ObjectLemmas::site_lines_more, crate::proofs::ObjectLemmas::site_lines_all))]
+fn push_masks(
+    out: &mut Output,
+    alloc: Global,
+    program: &Program,
+    state: &AState,
+) -> Result<(), Memory>
+    requires { IsWellFormed program.now }
+    ensures { OnOk result (Adds program.now (mask_lines program.now (state_of state.now)) out.old out.new) }
+{
+    let sites = state.masked(alloc, site_count(program))?;
+    for site in &sites {
+        push_mask(out, program, *site, state.mask(*site))?;
+    }
+    Ok(())
+}
+
+// ---- states
+
+#[tactic(auto, using(crate::proofs::OutputLemmas::adds_one), unfolding(crate::specs::Lines::line_text, crate::specs::Lines::line_sites))]
+fn push_point(out: &mut Output, program: &Program, node: usize) -> Result<(), Memory>
+    ensures { OnOk result (Adds program.now (point node ∷ []) out.old out.new) }
+{
+    out.text.extend_from_slice(b"point ")?;
+    push_number(&mut out.text, node as u64)?;
+    out.text.push(b'\n')?;
+    Ok(())
+}
+
+#[tactic(auto, using(crate::proofs::OutputLemmas::adds_append), unfolding(crate::specs::Lines::state_lines))]
+pub(crate) fn push_state(
+    out: &mut Output,
+    alloc: Global,
+    program: &Program,
+    keys: &[Key],
+    node: usize,
+    state: &AState,
+) -> Result<(), Memory>
+    requires program { IsWellFormed program.now }
+    requires keys { keys.now ≡ keys_of program.now }
+    requires registers { vec_len state.now.registers ≡ registers_of program.now program_function }
+    ensures { OnOk result (Adds program.now (state_lines program.now node (state_of state.now)) out.old out.new) }
+{
+    push_point(out, program, node)?;
+    push_registers(out, alloc, program, state)?;
+    push_properties(out, alloc, program, keys, state)?;
+    push_masks(out, alloc, program, state)?;
+    Ok(())
+}

@@ -1,0 +1,224 @@
+//! Writers of warnings, visits and sites.
+
+ghost use Rattle.std.specs.Prelude.{◌≡◌, ◌++◌, OnOk, IfOk, ℕ, ◌==◌, ◌&&◌};
+ghost use Rattle.std.specs.List.{flat_map, list_any};
+ghost use Rattle.std.specs.Ordering.{nat_cmp};
+ghost use Rattle.std.specs.BTreeSet.{contains};
+ghost use Rattle.ja_graph.specs.WellFormed.{IsWellFormed};
+ghost use Rattle.ja_report.specs.Report.{kind_text, certainty_text, warning_text, warnings_text, context_text, item_text, visits_text, class_text, info_text, is_text_site, site_line, named_sites, sites_text};
+
+use crate::texts::{push_label, push_number, push_numbered_site, push_place};
+use crate::values::site_count;
+use ja_base::{Context, Memory, Site};
+use ja_graph::{Class, Program};
+use ja_model::{Item, Warning, WarningKind};
+use std::alloc::Global;
+use std::collections::BTreeSet;
+
+// ---- warnings
+
+fn kind_text(kind: WarningKind) -> &'static [u8]
+    ensures { result.now ≡ kind_text kind }
+{
+    match kind {
+        WarningKind::NotAFunction => b"call of a non-function",
+        WarningKind::UnboundName => b"unbound name",
+    }
+}
+
+fn certainty_text(certain: bool) -> &'static [u8]
+    ensures { result.now ≡ certainty_text certain }
+{
+    if certain { b"certain" } else { b"possible" }
+}
+
+#[tactic(auto, unfolding(crate::specs::Report::warning_text))]
+fn push_warning(text: &mut Vec<u8>, warning: Warning) -> Result<(), Memory>
+    ensures { OnOk result (text.new.items ≡ text.old.items ++ warning_text warning) }
+{
+    push_place(text, warning.place)?;
+    text.push(b' ')?;
+    text.extend_from_slice(kind_text(warning.kind))?;
+    text.push(b' ')?;
+    text.extend_from_slice(certainty_text(warning.certain))?;
+    text.push(b'\n')?;
+    Ok(())
+}
+
+#[tactic(auto, using(crate::proofs::Lists::added_none, crate::proofs::Lists::added_more, crate::proofs::Lists::added_all))]
+fn push_each_warning(text: &mut Vec<u8>, warnings: &[Warning]) -> Result<(), Memory>
+    ensures { OnOk result (text.new.items ≡ text.old.items ++ flat_map warning_text warnings.now) }
+{
+    for warning in warnings {
+        push_warning(text, *warning)?;
+    }
+    Ok(())
+}
+
+#[tactic(auto, unfolding(crate::specs::Report::warnings_text))]
+pub(crate) fn push_warnings(text: &mut Vec<u8>, warnings: &[Warning]) -> Result<(), Memory>
+    ensures { OnOk result (text.new.items ≡ text.old.items ++ warnings_text warnings.now) }
+{
+    text.extend_from_slice(b"warnings ")?;
+    push_number(text, warnings.len() as u64)?;
+    text.push(b'\n')?;
+    push_each_warning(text, warnings)?;
+    Ok(())
+}
+
+// ---- visits
+
+#[tactic(auto, unfolding(crate::specs::Report::context_text))]
+pub(crate) fn push_context(text: &mut Vec<u8>, program: &Program, context: Context) -> Result<(), Memory>
+    ensures { OnOk result (text.new.items ≡ text.old.items ++ context_text program.now context) }
+{
+    push_number(text, u64::from(context.function.0))?;
+    text.push(b' ')?;
+    push_label(text, program, context.receiver)?;
+    Ok(())
+}
+
+#[tactic(auto, unfolding(crate::specs::Report::item_text))]
+fn push_item(text: &mut Vec<u8>, program: &Program, item: Item) -> Result<(), Memory>
+    ensures { OnOk result (text.new.items ≡ text.old.items ++ item_text program.now item) }
+{
+    match item {
+        Item::Open => text.extend_from_slice(b"open\n")?,
+        Item::Step { context, node } => {
+            text.extend_from_slice(b"step ")?;
+            push_context(text, program, context)?;
+            text.push(b' ')?;
+            push_number(text, u64::from(node.0))?;
+            text.push(b'\n')?;
+        }
+    }
+    Ok(())
+}
+
+#[tactic(auto, using(crate::proofs::Lists::added_none, crate::proofs::Lists::added_more, crate::proofs::Lists::added_all))]
+pub(crate) fn push_items(text: &mut Vec<u8>, program: &Program, items: &[Item]) -> Result<(), Memory>
+    ensures { OnOk result (text.new.items ≡ text.old.items ++ flat_map (item_text program.now) items.now) }
+{
+    for item in items {
+        push_item(text, program, *item)?;
+    }
+    Ok(())
+}
+
+#[tactic(auto, unfolding(crate::specs::Report::visits_text))]
+pub(crate) fn push_visits(text: &mut Vec<u8>, program: &Program, visits: &[Item]) -> Result<(), Memory>
+    ensures { OnOk result (text.new.items ≡ text.old.items ++ visits_text program.now visits.now) }
+{
+    text.extend_from_slice(b"visits ")?;
+    push_number(text, visits.len() as u64)?;
+    text.push(b'\n')?;
+    push_items(text, program, visits)?;
+    Ok(())
+}
+
+// ---- sites
+
+/// The numbers of a list as a set.
+#[tactic(auto, using(crate::proofs::SiteLemmas::set_none, crate::proofs::SiteLemmas::set_more, crate::proofs::SiteLemmas::set_all))]
+fn set_of(alloc: Global, numbers: &[u32]) -> Result<BTreeSet<u32>, Memory>
+    ensures { IfOk result (λ set. (s : ℕ) → contains nat_cmp set s ≡ list_any (λ n. n == s) numbers.now) }
+{
+    let mut set = BTreeSet::new(alloc);
+    for number in numbers {
+        set.insert(*number)?;
+    }
+    Ok(set)
+}
+
+/// Whether a site is not that of a built-in object.
+#[tactic(auto, unfolding(crate::specs::Report::is_text_site))]
+fn is_text_site(program: &Program, number: u32) -> bool
+    ensures { result ≡ is_text_site program.now number }
+{
+    match program.sites.as_slice().get(number as usize) {
+        Some(info) => info.builtin.is_none(),
+        None => true,
+    }
+}
+
+fn is_named(program: &Program, set: &BTreeSet<u32>, number: u32) -> bool
+    ensures { result ≡ (is_text_site program.now number && contains nat_cmp set.now number) }
+{
+    is_text_site(program, number) & set.contains(&number)
+}
+
+/// The sites among these, each once, but for those of built-in objects.
+#[tactic(auto, using(crate::proofs::SiteLemmas::sites_none, crate::proofs::SiteLemmas::sites_in, crate::proofs::SiteLemmas::sites_out, crate::proofs::SiteLemmas::sites_all))]
+fn named_sites(alloc: Global, program: &Program, named: &[u32]) -> Result<Vec<u32>, Memory>
+    requires { IsWellFormed program.now }
+    ensures { IfOk result (λ sites. sites.items ≡ named_sites program.now named.now) }
+{
+    let set = set_of(alloc, named)?;
+    let mut sites = Vec::new(alloc);
+    for number in 0..site_count(program) {
+        if is_named(program, &set, number) {
+            sites.push(number)?;
+        }
+    }
+    Ok(sites)
+}
+
+fn class_text(class: Class) -> &'static [u8]
+    ensures { result.now ≡ class_text class }
+{
+    match class {
+        Class::Object => b"Object",
+        Class::Error => b"Error",
+    }
+}
+
+#[tactic(auto, unfolding(crate::specs::Report::info_text))]
+fn push_info(text: &mut Vec<u8>, program: &Program, number: u32) -> Result<(), Memory>
+    ensures { OnOk result (text.new.items ≡ text.old.items ++ info_text program.now number) }
+{
+    if let Some(info) = program.sites.as_slice().get(number as usize) {
+        push_place(text, info.place)?;
+        text.push(b' ')?;
+        text.extend_from_slice(class_text(info.class))?;
+    }
+    Ok(())
+}
+
+#[tactic(auto, unfolding(crate::specs::Report::site_line))]
+fn push_site_line(text: &mut Vec<u8>, program: &Program, number: u32) -> Result<(), Memory>
+    ensures { OnOk result (text.new.items ≡ text.old.items ++ site_line program.now number) }
+{
+    push_numbered_site(text, Site(number))?;
+    text.push(b' ')?;
+    push_info(text, program, number)?;
+    text.push(b'\n')?;
+    Ok(())
+}
+
+#[tactic(auto, using(crate::proofs::Lists::added_none, crate::proofs::Lists::added_more, crate::proofs::Lists::added_all))]
+fn push_site_lines(text: &mut Vec<u8>, program: &Program, numbers: &[u32]) -> Result<(), Memory>
+    ensures { OnOk result (text.new.items ≡ text.old.items ++ flat_map (site_line program.now) numbers.now) }
+{
+    for number in numbers {
+        push_site_line(text, program, *number)?;
+    }
+    Ok(())
+}
+
+#[tactic(auto, unfolding(crate::specs::Report::sites_text))]
+pub(crate) fn push_sites(
+    text: &mut Vec<u8>,
+    alloc: Global,
+    program: &Program,
+    named: &[u32],
+) -> Result<(), Memory>
+    requires { IsWellFormed program.now }
+    ensures { OnOk result (text.new.items ≡ text.old.items ++ sites_text program.now named.now) }
+{
+    let sites = named_sites(alloc, program, named)?;
+    text.extend_from_slice(b"sites ")?;
+    push_number(text, sites.len() as u64)?;
+    text.push(b'\n')?;
+    push_site_lines(text, program, &sites)?;
+    Ok(())
+}

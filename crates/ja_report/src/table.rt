@@ -1,0 +1,146 @@
+//! Writers of the lines of a whole table.
+
+ghost use Rattle.std.specs.Prelude.{◌≡◌, ◌<◌, [], ◌∷◌, OnOk, IfOk, length, vec_len};
+ghost use Rattle.ja_base.specs.declared.ids.Label.{Label};
+ghost use Rattle.ja_graph.specs.WellFormed.{IsWellFormed};
+ghost use Rattle.ja_model.specs.AbstractState.{keys_of};
+ghost use Rattle.ja_value.specs.Value.{property_of};
+ghost use Rattle.ja_state.specs.State.{entries_of};
+ghost use Rattle.ja_rules.specs.Readings.{table_of, Fits};
+ghost use Rattle.ja_report.specs.Lines.{entry, entry_line, entry_lines, node_lines, point_lines};
+ghost use Rattle.ja_report.specs.Output.{Adds};
+
+use crate::lines::{push_property_text, push_state};
+use crate::output::Output;
+use crate::values::site_count;
+use ja_base::{Label, Memory, NameId};
+use ja_graph::Program;
+use ja_model::{Key, Slot};
+use ja_rules::ATable;
+use ja_state::DemandedEntries;
+use ja_value::AProp;
+use std::alloc::Global;
+
+/// How many names a program has.
+fn name_count(program: &Program) -> u32
+    requires { IsWellFormed program.now }
+    ensures { result ≡ length program.now.names }
+{
+    program.names.len() as u32
+}
+
+/// The keys of a program, in order.
+pub(crate) fn all_keys(alloc: Global, program: &Program) -> Result<Vec<Key>, Memory>
+    requires { IsWellFormed program.now }
+    ensures { IfOk result (λ keys. keys.items ≡ keys_of program.now) }
+{
+    let mut keys = Vec::new(alloc);
+    for number in 0..name_count(program) {
+        keys.push(Key::Name(NameId(number)))?;
+    }
+    keys.push(Key::OtherIndex)?;
+    keys.push(Key::OtherName)?;
+    keys.push(Key::Slot(Slot::Prototype))?;
+    keys.push(Key::Slot(Slot::Outer))?;
+    keys.push(Key::Slot(Slot::Scope))?;
+    keys.push(Key::Slot(Slot::Value))?;
+    Ok(keys)
+}
+
+// ---- values at entry
+
+#[tactic(auto, using(crate::proofs::OutputLemmas::adds_one), unfolding(crate::specs::Lines::line_text, crate::specs::Lines::line_sites))]
+fn push_entry(
+    out: &mut Output,
+    alloc: Global,
+    program: &Program,
+    label: Label,
+    key: Key,
+    property: &AProp,
+) -> Result<(), Memory>
+    requires { IsWellFormed program.now }
+    ensures { OnOk result (Adds program.now (entry label key (property_of property.now) ∷ []) out.old out.new) }
+{
+    out.text.extend_from_slice(b"entry ")?;
+    push_property_text(out, alloc, program, label, key, property)?;
+    Ok(())
+}
+
+#[tactic(auto, using(crate::proofs::EntryLemmas::entry_found, crate::proofs::EntryLemmas::entry_missing))]
+fn push_pair(
+    out: &mut Output,
+    alloc: Global,
+    program: &Program,
+    entries: &DemandedEntries,
+    label: Label,
+    key: Key,
+) -> Result<(), Memory>
+    requires { IsWellFormed program.now }
+    ensures { OnOk result (Adds program.now (entry_line (entries_of entries.now) label key) out.old out.new) }
+{
+    if let Some(property) = entries.get(label, key) {
+        push_entry(out, alloc, program, label, key, property)?;
+    }
+    Ok(())
+}
+
+/// Writes the demanded values at entry, and gives their number.
+#[tactic(auto, using(crate::proofs::EntryLemmas::pairs_none, crate::proofs::EntryLemmas::pairs_more, crate::proofs::EntryLemmas::pairs_all, crate::proofs::EntryLemmas::pairs_count))]
+pub(crate) fn push_entries(
+    out: &mut Output,
+    alloc: Global,
+    program: &Program,
+    entries: &DemandedEntries,
+) -> Result<usize, Memory>
+    requires { IsWellFormed program.now }
+    ensures lines { OnOk result (Adds program.now (entry_lines program.now (entries_of entries.now)) out.old out.new) }
+    ensures count { IfOk result (λ n. n ≡ length (entry_lines program.now (entries_of entries.now))) }
+{
+    let pairs = entries.pairs(alloc, site_count(program), name_count(program))?;
+    for pair in &pairs {
+        push_pair(out, alloc, program, entries, pair.0, pair.1)?;
+    }
+    Ok(pairs.len())
+}
+
+// ---- states
+
+#[tactic(auto, using(crate::proofs::PointLemmas::node_found, crate::proofs::PointLemmas::node_missing))]
+fn push_node(
+    out: &mut Output,
+    alloc: Global,
+    program: &Program,
+    keys: &[Key],
+    table: &ATable,
+    node: usize,
+) -> Result<(), Memory>
+    requires program { IsWellFormed program.now }
+    requires keys { keys.now ≡ keys_of program.now }
+    requires fits { Fits program.now table.now }
+    requires node { node < vec_len table.now.states }
+    ensures { OnOk result (Adds program.now (node_lines program.now (table_of table.now) node) out.old out.new) }
+{
+    if let Some(state) = &table.states[node] {
+        push_state(out, alloc, program, keys, node, state)?;
+    }
+    Ok(())
+}
+
+/// Writes the states.
+#[tactic(auto, using(crate::proofs::PointLemmas::points_none, crate::proofs::PointLemmas::points_more, crate::proofs::PointLemmas::points_all))]
+pub(crate) fn push_points(
+    out: &mut Output,
+    alloc: Global,
+    program: &Program,
+    table: &ATable,
+) -> Result<(), Memory>
+    requires program { IsWellFormed program.now }
+    requires fits { Fits program.now table.now }
+    ensures { OnOk result (Adds program.now (point_lines program.now (table_of table.now)) out.old out.new) }
+{
+    let keys = all_keys(alloc, program)?;
+    for node in 0..table.states.len() {
+        push_node(out, alloc, program, &keys, table, node)?;
+    }
+    Ok(())
+}

@@ -1,0 +1,24 @@
+use Rattle.std.proofs.Common.{rules, ◌≡◌, sym, ap, ◌∙◌, subst, ℕ, List}
+use Rattle.ja_rules.specs.Readings.{table_of}
+use Rattle.ja_tool.specs.declared.status.Status.{Status}
+use Rattle.ja_tool.specs.Answers.{IsAnalysed, Reports, status_of}
+use Rattle.ja_tool.proofs.Reporting.{reports}
+use Rattle.ja_tool.proofs.analysis.report_of.Goals as goal
+
+pub returns : goal.returns
+returns c =
+    let p = c.args.program.now in
+    let ws = c.in_ok-warnings.warnings in
+    let text = c.in_ok-text.text.items in
+    let whole : IsAnalysed p text ws = record {
+      table = table_of c.args.solved.now.table;
+      visits = c.args.solved.now.visits;
+      printed = cc (c.in_ok-text.ensures, c.as_slice.ensures, c.as_slice-2.ensures);
+      built = c.requires.solved.built;
+      few = c.requires.solved.few;
+      closed = c.requires.solved.closed;
+      exact = c.in_ok-warnings.ensures.warnings;
+      covers = c.requires.solved.covers;
+      warned = c.in_ok-warnings.ensures.faults c.requires.solved.closed } in
+    let same : status_of ws ≡ c.judged-status.result = cc (c.judged-status.ensures, c.as_slice-3.ensures) in
+    let R : Status → Type 0 = λ s. Reports p s text in subst R same (reports p text ws whole)

@@ -1,0 +1,144 @@
+-- The answers of the program: the cause of each status, and the text that is written with it.
+use Rattle.std.specs.Prelude.{◌≡◌, ◌≤◌, ◌+◌, ℕ, String, Bool, true, List, [], ◌∷◌, map, length, Option}
+use lib.Chars.{codes}
+use Rattle.std.specs.String.{string_bytes}
+use Rattle.std.specs.declared.alloc.Global.{Global}
+use Rattle.ja_base.specs.declared.ids.Place.{Place}
+use Rattle.ja_base.specs.Streams.{Rose, Keeps, Took, IsAtEnd, IsLonger, TakesCount, Appends, AppendsFront, TurnsTo}
+use Rattle.ja_graph.specs.declared.program.Program.{Program}
+use Rattle.ja_lower.specs.Lowering.{program_of}
+use Rattle.ja_model.specs.declared.table.Item.{Item}
+use Rattle.ja_model.specs.declared.table.Warning.{Warning}
+use Rattle.ja_model.specs.Sound.{CoversRuns, WarnsOfFaults}
+use Rattle.ja_model.specs.Table.{Table, IsBuilt, IsClosed}
+use Rattle.ja_model.specs.Warning.{AreWarnings}
+use Rattle.ja_parse.specs.declared.tree.Statement.{Statement}
+use Rattle.ja_parse.specs.Grammar.{Spells}
+use Rattle.ja_parse.specs.Refusal.{IsText, FirstWrong}
+use Rattle.ja_report.specs.declared.refusals.Refusal.{Refusal}
+use Rattle.ja_report.specs.declared.refusals.Refusal.TheVariants as refusal
+use Rattle.ja_tool.specs.declared.analysis.Answer.{Answer}
+use Rattle.ja_report.specs.Refusals.{refusal_text}
+use Rattle.ja_report.specs.Report.{report_text, spent_text}
+use Rattle.ja_rules.specs.declared.solver.Solved.{Solved}
+use Rattle.ja_rules.specs.Readings.{table_of, Fits}
+use Rattle.ja_rules.specs.Solving.{WasSpent}
+use Rattle.ja_tool.specs.declared.status.Status.{Status}
+use Rattle.ja_tool.specs.declared.status.Status.TheVariants.{Done, Warned, Usage, ReadFault, WriteFault, TooLong, Spent, Memory, Unbuilt}
+
+-- the words are a command line: `analyse` alone
+abbrev pub IsCommand : List (String Global) → Type 0
+IsCommand words = map string_bytes words ≡ codes "analyse" ∷ []
+
+-- the greatest number of bytes of a text, and of visits
+abbrev pub max_bytes : ℕ
+max_bytes = 16777216
+
+abbrev pub budget : ℕ
+budget = 1000000
+
+-- the program of a text
+abbrev pub IsProgramOf : List ℕ → Program → Type 0
+IsProgramOf bytes p = (statements : List Statement) × Spells bytes statements × (p ≡ program_of statements)
+
+-- What is printed of a program, with these warnings: the table that the printed visits build, which is closed and covers
+-- every run; an operation that goes wrong in some run is among the warnings.
+pub record IsAnalysed (p : Program) (text : List ℕ) (warnings : List Warning) : Type 0 where
+  pub table : Table
+  pub visits : List Item
+  pub printed : text ≡ report_text p table visits warnings
+  pub built : IsBuilt p visits table
+  pub few : length visits ≤ budget
+  pub closed : IsClosed p table
+  pub exact : AreWarnings p table warnings
+  pub covers : CoversRuns p table
+  pub warned : WarnsOfFaults p warnings
+
+-- what is written of a program, by the status
+abbrev pub Reports : Program → Status → List ℕ → Type 0
+Reports p Done text = IsAnalysed p text []
+Reports p Warned text = (w : Warning) × (ws : List Warning) × IsAnalysed p text (w ∷ ws)
+Reports p Spent text = (visits : List Item) × WasSpent p budget visits × (text ≡ spent_text p visits)
+Reports p status text = ⊥
+
+-- a report without a warning is done, and one with a warning is warned
+abbrev pub status_of : List Warning → Status
+status_of [] = Done
+status_of (w ∷ ws) = Warned
+
+abbrev pub ReportsOnText : List ℕ → Status → List ℕ → Type 0
+ReportsOnText bytes status text = (p : Program) × IsProgramOf bytes p × Reports p status text
+
+-- the cause of each status of the analysis of a text, and what is written
+abbrev pub Analyses : List ℕ → Status → List ℕ → Type 0
+Analyses bytes Done text = ReportsOnText bytes Done text
+Analyses bytes Warned text = ReportsOnText bytes Warned text
+Analyses bytes Spent text = ReportsOnText bytes Spent text
+Analyses bytes Unbuilt text =
+    (place : Place) × FirstWrong bytes place × (IsText bytes → ⊥) × (text ≡ refusal_text (refusal.Unbuilt place))
+Analyses bytes status text = ⊥
+
+-- What a call meets: its words, and what is left of the source and how many faults it has counted, before and after.
+pub record Call : Type 0 where
+  pub words : List (String Global)
+  pub left : Option (List ℕ)
+  pub left_after : Option (List ℕ)
+  pub faults : ℕ
+  pub faults_after : ℕ
+
+-- the bytes are all that was left, and no more than a text may have
+pub record IsInput (c : Call) (bytes : List ℕ) : Type 0 where
+  pub took : Took c.left bytes
+  pub end : IsAtEnd c.left_after
+  pub within : length bytes ≤ max_bytes
+
+abbrev pub AnalysesInput : Call → Status → List ℕ → Type 0
+AnalysesInput c status text = IsCommand c.words × ((bytes : List ℕ) × IsInput c bytes × Analyses bytes status text)
+
+-- the cause of each status that has a text, and the text
+abbrev pub HasCause : Call → Status → List ℕ → Type 0
+HasCause c Usage text = (IsCommand c.words → ⊥) × Keeps c.left c.left_after × (text ≡ refusal_text refusal.Usage)
+HasCause c ReadFault text = IsCommand c.words × Rose c.faults c.faults_after × (text ≡ refusal_text refusal.ReadFault)
+HasCause c TooLong text =
+    IsCommand c.words × IsLonger max_bytes c.left × TakesCount (max_bytes + 1) c.left c.left_after × (text ≡ refusal_text refusal.TooLong)
+HasCause c Done text = AnalysesInput c Done text
+HasCause c Warned text = AnalysesInput c Warned text
+HasCause c Spent text = AnalysesInput c Spent text
+HasCause c Unbuilt text = AnalysesInput c Unbuilt text
+HasCause c WriteFault text = ⊥
+HasCause c Memory text = ⊥
+
+-- What the sink holds: what was written and whether it is finished, before and after, and its faults.
+pub record Written : Type 0 where
+  pub written : Option (List ℕ)
+  pub written_after : Option (List ℕ)
+  pub finished : Option Bool
+  pub finished_after : Option Bool
+  pub faults : ℕ
+  pub faults_after : ℕ
+
+-- the text of an answer was appended, and the sink is finished
+abbrev pub IsWritten : Call → Written → Status → Type 0
+IsWritten c w status =
+    (text : List ℕ) × HasCause c status text × Appends w.written w.written_after text × TurnsTo w.finished w.finished_after true
+
+-- the status, its cause, and what the sink holds: after a fault of the sink the front of another answer's text, and without
+-- memory nothing
+abbrev pub IsAnswered : Call → Written → Status → Type 0
+IsAnswered c w WriteFault =
+    Rose w.faults w.faults_after × ((status : Status) × (text : List ℕ) × HasCause c status text × AppendsFront w.written w.written_after text)
+IsAnswered c w Memory = Keeps w.written w.written_after × Keeps w.finished w.finished_after
+IsAnswered c w status = IsWritten c w status
+
+-- the status and the text of a refusal
+pub record IsRefusal (a : Answer) (s : Status) (r : Refusal) : Type 0 where
+  pub status_is : a.status ≡ s
+  pub text_is : a.text.items ≡ refusal_text r
+
+-- what the solver gives of a program
+pub record IsSolved (p : Program) (s : Solved) : Type 0 where
+  pub fits : Fits p s.table
+  pub built : IsBuilt p s.visits (table_of s.table)
+  pub closed : IsClosed p (table_of s.table)
+  pub few : length s.visits ≤ budget
+  pub covers : CoversRuns p (table_of s.table)

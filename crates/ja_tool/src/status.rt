@@ -1,0 +1,31 @@
+ghost use Rattle.std.specs.Prelude.{◌≡◌, ℕ};
+
+/// How a call ends. The number of each is the process's exit status.
+#[derive(Clone, Copy, Debug, PartialEq, Eq)]
+pub enum Status {
+    /// A report without a warning was written.
+    Done = 0,
+    /// A report with a warning was written.
+    Warned = 1,
+    /// The words are no command line.
+    Usage = 2,
+    /// The source failed.
+    ReadFault = 3,
+    /// The sink failed.
+    WriteFault = 4,
+    /// The text has more than 16,777,216 bytes.
+    TooLong = 5,
+    /// The visits of the budget are spent, and the table isn't closed.
+    Spent = 10,
+    /// Memory was refused. Nothing was written.
+    Memory = 16,
+    /// The text has a form that isn't built yet.
+    Unbuilt = 20,
+}
+
+impl Status {
+    /// The exit status.
+    pub fn code(self) -> u8 {
+        self as u8
+    }
+}

@@ -1,0 +1,74 @@
+ghost use Rattle.std.specs.Prelude.{◌≡◌, ◌↔◌, IfOk, OnOk, OnErr, IsTrue, true};
+ghost use Rattle.ja_base.specs.Streams.{NeverFalls, Appends, AppendsFront, TurnsTo, HasCause as StreamCause};
+ghost use Rattle.ja_tool.specs.Answers.{IsCommand, HasCause, IsAnswered};
+
+use crate::analysis::{Answer, analyse, refuse};
+use crate::status::Status;
+use ja_base::{Failed, Memory, ReadFault, Sink, Source, read_all, write_all};
+use ja_report::Refusal;
+use std::alloc::Global;
+
+/// The greatest number of bytes of a text.
+pub const MAX_BYTES: usize = 16_777_216;
+
+// Whether the words are a command line: `analyse` alone.
+fn is_command(words: &[String]) -> bool
+    ensures { IsTrue result ↔ IsCommand words.now }
+{
+    match words {
+        [word] => word.as_str() == "analyse",
+        _ => false,
+    }
+}
+
+// The answer to the words and the source, before it is written.
+fn answer<S: Source>(alloc: Global, words: &[String], source: &mut S) -> Result<Answer, Memory>
+    ensures count { NeverFalls (S.faults source.old) (S.faults source.new) }
+    ensures cause { IfOk result (λ a. HasCause (record { words = words.now; left = S.left source.old; left_after = S.left source.new; faults = S.faults source.old; faults_after = S.faults source.new }) a.status a.text.items) }
+{
+    if !is_command(words) {
+        return refuse(alloc, Status::Usage, Refusal::Usage);
+    }
+    match read_all(alloc, source, MAX_BYTES) {
+        Ok(bytes) => {
+            let answer = analyse(alloc, &bytes)?;
+            Ok(answer)
+        }
+        Err(ReadFault::Failed) => refuse(alloc, Status::ReadFault, Refusal::ReadFault),
+        Err(ReadFault::TooLong) => refuse(alloc, Status::TooLong, Refusal::TooLong),
+        Err(ReadFault::Memory) => Err(Memory),
+    }
+}
+
+// Writes a text whole, and finishes the sink.
+fn write_answer<K: Sink>(sink: &mut K, text: &[u8]) -> Result<(), Failed>
+    ensures written { OnOk result (Appends (K.written sink.old) (K.written sink.new) text.now) }
+    ensures finished { OnOk result (TurnsTo (K.finished sink.old) (K.finished sink.new) true) }
+    ensures front { OnErr result (AppendsFront (K.written sink.old) (K.written sink.new) text.now) }
+    ensures cause { StreamCause (K.faults sink.old) (K.faults sink.new) result }
+{
+    write_all(sink, text)?;
+    sink.finish()?;
+    Ok(())
+}
+
+/// The program: `words` are those after its name. Reads a text from the source, analyses it, and
+/// writes the answer whole to the sink, which is finished last. The status says which answer it was.
+pub fn tajs<S: Source, K: Sink>(
+    alloc: Global,
+    words: &[String],
+    source: &mut S,
+    sink: &mut K,
+) -> Status
+    ensures source_count { NeverFalls (S.faults source.old) (S.faults source.new) }
+    ensures sink_count { NeverFalls (K.faults sink.old) (K.faults sink.new) }
+    ensures answered { IsAnswered (record { words = words.now; left = S.left source.old; left_after = S.left source.new; faults = S.faults source.old; faults_after = S.faults source.new }) (record { written = K.written sink.old; written_after = K.written sink.new; finished = K.finished sink.old; finished_after = K.finished sink.new; faults = K.faults sink.old; faults_after = K.faults sink.new }) result }
+{
+    match answer(alloc, words, source) {
+        Ok(answer) => match write_answer(sink, &answer.text) {
+            Ok(()) => answer.status,
+            Err(Failed) => Status::WriteFault,
+        },
+        Err(Memory) => Status::Memory,
+    }
+}
