@@ -6,6 +6,7 @@ use Rattle.ja_graph.specs.Program.{nodes_of}
 use Rattle.ja_model.specs.Machine.{program_function, registers_of}
 use Rattle.ja_state.specs.State.{state_of, entries_of}
 use Rattle.ja_rules.specs.Readings.{states_in, HaveSameRegisters}
+use Rattle.std.proofs.lemmas.List.Elements.{recursion_from_All}
 use Rattle.ja_rules.proofs.Tables.{table-step, table_changes, table_stays}
 use Rattle.ja_rules.proofs.Ranges.{info_in_range, registers_of_text, step_nodes, step_keys}
 use Rattle.ja_rules.proofs.table.visit_step.Goals as goal
@@ -26,7 +27,7 @@ returns-clause-fits c =
     let r = info_in_range c.args.program.now c.requires.program c.args.node c.node_info-info.result.now c.node_info-info.ensures in
     let at : slice_get c.args.table.now.states.items c.args.node.0 ≡ Some (Some c.state_at-state.result.now) = ap (λ xs. slice_get xs c.args.node.0) (sym c.deref.ensures.value) ∙ c.state_at-state.ensures in
     let count : vec_len c.join_all.new.states ≡ length (nodes_of c.args.program.now program_function) = search (rules, c.in_ok-joined.ensures.nodes, c.requires.fits.nodes) in
-    let same : HaveSameRegisters c.in_ok-out.out.states.items (registers_of c.args.program.now program_function) = subst (λ n. HaveSameRegisters c.in_ok-out.out.states.items n) (c.requires.fits.registers c.args.node.0 c.state_at-state.result.now at) c.in_ok-out.ensures.registers in
+    let same : HaveSameRegisters c.in_ok-out.out.states.items (registers_of c.args.program.now program_function) = subst (λ n. HaveSameRegisters c.in_ok-out.out.states.items n) (c.requires.fits.registers c.args.node.0 c.state_at-state.result.now at) (recursion_from_All _ _ c.in_ok-out.ensures.registers) in
     record {
       nodes = count;
       registers = c.in_ok-joined.ensures.registers (registers_of c.args.program.now program_function) c.requires.fits.registers same;
