@@ -83,19 +83,19 @@ listing_step h e rest above a zero =
 listing_step h e rest above a (suc n) =
     let more = listing_step h e rest above (a + 1) n in
     ⊎_elim
-      (λ (low : a < e.0). let apart : e.0 ≢ a = omega arith in
-          step_low (within a (suc n) e.0) (within (a + 1) n e.0) (h e.0 e.1) (listed_at h (e ∷ rest) a) (listed_at h rest a) (listing h (e ∷ rest) (a + 1) n) (listing h rest (a + 1) n)
-            (later_listed h e rest a apart ∙ nothing_listed h rest a (none_up_to e.0 rest a above (omega arith))) (nothing_listed h rest a (none_up_to e.0 rest a above (omega arith))) (within_more a n e.0 low) more)
-      (λ (high : e.0 ≤ a). ⊎_elim
-          (λ (same : e.0 ≡ a).
-              step_here (within a (suc n) e.0) (within (a + 1) n e.0) (h e.0 e.1) (listed_at h (e ∷ rest) a) (listed_at h rest a) (listing h (e ∷ rest) (a + 1) n) (listing h rest (a + 1) n)
-                (ap (listed_at h (e ∷ rest)) (sym same) ∙ one_listed h e rest) (nothing_listed h rest a (none_up_to e.0 rest a above (omega arith)))
-                (inside a (suc n) e.0 (omega arith) (omega arith)) (outside (a + 1) n e.0 (inl (omega arith))) more)
-          (λ (apart : e.0 ≢ a).
-              step_high (within a (suc n) e.0) (within (a + 1) n e.0) (h e.0 e.1) (listed_at h (e ∷ rest) a) (listed_at h rest a) (listing h (e ∷ rest) (a + 1) n) (listing h rest (a + 1) n)
-                (later_listed h e rest a apart) (outside a (suc n) e.0 (inl (omega arith))) (outside (a + 1) n e.0 (inl (omega arith))) more)
-          (cases_eq e.0 a))
-      (cases_lt a e.0)
+    (λ (low : a < e.0). let apart : e.0 ≢ a = omega arith in
+    step_low (within a (suc n) e.0) (within (a + 1) n e.0) (h e.0 e.1) (listed_at h (e ∷ rest) a) (listed_at h rest a) (listing h (e ∷ rest) (a + 1) n) (listing h rest (a + 1) n)
+    (later_listed h e rest a apart ∙ nothing_listed h rest a (none_up_to e.0 rest a above (omega arith))) (nothing_listed h rest a (none_up_to e.0 rest a above (omega arith))) (within_more a n e.0 low) more)
+    (λ (high : e.0 ≤ a). ⊎_elim
+    (λ (same : e.0 ≡ a).
+    step_here (within a (suc n) e.0) (within (a + 1) n e.0) (h e.0 e.1) (listed_at h (e ∷ rest) a) (listed_at h rest a) (listing h (e ∷ rest) (a + 1) n) (listing h rest (a + 1) n)
+    (ap (listed_at h (e ∷ rest)) (sym same) ∙ one_listed h e rest) (nothing_listed h rest a (none_up_to e.0 rest a above (omega arith)))
+    (inside a (suc n) e.0 (omega arith) (omega arith)) (outside (a + 1) n e.0 (inl (omega arith))) more)
+    (λ (apart : e.0 ≢ a).
+    step_high (within a (suc n) e.0) (within (a + 1) n e.0) (h e.0 e.1) (listed_at h (e ∷ rest) a) (listed_at h rest a) (listing h (e ∷ rest) (a + 1) n) (listing h rest (a + 1) n)
+    (later_listed h e rest a apart) (outside a (suc n) e.0 (inl (omega arith))) (outside (a + 1) n e.0 (inl (omega arith))) more)
+    (cases_eq e.0 a))
+    (cases_lt a e.0)
 
 -- What a loop has listed, and what is left to list.
 pub record Listing {X Z : Type 0} (h : ℕ → X → List Z) (a n : ℕ) (all rest : List (ℕ × X)) (items : List Z) : Type 0 where

@@ -83,7 +83,7 @@ pub moved_step : {X Z : Type 0} (f : ℕ → X → Z) (g : X → Z) (all rest : 
 moved_step f g all rest out next e w h put is = record {
   each = λ q. ⊎_elim
       (λ (same : e.0 ≡ q). subst (λ (n : ℕ). over (option_map (f n) (found rest n)) (option_map g (get nat_cmp next n)) ≡ option_map (f n) (found all n)) same
-          (moved_here f g all rest out next e w (gone e rest h.sorted) (grind (arith, common_steps, put e.0)) is (h.each e.0)))
+      (moved_here f g all rest out next e w (gone e rest h.sorted) (grind (arith, common_steps, put e.0)) is (h.each e.0)))
       (λ (apart : e.0 ≢ q). moved_there f g all rest out next e q apart (grind (arith, common_steps, put q)) (h.each q))
       (cases_eq e.0 q);
   ahead = λ q x at. h.ahead q x (still_ahead e rest q x (gone e rest h.sorted) at);

@@ -23,7 +23,7 @@ pub mask_join : (old mid new other : BTreeMap ℕ Mask) (listed : Bool)
     → IsJoined join_masks (mask_in old) (mask_in other) (mask_in new) listed
 mask_join old mid new other listed kept all joined differs same =
     let h = spread_join_listed (λ (x : Mask). x) join_masks old mid new other exactly_none listed refl (λ q. sym (mask_is mid q) ∙ kept q ∙ mask_is old q) all
-          (λ q. joined q ∙ ap (λ (z : Mask). option_map (λ (m : Mask). join_masks m z) (get nat_cmp mid q)) (mask_is other q)) differs same in
+    (λ q. joined q ∙ ap (λ (z : Mask). option_map (λ (m : Mask). join_masks m z) (get nat_cmp mid q)) (mask_is other q)) differs same in
     record {
       joined = λ q. mask_is new q ∙ h.joined q ∙ ap (λ (z : Mask). join_masks z (spread_mask other q)) (sym (mask_is old q)) ∙ ap (join_masks (mask_in old q)) (sym (mask_is other q));
       differs = λ said. let there = h.differs said in (there.0, λ e. there.1 (sym (mask_is new there.0) ∙ e ∙ mask_is old there.0));

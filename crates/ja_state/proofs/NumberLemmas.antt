@@ -91,8 +91,8 @@ pub pairs_listed : (e : DemandedEntries) (sites names : ℕ)
 pairs_listed e sites names =
     let row : Label → List (Label × Key) = λ l. with_keys l (filter (λ (k : Key). is_some (entries_of e l k)) (keys_below names)) in
     let same : (q : ℕ) → listed_at (λ q (m : BTreeMap ℕ AProp). with_keys (label_of q) (keys_in m names)) e.objects.entries q ≡ row (label_of q) =
-          λ q. pairs_here names (label_of q) (found e.objects.entries q)
-            ∙ ap (λ (r : ℕ). with_keys (label_of q) (filter (λ (k : Key). is_some (read (get nat_cmp e.objects r) (key_number k))) (keys_below names))) (sym (label_of_number q)) in
+    λ q. pairs_here names (label_of q) (found e.objects.entries q)
+    ∙ ap (λ (r : ℕ). with_keys (label_of q) (filter (λ (k : Key). is_some (read (get nat_cmp e.objects r) (key_number k))) (keys_below names))) (sym (label_of_number q)) in
     ap (λ (f : ℕ → List (Label × Key)). flat_map f (range_with_len 0 (2 * sites))) (λ i q. (same q) i) ∙ sym (flat_map-map row label_of (range_with_len 0 (2 * sites))) ∙ ap (flat_map row) (sym (labels_range sites))
 
 -- the keys that aren't names

@@ -109,16 +109,16 @@ pub spread_join_listed : {X Z : Type 0} (f : X → Z) (j : Z → Z → Z) (old m
     → IsJoined j (spread f old d) (spread f other d) (spread f new d) listed
 spread_join_listed f j old mid new other d listed idle kept all joined differs same =
     subst (λ (b : Bool). IsJoined j (spread f old d) (spread f other d) (spread f new d) b) (or_none listed)
-      (spread_join f j old mid new other d d d listed false (record {
-        kept = kept;
-        all = all;
-        joined = joined;
-        differs = differs;
-        same = same;
-        rest_joined = idle;
-        rest_differs = λ said. absurd (cc);
-        rest_same = λ said. refl;
-      }))
+    (spread_join f j old mid new other d d d listed false (record {
+      kept = kept;
+      all = all;
+      joined = joined;
+      differs = differs;
+      same = same;
+      rest_joined = idle;
+      rest_differs = λ said. absurd (cc);
+      rest_same = λ said. refl;
+    }))
 
 pub or_default : {X : Type 0} (o : Option X) (d : X) → unwrap_or o d ≡ option_map_or (λ (x : X). x) o d
 or_default None d = refl

@@ -93,9 +93,9 @@ entry_past r far =
 pub registers_entry : (xs : List AValue) (n : ℕ) → 6 ≤ n → map value_of xs ≡ map entry_registers (range_with_len 0 n) → (r : ℕ) → register_in xs r ≡ entry_registers r
 registers_entry xs n enough same r =
     ⊎_elim
-      (λ (below : r < n). mapped_some value_of (slice_get xs r) undefined_value (entry_registers r) (same_at value_of entry_registers xs (range_with_len 0 n) r same ∙ ap (option_map entry_registers) (range_at n r below)))
-      (λ (above : n ≤ r). register_past xs r (registers_enough xs n r same above) ∙ sym (entry_past r (omega arith)))
-      (cases_lt r n)
+    (λ (below : r < n). mapped_some value_of (slice_get xs r) undefined_value (entry_registers r) (same_at value_of entry_registers xs (range_with_len 0 n) r same ∙ ap (option_map entry_registers) (range_at n r below)))
+    (λ (above : n ≤ r). register_past xs r (registers_enough xs n r same above) ∙ sym (entry_past r (omega arith)))
+    (cases_lt r n)
 
 -- ---- whole states
 
@@ -111,14 +111,14 @@ pub states_differ : (a b other : AState) (registers objects masks : Bool)
     → ((registers || objects) || masks) ≡ true → state_of b ≢ state_of a
 states_differ a b other registers objects masks first second third said same =
     ⊎_elim
-      (λ (either : (registers || objects) ≡ true). ⊎_elim
-          (λ (yes_registers : registers ≡ true). let there = first.differs yes_registers in there.1 (ap (λ (s : AbstractState). s.register there.0) same))
-          (λ (yes_objects : objects ≡ true). let there = second.differs yes_objects in
-              let l = label_numbered there.0 in
-              there.1 (sym (ap (object_in b.objects) l.1) ∙ ap (λ (s : AbstractState). s.property l.0) same ∙ ap (object_in a.objects) l.1))
-          (or_true registers objects either))
-      (λ (yes_masks : masks ≡ true). let there = third.differs yes_masks in there.1 (ap (λ (s : AbstractState). s.mask there.0) same))
-      (or_true (registers || objects) masks said)
+    (λ (either : (registers || objects) ≡ true). ⊎_elim
+    (λ (yes_registers : registers ≡ true). let there = first.differs yes_registers in there.1 (ap (λ (s : AbstractState). s.register there.0) same))
+    (λ (yes_objects : objects ≡ true). let there = second.differs yes_objects in
+    let l = label_numbered there.0 in
+    there.1 (sym (ap (object_in b.objects) l.1) ∙ ap (λ (s : AbstractState). s.property l.0) same ∙ ap (object_in a.objects) l.1))
+    (or_true registers objects either))
+    (λ (yes_masks : masks ≡ true). let there = third.differs yes_masks in there.1 (ap (λ (s : AbstractState). s.mask there.0) same))
+    (or_true (registers || objects) masks said)
 
 pub no_objects : (m : BTreeMap ℕ AObject) → IsEmpty m → (q : ℕ) → object_in m q ≡ entry_keyed
 no_objects m none q = ap (λ (es : List (ℕ × AObject)). option_map_or object_of (found es q) entry_keyed) none
@@ -158,7 +158,7 @@ made_in s n o objects m0 m1 m2 m3 m4 older newer joined absent is_n is_o each is
     let first : object_of older ≡ aged_keyed s (object_in objects o) = is_older ∙ age o in
     let second : object_of newer ≡ aged_keyed s (object_in objects n) = is_newer ∙ out_of m0 m1 o out_older n apart ∙ age n in
     let both : object_of joined ≡ join_keyed (aged_keyed s (object_in objects o)) (aged_keyed s (object_in objects n)) =
-          is_joined ∙ ap (λ (z : Keyed). join_keyed z (object_of newer)) first ∙ ap (join_keyed (aged_keyed s (object_in objects o))) second in
+    is_joined ∙ ap (λ (z : Keyed). join_keyed z (object_of newer)) first ∙ ap (join_keyed (aged_keyed s (object_in objects o))) second in
     put_in m3 m4 n absent in_absent q ∙ ap (λ (z : Keyed). if n == q then object_of absent else z) (put_in m2 m3 o joined in_joined q)
     ∙ three_ways (n == q) (o == q) _ _ _ _ _ _ is_absent both (λ not_new not_old. out_of m1 m2 n out_newer q not_new ∙ out_of m0 m1 o out_older q not_old ∙ age q)
     ∙ (λ i. if is_n i == q then (λ (k : Key). absent_property) else if is_o i == q then join_keyed (aged_keyed s (object_in objects (is_o i))) (aged_keyed s (object_in objects (is_n i))) else aged_keyed s (object_in objects q))
@@ -174,8 +174,8 @@ three_at b c d e x y z k same same' =
 pub made_at : (a : AState) (s : Site) (l : Label) (k : Key) → made_keyed (object_in a.objects) s (label_number l) k ≡ made_property (state_of a) s l k
 made_at a s l k =
     three_at (label_number (new s) == label_number l) (label_number (old s) == label_number l) (same_label (new s) l) (same_label (old s) l)
-      (λ (j : Key). absent_property) (join_keyed (aged_keyed s (object_in a.objects (label_number (old s)))) (aged_keyed s (object_in a.objects (label_number (new s))))) (aged_keyed s (object_in a.objects (label_number l))) k
-      (sym (same_label_is (new s) l)) (sym (same_label_is (old s) l))
+    (λ (j : Key). absent_property) (join_keyed (aged_keyed s (object_in a.objects (label_number (old s)))) (aged_keyed s (object_in a.objects (label_number (new s))))) (aged_keyed s (object_in a.objects (label_number l))) k
+    (sym (same_label_is (new s) l)) (sym (same_label_is (old s) l))
 
 pub made_state : (a b : AState) (s : Site) → ((r : ℕ) → register_in b.registers.items r ≡ aged s (register_in a.registers.items r)) → ((q : ℕ) → object_in b.objects q ≡ made_keyed (object_in a.objects) s q)
     → ((q : ℕ) → mask_in b.masks q ≡ (if s.0 == q then exactly_some else mask_in a.masks q)) → state_of b ≡ with_made (state_of a) s

@@ -60,7 +60,13 @@ impl DemandedEntries {
 
     /// Joins a property into the value of a pair, if it is demanded, and tells whether the value changed.
     /// After `Memory` the entries may be anything.
-    pub fn join(&mut self, alloc: Global, label: Label, key: Key, property: &AProp) -> Result<bool, Memory>
+    pub fn join(
+        &mut self,
+        alloc: Global,
+        label: Label,
+        key: Key,
+        property: &AProp,
+    ) -> Result<bool, Memory>
         ensures joined { IfOk result (λ _. entries_of self.new ≡ (λ l k. if same_label label l && same_key key k then option_map (λ q. join_properties q (property_of property.now)) (entries_of self.old l k) else entries_of self.old l k)) }
         ensures changed { IfOk result (λ c. c ≡ true → entries_of self.new ≢ entries_of self.old) }
         ensures same { IfOk result (λ c. c ≡ false → entries_of self.new ≡ entries_of self.old) }
@@ -128,7 +134,11 @@ fn take_out(
 }
 
 /// Demands the number of a key, and tells whether it wasn't demanded.
-fn demand_key(properties: &mut BTreeMap<u64, AProp>, alloc: Global, number: u64) -> Result<bool, Memory>
+fn demand_key(
+    properties: &mut BTreeMap<u64, AProp>,
+    alloc: Global,
+    number: u64,
+) -> Result<bool, Memory>
     ensures demanded { IfOk result (λ _. (q : ℕ) → property_in properties.new q ≡ (if number == q then Some (unwrap_or (property_in properties.old q) no_property) else property_in properties.old q)) }
     ensures changed { IfOk result (λ c. c ≡ true → property_in properties.new number ≢ property_in properties.old number) }
     ensures same { IfOk result (λ c. c ≡ false → property_in properties.new number ≡ property_in properties.old number) }
@@ -157,7 +167,12 @@ fn set_key(
 }
 
 /// Joins a property into the one at the number of a key, if it is demanded, and tells whether it changed.
-fn join_key(properties: &mut BTreeMap<u64, AProp>, alloc: Global, number: u64, property: &AProp) -> Result<bool, Memory>
+fn join_key(
+    properties: &mut BTreeMap<u64, AProp>,
+    alloc: Global,
+    number: u64,
+    property: &AProp,
+) -> Result<bool, Memory>
     ensures joined { IfOk result (λ _. (q : ℕ) → property_in properties.new q ≡ (if number == q then option_map (λ p. join_properties p (property_of property.now)) (property_in properties.old q) else property_in properties.old q)) }
     ensures changed { IfOk result (λ c. c ≡ true → property_in properties.new number ≢ property_in properties.old number) }
     ensures same { IfOk result (λ c. c ≡ false → property_in properties.new number ≡ property_in properties.old number) }
@@ -201,7 +216,11 @@ fn push_pairs(pairs: &mut Vec<(Label, Key)>, label: Label, keys: &[Key]) -> Resu
 }
 
 /// The keys of the first names that are demanded, in order.
-fn demanded_keys(alloc: Global, properties: &BTreeMap<u64, AProp>, names: u32) -> Result<Vec<Key>, Memory>
+fn demanded_keys(
+    alloc: Global,
+    properties: &BTreeMap<u64, AProp>,
+    names: u32,
+) -> Result<Vec<Key>, Memory>
     ensures { IfOk result (λ v. v.items ≡ keys_in properties.now names) }
 {
     let mut keys = Vec::new(alloc);
@@ -231,7 +250,11 @@ fn push_name(keys: &mut Vec<Key>, number: u64, names: u32) -> Result<(), Memory>
 }
 
 /// Adds those keys that are demanded.
-fn push_keys(keys: &mut Vec<Key>, properties: &BTreeMap<u64, AProp>, others: &[Key]) -> Result<(), Memory>
+fn push_keys(
+    keys: &mut Vec<Key>,
+    properties: &BTreeMap<u64, AProp>,
+    others: &[Key],
+) -> Result<(), Memory>
     ensures { IfOk result (λ _. keys.new.items ≡ keys.old.items ++ filter (is_demanded properties.now) others.now) }
 {
     for key in others {

@@ -60,7 +60,11 @@ fn keep_all(masks: &mut BTreeMap<u64, Mask>, others: &BTreeMap<u64, Mask>) -> Re
 }
 
 /// Joins other masks into those that are kept, and tells whether one changed.
-fn join_kept(masks: &mut BTreeMap<u64, Mask>, alloc: Global, others: &BTreeMap<u64, Mask>) -> Result<bool, Memory>
+fn join_kept(
+    masks: &mut BTreeMap<u64, Mask>,
+    alloc: Global,
+    others: &BTreeMap<u64, Mask>,
+) -> Result<bool, Memory>
     ensures joined { IfOk result (λ _. (q : ℕ) → option_map (λ (m : _). m) (get nat_cmp masks.new q) ≡ option_map (λ (m : _). join_masks m (mask_in others.now q)) (get nat_cmp masks.old q)) }
     ensures changed { IfOk result (λ c. c ≡ true → (q : ℕ) × (option_map (λ (m : _). m) (get nat_cmp masks.new q) ≢ option_map (λ (m : _). m) (get nat_cmp masks.old q))) }
     ensures same { IfOk result (λ c. c ≡ false → (q : ℕ) → option_map (λ (m : _). m) (get nat_cmp masks.new q) ≡ option_map (λ (m : _). m) (get nat_cmp masks.old q)) }
@@ -75,7 +79,11 @@ fn join_kept(masks: &mut BTreeMap<u64, Mask>, alloc: Global, others: &BTreeMap<u
 }
 
 /// Joins other masks in, and tells whether one changed.
-pub fn join_masks(masks: &mut BTreeMap<u64, Mask>, alloc: Global, others: &BTreeMap<u64, Mask>) -> Result<bool, Memory>
+pub fn join_masks(
+    masks: &mut BTreeMap<u64, Mask>,
+    alloc: Global,
+    others: &BTreeMap<u64, Mask>,
+) -> Result<bool, Memory>
     ensures { IfOk result (λ c. IsJoined join_masks (mask_in masks.old) (mask_in others.now) (mask_in masks.new) c) }
 {
     keep_all(masks, others)?;

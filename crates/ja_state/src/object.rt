@@ -145,7 +145,10 @@ impl AObject {
 }
 
 /// The same properties once more.
-pub fn copy_properties(alloc: Global, listed: &BTreeMap<u64, AProp>) -> Result<BTreeMap<u64, AProp>, Memory>
+pub fn copy_properties(
+    alloc: Global,
+    listed: &BTreeMap<u64, AProp>,
+) -> Result<BTreeMap<u64, AProp>, Memory>
     ensures { IfOk result (λ m. (q : ℕ) → option_map property_of (get nat_cmp m q) ≡ option_map property_of (get nat_cmp listed.now q)) }
 {
     let mut copies = BTreeMap::new(alloc);

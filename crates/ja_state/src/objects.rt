@@ -18,7 +18,11 @@ use std::collections::BTreeMap;
 use std::mem;
 
 /// The object at the number of a label; where none is kept, the one that is as at entry.
-fn object_at<'a>(objects: &'a BTreeMap<u64, AObject>, number: u64, entry: &'a AObject) -> &'a AObject
+fn object_at<'a>(
+    objects: &'a BTreeMap<u64, AObject>,
+    number: u64,
+    entry: &'a AObject,
+) -> &'a AObject
     requires { object_of entry.now ≡ entry_keyed }
     ensures { object_of result.now ≡ object_in objects.now number }
 {
@@ -40,7 +44,11 @@ fn keep(objects: &mut BTreeMap<u64, AObject>, alloc: Global, number: u64) -> Res
 }
 
 /// Keeps each object that others keep, as it is.
-fn keep_all(objects: &mut BTreeMap<u64, AObject>, alloc: Global, others: &BTreeMap<u64, AObject>) -> Result<(), Memory>
+fn keep_all(
+    objects: &mut BTreeMap<u64, AObject>,
+    alloc: Global,
+    others: &BTreeMap<u64, AObject>,
+) -> Result<(), Memory>
     ensures same { IfOk result (λ _. (q : ℕ) → object_in objects.new q ≡ object_in objects.old q) }
     ensures kept { IfOk result (λ _. (q : ℕ) → is_some (get nat_cmp objects.new q) ≡ (is_some (get nat_cmp others.now q) || is_some (get nat_cmp objects.old q))) }
 {
@@ -51,7 +59,11 @@ fn keep_all(objects: &mut BTreeMap<u64, AObject>, alloc: Global, others: &BTreeM
 }
 
 /// Joins other objects into those that are kept, and tells whether one changed.
-fn join_kept(objects: &mut BTreeMap<u64, AObject>, alloc: Global, others: &BTreeMap<u64, AObject>) -> Result<bool, Memory>
+fn join_kept(
+    objects: &mut BTreeMap<u64, AObject>,
+    alloc: Global,
+    others: &BTreeMap<u64, AObject>,
+) -> Result<bool, Memory>
     ensures joined { IfOk result (λ _. (q : ℕ) → option_map object_of (get nat_cmp objects.new q) ≡ option_map (λ (o : _). join_keyed (object_of o) (object_in others.now q)) (get nat_cmp objects.old q)) }
     ensures changed { IfOk result (λ c. c ≡ true → (q : ℕ) × (option_map object_of (get nat_cmp objects.new q) ≢ option_map object_of (get nat_cmp objects.old q))) }
     ensures same { IfOk result (λ c. c ≡ false → (q : ℕ) → option_map object_of (get nat_cmp objects.new q) ≡ option_map object_of (get nat_cmp objects.old q)) }
@@ -67,7 +79,11 @@ fn join_kept(objects: &mut BTreeMap<u64, AObject>, alloc: Global, others: &BTree
 }
 
 /// Joins other objects in, and tells whether one changed.
-pub fn join_objects(objects: &mut BTreeMap<u64, AObject>, alloc: Global, others: &BTreeMap<u64, AObject>) -> Result<bool, Memory>
+pub fn join_objects(
+    objects: &mut BTreeMap<u64, AObject>,
+    alloc: Global,
+    others: &BTreeMap<u64, AObject>,
+) -> Result<bool, Memory>
     ensures { IfOk result (λ c. IsJoined join_keyed (object_in objects.old) (object_in others.now) (object_in objects.new) c) }
 {
     keep_all(objects, alloc, others)?;
@@ -76,7 +92,10 @@ pub fn join_objects(objects: &mut BTreeMap<u64, AObject>, alloc: Global, others:
 }
 
 /// The same objects once more.
-pub fn copy_objects(alloc: Global, objects: &BTreeMap<u64, AObject>) -> Result<BTreeMap<u64, AObject>, Memory>
+pub fn copy_objects(
+    alloc: Global,
+    objects: &BTreeMap<u64, AObject>,
+) -> Result<BTreeMap<u64, AObject>, Memory>
     ensures { IfOk result (λ m. (q : ℕ) → option_map object_of (get nat_cmp m q) ≡ option_map object_of (get nat_cmp objects.now q)) }
 {
     let mut copies = BTreeMap::new(alloc);
@@ -87,7 +106,11 @@ pub fn copy_objects(alloc: Global, objects: &BTreeMap<u64, AObject>) -> Result<B
 }
 
 /// The objects after an object more was made at a site, each under its number.
-pub fn aged_objects(alloc: Global, objects: &BTreeMap<u64, AObject>, site: Site) -> Result<BTreeMap<u64, AObject>, Memory>
+pub fn aged_objects(
+    alloc: Global,
+    objects: &BTreeMap<u64, AObject>,
+    site: Site,
+) -> Result<BTreeMap<u64, AObject>, Memory>
     ensures { IfOk result (λ m. (q : ℕ) → option_map object_of (get nat_cmp m q) ≡ option_map (λ (o : _). aged_keyed site (object_of o)) (get nat_cmp objects.now q)) }
 {
     let mut aged = BTreeMap::new(alloc);
@@ -109,7 +132,13 @@ fn take_out(objects: &mut BTreeMap<u64, AObject>, alloc: Global, number: u64) ->
 }
 
 /// Replaces a property of the object at a number.
-pub fn write_at(objects: &mut BTreeMap<u64, AObject>, alloc: Global, number: u64, key: Key, property: AProp) -> Result<(), Memory>
+pub fn write_at(
+    objects: &mut BTreeMap<u64, AObject>,
+    alloc: Global,
+    number: u64,
+    key: Key,
+    property: AProp,
+) -> Result<(), Memory>
     ensures { IfOk result (λ _. (q : ℕ) → object_in objects.new q ≡ (if number == q then (λ k. if same_key key k then property_of property else object_in objects.old number k) else object_in objects.old q)) }
 {
     let mut object = take_out(objects, alloc, number);
@@ -119,7 +148,11 @@ pub fn write_at(objects: &mut BTreeMap<u64, AObject>, alloc: Global, number: u64
 }
 
 /// The objects after an object more was made at a site.
-pub fn made_objects(alloc: Global, objects: &BTreeMap<u64, AObject>, site: Site) -> Result<BTreeMap<u64, AObject>, Memory>
+pub fn made_objects(
+    alloc: Global,
+    objects: &BTreeMap<u64, AObject>,
+    site: Site,
+) -> Result<BTreeMap<u64, AObject>, Memory>
     ensures { IfOk result (λ m. (q : ℕ) → object_in m q ≡ made_keyed (object_in objects.now) site q) }
 {
     let new = label_number(Label { site, old: false });

@@ -79,7 +79,12 @@ pub fn aged_values(alloc: Global, values: &[AValue], site: Site) -> Result<Vec<A
 }
 
 /// Joins a value into a register, and tells whether it changed.
-fn join_value(values: &mut Vec<AValue>, alloc: Global, register: usize, value: &AValue) -> Result<bool, Memory>
+fn join_value(
+    values: &mut Vec<AValue>,
+    alloc: Global,
+    register: usize,
+    value: &AValue,
+) -> Result<bool, Memory>
     requires { register < vec_len values.old }
     ensures joined { IfOk result (λ _. (r : ℕ) → register_in values.new.items r ≡ (if register == r then join (register_in values.old.items r) (value_of value.now) else register_in values.old.items r)) }
     ensures changed { IfOk result (λ c. c ≡ true → register_in values.new.items register ≢ register_in values.old.items register) }
@@ -90,7 +95,11 @@ fn join_value(values: &mut Vec<AValue>, alloc: Global, register: usize, value: &
 }
 
 /// Joins other values in, register by register, and tells whether one changed.
-pub fn join_values(values: &mut Vec<AValue>, alloc: Global, others: &[AValue]) -> Result<bool, Memory>
+pub fn join_values(
+    values: &mut Vec<AValue>,
+    alloc: Global,
+    others: &[AValue],
+) -> Result<bool, Memory>
     requires { vec_len values.old ≡ length others.now }
     ensures joined { IfOk result (λ c. IsJoined join (register_in values.old.items) (register_in others.now) (register_in values.new.items) c) }
     ensures len { vec_len values.new ≡ vec_len values.old }

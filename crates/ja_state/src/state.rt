@@ -75,7 +75,13 @@ impl AState {
     }
 
     /// Replaces a property. After `Memory` the state may be anything.
-    pub fn write(&mut self, alloc: Global, label: Label, key: Key, property: AProp) -> Result<(), Memory>
+    pub fn write(
+        &mut self,
+        alloc: Global,
+        label: Label,
+        key: Key,
+        property: AProp,
+    ) -> Result<(), Memory>
         ensures state { IfOk result (λ _. state_of self.new ≡ with_property (state_of self.old) label key (property_of property)) }
         ensures registers { vec_len self.new.registers ≡ vec_len self.old.registers }
     {

@@ -16,4 +16,4 @@ loop-register-preserved c = record {
 pub returns-clause-joined : goal.returns-clause-joined
 returns-clause-joined c =
     passing_end join (register_in c.args.values.now.items) (register_in c.args.others.now) _ _ _ c.loop-register.invariant.passing
-      (λ q above. join_past c.args.values.now.items c.args.others.now (length c.args.others.now) q (omega arith) refl (omega arith))
+    (λ q above. join_past c.args.values.now.items c.args.others.now (length c.args.others.now) q (omega arith) refl (omega arith))

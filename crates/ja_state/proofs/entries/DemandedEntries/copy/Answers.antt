@@ -16,5 +16,5 @@ pub returns : goal.returns
 returns c =
     let objects = c.loop-number.objects in
     let each = λ (l : Label) (k : Key). copied property_in (get nat_cmp objects (label_number l)) (get nat_cmp c.args.self.now.objects (label_number l)) (key_number k)
-          (moved_end (λ q. property_in) property_in c.args.self.now.objects.entries _ objects c.in-None.ensures.steps.0 c.loop-number.invariant (label_number l)) in
+    (moved_end (λ q. property_in) property_in c.args.self.now.objects.entries _ objects c.in-None.ensures.steps.0 c.loop-number.invariant (label_number l)) in
     λ i l k. (each l k) i

@@ -7,14 +7,14 @@ use Rattle.ja_state.proofs.entries.DemandedEntries.join.Goals as goal
 pub returns-clause-joined : goal.returns-clause-joined
 returns-clause-joined c =
     let h : Exchanged c.args.self.now.objects c.take_out-properties.new.objects c.put.new.map c.take_out-properties.result c.join_key.new.properties c.label_number-number.result =
-          record { taken = c.take_out-properties.ensures.taken; out = c.take_out-properties.ensures.others; back = c.in_ok-put.ensures } in
+    record { taken = c.take_out-properties.ensures.taken; out = c.take_out-properties.ensures.others; back = c.in_ok-put.ensures } in
     let each = exchanged_whole (option_map (λ (p : AbstractProperty). join_properties p (property_of c.args.property.now))) c.args.self.now.objects c.take_out-properties.new.objects c.put.new.map c.take_out-properties.result c.join_key.new.properties c.label_number-number.result c.key_number.result c.args.label c.args.key
-          h c.in_ok-changed.ensures.joined c.label_number-number.ensures c.key_number.ensures in
+    h c.in_ok-changed.ensures.joined c.label_number-number.ensures c.key_number.ensures in
     λ i l k. (each l k) i
 
 pub returns-clause-changed : goal.returns-clause-changed
 returns-clause-changed c = λ said.
     let h : Exchanged c.args.self.now.objects c.take_out-properties.new.objects c.put.new.map c.take_out-properties.result c.join_key.new.properties c.label_number-number.result =
-          record { taken = c.take_out-properties.ensures.taken; out = c.take_out-properties.ensures.others; back = c.in_ok-put.ensures } in
+    record { taken = c.take_out-properties.ensures.taken; out = c.take_out-properties.ensures.others; back = c.in_ok-put.ensures } in
     exchanged_differs c.args.self.now.objects c.take_out-properties.new.objects c.put.new.map c.take_out-properties.result c.join_key.new.properties c.label_number-number.result c.key_number.result c.args.label c.args.key
-      h c.label_number-number.ensures c.key_number.ensures (c.in_ok-changed.ensures.changed said)
+    h c.label_number-number.ensures c.key_number.ensures (c.in_ok-changed.ensures.changed said)

@@ -10,7 +10,7 @@ use Rattle.ja_state.proofs.entries.DemandedEntries.pairs.Goals as goal
 pub loop-number-preserved : goal.loop-number-preserved
 loop-number-preserved c =
     listing_turn (λ q (m : BTreeMap ℕ AProp). map (λ (k : Key). (label_of q, k)) (keys_in m c.args.names)) 0 (2 * c.args.sites) _ _ _ _ (c.in-Some.number, c.in-Some.properties) _ _ _ c.in-Some.is c.next.ensures.steps c.loop-number.invariant
-      c.in_ok-push_label.ensures (piece_first (2 * c.args.sites) c.in-Some.number.now (map (λ (k : Key). (label_of c.in-Some.number.now, k)) (keys_in c.in-Some.properties.now c.args.names)))
+    c.in_ok-push_label.ensures (piece_first (2 * c.args.sites) c.in-Some.number.now (map (λ (k : Key). (label_of c.in-Some.number.now, k)) (keys_in c.in-Some.properties.now c.args.names)))
 
 pub returns : goal.returns
 returns c =

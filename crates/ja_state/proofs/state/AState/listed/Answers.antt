@@ -8,7 +8,7 @@ use Rattle.ja_state.proofs.state.AState.listed.Goals as goal
 pub loop-number-preserved : goal.loop-number-preserved
 loop-number-preserved c =
     listing_turn (λ q (o : AObject). label_of q ∷ []) 0 (2 * c.args.sites) _ _ _ _ (c.in-Some.number, c.in-Some.field-0-1) _ _ _ c.in-Some.is c.next.ensures.steps c.loop-number.invariant
-      c.in_ok-push_label.ensures (piece_first (2 * c.args.sites) c.in-Some.number.now (label_of c.in-Some.number.now ∷ []))
+    c.in_ok-push_label.ensures (piece_first (2 * c.args.sites) c.in-Some.number.now (label_of c.in-Some.number.now ∷ []))
 
 pub returns : goal.returns
 returns c =
