@@ -7,10 +7,10 @@ use Rattle.ja_base.specs.declared.ids.Label.{Label}
 use Rattle.ja_model.specs.declared.abstraction.Key.{Key}
 use Rattle.ja_model.specs.AbstractValue.{Labels, AbstractProperty, same_label}
 use Rattle.ja_model.specs.AbstractState.{AbstractState, same_key}
-use Rattle.ja_model.specs.Reading.{Demands, View, origins, demands_of, own, may_be_absent, prototype, one_more}
+use Rattle.ja_model.specs.Reading.{Demands, origins, demands_of, one_more}
 use Rattle.ja_rules.specs.declared.demands.DemandList.{DemandList}
 use Rattle.ja_rules.specs.Readings.{demands_in, Adds}
-use Rattle.ja_rules.specs.Walking.{demands_for, demands_at, demands_over}
+use Rattle.ja_rules.specs.Walking.{demands_for, demands_over}
 
 -- ---- tests
 

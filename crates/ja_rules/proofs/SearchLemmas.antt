@@ -1,16 +1,15 @@
 -- Searches of scope chains over lists of objects, and labels of no site.
-use Rattle.std.specs.Prelude.{◌≡◌, ℕ, zero, suc, Bool, true, false, ◌&&◌, ◌||◌, if◌then◌else◌, ◌⊎◌, List, [], ◌∷◌, filter, map, length, IsTrue}
+use Rattle.std.specs.Prelude.{◌≡◌, ℕ, zero, suc, Bool, true, false, ◌&&◌, ◌||◌, if◌then◌else◌, ◌⊎◌, List, [], ◌∷◌, filter, length}
 use Rattle.std.specs.List.{list_any}
 use Rattle.std.proofs.Common.{refl, sym, subst, ap, ◌∙◌, inl, inr}
 use Rattle.std.specs.Cmp.{both_ways}
 use Rattle.std.proofs.lemmas.Bool.{true≢false}
 use Rattle.ja_base.specs.declared.ids.Label.{Label}
 use Rattle.ja_model.specs.declared.abstraction.Key.{Key}
-use Rattle.ja_model.specs.AbstractValue.{Labels, AbstractValue, same_label, join, of_labels, null_value, no_value}
+use Rattle.ja_model.specs.AbstractValue.{Labels, same_label, join, of_labels, null_value, no_value}
 use Rattle.ja_model.specs.Reading.{View, asked, next_prototype, one_more, rounds, outer, may_be_absent, may_be_present, may_have, may_lack, may_accept, own, ends_at, searched, found, some_label}
 use Rattle.ja_model.proofs.Labels.{same_label-true, same_label_from}
-use Rattle.ja_value.specs.declared.value.AValue.{AValue}
-use Rattle.ja_value.specs.Value.{value_of, labels_in}
+use Rattle.ja_value.specs.Value.{labels_in}
 use Rattle.ja_rules.specs.declared.search.Search.{Search}
 use Rattle.ja_rules.specs.Searching.{IsSearchOver, MeetsScope}
 use Rattle.ja_rules.proofs.ReadingLemmas.{any-filter, any_same, any_and, and_assoc, and-true, and-false, or-false}

@@ -1,18 +1,17 @@
 -- Outcomes from alternatives.
-use Rattle.std.specs.Prelude.{◌≡◌, ℕ, Bool, true, false, ◌&&◌, ◌||◌, if◌then◌else◌, List, [], ◌∷◌, ◌++◌, Option, Some, None, vec_len}
+use Rattle.std.specs.Prelude.{◌≡◌, ℕ, Bool, true, false, ◌&&◌, ◌||◌, List, [], ◌∷◌, ◌++◌, Option, Some, None, vec_len}
 use Rattle.std.proofs.Common.{refl, sym, subst, ap, ◌∙◌}
 use Rattle.ja_base.specs.declared.ids.Label.{Label}
 use Rattle.ja_base.specs.declared.ids.NodeId.{NodeId}
 use Rattle.ja_base.specs.declared.ids.Site.{Site}
-use Rattle.ja_graph.specs.declared.node.NodeInfo.{NodeInfo}
 use Rattle.ja_graph.specs.Program.{global, message}
 use Rattle.ja_model.specs.declared.abstraction.Key.{Key}
 use Rattle.ja_model.specs.declared.abstraction.Key.TheVariants as key
-use Rattle.ja_model.specs.Machine.{thrown, is_text_length}
+use Rattle.ja_model.specs.Machine.{thrown}
 use Rattle.ja_model.specs.AbstractValue.{Labels, AbstractValue, AbstractProperty, same_label, of_label, bare}
 use Rattle.ja_model.specs.AbstractState.{AbstractState, new, with_register, with_property, with_made}
 use Rattle.ja_model.specs.Reading.{View, Demands, prototype, may_refuse}
-use Rattle.ja_model.specs.Transfer.{Out, gives, throws, with_error, message_property, strong_put, written, written_labels}
+use Rattle.ja_model.specs.Transfer.{gives, with_error, message_property, strong_put, written, written_labels}
 use Rattle.ja_state.specs.declared.state.AState.{AState}
 use Rattle.ja_state.specs.State.{state_of}
 use Rattle.ja_rules.specs.declared.demands.DemandList.{DemandList}

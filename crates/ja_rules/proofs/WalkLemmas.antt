@@ -1,19 +1,17 @@
 -- Walks along prototypes over lists of objects.
-use Rattle.std.specs.Prelude.{◌≡◌, ◌≤◌, ◌<◌, ◌+◌, ◌-◌, ◌*◌, ℕ, zero, suc, Bool, true, false, ◌&&◌, ◌||◌, if◌then◌else◌, List, [], ◌∷◌, filter, map, length}
-use Rattle.std.specs.List.{list_any, flat_map, range_with_len}
-use Rattle.std.proofs.Common.{refl, sym, subst, ap, ◌∙◌, cond, arith, add-one}
+use Rattle.std.specs.Prelude.{◌≡◌, ◌≤◌, ◌+◌, ◌-◌, ◌*◌, ℕ, zero, suc, Bool, true, false, ◌&&◌, ◌||◌, if◌then◌else◌, List, [], ◌∷◌, filter, map, length}
+use Rattle.std.specs.List.{flat_map, range_with_len}
+use Rattle.std.proofs.Common.{refl, sym, subst, ap, ◌∙◌, cond, arith}
 use Rattle.ja_base.specs.declared.ids.Label.{Label}
 use Rattle.ja_model.specs.declared.abstraction.Key.{Key}
-use Rattle.ja_model.specs.AbstractValue.{Labels, AbstractValue, same_label, present_part, join, no_value, absent_value}
+use Rattle.ja_model.specs.AbstractValue.{Labels, AbstractValue, present_part, join, no_value, absent_value}
 use Rattle.ja_model.specs.AbstractState.{new, old, site_of, labels_below}
-use Rattle.ja_model.specs.Reading.{View, own, asked, ends_at, may_be_present, may_be_absent, join_values, one_more, rounds, reached, got, may_have, may_lack, may_refuse, may_accept, demands_of, demands_of_walk, prototype}
+use Rattle.ja_model.specs.Reading.{View, own, asked, ends_at, may_be_present, join_values, one_more, rounds, reached, may_lack}
 use Rattle.ja_value.specs.Value.{value_of}
-use Rattle.ja_rules.specs.declared.demands.DemandList.{DemandList}
 use Rattle.ja_rules.specs.declared.reader.Walk.{Walk}
-use Rattle.ja_rules.specs.Readings.{Adds, IsWalk}
-use Rattle.ja_rules.specs.Walking.{IsWalkOver, Meets, Ends, demands_at, demands_over}
-use Rattle.ja_rules.proofs.Done.{Done, done_more}
-use Rattle.ja_rules.proofs.ReadingLemmas.{adds_before, adds_same, any-filter, any_same, and_assoc, demands_over-filter}
+use Rattle.ja_rules.specs.Readings.{IsWalk}
+use Rattle.ja_rules.specs.Walking.{IsWalkOver, Meets, Ends}
+use Rattle.ja_rules.proofs.ReadingLemmas.{any-filter, any_same, and_assoc}
 
 -- ---- rounds
 

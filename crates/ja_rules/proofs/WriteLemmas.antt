@@ -1,15 +1,15 @@
 -- Puts over lists of objects.
-use Rattle.std.specs.Prelude.{◌≡◌, ℕ, Bool, true, false, ◌&&◌, ◌||◌, if◌then◌else◌, List, [], ◌∷◌, filter, Option, Some, None, IsTrue}
+use Rattle.std.specs.Prelude.{◌≡◌, ℕ, Bool, true, false, ◌&&◌, ◌||◌, if◌then◌else◌, List, [], ◌∷◌, filter, Option, Some, None}
 use Rattle.std.specs.List.{list_any}
-use Rattle.std.proofs.Common.{refl, sym, subst, ap, ◌∙◌}
+use Rattle.std.proofs.Common.{refl, sym, ap, ◌∙◌}
 use Rattle.std.proofs.lemmas.Bool.{true≢false}
 use Rattle.ja_base.specs.declared.ids.Label.{Label}
 use Rattle.ja_base.specs.declared.ids.NodeId.{NodeId}
 use Rattle.ja_model.specs.declared.abstraction.Key.{Key}
 use Rattle.ja_model.specs.AbstractValue.{Labels, AbstractValue, AbstractProperty, same_label, join_properties}
 use Rattle.ja_model.specs.AbstractState.{AbstractState, same_key, with_property}
-use Rattle.ja_model.specs.Reading.{View, may_accept, may_refuse, some_label, demands_of_walk}
-use Rattle.ja_model.specs.Transfer.{Out, gives, written, weakly_written, weak_put, strong_put, put_at, put, demands_of_read}
+use Rattle.ja_model.specs.Reading.{View, may_accept, may_refuse, demands_of_walk}
+use Rattle.ja_model.specs.Transfer.{gives, written, weakly_written, weak_put, strong_put, put_at, put, demands_of_read}
 use Rattle.ja_model.proofs.Labels.{same_label-true}
 use Rattle.ja_model.proofs.Keys.{same_key-true}
 use Rattle.ja_state.specs.declared.state.AState.{AState}

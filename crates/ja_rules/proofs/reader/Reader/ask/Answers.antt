@@ -1,4 +1,4 @@
-use Rattle.std.proofs.Common.{ap, Bool, subst, ◌&&◌}
+use Rattle.std.proofs.Common.{subst, ◌&&◌}
 use Rattle.ja_model.specs.AbstractValue.{AbstractProperty}
 use Rattle.ja_model.specs.Reading.{demands_of, prototype}
 use Rattle.ja_rules.specs.Readings.{view_of, Adds}

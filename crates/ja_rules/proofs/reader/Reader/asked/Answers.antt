@@ -1,4 +1,4 @@
-use Rattle.std.proofs.Common.{◌∙◌, sym, arith, ◌*◌, ◌≡◌, ◌≤◌, length, ap, ◌||◌}
+use Rattle.std.proofs.Common.{◌∙◌, arith, ◌*◌, ◌≡◌, ◌≤◌, length, ap, ◌||◌}
 use Rattle.ja_base.specs.declared.ids.Label.{Label}
 use Rattle.ja_model.specs.AbstractValue.{Labels, same_label}
 use Rattle.ja_model.specs.AbstractState.{labels_below}

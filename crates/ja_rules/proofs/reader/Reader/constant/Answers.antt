@@ -1,5 +1,5 @@
 use Rattle.std.proofs.Common.{[], ◌∷◌, ap, ◌∙◌}
-use Rattle.ja_model.specs.AbstractValue.{AbstractValue, of_primitive}
+use Rattle.ja_model.specs.AbstractValue.{of_primitive}
 use Rattle.ja_model.specs.AbstractState.{AbstractState, with_register}
 use Rattle.ja_state.specs.State.{state_of}
 use Rattle.ja_value.specs.Value.{value_of}

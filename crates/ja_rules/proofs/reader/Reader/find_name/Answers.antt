@@ -1,9 +1,9 @@
-use Rattle.std.proofs.Common.{[], ap, subst, sym, ◌∙◌, vec_len}
+use Rattle.std.proofs.Common.{[], ap, subst, ◌∙◌, vec_len}
 use Rattle.ja_model.specs.declared.abstraction.Key.TheVariants as key
 use Rattle.ja_model.specs.AbstractValue.{Labels, AbstractValue}
 use Rattle.ja_model.specs.Reading.{found, demands_of_search}
 use Rattle.ja_model.specs.Transfer.{sets}
-use Rattle.ja_value.specs.Value.{value_of, labels_in}
+use Rattle.ja_value.specs.Value.{value_of}
 use Rattle.ja_rules.specs.Readings.{view_of, Adds}
 use Rattle.ja_rules.proofs.StepLemmas.{none_given, outcome_as, demands_first}
 use Rattle.ja_rules.proofs.reader.Reader.find_name.Goals as goal

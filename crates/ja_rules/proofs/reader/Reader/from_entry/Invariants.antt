@@ -1,4 +1,4 @@
-use Rattle.std.proofs.Common.{◌≡◌, vec_len, List, map}
+use Rattle.std.proofs.Common.{◌≡◌, vec_len, map}
 use Rattle.std.specs.Option.{option_map_or}
 use Rattle.ja_base.specs.declared.ids.Label.{Label}
 use Rattle.ja_model.specs.AbstractValue.{no_property}

@@ -1,6 +1,5 @@
 use Rattle.std.proofs.Common.{ap, ◌∙◌}
 use Rattle.ja_base.specs.declared.ids.Label.{Label}
-use Rattle.ja_model.specs.AbstractState.{labels_below}
 use Rattle.ja_model.specs.Reading.{got, demands_of_walk}
 use Rattle.ja_model.specs.Transfer.{as_read, demands_of_read}
 use Rattle.ja_value.specs.Value.{labels_in}

@@ -1,4 +1,4 @@
-use Rattle.std.proofs.Common.{List, ℕ, ◌++◌, ap, subst, ◌∙◌, refl, vec_len}
+use Rattle.std.proofs.Common.{◌++◌, ap, subst, refl, vec_len}
 use Rattle.ja_graph.specs.Program.{reference_error_prototype}
 use Rattle.ja_model.specs.declared.abstraction.Key.TheVariants as key
 use Rattle.ja_model.specs.Machine.{name_text, unbound_message}

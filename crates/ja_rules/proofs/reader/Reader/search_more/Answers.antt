@@ -1,4 +1,4 @@
-use Rattle.std.proofs.Common.{◌≡◌, Bool, false, ◌∙◌}
+use Rattle.std.proofs.Common.{◌∙◌}
 use Rattle.ja_model.specs.AbstractState.{labels_below}
 use Rattle.ja_model.specs.Reading.{next_scope}
 use Rattle.ja_value.specs.Value.{labels_in}

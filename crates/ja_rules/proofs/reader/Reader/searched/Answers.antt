@@ -1,5 +1,4 @@
-use Rattle.std.proofs.Common.{◌∙◌, sym, arith, ◌*◌, ◌≡◌, ◌≤◌, length, ap}
-use Rattle.ja_model.specs.AbstractValue.{same_label}
+use Rattle.std.proofs.Common.{arith, ◌*◌, ◌≡◌, ◌≤◌, length}
 use Rattle.ja_model.specs.AbstractState.{labels_below}
 use Rattle.ja_model.specs.Reading.{next_scope}
 use Rattle.ja_value.specs.Value.{labels_in}

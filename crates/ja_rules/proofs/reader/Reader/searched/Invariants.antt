@@ -1,5 +1,4 @@
 use Rattle.std.proofs.Common.{◌≡◌}
-use Rattle.ja_model.specs.AbstractValue.{same_label}
 use Rattle.ja_model.specs.Reading.{rounds, next_scope}
 use Rattle.ja_value.specs.Value.{labels_in}
 use Rattle.ja_rules.specs.Readings.{view_of}

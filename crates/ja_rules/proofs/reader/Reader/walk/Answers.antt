@@ -1,10 +1,6 @@
-use Rattle.std.proofs.Common.{◌≡◌, List, filter, sym, subst, ap, ◌∙◌, IfOk}
-use Rattle.ja_base.specs.declared.ids.Label.{Label}
+use Rattle.std.proofs.Common.{◌≡◌, filter, ap, ◌∙◌}
 use Rattle.ja_model.specs.AbstractValue.{Labels}
-use Rattle.ja_model.specs.AbstractState.{labels_below}
 use Rattle.ja_model.specs.Reading.{asked, demands_of_walk}
-use Rattle.ja_value.specs.Value.{labels_in}
-use Rattle.ja_rules.specs.declared.reader.Walk.{Walk}
 use Rattle.ja_rules.specs.Readings.{view_of, IsWalk}
 use Rattle.ja_rules.specs.Walking.{demands_at, demands_over, Ends}
 use Rattle.ja_rules.proofs.ReadingLemmas.{adds_same, demands_over-filter, if_ok, if_ok_always}

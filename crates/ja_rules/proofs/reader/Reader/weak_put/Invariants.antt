@@ -1,12 +1,6 @@
-use Rattle.std.proofs.Common.{◌≡◌, vec_len, ◌||◌}
-use Rattle.std.specs.List.{list_any}
-use Rattle.ja_base.specs.declared.ids.Label.{Label}
-use Rattle.ja_model.specs.Reading.{may_refuse, may_accept, demands_of_walk}
-use Rattle.ja_state.specs.State.{state_of}
+use Rattle.std.proofs.Common.{◌≡◌, vec_len}
 use Rattle.ja_value.specs.Value.{value_of}
-use Rattle.ja_rules.specs.Readings.{view_of, Adds}
-use Rattle.ja_rules.specs.Walking.{demands_over}
-use Rattle.ja_rules.specs.Writing.{written_over}
+use Rattle.ja_rules.specs.Readings.{view_of}
 use Rattle.ja_rules.proofs.Done.{Done}
 use Rattle.ja_rules.proofs.WriteLemmas.{PutsOver}
 use Rattle.ja_rules.proofs.reader.Reader.weak_put.Given as goal
