@@ -59,7 +59,6 @@ object_none p l f h = sym (flat_map_none (λ (k : Key). property_line p l k (f k
 unlisted : (a : AState) (l : Label) → is_listed a l ≡ false → (k : Key) → property_at a l k ≡ entry_property
 unlisted a l e k = rw (none_is (get nat_cmp a.objects (label_number l)) e) refl
 
-
 -- the lines of an object at the first keys
 pub key_lines : Program → Label → AObject → List Key → List Line
 key_lines p l o keys = flat_map (λ (k : Key). property_line p l k (object_of o k)) keys

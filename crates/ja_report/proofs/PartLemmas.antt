@@ -66,9 +66,9 @@ pub labels_more : (p : Program) (base now named next : List ℕ) (ls : List Labe
 labels_more p base now named next ls i d was inside first step =
     let l : Label = get_or ls i d in
     let one : next ≡ now ++ with_bars (label_text p l ∷ []) =
-        step ∙ ap (λ (x : List ℕ). x ++ 124 ∷ []) first ∙ append_assoc now (label_text p l) (124 ∷ []) ∙ ap (λ (x : List ℕ). now ++ x) (sym (bars_one (label_text p l))) in
+    step ∙ ap (λ (x : List ℕ). x ++ 124 ∷ []) first ∙ append_assoc now (label_text p l) (124 ∷ []) ∙ ap (λ (x : List ℕ). now ++ x) (sym (bars_one (label_text p l))) in
     let parts : map (label_text p) (take (i + 1) ls) ≡ map (label_text p) (take i ls) ++ label_text p l ∷ [] =
-        ap (map (label_text p)) (take_more ls i d inside) ∙ map-append (label_text p) (take i ls) (l ∷ []) in
+    ap (map (label_text p)) (take_more ls i d inside) ∙ map-append (label_text p) (take i ls) (l ∷ []) in
     bars_more base now next (map (label_text p) (take i ls)) (label_text p l ∷ []) was one ∙ ap (λ (x : List (List ℕ)). base ++ with_bars x) (sym parts)
 
 pub labels_all : (p : Program) (base now : List ℕ) (ls : List Label) (i : ℕ) → now ≡ base ++ with_bars (map (label_text p) (take i ls)) → length ls ≤ i → now ≡ base ++ with_bars (map (label_text p) ls)

@@ -38,7 +38,7 @@ set_none set e = record { each = λ s. ap (λ (ks : List ℕ). list_any (is_at (
 pub set_more : (before after : BTreeSet ℕ) (ks : List ℕ) (i d : ℕ) → Has before (take i ks) → i < length ks → Updates nat_cmp before after (get_or ks i d) true → Has after (take (i + 1) ks)
 set_more before after ks i d was inside step = record {
   each = λ s.
-    step.0 s ∙ ap (λ (b : Bool). cond b true (contains nat_cmp before s)) (same_test (get_or ks i d) s) ∙ ap (λ (b : Bool). cond (get_or ks i d == s) true b) (was.each s) ∙ sym (any_push (λ (n : ℕ). n == s) (take i ks) (get_or ks i d)) ∙ ap (list_any (λ (n : ℕ). n == s)) (sym (take_more ks i d inside));
+      step.0 s ∙ ap (λ (b : Bool). cond b true (contains nat_cmp before s)) (same_test (get_or ks i d) s) ∙ ap (λ (b : Bool). cond (get_or ks i d == s) true b) (was.each s) ∙ sym (any_push (λ (n : ℕ). n == s) (take i ks) (get_or ks i d)) ∙ ap (list_any (λ (n : ℕ). n == s)) (sym (take_more ks i d inside));
 }
 
 pub set_all : (set : BTreeSet ℕ) (ks : List ℕ) (i : ℕ) → Has set (take i ks) → length ks ≤ i → (s : ℕ) → contains nat_cmp set s ≡ list_any (λ (n : ℕ). n == s) ks

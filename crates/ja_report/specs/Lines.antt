@@ -28,15 +28,18 @@ pub data Line : Type 0 where
   property : Label → Key → AbstractProperty → Line
   alloc : Site → Mask → Line
 
+-- the label and the key that have a property, and the property with its value and attributes
 unfoldable pub owner_text : Program → Label → Key → List ℕ
 owner_text p l k = label_text p l ++ codes " " ++ key_text p k
 
 unfoldable pub property_text : Program → Label → Key → AbstractProperty → List ℕ
 property_text p l k q = owner_text p l k ++ codes " " ++ value_text p q.value ++ codes " " ++ attrs_text k q.attrs ++ codes "\n"
 
+-- objects made at a site since the entry: surely some, maybe some, or neither, which no table has
 abbrev pub mask_text : Mask → List ℕ
 mask_text m = if m.some then (if m.none then codes "maybe" else codes "some") else codes "none"
 
+-- the text of a line
 unfoldable pub line_text : Program → Line → List ℕ
 line_text p (entry l k q) = codes "entry " ++ property_text p l k q
 line_text p (point n) = codes "point " ++ decimal n ++ codes "\n"
@@ -102,15 +105,17 @@ mask_line s m = if m.none && not m.some then [] else alloc s m ∷ []
 unfoldable pub mask_lines : Program → AbstractState → List Line
 mask_lines p a = flat_map (λ (s : Site). mask_line s (a.mask s.0)) (sites_below (length p.sites))
 
--- the nodes that have a state, in order
+-- a node with its state: its registers, properties and masks
 unfoldable pub state_lines : Program → ℕ → AbstractState → List Line
 state_lines p n a = point n ∷ (register_lines p a ++ property_lines p a ++ mask_lines p a)
 
+-- the nodes of the program that have a state, in order
 unfoldable pub node_lines : Program → Table → ℕ → List Line
 node_lines p t n = option_map_or (state_lines p n) (t.state root n) []
 
 unfoldable pub point_lines : Program → Table → List Line
 point_lines p t = flat_map (node_lines p t) (range_with_len 0 (length (nodes_of p program_function)))
 
+-- the values at entry, then the states
 abbrev pub table_lines : Program → Table → List Line
 table_lines p t = entry_lines p (t.entry root) ++ point_lines p t

@@ -21,6 +21,7 @@ use Rattle.ja_report.specs.Lines.{line_text, line_sites, entry_lines, table_line
 
 -- ---- warnings
 
+-- its place, what may go wrong there, and whether it surely does
 abbrev pub kind_text : WarningKind → List ℕ
 kind_text NotAFunction = codes "call of a non-function"
 kind_text UnboundName = codes "unbound name"
@@ -31,14 +32,17 @@ certainty_text certain = if certain then codes "certain" else codes "possible"
 unfoldable pub warning_text : Warning → List ℕ
 warning_text w = place_text w.place ++ codes " " ++ kind_text w.kind ++ codes " " ++ certainty_text w.certain ++ codes "\n"
 
+-- how many, and then each on its line
 unfoldable pub warnings_text : List Warning → List ℕ
 warnings_text ws = codes "warnings " ++ decimal (length ws) ++ codes "\n" ++ flat_map warning_text ws
 
 -- ---- visits
 
+-- a context is its function's number and its receiver
 unfoldable pub context_text : Program → Context → List ℕ
 context_text p x = decimal x.function.0 ++ codes " " ++ label_text p x.receiver
 
+-- a visit fills the values at entry, or takes the step of a node
 unfoldable pub item_text : Program → Item → List ℕ
 item_text p Open = codes "open\n"
 item_text p (Step x n) = codes "step " ++ context_text p x ++ codes " " ++ decimal n.0 ++ codes "\n"
@@ -67,6 +71,7 @@ context_lines p t = context_head p (length (entry_lines p (t.entry root))) ++ fl
 abbrev pub table_sites : Program → Table → List ℕ
 table_sites p t = flat_map (line_sites p) (table_lines p t)
 
+-- a site of the text has a place and a class
 abbrev pub class_text : Class → List ℕ
 class_text class.Object = codes "Object"
 class_text class.Error = codes "Error"
@@ -77,10 +82,11 @@ info_text p s = option_map_or (λ (info : SiteInfo). place_text info.place ++ co
 unfoldable pub site_line : Program → ℕ → List ℕ
 site_line p s = numbered_site (site_of s) ++ codes " " ++ info_text p s ++ codes "\n"
 
--- the sites among these, each once, but for those of built-in objects
+-- no site of a built-in object
 unfoldable pub is_text_site : Program → ℕ → Bool
 is_text_site p s = not (is_some (builtin_of p (site_of s)))
 
+-- those of the text among these sites, each once, by number
 unfoldable pub named_sites : Program → List ℕ → List ℕ
 named_sites p named =
     filter (λ (s : ℕ). is_text_site p s && list_any (λ (n : ℕ). n == s) named) (range_with_len 0 (length p.sites))
@@ -91,6 +97,7 @@ sites_text p named =
 
 -- ---- whole texts
 
+-- the report begins with the warnings and the sites that are named below, and goes on with the context and the visits
 unfoldable pub report_head : Program → List Warning → List ℕ → List ℕ
 report_head p warnings named =
     codes "tajs report 1\nbuilt yes\n" ++ warnings_text warnings ++ codes "edges 0\n" ++ sites_text p named

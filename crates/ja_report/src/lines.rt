@@ -98,7 +98,6 @@ fn push_property(
     Ok(())
 }
 
-#[tactic(auto, using(crate::proofs::ObjectLemmas::keys_none, crate::proofs::ObjectLemmas::keys_more, crate::proofs::ObjectLemmas::keys_all))]
 fn push_object(
     out: &mut Output,
     alloc: Global,
@@ -117,7 +116,7 @@ fn push_object(
     Ok(())
 }
 
-#[tactic(auto, using(crate::proofs::ObjectLemmas::object_kept, crate::proofs::ObjectLemmas::object_unkept))]
+#[tactic(auto, using(crate::proofs::ObjectLemmas::object_kept))]
 fn push_label_lines(
     out: &mut Output,
     alloc: Global,
@@ -136,7 +135,6 @@ fn push_label_lines(
     Ok(())
 }
 
-#[tactic(auto, using(crate::proofs::ObjectLemmas::label_lines_none, crate::proofs::ObjectLemmas::label_lines_more, crate::proofs::ObjectLemmas::label_lines_all))]
 fn push_properties(
     out: &mut Output,
     alloc: Global,
@@ -164,7 +162,13 @@ fn is_undefined(program: &Program, value: &AValue) -> bool
     ensures { result ≡ is_undefined program.now (value_of value.now) }
 {
     let flags = value.flags;
-    let flagged = flags.absent | flags.entry | flags.row | flags.null | flags.is_true | flags.is_false | flags.nan;
+    let flagged = flags.absent
+        | flags.entry
+        | flags.row
+        | flags.null
+        | flags.is_true
+        | flags.is_false
+        | flags.nan;
     let number = !matches!(value.number, NumberPart::Nothing);
     let text = !matches!(&value.text, TextPart::Nothing);
     let more = flagged | number | text | value.labels.has_below(site_count(program));
@@ -202,7 +206,6 @@ fn register_count(program: &Program) -> u32
     }
 }
 
-#[tactic(auto, using(crate::proofs::ObjectLemmas::registers_none, crate::proofs::ObjectLemmas::registers_more, crate::proofs::ObjectLemmas::registers_all))]
 fn push_registers(
     out: &mut Output,
     alloc: Global,
@@ -239,7 +242,6 @@ fn push_mask(out: &mut Output, program: &Program, site: Site, mask: Mask) -> Res
     Ok(())
 }
 
-#[tactic(auto, using(crate::proofs::ObjectLemmas::site_lines_none, crate::proofs::ObjectLemmas::site_lines_more, crate::proofs::ObjectLemmas::site_lines_all))]
 fn push_masks(
     out: &mut Output,
     alloc: Global,

@@ -25,7 +25,9 @@ pub fn refusal_text(alloc: Global, refusal: Refusal) -> Result<Vec<u8>, Memory>
 {
     let mut text = Vec::new(alloc);
     match refusal {
-        Refusal::Usage => text.extend_from_slice(b"usage: tajs analyse [--cert] [--budget N] | check | run [--steps N] | generate --number N\n")?,
+        Refusal::Usage => text.extend_from_slice(
+            b"usage: tajs analyse [--cert] [--budget N] | check | run [--steps N] | generate --number N\n",
+        )?,
         Refusal::ReadFault => text.extend_from_slice(b"read fault\n")?,
         Refusal::TooLong => text.extend_from_slice(b"too long 16777216\n")?,
         Refusal::Unbuilt { place } => {

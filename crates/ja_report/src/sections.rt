@@ -69,7 +69,11 @@ pub(crate) fn push_warnings(text: &mut Vec<u8>, warnings: &[Warning]) -> Result<
 // ---- visits
 
 #[tactic(auto, unfolding(crate::specs::Report::context_text))]
-pub(crate) fn push_context(text: &mut Vec<u8>, program: &Program, context: Context) -> Result<(), Memory>
+pub(crate) fn push_context(
+    text: &mut Vec<u8>,
+    program: &Program,
+    context: Context,
+) -> Result<(), Memory>
     ensures { OnOk result (text.new.items ≡ text.old.items ++ context_text program.now context) }
 {
     push_number(text, u64::from(context.function.0))?;
@@ -96,7 +100,11 @@ fn push_item(text: &mut Vec<u8>, program: &Program, item: Item) -> Result<(), Me
 }
 
 #[tactic(auto, using(crate::proofs::Lists::added_none, crate::proofs::Lists::added_more, crate::proofs::Lists::added_all))]
-pub(crate) fn push_items(text: &mut Vec<u8>, program: &Program, items: &[Item]) -> Result<(), Memory>
+pub(crate) fn push_items(
+    text: &mut Vec<u8>,
+    program: &Program,
+    items: &[Item],
+) -> Result<(), Memory>
     ensures { OnOk result (text.new.items ≡ text.old.items ++ flat_map (item_text program.now) items.now) }
 {
     for item in items {
@@ -106,7 +114,11 @@ pub(crate) fn push_items(text: &mut Vec<u8>, program: &Program, items: &[Item]) 
 }
 
 #[tactic(auto, unfolding(crate::specs::Report::visits_text))]
-pub(crate) fn push_visits(text: &mut Vec<u8>, program: &Program, visits: &[Item]) -> Result<(), Memory>
+pub(crate) fn push_visits(
+    text: &mut Vec<u8>,
+    program: &Program,
+    visits: &[Item],
+) -> Result<(), Memory>
     ensures { OnOk result (text.new.items ≡ text.old.items ++ visits_text program.now visits.now) }
 {
     text.extend_from_slice(b"visits ")?;
@@ -119,7 +131,7 @@ pub(crate) fn push_visits(text: &mut Vec<u8>, program: &Program, visits: &[Item]
 // ---- sites
 
 /// The numbers of a list as a set.
-#[tactic(auto, using(crate::proofs::SiteLemmas::set_none, crate::proofs::SiteLemmas::set_more, crate::proofs::SiteLemmas::set_all))]
+#[tactic(auto, using(crate::proofs::SiteLemmas::set_none, crate::proofs::SiteLemmas::set_all))]
 fn set_of(alloc: Global, numbers: &[u32]) -> Result<BTreeSet<u32>, Memory>
     ensures { IfOk result (λ set. (s : ℕ) → contains nat_cmp set s ≡ list_any (λ n. n == s) numbers.now) }
 {
@@ -148,7 +160,7 @@ fn is_named(program: &Program, set: &BTreeSet<u32>, number: u32) -> bool
 }
 
 /// The sites among these, each once, but for those of built-in objects.
-#[tactic(auto, using(crate::proofs::SiteLemmas::sites_none, crate::proofs::SiteLemmas::sites_in, crate::proofs::SiteLemmas::sites_out, crate::proofs::SiteLemmas::sites_all))]
+#[tactic(auto, using(crate::proofs::SiteLemmas::sites_none, crate::proofs::SiteLemmas::sites_in, crate::proofs::SiteLemmas::sites_out))]
 fn named_sites(alloc: Global, program: &Program, named: &[u32]) -> Result<Vec<u32>, Memory>
     requires { IsWellFormed program.now }
     ensures { IfOk result (λ sites. sites.items ≡ named_sites program.now named.now) }

@@ -66,7 +66,6 @@ fn push_entry(
     Ok(())
 }
 
-#[tactic(auto, using(crate::proofs::EntryLemmas::entry_found, crate::proofs::EntryLemmas::entry_missing))]
 fn push_pair(
     out: &mut Output,
     alloc: Global,
@@ -85,7 +84,7 @@ fn push_pair(
 }
 
 /// Writes the demanded values at entry, and gives their number.
-#[tactic(auto, using(crate::proofs::EntryLemmas::pairs_none, crate::proofs::EntryLemmas::pairs_more, crate::proofs::EntryLemmas::pairs_all, crate::proofs::EntryLemmas::pairs_count))]
+#[tactic(auto, using(crate::proofs::EntryLemmas::pairs_count))]
 pub(crate) fn push_entries(
     out: &mut Output,
     alloc: Global,
@@ -105,7 +104,6 @@ pub(crate) fn push_entries(
 
 // ---- states
 
-#[tactic(auto, using(crate::proofs::PointLemmas::node_found, crate::proofs::PointLemmas::node_missing))]
 fn push_node(
     out: &mut Output,
     alloc: Global,
@@ -127,7 +125,6 @@ fn push_node(
 }
 
 /// Writes the states.
-#[tactic(auto, using(crate::proofs::PointLemmas::points_none, crate::proofs::PointLemmas::points_more, crate::proofs::PointLemmas::points_all))]
 pub(crate) fn push_points(
     out: &mut Output,
     alloc: Global,

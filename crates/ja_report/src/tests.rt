@@ -1,5 +1,7 @@
 use crate::texts::{push_attrs, push_key};
-use crate::values::{close_parts, push_number_part, push_primitive_parts, push_property_parts, push_text_part};
+use crate::values::{
+    close_parts, push_number_part, push_primitive_parts, push_property_parts, push_text_part,
+};
 use crate::{Refusal, refusal_text, spent_text};
 use ja_base::{Context, FnId, Label, NameId, NodeId, Place, Seq, Site};
 use ja_graph::{Class, Program, SiteInfo};
@@ -22,7 +24,10 @@ fn program(alloc: Global) -> Result<Program, Fail> {
     })?;
     sites.push(SiteInfo {
         class: Class::Error,
-        place: Place { line: 3, column: 12 },
+        place: Place {
+            line: 3,
+            column: 12,
+        },
         builtin: None,
     })?;
     let mut names = Vec::new(alloc);

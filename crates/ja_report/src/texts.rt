@@ -42,7 +42,11 @@ fn glyph(digit: u16) -> u8
     requires { digit < 16 }
     ensures { result ≡ digit_glyph false digit }
 {
-    if digit < 10 { b'0' + digit as u8 } else { b'a' + (digit as u8 - 10) }
+    if digit < 10 {
+        b'0' + digit as u8
+    } else {
+        b'a' + (digit as u8 - 10)
+    }
 }
 
 fn push_unit(text: &mut Vec<u8>, unit: u16) -> Result<(), Memory>

@@ -96,7 +96,7 @@ pub(crate) fn name_label(out: &mut Output, program: &Program, label: Label) -> R
     Ok(())
 }
 
-#[tactic(auto, using(crate::proofs::PartLemmas::labels_none, crate::proofs::PartLemmas::labels_all, crate::proofs::PartLemmas::sites_all))]
+#[tactic(auto, using(crate::proofs::PartLemmas::labels_all, crate::proofs::PartLemmas::sites_all))]
 fn push_label_parts(
     out: &mut Output,
     alloc: Global,

@@ -38,8 +38,8 @@ within_length (suc n) p (b ∷ bs) =
     let word = take_while is_name_byte (b ∷ bs) in
     one_of (is_blank b) ℕ _ _ _ (λ e. let h = within_length n (after p b) bs in omega arith) (λ e.
     one_of (is_name_byte b) ℕ _ _ _
-      (λ f. let h = within_length n (place_at p.line (p.column + length word)) (drop (length word) (b ∷ bs)) in let k = behind-length (word_symbol word) (tokens_within n (place_at p.line (p.column + length word)) (drop (length word) (b ∷ bs))) in omega (arith, length-drop (length word) (b ∷ bs), word_begins b bs f))
-      (λ f. let h = within_length n (after p b) bs in let k = behind-length (mark_symbol b) (tokens_within n (after p b) bs) in omega arith))
+    (λ f. let h = within_length n (place_at p.line (p.column + length word)) (drop (length word) (b ∷ bs)) in let k = behind-length (word_symbol word) (tokens_within n (place_at p.line (p.column + length word)) (drop (length word) (b ∷ bs))) in omega (arith, length-drop (length word) (b ∷ bs), word_begins b bs f))
+    (λ f. let h = within_length n (after p b) bs in let k = behind-length (mark_symbol b) (tokens_within n (after p b) bs) in omega arith))
 
 tokens_length : (text : List ℕ) → length (tokens text) ≤ length text + 1
 unfolding tokens_from

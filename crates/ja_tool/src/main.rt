@@ -9,9 +9,8 @@ mod top;
 
 use ja_base::{StdSink, StdSource};
 use status::Status;
-use std::env;
-use std::io;
 use std::process::ExitCode;
+use std::{env, io};
 use top::tajs;
 
 // The words after the program's name, or the status without them: memory was refused, or a word is

@@ -75,12 +75,28 @@ fn reports(rt: HostRuntime) -> Result<(), Fail> {
             Status::Done,
             "entries 5\nentry global.new x absent ...\nentry global.new [[Prototype]] Object.prototype.new ...\nentry global.new [[Outer]] absent ...\nentry Object.prototype.new x absent ...\nentry Object.prototype.new [[Prototype]] absent ...\n",
         ),
-        ("x = 3; x; y;", Status::Warned, "warnings 1\n1:11 unbound name certain\nedges 0\n"),
-        ("x = 3; x();", Status::Warned, "warnings 1\n1:9 call of a non-function certain\nedges 0\n"),
-        ("x();", Status::Warned, "warnings 1\n1:1 unbound name certain\nedges 0\n"),
+        (
+            "x = 3; x; y;",
+            Status::Warned,
+            "warnings 1\n1:11 unbound name certain\nedges 0\n",
+        ),
+        (
+            "x = 3; x();",
+            Status::Warned,
+            "warnings 1\n1:9 call of a non-function certain\nedges 0\n",
+        ),
+        (
+            "x();",
+            Status::Warned,
+            "warnings 1\n1:1 unbound name certain\nedges 0\n",
+        ),
         ("x = 3; x.y;", Status::Unbuilt, "unbuilt 1:9\n"),
         ("x", Status::Unbuilt, "unbuilt 1:2\n"),
-        ("x = 1;\n y = x;\nz = y = 9007199254740992;", Status::Unbuilt, "unbuilt 3:9\n"),
+        (
+            "x = 1;\n y = x;\nz = y = 9007199254740992;",
+            Status::Unbuilt,
+            "unbuilt 3:9\n",
+        ),
         ("\u{ff}", Status::Unbuilt, "unbuilt 1:1\n"),
     ];
     for (text, wanted, lines) in rows {
@@ -94,7 +110,12 @@ fn reports(rt: HostRuntime) -> Result<(), Fail> {
 #[test]
 fn points(rt: HostRuntime) -> Result<(), Fail> {
     let (_, text) = analysed(rt.alloc(), b"x = 3;")?;
-    assert!(rt; has_lines(&text, "point 3\nthis global.new\nscope global.new\ncount 0\nr0 null\nr1 3\nglobal.new x 3 ---\n"));
+    assert!(rt;
+        has_lines(
+            &text,
+            "point 3\nthis global.new\nscope global.new\ncount 0\nr0 null\nr1 3\nglobal.new x 3 ---\n"
+        )
+    );
     let (_, text) = analysed(rt.alloc(), b"x = 3; x; y;")?;
     assert!(rt; has_lines(&text, "\npoint 6\n"));
     assert!(rt; !has_lines(&text, "\npoint 7\n"));
@@ -110,7 +131,12 @@ fn other_words_are_usage(rt: HostRuntime) -> Result<(), Fail> {
         let mut source = MemorySource::new(Vec::new(alloc), 1, Vec::new(alloc));
         let mut sink = MemorySink::new(alloc, 1000, Vec::new(alloc));
         assert_eq!(rt; tajs(alloc, &words, &mut source, &mut sink), Status::Usage);
-        assert!(rt; has_lines(&sink.bytes, "usage: tajs analyse [--cert] [--budget N] | check | run [--steps N] | generate --number N\n"));
+        assert!(rt;
+            has_lines(
+                &sink.bytes,
+                "usage: tajs analyse [--cert] [--budget N] | check | run [--steps N] | generate --number N\n"
+            )
+        );
     }
     Ok(())
 }
@@ -121,11 +147,17 @@ fn faults_of_source_and_sink(rt: HostRuntime) -> Result<(), Fail> {
     let words = words(alloc, &["analyse"])?;
     let mut source = MemorySource::new(Vec::new(alloc), 1, vec![in alloc; 1]?);
     let mut sink = MemorySink::new(alloc, 1000, Vec::new(alloc));
-    assert_eq!(rt; tajs(alloc, &words, &mut source, &mut sink), Status::ReadFault);
+    assert_eq!(rt;
+        tajs(alloc, &words, &mut source, &mut sink),
+        Status::ReadFault
+    );
     assert_eq!(rt; sink.bytes.as_slice(), b"read fault\n".as_slice());
     let mut source = MemorySource::new(Vec::new(alloc), 1, Vec::new(alloc));
     let mut sink = MemorySink::new(alloc, 10, vec![in alloc; 2]?);
-    assert_eq!(rt; tajs(alloc, &words, &mut source, &mut sink), Status::WriteFault);
+    assert_eq!(rt;
+        tajs(alloc, &words, &mut source, &mut sink),
+        Status::WriteFault
+    );
     assert_eq!(rt; sink.bytes.as_slice(), b"tajs repor".as_slice());
     Ok(())
 }
@@ -137,7 +169,10 @@ fn too_long(rt: HostRuntime) -> Result<(), Fail> {
     let spaces = vec![in alloc; b' '; MAX_BYTES + 1]?;
     let mut source = MemorySource::new(spaces, 65_536, Vec::new(alloc));
     let mut sink = MemorySink::new(alloc, 1000, Vec::new(alloc));
-    assert_eq!(rt; tajs(alloc, &words, &mut source, &mut sink), Status::TooLong);
+    assert_eq!(rt;
+        tajs(alloc, &words, &mut source, &mut sink),
+        Status::TooLong
+    );
     assert_eq!(rt; sink.bytes.as_slice(), b"too long 16777216\n".as_slice());
     Ok(())
 }
@@ -151,7 +186,15 @@ fn assert_spent(rt: &impl Abort, alloc: Global, text: &[u8]) -> Result<(), Fail>
     match solve(alloc, &program, 1) {
         Err(SolveFault::Spent { visits }) => {
             assert_eq!(rt; visits.len(), 1);
-            assert!(rt; matches!(visits.as_slice(), [Item::Step { node: NodeId(0), .. }]));
+            assert!(rt;
+                matches!(
+                    visits.as_slice(),
+                    [Item::Step {
+                        node: NodeId(0),
+                        ..
+                    }]
+                )
+            );
         }
         _ => return Err(Fail::from("not spent")),
     }

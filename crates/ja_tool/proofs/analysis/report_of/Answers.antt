@@ -19,6 +19,7 @@ returns c =
       closed = c.requires.solved.closed;
       exact = c.in_ok-warnings.ensures.warnings;
       covers = c.requires.solved.covers;
-      warned = c.in_ok-warnings.ensures.faults c.requires.solved.closed } in
+      warned = c.in_ok-warnings.ensures.faults c.requires.solved.closed;
+    } in
     let same : status_of ws ≡ c.judged-status.result = cc (c.judged-status.ensures, c.as_slice-3.ensures) in
     let R : Status → Type 0 = λ s. Reports p s text in subst R same (reports p text ws whole)
