@@ -1,3 +1,0 @@
-width = 640;
-height = 480;
-area = width;
