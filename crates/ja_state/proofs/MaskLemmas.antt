@@ -6,7 +6,7 @@ use Rattle.std.specs.BTreeMap.{BTreeMap, get}
 use Rattle.ja_model.specs.declared.abstraction.Mask.{Mask}
 use Rattle.ja_model.specs.AbstractState.{join_masks, exactly_none}
 use Rattle.ja_state.specs.Joined.{IsJoined}
-use Rattle.ja_state.specs.State.{mask_in}
+use Rattle.ja_value.specs.Labels.{mask_in}
 use Rattle.ja_state.proofs.SpreadLemmas.{spread, spread_join_listed, or_default}
 
 abbrev pub spread_mask : BTreeMap ℕ Mask → ℕ → Mask

@@ -22,7 +22,8 @@ use Rattle.ja_state.specs.declared.object.AObject.{AObject}
 use Rattle.ja_state.specs.declared.state.AState.{AState}
 use Rattle.ja_state.specs.Joined.{IsJoined}
 use Rattle.ja_state.specs.Numbers.{label_of}
-use Rattle.ja_state.specs.State.{Keyed, state_of, register_in, object_of, object_in, mask_in, entry_keyed, join_keyed, aged_keyed, made_keyed}
+use Rattle.ja_value.specs.Labels.{mask_in}
+use Rattle.ja_state.specs.State.{Keyed, state_of, register_in, object_of, object_in, entry_keyed, join_keyed, aged_keyed, made_keyed}
 use Rattle.ja_state.proofs.SpreadLemmas.{spread_same, spread_mapped, or_true}
 use Rattle.ja_state.proofs.MapLemmas.{some_is, found}
 use Rattle.ja_state.proofs.RegisterLemmas.{register_past}

@@ -1,5 +1,5 @@
 -- What the analyser's objects, states and values at entry stand for.
-use Rattle.std.specs.Prelude.{◌≡◌, ◌==◌, ℕ, if◌then◌else◌, is_some, map, filter, List, Bool, true, false, Option, Some, None, unwrap_or, slice_get}
+use Rattle.std.specs.Prelude.{◌≡◌, ◌==◌, ℕ, if◌then◌else◌, is_some, map, filter, List, Bool, true, false, Option, Some, None, slice_get}
 use Rattle.std.specs.Option.{option_map_or}
 use Rattle.std.specs.List.{flat_map}
 use Rattle.std.specs.Ordering.{nat_cmp}
@@ -10,10 +10,11 @@ use denote.Ref.{Bor}
 use Rattle.ja_model.specs.declared.abstraction.Key.{Key}
 use Rattle.ja_model.specs.declared.abstraction.Mask.{Mask}
 use Rattle.ja_model.specs.AbstractValue.{AbstractValue, AbstractProperty, entry_property, absent_property, undefined_value, join_properties}
-use Rattle.ja_model.specs.AbstractState.{AbstractState, label_number, key_number, exactly_none, aged_property, new, old}
+use Rattle.ja_model.specs.AbstractState.{AbstractState, label_number, key_number, aged_property, new, old}
 use Rattle.ja_model.specs.Reading.{Entries}
 use Rattle.ja_value.specs.declared.property.AProp.{AProp}
 use Rattle.ja_value.specs.declared.value.AValue.{AValue}
+use Rattle.ja_value.specs.Labels.{mask_in}
 use Rattle.ja_value.specs.Value.{value_of, property_of}
 use Rattle.ja_state.specs.declared.object.AObject.{AObject}
 use Rattle.ja_state.specs.declared.state.AState.{AState}
@@ -58,10 +59,6 @@ register_in values r = option_map_or value_of (slice_get values r) undefined_val
 
 abbrev pub register_at : AState → ℕ → AbstractValue
 register_at a r = register_in a.registers.items r
-
--- a site without a mask of its own has exactly none
-abbrev pub mask_in : BTreeMap ℕ Mask → ℕ → Mask
-mask_in masks s = unwrap_or (get nat_cmp masks s) exactly_none
 
 abbrev pub mask_at : AState → ℕ → Mask
 mask_at a s = mask_in a.masks s

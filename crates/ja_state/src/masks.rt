@@ -3,28 +3,16 @@ ghost use Rattle.std.specs.Option.{option_map};
 ghost use Rattle.std.specs.Ordering.{nat_cmp};
 ghost use Rattle.std.specs.BTreeMap.{get};
 ghost use Rattle.ja_model.specs.AbstractState.{join_masks, exactly_none};
-ghost use Rattle.ja_state.specs.State.{mask_in};
+ghost use Rattle.ja_value.specs.Labels.{mask_in};
 ghost use Rattle.ja_state.specs.Joined.{IsJoined};
 
 use crate::maps::put;
 use ja_base::Memory;
 use ja_model::Mask;
+use ja_value::mask_at;
 use std::alloc::Global;
 use std::collections::BTreeMap;
 use std::mem;
-
-/// The mask of a site.
-pub fn mask_at(masks: &BTreeMap<u64, Mask>, site: u64) -> Mask
-    ensures { result ≡ mask_in masks.now site }
-{
-    match masks.get(&site) {
-        Some(mask) => *mask,
-        None => Mask {
-            none: true,
-            some: false,
-        },
-    }
-}
 
 /// Joins a mask in, and tells whether it changed.
 fn join_mask(mask: &mut Mask, other: Mask) -> bool

@@ -10,12 +10,12 @@ ghost use Rattle.ja_value.specs.Value.{value_of, property_of};
 use crate::AObject;
 use crate::keys::{label_at, label_number};
 use crate::maps::put;
-use crate::masks::{copy_masks, join_masks, mask_at};
+use crate::masks::{copy_masks, join_masks};
 use crate::objects::{copy_objects, join_objects, made_objects, write_at};
 use crate::registers::{aged_values, copy_values, entry_values, join_values};
 use ja_base::{Label, Memory, Reg, Site};
 use ja_model::{Key, Mask};
-use ja_value::{AProp, AValue};
+use ja_value::{AProp, AValue, copy_text_part, mask_at};
 use std::alloc::Global;
 use std::collections::BTreeMap;
 
@@ -138,10 +138,16 @@ impl AState {
     pub fn renamed(&self, alloc: Global, property: &AProp) -> Result<AProp, Memory>
         ensures { IfOk result (λ q. property_of q ≡ renamed (state_of self.now).mask (property_of property.now)) }
     {
-        if !self.masks.is_empty() {
-            return Err(Memory);
-        }
-        Ok(property.copy(alloc)?)
+        let value = &property.value;
+        Ok(AProp {
+            value: AValue {
+                flags: value.flags,
+                number: value.number,
+                text: copy_text_part(alloc, &value.text)?,
+                labels: value.labels.renamed(alloc, &self.masks)?,
+            },
+            attrs: property.attrs,
+        })
     }
 
     /// The labels of the first `sites` sites whose objects are kept, in order; all others are as at entry.

@@ -1,5 +1,6 @@
 pub mod DigitLemmas
 pub mod FlagLemmas
 pub mod LabelLemmas
+pub mod RenamingLemmas
 pub mod TextLemmas
 pub mod ValueLemmas

@@ -1,9 +1,12 @@
 -- The labels as numbers, and sets of them as tests.
-use Rattle.std.specs.Prelude.{ℕ, ◌/◌, ◌%◌, ◌&&◌, ◌||◌, ◌==◌, if◌then◌else◌}
+use Rattle.std.specs.Prelude.{ℕ, ◌+◌, ◌/◌, ◌%◌, Bool, ◌&&◌, ◌||◌, ◌==◌, if◌then◌else◌, unwrap_or}
+use Rattle.std.specs.Ordering.{nat_cmp}
+use Rattle.std.specs.BTreeMap.{BTreeMap, get, is_at}
 use Rattle.ja_base.specs.declared.ids.Label.{Label}
 use Rattle.ja_base.specs.declared.ids.Site.{Site}
+use Rattle.ja_model.specs.declared.abstraction.Mask.{Mask}
 use Rattle.ja_model.specs.AbstractValue.{Labels}
-use Rattle.ja_model.specs.AbstractState.{site_of, new, old}
+use Rattle.ja_model.specs.AbstractState.{site_of, new, old, exactly_none}
 
 -- the label whose number is n
 abbrev pub label_at : ℕ → Label
@@ -12,3 +15,16 @@ label_at n = record { site = site_of (n / 2); old = n % 2 == 1 }
 -- a set of labels after an object more was made at a site
 abbrev pub aged_labels : Site → Labels → Labels
 aged_labels s set l = if l.site.0 == s.0 then l.old && (set (old s) || set (new s)) else set l
+
+-- a site without a mask of its own has exactly none
+abbrev pub mask_in : BTreeMap ℕ Mask → ℕ → Mask
+mask_in masks s = unwrap_or (get nat_cmp masks s) exactly_none
+
+-- the mask by which a label is renamed, by its number: an old label stays as it is
+abbrev pub number_mask : (ℕ → Mask) → ℕ → Mask
+number_mask mask n = if n % 2 == 1 then exactly_none else mask (n / 2)
+
+-- whether objects whose label at the entry has the number n may now have the label of the number q
+abbrev pub leads : (ℕ → Mask) → ℕ → ℕ → Bool
+leads mask n q =
+    ((number_mask mask n).none && is_at (nat_cmp q) n) || ((number_mask mask n).some && is_at (nat_cmp q) (n + 1))

@@ -1,12 +1,16 @@
-ghost use Rattle.std.specs.Prelude.{◌≡◌, ◌≢◌, ◌||◌, ◌&&◌, ◌<◌, ◌↔◌, ◌==◌, ◌^◌, if◌then◌else◌, filter, IfOk, IsTrue, true, false};
+ghost use Rattle.std.specs.Prelude.{◌≡◌, ◌≢◌, ◌||◌, ◌&&◌, ◌<◌, ◌↔◌, ◌==◌, ◌^◌, ◌/◌, ◌%◌, ℕ, if◌then◌else◌, filter, IfOk, IsTrue, true, false};
 ghost use Rattle.std.specs.List.{list_any};
+ghost use Rattle.std.specs.Ordering.{nat_cmp};
+ghost use Rattle.std.specs.BTreeSet.{contains};
 ghost use Rattle.ja_model.specs.AbstractValue.{same_label, no_labels};
 ghost use Rattle.ja_model.specs.AbstractState.{labels_below, label_number, new, old};
-ghost use Rattle.ja_value.specs.Labels.{label_at, aged_labels};
+ghost use Rattle.ja_model.specs.Reading.{renamed_labels};
+ghost use Rattle.ja_value.specs.Labels.{label_at, aged_labels, mask_in, number_mask, leads};
 
 use ja_base::{Label, Memory, Site};
+use ja_model::Mask;
 use std::alloc::Global;
-use std::collections::BTreeSet;
+use std::collections::{BTreeMap, BTreeSet};
 
 /// A set of labels.
 #[derive(Drop)]
@@ -30,6 +34,51 @@ fn label_at(number: u64) -> Label
         site: Site((number / 2) as u32),
         old: number % 2 == 1,
     }
+}
+
+/// The mask of a site.
+pub fn mask_at(masks: &BTreeMap<u64, Mask>, site: u64) -> Mask
+    ensures { result ≡ mask_in masks.now site }
+{
+    match masks.get(&site) {
+        Some(mask) => *mask,
+        None => Mask {
+            none: true,
+            some: false,
+        },
+    }
+}
+
+/// The mask by which a label is renamed, by its number: an old label stays as it is.
+fn number_mask(masks: &BTreeMap<u64, Mask>, number: u64) -> Mask
+    ensures { result ≡ number_mask (mask_in masks.now) number }
+{
+    if number % 2 == 1 {
+        Mask {
+            none: true,
+            some: false,
+        }
+    } else {
+        mask_at(masks, number / 2)
+    }
+}
+
+/// Adds the labels that the objects of a label may have now, by number.
+fn insert_renamed(
+    numbers: &mut BTreeSet<u64>,
+    masks: &BTreeMap<u64, Mask>,
+    number: u64,
+) -> Result<(), Memory>
+    ensures { IfOk result (λ _. (q : ℕ) → contains nat_cmp numbers.new q ≡ (contains nat_cmp numbers.old q || leads (mask_in masks.now) number q)) }
+{
+    let mask = number_mask(masks, number);
+    if mask.none {
+        numbers.insert(number)?;
+    }
+    if mask.some {
+        numbers.insert(number + 1)?;
+    }
+    Ok(())
 }
 
 impl LabelSet {
@@ -126,5 +175,16 @@ impl LabelSet {
             self.numbers.insert(old)?;
         }
         Ok(())
+    }
+
+    /// The labels that the objects of these labels at the entry may have now, by the masks of their sites.
+    pub fn renamed(&self, alloc: Global, masks: &BTreeMap<u64, Mask>) -> Result<LabelSet, Memory>
+        ensures { IfOk result (λ s. labels_in s ≡ renamed_labels (mask_in masks.now) (labels_in self.now)) }
+    {
+        let mut numbers = BTreeSet::new(alloc);
+        for number in &self.numbers {
+            insert_renamed(&mut numbers, masks, *number)?;
+        }
+        Ok(LabelSet { numbers })
     }
 }

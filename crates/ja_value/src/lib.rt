@@ -8,7 +8,7 @@ mod property;
 mod texts;
 mod value;
 
-pub use label_set::LabelSet;
+pub use label_set::{LabelSet, mask_at};
 pub use numbers::{is_index, join_numbers, number_class, same_numbers, widen_number};
 pub use property::{AProp, exact_attrs, join_attrs, same_attrs, unknown_attrs, widen_attrs};
 pub use texts::{

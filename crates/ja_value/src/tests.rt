@@ -1,9 +1,10 @@
 use crate::{AProp, AValue, LabelSet, exact_attrs, is_index_text};
 use ja_base::{Label, Site};
 use ja_graph::Attrs;
-use ja_model::{NumberPart, TextPart};
+use ja_model::{Mask, NumberPart, TextPart};
 use ja_prim::{Int, Num, Primitive, Text16};
 use std::alloc::Global;
+use std::collections::BTreeMap;
 use std::test::Fail;
 
 fn text(alloc: Global, units: &[u16]) -> Result<Text16, Fail> {
@@ -64,5 +65,34 @@ fn labels_age(rt: HostRuntime) -> Result<(), Fail> {
     assert!(rt; !property.join(alloc, &property.copy(alloc)?)?);
     assert!(rt; property.join(alloc, &AProp::absent(alloc))?);
     assert!(rt; property.aged(alloc, site)?.value.flags.absent);
+    Ok(())
+}
+
+#[test]
+fn labels_rename(rt: HostRuntime) -> Result<(), Fail> {
+    let alloc = rt.alloc();
+    let label = |site: u32, old: bool| Label {
+        site: Site(site),
+        old,
+    };
+    let mask = |none: bool, some: bool| Mask { none, some };
+    let mut masks = BTreeMap::new(alloc);
+    masks.insert(1, mask(true, true))?;
+    masks.insert(2, mask(false, true))?;
+    masks.insert(3, mask(false, true))?;
+    let mut labels = LabelSet::new(alloc);
+    labels.insert(label(0, false))?;
+    labels.insert(label(1, false))?;
+    labels.insert(label(2, false))?;
+    labels.insert(label(3, true))?;
+    let renamed = labels.renamed(alloc, &masks)?.list(alloc, 4)?;
+    let all = [
+        label(0, false),
+        label(1, false),
+        label(1, true),
+        label(2, true),
+        label(3, true),
+    ];
+    assert_eq!(rt; renamed.as_slice(), all.as_slice());
     Ok(())
 }

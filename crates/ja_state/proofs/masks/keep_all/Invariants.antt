@@ -1,7 +1,7 @@
 use Rattle.std.proofs.Common.{◌≡◌, ◌||◌, ℕ, is_some}
 use Rattle.std.specs.Ordering.{nat_cmp}
 use Rattle.std.specs.BTreeMap.{get}
-use Rattle.ja_state.specs.State.{mask_in}
+use Rattle.ja_value.specs.Labels.{mask_in}
 use Rattle.ja_state.proofs.MapLemmas.{found}
 use Rattle.ja_state.proofs.masks.keep_all.Given as goal
 

@@ -3,7 +3,7 @@ use Rattle.ja_model.specs.declared.abstraction.Mask.{Mask}
 use Rattle.ja_model.specs.AbstractState.{aged, exactly_some}
 use Rattle.ja_value.specs.declared.value.AValue.{AValue}
 use Rattle.ja_value.specs.Value.{value_of}
-use Rattle.ja_state.specs.State.{mask_in}
+use Rattle.ja_value.specs.Labels.{mask_in}
 use Rattle.ja_state.proofs.StateLemmas.{made_state, registers_aged, put_mask}
 use Rattle.ja_state.proofs.state.AState.with_made.Goals as goal
 
