@@ -44,11 +44,32 @@ pub struct Place {
     pub column: u32,
 }
 
-/// Why a run leaves the profile: a text would have more than 1,048,576 units, or a register holds
-/// no value that its node takes.
+/// Why a text or a run leaves the profile.
 #[derive(Clone, Copy, Debug, PartialEq, Eq)]
 pub enum ScopeKind {
+    /// The word `eval`.
+    Eval,
+    /// The word `with`.
+    With,
+    /// A `/` or `/=` where an expression must begin.
+    RegExp,
+    /// A number that begins with 0 and a digit; in a string an escape `\1` to `\9`, or `\0` before
+    /// a digit.
+    Octal,
+    /// A number that isn't whole, or is greater than 9,007,199,254,740,991.
+    Number,
+    /// A character past ASCII outside strings and comments that is no white space and no line
+    /// terminator.
+    NonAscii,
+    /// An escape in an identifier.
+    IdentifierEscape,
+    /// A future reserved word of ES3 7.5.3.
+    ReservedWord,
+    /// A parameter, variable, function or catch parameter of the name `arguments`.
+    ArgumentsName,
+    /// A string or an identifier of more than 1,048,576 units.
     TextLength,
+    /// A register holds no value that its node takes.
     Register,
 }
 
