@@ -1,0 +1,48 @@
+-- What the classes of characters say about codes and digits.
+use Rattle.std.proofs.Common.{◌≡◌, ◌≤◌, ◌<◌, ℕ, Bool, true, false, ◌&&◌, List, [], ◌∷◌, ◌++◌, arith, refl, sym, ◌∙◌, subst}
+use Rattle.std.specs.Char.{digit_value}
+use Rattle.std.specs.List.{take_while}
+use Rattle.std.specs.Str.Parse.{AllDigits}
+use Rattle.std.proofs.lemmas.Bool.Decides.{nat_tests}
+use Rattle.std.proofs.lemmas.List.Sums.{take_while-cons}
+use Rattle.ja_lex.specs.Characters.{char_at, is_digit, is_hexadecimal, is_part, is_escape}
+
+pub hex_small : (c : ℕ) → is_hexadecimal c ≡ true → digit_value c ≤ 15
+unfolding is_hexadecimal
+hex_small c h = grind (arith, nat_tests)
+
+pub digit_small : (c : ℕ) → is_digit c ≡ true → digit_value c < 10
+unfolding is_digit
+digit_small c h = grind (arith, nat_tests)
+
+pub part_small : (c : ℕ) → is_part c ≡ true → c < 128
+unfolding is_part
+part_small c h = grind (arith, nat_tests)
+
+both : (a b : Bool) → a && b ≡ true → (a ≡ true) × (b ≡ true)
+both true b h = (refl, h)
+both false b h = cc
+
+pub record Hexadecimals (cs : List ℕ) : Type 0 where
+  pub first : is_hexadecimal (char_at cs 2) ≡ true
+  pub second : is_hexadecimal (char_at cs 3) ≡ true
+  pub third : is_hexadecimal (char_at cs 4) ≡ true
+  pub fourth : is_hexadecimal (char_at cs 5) ≡ true
+
+pub escape_digits : (cs : List ℕ) → is_escape cs 0 ≡ true → Hexadecimals cs
+unfolding is_escape
+escape_digits cs h = record { first = grind (arith, nat_tests); second = grind (arith, nat_tests); third = grind (arith, nat_tests); fourth = grind (arith, nat_tests) }
+
+split : (b : Bool) (P : Type 0) → (b ≡ true → P) → (b ≡ false → P) → P
+split true P f g = f refl
+split false P f g = g refl
+
+pub all_digits : (cs : List ℕ) → AllDigits 10 (take_while is_digit cs)
+all_digits [] = tt
+all_digits (c ∷ cs) = split (is_digit c) (AllDigits 10 (take_while is_digit (c ∷ cs)))
+    (λ h. let e : take_while is_digit (c ∷ cs) ≡ c ∷ take_while is_digit cs = take_while-cons is_digit c cs ∙ rw h refl in subst (AllDigits 10) (sym e) (digit_small c h, all_digits cs))
+    (λ h. let e : take_while is_digit (c ∷ cs) ≡ [] = take_while-cons is_digit c cs ∙ rw h refl in subst (AllDigits 10) (sym e) tt)
+
+pub all_digits_append : (xs ys : List ℕ) → AllDigits 10 xs → AllDigits 10 ys → AllDigits 10 (xs ++ ys)
+all_digits_append [] ys f g = g
+all_digits_append (x ∷ xs) ys f g = (f.0, all_digits_append xs ys f.1 g)

@@ -1,0 +1,61 @@
+-- What the definition of tokens comes to: lists that end once, and longest matches.
+use Rattle.std.specs.Prelude.{◌≡◌, ◌⊎◌, ◌≤◌, ◌*◌, ◌^◌, ℕ, true, false, ◌||◌, ◌==◌, List, [], ◌∷◌, ◌++◌, length}
+use Rattle.std.specs.List.{list_all}
+use Rattle.ja_lex.specs.declared.token.Token.{Token}
+use Rattle.ja_lex.specs.Characters.{is_digit}
+use Rattle.ja_lex.specs.Marks.{begins_with}
+use Rattle.ja_lex.specs.Tokens.{is_last}
+
+-- there is a last token, the end or a refusal, and no other token is one
+abbrev pub IsEnded : List Token → Type 0
+IsEnded [] = ⊥
+IsEnded (t ∷ []) = is_last t.kind ≡ true
+IsEnded (t ∷ u ∷ ts) = (is_last t.kind ≡ false) × IsEnded (u ∷ ts)
+
+-- the spans stand one behind the other, between two offsets
+abbrev pub AreInOrder : ℕ → ℕ → List Token → Type 0
+AreInOrder from to [] = from ≤ to
+AreInOrder from to (t ∷ ts) = (from ≤ t.start) × (t.start ≤ t.end) × AreInOrder t.end to ts
+
+-- no mark of a table that the characters begin with has more characters than n
+abbrev pub NoneLonger : List (List ℕ) → List ℕ → ℕ → Type 0
+NoneLonger [] cs n = Unit {0}
+NoneLonger (m ∷ ms) cs n = (begins_with m cs ≡ true → length m ≤ n) × NoneLonger ms cs n
+
+-- nothing, or a point and digits
+abbrev pub IsFraction : List ℕ → Type 0
+IsFraction [] = Unit {0}
+IsFraction (c ∷ ds) = (c ≡ 46) × (list_all is_digit ds ≡ true)
+
+-- nothing, a plus or a minus
+abbrev pub IsSign : List ℕ → Type 0
+IsSign [] = Unit {0}
+IsSign (c ∷ cs) = ((c == 43 || c == 45) ≡ true) × (cs ≡ [])
+
+-- an exponent: `e` or `E`, a sign or none, and digits
+pub record IsExponent (w : List ℕ) : Type 0 where
+  pub letter : ℕ
+  pub sign : List ℕ
+  pub first : ℕ
+  pub others : List ℕ
+  pub split : w ≡ letter ∷ (sign ++ first ∷ others)
+  pub is_letter : (letter == 101 || letter == 69) ≡ true
+  pub is_sign : IsSign sign
+  pub first_digit : is_digit first ≡ true
+  pub other_digits : list_all is_digit others ≡ true
+
+-- a decimal literal (7.8.3): digits, a fraction or none, and an exponent or none, with a digit before the exponent
+pub record IsDecimal (w : List ℕ) : Type 0 where
+  pub whole : List ℕ
+  pub point : List ℕ
+  pub power : List ℕ
+  pub split : w ≡ whole ++ (point ++ power)
+  pub whole_digits : list_all is_digit whole ≡ true
+  pub is_fraction : IsFraction point
+  pub has_digit : (1 ≤ length whole) ⊎ (2 ≤ length point)
+  pub is_power : (power ≡ []) ⊎ IsExponent power
+
+-- v is m * 10^up / 10^down, and the profile has it
+pub record IsValue (m up down v : ℕ) : Type 0 where
+  pub exact : v * 10 ^ down ≡ m * 10 ^ up
+  pub small : v ≤ 9007199254740991

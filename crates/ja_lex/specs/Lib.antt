@@ -1,0 +1,10 @@
+pub mod Characters
+pub mod Spots
+pub mod Blanks
+pub mod Classes
+pub mod Words
+pub mod Numbers
+pub mod Strings
+pub mod Marks
+pub mod Tokens
+pub mod Laws

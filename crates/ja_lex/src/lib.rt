@@ -1,0 +1,27 @@
+//! The tokens of a program's text (ES3 section 7).
+#![tactic(auto)]
+
+mod blanks;
+mod characters;
+mod cursor;
+mod element;
+mod item;
+mod laws;
+mod lexer;
+mod marks;
+mod numbers;
+mod scaled;
+mod spot;
+mod strings;
+#[cfg(test)]
+mod tests;
+mod token;
+mod words;
+
+pub use laws::{
+    decimals_are_longest, marks_are_longest, spans_are_in_order, texts_end_once, values_are_exact,
+};
+pub use lexer::tokens;
+pub use marks::MARKS;
+pub use spot::Spot;
+pub use token::{Token, TokenFault, TokenKind};

@@ -1,0 +1,105 @@
+ghost use Rattle.std.specs.Prelude.{◌≡◌, [], IfOk, map};
+ghost use Rattle.ja_lex.specs.Marks as spec;
+
+use crate::characters::char_at;
+use crate::element::Element;
+use crate::token::{TokenFault, TokenKind};
+use ja_base::ScopeKind;
+use ja_prim::Text16;
+use std::alloc::{AllocError, Global};
+
+/// The punctuators of ES3 7.7, with `/` and `/=`.
+pub const MARKS: [&[u8]; 48] = [
+    b"{", b"}", b"(", b")", b"[", b"]", b".", b";", b",", b"<", b">", b"<=", b">=", b"==", b"!=",
+    b"===", b"!==", b"+", b"-", b"*", b"%", b"++", b"--", b"<<", b">>", b">>>", b"&", b"|", b"^",
+    b"!", b"~", b"&&", b"||", b"?", b":", b"=", b"+=", b"-=", b"*=", b"%=", b"<<=", b">>=",
+    b">>>=", b"&=", b"|=", b"^=", b"/", b"/=",
+];
+
+/// A refusal.
+pub fn bad(fault: TokenFault) -> Element
+    ensures { result ≡ spec.bad fault }
+{
+    Element::Token {
+        kind: TokenKind::Bad { fault },
+        length: 1,
+    }
+}
+
+/// Whether the text begins with a mark.
+fn begins_with(mark: &[u8], text: &[char]) -> bool
+    ensures { result ≡ spec.begins_with mark.now text.now }
+{
+    let mut rest = text;
+    for byte in mark {
+        match rest {
+            [] => return false,
+            [first, more @ ..] => {
+                if u32::from(*first) != u32::from(*byte) {
+                    return false;
+                }
+                rest = more;
+            }
+        }
+    }
+    true
+}
+
+/// The longer of a list and a mark, if the text begins with the mark.
+fn longer<'a>(best: &'a [u8], mark: &'a [u8], text: &[char]) -> &'a [u8]
+    ensures { result.now ≡ spec.longer best.now mark.now text.now }
+{
+    if best.len() < mark.len() && begins_with(mark, text) {
+        mark
+    } else {
+        best
+    }
+}
+
+/// The longest mark of a table that the text begins with, or the empty one.
+fn longest<'a>(mut table: &[&'a [u8]], text: &[char]) -> &'a [u8]
+    ensures { result.now ≡ spec.longest [] (map (λ mark. mark.now) table.entry.now) text.now }
+{
+    let mut best: &[u8] = &[];
+    'table: while let [mark, rest @ ..] = table {
+        best = longer(best, *mark, text);
+        table = rest;
+    }
+    best
+}
+
+/// Why no token begins with a character that no rule takes.
+fn stranger(c: char) -> TokenFault
+    ensures { result ≡ spec.stranger c }
+{
+    if c.is_ascii() {
+        TokenFault::Lexical
+    } else {
+        TokenFault::Scope(ScopeKind::NonAscii)
+    }
+}
+
+/// The text whose units are these bytes.
+fn text_of(alloc: Global, bytes: &[u8]) -> Result<Text16, AllocError>
+    ensures { IfOk result (λ text. text ≡ bytes.now) }
+{
+    let units: Vec<u16> = bytes.iter().map(|byte| u16::from(*byte)).collect(alloc)?;
+    Ok(Text16::from_units(units))
+}
+
+/// The longest mark that stands there, or why there is none.
+#[tactic(auto, unfolding(crate::specs::Marks::mark))]
+pub fn mark(alloc: Global, text: &[char]) -> Result<Element, AllocError>
+    ensures { IfOk result (λ e. e ≡ spec.mark text.now) }
+{
+    match longest(&MARKS, text) {
+        [] => Ok(bad(stranger(char_at(text, 0)))),
+        found => {
+            let units = text_of(alloc, found)?;
+            Ok(Element::Token {
+                kind: TokenKind::Mark(units),
+                length: found.len(),
+            })
+        }
+    }
+}
