@@ -1,0 +1,103 @@
+-- Names, each once: what one more does.
+use Rattle.std.proofs.Common.{◌≡◌, ℕ, Bool, true, false, cond, not, ◌||◌, List, [], ◌∷◌, ◌++◌, Option, Some, is_some, refl, sym, ap, ◌∙◌, append_assoc, append-nil}
+use Rattle.std.specs.List.{filter, fold, list_any}
+use Rattle.std.specs.Str.{bytes_eq}
+use Rattle.std.specs.Cmp.Lexicographic.{bytes_decides, nat_list_eq_equiv}
+use Rattle.ja_syntax.specs.Hoisted.{once, with_name}
+
+any-push : {X : Type 0} (p : X → Bool) (xs : List X) (x : X) → list_any p (xs ++ x ∷ []) ≡ (list_any p xs || p x)
+any-push p [] x = at (p x)
+  where
+    at : (b : Bool) → (b || false) ≡ b
+    at true = refl
+    at false = refl
+any-push p (y ∷ ys) x = at (p y) (any-push p ys x)
+  where
+    at : (b : Bool) → list_any p (ys ++ x ∷ []) ≡ (list_any p ys || p x) → (b || list_any p (ys ++ x ∷ [])) ≡ ((b || list_any p ys) || p x)
+    at true h = refl
+    at false h = h
+
+-- a table that knows the names still does with one more behind them
+pub known_push : (names : List (List ℕ)) (t q : List ℕ) (old new : Option (Unit {0})) → is_some old ≡ list_any (bytes_eq q) names → new ≡ cond (bytes_eq t q) (Some tt) old → is_some new ≡ list_any (bytes_eq q) (names ++ t ∷ [])
+known_push names t q old new was is = ap is_some is ∙ at (bytes_eq t q) refl ∙ sym (any-push (bytes_eq q) names t)
+  where
+    at : (b : Bool) → bytes_eq t q ≡ b → is_some (cond b (Some tt) old) ≡ (list_any (bytes_eq q) names || bytes_eq q t)
+    at true e = rw (nat_list_eq_equiv.symm q t ∙ e) (full (list_any (bytes_eq q) names))
+      where
+        full : (b : Bool) → true ≡ (b || true)
+        full true = refl
+        full false = refl
+    at false e = rw (nat_list_eq_equiv.symm q t ∙ e) (was ∙ empty (list_any (bytes_eq q) names))
+      where
+        empty : (b : Bool) → b ≡ (b || false)
+        empty true = refl
+        empty false = refl
+
+pub with_name-known : (names : List (List ℕ)) (t : List ℕ) → list_any (bytes_eq t) names ≡ true → names ≡ with_name names t
+with_name-known names t known = rw known refl
+
+pub with_name-new : (names : List (List ℕ)) (t : List ℕ) → list_any (bytes_eq t) names ≡ false → names ++ t ∷ [] ≡ with_name names t
+with_name-new names t fresh = rw fresh refl
+
+-- a text is among those that aren't another where it is among all
+any-filter : (t x : List ℕ) (ys : List (List ℕ)) → bytes_eq x t ≡ false → list_any (bytes_eq t) (filter (λ u. not (bytes_eq x u)) ys) ≡ list_any (bytes_eq t) ys
+any-filter t x [] differs = refl
+any-filter t x (y ∷ ys) differs = at (bytes_eq x y) refl (any-filter t x ys differs)
+  where
+    at : (b : Bool) → bytes_eq x y ≡ b → list_any (bytes_eq t) (filter (λ u. not (bytes_eq x u)) ys) ≡ list_any (bytes_eq t) ys → list_any (bytes_eq t) (cond (not (bytes_eq x y)) (y ∷ filter (λ u. not (bytes_eq x u)) ys) (filter (λ u. not (bytes_eq x u)) ys)) ≡ (bytes_eq t y || list_any (bytes_eq t) ys)
+    at true e rest =
+        let same : x ≡ y = (bytes_decides x y).0 e in
+        let apart : bytes_eq t y ≡ false = ap (bytes_eq t) (sym same) ∙ nat_list_eq_equiv.symm t x ∙ differs in
+        rw (e, apart) rest
+    at false e rest = rw e (ap (λ b. bytes_eq t y || b) rest)
+
+-- a filter of a list with one more element
+filter-push-kept : {X : Type 0} (p : X → Bool) (xs : List X) (x : X) → p x ≡ true → filter p (xs ++ x ∷ []) ≡ filter p xs ++ x ∷ []
+filter-push-kept p [] x kept = rw kept refl
+filter-push-kept p (y ∷ ys) x kept = at (p y) (filter-push-kept p ys x kept)
+  where
+    at : (b : Bool) → filter p (ys ++ x ∷ []) ≡ filter p ys ++ x ∷ [] → cond b (y ∷ filter p (ys ++ x ∷ [])) (filter p (ys ++ x ∷ [])) ≡ cond b (y ∷ filter p ys) (filter p ys) ++ x ∷ []
+    at true rest = ap (λ zs. y ∷ zs) rest
+    at false rest = rest
+
+filter-push-dropped : {X : Type 0} (p : X → Bool) (xs : List X) (x : X) → p x ≡ false → filter p (xs ++ x ∷ []) ≡ filter p xs
+filter-push-dropped p [] x dropped = rw dropped refl
+filter-push-dropped p (y ∷ ys) x dropped = ap (λ zs. cond (p y) (y ∷ zs) zs) (filter-push-dropped p ys x dropped)
+
+-- what is left of the texts without x, and t behind them where it is new
+filter-with_name : (x t : List ℕ) (ys : List (List ℕ)) → x ∷ filter (λ u. not (bytes_eq x u)) (with_name ys t) ≡ with_name (x ∷ filter (λ u. not (bytes_eq x u)) ys) t
+filter-with_name x t ys = at (bytes_eq x t) refl (list_any (bytes_eq t) ys) refl
+  where
+    at : (b : Bool) → bytes_eq x t ≡ b → (a : Bool) → list_any (bytes_eq t) ys ≡ a → x ∷ filter (λ u. not (bytes_eq x u)) (with_name ys t) ≡ with_name (x ∷ filter (λ u. not (bytes_eq x u)) ys) t
+    at true e true known =
+        let here : bytes_eq t x ≡ true = nat_list_eq_equiv.symm t x ∙ e in
+        rw (known, here) refl
+    at true e false fresh =
+        let here : bytes_eq t x ≡ true = nat_list_eq_equiv.symm t x ∙ e in
+        let dropped : not (bytes_eq x t) ≡ false = ap not e in
+        rw (fresh, here) (ap (λ zs. x ∷ zs) (filter-push-dropped (λ u. not (bytes_eq x u)) ys t dropped))
+    at false e true known =
+        let apart : bytes_eq t x ≡ false = nat_list_eq_equiv.symm t x ∙ e in
+        let kept : list_any (bytes_eq t) (filter (λ u. not (bytes_eq x u)) ys) ≡ true = any-filter t x ys e ∙ known in
+        rw (known, apart, kept) refl
+    at false e false fresh =
+        let apart : bytes_eq t x ≡ false = nat_list_eq_equiv.symm t x ∙ e in
+        let still : list_any (bytes_eq t) (filter (λ u. not (bytes_eq x u)) ys) ≡ false = any-filter t x ys e ∙ fresh in
+        let kept : not (bytes_eq x t) ≡ true = ap not e in
+        rw (fresh, apart, still) (ap (λ zs. x ∷ zs) (filter-push-kept (λ u. not (bytes_eq x u)) ys t kept))
+
+once-push : (ts : List (List ℕ)) (t : List ℕ) → once (ts ++ t ∷ []) ≡ with_name (once ts) t
+unfolding once
+once-push [] t = refl
+once-push (x ∷ ts) t =
+    ap (λ ys. x ∷ filter (λ u. not (bytes_eq x u)) ys) (once-push ts t) ∙ filter-with_name x t (once ts)
+
+-- the texts one after another, each added where it is new, are each text once
+pub fold-with_name : (ts us : List (List ℕ)) → fold with_name (once ts) us ≡ once (ts ++ us)
+fold-with_name ts [] = ap once (sym (append-nil ts))
+fold-with_name ts (u ∷ us) =
+    ap (λ names. fold with_name names us) (sym (once-push ts u)) ∙ fold-with_name (ts ++ u ∷ []) us ∙ ap once (append_assoc ts (u ∷ []) us)
+
+pub added_once : (us : List (List ℕ)) → fold with_name [] us ≡ once us
+unfolding once
+added_once us = fold-with_name [] us

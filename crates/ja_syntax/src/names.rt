@@ -1,0 +1,70 @@
+//! Names, each once.
+
+ghost use Rattle.std.specs.Prelude.{◌≡◌, [], map, IfOk, OnOk};
+ghost use Rattle.ja_syntax.specs.Hoisted.{with_name};
+
+use ja_base::Memory;
+use ja_prim::Text16;
+use sqlite_items::Items;
+use std::alloc::Global;
+use std::collections::BTreeMap;
+use std::marker::Model;
+
+/// Names, each once, in the order in which they were added. Contracts see the list of texts.
+#[derive(Drop)]
+pub(crate) struct Names<'a> {
+    texts: Vec<&'a [u16]>,
+    known: BTreeMap<&'a [u16], ()>,
+}
+
+impl<'a> Model for Names<'a> {
+    ghost use Rattle.std.specs.Prelude.{◌≡◌, ℕ, List, map, is_some};
+    ghost use Rattle.std.specs.List.{list_any};
+    ghost use Rattle.std.specs.Ordering.{nat_cmp};
+    ghost use Rattle.std.specs.Cmp.Lexicographic.{slice_cmp};
+    ghost use Rattle.std.specs.BTreeMap.{get_by};
+    ghost use Rattle.std.specs.Str.{bytes_eq};
+
+    ghost Value = { List (List ℕ) };
+
+    ghost view = { λ n. map (λ t. t.now) n.texts.items };
+
+    ghost invariant = { λ n. (t : List ℕ) → is_some (get_by (λ k. slice_cmp nat_cmp t k.now) n.known) ≡ list_any (bytes_eq t) (map (λ u. u.now) n.texts.items) };
+}
+
+impl<'a> Names<'a> {
+    /// No names.
+    pub(crate) fn new(alloc: Global) -> Self
+        ensures { result ≡ [] }
+    {
+        Names {
+            texts: Vec::new(alloc),
+            known: BTreeMap::new(alloc),
+        }
+    }
+
+    /// Adds a name, if it isn't one yet.
+    pub(crate) fn add(&mut self, text: &'a [u16]) -> Result<(), Memory>
+        ensures { OnOk result (self.new ≡ with_name self.old text.now) }
+    {
+        if self.known.contains_key(text) {
+            return Ok(());
+        }
+        self.texts.reserve(1)?;
+        self.known.insert(text, ())?;
+        self.texts.push(text)?;
+        Ok(())
+    }
+
+    /// The texts of the names, in memory of their own.
+    pub(crate) fn texts(&self, alloc: Global) -> Result<Items<Text16>, Memory>
+        ensures { IfOk result (λ texts. texts ≡ self.now) }
+    {
+        let mut texts = Items::new(alloc);
+        for text in &self.texts {
+            let units = Vec::from_slice(alloc, text)?;
+            texts.push(Text16::from_units(units))?;
+        }
+        Ok(texts)
+    }
+}

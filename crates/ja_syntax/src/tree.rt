@@ -1,0 +1,316 @@
+//! The tree of a program's text (ES3 sections 11 to 14). Parentheses, and semicolons that were
+//! inserted, leave no trace in it. Left-associative operators and the suffixes of a member or call
+//! are lists.
+
+use ja_base::Place;
+use ja_prim::{Int, Primitive, Text16};
+use sqlite_items::{Boxed, Items};
+
+/// An identifier (7.6), and where it stands.
+#[derive(Drop)]
+pub struct Name {
+    pub text: Text16,
+    pub place: Place,
+}
+
+/// `delete`, `void`, `typeof`, `+`, `-`, `~` and `!` before an operand (11.4).
+#[derive(Clone, Copy, Debug, PartialEq, Eq)]
+pub enum UnaryOperator {
+    Delete,
+    Void,
+    Typeof,
+    Plus,
+    Minus,
+    Complement,
+    Not,
+}
+
+/// `++` and `--`, before or behind an operand (11.3, 11.4.4, 11.4.5).
+#[derive(Clone, Copy, Debug, PartialEq, Eq)]
+pub enum UpdateOperator {
+    IncrementBefore,
+    DecrementBefore,
+    IncrementBehind,
+    DecrementBehind,
+}
+
+/// An operator between two operands (11.5 to 11.11).
+#[derive(Clone, Copy, Debug, PartialEq, Eq)]
+pub enum BinaryOperator {
+    Times,
+    Divide,
+    Remainder,
+    Plus,
+    Minus,
+    ShiftLeft,
+    ShiftRight,
+    ShiftRightUnsigned,
+    Less,
+    Greater,
+    LessEqual,
+    GreaterEqual,
+    Instanceof,
+    In,
+    Equal,
+    NotEqual,
+    StrictEqual,
+    StrictNotEqual,
+    BitAnd,
+    BitXor,
+    BitOr,
+    And,
+    Or,
+}
+
+/// An operator, at `place`, and its right operand.
+#[derive(Drop)]
+pub struct Operation<E> {
+    pub operator: BinaryOperator,
+    pub right: E,
+    pub place: Place,
+}
+
+/// What stands behind a member or call (11.2): `.NAME` with the place of `.`, `[key]` with that of
+/// `[`, `(arguments)` with that of `(`.
+#[derive(Drop)]
+pub enum Suffix<E> {
+    Member { name: Name, place: Place },
+    Index { key: E, place: Place },
+    Call { arguments: Items<E>, place: Place },
+}
+
+/// The name of a property in an object literal (11.1.5).
+#[derive(Drop)]
+pub enum PropertyName {
+    Word(Text16),
+    Text(Text16),
+    Number(Int),
+}
+
+/// A property of an object literal; `place` is that of its name.
+#[derive(Drop)]
+pub struct Property<E> {
+    pub name: PropertyName,
+    pub value: E,
+    pub place: Place,
+}
+
+/// A function (13): a declaration or an expression. `place` is that of the word `function`.
+#[derive(Drop)]
+pub struct FunctionOf<S> {
+    pub name: Option<Name>,
+    pub parameters: Items<Name>,
+    pub body: Items<S>,
+    pub place: Place,
+}
+
+/// A function over the statements of this tree.
+pub type FunctionTree = FunctionOf<Statement>;
+
+/// An expression (11). The place of an operator that is a field stands beside it; any other place
+/// is that of the expression's first token, an opening parenthesis among them.
+#[cycle(tree)]
+#[derive(Drop)]
+pub enum Expression {
+    This {
+        place: Place,
+    },
+    Name(Name),
+    /// `null`, `true`, `false`, a number or a string.
+    Literal {
+        value: Primitive,
+        place: Place,
+    },
+    /// `None` is a hole (11.1.4).
+    Array {
+        elements: Items<Option<Expression>>,
+        place: Place,
+    },
+    Object {
+        properties: Items<Property<Expression>>,
+        place: Place,
+    },
+    Function(FunctionOf<Statement>),
+    /// A head and one or more suffixes, the innermost first.
+    Chain {
+        head: Boxed<Expression>,
+        suffixes: Items<Suffix<Expression>>,
+    },
+    /// `new callee(arguments)`, or `new callee` without arguments.
+    New {
+        callee: Boxed<Expression>,
+        arguments: Items<Expression>,
+        place: Place,
+    },
+    Unary {
+        operator: UnaryOperator,
+        operand: Boxed<Expression>,
+        place: Place,
+    },
+    /// `place` is that of the operator.
+    Update {
+        operator: UpdateOperator,
+        operand: Boxed<Expression>,
+        place: Place,
+    },
+    /// A first operand and one or more operations of one level of precedence, in the order of the
+    /// text.
+    Binary {
+        first: Boxed<Expression>,
+        operations: Items<Operation<Expression>>,
+        place: Place,
+    },
+    Conditional {
+        condition: Boxed<Expression>,
+        then: Boxed<Expression>,
+        otherwise: Boxed<Expression>,
+        place: Place,
+    },
+    /// `target = value`, or `target operator= value`; `place` is that of the operator.
+    Assign {
+        target: Boxed<Expression>,
+        operator: Option<BinaryOperator>,
+        value: Boxed<Expression>,
+        place: Place,
+    },
+    /// Two or more expressions between commas.
+    Sequence {
+        first: Boxed<Expression>,
+        others: Items<Expression>,
+        place: Place,
+    },
+}
+
+/// The value of a declared variable; `place` is that of `=`.
+#[derive(Drop)]
+pub struct Initialiser<E> {
+    pub value: E,
+    pub place: Place,
+}
+
+/// A variable of a `var` (12.2).
+#[derive(Drop)]
+pub struct Declaration<E> {
+    pub name: Name,
+    pub initialiser: Option<Initialiser<E>>,
+}
+
+/// What stands before the first `;` of a `for` (12.6.3).
+#[derive(Drop)]
+pub enum ForFirst<E> {
+    Nothing,
+    Expression(E),
+    Variables(Items<Declaration<E>>),
+}
+
+/// What a `for`-`in` writes (12.6.4).
+#[derive(Drop)]
+pub enum ForTarget<E> {
+    Variable(Declaration<E>),
+    Reference(E),
+}
+
+/// A clause of a `switch` (12.11); without a test it is `default`. `place` is that of its word.
+#[cycle(tree)]
+#[derive(Drop)]
+pub struct Case {
+    pub test: Option<Expression>,
+    pub body: Items<Statement>,
+    pub place: Place,
+}
+
+/// The `catch` of a `try` (12.14).
+#[derive(Drop)]
+pub struct CatchOf<S> {
+    pub parameter: Name,
+    pub body: Items<S>,
+}
+
+/// A statement (12), or a function declaration (13). `place` is that of its first token.
+#[cycle(tree)]
+#[derive(Drop)]
+pub enum Statement {
+    Block {
+        body: Items<Statement>,
+        place: Place,
+    },
+    Variables {
+        declarations: Items<Declaration<Expression>>,
+        place: Place,
+    },
+    Empty {
+        place: Place,
+    },
+    Expression {
+        value: Expression,
+        place: Place,
+    },
+    If {
+        condition: Expression,
+        then: Boxed<Statement>,
+        otherwise: Option<Boxed<Statement>>,
+        place: Place,
+    },
+    Do {
+        body: Boxed<Statement>,
+        condition: Expression,
+        place: Place,
+    },
+    While {
+        condition: Expression,
+        body: Boxed<Statement>,
+        place: Place,
+    },
+    For {
+        first: ForFirst<Expression>,
+        condition: Option<Expression>,
+        update: Option<Expression>,
+        body: Boxed<Statement>,
+        place: Place,
+    },
+    ForIn {
+        target: ForTarget<Expression>,
+        object: Expression,
+        body: Boxed<Statement>,
+        place: Place,
+    },
+    Continue {
+        label: Option<Name>,
+        place: Place,
+    },
+    Break {
+        label: Option<Name>,
+        place: Place,
+    },
+    Return {
+        value: Option<Expression>,
+        place: Place,
+    },
+    /// The label has the place of the statement.
+    Labelled {
+        label: Name,
+        body: Boxed<Statement>,
+    },
+    Switch {
+        value: Expression,
+        cases: Items<Case>,
+        place: Place,
+    },
+    Throw {
+        value: Expression,
+        place: Place,
+    },
+    Try {
+        block: Items<Statement>,
+        catch: Option<CatchOf<Statement>>,
+        finally: Option<Items<Statement>>,
+        place: Place,
+    },
+    Function(FunctionOf<Statement>),
+}
+
+/// The tree of a program (14).
+#[derive(Drop)]
+pub struct Tree {
+    pub statements: Items<Statement>,
+}
