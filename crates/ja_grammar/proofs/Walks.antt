@@ -1,0 +1,104 @@
+-- From a reading that gave a value to what each of its parts gave, part by part; and entering a label.
+use Rattle.std.proofs.Common.{◌≡◌, ◌≢◌, ℕ, zero, suc, ◌<◌, ◌∷◌, if◌then◌else◌, refl, sym, ap, ◌∙◌, subst, le_trans, arith}
+use Rattle.std.proofs.Math.Dec.{eqb-suc-zero}
+use Rattle.ja_base.specs.declared.ids.Place.{Place}
+use Rattle.ja_lex.specs.declared.token.Token.{Token}
+use Rattle.ja_syntax.specs.declared.symbol.Symbol.{Symbol}
+use Rattle.ja_syntax.specs.declared.symbol.Symbol.TheVariants.{End}
+use Rattle.ja_grammar.specs.declared.fault.Refusal.TheVariants.{DeepLabel}
+use Rattle.ja_grammar.specs.Input.{Tokens, head, next, behind, Outcome, Done, Refused, Parser, and_then, refuse, take_token, enter, opening, expect}
+use Rattle.ja_grammar.specs.Productions.{Is}
+use Rattle.ja_grammar.specs.ReadStatement.{enter_label}
+use Rattle.ja_grammar.proofs.Opening.{opening_inverse}
+use Rattle.ja_grammar.proofs.Outcomes.{same_done, refused_not_done, cons_of, then_inverse, expect_inverse, enter_done, entered}
+use Rattle.ja_grammar.proofs.Shrinks.{TakesAt, behind_shrinks}
+
+-- the same outcome, its rest written otherwise
+pub moved : {A : Type 0} {o : Outcome A} {a : A} {i j : Tokens} → o ≡ Done a i → i ≡ j → o ≡ Done a j
+moved {o = o} {a = a} e h = subst (λ x. o ≡ Done a x) h e
+
+-- the value and the rest are these
+pub finish : {A : Type 0} {a v : A} {i r : Tokens} (P : A → Tokens → Type 0) → Done a i ≡ Done v r → P a i → P v r
+finish P e h = same_done P e h
+
+-- the first part gave a value, and the rest of the rule went on
+pub after : {A B : Type 0} (o : Outcome A) {f : A → Parser B} {v : B} {r : Tokens} {P : Type 0} → and_then o f ≡ Done v r
+    → ((a : A) (m : Tokens) → o ≡ Done a m → f a m ≡ Done v r → P) → P
+after o {f} e go = let s = then_inverse o f e in go s.0 s.1 s.2 s.3
+
+-- tokens that begin with this symbol
+pub begins : (P : Tokens → Type 0) (κ : Symbol) (i : Tokens) → κ ≢ End → next i ≡ κ → ((t : Token) (m : Tokens) → Is κ t → P (t ∷ m)) → P i
+begins P κ i more h go = subst P (sym (cons_of i (λ ends. more (sym h ∙ ends)))) (go (head i) (behind i) h)
+
+-- a rule that begins with an opening token
+pub after_opening : {B : Type 0} (d : ℕ) (κ : Symbol) {f : Token → Parser B} (P : Tokens → Type 0) (i : Tokens) {v : B} {r : Tokens} → κ ≢ End
+    → and_then (opening d κ i) f ≡ Done v r → ((t : Token) (m : Tokens) → Is κ t → 0 < d → f t m ≡ Done v r → P (t ∷ m)) → P i
+after_opening d κ {f} P i more e go =
+    let s = then_inverse (opening d κ i) f e in
+    let t = opening_inverse d κ i more s.2 in
+    subst P (sym t.1) (go s.0 s.1 t.2 t.0 s.3)
+
+-- a rule that begins with a token of this symbol
+pub after_first : {B : Type 0} (κ : Symbol) {f : Token → Parser B} (P : Tokens → Type 0) (i : Tokens) {v : B} {r : Tokens} → κ ≢ End
+    → and_then (expect κ i) f ≡ Done v r → ((t : Token) (m : Tokens) → Is κ t → f t m ≡ Done v r → P (t ∷ m)) → P i
+after_first κ {f} P i more e go =
+    let s = then_inverse (expect κ i) f e in
+    let t = expect_inverse κ i more s.2 in
+    subst P (sym t.0) (go s.0 s.1 t.1 s.3)
+
+-- a token of this symbol inside a rule
+pub after_expect : {B : Type 0} (κ : Symbol) {f : Token → Parser B} (i : Tokens) {v : B} {r : Tokens} {P : Type 0} → κ ≢ End
+    → and_then (expect κ i) f ≡ Done v r → ((t : Token) (m : Tokens) → i ≡ t ∷ m → Is κ t → f t m ≡ Done v r → P) → P
+after_expect κ {f} i more e go =
+    let s = then_inverse (expect κ i) f e in
+    let t = expect_inverse κ i more s.2 in
+    go s.0 s.1 t.0 t.1 s.3
+
+-- an opening token inside a rule
+pub after_open : {B : Type 0} (d : ℕ) (κ : Symbol) {f : Token → Parser B} (i : Tokens) {v : B} {r : Tokens} {P : Type 0} → κ ≢ End
+    → and_then (opening d κ i) f ≡ Done v r → ((t : Token) (m : Tokens) → i ≡ t ∷ m → Is κ t → 0 < d → f t m ≡ Done v r → P) → P
+after_open d κ {f} i more e go =
+    let s = then_inverse (opening d κ i) f e in
+    let t = opening_inverse d κ i more s.2 in
+    go s.0 s.1 t.1 t.2 t.0 s.3
+
+-- a token that counts
+pub after_enter : {B : Type 0} (d : ℕ) (t : Token) (i : Tokens) (f : Token → Parser B) {v : B} {r : Tokens} {P : Type 0}
+    → and_then (enter d (t ∷ i)) f ≡ Done v r → (0 < d → f t i ≡ Done v r → P) → P
+after_enter d t i f e go =
+    let s = then_inverse (enter d (t ∷ i)) f e in
+    let some : 0 < d = entered d (t ∷ i) s.2 in
+    go some (sym (ap (λ o. and_then o f) (enter_done d t i some)) ∙ e)
+
+-- what takes a token behind the next one takes a token
+pub behind_takes : {A : Type 0} {p q : Parser A} (i : Tokens) → TakesAt q (behind i) → p i ≡ q (behind i) → TakesAt p i
+behind_takes i h e = record { takes = λ a r at. le_trans (h.takes a r (sym e ∙ at)) (behind_shrinks i) }
+
+-- what reads the same here takes as much
+pub same_takes : {A : Type 0} {p q : Parser A} (i : Tokens) → TakesAt q i → p i ≡ q i → TakesAt p i
+same_takes i h e = record { takes = λ a r at. h.takes a r (sym e ∙ at) }
+
+-- ---- the `:` of a label
+
+pub enter_label_is : (d : ℕ) (place : Place) → 0 < d → enter_label d place ≡ take_token
+unfolding enter_label
+enter_label_is zero place some = absurd (omega arith)
+enter_label_is (suc d) place some = λ n. λ i. if eqb-suc-zero d n then Refused (DeepLabel place) i else Done (head i) (behind i)
+
+pub enter_label_zero : (place : Place) → enter_label 0 place ≡ refuse (DeepLabel place)
+unfolding enter_label
+enter_label_zero place = refl
+
+pub enter_label_done : (d : ℕ) (place : Place) (t : Token) (r : Tokens) → 0 < d → enter_label d place (t ∷ r) ≡ Done t r
+enter_label_done d place t r some = ap (λ p. p (t ∷ r)) (enter_label_is d place some)
+
+pub labelled_entered : (d : ℕ) (place : Place) (i : Tokens) {t : Token} {r : Tokens} → enter_label d place i ≡ Done t r → 0 < d
+labelled_entered zero place i e = absurd (refused_not_done (ap (λ p. p i) (sym (enter_label_zero place)) ∙ e))
+labelled_entered (suc d) place i e = omega arith
+
+pub after_label : {B : Type 0} (d : ℕ) (place : Place) (t : Token) (i : Tokens) (f : Token → Parser B) {v : B} {r : Tokens} {P : Type 0}
+    → and_then (enter_label d place (t ∷ i)) f ≡ Done v r → (0 < d → f t i ≡ Done v r → P) → P
+after_label d place t i f e go =
+    let s = then_inverse (enter_label d place (t ∷ i)) f e in
+    let some : 0 < d = labelled_entered d place (t ∷ i) s.2 in
+    go some (sym (ap (λ o. and_then o f) (enter_label_done d place t i some)) ∙ e)

@@ -1,0 +1,10 @@
+pub mod Contexts
+pub mod ExpressionGrammar
+pub mod Forms
+pub mod Input
+pub mod Language
+pub mod Operators
+pub mod Productions
+pub mod ReadExpression
+pub mod ReadStatement
+pub mod StatementGrammar

@@ -1,0 +1,11 @@
+//! The grammar of programs (ES3 sections 11 to 14, with semicolons inserted by 7.9): what a text of
+//! the language is, and where any other text is refused.
+#![tactic(auto)]
+
+mod context;
+mod fault;
+mod part;
+
+pub use context::{Context, Label};
+pub use fault::{ParseFault, Refusal, Stop};
+pub use part::{ExpressionPart, StatementPart};
