@@ -1,5 +1,9 @@
-pub mod Digits
-pub mod Steps
-pub mod Laws
-pub mod Faults
-pub mod Cut
+pub mod Cases
+pub mod Keywords
+pub mod Levels
+pub mod Marks
+pub mod Operators
+pub mod References
+pub mod Sequences
+pub mod Turns
+pub mod Variables

@@ -1,5 +1,5 @@
-pub mod Words
-pub mod Tokens
-pub mod Grammar
-pub mod Refusal
-pub mod Reading
+pub mod Clauses
+pub mod Cursor
+pub mod Marks
+pub mod Nests
+pub mod Taking

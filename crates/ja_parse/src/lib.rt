@@ -1,17 +1,25 @@
-//! From a program's text to its tree.
+//! Reads the tokens of a program into its tree (ES3 sections 11 to 14), by recursive descent.
 #![tactic(auto)]
 
-mod fault;
-mod lexer;
-mod parser;
+mod block;
+mod choice;
+mod context;
+mod cursor;
+mod expression;
+mod grammar;
+mod iteration;
+mod jump;
+mod list;
+mod literal;
+mod name;
+mod operator;
+mod program;
+mod reader;
+mod reference;
+mod statement;
+mod tree;
+
+pub use reader::parse;
+
 #[cfg(test)]
 mod tests;
-mod token;
-mod tree;
-mod words;
-
-pub use fault::ParseFault;
-pub use parser::parse;
-pub use token::{Symbol, Token};
-pub use tree::{Operand, Statement, Target};
-pub use words::EXCLUDED;

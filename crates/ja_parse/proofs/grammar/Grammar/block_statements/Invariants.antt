@@ -1,0 +1,12 @@
+use Rattle.std.proofs.Common.{◌≡◌, ◌-◌}
+use Rattle.ja_grammar.specs.Input.{until}
+use Rattle.ja_parse.proofs.Turns.{until_from}
+use Rattle.ja_grammar.specs.ReadExpression as spec
+use Rattle.ja_grammar.specs.ReadStatement.{below}
+use Rattle.ja_grammar.specs.declared.part.StatementPart.TheVariants as of_statement
+use Rattle.ja_grammar.specs.Contexts.{context_of}
+use Rattle.std.proofs.Common.{false}
+use Rattle.ja_parse.proofs.grammar.Grammar.block_statements.Given as goal
+
+abbrev pub invariant-loop-turn : goal.invariant-loop-turn
+invariant-loop-turn g l = until spec.is_close_brace ((below l.self.depth).statement (context_of l.context) (of_statement.Whole 0 false)) l.fn.cursor ≡ until_from spec.is_close_brace ((below l.self.depth).statement (context_of l.context) (of_statement.Whole 0 false)) (l._turn-end - l._turn) l.found l.cursor

@@ -1,0 +1,25 @@
+use Rattle.ja_parse.proofs.Turns.{passed, until_start, until_stop, until_none, until_more, until_error}
+use Rattle.ja_grammar.specs.Forms as forms
+use Rattle.ja_grammar.specs.ReadStatement.{below}
+use Rattle.ja_grammar.specs.declared.part.StatementPart.TheVariants as of_statement
+use Rattle.ja_grammar.specs.Contexts.{context_of}
+use Rattle.std.proofs.Common.{false}
+use Rattle.ja_parse.proofs.grammar.Grammar.clause_statements.Goals as goal
+
+pub loop-turn-init : goal.loop-turn-init
+loop-turn-init g c =
+    rw c.new-found.ensures (until_start forms.ends_clause ((below c.args.self.now.depth).statement (context_of c.args.context.now) (of_statement.Whole 0 false)) _ c.args.cursor.now c.left-turn-end.ensures)
+
+pub returns-then-ends_clause : goal.returns-then-ends_clause
+returns-then-ends_clause g c = until_stop forms.ends_clause ((below c.args.self.now.depth).statement (context_of c.args.context.now) (of_statement.Whole 0 false)) _ _ _ _ c.loop-turn.invariant (cc (c.symbol.ensures, c.ends_clause.ensures, c.if-ends_clause.true))
+
+pub returns-in_err-item : goal.returns-in_err-item
+returns-in_err-item g c =
+    passed _ _ _ _ c.from_residual.ensures (until_error forms.ends_clause ((below c.args.self.now.depth).statement (context_of c.args.context.now) (of_statement.Whole 0 false)) _ _ _ _ _ _ _ c.loop-turn.invariant c.loop-turn-test.true (cc (c.symbol.ensures, c.ends_clause.ensures, c.if-ends_clause.false)) c.in_err-item.ensures)
+
+pub loop-turn-preserved : goal.loop-turn-preserved
+loop-turn-preserved g c =
+    rw c.in_ok-push.ensures.ok (until_more forms.ends_clause ((below c.args.self.now.depth).statement (context_of c.args.context.now) (of_statement.Whole 0 false)) _ _ _ _ _ _ _ c.loop-turn.invariant c.loop-turn-test.true (cc (c.symbol.ensures, c.ends_clause.ensures, c.if-ends_clause.false)) c.in_ok-item.ensures)
+
+pub returns : goal.returns
+returns g c = until_none forms.ends_clause ((below c.args.self.now.depth).statement (context_of c.args.context.now) (of_statement.Whole 0 false)) _ _ _ _ _ c.loop-turn.invariant c.loop-turn-test.false

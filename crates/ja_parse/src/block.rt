@@ -1,0 +1,252 @@
+//! Blocks, declared variables and the ends of statements (ES3 12.1, 12.2, 7.9).
+
+ghost use Rattle.std.specs.Prelude.{zero, true, false};
+ghost use Rattle.ja_syntax.specs.declared.symbol.Symbol.TheVariants as k;
+ghost use Rattle.ja_grammar.specs.Contexts.{context_of};
+ghost use Rattle.ja_grammar.specs.Contexts as contexts;
+ghost use Rattle.ja_grammar.specs.Forms as forms;
+ghost use Rattle.ja_grammar.specs.Input.{Follows, head, next, separated, until};
+ghost use Rattle.ja_grammar.specs.ReadExpression as expressions;
+ghost use Rattle.ja_grammar.specs.ReadStatement as spec;
+ghost use Rattle.ja_grammar.specs.ReadStatement.{below};
+ghost use Rattle.ja_grammar.specs.declared.part.ExpressionPart.TheVariants as of_expression;
+ghost use Rattle.ja_grammar.specs.declared.part.StatementPart.TheVariants as part;
+ghost use Rattle.ja_parse.specs.Nests.{Nests};
+
+use crate::cursor::Cursor;
+use crate::grammar::Grammar;
+use crate::name::declared;
+use crate::operator::{ends_clause, is_close_brace};
+use ja_grammar::{Context, ExpressionPart, Refusal, StatementPart, Stop};
+use ja_syntax::{Declaration, Expression, Initialiser, Statement, Symbol};
+use sqlite_items::Items;
+use std::alloc::Global;
+
+/// Ends a statement: takes `;`, or inserts it before `}`, the text's end or a new line (7.9).
+#[tactic(auto, unfolding(ja_grammar::specs::ReadStatement::ended))]
+pub fn ended(cursor: &mut Cursor<'_>) -> Result<(), Stop>
+    ensures { Follows (spec.ended cursor.old) result cursor.new }
+{
+    match cursor.symbol() {
+        Symbol::Semicolon => {
+            cursor.take();
+            Ok(())
+        }
+        Symbol::CloseBrace => Ok(()),
+        Symbol::End => Ok(()),
+        _ => {
+            if cursor.line_before() {
+                Ok(())
+            } else {
+                Err(Stop::Refused(Refusal::Unexpected))
+            }
+        }
+    }
+}
+
+impl<
+    F: Fn(Global, &mut Cursor<'_>, usize, ExpressionPart) -> Result<Expression, Stop>,
+    G: Fn(Global, &mut Cursor<'_>, usize, &Context<'_>, StatementPart) -> Result<Statement, Stop>,
+> Grammar<F, G> {
+    /// Reads the statements of a block.
+    fn block_statements(
+        &self,
+        cursor: &mut Cursor<'_>,
+        context: &Context<'_>,
+    ) -> Result<Items<Statement>, Stop>
+        requires { Nests self.now.depth (F.pre self.now.expression) (F.post self.now.expression) (G.pre self.now.statement) (G.post self.now.statement) }
+        ensures { Follows (until expressions.is_close_brace ((below self.now.depth).statement (context_of context.now) (part.Whole 0 false)) cursor.old) result cursor.new }
+    {
+        let mut found = Items::new(self.alloc);
+        for _turn in 0..cursor.left() {
+            if is_close_brace(cursor.symbol()) {
+                return Ok(found);
+            }
+            let item = self.statement_below(
+                cursor,
+                context,
+                StatementPart::Whole {
+                    labels: 0,
+                    outermost: false,
+                },
+            )?;
+            found.push(item)?;
+        }
+        Ok(found)
+    }
+
+    /// Reads a block with its braces (12.1).
+    #[tactic(auto, unfolding(ja_grammar::specs::ReadStatement::block))]
+    pub fn block(
+        &self,
+        cursor: &mut Cursor<'_>,
+        context: &Context<'_>,
+    ) -> Result<Items<Statement>, Stop>
+        requires { Nests self.now.depth (F.pre self.now.expression) (F.post self.now.expression) (G.pre self.now.statement) (G.post self.now.statement) }
+        ensures { Follows (spec.block self.now.depth (below self.now.depth) (context_of context.now) cursor.old) result cursor.new }
+    {
+        cursor.opening(self.depth, Symbol::OpenBrace)?;
+        let found = self.block_statements(cursor, context)?;
+        cursor.expect(Symbol::CloseBrace)?;
+        Ok(found)
+    }
+
+    /// Reads the statements of a clause of a `switch`.
+    pub fn clause_statements(
+        &self,
+        cursor: &mut Cursor<'_>,
+        context: &Context<'_>,
+    ) -> Result<Items<Statement>, Stop>
+        requires { Nests self.now.depth (F.pre self.now.expression) (F.post self.now.expression) (G.pre self.now.statement) (G.post self.now.statement) }
+        ensures { Follows (until forms.ends_clause ((below self.now.depth).statement (context_of context.now) (part.Whole 0 false)) cursor.old) result cursor.new }
+    {
+        let mut found = Items::new(self.alloc);
+        for _turn in 0..cursor.left() {
+            if ends_clause(cursor.symbol()) {
+                return Ok(found);
+            }
+            let item = self.statement_below(
+                cursor,
+                context,
+                StatementPart::Whole {
+                    labels: 0,
+                    outermost: false,
+                },
+            )?;
+            found.push(item)?;
+        }
+        Ok(found)
+    }
+
+    /// Reads an expression in parentheses, behind the word of a statement.
+    #[tactic(auto, unfolding(ja_grammar::specs::ReadStatement::bracketed))]
+    pub fn bracketed(&self, cursor: &mut Cursor<'_>) -> Result<Expression, Stop>
+        requires { Nests self.now.depth (F.pre self.now.expression) (F.post self.now.expression) (G.pre self.now.statement) (G.post self.now.statement) }
+        ensures { Follows (spec.bracketed self.now.depth (below self.now.depth) cursor.old) result cursor.new }
+    {
+        cursor.opening(self.depth, Symbol::OpenParenthesis)?;
+        let x = self.expression_below(cursor, ExpressionPart::Whole { no_in: false })?;
+        cursor.expect(Symbol::CloseParenthesis)?;
+        Ok(x)
+    }
+
+    /// Reads a declared variable and its value (12.2).
+    #[tactic(auto, unfolding(ja_grammar::specs::ReadStatement::variable))]
+    fn variable(&self, cursor: &mut Cursor<'_>) -> Result<Declaration<Expression>, Stop>
+        requires { Nests self.now.depth (F.pre self.now.expression) (F.post self.now.expression) (G.pre self.now.statement) (G.post self.now.statement) }
+        ensures { Follows (spec.variable (expressions.assignment self.now.depth (below self.now.depth) false) cursor.old) result cursor.new }
+    {
+        let name = declared(self.alloc, cursor)?;
+        match cursor.symbol() {
+            Symbol::Assign => {
+                let place = cursor.place();
+                cursor.take();
+                let value = self.assignment(cursor, false)?;
+                Ok(Declaration {
+                    name,
+                    initialiser: Some(Initialiser { value, place }),
+                })
+            }
+            _ => Ok(Declaration {
+                name,
+                initialiser: None,
+            }),
+        }
+    }
+
+    /// Reads a variable declared in the head of a `for`, and its value (12.6).
+    #[tactic(auto, unfolding(ja_grammar::specs::ReadStatement::variable))]
+    fn for_variable(&self, cursor: &mut Cursor<'_>) -> Result<Declaration<Expression>, Stop>
+        requires { Nests self.now.depth (F.pre self.now.expression) (F.post self.now.expression) (G.pre self.now.statement) (G.post self.now.statement) }
+        ensures { Follows (spec.variable ((below self.now.depth).expression (of_expression.Assignment true)) cursor.old) result cursor.new }
+    {
+        let name = declared(self.alloc, cursor)?;
+        match cursor.symbol() {
+            Symbol::Assign => {
+                let place = cursor.place();
+                cursor.take();
+                let value = self.expression_below(
+                    cursor,
+                    ExpressionPart::Assignment { no_in: true },
+                )?;
+                Ok(Declaration {
+                    name,
+                    initialiser: Some(Initialiser { value, place }),
+                })
+            }
+            _ => Ok(Declaration {
+                name,
+                initialiser: None,
+            }),
+        }
+    }
+
+    /// Reads declared variables with commas between.
+    fn declarations(&self, cursor: &mut Cursor<'_>) -> Result<Items<Declaration<Expression>>, Stop>
+        requires { Nests self.now.depth (F.pre self.now.expression) (F.post self.now.expression) (G.pre self.now.statement) (G.post self.now.statement) }
+        ensures { Follows (separated (spec.variable (expressions.assignment self.now.depth (below self.now.depth) false)) cursor.old) result cursor.new }
+    {
+        let mut found = Items::new(self.alloc);
+        let first = self.variable(cursor)?;
+        found.push(first)?;
+        for _turn in 0..cursor.left() {
+            if !cursor.sees(Symbol::Comma) {
+                return Ok(found);
+            }
+            cursor.take();
+            let item = self.variable(cursor)?;
+            found.push(item)?;
+        }
+        Ok(found)
+    }
+
+    /// Reads the variables declared in the head of a `for`, with commas between.
+    pub fn for_declarations(
+        &self,
+        cursor: &mut Cursor<'_>,
+    ) -> Result<Items<Declaration<Expression>>, Stop>
+        requires { Nests self.now.depth (F.pre self.now.expression) (F.post self.now.expression) (G.pre self.now.statement) (G.post self.now.statement) }
+        ensures { Follows (separated (spec.variable ((below self.now.depth).expression (of_expression.Assignment true))) cursor.old) result cursor.new }
+    {
+        let mut found = Items::new(self.alloc);
+        let first = self.for_variable(cursor)?;
+        found.push(first)?;
+        for _turn in 0..cursor.left() {
+            if !cursor.sees(Symbol::Comma) {
+                return Ok(found);
+            }
+            cursor.take();
+            let item = self.for_variable(cursor)?;
+            found.push(item)?;
+        }
+        Ok(found)
+    }
+
+    /// Reads a `var` statement (12.2).
+    #[tactic(auto, unfolding(ja_grammar::specs::ReadStatement::variables))]
+    pub fn variables(&self, cursor: &mut Cursor<'_>) -> Result<Statement, Stop>
+        requires { Nests self.now.depth (F.pre self.now.expression) (F.post self.now.expression) (G.pre self.now.statement) (G.post self.now.statement) }
+        ensures { Follows (spec.variables self.now.depth (below self.now.depth) cursor.old) result cursor.new }
+    {
+        let place = cursor.place();
+        cursor.take();
+        let declarations = self.declarations(cursor)?;
+        ended(cursor)?;
+        Ok(Statement::Variables {
+            declarations,
+            place,
+        })
+    }
+
+    /// Reads an expression statement (12.4).
+    #[tactic(auto, unfolding(ja_grammar::specs::ReadStatement::expression_statement))]
+    pub fn expression_statement(&self, cursor: &mut Cursor<'_>) -> Result<Statement, Stop>
+        requires { Nests self.now.depth (F.pre self.now.expression) (F.post self.now.expression) (G.pre self.now.statement) (G.post self.now.statement) }
+        ensures { Follows (spec.expression_statement self.now.depth (below self.now.depth) cursor.old) result cursor.new }
+    {
+        let place = cursor.place();
+        let value = self.whole(cursor, false)?;
+        ended(cursor)?;
+        Ok(Statement::Expression { value, place })
+    }
+}

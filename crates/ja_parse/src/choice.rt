@@ -1,0 +1,279 @@
+//! `switch`, `try` and `if` (ES3 12.5, 12.11, 12.14).
+
+ghost use Rattle.std.specs.Prelude.{zero, true, false};
+ghost use Rattle.ja_syntax.specs.declared.symbol.Symbol.TheVariants as k;
+ghost use Rattle.ja_grammar.specs.Contexts.{context_of};
+ghost use Rattle.ja_grammar.specs.Contexts as contexts;
+ghost use Rattle.ja_grammar.specs.Forms as forms;
+ghost use Rattle.ja_grammar.specs.Input.{Follows, head, next, separated, until};
+ghost use Rattle.ja_grammar.specs.ReadExpression as expressions;
+ghost use Rattle.ja_grammar.specs.ReadStatement as spec;
+ghost use Rattle.ja_grammar.specs.ReadStatement.{below};
+ghost use Rattle.ja_grammar.specs.declared.part.ExpressionPart.TheVariants as of_expression;
+ghost use Rattle.ja_grammar.specs.declared.part.StatementPart.TheVariants as part;
+ghost use Rattle.ja_parse.specs.Nests.{Nests};
+ghost use Rattle.ja_parse.specs.Clauses.{clauses_behind, try_behind_catch, try_whole};
+
+use crate::context::switch_context;
+use crate::cursor::Cursor;
+use crate::grammar::Grammar;
+use crate::name::declared;
+use crate::tree::if_of;
+use ja_base::Place;
+use ja_grammar::{Context, ExpressionPart, Refusal, StatementPart, Stop};
+use ja_syntax::{Case, CatchOf, Expression, Statement, Symbol};
+use sqlite_items::Items;
+use std::alloc::Global;
+
+impl<
+    F: Fn(Global, &mut Cursor<'_>, usize, ExpressionPart) -> Result<Expression, Stop>,
+    G: Fn(Global, &mut Cursor<'_>, usize, &Context<'_>, StatementPart) -> Result<Statement, Stop>,
+> Grammar<F, G> {
+    /// Reads the `:` and the statements of a clause.
+    #[tactic(auto, unfolding(ja_grammar::specs::ReadStatement::clause))]
+    fn clause(
+        &self,
+        cursor: &mut Cursor<'_>,
+        context: &Context<'_>,
+    ) -> Result<Items<Statement>, Stop>
+        requires { Nests self.now.depth (F.pre self.now.expression) (F.post self.now.expression) (G.pre self.now.statement) (G.post self.now.statement) }
+        ensures { Follows (spec.clause self.now.depth (below self.now.depth) (context_of context.now) cursor.old) result cursor.new }
+    {
+        cursor.expect(Symbol::Colon)?;
+        self.clause_statements(cursor, context)
+    }
+
+    /// Reads a clause with a test.
+    #[tactic(auto, unfolding(ja_grammar::specs::ReadStatement::case))]
+    fn case(&self, cursor: &mut Cursor<'_>, context: &Context<'_>) -> Result<Case, Stop>
+        requires { Nests self.now.depth (F.pre self.now.expression) (F.post self.now.expression) (G.pre self.now.statement) (G.post self.now.statement) }
+        ensures { Follows (spec.case self.now.depth (below self.now.depth) (context_of context.now) cursor.old) result cursor.new }
+    {
+        let place = cursor.place();
+        cursor.take();
+        let test = self.expression_below(cursor, ExpressionPart::Whole { no_in: false })?;
+        let body = self.clause(cursor, context)?;
+        Ok(Case {
+            test: Some(test),
+            body,
+            place,
+        })
+    }
+
+    /// Reads a `default` clause.
+    #[tactic(auto, unfolding(ja_grammar::specs::ReadStatement::default))]
+    fn default_case(&self, cursor: &mut Cursor<'_>, context: &Context<'_>) -> Result<Case, Stop>
+        requires { Nests self.now.depth (F.pre self.now.expression) (F.post self.now.expression) (G.pre self.now.statement) (G.post self.now.statement) }
+        ensures { Follows (spec.default self.now.depth (below self.now.depth) (context_of context.now) cursor.old) result cursor.new }
+    {
+        let place = cursor.place();
+        cursor.take();
+        let body = self.clause(cursor, context)?;
+        Ok(Case {
+            test: None,
+            body,
+            place,
+        })
+    }
+
+    /// Reads the clauses of a `switch` and its `}`.
+    fn clauses(&self, cursor: &mut Cursor<'_>, context: &Context<'_>) -> Result<Items<Case>, Stop>
+        requires { Nests self.now.depth (F.pre self.now.expression) (F.post self.now.expression) (G.pre self.now.statement) (G.post self.now.statement) }
+        ensures { Follows (clauses_behind self.now.depth (below self.now.depth) (context_of context.now) cursor.old) result cursor.new }
+    {
+        let mut found = Items::new(self.alloc);
+        let mut defaulted = false;
+        for _turn in 0..cursor.left() {
+            match cursor.symbol() {
+                Symbol::CloseBrace => {
+                    cursor.take();
+                    return Ok(found);
+                }
+                Symbol::Case => {
+                    let item = self.case(cursor, context)?;
+                    found.push(item)?;
+                    continue;
+                }
+                Symbol::Default => {
+                    if defaulted {
+                        return Err(Stop::Refused(Refusal::Unexpected));
+                    }
+                }
+                _ => return Err(Stop::Refused(Refusal::Unexpected)),
+            }
+            let last = self.default_case(cursor, context)?;
+            found.push(last)?;
+            defaulted = true;
+        }
+        cursor.expect(Symbol::CloseBrace)?;
+        Ok(found)
+    }
+
+    /// Reads the clauses of a `switch` with their braces.
+    #[tactic(auto, unfolding(ja_grammar::specs::ReadStatement::cases, crate::specs::Clauses::clauses_behind))]
+    fn cases(&self, cursor: &mut Cursor<'_>, context: &Context<'_>) -> Result<Items<Case>, Stop>
+        requires { Nests self.now.depth (F.pre self.now.expression) (F.post self.now.expression) (G.pre self.now.statement) (G.post self.now.statement) }
+        ensures { Follows (spec.cases self.now.depth (below self.now.depth) (context_of context.now) cursor.old) result cursor.new }
+    {
+        cursor.opening(self.depth, Symbol::OpenBrace)?;
+        self.clauses(cursor, context)
+    }
+
+    /// Reads a `switch` statement (12.11).
+    #[tactic(auto, unfolding(ja_grammar::specs::ReadStatement::switch))]
+    pub fn switch_statement(
+        &self,
+        cursor: &mut Cursor<'_>,
+        context: &Context<'_>,
+    ) -> Result<Statement, Stop>
+        requires { Nests self.now.depth (F.pre self.now.expression) (F.post self.now.expression) (G.pre self.now.statement) (G.post self.now.statement) }
+        ensures { Follows (spec.switch self.now.depth (below self.now.depth) (context_of context.now) cursor.old) result cursor.new }
+    {
+        let place = cursor.place();
+        cursor.take();
+        let value = self.bracketed(cursor)?;
+        let inner = switch_context(self.alloc, context)?;
+        let cases = self.cases(cursor, &inner)?;
+        Ok(Statement::Switch {
+            value,
+            cases,
+            place,
+        })
+    }
+
+    /// Reads a `catch`.
+    #[tactic(auto, unfolding(ja_grammar::specs::ReadStatement::catch))]
+    fn catch(
+        &self,
+        cursor: &mut Cursor<'_>,
+        context: &Context<'_>,
+    ) -> Result<CatchOf<Statement>, Stop>
+        requires { Nests self.now.depth (F.pre self.now.expression) (F.post self.now.expression) (G.pre self.now.statement) (G.post self.now.statement) }
+        ensures { Follows (spec.catch self.now.depth (below self.now.depth) (context_of context.now) cursor.old) result cursor.new }
+    {
+        cursor.take();
+        cursor.opening(self.depth, Symbol::OpenParenthesis)?;
+        let parameter = declared(self.alloc, cursor)?;
+        cursor.expect(Symbol::CloseParenthesis)?;
+        let body = self.block(cursor, context)?;
+        Ok(CatchOf { parameter, body })
+    }
+
+    /// Reads a `finally`.
+    #[tactic(auto, unfolding(ja_grammar::specs::ReadStatement::finally))]
+    fn finally(
+        &self,
+        cursor: &mut Cursor<'_>,
+        context: &Context<'_>,
+    ) -> Result<Items<Statement>, Stop>
+        requires { Nests self.now.depth (F.pre self.now.expression) (F.post self.now.expression) (G.pre self.now.statement) (G.post self.now.statement) }
+        ensures { Follows (spec.finally self.now.depth (below self.now.depth) (context_of context.now) cursor.old) result cursor.new }
+    {
+        cursor.take();
+        self.block(cursor, context)
+    }
+
+    /// Reads a `try` statement (12.14).
+    pub fn try_statement(
+        &self,
+        cursor: &mut Cursor<'_>,
+        context: &Context<'_>,
+    ) -> Result<Statement, Stop>
+        requires { Nests self.now.depth (F.pre self.now.expression) (F.post self.now.expression) (G.pre self.now.statement) (G.post self.now.statement) }
+        ensures { Follows (try_whole self.now.depth (below self.now.depth) (context_of context.now) cursor.old) result cursor.new }
+    {
+        let place = cursor.place();
+        cursor.take();
+        let block = self.block(cursor, context)?;
+        match cursor.symbol() {
+            Symbol::Catch => {
+                let catch = self.catch(cursor, context)?;
+                self.caught(cursor, context, block, catch, place)
+            }
+            Symbol::Finally => {
+                let finally = self.finally(cursor, context)?;
+                Ok(Statement::Try {
+                    block,
+                    catch: None,
+                    finally: Some(finally),
+                    place,
+                })
+            }
+            _ => Err(Stop::Refused(Refusal::Unexpected)),
+        }
+    }
+
+    /// Reads what stands behind the `catch` of the `try` at `place`.
+    fn caught(
+        &self,
+        cursor: &mut Cursor<'_>,
+        context: &Context<'_>,
+        block: Items<Statement>,
+        catch: CatchOf<Statement>,
+        place: Place,
+    ) -> Result<Statement, Stop>
+        requires { Nests self.now.depth (F.pre self.now.expression) (F.post self.now.expression) (G.pre self.now.statement) (G.post self.now.statement) }
+        ensures { Follows (try_behind_catch self.now.depth (below self.now.depth) (context_of context.now) place block catch cursor.old) result cursor.new }
+    {
+        match cursor.symbol() {
+            Symbol::Finally => {
+                let finally = self.finally(cursor, context)?;
+                Ok(Statement::Try {
+                    block,
+                    catch: Some(catch),
+                    finally: Some(finally),
+                    place,
+                })
+            }
+            _ => Ok(Statement::Try {
+                block,
+                catch: Some(catch),
+                finally: None,
+                place,
+            }),
+        }
+    }
+
+    /// Reads the `else` of the `if` at `place` (12.5).
+    fn if_behind(
+        &self,
+        cursor: &mut Cursor<'_>,
+        context: &Context<'_>,
+        place: Place,
+        condition: Expression,
+        then: Statement,
+    ) -> Result<Statement, Stop>
+        requires { Nests self.now.depth (F.pre self.now.expression) (F.post self.now.expression) (G.pre self.now.statement) (G.post self.now.statement) }
+        ensures { Follows (spec.else_by self.now.depth (below self.now.depth) (context_of context.now) place condition then k.Else cursor.old) result cursor.new }
+    {
+        cursor.enter(self.depth)?;
+        let otherwise = self.statement_below(
+            cursor,
+            context,
+            StatementPart::Whole {
+                labels: 0,
+                outermost: false,
+            },
+        )?;
+        Ok(if_of(self.alloc, condition, then, Some(otherwise), place)?)
+    }
+
+    /// Reads the rest of the `if` at `place` (12.5).
+    #[tactic(auto, unfolding(ja_grammar::specs::ReadStatement::if_part))]
+    pub fn if_part(
+        &self,
+        cursor: &mut Cursor<'_>,
+        context: &Context<'_>,
+        place: Place,
+    ) -> Result<Statement, Stop>
+        requires { Nests self.now.depth (F.pre self.now.expression) (F.post self.now.expression) (G.pre self.now.statement) (G.post self.now.statement) }
+        ensures { Follows (spec.if_part self.now.depth (below self.now.depth) (context_of context.now) place cursor.old) result cursor.new }
+    {
+        let condition = self.bracketed(cursor)?;
+        let then = self.single(cursor, context, 0, false)?;
+        match cursor.symbol() {
+            Symbol::Else => self.if_behind(cursor, context, place, condition, then),
+            _ => Ok(if_of(self.alloc, condition, then, None, place)?),
+        }
+    }
+}

@@ -1,0 +1,242 @@
+//! Loops (ES3 12.6).
+
+ghost use Rattle.std.specs.Prelude.{zero, true, false};
+ghost use Rattle.ja_syntax.specs.declared.symbol.Symbol.TheVariants as k;
+ghost use Rattle.ja_grammar.specs.Contexts.{context_of};
+ghost use Rattle.ja_grammar.specs.Contexts as contexts;
+ghost use Rattle.ja_grammar.specs.Forms as forms;
+ghost use Rattle.ja_grammar.specs.Input.{Follows, head, next, separated, until};
+ghost use Rattle.ja_grammar.specs.ReadExpression as expressions;
+ghost use Rattle.ja_grammar.specs.ReadStatement as spec;
+ghost use Rattle.ja_grammar.specs.ReadStatement.{below};
+ghost use Rattle.ja_grammar.specs.declared.part.ExpressionPart.TheVariants as of_expression;
+ghost use Rattle.ja_grammar.specs.declared.part.StatementPart.TheVariants as part;
+ghost use Rattle.ja_parse.specs.Nests.{Nests};
+ghost use Rattle.ja_parse.specs.Clauses.{for_behind, for_rest_behind, variables_behind};
+ghost use Rattle.ja_syntax.specs.declared.tree.ForFirst.TheVariants as first;
+
+use crate::block::ended;
+use crate::context::loop_context;
+use crate::cursor::Cursor;
+use crate::grammar::Grammar;
+use crate::reference::is_reference;
+use crate::tree::{do_of, for_in_of, for_of, while_of};
+use ja_base::Place;
+use ja_grammar::{Context, ExpressionPart, Refusal, StatementPart, Stop};
+use ja_syntax::{Declaration, Expression, ForFirst, ForTarget, Statement, Symbol};
+use sqlite_items::{Boxed, Items};
+use std::alloc::Global;
+
+impl<
+    F: Fn(Global, &mut Cursor<'_>, usize, ExpressionPart) -> Result<Expression, Stop>,
+    G: Fn(Global, &mut Cursor<'_>, usize, &Context<'_>, StatementPart) -> Result<Statement, Stop>,
+> Grammar<F, G> {
+    /// Reads the rest of the `do` at `place`, which `labels` labels stand directly before (12.6.1).
+    #[tactic(auto, unfolding(ja_grammar::specs::ReadStatement::do_part))]
+    pub fn do_part(
+        &self,
+        cursor: &mut Cursor<'_>,
+        context: &Context<'_>,
+        place: Place,
+        labels: usize,
+    ) -> Result<Statement, Stop>
+        requires { Nests self.now.depth (F.pre self.now.expression) (F.post self.now.expression) (G.pre self.now.statement) (G.post self.now.statement) }
+        ensures { Follows (spec.do_part self.now.depth (below self.now.depth) (context_of context.now) place labels cursor.old) result cursor.new }
+    {
+        let inner = loop_context(self.alloc, context, labels)?;
+        let body = self.single(cursor, &inner, 0, false)?;
+        cursor.expect(Symbol::While)?;
+        let condition = self.bracketed(cursor)?;
+        ended(cursor)?;
+        Ok(do_of(self.alloc, body, condition, place)?)
+    }
+
+    /// Reads the rest of the `while` at `place`, which `labels` labels stand directly before (12.6.2).
+    #[tactic(auto, unfolding(ja_grammar::specs::ReadStatement::while_part))]
+    pub fn while_part(
+        &self,
+        cursor: &mut Cursor<'_>,
+        context: &Context<'_>,
+        place: Place,
+        labels: usize,
+    ) -> Result<Statement, Stop>
+        requires { Nests self.now.depth (F.pre self.now.expression) (F.post self.now.expression) (G.pre self.now.statement) (G.post self.now.statement) }
+        ensures { Follows (spec.while_part self.now.depth (below self.now.depth) (context_of context.now) place labels cursor.old) result cursor.new }
+    {
+        let condition = self.bracketed(cursor)?;
+        let inner = loop_context(self.alloc, context, labels)?;
+        let body = self.single(cursor, &inner, 0, false)?;
+        Ok(while_of(self.alloc, condition, body, place)?)
+    }
+
+    /// Reads an expression, if any, and a closing token.
+    #[tactic(auto, unfolding(ja_grammar::specs::ReadStatement::optional))]
+    fn optional(&self, cursor: &mut Cursor<'_>, close: Symbol) -> Result<Option<Expression>, Stop>
+        requires { Nests self.now.depth (F.pre self.now.expression) (F.post self.now.expression) (G.pre self.now.statement) (G.post self.now.statement) }
+        ensures { Follows (spec.optional self.now.depth (below self.now.depth) close cursor.old) result cursor.new }
+    {
+        if cursor.sees(close) {
+            cursor.take();
+            return Ok(None);
+        }
+        let x = self.expression_below(cursor, ExpressionPart::Whole { no_in: false })?;
+        cursor.expect(close)?;
+        Ok(Some(x))
+    }
+
+    /// Reads what stands behind the first `;` of a `for` (12.6.3).
+    #[tactic(auto, unfolding(ja_grammar::specs::ReadStatement::for_rest))]
+    fn for_rest(
+        &self,
+        cursor: &mut Cursor<'_>,
+        context: &Context<'_>,
+        place: Place,
+        first: ForFirst<Expression>,
+    ) -> Result<Statement, Stop>
+        requires { Nests self.now.depth (F.pre self.now.expression) (F.post self.now.expression) (G.pre self.now.statement) (G.post self.now.statement) }
+        ensures { Follows (spec.for_rest self.now.depth (below self.now.depth) (context_of context.now) place first cursor.old) result cursor.new }
+    {
+        let condition = self.optional(cursor, Symbol::Semicolon)?;
+        let update = self.optional(cursor, Symbol::CloseParenthesis)?;
+        let body = self.single(cursor, context, 0, false)?;
+        Ok(for_of(self.alloc, first, condition, update, body, place)?)
+    }
+
+    /// Reads a `for`-`in` from its `in` on (12.6.4).
+    #[tactic(auto, unfolding(ja_grammar::specs::ReadStatement::in_rest))]
+    fn in_rest(
+        &self,
+        cursor: &mut Cursor<'_>,
+        context: &Context<'_>,
+        place: Place,
+        target: Boxed<ForTarget<Expression>>,
+    ) -> Result<Statement, Stop>
+        requires { Nests self.now.depth (F.pre self.now.expression) (F.post self.now.expression) (G.pre self.now.statement) (G.post self.now.statement) }
+        ensures { Follows (spec.in_rest self.now.depth (below self.now.depth) (context_of context.now) place target cursor.old) result cursor.new }
+    {
+        cursor.take();
+        let object = self.expression_below(cursor, ExpressionPart::Whole { no_in: false })?;
+        cursor.expect(Symbol::CloseParenthesis)?;
+        let body = self.single(cursor, context, 0, false)?;
+        Ok(for_in_of(self.alloc, target.into_inner(), object, body, place)?)
+    }
+
+    /// Reads a `for` from the `;` behind its variables on.
+    fn for_declared(
+        &self,
+        cursor: &mut Cursor<'_>,
+        context: &Context<'_>,
+        place: Place,
+        found: Items<Declaration<Expression>>,
+    ) -> Result<Statement, Stop>
+        requires { Nests self.now.depth (F.pre self.now.expression) (F.post self.now.expression) (G.pre self.now.statement) (G.post self.now.statement) }
+        ensures { Follows (for_rest_behind self.now.depth (below self.now.depth) (context_of context.now) place (first.Variables found) cursor.old) result cursor.new }
+    {
+        cursor.expect(Symbol::Semicolon)?;
+        self.for_rest(cursor, context, place, ForFirst::Variables(found))
+    }
+
+    /// Reads a `for` from the token behind its variables on.
+    #[tactic(auto, using(crate::proofs::Variables::variable_in, crate::proofs::Variables::variables_many, crate::proofs::Variables::variables_other))]
+    fn for_variables_behind(
+        &self,
+        cursor: &mut Cursor<'_>,
+        context: &Context<'_>,
+        place: Place,
+        mut found: Items<Declaration<Expression>>,
+    ) -> Result<Statement, Stop>
+        requires { Nests self.now.depth (F.pre self.now.expression) (F.post self.now.expression) (G.pre self.now.statement) (G.post self.now.statement) }
+        ensures { Follows (variables_behind self.now.depth (below self.now.depth) (context_of context.now) place found cursor.old) result cursor.new }
+    {
+        if found.len() == 1 {
+            return match cursor.symbol() {
+                Symbol::In => {
+                    let target = Boxed::new(self.alloc, ForTarget::Variable(found.remove(0)))?;
+                    self.in_rest(cursor, context, place, target)
+                }
+                _ => self.for_declared(cursor, context, place, found),
+            };
+        }
+        self.for_declared(cursor, context, place, found)
+    }
+
+    /// Reads a `for` from its `var` on.
+    #[tactic(auto, unfolding(ja_grammar::specs::ReadStatement::for_variables))]
+    fn for_variables(
+        &self,
+        cursor: &mut Cursor<'_>,
+        context: &Context<'_>,
+        place: Place,
+    ) -> Result<Statement, Stop>
+        requires { Nests self.now.depth (F.pre self.now.expression) (F.post self.now.expression) (G.pre self.now.statement) (G.post self.now.statement) }
+        ensures { Follows (spec.for_variables self.now.depth (below self.now.depth) (context_of context.now) place cursor.old) result cursor.new }
+    {
+        cursor.take();
+        let found = self.for_declarations(cursor)?;
+        self.for_variables_behind(cursor, context, place, found)
+    }
+
+    /// Reads a `for` whose head begins with an expression.
+    #[tactic(auto, unfolding(ja_grammar::specs::ReadStatement::for_expression))]
+    fn for_expression(
+        &self,
+        cursor: &mut Cursor<'_>,
+        context: &Context<'_>,
+        place: Place,
+    ) -> Result<Statement, Stop>
+        requires { Nests self.now.depth (F.pre self.now.expression) (F.post self.now.expression) (G.pre self.now.statement) (G.post self.now.statement) }
+        ensures { Follows (spec.for_expression self.now.depth (below self.now.depth) (context_of context.now) place cursor.old) result cursor.new }
+    {
+        let x = self.expression_below(cursor, ExpressionPart::Whole { no_in: true })?;
+        match cursor.symbol() {
+            Symbol::In => {
+                if !is_reference(&x) {
+                    return Err(Stop::Refused(Refusal::Unexpected));
+                }
+                let target = Boxed::new(self.alloc, ForTarget::Reference(x))?;
+                self.in_rest(cursor, context, place, target)
+            }
+            _ => {
+                cursor.expect(Symbol::Semicolon)?;
+                self.for_rest(cursor, context, place, ForFirst::Expression(x))
+            }
+        }
+    }
+
+    /// Reads a `for` from the token behind its `(` on.
+    fn for_head(
+        &self,
+        cursor: &mut Cursor<'_>,
+        context: &Context<'_>,
+        place: Place,
+    ) -> Result<Statement, Stop>
+        requires { Nests self.now.depth (F.pre self.now.expression) (F.post self.now.expression) (G.pre self.now.statement) (G.post self.now.statement) }
+        ensures { Follows (for_behind self.now.depth (below self.now.depth) (context_of context.now) place cursor.old) result cursor.new }
+    {
+        match cursor.symbol() {
+            Symbol::Var => self.for_variables(cursor, context, place),
+            Symbol::Semicolon => {
+                cursor.take();
+                self.for_rest(cursor, context, place, ForFirst::Nothing)
+            }
+            _ => self.for_expression(cursor, context, place),
+        }
+    }
+
+    /// Reads the rest of the `for` at `place`, which `labels` labels stand directly before (12.6.3).
+    #[tactic(auto, unfolding(ja_grammar::specs::ReadStatement::for_part))]
+    pub fn for_part(
+        &self,
+        cursor: &mut Cursor<'_>,
+        context: &Context<'_>,
+        place: Place,
+        labels: usize,
+    ) -> Result<Statement, Stop>
+        requires { Nests self.now.depth (F.pre self.now.expression) (F.post self.now.expression) (G.pre self.now.statement) (G.post self.now.statement) }
+        ensures { Follows (spec.for_part self.now.depth (below self.now.depth) (context_of context.now) place labels cursor.old) result cursor.new }
+    {
+        cursor.opening(self.depth, Symbol::OpenParenthesis)?;
+        let inner = loop_context(self.alloc, context, labels)?;
+        self.for_head(cursor, &inner, place)
+    }
+}

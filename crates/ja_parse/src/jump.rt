@@ -1,0 +1,242 @@
+//! Jumps and labels (ES3 12.7 to 12.9, 12.12, 12.13).
+
+ghost use Rattle.std.specs.Prelude.{true, false, suc};
+ghost use Rattle.ja_syntax.specs.declared.symbol.Symbol.TheVariants as k;
+ghost use Rattle.ja_grammar.specs.Contexts.{context_of};
+ghost use Rattle.ja_grammar.specs.Contexts as contexts;
+ghost use Rattle.ja_grammar.specs.Forms as forms;
+ghost use Rattle.ja_grammar.specs.Input.{Follows, head, next, separated, until};
+ghost use Rattle.ja_grammar.specs.ReadExpression as expressions;
+ghost use Rattle.ja_grammar.specs.ReadStatement as spec;
+ghost use Rattle.ja_grammar.specs.ReadStatement.{below};
+ghost use Rattle.ja_grammar.specs.declared.part.ExpressionPart.TheVariants as of_expression;
+ghost use Rattle.ja_grammar.specs.declared.part.StatementPart.TheVariants as part;
+ghost use Rattle.ja_parse.specs.Nests.{Nests};
+ghost use Rattle.ja_parse.specs.Taking.{Takes};
+
+use crate::block::ended;
+use crate::context::{has_label, has_loop, labelled_context, may_break};
+use crate::cursor::Cursor;
+use crate::grammar::Grammar;
+use crate::operator::{ends_return, is_label_behind};
+use crate::tree::labelled_of;
+use ja_base::Place;
+use ja_grammar::{Context, ExpressionPart, Refusal, StatementPart, Stop};
+use ja_syntax::{Expression, Name, Statement};
+use std::alloc::Global;
+
+/// Takes the label behind the jump at `place`, if it is `allowed`; one that is only `known` breaks
+/// a rule.
+fn allowed_label(
+    alloc: Global,
+    cursor: &mut Cursor<'_>,
+    allowed: bool,
+    known: bool,
+    place: Place,
+) -> Result<Option<Name>, Stop>
+    ensures { Follows (spec.labelled_by place (head cursor.old) allowed known cursor.old) result cursor.new }
+{
+    if allowed {
+        let name = cursor.name(alloc)?;
+        cursor.take();
+        return Ok(Some(name));
+    }
+    if known {
+        Err(Stop::Refused(Refusal::Broken(place)))
+    } else {
+        Err(Stop::Refused(Refusal::Unexpected))
+    }
+}
+
+/// Reads the label behind the `continue` at `place`, if there is one on its line (12.7).
+#[tactic(auto, unfolding(ja_grammar::specs::ReadStatement::jump_target))]
+fn continue_target(
+    alloc: Global,
+    cursor: &mut Cursor<'_>,
+    context: &Context<'_>,
+    place: Place,
+) -> Result<Option<Name>, Stop>
+    ensures { Follows (spec.jump_target (contexts.has_loop (context_of context.now)) (contexts.has_label (context_of context.now)) true place cursor.old) result cursor.new }
+{
+    if !is_label_behind(cursor) {
+        return Ok(None);
+    }
+    let word = cursor.word();
+    let allowed = has_loop(context, word);
+    let known = has_label(context, word);
+    allowed_label(alloc, cursor, allowed, known, place)
+}
+
+/// Reads the label behind the `break` at `place`, if there is one on its line (12.8).
+#[tactic(auto, unfolding(ja_grammar::specs::ReadStatement::jump_target))]
+fn break_target(
+    alloc: Global,
+    cursor: &mut Cursor<'_>,
+    context: &Context<'_>,
+    place: Place,
+) -> Result<Option<Name>, Stop>
+    ensures { Follows (spec.jump_target (contexts.has_label (context_of context.now)) (contexts.has_label (context_of context.now)) context.now.in_breakable place cursor.old) result cursor.new }
+{
+    if !is_label_behind(cursor) {
+        return if context.in_breakable {
+            Ok(None)
+        } else {
+            Err(Stop::Refused(Refusal::Broken(place)))
+        };
+    }
+    let known = has_label(context, cursor.word());
+    allowed_label(alloc, cursor, known, known, place)
+}
+
+/// Takes the `:` behind the label at `place`, which counts.
+#[tactic(auto, unfolding(ja_grammar::specs::ReadStatement::enter_label))]
+fn enter_label(cursor: &mut Cursor<'_>, depth: usize, place: Place) -> Result<(), Stop>
+    ensures { Takes (spec.enter_label depth place cursor.old) cursor.old result cursor.new }
+{
+    if depth == 0 {
+        return Err(Stop::Refused(Refusal::DeepLabel(place)));
+    }
+    cursor.take();
+    Ok(())
+}
+
+impl<
+    F: Fn(Global, &mut Cursor<'_>, usize, ExpressionPart) -> Result<Expression, Stop>,
+    G: Fn(Global, &mut Cursor<'_>, usize, &Context<'_>, StatementPart) -> Result<Statement, Stop>,
+> Grammar<F, G> {
+    /// Reads a `continue` statement (12.7).
+    pub fn continue_statement(
+        &self,
+        cursor: &mut Cursor<'_>,
+        context: &Context<'_>,
+    ) -> Result<Statement, Stop>
+        requires { Nests self.now.depth (F.pre self.now.expression) (F.post self.now.expression) (G.pre self.now.statement) (G.post self.now.statement) }
+        ensures { Follows (spec.continue_by self.now.depth (below self.now.depth) (context_of context.now) context.now.in_loop cursor.old) result cursor.new }
+    {
+        if !context.in_loop {
+            return Err(Stop::Refused(Refusal::Unexpected));
+        }
+        let place = cursor.place();
+        cursor.take();
+        let label = continue_target(self.alloc, cursor, context, place)?;
+        ended(cursor)?;
+        Ok(Statement::Continue { label, place })
+    }
+
+    /// Reads a `break` statement (12.8).
+    pub fn break_statement(
+        &self,
+        cursor: &mut Cursor<'_>,
+        context: &Context<'_>,
+    ) -> Result<Statement, Stop>
+        requires { Nests self.now.depth (F.pre self.now.expression) (F.post self.now.expression) (G.pre self.now.statement) (G.post self.now.statement) }
+        ensures { Follows (spec.break_by self.now.depth (below self.now.depth) (context_of context.now) (spec.may_break (context_of context.now)) cursor.old) result cursor.new }
+    {
+        if !may_break(context) {
+            return Err(Stop::Refused(Refusal::Unexpected));
+        }
+        let place = cursor.place();
+        cursor.take();
+        let label = break_target(self.alloc, cursor, context, place)?;
+        ended(cursor)?;
+        Ok(Statement::Break { label, place })
+    }
+
+    /// Reads the value of a `return`.
+    #[tactic(auto, unfolding(ja_grammar::specs::ReadStatement::returned))]
+    fn returned(&self, cursor: &mut Cursor<'_>) -> Result<Option<Expression>, Stop>
+        requires { Nests self.now.depth (F.pre self.now.expression) (F.post self.now.expression) (G.pre self.now.statement) (G.post self.now.statement) }
+        ensures { Follows (spec.returned self.now.depth (below self.now.depth) cursor.old) result cursor.new }
+    {
+        if ends_return(cursor) {
+            return Ok(None);
+        }
+        Ok(Some(self.whole(cursor, false)?))
+    }
+
+    /// Reads a `return` statement (12.9).
+    pub fn return_statement(
+        &self,
+        cursor: &mut Cursor<'_>,
+        context: &Context<'_>,
+    ) -> Result<Statement, Stop>
+        requires { Nests self.now.depth (F.pre self.now.expression) (F.post self.now.expression) (G.pre self.now.statement) (G.post self.now.statement) }
+        ensures { Follows (spec.return_by self.now.depth (below self.now.depth) context.now.in_function cursor.old) result cursor.new }
+    {
+        if !context.in_function {
+            return Err(Stop::Refused(Refusal::Unexpected));
+        }
+        let place = cursor.place();
+        cursor.take();
+        let value = self.returned(cursor)?;
+        ended(cursor)?;
+        Ok(Statement::Return { value, place })
+    }
+
+    /// Reads the value of a `throw`.
+    #[tactic(auto, unfolding(ja_grammar::specs::ReadStatement::thrown))]
+    fn thrown(&self, cursor: &mut Cursor<'_>) -> Result<Expression, Stop>
+        requires { Nests self.now.depth (F.pre self.now.expression) (F.post self.now.expression) (G.pre self.now.statement) (G.post self.now.statement) }
+        ensures { Follows (spec.thrown self.now.depth (below self.now.depth) cursor.old) result cursor.new }
+    {
+        if cursor.line_before() {
+            return Err(Stop::Refused(Refusal::Unexpected));
+        }
+        self.whole(cursor, false)
+    }
+
+    /// Reads a `throw` statement (12.13).
+    #[tactic(auto, unfolding(ja_grammar::specs::ReadStatement::throw))]
+    pub fn throw_statement(&self, cursor: &mut Cursor<'_>) -> Result<Statement, Stop>
+        requires { Nests self.now.depth (F.pre self.now.expression) (F.post self.now.expression) (G.pre self.now.statement) (G.post self.now.statement) }
+        ensures { Follows (spec.throw self.now.depth (below self.now.depth) cursor.old) result cursor.new }
+    {
+        let place = cursor.place();
+        cursor.take();
+        let value = self.thrown(cursor)?;
+        ended(cursor)?;
+        Ok(Statement::Throw { value, place })
+    }
+
+    /// Takes a label and its `:`.
+    #[tactic(auto, unfolding(ja_grammar::specs::ReadStatement::label))]
+    fn label(&self, cursor: &mut Cursor<'_>, context: &Context<'_>) -> Result<(), Stop>
+        requires { Nests self.now.depth (F.pre self.now.expression) (F.post self.now.expression) (G.pre self.now.statement) (G.post self.now.statement) }
+        ensures { Takes (spec.label self.now.depth (below self.now.depth) (context_of context.now) cursor.old) cursor.old result cursor.new }
+    {
+        let place = cursor.place();
+        let word = cursor.word();
+        cursor.take();
+        if has_label(context, word) {
+            return Err(Stop::Refused(Refusal::Broken(place)));
+        }
+        enter_label(cursor, self.depth, place)
+    }
+
+    /// Reads a labelled statement, which `labels` labels stand directly before (12.12).
+    #[tactic(auto, unfolding(ja_grammar::specs::ReadStatement::labelled))]
+    pub fn labelled(
+        &self,
+        cursor: &mut Cursor<'_>,
+        context: &Context<'_>,
+        labels: usize,
+    ) -> Result<Statement, Stop>
+        requires { Nests self.now.depth (F.pre self.now.expression) (F.post self.now.expression) (G.pre self.now.statement) (G.post self.now.statement) }
+        ensures { Follows (spec.labelled self.now.depth (below self.now.depth) (context_of context.now) labels cursor.old) result cursor.new }
+    {
+        let name = cursor.name(self.alloc)?;
+        let word = cursor.word();
+        self.label(cursor, context)?;
+        let inner = labelled_context(self.alloc, context, word)?;
+        // More labels than memory holds.
+        let Some(labels) = labels.checked_add(1) else {
+            return Err(Stop::Memory);
+        };
+        let part = StatementPart::Whole {
+            labels,
+            outermost: false,
+        };
+        let body = self.statement_below(cursor, &inner, part)?;
+        Ok(labelled_of(self.alloc, name, body)?)
+    }
+}

@@ -1,0 +1,172 @@
+//! Lists within expressions: the loops of the parser.
+
+ghost use Rattle.std.specs.Prelude.{zero, false, true, not, is_none};
+ghost use Rattle.ja_syntax.specs.declared.symbol.Symbol.TheVariants as k;
+ghost use Rattle.ja_grammar.specs.declared.part.ExpressionPart.TheVariants as of_expression;
+ghost use Rattle.ja_grammar.specs.declared.part.StatementPart.TheVariants as of_statement;
+ghost use Rattle.ja_grammar.specs.Contexts.{context_of};
+ghost use Rattle.ja_grammar.specs.Forms as forms;
+ghost use Rattle.ja_grammar.specs.Input.{Follows, listed, separated, until};
+ghost use Rattle.ja_grammar.specs.ReadExpression as spec;
+ghost use Rattle.ja_grammar.specs.ReadStatement.{below};
+ghost use Rattle.ja_parse.specs.Nests.{Nests};
+
+use crate::cursor::Cursor;
+use crate::grammar::Grammar;
+use crate::name::declared;
+use crate::operator::{is_close_brace, is_close_bracket};
+use ja_grammar::{Context, ExpressionPart, StatementPart, Stop};
+use ja_syntax::{Expression, Name, Property, Statement, Symbol};
+use sqlite_items::Items;
+use std::alloc::Global;
+
+/// Reads declared names with commas between.
+fn names(alloc: Global, cursor: &mut Cursor<'_>) -> Result<Items<Name>, Stop>
+    ensures { Follows (separated spec.declared cursor.old) result cursor.new }
+{
+    let mut found = Items::new(alloc);
+    let first = declared(alloc, cursor)?;
+    found.push(first)?;
+    for _turn in 0..cursor.left() {
+        if !cursor.sees(Symbol::Comma) {
+            return Ok(found);
+        }
+        cursor.take();
+        let item = declared(alloc, cursor)?;
+        found.push(item)?;
+    }
+    Ok(found)
+}
+
+/// Reads the parameters of a function and their `)`.
+#[tactic(auto, unfolding(ja_grammar::specs::Input::listed))]
+pub fn parameters(alloc: Global, cursor: &mut Cursor<'_>) -> Result<Items<Name>, Stop>
+    ensures { Follows (listed k.CloseParenthesis spec.declared cursor.old) result cursor.new }
+{
+    if cursor.sees(Symbol::CloseParenthesis) {
+        cursor.take();
+        return Ok(Items::new(alloc));
+    }
+    let found = names(alloc, cursor)?;
+    cursor.expect(Symbol::CloseParenthesis)?;
+    Ok(found)
+}
+
+impl<
+    F: Fn(Global, &mut Cursor<'_>, usize, ExpressionPart) -> Result<Expression, Stop>,
+    G: Fn(Global, &mut Cursor<'_>, usize, &Context<'_>, StatementPart) -> Result<Statement, Stop>,
+> Grammar<F, G> {
+    /// Reads the statements of a function's body.
+    pub fn body_statements(
+        &self,
+        cursor: &mut Cursor<'_>,
+        context: &Context<'_>,
+    ) -> Result<Items<Statement>, Stop>
+        requires { Nests self.now.depth (F.pre self.now.expression) (F.post self.now.expression) (G.pre self.now.statement) (G.post self.now.statement) }
+        ensures { Follows (until spec.is_close_brace ((below self.now.depth).statement (context_of context.now) (of_statement.Whole 0 true)) cursor.old) result cursor.new }
+    {
+        let mut found = Items::new(self.alloc);
+        for _turn in 0..cursor.left() {
+            if is_close_brace(cursor.symbol()) {
+                return Ok(found);
+            }
+            let item = self.statement_below(
+                cursor,
+                context,
+                StatementPart::Whole {
+                    labels: 0,
+                    outermost: true,
+                },
+            )?;
+            found.push(item)?;
+        }
+        Ok(found)
+    }
+
+    /// Reads the elements of an array literal.
+    pub fn elements(&self, cursor: &mut Cursor<'_>) -> Result<Items<Option<Expression>>, Stop>
+        requires { Nests self.now.depth (F.pre self.now.expression) (F.post self.now.expression) (G.pre self.now.statement) (G.post self.now.statement) }
+        ensures { Follows (until spec.is_close_bracket (spec.element self.now.depth (below self.now.depth)) cursor.old) result cursor.new }
+    {
+        let mut found = Items::new(self.alloc);
+        for _turn in 0..cursor.left() {
+            if is_close_bracket(cursor.symbol()) {
+                return Ok(found);
+            }
+            let item = self.element(cursor)?;
+            found.push(item)?;
+        }
+        Ok(found)
+    }
+
+    /// Reads properties with commas between.
+    fn properties_between(
+        &self,
+        cursor: &mut Cursor<'_>,
+    ) -> Result<Items<Property<Expression>>, Stop>
+        requires { Nests self.now.depth (F.pre self.now.expression) (F.post self.now.expression) (G.pre self.now.statement) (G.post self.now.statement) }
+        ensures { Follows (separated (spec.property self.now.depth (below self.now.depth)) cursor.old) result cursor.new }
+    {
+        let mut found = Items::new(self.alloc);
+        let first = self.property(cursor)?;
+        found.push(first)?;
+        for _turn in 0..cursor.left() {
+            if !cursor.sees(Symbol::Comma) {
+                return Ok(found);
+            }
+            cursor.take();
+            let item = self.property(cursor)?;
+            found.push(item)?;
+        }
+        Ok(found)
+    }
+
+    /// Reads the properties of an object literal and its `}`.
+    #[tactic(auto, unfolding(ja_grammar::specs::Input::listed))]
+    pub fn properties(&self, cursor: &mut Cursor<'_>) -> Result<Items<Property<Expression>>, Stop>
+        requires { Nests self.now.depth (F.pre self.now.expression) (F.post self.now.expression) (G.pre self.now.statement) (G.post self.now.statement) }
+        ensures { Follows (listed k.CloseBrace (spec.property self.now.depth (below self.now.depth)) cursor.old) result cursor.new }
+    {
+        if cursor.sees(Symbol::CloseBrace) {
+            cursor.take();
+            return Ok(Items::new(self.alloc));
+        }
+        let found = self.properties_between(cursor)?;
+        cursor.expect(Symbol::CloseBrace)?;
+        Ok(found)
+    }
+
+    /// Reads arguments with commas between.
+    fn arguments_between(&self, cursor: &mut Cursor<'_>) -> Result<Items<Expression>, Stop>
+        requires { Nests self.now.depth (F.pre self.now.expression) (F.post self.now.expression) (G.pre self.now.statement) (G.post self.now.statement) }
+        ensures { Follows (separated ((below self.now.depth).expression (of_expression.Assignment false)) cursor.old) result cursor.new }
+    {
+        let mut found = Items::new(self.alloc);
+        let first = self.expression_below(cursor, ExpressionPart::Assignment { no_in: false })?;
+        found.push(first)?;
+        for _turn in 0..cursor.left() {
+            if !cursor.sees(Symbol::Comma) {
+                return Ok(found);
+            }
+            cursor.take();
+            let item = self.expression_below(cursor, ExpressionPart::Assignment { no_in: false })?;
+            found.push(item)?;
+        }
+        Ok(found)
+    }
+
+    /// Reads arguments and their `)`.
+    #[tactic(auto, unfolding(ja_grammar::specs::Input::listed))]
+    pub fn arguments_list(&self, cursor: &mut Cursor<'_>) -> Result<Items<Expression>, Stop>
+        requires { Nests self.now.depth (F.pre self.now.expression) (F.post self.now.expression) (G.pre self.now.statement) (G.post self.now.statement) }
+        ensures { Follows (listed k.CloseParenthesis ((below self.now.depth).expression (of_expression.Assignment false)) cursor.old) result cursor.new }
+    {
+        if cursor.sees(Symbol::CloseParenthesis) {
+            cursor.take();
+            return Ok(Items::new(self.alloc));
+        }
+        let found = self.arguments_between(cursor)?;
+        cursor.expect(Symbol::CloseParenthesis)?;
+        Ok(found)
+    }
+}

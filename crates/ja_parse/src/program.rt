@@ -1,0 +1,74 @@
+//! The program (ES3 14), and how the parts of expressions and statements read one another.
+
+ghost use Rattle.ja_grammar.specs.Contexts.{context_of};
+ghost use Rattle.ja_grammar.specs.Input.{Follows};
+ghost use Rattle.ja_grammar.specs.ReadExpression.{expression_part};
+ghost use Rattle.ja_grammar.specs.ReadStatement as spec;
+ghost use Rattle.ja_grammar.specs.ReadStatement.{below};
+
+use crate::context::program_context;
+use crate::cursor::Cursor;
+use crate::grammar::Grammar;
+use ja_grammar::{Context, ExpressionPart, StatementPart, Stop};
+use ja_syntax::{Expression, Statement};
+use sqlite_items::Items;
+use std::alloc::Global;
+
+/// How many levels a program has.
+const MAX_LEVELS: usize = 200;
+
+/// Reads a part of an expression where `depth` levels are left.
+#[cycle(parser)]
+fn expression_at(
+    alloc: Global,
+    cursor: &mut Cursor<'_>,
+    depth: usize,
+    part: ExpressionPart,
+) -> Result<Expression, Stop>
+    ensures { Follows (expression_part depth (below depth) part cursor.old) result cursor.new }
+{
+    Grammar {
+        alloc,
+        depth,
+        expression: expression_at,
+        statement: statement_at,
+    }
+    .expression_part(cursor, part)
+}
+
+/// Reads a part of a statement where `depth` levels are left.
+#[cycle(parser)]
+fn statement_at(
+    alloc: Global,
+    cursor: &mut Cursor<'_>,
+    depth: usize,
+    context: &Context<'_>,
+    part: StatementPart,
+) -> Result<Statement, Stop>
+    ensures { Follows (spec.statement_part depth (below depth) (context_of context.now) part cursor.old) result cursor.new }
+{
+    Grammar {
+        alloc,
+        depth,
+        expression: expression_at,
+        statement: statement_at,
+    }
+    .statement_part(cursor, context, part)
+}
+
+/// Reads the statements of a program with at most 200 levels, up to the token `End`. Where the
+/// tokens are no program, the cursor stands at the first token that no program has behind those
+/// before it. `Memory` comes only where memory was refused.
+#[tactic(auto, unfolding(ja_grammar::specs::ReadStatement::program))]
+pub fn read_program(alloc: Global, cursor: &mut Cursor<'_>) -> Result<Items<Statement>, Stop>
+    ensures { Follows (spec.program 200 cursor.old) result cursor.new }
+{
+    let context = program_context(alloc);
+    Grammar {
+        alloc,
+        depth: MAX_LEVELS,
+        expression: expression_at,
+        statement: statement_at,
+    }
+    .program_statements(cursor, &context)
+}

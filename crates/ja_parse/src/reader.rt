@@ -1,0 +1,93 @@
+//! From a text to its tree, or to the place where it is refused.
+
+ghost use Rattle.std.specs.Prelude.{◌≡◌, ◌≢◌, ◌≤◌, ℕ, List, length, IfOk, IfErr, Err};
+ghost use Rattle.ja_grammar.specs.declared.fault.ParseFault.TheVariants as fault;
+ghost use Rattle.ja_grammar.specs.Input.{head};
+ghost use Rattle.ja_grammar.specs.Language.{Answers, Explains, Spells, max_levels, token_fault};
+ghost use Rattle.ja_grammar.specs.Language as spec;
+ghost use Rattle.ja_grammar.specs.ReadStatement.{program};
+ghost use Rattle.ja_lex.specs.Tokens.{tokens};
+ghost use Rattle.ja_syntax.specs.Rules.{KeepsRules};
+ghost use Rattle.ja_syntax.specs.declared.tree.Statement.{Statement as StatementOf};
+
+use crate::cursor::Cursor;
+use crate::program::read_program;
+use ja_base::{Place, ScopeKind};
+use ja_grammar::{ParseFault, Refusal, Stop};
+use ja_lex::{Token, tokens};
+use ja_syntax::{Statement, Tree};
+use sqlite_items::Items;
+use std::alloc::Global;
+
+/// A token with a kind of scope of its own is refused with it, where it stands; else a text is wrong at
+/// a place.
+fn token_fault(own: Place, place: Place, scope: Option<ScopeKind>) -> ParseFault
+    ensures { result ≡ spec.token_fault own place scope }
+{
+    match scope {
+        Some(kind) => ParseFault::Scope { kind, place: own },
+        None => ParseFault::Syntax { place },
+    }
+}
+
+/// What is answered to a refusal at the next token.
+fn fault_at(why: Refusal, cursor: &Cursor<'_>) -> ParseFault
+    ensures { result ≡ spec.fault_at why (head cursor.now) }
+{
+    let own = cursor.place();
+    match why {
+        Refusal::Unexpected => token_fault(own, own, cursor.scope()),
+        Refusal::RegExp => ParseFault::Scope {
+            kind: ScopeKind::RegExp,
+            place: own,
+        },
+        Refusal::Arguments => ParseFault::Scope {
+            kind: ScopeKind::ArgumentsName,
+            place: own,
+        },
+        Refusal::Deep => ParseFault::Depth { place: own },
+        Refusal::DeepLabel(place) => ParseFault::Depth { place },
+        Refusal::Broken(place) => token_fault(own, place, cursor.scope()),
+    }
+}
+
+/// Reads the tokens of a program.
+fn read(alloc: Global, tokens: &[Token]) -> Result<Items<Statement>, ParseFault>
+    ensures { Answers (program max_levels tokens.now) result }
+{
+    let mut cursor = Cursor::new(tokens);
+    match read_program(alloc, &mut cursor) {
+        Ok(statements) => Ok(statements),
+        Err(Stop::Refused(why)) => Err(fault_at(why, &cursor)),
+        Err(Stop::Memory) => Err(ParseFault::Memory),
+    }
+}
+
+/// The tree of a text of at most 16,777,216 bytes (ES3 sections 7 and 11 to 14): the one that the grammar
+/// relates to its tokens, which keeps the rules on trees.
+///
+/// # Errors
+///
+/// `Syntax`, `Scope` or `Depth` exactly where the text has no tree with at most 200 levels. The text is
+/// refused at the first token with which none goes on, or at its end. `Scope` where that token leaves the
+/// profile, at its place; `Depth` where more levels alone would do, at the place of the token that counts
+/// one too many; else `Syntax`, at the token's place or, where a rule is broken by what stands from an
+/// earlier word on, at that word. `Memory` where memory was refused.
+#[tactic(auto, using(ja_grammar::proofs::Theorem::answered_tree, ja_grammar::proofs::Theorem::answered_only, ja_grammar::proofs::Theorem::answered_fault, ja_grammar::proofs::Theorem::answered_none, ja_grammar::proofs::KeepsPrograms::spelled_keeps))]
+pub fn parse(alloc: Global, text: &str) -> Result<Tree, ParseFault>
+    requires { length text.now ≤ 16777216 }
+    ensures tree { IfOk result (λ tree. Spells max_levels (tokens text.now) tree.statements) }
+    ensures only { IfOk result (λ tree. (levels : ℕ) (others : List StatementOf) → Spells levels (tokens text.now) others → others ≡ tree.statements) }
+    ensures rules { IfOk result (λ tree. KeepsRules tree.statements) }
+    ensures fault { IfErr result (Explains (tokens text.now)) }
+    ensures exact { IfErr result (λ why. Answers (program max_levels (tokens text.now)) (Err why)) }
+    ensures none { IfErr result (λ why. why ≢ fault.Memory → (others : List StatementOf) → Spells max_levels (tokens text.now) others → ⊥) }
+{
+    let Ok(tokens) = tokens(alloc, text) else {
+        return Err(ParseFault::Memory);
+    };
+    match read(alloc, tokens.as_slice()) {
+        Ok(statements) => Ok(Tree { statements }),
+        Err(fault) => Err(fault),
+    }
+}

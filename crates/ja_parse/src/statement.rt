@@ -1,0 +1,164 @@
+//! Statements (ES3 12, 13) and the program (14).
+
+ghost use Rattle.std.specs.Prelude.{zero, true, false};
+ghost use Rattle.ja_syntax.specs.declared.symbol.Symbol.TheVariants as k;
+ghost use Rattle.ja_grammar.specs.Contexts.{context_of};
+ghost use Rattle.ja_grammar.specs.Contexts as contexts;
+ghost use Rattle.ja_grammar.specs.Forms as forms;
+ghost use Rattle.ja_grammar.specs.Input.{Follows, head, next, separated, until};
+ghost use Rattle.ja_grammar.specs.ReadExpression as expressions;
+ghost use Rattle.ja_grammar.specs.ReadStatement as spec;
+ghost use Rattle.ja_grammar.specs.ReadStatement.{below};
+ghost use Rattle.ja_grammar.specs.declared.part.ExpressionPart.TheVariants as of_expression;
+ghost use Rattle.ja_grammar.specs.declared.part.StatementPart.TheVariants as part;
+ghost use Rattle.ja_parse.specs.Nests.{Nests};
+
+use crate::cursor::Cursor;
+use crate::grammar::Grammar;
+use crate::operator::is_label;
+use ja_grammar::{Context, ExpressionPart, Refusal, StatementPart, Stop};
+use ja_syntax::{Expression, Statement, Symbol};
+use sqlite_items::Items;
+use std::alloc::Global;
+
+impl<
+    F: Fn(Global, &mut Cursor<'_>, usize, ExpressionPart) -> Result<Expression, Stop>,
+    G: Fn(Global, &mut Cursor<'_>, usize, &Context<'_>, StatementPart) -> Result<Statement, Stop>,
+> Grammar<F, G> {
+    /// Reads a word that counts, and what stands behind it.
+    fn headed(
+        &self,
+        cursor: &mut Cursor<'_>,
+        context: &Context<'_>,
+        part: StatementPart,
+    ) -> Result<Statement, Stop>
+        requires { Nests self.now.depth (F.pre self.now.expression) (F.post self.now.expression) (G.pre self.now.statement) (G.post self.now.statement) }
+        ensures { Follows (spec.headed self.now.depth (below self.now.depth) (context_of context.now) part cursor.old) result cursor.new }
+    {
+        cursor.enter(self.depth)?;
+        self.statement_below(cursor, context, part)
+    }
+
+    /// Reads a function declaration (13).
+    fn function_statement(
+        &self,
+        cursor: &mut Cursor<'_>,
+        outermost: bool,
+    ) -> Result<Statement, Stop>
+        requires { Nests self.now.depth (F.pre self.now.expression) (F.post self.now.expression) (G.pre self.now.statement) (G.post self.now.statement) }
+        ensures { Follows (spec.function_statement self.now.depth (below self.now.depth) outermost cursor.old) result cursor.new }
+    {
+        if !outermost {
+            return Err(Stop::Refused(Refusal::Unexpected));
+        }
+        Ok(Statement::Function(self.function(cursor, true)?))
+    }
+
+    /// Reads a block statement (12.1).
+    fn block_statement(
+        &self,
+        cursor: &mut Cursor<'_>,
+        context: &Context<'_>,
+    ) -> Result<Statement, Stop>
+        requires { Nests self.now.depth (F.pre self.now.expression) (F.post self.now.expression) (G.pre self.now.statement) (G.post self.now.statement) }
+        ensures { Follows (spec.single_by self.now.depth (below self.now.depth) (context_of context.now) 0 false (head cursor.old) k.OpenBrace cursor.old) result cursor.new }
+    {
+        let place = cursor.place();
+        let body = self.block(cursor, context)?;
+        Ok(Statement::Block { body, place })
+    }
+
+    /// Reads an empty statement (12.3).
+    fn empty_statement(&self, cursor: &mut Cursor<'_>) -> Result<Statement, Stop>
+        requires { Nests self.now.depth (F.pre self.now.expression) (F.post self.now.expression) (G.pre self.now.statement) (G.post self.now.statement) }
+        ensures { Follows (spec.single_by self.now.depth (below self.now.depth) contexts.program_context 0 false (head cursor.old) k.Semicolon cursor.old) result cursor.new }
+    {
+        let place = cursor.place();
+        cursor.take();
+        Ok(Statement::Empty { place })
+    }
+
+    /// Reads a statement, which `labels` labels stand directly before; `outermost`: it stands directly
+    /// in the program or in the body of a function.
+    #[tactic(auto, unfolding(ja_grammar::specs::ReadStatement::single))]
+    pub fn single(
+        &self,
+        cursor: &mut Cursor<'_>,
+        context: &Context<'_>,
+        labels: usize,
+        outermost: bool,
+    ) -> Result<Statement, Stop>
+        requires { Nests self.now.depth (F.pre self.now.expression) (F.post self.now.expression) (G.pre self.now.statement) (G.post self.now.statement) }
+        ensures { Follows (spec.single self.now.depth (below self.now.depth) (context_of context.now) labels outermost cursor.old) result cursor.new }
+    {
+        let place = cursor.place();
+        match cursor.symbol() {
+            Symbol::OpenBrace => self.block_statement(cursor, context),
+            Symbol::Var => self.variables(cursor),
+            Symbol::Semicolon => self.empty_statement(cursor),
+            Symbol::If => self.headed(cursor, context, StatementPart::If { place }),
+            Symbol::Do => self.headed(cursor, context, StatementPart::Do { place, labels }),
+            Symbol::While => self.headed(cursor, context, StatementPart::While { place, labels }),
+            Symbol::For => self.headed(cursor, context, StatementPart::For { place, labels }),
+            Symbol::Continue => self.continue_statement(cursor, context),
+            Symbol::Break => self.break_statement(cursor, context),
+            Symbol::Return => self.return_statement(cursor, context),
+            Symbol::Switch => self.switch_statement(cursor, context),
+            Symbol::Throw => self.throw_statement(cursor),
+            Symbol::Try => self.try_statement(cursor, context),
+            Symbol::Function => self.function_statement(cursor, outermost),
+            Symbol::Name => {
+                if is_label(cursor) {
+                    self.labelled(cursor, context, labels)
+                } else {
+                    self.expression_statement(cursor)
+                }
+            }
+            _ => self.expression_statement(cursor),
+        }
+    }
+
+    /// Reads a part of a statement.
+    #[tactic(auto, unfolding(ja_grammar::specs::ReadStatement::statement_part))]
+    pub fn statement_part(
+        &self,
+        cursor: &mut Cursor<'_>,
+        context: &Context<'_>,
+        part: StatementPart,
+    ) -> Result<Statement, Stop>
+        requires { Nests self.now.depth (F.pre self.now.expression) (F.post self.now.expression) (G.pre self.now.statement) (G.post self.now.statement) }
+        ensures { Follows (spec.statement_part self.now.depth (below self.now.depth) (context_of context.now) part cursor.old) result cursor.new }
+    {
+        match part {
+            StatementPart::Whole { labels, outermost } => self.single(
+                cursor, context, labels, outermost,
+            ),
+            StatementPart::If { place } => self.if_part(cursor, context, place),
+            StatementPart::Do { place, labels } => self.do_part(cursor, context, place, labels),
+            StatementPart::While { place, labels } => self.while_part(
+                cursor, context, place, labels,
+            ),
+            StatementPart::For { place, labels } => self.for_part(cursor, context, place, labels),
+        }
+    }
+
+    /// Reads the statements of a program.
+    pub fn program_statements(
+        &self,
+        cursor: &mut Cursor<'_>,
+        context: &Context<'_>,
+    ) -> Result<Items<Statement>, Stop>
+        requires { Nests self.now.depth (F.pre self.now.expression) (F.post self.now.expression) (G.pre self.now.statement) (G.post self.now.statement) }
+        ensures { Follows (until spec.is_end (spec.single self.now.depth (below self.now.depth) (context_of context.now) 0 true) cursor.old) result cursor.new }
+    {
+        let mut found = Items::new(self.alloc);
+        for _turn in 0..cursor.left() {
+            if cursor.sees(Symbol::End) {
+                return Ok(found);
+            }
+            let item = self.single(cursor, context, 0, true)?;
+            found.push(item)?;
+        }
+        Ok(found)
+    }
+}
