@@ -6,11 +6,11 @@ use Rattle.std.specs.Cmp.Lexicographic.{nat_list_eq_equiv}
 use lib.Chars.{codes}
 use mathlib.Core.Bool.{true≢false}
 use Rattle.std.proofs.lemmas.List.{length-map}
-use Rattle.ja_parse.specs.declared.tree.Operand.{Operand}
-use Rattle.ja_parse.specs.declared.tree.Operand.TheVariants as operand
-use Rattle.ja_parse.specs.declared.tree.Statement.{Statement}
-use Rattle.ja_parse.specs.declared.tree.Target.{Target}
-use Rattle.ja_lower.specs.Names.{builtin_names, operand_names, statement_names, once, names_of}
+use Rattle.ja_lower.specs.declared.straight.Operand.{Operand}
+use Rattle.ja_lower.specs.declared.straight.Operand.TheVariants as operand
+use Rattle.ja_lower.specs.declared.straight.Line.{Line}
+use Rattle.ja_lower.specs.declared.straight.Target.{Target}
+use Rattle.ja_lower.specs.Names.{builtin_names, operand_names, line_names, once, names_of}
 use Rattle.ja_lower.specs.Lowering.{size_of}
 use Rattle.ja_lower.proofs.SizeLemmas.{size_of-cons}
 
@@ -107,27 +107,27 @@ length-operand_names (operand.Number value place) = omega arith
 length-operand_names (operand.Name name place) = omega arith
 length-operand_names (operand.Call name place bracket) = omega arith
 
-length-statement_names : (ss : List Statement) → length (flat_map statement_names ss) ≤ size_of ss
-length-statement_names [] = omega arith
-length-statement_names (s ∷ ss) =
+length-line_names : (ss : List Line) → length (flat_map line_names ss) ≤ size_of ss
+length-line_names [] = omega arith
+length-line_names (s ∷ ss) =
     let targets = map (λ (t : Target). t.name) s.targets in
-    omega (arith, length-append (statement_names s) (flat_map statement_names ss), length-append targets (operand_names s.operand), length-map s.targets (λ (t : Target). t.name), length-operand_names s.operand, length-statement_names ss, size_of-cons s ss)
+    omega (arith, length-append (line_names s) (flat_map line_names ss), length-append targets (operand_names s.operand), length-map s.targets (λ (t : Target). t.name), length-operand_names s.operand, length-line_names ss, size_of-cons s ss)
 
-pub few_names : (ss : List Statement) → length (names_of ss) ≤ 5 + size_of ss
+pub few_names : (ss : List Line) → length (names_of ss) ≤ 5 + size_of ss
 unfolding names_of
 few_names ss =
-    let texts = flat_map statement_names ss in
-    omega (arith, length-once-le (builtin_names ++ texts), length-append builtin_names texts, length-statement_names ss)
+    let texts = flat_map line_names ss in
+    omega (arith, length-once-le (builtin_names ++ texts), length-append builtin_names texts, length-line_names ss)
 
-pub names-distinct : (ss : List Statement) (i j : ℕ) (t : List ℕ) → slice_get (names_of ss) i ≡ Some t → slice_get (names_of ss) j ≡ Some t → i ≡ j
+pub names-distinct : (ss : List Line) (i j : ℕ) (t : List ℕ) → slice_get (names_of ss) i ≡ Some t → slice_get (names_of ss) j ≡ Some t → i ≡ j
 unfolding names_of
 names-distinct ss i j t is also =
-    distinct_from_apart (once (builtin_names ++ flat_map statement_names ss)) i j t (apart-once (builtin_names ++ flat_map statement_names ss)) is also
+    distinct_from_apart (once (builtin_names ++ flat_map line_names ss)) i j t (apart-once (builtin_names ++ flat_map line_names ss)) is also
 
-pub first_name : (ss : List Statement) → slice_get (names_of ss) 0 ≡ Some (codes "name")
+pub first_name : (ss : List Line) → slice_get (names_of ss) 0 ≡ Some (codes "name")
 unfolding names_of once
 first_name ss = refl
 
-pub second_name : (ss : List Statement) → slice_get (names_of ss) 1 ≡ Some (codes "message")
+pub second_name : (ss : List Line) → slice_get (names_of ss) 1 ≡ Some (codes "message")
 unfolding names_of once
 second_name ss = refl

@@ -4,9 +4,9 @@ use Rattle.std.specs.List.{filter, flat_map, fold, list_any, position_from}
 use Rattle.std.specs.Str.{bytes_eq}
 use Rattle.std.specs.Cmp.Lexicographic.{bytes_decides, nat_list_eq_equiv}
 use Rattle.std.proofs.lemmas.List.Sums.{fold-append}
-use Rattle.ja_parse.specs.declared.tree.Statement.{Statement}
-use Rattle.ja_parse.specs.declared.tree.Target.{Target}
-use Rattle.ja_lower.specs.Names.{operand_names, statement_names, once, with_name}
+use Rattle.ja_lower.specs.declared.straight.Line.{Line}
+use Rattle.ja_lower.specs.declared.straight.Target.{Target}
+use Rattle.ja_lower.specs.Names.{operand_names, line_names, once, with_name}
 
 module _ {X : Type 0} (p : X → Bool) where
   -- a place is found where an element passes
@@ -125,9 +125,9 @@ pub fold-with_name-nil : (us : List (List ℕ)) → fold with_name [] us ≡ onc
 unfolding once
 fold-with_name-nil us = fold-with_name [] us
 
--- the names of one statement more
-pub names-more : (names new mid : List (List ℕ)) (s : Statement) (rest : List Statement) → mid ≡ fold with_name names (map (λ (t : Target). t.name) s.targets) → new ≡ fold with_name mid (operand_names s.operand) → fold with_name new (flat_map statement_names rest) ≡ fold with_name names (flat_map statement_names (s ∷ rest))
+-- the names of one line more
+pub names-more : (names new mid : List (List ℕ)) (s : Line) (rest : List Line) → mid ≡ fold with_name names (map (λ (t : Target). t.name) s.targets) → new ≡ fold with_name mid (operand_names s.operand) → fold with_name new (flat_map line_names rest) ≡ fold with_name names (flat_map line_names (s ∷ rest))
 names-more names new mid s rest targets operand =
-    let texts = flat_map statement_names rest in
-    let here : new ≡ fold with_name names (statement_names s) = operand ∙ ap (λ ns. fold with_name ns (operand_names s.operand)) targets ∙ sym (fold-append with_name names (map (λ (t : Target). t.name) s.targets) (operand_names s.operand)) in
-    ap (λ ns. fold with_name ns texts) here ∙ sym (fold-append with_name names (statement_names s) texts)
+    let texts = flat_map line_names rest in
+    let here : new ≡ fold with_name names (line_names s) = operand ∙ ap (λ ns. fold with_name ns (operand_names s.operand)) targets ∙ sym (fold-append with_name names (map (λ (t : Target). t.name) s.targets) (operand_names s.operand)) in
+    ap (λ ns. fold with_name ns texts) here ∙ sym (fold-append with_name names (line_names s) texts)

@@ -7,13 +7,13 @@ use Rattle.ja_base.specs.declared.ids.Reg.{Reg}
 use Rattle.ja_graph.specs.declared.program.Function.{Function}
 use Rattle.ja_graph.specs.declared.program.Program.{Program}
 use Rattle.ja_graph.specs.WellFormed.{IsRegister, IsDestination, IsName, IsNodeInRange}
-use Rattle.ja_parse.specs.declared.tree.Operand.{Operand}
-use Rattle.ja_parse.specs.declared.tree.Operand.TheVariants.{Number, Name, Call}
-use Rattle.ja_parse.specs.declared.tree.Statement.{Statement}
-use Rattle.ja_parse.specs.declared.tree.Target.{Target}
+use Rattle.ja_lower.specs.declared.straight.Operand.{Operand}
+use Rattle.ja_lower.specs.declared.straight.Operand.TheVariants.{Number, Name, Call}
+use Rattle.ja_lower.specs.declared.straight.Line.{Line}
+use Rattle.ja_lower.specs.declared.straight.Target.{Target}
 use Rattle.ja_lower.specs.declared.steps.Step.{Step}
 use Rattle.ja_lower.specs.Names.{name_id}
-use Rattle.ja_lower.specs.Steps.{temporary, temporaries, operand_temporaries, error_places, find_steps, operand_steps, operand_value, write_steps, statement_steps, text_steps, closing_steps}
+use Rattle.ja_lower.specs.Steps.{temporary, temporaries, operand_temporaries, error_places, find_steps, operand_steps, operand_value, write_steps, line_steps, text_steps, closing_steps}
 use Rattle.ja_lower.specs.Lowering.{error_site}
 
 -- P holds of each element
@@ -85,8 +85,8 @@ module _ (p : Program) (fn : Function) (names : List (List ℕ)) (same : names �
   operand_steps-range k site (Call name place bracket) fits low high =
       ((is_destination k (omega arith), is_name name), ((is_destination (k + 1) (omega arith), omega arith, is_name name, (low, omega arith)), ((is_destination (k + 2) (omega arith), omega arith, omega arith, (omega arith, omega arith)), tt)))
 
-  statement_steps-range : (site : ℕ) (s : Statement) → 6 + temporaries s ≤ fn.registers → length p.opening ≤ site → site + length (error_places s.operand) ≤ length p.sites → Each (InRange p fn) (statement_steps names site s)
-  statement_steps-range site s fits low high =
+  line_steps-range : (site : ℕ) (s : Line) → 6 + temporaries s ≤ fn.registers → length p.opening ≤ site → site + length (error_places s.operand) ≤ length p.sites → Each (InRange p fn) (line_steps names site s)
+  line_steps-range site s fits low high =
       let n = length s.targets in
       let value = operand_value n s.operand in
       let finds = find_steps-range 0 s.targets (omega arith) in
@@ -94,14 +94,14 @@ module _ (p : Program) (fn : Function) (names : List (List ℕ)) (same : names �
       let writes = write_steps-range value 0 s.targets (operand_value-range n s.operand (omega arith)) (omega arith) in
       each-append (InRange p fn) (find_steps names 0 s.targets) _ finds (each-append (InRange p fn) (operand_steps names n site s.operand) _ operand writes)
 
-  pub text_steps-range : (site most : ℕ) (ss : List Statement) → 6 + fold max most (map temporaries ss) ≤ fn.registers → length p.opening ≤ site → site + length (flat_map (λ (s : Statement). map error_site (error_places s.operand)) ss) ≤ length p.sites → Each (InRange p fn) (text_steps names site ss)
+  pub text_steps-range : (site most : ℕ) (ss : List Line) → 6 + fold max most (map temporaries ss) ≤ fn.registers → length p.opening ≤ site → site + length (flat_map (λ (s : Line). map error_site (error_places s.operand)) ss) ≤ length p.sites → Each (InRange p fn) (text_steps names site ss)
   text_steps-range site most [] fits low high = tt
   text_steps-range site most (s ∷ ss) fits low high =
       let places = error_places s.operand in
-      let later = flat_map (λ (t : Statement). map error_site (error_places t.operand)) ss in
+      let later = flat_map (λ (t : Line). map error_site (error_places t.operand)) ss in
       let count : length (map error_site places ++ later) ≡ length places + length later = length-append (map error_site places) later ∙ ap (λ n. n + length later) (length-map places error_site) in
       let greatest = fold-max-ge (max most (temporaries s)) (map temporaries ss) in
-      each-append (InRange p fn) (statement_steps names site s) _ (statement_steps-range site s (omega (arith, greatest)) low (omega (arith, count))) (text_steps-range (site + length places) (max most (temporaries s)) ss fits (omega arith) (omega (arith, count)))
+      each-append (InRange p fn) (line_steps names site s) _ (line_steps-range site s (omega (arith, greatest)) low (omega (arith, count))) (text_steps-range (site + length places) (max most (temporaries s)) ss fits (omega arith) (omega (arith, count)))
 
   pub closing_steps-range : 6 < fn.registers → Each (InRange p fn) closing_steps
   closing_steps-range h = (is_destination 0 (omega arith), (omega arith, (tt, tt)))

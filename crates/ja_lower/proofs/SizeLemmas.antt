@@ -1,18 +1,18 @@
--- How many statements, nodes and names there are, by the size of the statements.
+-- How many lines, nodes and names there are, by the size of the lines.
 use Rattle.std.proofs.Common.{◌≡◌, ℕ, ◌+◌, ◌*◌, ◌≤◌, List, [], ◌∷◌, ◌++◌, length, take, get_or, ◌<◌, ap, sym, ◌∙◌, arith, length-append}
 use Rattle.std.proofs.lemmas.List.Sums.{sum_by-cons, sum_by_more}
-use Rattle.ja_parse.specs.declared.tree.Operand.{Operand}
-use Rattle.ja_parse.specs.declared.tree.Operand.TheVariants.{Number, Name, Call}
-use Rattle.ja_parse.specs.declared.tree.Statement.{Statement}
-use Rattle.ja_parse.specs.declared.tree.Target.{Target}
+use Rattle.ja_lower.specs.declared.straight.Operand.{Operand}
+use Rattle.ja_lower.specs.declared.straight.Operand.TheVariants.{Number, Name, Call}
+use Rattle.ja_lower.specs.declared.straight.Line.{Line}
+use Rattle.ja_lower.specs.declared.straight.Target.{Target}
 use Rattle.ja_lower.specs.Steps.{find_steps, operand_steps, operand_value, write_steps, text_steps, error_places}
 use Rattle.ja_lower.specs.Lowering.{size_of}
 use Rattle.ja_base.specs.declared.ids.Reg.{Reg}
 
-pub size_of-cons : (s : Statement) (ss : List Statement) → size_of (s ∷ ss) ≡ length s.targets + 1 + size_of ss
-size_of-cons s ss = sum_by-cons (λ (t : Statement). length t.targets + 1) s ss
+pub size_of-cons : (s : Line) (ss : List Line) → size_of (s ∷ ss) ≡ length s.targets + 1 + size_of ss
+size_of-cons s ss = sum_by-cons (λ (t : Line). length t.targets + 1) s ss
 
-pub length-le-size_of : (ss : List Statement) → length ss ≤ size_of ss
+pub length-le-size_of : (ss : List Line) → length ss ≤ size_of ss
 length-le-size_of [] = omega arith
 length-le-size_of (s ∷ ss) = omega (arith, size_of-cons s ss, length-le-size_of ss)
 
@@ -30,8 +30,8 @@ length-operand_steps names k site (Number value place) = omega arith
 length-operand_steps names k site (Name name place) = omega arith
 length-operand_steps names k site (Call name place bracket) = omega arith
 
--- a statement has at most three nodes for each target and for itself
-pub length-text_steps : (names : List (List ℕ)) (site : ℕ) (ss : List Statement) → length (text_steps names site ss) ≤ 3 * size_of ss
+-- a line has at most three nodes for each target and for itself
+pub length-text_steps : (names : List (List ℕ)) (site : ℕ) (ss : List Line) → length (text_steps names site ss) ≤ 3 * size_of ss
 length-text_steps names site [] = omega arith
 length-text_steps names site (s ∷ ss) =
     let finds = find_steps names 0 s.targets in
@@ -47,6 +47,6 @@ length-error_places (Number value place) = omega arith
 length-error_places (Name name place) = omega arith
 length-error_places (Call name place bracket) = omega arith
 
-pub size_of-take-more : (ss : List Statement) (i : ℕ) (s : Statement) → i < length ss → s ≡ get_or ss i s → size_of (take (i + 1) ss) ≡ size_of (take i ss) + (length s.targets + 1)
+pub size_of-take-more : (ss : List Line) (i : ℕ) (s : Line) → i < length ss → s ≡ get_or ss i s → size_of (take (i + 1) ss) ≡ size_of (take i ss) + (length s.targets + 1)
 size_of-take-more ss i s within is =
-    sum_by_more (λ (t : Statement). length t.targets + 1) ss i s within ∙ ap (λ (t : Statement). size_of (take i ss) + (length t.targets + 1)) (sym is)
+    sum_by_more (λ (t : Line). length t.targets + 1) ss i s within ∙ ap (λ (t : Line). size_of (take i ss) + (length t.targets + 1)) (sym is)

@@ -16,14 +16,14 @@ use Rattle.ja_graph.specs.declared.program.Program.{Program}
 use Rattle.ja_graph.specs.Program.{object_spec, global, reference_error_prototype, type_error_prototype}
 use lib.Chars.{codes}
 use Rattle.ja_graph.specs.WellFormed.{IsInfoInRange, IsFunctionWellFormed, IsObjectWellFormed, IsWellFormed}
-use Rattle.ja_parse.specs.declared.tree.Operand.{Operand}
-use Rattle.ja_parse.specs.declared.tree.Operand.TheVariants as operand
-use Rattle.ja_parse.specs.declared.tree.Statement.{Statement}
+use Rattle.ja_lower.specs.declared.straight.Operand.{Operand}
+use Rattle.ja_lower.specs.declared.straight.Operand.TheVariants as operand
+use Rattle.ja_lower.specs.declared.straight.Line.{Line}
 use Rattle.ja_lower.specs.declared.steps.Step.{Step}
 use Rattle.ja_lower.specs.Names.{names_of}
 use Rattle.ja_lower.specs.Steps.{step, first_place, operand_temporaries, temporaries, error_places, text_steps, closing_steps}
 use Rattle.ja_lower.specs.Builtins.{builtin_sites, opening_objects, object_prototype, error_prototype, builtin_object, builtin_property, error_properties}
-use Rattle.ja_lower.specs.Lowering.{size_of, IsSmall, steps_of, next_of, linked, error_site, sites_of, text_function, program_of}
+use Rattle.ja_lower.specs.Lowering.{size_of, IsSmall, steps_of, next_of, linked, error_site, sites_of, text_function, straight_program}
 use Rattle.ja_lower.proofs.LinkLemmas.{info_at}
 use Rattle.ja_lower.proofs.RangeLemmas.{Each, each-append, each-at, InRange, text_steps-range, closing_steps-range, fold-max-ge}
 use Rattle.ja_lower.proofs.SizeLemmas.{size_of-cons, length-text_steps, length-error_places}
@@ -47,8 +47,8 @@ slice_get-append (x ∷ xs) ys i =
     let there : suc (length xs) + i ≡ suc (length xs + i) = omega arith in
     ap (slice_get (x ∷ (xs ++ ys))) there ∙ slice_get-append xs ys i
 
--- the greatest number of temporaries is below that of targets and statements, and three more
-few_temporaries : (most : ℕ) (ss : List Statement) → fold max most (map temporaries ss) ≤ max most (size_of ss + 2)
+-- the greatest number of temporaries is below that of targets and lines, and three more
+few_temporaries : (most : ℕ) (ss : List Line) → fold max most (map temporaries ss) ≤ max most (size_of ss + 2)
 few_temporaries most [] = omega arith
 few_temporaries most (s ∷ ss) =
     omega (arith, few_temporaries (max most (temporaries s)) ss, size_of-cons s ss, few (s.operand))
@@ -58,29 +58,29 @@ few_temporaries most (s ∷ ss) =
     few (operand.Name name place) = omega arith
     few (operand.Call name place bracket) = omega arith
 
--- each statement has at most two error sites
-few_errors : (ss : List Statement) → length (flat_map (λ (s : Statement). map error_site (error_places s.operand)) ss) ≤ 2 * size_of ss
+-- each line has at most two error sites
+few_errors : (ss : List Line) → length (flat_map (λ (s : Line). map error_site (error_places s.operand)) ss) ≤ 2 * size_of ss
 few_errors [] = omega arith
 few_errors (s ∷ ss) =
-    let later = flat_map (λ (t : Statement). map error_site (error_places t.operand)) ss in
+    let later = flat_map (λ (t : Line). map error_site (error_places t.operand)) ss in
     omega (arith, length-append (map error_site (error_places s.operand)) later, length-map (error_places s.operand) error_site, length-error_places s.operand, few_errors ss, size_of-cons s ss)
 
 -- the last step is Escape
-last_step : (names : List (List ℕ)) (ss : List Statement) → slice_get (steps_of names ss) (length (steps_of names ss) - 1) ≡ Some (step Escape first_place)
+last_step : (names : List (List ℕ)) (ss : List Line) → slice_get (steps_of names ss) (length (steps_of names ss) - 1) ≡ Some (step Escape first_place)
 last_step names ss =
     let front = text_steps names 5 ss in
     let last : length (front ++ closing_steps) - 1 ≡ length front + 2 = omega (arith, length-append front closing_steps) in
     ap (slice_get (front ++ closing_steps)) last ∙ slice_get-append front closing_steps 2
 
-some_steps : (names : List (List ℕ)) (ss : List Statement) → 0 < length (steps_of names ss)
+some_steps : (names : List (List ℕ)) (ss : List Line) → 0 < length (steps_of names ss)
 some_steps names ss = omega (arith, length-append (text_steps names 5 ss) closing_steps)
 
-few_steps : (names : List (List ℕ)) (ss : List Statement) → length (steps_of names ss) ≤ 3 * size_of ss + 3
+few_steps : (names : List (List ℕ)) (ss : List Line) → length (steps_of names ss) ≤ 3 * size_of ss + 3
 few_steps names ss =
     omega (arith, length-append (text_steps names 5 ss) closing_steps, length-text_steps names 5 ss)
 
 -- a node that isn't Escape isn't the last
-not_last : (names : List (List ℕ)) (ss : List Statement) (n : ℕ) (s : Step) → slice_get (steps_of names ss) n ≡ Some s → s.node ≢ Escape → n + 1 < length (steps_of names ss)
+not_last : (names : List (List ℕ)) (ss : List Line) (n : ℕ) (s : Step) → slice_get (steps_of names ss) n ≡ Some s → s.node ≢ Escape → n + 1 < length (steps_of names ss)
 not_last names ss n s is other = at (cases_lt (n + 1) (length (steps_of names ss)))
   where
     within : n < length (steps_of names ss)
@@ -106,29 +106,29 @@ next-within escape n count (Call dst callee receiver error) last other = other (
 next-within escape n count (Return src) last other = last
 next-within escape n count Escape last other = last
 
-steps-range : (ss : List Statement) → Each (InRange (program_of ss) (text_function (names_of ss) ss)) (steps_of (names_of ss) ss)
-unfolding program_of
+steps-range : (ss : List Line) → Each (InRange (straight_program ss) (text_function (names_of ss) ss)) (steps_of (names_of ss) ss)
+unfolding straight_program
 steps-range ss =
-    let p = program_of ss in
+    let p = straight_program ss in
     let fn = text_function (names_of ss) ss in
     let names = names_of ss in
     let some : 0 < length names = slice_get_within names 0 _ (first_name ss) in
-    let places = flat_map (λ (s : Statement). map error_site (error_places s.operand)) ss in
+    let places = flat_map (λ (s : Line). map error_site (error_places s.operand)) ss in
     let sites : 5 + length places ≤ length (builtin_sites ++ places) = omega (arith, length-append builtin_sites places) in
     each-append (InRange p fn) (text_steps names 5 ss) closing_steps (text_steps-range p fn names refl some 5 1 ss (omega arith) (omega arith) sites) (closing_steps-range p fn names refl some (omega (arith, fold-max-ge 1 (map temporaries ss))))
 
 -- a node with its edges, by its step
-info-range : (ss : List Statement) (n : ℕ) (info : NodeInfo) → slice_get (text_function (names_of ss) ss).nodes n ≡ Some info → IsInfoInRange (program_of ss) (text_function (names_of ss) ss) info
+info-range : (ss : List Line) (n : ℕ) (info : NodeInfo) → slice_get (text_function (names_of ss) ss).nodes n ≡ Some info → IsInfoInRange (straight_program ss) (text_function (names_of ss) ss) info
 info-range ss n info is =
     let steps = steps_of (names_of ss) ss in
     at (slice_get steps n) refl (sym (slice_get-linked (length steps - 1) 0 n steps) ∙ is)
   where
-    at : (o : Option Step) → slice_get (steps_of (names_of ss) ss) n ≡ o → option_map (info_at (length (steps_of (names_of ss) ss) - 1) (0 + n)) o ≡ Some info → IsInfoInRange (program_of ss) (text_function (names_of ss) ss) info
+    at : (o : Option Step) → slice_get (steps_of (names_of ss) ss) n ≡ o → option_map (info_at (length (steps_of (names_of ss) ss) - 1) (0 + n)) o ≡ Some info → IsInfoInRange (straight_program ss) (text_function (names_of ss) ss) info
     at None here e = absurd (cc)
     at (Some s) here e =
         let names = names_of ss in
         let steps = steps_of names ss in
-        let p = program_of ss in
+        let p = straight_program ss in
         let fn = text_function names ss in
         let escape = length steps - 1 in
         let same : info_at escape (0 + n) s ≡ info = cc in
@@ -143,7 +143,7 @@ info-range ss n info is =
           handler = omega (arith, last, count);
         })
 
-function-well_formed : (ss : List Statement) → IsSmall ss → IsFunctionWellFormed (program_of ss) (text_function (names_of ss) ss)
+function-well_formed : (ss : List Line) → IsSmall ss → IsFunctionWellFormed (straight_program ss) (text_function (names_of ss) ss)
 function-well_formed ss small =
     let names = names_of ss in
     let steps = steps_of names ss in
@@ -188,39 +188,39 @@ object-well_formed p i o two site prototype places = record {
 }
 
 -- the object of a prototype stands before
-prototype_before : (ss : List Statement) (i j : ℕ) (a s : Site) (q : ObjectSpec) → j < i → slice_get opening_objects j ≡ Some q → q.site.0 ≡ a.0 → Some a ≡ Some s → (k : ℕ) × (r : ObjectSpec) × (k < i) × (slice_get (program_of ss).opening k ≡ Some r) × (r.site.0 ≡ s.0)
-unfolding program_of
+prototype_before : (ss : List Line) (i j : ℕ) (a s : Site) (q : ObjectSpec) → j < i → slice_get opening_objects j ≡ Some q → q.site.0 ≡ a.0 → Some a ≡ Some s → (k : ℕ) × (r : ObjectSpec) × (k < i) × (slice_get (straight_program ss).opening k ≡ Some r) × (r.site.0 ≡ s.0)
+unfolding straight_program
 prototype_before ss i j a s q before is site e = let same : a ≡ s = cc in (j, q, before, is, site ∙ ap (λ (t : Site). t.0) same)
 
-two_names : (ss : List Statement) → 2 ≤ length (names_of ss)
+two_names : (ss : List Line) → 2 ≤ length (names_of ss)
 two_names ss = slice_get_within (names_of ss) 1 _ (second_name ss)
 
-objects-well_formed : (ss : List Statement) (i : ℕ) (o : ObjectSpec) → slice_get opening_objects i ≡ Some o → IsObjectWellFormed (program_of ss) i o
-unfolding program_of
+objects-well_formed : (ss : List Line) (i : ℕ) (o : ObjectSpec) → slice_get opening_objects i ≡ Some o → IsObjectWellFormed (straight_program ss) i o
+unfolding straight_program
 objects-well_formed ss zero o is =
     let same : builtin_object object_prototype None [] ≡ o = cc in
     let two = two_names ss in
-    subst (IsObjectWellFormed (program_of ss) 0) same (object-well_formed (program_of ss) 0 (builtin_object object_prototype None []) two (omega arith) (λ s e. absurd (cc)) no_properties-names)
+    subst (IsObjectWellFormed (straight_program ss) 0) same (object-well_formed (straight_program ss) 0 (builtin_object object_prototype None []) two (omega arith) (λ s e. absurd (cc)) no_properties-names)
 objects-well_formed ss (suc zero) o is =
     let object = builtin_object global (Some object_prototype) [] in
     let same : object ≡ o = cc in
-    subst (IsObjectWellFormed (program_of ss) 1) same (object-well_formed (program_of ss) 1 object (two_names ss) (omega arith) (λ s e. prototype_before ss 1 0 object_prototype s _ (omega arith) refl refl e) no_properties-names)
+    subst (IsObjectWellFormed (straight_program ss) 1) same (object-well_formed (straight_program ss) 1 object (two_names ss) (omega arith) (λ s e. prototype_before ss 1 0 object_prototype s _ (omega arith) refl refl e) no_properties-names)
 objects-well_formed ss (suc (suc zero)) o is =
     let object = builtin_object error_prototype (Some object_prototype) (error_properties (codes "Error")) in
     let same : object ≡ o = cc in
-    subst (IsObjectWellFormed (program_of ss) 2) same (object-well_formed (program_of ss) 2 object (two_names ss) (omega arith) (λ s e. prototype_before ss 2 0 object_prototype s _ (omega arith) refl refl e) (error_properties-names (codes "Error")))
+    subst (IsObjectWellFormed (straight_program ss) 2) same (object-well_formed (straight_program ss) 2 object (two_names ss) (omega arith) (λ s e. prototype_before ss 2 0 object_prototype s _ (omega arith) refl refl e) (error_properties-names (codes "Error")))
 objects-well_formed ss (suc (suc (suc zero))) o is =
     let object = builtin_object reference_error_prototype (Some error_prototype) (error_properties (codes "ReferenceError")) in
     let same : object ≡ o = cc in
-    subst (IsObjectWellFormed (program_of ss) 3) same (object-well_formed (program_of ss) 3 object (two_names ss) (omega arith) (λ s e. prototype_before ss 3 2 error_prototype s _ (omega arith) refl refl e) (error_properties-names (codes "ReferenceError")))
+    subst (IsObjectWellFormed (straight_program ss) 3) same (object-well_formed (straight_program ss) 3 object (two_names ss) (omega arith) (λ s e. prototype_before ss 3 2 error_prototype s _ (omega arith) refl refl e) (error_properties-names (codes "ReferenceError")))
 objects-well_formed ss (suc (suc (suc (suc zero)))) o is =
     let object = builtin_object type_error_prototype (Some error_prototype) (error_properties (codes "TypeError")) in
     let same : object ≡ o = cc in
-    subst (IsObjectWellFormed (program_of ss) 4) same (object-well_formed (program_of ss) 4 object (two_names ss) (omega arith) (λ s e. prototype_before ss 4 2 error_prototype s _ (omega arith) refl refl e) (error_properties-names (codes "TypeError")))
+    subst (IsObjectWellFormed (straight_program ss) 4) same (object-well_formed (straight_program ss) 4 object (two_names ss) (omega arith) (λ s e. prototype_before ss 4 2 error_prototype s _ (omega arith) refl refl e) (error_properties-names (codes "TypeError")))
 objects-well_formed ss (suc (suc (suc (suc (suc i))))) o is = absurd (cc)
 
-all_objects : (ss : List Statement) (s : ℕ) → s < length opening_objects → IsSome (object_spec (program_of ss) s)
-unfolding program_of
+all_objects : (ss : List Line) (s : ℕ) → s < length opening_objects → IsSome (object_spec (straight_program ss) s)
+unfolding straight_program
 all_objects ss zero within = refl
 all_objects ss (suc zero) within = refl
 all_objects ss (suc (suc zero)) within = refl
@@ -228,17 +228,17 @@ all_objects ss (suc (suc (suc zero))) within = refl
 all_objects ss (suc (suc (suc (suc zero)))) within = refl
 all_objects ss (suc (suc (suc (suc (suc s))))) within = absurd (omega arith)
 
-functions-well_formed : (ss : List Statement) → IsSmall ss → (f : ℕ) (fn : Function) → slice_get (program_of ss).functions f ≡ Some fn → IsFunctionWellFormed (program_of ss) fn
-unfolding program_of
+functions-well_formed : (ss : List Line) → IsSmall ss → (f : ℕ) (fn : Function) → slice_get (straight_program ss).functions f ≡ Some fn → IsFunctionWellFormed (straight_program ss) fn
+unfolding straight_program
 functions-well_formed ss small zero fn is =
     let same : text_function (names_of ss) ss ≡ fn = cc in
-    subst (IsFunctionWellFormed (program_of ss)) same (function-well_formed ss small)
+    subst (IsFunctionWellFormed (straight_program ss)) same (function-well_formed ss small)
 functions-well_formed ss small (suc f) fn is = absurd (cc)
 
-program-well_formed : (ss : List Statement) → IsSmall ss → IsWellFormed (program_of ss)
-unfolding program_of
+program-well_formed : (ss : List Line) → IsSmall ss → IsWellFormed (straight_program ss)
+unfolding straight_program
 program-well_formed ss small =
-    let errors = flat_map (λ (s : Statement). map error_site (error_places s.operand)) ss in
+    let errors = flat_map (λ (s : Line). map error_site (error_places s.operand)) ss in
     let sites = length-append builtin_sites errors in
     record {
       text = text_function (names_of ss) ss;
@@ -256,10 +256,10 @@ program-well_formed ss small =
     }
 
 -- a program with these parts is well formed
-pub well_formed_from_parts : (p : Program) (ss : List Statement) (function : Function) → p.functions ≡ function ∷ [] → function ≡ text_function (names_of ss) ss → p.sites ≡ sites_of ss → p.names ≡ names_of ss → p.opening ≡ opening_objects → IsSmall ss → IsWellFormed p
-unfolding program_of
+pub well_formed_from_parts : (p : Program) (ss : List Line) (function : Function) → p.functions ≡ function ∷ [] → function ≡ text_function (names_of ss) ss → p.sites ≡ sites_of ss → p.names ≡ names_of ss → p.opening ≡ opening_objects → IsSmall ss → IsWellFormed p
+unfolding straight_program
 well_formed_from_parts p ss function functions text sites names opening small =
-    let is : p ≡ program_of ss = λ i. record {
+    let is : p ≡ straight_program ss = λ i. record {
       functions = (functions ∙ ap (λ (f : Function). f ∷ []) text) i;
       sites = sites i;
       names = names i;

@@ -1,4 +1,4 @@
--- The program of a text.
+-- The program of a text: of its lines, where all its forms are built.
 use Rattle.std.specs.Prelude.{ℕ, ◌+◌, ◌-◌, ◌<◌, ◌^◌, max, List, [], ◌∷◌, ◌++◌, map, length, None}
 use Rattle.std.specs.List.{fold, flat_map, sum_by}
 use Rattle.ja_base.specs.declared.ids.NodeId.{NodeId}
@@ -10,23 +10,25 @@ use Rattle.ja_graph.specs.declared.program.Class.TheVariants.{Error}
 use Rattle.ja_graph.specs.declared.program.Function.{Function}
 use Rattle.ja_graph.specs.declared.program.Program.{Program}
 use Rattle.ja_graph.specs.declared.program.SiteInfo.{SiteInfo}
-use Rattle.ja_parse.specs.declared.tree.Statement.{Statement}
+use Rattle.ja_lower.specs.declared.straight.Line.{Line}
 use Rattle.ja_lower.specs.declared.steps.Step.{Step}
+use Rattle.ja_syntax.specs.declared.tree.Statement.{Statement}
+use Rattle.ja_lower.specs.Built.{lines_of}
 use Rattle.ja_lower.specs.Names.{names_of}
 use Rattle.ja_lower.specs.Steps.{temporaries, error_places, first_site, text_steps, closing_steps}
 use Rattle.ja_lower.specs.Builtins.{builtin_sites, opening_objects}
 
--- how many targets and statements there are
-abbrev pub size_of : List Statement → ℕ
-size_of statements = sum_by (λ (s : Statement). length s.targets + 1) statements
+-- how many targets and lines there are
+abbrev pub size_of : List Line → ℕ
+size_of lines = sum_by (λ (s : Line). length s.targets + 1) lines
 
--- fewer than 16,777,216 of them, so that the numbers of nodes, sites, registers and names fit
-abbrev pub IsSmall : List Statement → Type 0
-IsSmall statements = size_of statements < 2 ^ 24
+-- fewer than 33,554,432 of them, so that the numbers of nodes, sites, registers and names fit
+abbrev pub IsSmall : List Line → Type 0
+IsSmall lines = size_of lines < 2 ^ 25
 
 -- the nodes of a text in order, Escape the last
-abbrev pub steps_of : List (List ℕ) → List Statement → List Step
-steps_of names statements = text_steps names first_site statements ++ closing_steps
+abbrev pub steps_of : List (List ℕ) → List Line → List Step
+steps_of names lines = text_steps names first_site lines ++ closing_steps
 
 -- the node that follows the one with the number n: Return and Escape have none, and lead to Escape
 abbrev pub next_of : ℕ → ℕ → Node → NodeId
@@ -41,31 +43,35 @@ linked escape n (s ∷ ss) =
     record { node = s.node; next = next_of escape n s.node; handler = record { 0 = escape }; place = s.place }
     ∷ linked escape (n + 1) ss
 
--- the registers that each function has, and the temporaries of the statement that takes most
-abbrev pub registers_of : List Statement → ℕ
-registers_of statements = 6 + fold max 1 (map temporaries statements)
+-- the registers that each function has, and the temporaries of the line that takes most
+abbrev pub registers_of : List Line → ℕ
+registers_of lines = 6 + fold max 1 (map temporaries lines)
 
 -- the site of an error that a node makes
 abbrev pub error_site : Place → SiteInfo
 error_site place = record { class = Error; place = place; builtin = None }
 
 -- the sites: those of the built-in objects, then one for each node that may make an error, in the nodes' order
-abbrev pub sites_of : List Statement → List SiteInfo
-sites_of statements =
-    builtin_sites ++ flat_map (λ (s : Statement). map error_site (error_places s.operand)) statements
+abbrev pub sites_of : List Line → List SiteInfo
+sites_of lines =
+    builtin_sites ++ flat_map (λ (s : Line). map error_site (error_places s.operand)) lines
 
 -- the text as a function, by the names of the program
-abbrev pub text_function : List (List ℕ) → List Statement → Function
-text_function names statements = record {
-  registers = registers_of statements;
-  nodes = linked (length (steps_of names statements) - 1) 0 (steps_of names statements);
+abbrev pub text_function : List (List ℕ) → List Line → Function
+text_function names lines = record {
+  registers = registers_of lines;
+  nodes = linked (length (steps_of names lines) - 1) 0 (steps_of names lines);
 }
 
--- the program of a text
-unfoldable pub program_of : List Statement → Program
-program_of statements = record {
-  functions = text_function (names_of statements) statements ∷ [];
-  sites = sites_of statements;
-  names = names_of statements;
+-- the program of lines
+unfoldable pub straight_program : List Line → Program
+straight_program lines = record {
+  functions = text_function (names_of lines) lines ∷ [];
+  sites = sites_of lines;
+  names = names_of lines;
   opening = opening_objects;
 }
+
+-- the program of a tree
+unfoldable pub program_of : List Statement → Program
+program_of statements = straight_program (lines_of statements)

@@ -5,10 +5,10 @@ use Rattle.std.specs.Bool.{if◌then◌else◌}
 use Rattle.std.specs.Str.{bytes_eq}
 use lib.Chars.{codes}
 use Rattle.ja_base.specs.declared.ids.NameId.{NameId}
-use Rattle.ja_parse.specs.declared.tree.Operand.{Operand}
-use Rattle.ja_parse.specs.declared.tree.Operand.TheVariants as operand
-use Rattle.ja_parse.specs.declared.tree.Statement.{Statement}
-use Rattle.ja_parse.specs.declared.tree.Target.{Target}
+use Rattle.ja_lower.specs.declared.straight.Operand.{Operand}
+use Rattle.ja_lower.specs.declared.straight.Operand.TheVariants as operand
+use Rattle.ja_lower.specs.declared.straight.Line.{Line}
+use Rattle.ja_lower.specs.declared.straight.Target.{Target}
 
 -- names 0 to 4
 abbrev pub builtin_names : List (List ℕ)
@@ -20,9 +20,9 @@ operand_names (operand.Number value place) = []
 operand_names (operand.Name name place) = name ∷ []
 operand_names (operand.Call name place bracket) = name ∷ []
 
--- the names in a statement, in the order of their places
-abbrev pub statement_names : Statement → List (List ℕ)
-statement_names s = map (λ (t : Target). t.name) s.targets ++ operand_names s.operand
+-- the names in a line, in the order of their places
+abbrev pub line_names : Line → List (List ℕ)
+line_names s = map (λ (t : Target). t.name) s.targets ++ operand_names s.operand
 
 -- each text once, at its first place
 unfoldable pub once : List (List ℕ) → List (List ℕ)
@@ -30,8 +30,8 @@ once [] = []
 once (t ∷ ts) = t ∷ filter (λ u. not (bytes_eq t u)) (once ts)
 
 -- the names of a program
-unfoldable pub names_of : List Statement → List (List ℕ)
-names_of statements = once (builtin_names ++ flat_map statement_names statements)
+unfoldable pub names_of : List Line → List (List ℕ)
+names_of lines = once (builtin_names ++ flat_map line_names lines)
 
 -- the number of a name: its first place among the names
 abbrev pub name_id : List (List ℕ) → List ℕ → NameId

@@ -6,10 +6,10 @@ use Rattle.ja_prim.specs.declared.primitive.Num.TheVariants.{Whole}
 use Rattle.ja_prim.specs.declared.primitive.Primitive.TheVariants as primitive
 use Rattle.ja_graph.specs.declared.node.Node.{Node}
 use Rattle.ja_graph.specs.declared.node.Node.TheVariants.{Const, FindName, ReadRef, WriteRef, Call, Return, Escape}
-use Rattle.ja_parse.specs.declared.tree.Operand.{Operand}
-use Rattle.ja_parse.specs.declared.tree.Operand.TheVariants as operand
-use Rattle.ja_parse.specs.declared.tree.Statement.{Statement}
-use Rattle.ja_parse.specs.declared.tree.Target.{Target}
+use Rattle.ja_lower.specs.declared.straight.Operand.{Operand}
+use Rattle.ja_lower.specs.declared.straight.Operand.TheVariants as operand
+use Rattle.ja_lower.specs.declared.straight.Line.{Line}
+use Rattle.ja_lower.specs.declared.straight.Target.{Target}
 use Rattle.ja_lower.specs.declared.steps.Step.{Step}
 use Rattle.ja_lower.specs.Names.{name_id}
 
@@ -17,7 +17,7 @@ use Rattle.ja_lower.specs.Names.{name_id}
 abbrev pub step : Node → Place → Step
 step node place = record { node = node; place = place }
 
--- the register of a temporary of a statement, behind those that each function has
+-- the register of a temporary of a line, behind those that each function has
 abbrev pub temporary : ℕ → Reg
 temporary k = record { 0 = 6 + k }
 
@@ -27,8 +27,8 @@ operand_temporaries (operand.Number value place) = 1
 operand_temporaries (operand.Name name place) = 2
 operand_temporaries (operand.Call name place bracket) = 3
 
--- how many temporaries a statement takes
-abbrev pub temporaries : Statement → ℕ
+-- how many temporaries a line takes
+abbrev pub temporaries : Line → ℕ
 temporaries s = length s.targets + operand_temporaries s.operand
 
 -- the places of the nodes of an operand that may make an error, in order
@@ -74,24 +74,24 @@ write_steps names value k (t ∷ ts) =
 abbrev pub first_site : ℕ
 first_site = 5
 
--- the nodes of a statement, with error sites from `site` on
-abbrev pub statement_steps : List (List ℕ) → ℕ → Statement → List Step
-statement_steps names site s =
+-- the nodes of a line, with error sites from `site` on
+abbrev pub line_steps : List (List ℕ) → ℕ → Line → List Step
+line_steps names site s =
     find_steps names 0 s.targets
     ++ (operand_steps names (length s.targets) site s.operand
     ++ write_steps names (operand_value (length s.targets) s.operand) 0 s.targets)
 
--- the nodes of statements, with error sites from `site` on
-abbrev pub text_steps : List (List ℕ) → ℕ → List Statement → List Step
+-- the nodes of lines, with error sites from `site` on
+abbrev pub text_steps : List (List ℕ) → ℕ → List Line → List Step
 text_steps names site [] = []
 text_steps names site (s ∷ ss) =
-    statement_steps names site s ++ text_steps names (site + length (error_places s.operand)) ss
+    line_steps names site s ++ text_steps names (site + length (error_places s.operand)) ss
 
 -- where the text begins
 abbrev pub first_place : Place
 first_place = record { line = 1; column = 1 }
 
--- behind the statements the program ends normally; Escape is its last node
+-- behind the lines the program ends normally; Escape is its last node
 abbrev pub closing_steps : List Step
 closing_steps =
     step (Const (temporary 0) primitive.Undefined) first_place

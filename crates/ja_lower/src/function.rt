@@ -7,9 +7,9 @@ ghost use Rattle.ja_lower.specs.Lowering.{IsSmall, next_of, linked, registers_of
 use crate::builtins::builtin_sites;
 use crate::names::Names;
 use crate::steps::{Step, steps_of};
+use crate::straight::{Line, Operand};
 use ja_base::{Memory, NodeId, Place, Seq};
 use ja_graph::{Class, FIXED_REGISTERS, Function, Node, NodeInfo, SiteInfo};
-use ja_parse::{Operand, Statement};
 use std::alloc::Global;
 
 /// The node that follows the node with the number `at`; Return and Escape lead to Escape.
@@ -46,27 +46,27 @@ fn linked(alloc: Global, steps: Vec<Step>) -> Result<Seq<NodeInfo>, Memory>
     Ok(Seq::from_vec(nodes))
 }
 
-/// How many temporaries a statement takes.
-fn temporaries(statement: &Statement) -> usize
-    requires { length statement.now.targets < 2 ^ 24 }
-    ensures { result ≡ temporaries statement.now }
+/// How many temporaries a line takes.
+fn temporaries(line: &Line) -> usize
+    requires { length line.now.targets < 2 ^ 25 }
+    ensures { result ≡ temporaries line.now }
 {
-    let operand = match &statement.operand {
+    let operand = match &line.operand {
         Operand::Number { .. } => 1,
         Operand::Name { .. } => 2,
         Operand::Call { .. } => 3,
     };
-    statement.targets.len() + operand
+    line.targets.len() + operand
 }
 
 /// How many registers the text takes.
-fn registers_of(statements: &[Statement]) -> u32
-    requires { IsSmall statements.now }
-    ensures { result ≡ registers_of statements.now }
+fn registers_of(lines: &[Line]) -> u32
+    requires { IsSmall lines.now }
+    ensures { result ≡ registers_of lines.now }
 {
     let mut most = 1;
-    for statement in statements {
-        most = most.max(temporaries(statement));
+    for line in lines {
+        most = most.max(temporaries(line));
     }
     FIXED_REGISTERS + most as u32
 }
@@ -75,15 +75,15 @@ fn registers_of(statements: &[Statement]) -> u32
 pub(crate) fn text_function(
     alloc: Global,
     names: &Names,
-    statements: &[Statement],
+    lines: &[Line],
 ) -> Result<Function, Memory>
-    requires { IsSmall statements.now }
-    ensures { IfOk result (λ function. function ≡ text_function names.now statements.now) }
+    requires { IsSmall lines.now }
+    ensures { IfOk result (λ function. function ≡ text_function names.now lines.now) }
 {
-    let steps = steps_of(alloc, names, statements)?;
+    let steps = steps_of(alloc, names, lines)?;
     let nodes = linked(alloc, steps)?;
     Ok(Function {
-        registers: registers_of(statements),
+        registers: registers_of(lines),
         nodes,
     })
 }
@@ -115,12 +115,12 @@ fn push_error_sites(operand: &Operand, sites: &mut Vec<SiteInfo>) -> Result<(), 
 }
 
 /// The sites of a program.
-pub(crate) fn sites_of(alloc: Global, statements: &[Statement]) -> Result<Seq<SiteInfo>, Memory>
-    ensures { IfOk result (λ sites. sites ≡ sites_of statements.now) }
+pub(crate) fn sites_of(alloc: Global, lines: &[Line]) -> Result<Seq<SiteInfo>, Memory>
+    ensures { IfOk result (λ sites. sites ≡ sites_of lines.now) }
 {
     let mut sites = builtin_sites(alloc)?;
-    for statement in statements {
-        push_error_sites(&statement.operand, &mut sites)?;
+    for line in lines {
+        push_error_sites(&line.operand, &mut sites)?;
     }
     Ok(Seq::from_vec(sites))
 }

@@ -1,45 +1,49 @@
 //! From the tree of a text to its flow graph.
 #![tactic(auto)]
 
-ghost use Rattle.std.specs.Prelude.{◌≡◌, IfOk};
+ghost use Rattle.std.specs.Prelude.{◌≡◌, ◌<◌, ◌^◌, None, IfOk, IfErr};
 ghost use Rattle.ja_graph.specs.WellFormed.{IsWellFormed};
-ghost use Rattle.ja_lower.specs.Lowering.{IsSmall, program_of};
+ghost use Rattle.ja_lower.specs.Built.{unbuilt};
+ghost use Rattle.ja_lower.specs.Reading.{Explains};
+ghost use Rattle.ja_lower.specs.Size.{tree_size};
+ghost use Rattle.ja_lower.specs.Lowering.{program_of};
 
+mod built;
 mod builtins;
+mod excluded;
+mod fault;
 mod function;
 mod names;
+mod program;
 mod steps;
+mod straight;
 
-use crate::builtins::{builtin_names, opening_objects};
-use crate::function::{sites_of, text_function};
-use crate::names::Names;
-use ja_base::{Memory, Seq};
+use crate::built::lines_of;
+use crate::program::straight_program;
+pub use fault::LowerFault;
 use ja_graph::Program;
-use ja_parse::Statement;
+use ja_syntax::Tree;
 use std::alloc::Global;
 
-/// The program of a text, whose statements and targets together are fewer than 16,777,216. The
-/// only error is that memory was refused.
-#[tactic(auto, unfolding(crate::specs::Lowering::program_of))]
-pub fn lower(alloc: Global, statements: &[Statement]) -> Result<Program, Memory>
-    requires { IsSmall statements.now }
-    ensures program { IfOk result (λ p. p ≡ program_of statements.now) }
+/// The program of a tree all of whose forms are built. The tree's expression statements and
+/// assignments are fewer than 33,554,432, so that the numbers of nodes, sites, registers and names
+/// fit.
+///
+/// # Errors
+///
+/// `Unbuilt` exactly where a form is not built, with the place of the first one; else `Memory`,
+/// where memory was refused.
+#[tactic(auto, unfolding(crate::specs::Built::unbuilt, crate::specs::Built::lines_of, crate::specs::Lowering::program_of))]
+pub fn lower(alloc: Global, tree: &Tree) -> Result<Program, LowerFault>
+    requires { tree_size tree.now.statements < 2 ^ 25 }
+    ensures program { IfOk result (λ p. p ≡ program_of tree.now.statements) }
+    ensures built { IfOk result (λ _. unbuilt tree.now.statements ≡ None) }
     ensures well_formed { IfOk result IsWellFormed }
+    ensures fault { IfErr result (Explains tree.now.statements) }
 {
-    let builtin = builtin_names(alloc)?;
-    let mut names = Names::new(alloc);
-    names.fill(&builtin, statements)?;
-    let function = text_function(alloc, &names, statements)?;
-    let functions = vec![in alloc; function]?;
-    let sites = sites_of(alloc, statements)?;
-    let texts = names.texts(alloc)?;
-    let opening = opening_objects(alloc)?;
-    Ok(Program {
-        functions: Seq::from_vec(functions),
-        sites,
-        names: texts,
-        opening,
-    })
+    let lines = lines_of(alloc, tree.statements.as_slice())?;
+    let program = straight_program(alloc, &lines)?;
+    Ok(program)
 }
 
 #[cfg(test)]

@@ -2,11 +2,11 @@
 
 ghost use Rattle.std.specs.Prelude.{◌≡◌, ◌+◌, ◌<◌, ◌≤◌, ◌^◌, ◌++◌, [], length, map, IfOk, OnOk};
 ghost use Rattle.std.specs.List.{fold, flat_map};
-ghost use Rattle.ja_lower.specs.Names.{builtin_names, operand_names, statement_names, names_of, name_id, with_name};
+ghost use Rattle.ja_lower.specs.Names.{builtin_names, operand_names, line_names, names_of, name_id, with_name};
 ghost use Rattle.ja_lower.specs.Lowering.{IsSmall};
 
+use crate::straight::{Line, Operand, Target};
 use ja_base::{Memory, NameId, Seq};
-use ja_parse::{Operand, Statement, Target};
 use ja_prim::Text16;
 use std::alloc::Global;
 use std::collections::BTreeMap;
@@ -47,14 +47,14 @@ impl<'a> Names<'a> {
     }
 
     /// Adds the built-in names and those of the text.
-    pub fn fill(&mut self, builtin: &'a [Text16], statements: &'a [Statement]) -> Result<(), Memory>
+    pub fn fill(&mut self, builtin: &'a [Text16], lines: &'a [Line]) -> Result<(), Memory>
         requires empty { self.old ≡ [] }
         requires builtin { builtin.now ≡ builtin_names }
-        requires small { IsSmall statements.now }
-        ensures { OnOk result (self.new ≡ names_of statements.now) }
+        requires small { IsSmall lines.now }
+        ensures { OnOk result (self.new ≡ names_of lines.now) }
     {
         self.add_all(builtin)?;
-        self.add_statements(statements)?;
+        self.add_lines(lines)?;
         Ok(())
     }
 
@@ -118,15 +118,15 @@ impl<'a> Names<'a> {
         }
     }
 
-    /// Adds the names of statements, in the order of their places.
-    fn add_statements(&mut self, statements: &'a [Statement]) -> Result<(), Memory>
-        requires few { length self.old < 2 ^ 24 }
-        requires small { IsSmall statements.now }
-        ensures { OnOk result (self.new ≡ fold with_name self.old (flat_map statement_names statements.now)) }
+    /// Adds the names of lines, in the order of their places.
+    fn add_lines(&mut self, lines: &'a [Line]) -> Result<(), Memory>
+        requires few { length self.old < 2 ^ 25 }
+        requires small { IsSmall lines.now }
+        ensures { OnOk result (self.new ≡ fold with_name self.old (flat_map line_names lines.now)) }
     {
-        for statement in statements {
-            self.add_targets(statement.targets.as_slice())?;
-            self.add_operand(&statement.operand)?;
+        for line in lines {
+            self.add_targets(line.targets.as_slice())?;
+            self.add_operand(&line.operand)?;
         }
         Ok(())
     }

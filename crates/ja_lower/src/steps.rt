@@ -1,13 +1,13 @@
 //! The nodes of a text in order, each with its place, before their edges are known.
 
 ghost use Rattle.std.specs.Prelude.{◌≡◌, ◌+◌, ◌<◌, ◌^◌, ◌++◌, length, IfOk, OnOk};
-ghost use Rattle.ja_lower.specs.Steps.{temporary, read_steps, error_places, find_steps, operand_steps, operand_value, write_steps, statement_steps, first_site, text_steps, closing_steps};
+ghost use Rattle.ja_lower.specs.Steps.{temporary, read_steps, error_places, find_steps, operand_steps, operand_value, write_steps, line_steps, first_site, text_steps, closing_steps};
 ghost use Rattle.ja_lower.specs.Lowering.{IsSmall};
 
 use crate::names::Names;
+use crate::straight::{Line, Operand, Target};
 use ja_base::{Memory, Place, Reg, Site};
 use ja_graph::{FIXED_REGISTERS, Node};
-use ja_parse::{Operand, Statement, Target};
 use ja_prim::{Num, Primitive};
 use std::alloc::Global;
 
@@ -18,13 +18,13 @@ pub(crate) struct Step {
     pub place: Place,
 }
 
-/// Where the nodes behind the statements stand.
+/// Where the nodes behind the lines stand.
 const FIRST_PLACE: Place = Place { line: 1, column: 1 };
 
 /// The first error site of a node, behind the sites of the built-in objects.
 const FIRST_NODE_SITE: u32 = 5;
 
-/// The register of a statement's temporary.
+/// The register of a line's temporary.
 fn temporary(k: usize) -> Reg
     requires { k < 2 ^ 31 }
     ensures { result ≡ temporary k }
@@ -45,7 +45,7 @@ pub(crate) fn error_count(operand: &Operand) -> u32
 
 /// Finds the bases of the targets, in the order of the text.
 fn find_targets(names: &Names, targets: &[Target], steps: &mut Vec<Step>) -> Result<(), Memory>
-    requires { length targets.now < 2 ^ 24 }
+    requires { length targets.now < 2 ^ 25 }
     ensures { OnOk result (steps.new.items ≡ steps.old.items ++ find_steps names.now 0 targets.now) }
 {
     for (k, target) in targets.iter().enumerate() {
@@ -70,7 +70,7 @@ fn lower_operand(
     operand: &Operand,
     steps: &mut Vec<Step>,
 ) -> Result<Reg, Memory>
-    requires temporaries { first < 2 ^ 24 }
+    requires temporaries { first < 2 ^ 25 }
     requires sites { site < 2 ^ 31 }
     ensures value { IfOk result (λ r. r ≡ operand_value first operand.now) }
     ensures steps { OnOk result (steps.new.items ≡ steps.old.items ++ operand_steps names.now first site operand.now) }
@@ -120,7 +120,7 @@ fn read_name(
     place: Place,
     steps: &mut Vec<Step>,
 ) -> Result<(), Memory>
-    requires temporaries { first < 2 ^ 24 }
+    requires temporaries { first < 2 ^ 25 }
     ensures { OnOk result (steps.new.items ≡ steps.old.items ++ read_steps names.now first site name.now place) }
 {
     let base = temporary(first);
@@ -146,7 +146,7 @@ fn write_targets(
     targets: &[Target],
     steps: &mut Vec<Step>,
 ) -> Result<(), Memory>
-    requires { length targets.now < 2 ^ 24 }
+    requires { length targets.now < 2 ^ 25 }
     ensures { OnOk result (steps.new.items ≡ steps.old.items ++ write_steps names.now value 0 targets.now) }
 {
     for k in (0..targets.len()).rev() {
@@ -164,42 +164,33 @@ fn write_targets(
     Ok(())
 }
 
-/// Lowers a statement, with error sites from `site` on.
-fn lower_statement(
-    names: &Names,
-    site: u32,
-    statement: &Statement,
-    steps: &mut Vec<Step>,
-) -> Result<(), Memory>
-    requires targets { length statement.now.targets < 2 ^ 24 }
+/// Lowers a line, with error sites from `site` on.
+fn lower_line(names: &Names, site: u32, line: &Line, steps: &mut Vec<Step>) -> Result<(), Memory>
+    requires targets { length line.now.targets < 2 ^ 25 }
     requires sites { site < 2 ^ 31 }
-    ensures { OnOk result (steps.new.items ≡ steps.old.items ++ statement_steps names.now site statement.now) }
+    ensures { OnOk result (steps.new.items ≡ steps.old.items ++ line_steps names.now site line.now) }
 {
-    let targets = statement.targets.as_slice();
+    let targets = line.targets.as_slice();
     find_targets(names, targets, steps)?;
-    let value = lower_operand(names, targets.len(), site, &statement.operand, steps)?;
+    let value = lower_operand(names, targets.len(), site, &line.operand, steps)?;
     write_targets(names, value, targets, steps)?;
     Ok(())
 }
 
-/// Lowers the statements, with error sites behind those of the built-in objects.
-fn lower_statements(
-    names: &Names,
-    statements: &[Statement],
-    steps: &mut Vec<Step>,
-) -> Result<(), Memory>
-    requires { IsSmall statements.now }
-    ensures { OnOk result (steps.new.items ≡ steps.old.items ++ text_steps names.now first_site statements.now) }
+/// Lowers the lines, with error sites behind those of the built-in objects.
+fn lower_lines(names: &Names, lines: &[Line], steps: &mut Vec<Step>) -> Result<(), Memory>
+    requires { IsSmall lines.now }
+    ensures { OnOk result (steps.new.items ≡ steps.old.items ++ text_steps names.now first_site lines.now) }
 {
     let mut site = FIRST_NODE_SITE;
-    for statement in statements {
-        lower_statement(names, site, statement, steps)?;
-        site += error_count(&statement.operand);
+    for line in lines {
+        lower_line(names, site, line, steps)?;
+        site += error_count(&line.operand);
     }
     Ok(())
 }
 
-/// Ends the program behind its statements.
+/// Ends the program behind its lines.
 fn close(steps: &mut Vec<Step>) -> Result<(), Memory>
     ensures { OnOk result (steps.new.items ≡ steps.old.items ++ closing_steps) }
 {
@@ -223,16 +214,12 @@ fn close(steps: &mut Vec<Step>) -> Result<(), Memory>
 }
 
 /// The nodes of a text.
-pub(crate) fn steps_of(
-    alloc: Global,
-    names: &Names,
-    statements: &[Statement],
-) -> Result<Vec<Step>, Memory>
-    requires { IsSmall statements.now }
-    ensures { IfOk result (λ steps. steps.items ≡ text_steps names.now first_site statements.now ++ closing_steps) }
+pub(crate) fn steps_of(alloc: Global, names: &Names, lines: &[Line]) -> Result<Vec<Step>, Memory>
+    requires { IsSmall lines.now }
+    ensures { IfOk result (λ steps. steps.items ≡ text_steps names.now first_site lines.now ++ closing_steps) }
 {
     let mut steps = Vec::new(alloc);
-    lower_statements(names, statements, &mut steps)?;
+    lower_lines(names, lines, &mut steps)?;
     close(&mut steps)?;
     Ok(steps)
 }

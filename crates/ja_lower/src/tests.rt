@@ -1,12 +1,17 @@
-//! The nodes of small texts, against rows that were written by hand.
+//! The nodes of small texts, and the places of forms that are not built, against rows that were
+//! written by hand.
 
 ghost use Rattle.std.specs.Prelude.{◌≡◌, length, IfOk, IfSome};
+ghost use Rattle.ja_lower.specs.Size.{assignments};
 
-use crate::lower;
+use crate::program::straight_program;
+use crate::straight::{Line, Operand, Target};
+use crate::{LowerFault, lower};
 use ja_base::{Place, Seq};
 use ja_graph::{Node, Program};
-use ja_parse::{Operand, Statement, Target};
 use ja_prim::{Int, Num, Primitive, Text16};
+use ja_syntax::{BinaryOperator, Expression, Name, Operation, Statement, Suffix, Tree};
+use sqlite_items::{Boxed, Items};
 use std::alloc::{AllocError, Global};
 use std::process::Abort;
 use std::test::Fail;
@@ -63,9 +68,9 @@ fn assert_text(rt: &impl Abort, program: &Program, registers: u32, rows: &[Row])
     }
 }
 
-/// The statement `x = 3;` in line 1.
-fn assignment(alloc: Global) -> Result<Option<Statement>, AllocError>
-    ensures { IfOk result (λ statement. IfSome statement (λ s. length s.targets ≡ 1)) }
+/// `x = 3;` in line 1.
+fn assignment(alloc: Global) -> Result<Option<Line>, AllocError>
+    ensures { IfOk result (λ line. IfSome line (λ s. length s.targets ≡ 1)) }
 {
     let Some(value) = Int::new(3) else {
         return Ok(None);
@@ -75,7 +80,7 @@ fn assignment(alloc: Global) -> Result<Option<Statement>, AllocError>
         place: Place { line: 1, column: 1 },
         assign: Place { line: 1, column: 3 },
     };
-    Ok(Some(Statement {
+    Ok(Some(Line {
         targets: Seq::from_vec(vec![in alloc; target]?),
         operand: Operand::Number {
             value,
@@ -84,11 +89,11 @@ fn assignment(alloc: Global) -> Result<Option<Statement>, AllocError>
     }))
 }
 
-/// The statement `y();` in line 2.
-fn call(alloc: Global) -> Result<Statement, AllocError>
+/// `y();` in line 2.
+fn call(alloc: Global) -> Result<Line, AllocError>
     ensures { IfOk result (λ s. length s.targets ≡ 0) }
 {
-    Ok(Statement {
+    Ok(Line {
         targets: Seq::new(alloc),
         operand: Operand::Call {
             name: letter(alloc, 121)?,
@@ -98,8 +103,8 @@ fn call(alloc: Global) -> Result<Statement, AllocError>
     })
 }
 
-/// The statement `a = b = a;` in line 3.
-fn chain(alloc: Global) -> Result<Statement, AllocError>
+/// `a = b = a;` in line 3.
+fn chain(alloc: Global) -> Result<Line, AllocError>
     ensures { IfOk result (λ s. length s.targets ≡ 2) }
 {
     let first = Target {
@@ -112,7 +117,7 @@ fn chain(alloc: Global) -> Result<Statement, AllocError>
         place: Place { line: 3, column: 5 },
         assign: Place { line: 3, column: 7 },
     };
-    Ok(Statement {
+    Ok(Line {
         targets: Seq::from_vec(vec![in alloc; first, second]?),
         operand: Operand::Name {
             name: letter(alloc, 97)?,
@@ -141,16 +146,119 @@ static ROWS: [Row; 15] = [
 ];
 
 #[test]
-fn lowers_three_statements(rt: HostRuntime) -> Result<(), Fail> {
+fn lowers_three_lines(rt: HostRuntime) -> Result<(), Fail> {
     let alloc = rt.alloc();
     let first = assignment(alloc)?.expect(&rt, "3 is a number");
     let second = call(alloc)?;
     let third = chain(alloc)?;
-    let statements = vec![in alloc; first, second, third]?;
-    let program = lower(alloc, &statements)?;
+    let lines = vec![in alloc; first, second, third]?;
+    let program = straight_program(alloc, &lines)?;
     assert_eq!(rt; program.sites.len(), 8);
     assert_eq!(rt; program.names.len(), 9);
     assert_eq!(rt; program.opening.len(), 5);
     assert_text(&rt, &program, 10, &ROWS);
+    Ok(())
+}
+
+/// A place in line 1.
+fn column(column: u32) -> Place {
+    Place { line: 1, column }
+}
+
+/// A name at a column.
+#[tactic(auto, unfolding(crate::specs::Size::assignments))]
+fn name(alloc: Global, text: &str, at: u32) -> Result<Expression, AllocError>
+    ensures { IfOk result (λ e. assignments e ≡ 0) }
+{
+    let units: Vec<u16> = text.bytes().map(|byte| u16::from(byte)).collect(alloc)?;
+    Ok(Expression::Name(Name {
+        text: Text16::from_units(units),
+        place: column(at),
+    }))
+}
+
+/// A first operand, and `+ y` behind it with the operator at a column and `y` at another.
+#[tactic(auto, unfolding(crate::specs::Size::assignments))]
+fn sum(alloc: Global, first: Expression, at: u32, behind: u32) -> Result<Expression, AllocError>
+    requires { assignments first ≡ 0 }
+    ensures { IfOk result (λ e. assignments e ≡ 0) }
+{
+    let operation = Operation {
+        operator: BinaryOperator::Plus,
+        right: name(alloc, "y", behind)?,
+        place: column(at),
+    };
+    Ok(Expression::Binary {
+        first: Boxed::new(alloc, first)?,
+        operations: Items::from_vec(vec![in alloc; operation]?),
+        place: column(1),
+    })
+}
+
+/// A head, and `()` behind it with the `(` at a column.
+#[tactic(auto, unfolding(crate::specs::Size::assignments))]
+fn called(alloc: Global, head: Expression, at: u32) -> Result<Expression, AllocError>
+    requires { assignments head ≡ 0 }
+    ensures { IfOk result (λ e. assignments e ≡ 0) }
+{
+    let suffix = Suffix::Call {
+        arguments: Items::new(alloc),
+        place: column(at),
+    };
+    Ok(Expression::Chain {
+        head: Boxed::new(alloc, head)?,
+        suffixes: Items::from_vec(vec![in alloc; suffix]?),
+    })
+}
+
+/// The statement of an expression has an unbuilt form, and the first one is at a column.
+fn assert_unbuilt(
+    rt: &impl Abort,
+    alloc: Global,
+    value: Expression,
+    at: u32,
+) -> Result<(), AllocError>
+    requires { assignments value ≡ 0 }
+{
+    let statement = Statement::Expression {
+        value,
+        place: column(1),
+    };
+    let tree = Tree {
+        statements: Items::from_vec(vec![in alloc; statement]?),
+    };
+    match lower(alloc, &tree) {
+        Err(LowerFault::Unbuilt { place }) => assert_eq!(rt; place, column(at)),
+        _ => assert!(rt; false),
+    }
+    Ok(())
+}
+
+#[test]
+fn refuses_what_is_not_built(rt: HostRuntime) -> Result<(), Fail> {
+    let alloc = rt.alloc();
+    let x = name(alloc, "x", 1)?;
+    assert_unbuilt(&rt, alloc, sum(alloc, x, 3, 5)?, 3)?;
+    assert_unbuilt(&rt, alloc, name(alloc, "arguments", 1)?, 1)?;
+    let isnan = name(alloc, "isNaN", 1)?;
+    assert_unbuilt(&rt, alloc, sum(alloc, called(alloc, isnan, 6)?, 9, 11)?, 1)?;
+    let x = name(alloc, "x", 1)?;
+    assert_unbuilt(&rt, alloc, called(alloc, called(alloc, x, 2)?, 4)?, 4)?;
+    Ok(())
+}
+
+#[test]
+fn lowers_a_call(rt: HostRuntime) -> Result<(), Fail> {
+    let alloc = rt.alloc();
+    let x = name(alloc, "x", 1)?;
+    let statement = Statement::Expression {
+        value: called(alloc, x, 2)?,
+        place: column(1),
+    };
+    let tree = Tree {
+        statements: Items::from_vec(vec![in alloc; statement]?),
+    };
+    let program = lower(alloc, &tree);
+    assert!(rt; program.is_ok());
     Ok(())
 }

@@ -1,13 +1,36 @@
 -- What is written where an answer is refused.
 use Rattle.std.specs.Prelude.{ℕ, List, ◌++◌}
+use Rattle.std.specs.Fmt.{decimal}
 use lib.Chars.{codes}
+use Rattle.ja_base.specs.declared.ids.ScopeKind.{ScopeKind}
+use Rattle.ja_base.specs.declared.ids.ScopeKind.TheVariants as scope
 use Rattle.ja_report.specs.declared.refusals.Refusal.{Refusal}
-use Rattle.ja_report.specs.declared.refusals.Refusal.TheVariants.{Usage, ReadFault, TooLong, Unbuilt}
+use Rattle.ja_report.specs.declared.refusals.Refusal.TheVariants.{Usage, ReadFault, TooLong, NotText, Syntax, Scope, Depth, Unbuilt}
 use Rattle.ja_report.specs.Texts.{place_text}
 
--- one line: how the program is called, that its input failed, that its text is too long, or the place of a form that is not built
+-- the kinds of scope go by these names
+abbrev pub scope_name : ScopeKind → List ℕ
+scope_name scope.Eval = codes "Eval"
+scope_name scope.With = codes "With"
+scope_name scope.RegExp = codes "RegExp"
+scope_name scope.Octal = codes "Octal"
+scope_name scope.Number = codes "Number"
+scope_name scope.NonAscii = codes "NonAscii"
+scope_name scope.IdentifierEscape = codes "IdentifierEscape"
+scope_name scope.ReservedWord = codes "ReservedWord"
+scope_name scope.ArgumentsName = codes "ArgumentsName"
+scope_name scope.TextLength = codes "TextLength"
+scope_name scope.Register = codes "Register"
+
+-- one line: how the program is called, that its input failed, that its text is too long, the offset of the first byte that
+-- begins no character, the place of the first token with which no program goes on, or where the text leaves the profile and
+-- how, that it nests too deep, or the place of a form that is not built
 abbrev pub refusal_text : Refusal → List ℕ
 refusal_text Usage = codes "usage: tajs analyse [--cert] [--budget N] | check | run [--steps N] | generate --number N\n"
 refusal_text ReadFault = codes "read fault\n"
 refusal_text TooLong = codes "too long 16777216\n"
+refusal_text (NotText offset) = codes "not text " ++ decimal offset ++ codes "\n"
+refusal_text (Syntax place) = codes "syntax " ++ place_text place ++ codes "\n"
+refusal_text (Scope kind place) = codes "scope " ++ scope_name kind ++ codes " " ++ place_text place ++ codes "\n"
+refusal_text Depth = codes "limit depth 200\n"
 refusal_text (Unbuilt place) = codes "unbuilt " ++ place_text place ++ codes "\n"

@@ -1,7 +1,7 @@
 ghost use Rattle.std.specs.Prelude.{◌≡◌, IfOk};
 
-use crate::texts::push_place;
-use ja_base::{Memory, Place};
+use crate::texts::{push_number, push_place};
+use ja_base::{Memory, Place, ScopeKind};
 use std::alloc::Global;
 
 /// Why there is no answer.
@@ -13,11 +13,38 @@ pub enum Refusal {
     ReadFault,
     /// The input has more than 16,777,216 bytes.
     TooLong,
+    /// The bytes are no text: at this offset begins no character.
+    NotText { offset: usize },
+    /// The text has a token, at this place, with which no program goes on.
+    Syntax { place: Place },
+    /// The text leaves the profile with the token at this place.
+    Scope { kind: ScopeKind, place: Place },
+    /// The text nests more than 200 levels deep.
+    Depth,
     /// The text has a form that is not built, at this place.
     Unbuilt { place: Place },
 }
 
-ghost use Rattle.ja_report.specs.Refusals.{refusal_text};
+ghost use Rattle.ja_report.specs.Refusals.{scope_name, refusal_text};
+
+/// The name of a kind of scope.
+fn scope_name(kind: ScopeKind) -> &'static [u8]
+    ensures { result.now ≡ scope_name kind }
+{
+    match kind {
+        ScopeKind::Eval => b"Eval",
+        ScopeKind::With => b"With",
+        ScopeKind::RegExp => b"RegExp",
+        ScopeKind::Octal => b"Octal",
+        ScopeKind::Number => b"Number",
+        ScopeKind::NonAscii => b"NonAscii",
+        ScopeKind::IdentifierEscape => b"IdentifierEscape",
+        ScopeKind::ReservedWord => b"ReservedWord",
+        ScopeKind::ArgumentsName => b"ArgumentsName",
+        ScopeKind::TextLength => b"TextLength",
+        ScopeKind::Register => b"Register",
+    }
+}
 
 /// The line of a refusal.
 pub fn refusal_text(alloc: Global, refusal: Refusal) -> Result<Vec<u8>, Memory>
@@ -30,6 +57,24 @@ pub fn refusal_text(alloc: Global, refusal: Refusal) -> Result<Vec<u8>, Memory>
         )?,
         Refusal::ReadFault => text.extend_from_slice(b"read fault\n")?,
         Refusal::TooLong => text.extend_from_slice(b"too long 16777216\n")?,
+        Refusal::NotText { offset } => {
+            text.extend_from_slice(b"not text ")?;
+            push_number(&mut text, offset as u64)?;
+            text.push(b'\n')?;
+        }
+        Refusal::Syntax { place } => {
+            text.extend_from_slice(b"syntax ")?;
+            push_place(&mut text, place)?;
+            text.push(b'\n')?;
+        }
+        Refusal::Scope { kind, place } => {
+            text.extend_from_slice(b"scope ")?;
+            text.extend_from_slice(scope_name(kind))?;
+            text.push(b' ')?;
+            push_place(&mut text, place)?;
+            text.push(b'\n')?;
+        }
+        Refusal::Depth => text.extend_from_slice(b"limit depth 200\n")?,
         Refusal::Unbuilt { place } => {
             text.extend_from_slice(b"unbuilt ")?;
             push_place(&mut text, place)?;

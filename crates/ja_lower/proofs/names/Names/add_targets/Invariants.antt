@@ -1,6 +1,6 @@
 use Rattle.std.proofs.Common.{◌≡◌, ◌+◌, ◌≤◌, length, drop, map}
 use Rattle.std.specs.List.{fold}
-use Rattle.ja_parse.specs.declared.tree.Target.{Target}
+use Rattle.ja_lower.specs.declared.straight.Target.{Target}
 use Rattle.ja_lower.specs.Names.{with_name}
 use Rattle.ja_lower.proofs.names.Names.add_targets.Given as goal
 
