@@ -1,2 +1,4 @@
+pub mod ExpressionSizes
 pub mod Reporting
 pub mod Sizes
+pub mod StatementSizes

@@ -4,8 +4,8 @@ use Rattle.std.proofs.Common.{get_or, ap, sym, arith}
 use Rattle.ja_graph.specs.declared.program.Program.{Program}
 use Rattle.ja_model.specs.declared.table.Warning.{Warning}
 use Rattle.ja_tool.specs.declared.status.Status.{Status}
-use Rattle.ja_tool.specs.declared.status.Status.TheVariants.{Done, Warned, Usage, ReadFault, WriteFault, TooLong, Spent, Memory, Unbuilt}
-use Rattle.ja_tool.specs.Answers.{IsAnalysed, Reports, status_of, IsProgramOf, Analyses, Call, HasCause, IsCommand, IsInput, Written, IsAnswered, IsWritten}
+use Rattle.ja_tool.specs.declared.status.Status.TheVariants.{Done, Warned, Usage, ReadFault, WriteFault, TooLong, NotText, Syntax, Scope, Limit, Spent, Memory, Unbuilt}
+use Rattle.ja_tool.specs.Answers.{IsAnalysed, Reports, status_of, IsProgramOf, Analyses, Call, HasCause, IsCommand, IsInput, Written, IsAnswered}
 use Rattle.ja_base.specs.Streams.{Appends, TurnsTo}
 use Rattle.std.specs.Prelude.{true}
 
@@ -25,6 +25,10 @@ analyses bytes p WriteFault text of h = absurd h
 analyses bytes p TooLong text of h = absurd h
 analyses bytes p Memory text of h = absurd h
 analyses bytes p Unbuilt text of h = absurd h
+analyses bytes p NotText text of h = absurd h
+analyses bytes p Syntax text of h = absurd h
+analyses bytes p Scope text of h = absurd h
+analyses bytes p Limit text of h = absurd h
 
 -- an analysis of the bytes that were read is an answer
 pub answers : (c : Call) (bytes : List ℕ) (status : Status) (text : List ℕ) → IsCommand c.words → IsInput c bytes → Analyses bytes status text → HasCause c status text
@@ -32,6 +36,10 @@ answers c bytes Done text command input h = (command, (bytes, input, h))
 answers c bytes Warned text command input h = (command, (bytes, input, h))
 answers c bytes Spent text command input h = (command, (bytes, input, h))
 answers c bytes Unbuilt text command input h = (command, (bytes, input, h))
+answers c bytes NotText text command input h = (command, (bytes, input, h))
+answers c bytes Syntax text command input h = (command, (bytes, input, h))
+answers c bytes Scope text command input h = (command, (bytes, input, h))
+answers c bytes Limit text command input h = (command, (bytes, input, h))
 answers c bytes Usage text command input h = absurd h
 answers c bytes ReadFault text command input h = absurd h
 answers c bytes WriteFault text command input h = absurd h
@@ -47,6 +55,10 @@ answered c w ReadFault text h a f = (text, h, a, f)
 answered c w TooLong text h a f = (text, h, a, f)
 answered c w Spent text h a f = (text, h, a, f)
 answered c w Unbuilt text h a f = (text, h, a, f)
+answered c w NotText text h a f = (text, h, a, f)
+answered c w Syntax text h a f = (text, h, a, f)
+answered c w Scope text h a f = (text, h, a, f)
+answered c w Limit text h a f = (text, h, a, f)
 answered c w WriteFault text h a f = absurd h
 answered c w Memory text h a f = absurd h
 

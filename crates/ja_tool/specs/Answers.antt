@@ -1,30 +1,39 @@
 -- The answers of the program: the cause of each status, and the text that is written with it.
-use Rattle.std.specs.Prelude.{◌≡◌, ◌≤◌, ◌+◌, ℕ, String, Bool, true, List, [], ◌∷◌, map, length, Option}
+use Rattle.std.specs.Prelude.{◌≡◌, ◌≤◌, ◌+◌, ℕ, String, Bool, true, List, [], ◌∷◌, map, length, Option, Some, None, Err}
 use lib.Chars.{codes}
+use Rattle.std.specs.Str.{IsUtf8}
+use Rattle.std.specs.Str.Lossy.{utf8_valid_len}
 use Rattle.std.specs.String.{string_bytes}
 use Rattle.std.specs.declared.alloc.Global.{Global}
 use Rattle.ja_base.specs.declared.ids.Place.{Place}
+use Rattle.ja_base.specs.declared.ids.ScopeKind.{ScopeKind}
 use Rattle.ja_base.specs.Streams.{Rose, Keeps, Took, IsAtEnd, IsLonger, TakesCount, Appends, AppendsFront, TurnsTo}
 use Rattle.ja_graph.specs.declared.program.Program.{Program}
+use Rattle.ja_grammar.specs.Language.{Spells, Explains, max_levels, Answers as AnswersTo}
+use Rattle.ja_grammar.specs.ReadStatement.{program}
+use Rattle.ja_grammar.specs.declared.fault.ParseFault.{ParseFault}
+use Rattle.ja_grammar.specs.declared.fault.ParseFault.TheVariants as fault
+use Rattle.ja_lex.specs.Tokens.{tokens}
+use Rattle.ja_lower.specs.Built.{unbuilt}
 use Rattle.ja_lower.specs.Lowering.{program_of}
 use Rattle.ja_model.specs.declared.table.Item.{Item}
 use Rattle.ja_model.specs.declared.table.Warning.{Warning}
 use Rattle.ja_model.specs.Sound.{CoversRuns, WarnsOfFaults}
 use Rattle.ja_model.specs.Table.{Table, IsBuilt, IsClosed}
 use Rattle.ja_model.specs.Warning.{AreWarnings}
-use Rattle.ja_parse.specs.declared.tree.Statement.{Statement}
-use Rattle.ja_parse.specs.Grammar.{Spells}
-use Rattle.ja_parse.specs.Refusal.{IsText, FirstWrong}
 use Rattle.ja_report.specs.declared.refusals.Refusal.{Refusal}
 use Rattle.ja_report.specs.declared.refusals.Refusal.TheVariants as refusal
 use Rattle.ja_tool.specs.declared.analysis.Answer.{Answer}
+use Rattle.ja_tool.specs.declared.analysis.TextFault.{TextFault}
+use Rattle.ja_tool.specs.declared.analysis.TextFault.TheVariants as text_fault
 use Rattle.ja_report.specs.Refusals.{refusal_text}
 use Rattle.ja_report.specs.Report.{report_text, spent_text}
+use Rattle.ja_syntax.specs.declared.tree.Statement.{Statement}
 use Rattle.ja_rules.specs.declared.solver.Solved.{Solved}
 use Rattle.ja_rules.specs.Readings.{table_of, Fits}
 use Rattle.ja_rules.specs.Solving.{WasSpent}
 use Rattle.ja_tool.specs.declared.status.Status.{Status}
-use Rattle.ja_tool.specs.declared.status.Status.TheVariants.{Done, Warned, Usage, ReadFault, WriteFault, TooLong, Spent, Memory, Unbuilt}
+use Rattle.ja_tool.specs.declared.status.Status.TheVariants.{Done, Warned, Usage, ReadFault, WriteFault, TooLong, NotText, Syntax, Scope, Limit, Spent, Memory, Unbuilt}
 
 -- the words are a command line: `analyse` alone
 abbrev pub IsCommand : List (String Global) → Type 0
@@ -37,9 +46,26 @@ max_bytes = 16777216
 abbrev pub budget : ℕ
 budget = 1000000
 
--- the program of a text
+-- the bytes are a text of the language, and these its statements
+abbrev pub IsTextOf : List ℕ → List Statement → Type 0
+IsTextOf bytes statements = IsUtf8 bytes × Spells max_levels (tokens bytes) statements
+
+-- the program of a text all of whose forms are built
 abbrev pub IsProgramOf : List ℕ → Program → Type 0
-IsProgramOf bytes p = (statements : List Statement) × Spells bytes statements × (p ≡ program_of statements)
+IsProgramOf bytes p = (statements : List Statement) × IsTextOf bytes statements × (unbuilt statements ≡ None) × (p ≡ program_of statements)
+
+-- a form of the text is not built, and the first one has this place
+abbrev pub IsUnbuiltAt : List ℕ → Place → Type 0
+IsUnbuiltAt bytes place = (statements : List Statement) × IsTextOf bytes statements × (unbuilt statements ≡ Some place)
+
+-- the bytes are a text, and this is what its tokens are refused with, which says why it is none of the language
+abbrev pub IsNone : List ℕ → ParseFault → Type 0
+IsNone bytes fault = IsUtf8 bytes × Explains (tokens bytes) fault × AnswersTo (program max_levels (tokens bytes)) (Err fault)
+
+-- why a text has no program
+abbrev pub HasNone : List ℕ → TextFault → Type 0
+HasNone bytes (text_fault.Parse fault) = IsNone bytes fault
+HasNone bytes (text_fault.Unbuilt place) = IsUnbuiltAt bytes place
 
 -- What is printed of a program, with these warnings: the table that the printed visits build, which is closed and covers
 -- every run; an operation that goes wrong in some run is among the warnings.
@@ -74,8 +100,12 @@ abbrev pub Analyses : List ℕ → Status → List ℕ → Type 0
 Analyses bytes Done text = ReportsOnText bytes Done text
 Analyses bytes Warned text = ReportsOnText bytes Warned text
 Analyses bytes Spent text = ReportsOnText bytes Spent text
-Analyses bytes Unbuilt text =
-    (place : Place) × FirstWrong bytes place × (IsText bytes → ⊥) × (text ≡ refusal_text (refusal.Unbuilt place))
+Analyses bytes NotText text = (IsUtf8 bytes → ⊥) × (text ≡ refusal_text (refusal.NotText (utf8_valid_len bytes)))
+Analyses bytes Syntax text = (place : Place) × IsNone bytes (fault.Syntax place) × (text ≡ refusal_text (refusal.Syntax place))
+Analyses bytes Scope text =
+    (kind : ScopeKind) × (place : Place) × IsNone bytes (fault.Scope kind place) × (text ≡ refusal_text (refusal.Scope kind place))
+Analyses bytes Limit text = (place : Place) × IsNone bytes (fault.Depth place) × (text ≡ refusal_text refusal.Depth)
+Analyses bytes Unbuilt text = (place : Place) × IsUnbuiltAt bytes place × (text ≡ refusal_text (refusal.Unbuilt place))
 Analyses bytes status text = ⊥
 
 -- What a call meets: its words, and what is left of the source and how many faults it has counted, before and after.
@@ -101,6 +131,10 @@ HasCause c Usage text = (IsCommand c.words → ⊥) × Keeps c.left c.left_after
 HasCause c ReadFault text = IsCommand c.words × Rose c.faults c.faults_after × (text ≡ refusal_text refusal.ReadFault)
 HasCause c TooLong text =
     IsCommand c.words × IsLonger max_bytes c.left × TakesCount (max_bytes + 1) c.left c.left_after × (text ≡ refusal_text refusal.TooLong)
+HasCause c NotText text = AnalysesInput c NotText text
+HasCause c Syntax text = AnalysesInput c Syntax text
+HasCause c Scope text = AnalysesInput c Scope text
+HasCause c Limit text = AnalysesInput c Limit text
 HasCause c Done text = AnalysesInput c Done text
 HasCause c Warned text = AnalysesInput c Warned text
 HasCause c Spent text = AnalysesInput c Spent text

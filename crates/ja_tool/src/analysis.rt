@@ -1,17 +1,18 @@
-ghost use Rattle.std.specs.Prelude.{◌≡◌, ◌≤◌, IfOk, IfErr, length};
+ghost use Rattle.std.specs.Prelude.{◌≡◌, ◌≤◌, ℕ, List, IfOk, IfErr, length};
 ghost use Rattle.ja_graph.specs.WellFormed.{IsWellFormed};
-ghost use Rattle.ja_parse.specs.Refusal.{Explains, IsNone};
-ghost use Rattle.ja_tool.specs.Answers.{Analyses, IsProgramOf, IsRefusal, IsSolved, Reports, status_of};
+ghost use Rattle.ja_tool.specs.Answers.{Analyses, HasNone, IsProgramOf, IsRefusal, IsSolved, Reports, status_of};
 
 use crate::status::Status;
-use ja_base::Memory;
+use ja_base::{Memory, Place};
+use ja_grammar::ParseFault;
 use ja_graph::Program;
-use ja_lower::lower;
+use ja_lower::{LowerFault, lower};
 use ja_model::Warning;
-use ja_parse::{ParseFault, parse};
+use ja_parse::parse;
 use ja_report::{Refusal, refusal_text, report, spent_text};
 use ja_rules::{SolveFault, Solved, solve, warnings};
 use std::alloc::Global;
+use std::str;
 
 /// The greatest number of visits.
 pub const BUDGET: u128 = 1_000_000;
@@ -78,23 +79,54 @@ fn solve_and_report(alloc: Global, program: &Program) -> Result<Answer, Memory>
     }
 }
 
+/// Why a text has no program.
+#[derive(Clone, Copy, Debug, PartialEq, Eq)]
+pub enum TextFault {
+    /// It is none of the language, or memory was refused.
+    Parse(ParseFault),
+    /// The first form that is not built has this place.
+    Unbuilt { place: Place },
+}
+
 /// The program of a text.
-pub fn program_of_text(alloc: Global, text: &[u8]) -> Result<Program, ParseFault>
+pub fn program_of_text(alloc: Global, text: &str) -> Result<Program, TextFault>
     requires { length text.now ≤ 16777216 }
     ensures program { IfOk result (IsProgramOf text.now) }
     ensures well_formed { IfOk result IsWellFormed }
-    ensures fault { IfErr result (Explains text.now) }
-    ensures none { IfErr result (IsNone text.now) }
+    ensures fault { IfErr result (HasNone text.now) }
 {
-    let statements = parse(alloc, text)?;
-    match lower(alloc, statements.as_slice()) {
+    let tree = match parse(alloc, text) {
+        Ok(tree) => tree,
+        Err(fault) => return Err(TextFault::Parse(fault)),
+    };
+    match lower(alloc, &tree) {
         Ok(program) => Ok(program),
-        Err(Memory) => Err(ParseFault::Memory),
+        Err(LowerFault::Unbuilt { place }) => Err(TextFault::Unbuilt { place }),
+        Err(LowerFault::Memory) => Err(TextFault::Parse(ParseFault::Memory)),
     }
 }
 
-/// Analyses a program's text.
-pub fn analyse(alloc: Global, text: &[u8]) -> Result<Answer, Memory>
+// Says why a text has no program.
+fn explain(alloc: Global, fault: TextFault) -> Result<Answer, Memory>
+    ensures { IfOk result (λ a. (bytes : List ℕ) → HasNone bytes fault → Analyses bytes a.status a.text.items) }
+{
+    match fault {
+        TextFault::Parse(ParseFault::Syntax { place }) => {
+            refuse(alloc, Status::Syntax, Refusal::Syntax { place })
+        }
+        TextFault::Parse(ParseFault::Scope { kind, place }) => {
+            refuse(alloc, Status::Scope, Refusal::Scope { kind, place })
+        }
+        TextFault::Parse(ParseFault::Depth { .. }) => {
+            refuse(alloc, Status::Limit, Refusal::Depth)
+        }
+        TextFault::Parse(ParseFault::Memory) => Err(Memory),
+        TextFault::Unbuilt { place } => refuse(alloc, Status::Unbuilt, Refusal::Unbuilt { place }),
+    }
+}
+
+// Analyses a text.
+fn analyse_text(alloc: Global, text: &str) -> Result<Answer, Memory>
     requires { length text.now ≤ 16777216 }
     ensures { IfOk result (λ a. Analyses text.now a.status a.text.items) }
 {
@@ -103,9 +135,20 @@ pub fn analyse(alloc: Global, text: &[u8]) -> Result<Answer, Memory>
             let answer = solve_and_report(alloc, &program)?;
             Ok(answer)
         }
-        Err(ParseFault::Unbuilt { place }) => {
-            refuse(alloc, Status::Unbuilt, Refusal::Unbuilt { place })
+        Err(fault) => explain(alloc, fault),
+    }
+}
+
+/// Analyses bytes.
+pub fn analyse(alloc: Global, bytes: &[u8]) -> Result<Answer, Memory>
+    requires { length bytes.now ≤ 16777216 }
+    ensures { IfOk result (λ a. Analyses bytes.now a.status a.text.items) }
+{
+    match str::from_utf8(bytes) {
+        Ok(text) => analyse_text(alloc, text),
+        Err(error) => {
+            let offset = error.valid_up_to();
+            refuse(alloc, Status::NotText, Refusal::NotText { offset })
         }
-        Err(ParseFault::Memory) => Err(Memory),
     }
 }

@@ -15,6 +15,14 @@ pub enum Status {
     WriteFault = 4,
     /// The text has more than 16,777,216 bytes.
     TooLong = 5,
+    /// The bytes are no text.
+    NotText = 6,
+    /// The text is no program.
+    Syntax = 7,
+    /// The text leaves the profile.
+    Scope = 8,
+    /// The text nests too deep.
+    Limit = 9,
     /// The visits of the budget are spent, and the table isn't closed.
     Spent = 10,
     /// Memory was refused. Nothing was written.

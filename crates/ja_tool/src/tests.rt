@@ -91,19 +91,55 @@ fn reports(rt: HostRuntime) -> Result<(), Fail> {
             "warnings 1\n1:1 unbound name certain\nedges 0\n",
         ),
         ("x = 3; x.y;", Status::Unbuilt, "unbuilt 1:9\n"),
-        ("x", Status::Unbuilt, "unbuilt 1:2\n"),
+        ("x = 1 + 2;", Status::Unbuilt, "unbuilt 1:7\n"),
+        ("x = 3; arguments", Status::Unbuilt, "unbuilt 1:8\n"),
+        ("x", Status::Warned, "1:1 unbound name certain\n"),
+        ("x = (3);; /* */ (x)", Status::Done, "warnings 0\n"),
         (
             "x = 1;\n y = x;\nz = y = 9007199254740992;",
-            Status::Unbuilt,
-            "unbuilt 3:9\n",
+            Status::Scope,
+            "scope Number 3:9\n",
         ),
-        ("\u{ff}", Status::Unbuilt, "unbuilt 1:1\n"),
+        ("\u{ff}", Status::Scope, "scope NonAscii 1:1\n"),
+        ("with (a) {}", Status::Scope, "scope With 1:1\n"),
+        ("/a\"/;", Status::Scope, "scope RegExp 1:1\n"),
+        ("eval(\"1\");", Status::Scope, "scope Eval 1:1\n"),
+        ("010;", Status::Scope, "scope Octal 1:1\n"),
+        ("var x = (", Status::Syntax, "syntax 1:10\n"),
     ];
     for (text, wanted, lines) in rows {
         let (status, written) = analysed(rt.alloc(), text.as_bytes())?;
         assert_eq!(rt; status, wanted, "of {text}");
         assert!(rt; has_lines(&written, lines), "{lines} of {text}");
     }
+    Ok(())
+}
+
+// The status and what was written for a text of that many `(`.
+fn nested(alloc: Global, levels: usize) -> Result<(Status, Vec<u8>), Fail> {
+    let text = vec![in alloc; b'('; levels]?;
+    analysed(alloc, &text)
+}
+
+#[test]
+fn depth(rt: HostRuntime) -> Result<(), Fail> {
+    let (status, text) = nested(rt.alloc(), 200)?;
+    assert_eq!(rt; status, Status::Syntax);
+    assert_eq!(rt; text.as_slice(), b"syntax 1:201\n".as_slice());
+    let (status, text) = nested(rt.alloc(), 201)?;
+    assert_eq!(rt; status, Status::Limit);
+    assert_eq!(rt; text.as_slice(), b"limit depth 200\n".as_slice());
+    Ok(())
+}
+
+#[test]
+fn not_text(rt: HostRuntime) -> Result<(), Fail> {
+    let (status, text) = analysed(rt.alloc(), b"\xff")?;
+    assert_eq!(rt; status, Status::NotText);
+    assert_eq!(rt; text.as_slice(), b"not text 0\n".as_slice());
+    let (status, text) = analysed(rt.alloc(), b"x = 3;\xe2\x82")?;
+    assert_eq!(rt; status, Status::NotText);
+    assert_eq!(rt; text.as_slice(), b"not text 6\n".as_slice());
     Ok(())
 }
 
@@ -162,23 +198,29 @@ fn faults_of_source_and_sink(rt: HostRuntime) -> Result<(), Fail> {
     Ok(())
 }
 
-#[test]
-fn too_long(rt: HostRuntime) -> Result<(), Fail> {
-    let alloc = rt.alloc();
+// The status and what was written for that many spaces.
+fn spaces(alloc: Global, count: usize) -> Result<(Status, Vec<u8>), Fail> {
     let words = words(alloc, &["analyse"])?;
-    let spaces = vec![in alloc; b' '; MAX_BYTES + 1]?;
+    let spaces = vec![in alloc; b' '; count]?;
     let mut source = MemorySource::new(spaces, 65_536, Vec::new(alloc));
     let mut sink = MemorySink::new(alloc, 1000, Vec::new(alloc));
-    assert_eq!(rt;
-        tajs(alloc, &words, &mut source, &mut sink),
-        Status::TooLong
-    );
-    assert_eq!(rt; sink.bytes.as_slice(), b"too long 16777216\n".as_slice());
+    let status = tajs(alloc, &words, &mut source, &mut sink);
+    Ok((status, sink.bytes))
+}
+
+#[test]
+fn long_texts(rt: HostRuntime) -> Result<(), Fail> {
+    let (status, text) = spaces(rt.alloc(), MAX_BYTES + 1)?;
+    assert_eq!(rt; status, Status::TooLong);
+    assert_eq!(rt; text.as_slice(), b"too long 16777216\n".as_slice());
+    let (status, text) = spaces(rt.alloc(), MAX_BYTES)?;
+    assert_eq!(rt; status, Status::Done);
+    assert_eq!(rt; text.as_slice(), EMPTY.as_bytes());
     Ok(())
 }
 
 // A budget of one visit is spent on the first node, whose base isn't known yet.
-fn assert_spent(rt: &impl Abort, alloc: Global, text: &[u8]) -> Result<(), Fail> {
+fn assert_spent(rt: &impl Abort, alloc: Global, text: &str) -> Result<(), Fail> {
     assert!(rt; text.len() <= MAX_BYTES);
     let Ok(program) = program_of_text(alloc, text) else {
         return Err(Fail::from("no program"));
@@ -203,5 +245,5 @@ fn assert_spent(rt: &impl Abort, alloc: Global, text: &[u8]) -> Result<(), Fail>
 
 #[test]
 fn a_budget_of_one(rt: HostRuntime) -> Result<(), Fail> {
-    assert_spent(&rt, rt.alloc(), b"x = 3;")
+    assert_spent(&rt, rt.alloc(), "x = 3;")
 }

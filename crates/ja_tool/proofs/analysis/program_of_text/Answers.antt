@@ -1,10 +1,5 @@
-use Rattle.std.proofs.Common.{rules, ap, subst, sym, List}
-use Rattle.ja_parse.specs.declared.tree.Statement.{Statement}
-use Rattle.ja_lower.specs.Lowering.{IsSmall}
-use Rattle.ja_tool.proofs.Sizes.{size_of-text}
+use Rattle.ja_tool.proofs.Sizes.{tree_size-text}
 use Rattle.ja_tool.proofs.analysis.program_of_text.Goals as goal
 
 pub lower-requires : goal.lower-requires
-lower-requires c =
-    let S : List Statement → Type 0 = IsSmall in
-    subst S (sym c.as_slice.ensures) (size_of-text _ _ c.requires c.in_ok-statements.ensures.tree)
+lower-requires c = tree_size-text _ _ c.requires c.in-Ok.ensures.tree

@@ -1,4 +1,4 @@
-use Rattle.std.proofs.Common.{rules, ◌≡◌, sym, ap, ◌∙◌, subst, ℕ, List}
+use Rattle.std.proofs.Common.{◌≡◌, subst}
 use Rattle.ja_rules.specs.Readings.{table_of}
 use Rattle.ja_tool.specs.declared.status.Status.{Status}
 use Rattle.ja_tool.specs.Answers.{IsAnalysed, Reports, status_of}

@@ -1,5 +1,5 @@
-use Rattle.std.proofs.Common.{rules, ◌≡◌, sym, ap, subst, ℕ, List}
-use Rattle.ja_tool.specs.Answers.{Analyses, IsInput, IsCommand}
+use Rattle.std.proofs.Common.{rules, subst, ℕ, List}
+use Rattle.ja_tool.specs.Answers.{Analyses, IsCommand}
 use Rattle.ja_tool.proofs.Reporting.{answers}
 use Rattle.ja_tool.proofs.top.answer.Goals as goal
 

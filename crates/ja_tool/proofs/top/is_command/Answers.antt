@@ -1,4 +1,4 @@
-use Rattle.std.proofs.Common.{rules, ◌≡◌, ap, sym, ◌∙◌, ℕ, List, [], ◌∷◌, true, refl, length, map, arith}
+use Rattle.std.proofs.Common.{◌≡◌, ap, sym, ◌∙◌, [], ◌∷◌, arith}
 use Rattle.std.specs.String.{string_bytes}
 use lib.Pointwise.{bytes_decides}
 use lib.Chars.{codes}
