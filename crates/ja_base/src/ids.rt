@@ -69,6 +69,24 @@ pub enum ScopeKind {
     ArgumentsName,
     /// A string or an identifier of more than 1,048,576 units.
     TextLength,
+    /// A number that isn't whole, in a run.
+    Fraction,
+    /// A number of a magnitude greater than 9,007,199,254,740,991, in a run.
+    Range,
+    /// A property of the built-in objects that is out of the profile was read.
+    Row,
+    /// `Function` was called or constructed.
+    CodeMaker,
+    /// A device was given an object.
+    DeviceObject,
+    /// An object was put as an array's `length`.
+    LengthObject,
+    /// A value that a parameter shares with `arguments` was written or deleted.
+    SharedArgument,
+    /// `toLowerCase` or `toUpperCase` met a unit past 127.
+    CaseChange,
+    /// `Number.prototype.toString` with a radix outside 2 to 36.
+    Radix,
     /// A register holds no value that its node takes.
     Register,
 }

@@ -6,7 +6,8 @@ use Rattle.std.proofs.lemmas.Nat.{pow-add, div-mul-add, mod-mul-add}
 use Rattle.std.proofs.Math.Nat.{mul_assoc, eq_of_mul-eq-mul_right, div-add-mod'}
 use Rattle.ja_lex.specs.Numbers.{limited, scaled}
 use Rattle.ja_lex.specs.Laws.{IsValue}
-use Rattle.ja_lex.proofs.Scaling.{scaled_under, scaled_over, limited_some, pow_some}
+use Rattle.ja_lex.proofs.Scaling.{scaled_under, scaled_over, limited_some}
+use Rattle.ja_prim.proofs.Capping.{pow_some}
 
 limited_value : (n v : ℕ) → limited n ≡ Some v → (v ≡ n) × (n ≤ 9007199254740991)
 limited_value n v h = (grind (arith, nat_tests), grind (arith, nat_tests))

@@ -1,13 +1,14 @@
 -- Numbers that digits write, times powers of ten.
-use Rattle.std.proofs.Common.{◌≡◌, ◌≤◌, ◌<◌, ℕ, zero, suc, ◌+◌, ◌-◌, ◌*◌, ◌/◌, ◌%◌, ◌^◌, Bool, true, false, ◌==◌, if◌then◌else◌, Some, None, List, [], ◌∷◌, ◌++◌, length, get_or, take, drop, drop-cons, add-one, length-drop, arith, inl, inr, ◌⊎◌, lit<, refl, ap, ◌∙◌, sym, subst}
+use Rattle.std.proofs.Common.{◌≡◌, ◌≤◌, ◌<◌, ℕ, suc, ◌+◌, ◌-◌, ◌*◌, ◌/◌, ◌%◌, ◌^◌, Bool, true, false, ◌==◌, if◌then◌else◌, Some, None, List, [], ◌∷◌, length, get_or, take, drop, length-drop, arith, lit<, refl, ap, ◌∙◌, sym, subst}
 use Rattle.std.proofs.lemmas.Bool.Decides.{nat_tests}
-use Rattle.std.proofs.lemmas.List.{take-append-drop, take_all}
-use Rattle.std.proofs.Math.Nat.{one-le-pow, pow-le-pow_right, mul-le-mul_left, pow-suc, pow-zero, mul_assoc, mul_comm, mul-one, zero-mul, zero-mod, zero-div, div-one, mod-one, mod-eq_of_lt}
-use Rattle.std.proofs.lemmas.Bool.{cases_lt}
+use Rattle.std.proofs.lemmas.List.{take_all}
+use Rattle.std.proofs.Math.Nat.{pow-le-pow_right, pow-suc, pow-zero, mul_assoc, mul_comm, mul-one, zero-mul, zero-mod, zero-div, div-one, mod-one, mod-eq_of_lt}
 use Rattle.std.proofs.lemmas.Nat.{div-mul-add, mod-mul-add}
 use Rattle.std.specs.Char.{digit_value}
 use Rattle.std.specs.Str.Parse.{digits_value, digits_value_after, AllDigits}
 use Rattle.std.proofs.lemmas.Int.Digits.{digits_value-lt}
+use Rattle.ja_prim.proofs.Capping.{times_grows, digits_next, pow_some}
+use Rattle.ja_prim.proofs.Placing.{pointed}
 use Rattle.ja_lex.specs.Numbers.{limited, scaled, placed}
 
 -- ---- digits
@@ -18,18 +19,12 @@ limited_none n h = grind (arith, nat_tests)
 pub limited_some : (n : ℕ) → n ≤ 9007199254740991 → limited n ≡ Some n
 limited_some n h = grind (arith, nat_tests)
 
-pub times_grows : (n r : ℕ) → 1 ≤ r → n ≤ n * r
-times_grows n r h = subst (λ (m : ℕ). m ≤ n * r) (mul-one n) (mul-le-mul_left n h)
-
 pub digits_grow : (r n : ℕ) (ds : List ℕ) → 1 ≤ r → n ≤ digits_value_after r n ds
 digits_grow r n [] h = omega arith
 digits_grow r n (d ∷ ds) h =
     let e : n ≤ n * r = times_grows n r h in
     let f : n * r + digit_value d ≤ digits_value_after r (n * r + digit_value d) ds = digits_grow r (n * r + digit_value d) ds h in
     omega arith
-
-pub digits_next : (r n : ℕ) (ds : List ℕ) (i : ℕ) → i < length ds → digits_value_after r n (drop i ds) ≡ digits_value_after r (n * r + digit_value (get_or ds i 0)) (drop (i + 1) ds)
-digits_next r n ds i h = rw (add-one, drop-cons ds i 0) refl
 
 pub too_large : (r n : ℕ) (ds : List ℕ) (i : ℕ) → 1 ≤ r → i < length ds → digits_value_after r n (drop i ds) ≡ digits_value r ds
     → 9007199254740991 < n * r + digit_value (get_or ds i 0) → None ≡ limited (digits_value r ds)
@@ -52,9 +47,6 @@ not_zero ds i h e n =
 
 -- ---- powers
 
-pub pow_some : (k : ℕ) → 1 ≤ 10 ^ k
-pow_some k = one-le-pow k 10 (omega arith)
-
 pub raised_more : (p v i power : ℕ) → i < power → p * 10 ^ (power - i) ≡ v * 10 ^ power → p * 10 * 10 ^ (power - (i + 1)) ≡ v * 10 ^ power
 raised_more p v i power h e =
     let k : power - i ≡ suc (power - (i + 1)) = omega arith in
@@ -75,56 +67,6 @@ limited_times n power h =
     limited_none (n * 10 ^ power) (omega arith)
 
 -- ---- the point
-
-all_digits_drop : (n : ℕ) (ds : List ℕ) → AllDigits 10 ds → AllDigits 10 (drop n ds)
-all_digits_drop zero ds h = h
-all_digits_drop (suc n) [] h = tt
-all_digits_drop (suc n) (d ∷ ds) h = all_digits_drop n ds h.1
-
-value_append : (r n : ℕ) (xs ys : List ℕ) → digits_value_after r n (xs ++ ys) ≡ digits_value_after r (digits_value_after r n xs) ys
-value_append r n [] ys = refl
-value_append r n (x ∷ xs) ys = value_append r (n * r + digit_value x) xs ys
-
-shift_step : (n r d p v : ℕ) → (n * r + d) * p + v ≡ n * (p * r) + ((0 * r + d) * p + v)
-shift_step n r d p v = omega arith
-
-value_shift : (r n : ℕ) (ys : List ℕ) → digits_value_after r n ys ≡ n * r ^ length ys + digits_value r ys
-value_shift r n [] = rw pow-zero (omega arith)
-value_shift r n (y ∷ ys) =
-    let e : digits_value_after r (n * r + digit_value y) ys ≡ (n * r + digit_value y) * r ^ length ys + digits_value r ys = value_shift r (n * r + digit_value y) ys in
-    let f : digits_value_after r (0 * r + digit_value y) ys ≡ (0 * r + digit_value y) * r ^ length ys + digits_value r ys = value_shift r (0 * r + digit_value y) ys in
-    let g : r ^ suc (length ys) ≡ r ^ length ys * r = pow-suc r (length ys) in
-    e ∙ shift_step n r (digit_value y) (r ^ length ys) (digits_value r ys) ∙ ap (λ (x : ℕ). n * x + ((0 * r + digit_value y) * r ^ length ys + digits_value r ys)) (sym g)
-    ∙ ap (λ (x : ℕ). n * r ^ suc (length ys) + x) (sym f)
-
-value_split : (i : ℕ) (ds : List ℕ) → digits_value 10 ds ≡ digits_value 10 (take i ds) * 10 ^ length (drop i ds) + digits_value 10 (drop i ds)
-value_split i ds = ap (digits_value 10) (sym (take-append-drop i ds)) ∙ value_append 10 0 (take i ds) (drop i ds) ∙ value_shift 10 (digits_value 10 (take i ds)) (drop i ds)
-
--- k places behind the point: the digits before it, and those behind it
-pub record Pointed (ds : List ℕ) (k : ℕ) : Type 0 where
-  pub sum : digits_value 10 ds ≡ digits_value 10 (take (length ds - k) ds) * 10 ^ k + digits_value 10 (drop (length ds - k) ds)
-  pub below : digits_value 10 (drop (length ds - k) ds) < 10 ^ k
-
-pointed_sum : (ds : List ℕ) (k : ℕ) → (length ds < k) ⊎ (k ≤ length ds)
-    → digits_value 10 ds ≡ digits_value 10 (take (length ds - k) ds) * 10 ^ k + digits_value 10 (drop (length ds - k) ds)
-pointed_sum ds k (inr h) =
-    let e : length (drop (length ds - k) ds) ≡ k = length-drop (length ds - k) ds ∙ omega arith in
-    value_split (length ds - k) ds ∙ ap (λ (x : ℕ). digits_value 10 (take (length ds - k) ds) * 10 ^ x + digits_value 10 (drop (length ds - k) ds)) e
-pointed_sum ds k (inl h) =
-    let e : length ds - k ≡ 0 = omega arith in
-    rw e (omega arith)
-
-pointed_below : (ds : List ℕ) (k : ℕ) → AllDigits 10 ds → digits_value 10 (drop (length ds - k) ds) < 10 ^ k
-pointed_below ds k h =
-    let n : ℕ = length (drop (length ds - k) ds) in
-    let e : n ≡ length ds - (length ds - k) = length-drop (length ds - k) ds in
-    let f : digits_value 10 (drop (length ds - k) ds) < 10 ^ n = digits_value-lt 10 (drop (length ds - k) ds) (all_digits_drop (length ds - k) ds h) in
-    let m : n ≤ k = omega arith in
-    let g : 10 ^ n ≤ 10 ^ k = pow-le-pow_right (lit< tt) m in
-    omega arith
-
-pub pointed : (ds : List ℕ) (k : ℕ) → AllDigits 10 ds → Pointed ds k
-pointed ds k h = record { sum = pointed_sum ds k (cases_lt (length ds) k); below = pointed_below ds k h }
 
 pub scaled_under : (m up down k : ℕ) → up - down ≡ 0 → down - up ≡ k → scaled m up down ≡ (if m % 10 ^ k == 0 then limited (m / 10 ^ k) else None)
 unfolding scaled

@@ -1,1 +1,12 @@
+pub mod Arithmetic
+pub mod Bits
+pub mod Blanks
+pub mod Capped
+pub mod Comparison
+pub mod Conversions
 pub mod Index
+pub mod Judged
+pub mod Laws
+pub mod LawsOfTexts
+pub mod TextToNumber
+pub mod Texts

@@ -1,10 +1,48 @@
 //! Primitive values of ES3 (section 8) in the profile: whole numbers and NaN, and texts of 16-bit units.
 #![tactic(auto)]
 
+mod addition;
+mod arithmetic;
+mod bits;
+mod blanks;
+mod capped;
+mod comparison;
+mod equality;
+mod index;
 mod int;
+mod laws;
+mod laws_of_texts;
+mod literals;
+mod memory;
+mod numbers;
+mod placed;
 mod primitive;
+mod signature;
+mod stop;
+#[cfg(test)]
+mod tests;
 mod text16;
+mod truth;
+mod writing;
 
+pub use addition::add;
+pub use arithmetic::{add_numbers, div, mul, neg, rem, sub};
+pub use bits::{and, not, or, shl, shr, to_int32, to_uint32, ushr, xor};
+pub use comparison::compare;
+pub use equality::{loose_eq, strict_eq};
+pub use index::array_index;
 pub use int::Int;
+pub use laws::{
+    operations_are_of_integers, quotients_are_exact, remainders_are_exact, residues_are_congruent,
+};
+pub use laws_of_texts::{
+    literals_are_exact, numbers_are_read_back, order_is_strict, strict_equality_is_an_equivalence,
+};
+pub use memory::Memory;
+pub use numbers::to_num;
 pub use primitive::{Num, Prim, Primitive};
+pub use signature::{Kinds, Signature};
+pub use stop::{PrimFault, Stop};
 pub use text16::Text16;
+pub use truth::to_bool;
+pub use writing::to_text;

@@ -1,6 +1,17 @@
-ghost use Rattle.std.specs.Prelude.{◌≡◌};
+ghost use Rattle.std.specs.Prelude.{◌≡◌, ◌++◌, IfOk, OnOk};
+ghost use Rattle.std.specs.Char.Escape.{encode_utf16};
+ghost use Rattle.std.specs.List.{flat_map};
+ghost use Rattle.std.specs.Str.{chars};
+ghost use Rattle.ja_prim.specs.TextToNumber.{text_to_number};
+ghost use Rattle.ja_prim.specs.Texts.{utf16, limited_text, Answers};
 
+use crate::literals::text_to_number;
+use crate::{Num, PrimFault, Stop};
+use std::alloc::{AllocError, AllocFailed, Global};
 use std::marker::Model;
+
+/// The most units that a text of the profile may have.
+pub const MAX_UNITS: usize = 1_048_576;
 
 /// A text of 16-bit units. Contracts see the list of units.
 #[derive(Drop)]
@@ -24,10 +35,72 @@ impl Text16 {
         Text16 { units }
     }
 
+    /// The UTF-16 units of a text. `TextLength` comes exactly where there are more than 1,048,576, and `Memory` where
+    /// memory is refused.
+    pub fn from_str(alloc: Global, text: &str) -> Result<Text16, PrimFault>
+        ensures { Answers (limited_text (utf16 text.now)) result }
+    {
+        let characters = characters_of(alloc, text)?;
+        let units = units_of(alloc, &characters)?;
+        limited(units)
+    }
+
+    /// The number that the text says (ES3 9.3.1).
+    pub(crate) fn number(&self) -> Result<Num, Stop>
+        ensures { result ≡ text_to_number self.now }
+    {
+        text_to_number(&self.units)
+    }
+
     /// The units.
     pub fn units(&self) -> &[u16]
         ensures { result.now ≡ self.now }
     {
         &self.units
     }
+}
+
+/// The text of these units, or `TextLength` exactly where there are more than 1,048,576.
+pub fn limited(units: Vec<u16>) -> Result<Text16, PrimFault>
+    ensures { Answers (limited_text units.items) result }
+{
+    if units.len() > MAX_UNITS {
+        return Err(PrimFault::Stop(Stop::TextLength));
+    }
+    Ok(Text16 { units })
+}
+
+/// The characters of a text.
+#[tactic(auto, using(std::proofs::lemmas::Str::chars_from_encodes))]
+fn characters_of(alloc: Global, text: &str) -> Result<Vec<char>, AllocError>
+    ensures { IfOk result (λ characters. characters.items ≡ chars text.now) }
+{
+    let characters: Vec<char> = text.chars().collect(alloc)?;
+    Ok(characters)
+}
+
+/// Appends the units of a character.
+fn push_character(units: &mut Vec<u16>, c: char) -> Result<(), AllocFailed<u16>>
+    ensures { OnOk result (units.new.items ≡ units.old.items ++ encode_utf16 c) }
+{
+    let code = u32::from(c);
+    if code < 0x1_0000 {
+        units.push(code as u16)?;
+    } else {
+        let over = code - 0x1_0000;
+        units.push((0xD800 + over / 0x400) as u16)?;
+        units.push((0xDC00 + over % 0x400) as u16)?;
+    }
+    Ok(())
+}
+
+/// The units of characters.
+fn units_of(alloc: Global, characters: &[char]) -> Result<Vec<u16>, AllocFailed<u16>>
+    ensures { IfOk result (λ units. units.items ≡ flat_map encode_utf16 characters.now) }
+{
+    let mut units = Vec::new(alloc);
+    'characters: for c in characters {
+        push_character(&mut units, *c)?;
+    }
+    Ok(units)
 }

@@ -1,0 +1,10 @@
+pub mod Capping
+pub mod Digits
+pub mod Equalities
+pub mod Exact
+pub mod Integers
+pub mod Judging
+pub mod Orders
+pub mod Placing
+pub mod ReadingBack
+pub mod Residues

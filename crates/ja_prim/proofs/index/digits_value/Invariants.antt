@@ -1,0 +1,9 @@
+use Rattle.std.proofs.Common.{◌≡◌, ◌<◌, ◌^◌, drop}
+use Rattle.ja_prim.specs.Index as spec
+use Rattle.ja_prim.proofs.index.digits_value.Given as goal
+
+abbrev pub invariant-units : goal.invariant-units
+invariant-units l = record {
+  below : l.value < 10 ^ l.unit-index;
+  same : spec.digits_value l.value (drop l.unit-index l.units) ≡ spec.digits_value 0 l.units;
+}
