@@ -1,2 +1,4 @@
+pub mod Node
 pub mod Program
 pub mod WellFormed
+pub mod Renaming

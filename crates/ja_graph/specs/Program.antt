@@ -1,10 +1,11 @@
 -- The named parts of a program.
 use Rattle.std.specs.Prelude.{ℕ, ◌==◌, List, [], Option, slice_get, find}
-use Rattle.std.specs.Option.{option_and_then, option_map_or}
+use Rattle.std.specs.Option.{option_map_or}
 use Rattle.ja_base.specs.declared.ids.FnId.{FnId}
 use Rattle.ja_base.specs.declared.ids.NodeId.{NodeId}
 use Rattle.ja_base.specs.declared.ids.NameId.{NameId}
 use Rattle.ja_base.specs.declared.ids.Site.{Site}
+use Rattle.ja_graph.specs.declared.builtins.TheConstants as builtins
 use Rattle.ja_graph.specs.declared.node.NodeInfo.{NodeInfo}
 use Rattle.ja_graph.specs.declared.program.Function.{Function}
 use Rattle.ja_graph.specs.declared.program.ObjectSpec.{ObjectSpec}
@@ -24,14 +25,14 @@ object_spec p s = find (λ (o : ObjectSpec). o.site.0 == s) p.opening
 
 -- the site of the global object, and those of the prototypes of the errors that a node throws
 abbrev pub global : Site
-global = record { 0 = 0 }
+global = builtins.GLOBAL
 
 abbrev pub reference_error_prototype : Site
-reference_error_prototype = record { 0 = 3 }
+reference_error_prototype = builtins.REFERENCE_ERROR_PROTOTYPE
 
 abbrev pub type_error_prototype : Site
-type_error_prototype = record { 0 = 4 }
+type_error_prototype = builtins.TYPE_ERROR_PROTOTYPE
 
 -- the name `message`
 abbrev pub message : NameId
-message = record { 0 = 1 }
+message = builtins.MESSAGE
