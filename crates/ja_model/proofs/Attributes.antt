@@ -1,7 +1,7 @@
 -- What a write at one object needs: the attributes that it leaves are known, and a new label has one object.
 use Rattle.std.specs.Prelude.{◌≡◌, ◌+◌, ◌==◌, ℕ, false, not, if◌then◌else◌, IsTrue, List, Some, None}
 use Rattle.std.proofs.Common.{refl, sym, subst, ap, arith, ◌∙◌}
-use Rattle.std.proofs.lemmas.Bool.{and_parts, cond-true, eqb-true, not-false}
+use Rattle.std.proofs.lemmas.Bool.{cond-true, eqb-true, not-false}
 use Rattle.ja_base.specs.declared.ids.Label.{Label}
 use Rattle.ja_graph.specs.declared.program.Program.{Program}
 use Rattle.ja_model.specs.declared.machine.Addr.{Addr}
@@ -13,10 +13,11 @@ use Rattle.ja_model.specs.Heap.{count, no_attrs}
 use Rattle.ja_model.specs.Heap as heap
 use Rattle.ja_model.specs.AbstractValue.{unknown_attrs, of_attrs}
 use Rattle.ja_model.specs.AbstractState.{same_key}
-use Rattle.ja_model.specs.Meaning.{label_of, has_value, named, key_of, allows_attrs}
+use Rattle.ja_model.specs.Meaning.{label_of, named, key_of, allows_attrs}
 use Rattle.ja_model.specs.Reading.{View, demands_of, own, may_be_absent, may_be_present}
 use Rattle.ja_model.specs.Transfer.{written_attrs}
 use Rattle.ja_model.proofs.Interface.{IsObjectOf, IsFilled, IsRead}
+use Rattle.ja_model.proofs.Parts.{allows_attrs-known}
 use Rattle.ja_model.proofs.Values.{allows_attrs-join_left, allows_attrs-join_right}
 use Rattle.ja_model.proofs.Walks.{may_be_absent-own, may_be_present-own, knows-own}
 
@@ -52,7 +53,7 @@ module _ (p : Program) (e c : Heap) (w : View) (r : IsRead p e c w) (t : List �
   pub written_attrs-Some : (q : Property) → heap.own c a t ≡ Some q → IsTrue (allows_attrs (written_attrs w (label_of c a) k) q.attrs)
   written_attrs-Some q some =
       let there : IsTrue (may_be_present w here k) = may_be_present-own p e c w r t k same a o filled q some in
-      let (v, known) = and_parts (has_value c (own w here k).value q.value) (allows_attrs (own w here k).attrs q.attrs) (knows-own p e c w r t k same a o filled q some) in
+      let known : IsTrue (allows_attrs (own w here k).attrs q.attrs) = allows_attrs-known c (own w here k) q.content q.attrs (knows-own p e c w r t k same a o filled q some) in
       allows_attrs-join_left kept added q.attrs (subst (λ m. IsTrue (allows_attrs m q.attrs)) (sym (cond-true (may_be_present w here k) (own w here k).attrs unknown_attrs there)) known)
 
   -- a property that is added has none

@@ -27,7 +27,7 @@ use Rattle.ja_model.specs.AbstractValue.{AbstractValue, AbstractProperty, join_p
 use Rattle.ja_model.specs.AbstractState.{AbstractState, join_states}
 use Rattle.ja_model.specs.Reading.{Entries}
 use Rattle.ja_model.specs.Transfer.{Out, transfer, transfer_node, view_of}
-use Rattle.ja_model.specs.Meaning.{Content, missing, held, present, has_primitive, has_value, allows_attrs, LeqValue, LeqProperty, Holds, content, knows, label_of, key_of, LeqState, opened}
+use Rattle.ja_model.specs.Meaning.{Content, missing, held, present, present_row, has_primitive, has_value, allows_attrs, LeqValue, LeqProperty, Holds, content, knows, label_of, key_of, LeqState, opened}
 use Rattle.ja_model.specs.Table.{Table, root, with_demands, joined_state, with_state, with_states, with_out, visit_step, IsClosed}
 use Rattle.ja_model.proofs.Interface.{IsFilled}
 use Rattle.ja_model.proofs.Lists.{Member, is_some_from}
@@ -86,6 +86,9 @@ leq_knows h q r (held v) l e = leq_has_value h q.value r.value v l.value e
 leq_knows h q r (present v attrs) l e =
     let k : IsTrue (has_value h q.value v) × IsTrue (allows_attrs q.attrs attrs) = and_parts _ _ e in
     and_from _ _ (leq_has_value h q.value r.value v l.value k.0) (subst (λ m. IsTrue (allows_attrs m attrs)) l.attrs (allows_attrs-join_left q.attrs r.attrs attrs k.1))
+leq_knows h q r (present_row attrs) l e =
+    let k : IsTrue q.value.flags.row × IsTrue (allows_attrs q.attrs attrs) = and_parts _ _ e in
+    and_from _ _ (sym (ap (λ (g : Flags). g.row) l.value.flags) ∙ or_left _ _ k.0) (subst (λ m. IsTrue (allows_attrs m attrs)) l.attrs (allows_attrs-join_left q.attrs r.attrs attrs k.1))
 
 -- a state is within one that has each of its parts
 pub IsWithin-from_leq : (p : Program) (a b : AbstractState) → LeqState a b → IsWithin p a b

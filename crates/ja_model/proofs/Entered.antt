@@ -11,7 +11,7 @@ use Rattle.ja_base.specs.declared.ids.NameId.{NameId}
 use Rattle.ja_prim.specs.declared.primitive.Num.TheVariants.{NaN, Whole}
 use Rattle.ja_prim.specs.declared.primitive.Primitive.{Primitive}
 use Rattle.ja_prim.specs.declared.primitive.Primitive.TheVariants as primitive
-use Rattle.ja_graph.specs.declared.node.Attrs.{Attrs}
+use Rattle.ja_graph.specs.declared.attrs.Attrs.{Attrs}
 use Rattle.ja_graph.specs.declared.program.PropertySpec.{PropertySpec}
 use Rattle.ja_graph.specs.declared.program.Program.{Program}
 use Rattle.ja_graph.specs.WellFormed.{IsWellFormed, IsName}
@@ -29,7 +29,7 @@ use Rattle.ja_model.specs.Machine.{name_text, first_of, opening_property, openin
 use Rattle.ja_model.specs.AbstractValue.{AbstractProperty, join_properties, no_property, of_primitive, of_attrs}
 use Rattle.ja_model.specs.AbstractState.{name_key}
 use Rattle.ja_model.specs.Reading.{Entries}
-use Rattle.ja_model.specs.Meaning.{Content, missing, held, present, Spot, named, internal, content, property_content, label_of, name_of, key_of, has_primitive, has_value, allows, allows_attrs, knows, of_value, of_content, key_content, opened_at, opened, EntriesHold}
+use Rattle.ja_model.specs.Meaning.{Content, missing, held, present, present_row, Spot, named, internal, content, property_content, label_of, name_of, key_of, has_primitive, has_value, allows, allows_attrs, knows, of_value, of_content, key_content, opened_at, opened, EntriesHold}
 use Rattle.ja_model.proofs.Interface.{IsObjectOf}
 use Rattle.ja_model.proofs.Heaps
 use Rattle.ja_model.proofs.Opening.{IsOpened, opened_at_address, count-opening}
@@ -65,6 +65,7 @@ of_content_knows : (h : Heap) (c : Content) → IsTrue (knows h (of_content h c)
 of_content_knows h missing = refl
 of_content_knows h (held v) = of_value_has h v
 of_content_knows h (present v attrs) = and_from _ _ (of_value_has h v) (of_attrs_allows attrs)
+of_content_knows h (present_row attrs) = of_attrs_allows attrs
 
 -- ---- keys and names
 

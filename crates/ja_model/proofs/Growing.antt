@@ -12,7 +12,7 @@ use Rattle.ja_model.specs.declared.machine.Object.{Object}
 use Rattle.ja_model.specs.declared.machine.Heap.{Heap}
 use Rattle.ja_model.specs.Heap.{objects_of, count, size, object_at, with_new, new_address, with_object, object_with_value, prototype_of, outer_of}
 use Rattle.ja_model.specs.Machine.{opening_heap}
-use Rattle.ja_model.specs.Meaning.{Content, missing, held, present, Spot, content, object_content}
+use Rattle.ja_model.specs.Meaning.{Content, missing, held, present, present_row, Spot, content, object_content}
 use Rattle.ja_model.proofs.Interface.{IsObjectOf, IsValueOf, IsContentOf, IsHeap, Grows}
 use Rattle.ja_model.proofs.Lists.{is_some_from}
 use Rattle.ja_model.proofs.Resolved.{ordinal-below}
@@ -42,6 +42,7 @@ module _ (p : Program) (h : Heap) (s : Site) (o : Object) (known : IsRunHeap p h
   content_stays missing k = tt
   content_stays (held v) k = Heaps.value_stays h s o row v k
   content_stays (present v attrs) k = Heaps.value_stays h s o row v k
+  content_stays (present_row attrs) k = tt
 
   new_rank : Addr → ℕ
   new_rank a = cond ((a.site.0 == s.0) && (a.ordinal == count h s)) (size h) (known.heap.rank a)
@@ -130,6 +131,7 @@ module _ (p : Program) (h : Heap) (a : Addr) (o : Object) (t : List ℕ) (v : Va
   content_written missing k = tt
   content_written (held u) k = Heaps.value_written h a o there t v u k
   content_written (present u attrs) k = Heaps.value_written h a o there t v u k
+  content_written (present_row attrs) k = tt
 
   inside_written : (b : Addr) (x : Spot) → IsContentOf (with_object h a (object_with_value o t v)) (content (with_object h a (object_with_value o t v)) b x)
   inside_written b x =

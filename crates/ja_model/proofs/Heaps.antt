@@ -9,7 +9,7 @@ use Rattle.std.proofs.lemmas.Cmp.{nat_list_eq_equiv}
 use Rattle.std.proofs.lemmas.List.Sums.{sum_by-cons}
 use Rattle.ja_base.specs.declared.ids.Label.{Label}
 use Rattle.ja_base.specs.declared.ids.Site.{Site}
-use Rattle.ja_graph.specs.declared.node.Attrs.{Attrs}
+use Rattle.ja_graph.specs.declared.attrs.Attrs.{Attrs}
 use Rattle.ja_model.specs.declared.machine.Addr.{Addr}
 use Rattle.ja_model.specs.declared.machine.Value.{Value}
 use Rattle.ja_model.specs.declared.machine.Value.TheVariants as value

@@ -9,6 +9,7 @@ pub mod Keys
 pub mod Labels
 pub mod Lists
 pub mod Made
+pub mod Nodes
 pub mod Opening
 pub mod Order
 pub mod Parts

@@ -21,6 +21,7 @@ use Rattle.ja_model.specs.declared.abstraction.Key.TheVariants as key
 use Rattle.ja_model.specs.declared.machine.Addr.{Addr}
 use Rattle.ja_model.specs.declared.machine.Value.{Value}
 use Rattle.ja_model.specs.declared.machine.Value.TheVariants as value
+use Rattle.ja_model.specs.declared.machine.Content.TheVariants as contents
 use Rattle.ja_model.specs.declared.machine.Object.{Object}
 use Rattle.ja_model.specs.declared.machine.Heap.{Heap}
 use Rattle.ja_model.specs.declared.machine.Frame.{Frame}
@@ -31,10 +32,11 @@ use Rattle.ja_model.specs.AbstractValue.{AbstractValue, AbstractProperty, join_p
 use Rattle.ja_model.specs.AbstractState.{AbstractState, new, old, same_key, with_property, aged, aged_property, made_property, with_made, exactly_some}
 use Rattle.ja_model.specs.Reading.{prototype}
 use Rattle.ja_model.specs.Transfer.{message_property, with_error}
-use Rattle.ja_model.specs.Meaning.{property_content, Content, missing, held, present, Spot, named, internal, content, object_content, label_of, key_of, has_primitive, has_value, knows, allows_attrs, Holds, IsAsAtEntry}
+use Rattle.ja_model.specs.Meaning.{property_content, Content, missing, held, present, present_row, Spot, named, internal, content, object_content, label_of, key_of, has_primitive, has_value, knows, allows_attrs, Holds, IsAsAtEntry}
 use Rattle.ja_model.proofs.Interface.{IsObjectOf, IsValueOf, IsContentOf, Grows}
 use Rattle.ja_model.proofs.Resolved.{object_from_ordinal}
 use Rattle.ja_model.proofs.Heaps
+use Rattle.ja_model.proofs.Nodes.{message_is}
 use Rattle.ja_model.proofs.Keys.{same_key-true, key_of-name}
 use Rattle.ja_model.proofs.Labels.{same_label-self, same_label_from}
 use Rattle.ja_model.proofs.Values.{knows-join_left, knows-join_right}
@@ -93,6 +95,7 @@ module _ (h : Heap) (s : Site) (o : Object) (row : s.0 < length h.objects) where
   aged_knows q (present v attrs) there e =
       let k : IsTrue (has_value h q.value v) × IsTrue (allows_attrs q.attrs attrs) = and_parts _ _ e in
       and_from _ _ (aged_has q.value v there k.0) k.1
+  aged_knows q (present_row attrs) there e = e
 
 -- what a property says of an object of a heap
 abbrev pub Tells : Heap → Heap → Addr → Spot → AbstractProperty → Type 0
@@ -180,7 +183,7 @@ module _ (p : Program) (good : IsWellFormed p) (e h : Heap) (s proto : Site) (te
       first_there : IsObjectOf h (first_of proto)
       first_there = object_from_ordinal h (first_of proto) (let one : count h proto ≡ 1 = known.single proto first in omega arith)
 
-      inside_named : (u : List ℕ) (b : Bool) → IsContentOf h (property_content (cond b (Some (record { name = codes "message"; value = value.Primitive (primitive.Text text); attrs = no_attrs })) None))
+      inside_named : (u : List ℕ) (b : Bool) → IsContentOf h (property_content (cond b (Some (record { name = codes "message"; content = contents.Value (value.Primitive (primitive.Text text)); attrs = no_attrs })) None))
       inside_named u true = tt
       inside_named u false = tt
 
@@ -217,10 +220,10 @@ module _ (p : Program) (good : IsWellFormed p) (e h : Heap) (s proto : Site) (te
   property_prototype = cond-false _ _ _ (and_right _ _ refl) ∙ cond-true _ _ _ (and_from _ _ (same_label-self (new s)) refl)
 
   message_text : name_text p message ≡ codes "message"
-  message_text = ap (λ o. unwrap_or o []) good.message
+  message_text = ap (λ o. unwrap_or o []) (message_is p good)
 
   message_key : key_of p (named (codes "message")) ≡ key.Name message
-  message_key = subst (λ u. key_of p (named u) ≡ key.Name message) message_text (key_of-name p good message (slice_get_within p.names 1 (codes "message") good.message))
+  message_key = subst (λ u. key_of p (named u) ≡ key.Name message) message_text (key_of-name p good message (slice_get_within p.names message.0 (codes "message") (message_is p good)))
 
   none_told : (k : Key) → same_key (key.Name message) k ≡ false → same_key prototype k ≡ false → IsTrue (knows now (error_state.property (new s) k) missing)
   none_told k m n = subst (λ q. IsTrue (knows now q missing)) (sym (property_other_key k m n)) refl
@@ -238,7 +241,7 @@ module _ (p : Program) (good : IsWellFormed p) (e h : Heap) (s proto : Site) (te
 
   other_told : (u : List ℕ) → same_text (codes "message") u ≡ false → IsTrue (knows now (error_state.property (new s) (key_of p (named u))) (object_content (error_object proto text) (named u)))
   other_told u ne =
-      subst (λ c. IsTrue (knows now (error_state.property (new s) (key_of p (named u))) (property_content c))) (sym (cond-false (same_text (codes "message") u) (Some (record { name = codes "message"; value = value.Primitive (primitive.Text text); attrs = no_attrs })) None ne))
+      subst (λ c. IsTrue (knows now (error_state.property (new s) (key_of p (named u))) (property_content c))) (sym (cond-false (same_text (codes "message") u) (Some (record { name = codes "message"; content = contents.Value (value.Primitive (primitive.Text text)); attrs = no_attrs })) None ne))
       (none_told (key_of p (named u)) (false_from_ne_true _ (λ k. let t : codes "message" ≡ u = sym message_text ∙ text_of_key p u message (sym (same_key-true (key.Name message) _ k)) in false≢true (sym ne ∙ (ap (same_text (codes "message")) (sym t) ∙ Heaps.same_text_refl (codes "message"))))) (false_from_ne_true _ (λ k. no_slot_of_text p u slot.Prototype (sym (same_key-true prototype _ k)))))
 
   -- what the new object has is told

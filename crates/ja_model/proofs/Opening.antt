@@ -8,18 +8,22 @@ use Rattle.std.proofs.lemmas.Bool.{cases_Bool, false≢true, eq-eqb, eqb-true, c
 use Rattle.std.proofs.lemmas.List.Sums.{sum_by-cons}
 use Rattle.std.proofs.lemmas.List.FromFn.{length-map-range_with_len}
 use Rattle.ja_base.specs.declared.ids.Site.{Site}
+use Rattle.ja_prim.specs.declared.primitive.Primitive.{Primitive}
 use Rattle.ja_graph.specs.declared.program.ObjectSpec.{ObjectSpec}
+use Rattle.ja_graph.specs.declared.attrs.Attrs.{Attrs}
 use Rattle.ja_graph.specs.declared.program.PropertySpec.{PropertySpec}
+use Rattle.ja_graph.specs.declared.program.SpecContent.{SpecContent}
+use Rattle.ja_graph.specs.declared.program.SpecContent.TheVariants as spec_content
 use Rattle.ja_graph.specs.declared.program.Program.{Program}
 use Rattle.ja_graph.specs.Program.{object_spec}
-use Rattle.ja_graph.specs.WellFormed.{IsWellFormed}
+use Rattle.ja_graph.specs.WellFormed.{IsWellFormed, IsContent, StandsBefore}
 use Rattle.ja_model.specs.declared.abstraction.Slot.TheVariants as slot
 use Rattle.ja_model.specs.declared.machine.Addr.{Addr}
 use Rattle.ja_model.specs.declared.machine.Property.{Property}
 use Rattle.ja_model.specs.declared.machine.Object.{Object}
 use Rattle.ja_model.specs.Heap.{objects_of, count, size, object_at, same_text, prototype_of, outer_of}
-use Rattle.ja_model.specs.Machine.{name_text, first_of, opening_property, opening_object, opening_objects, opening_heap}
-use Rattle.ja_model.specs.Meaning.{Spot, named, internal, content, object_content, property_content, held_address}
+use Rattle.ja_model.specs.Machine.{name_text, first_of, opening_content, opening_property, opening_object, opening_objects, opening_heap}
+use Rattle.ja_model.specs.Meaning.{Spot, named, internal, content, object_content, content_of, property_content, held_address, held_primitive}
 use Rattle.ja_model.proofs.Interface.{IsObjectOf, IsContentOf}
 use Rattle.ja_model.proofs.Lists.{is_some_from, within_from_some}
 use Rattle.ja_model.proofs.Resolved.{ordinal-below, object_from_ordinal}
@@ -168,30 +172,37 @@ module _ (p : Program) (good : IsWellFormed p) where
 
   -- ---- contents
 
-  found_inside : (qs : List PropertySpec) (t : List ℕ) → IsContentOf (opening_heap p) (property_content (find (λ (q : Property). same_text q.name t) (map (opening_property p) qs)))
-  found_inside [] t = tt
-  found_inside (q ∷ qs) t =
+  spec_inside : (x : SpecContent) (attrs : Attrs) → IsContent p x → IsContentOf (opening_heap p) (content_of (opening_content x) attrs)
+  spec_inside (spec_content.Prim q) attrs fits = tt
+  spec_inside (spec_content.Object s) attrs fits = first-opening s fits
+  spec_inside spec_content.Row attrs fits = tt
+
+  found_inside : (qs : List PropertySpec) (t : List ℕ) → ((j : ℕ) (q : PropertySpec) → slice_get qs j ≡ Some q → IsContent p q.content) → IsContentOf (opening_heap p) (property_content (find (λ (q : Property). same_text q.name t) (map (opening_property p) qs)))
+  found_inside [] t fits = tt
+  found_inside (q ∷ qs) t fits =
       elim (cases_Bool (same_text (name_text p q.name) t)) [
-        | inl e ↦ subst (λ r. IsContentOf (opening_heap p) (property_content r)) (sym (cond-true _ (Some (opening_property p q)) (find (λ (r : Property). same_text r.name t) (map (opening_property p) qs)) e)) tt
-        | inr e ↦ subst (λ r. IsContentOf (opening_heap p) (property_content r)) (sym (cond-false _ (Some (opening_property p q)) (find (λ (r : Property). same_text r.name t) (map (opening_property p) qs)) e)) (found_inside qs t)
+        | inl e ↦ subst (λ r. IsContentOf (opening_heap p) (property_content r)) (sym (cond-true _ (Some (opening_property p q)) (find (λ (r : Property). same_text r.name t) (map (opening_property p) qs)) e)) (spec_inside q.content q.attrs (fits 0 q refl))
+        | inr e ↦ subst (λ r. IsContentOf (opening_heap p) (property_content r)) (sym (cond-false _ (Some (opening_property p q)) (find (λ (r : Property). same_text r.name t) (map (opening_property p) qs)) e)) (found_inside qs t (λ j r k. fits (suc j) r k))
       ]
 
-  prototype_inside : (o : Option Site) → ((s : Site) → o ≡ Some s → s.0 < length p.opening) → IsContentOf (opening_heap p) (held_address (option_map first_of o))
-  prototype_inside None h = tt
-  prototype_inside (Some s) h = first-opening s (h s refl)
+  link_inside : (o : Option Site) → ((s : Site) → o ≡ Some s → s.0 < length p.opening) → IsContentOf (opening_heap p) (held_address (option_map first_of o))
+  link_inside None h = tt
+  link_inside (Some s) h = first-opening s (h s refl)
 
-  prototype_fits : (a : Addr) (k : IsOpened p a) (s : Site) → k.spec.prototype ≡ Some s → s.0 < length p.opening
-  prototype_fits a k s e =
-      let (j, q, before, at, site_is) = (good.objects _ k.spec k.spec_is).prototype s e in
-      let fits : q.site.0 < length p.opening = (good.objects j q at).site in
-      omega arith
+  value_inside : (o : Option Primitive) → IsContentOf (opening_heap p) (held_primitive o)
+  value_inside None = tt
+  value_inside (Some q) = tt
+
+  -- a site that a link leads to has its object in the opening heap
+  pub site_before : (i : ℕ) (s : Site) → StandsBefore p i s → s.0 < length p.opening
+  site_before i s (j, q, before, at, site_is) = let fits : q.site.0 < length p.opening = (good.objects j q at).site in omega arith
 
   object_inside : (a : Addr) (k : IsOpened p a) (x : Spot) → IsContentOf (opening_heap p) (object_content (opening_object p k.spec) x)
-  object_inside a k (named t) = found_inside k.spec.properties t
-  object_inside a k (internal slot.Prototype) = prototype_inside k.spec.prototype (prototype_fits a k)
+  object_inside a k (named t) = found_inside k.spec.properties t (good.objects _ k.spec k.spec_is).contents
+  object_inside a k (internal slot.Prototype) = link_inside k.spec.prototype (λ s e. site_before _ s ((good.objects _ k.spec k.spec_is).prototype s e))
   object_inside a k (internal slot.Outer) = tt
-  object_inside a k (internal slot.Scope) = tt
-  object_inside a k (internal slot.Value) = tt
+  object_inside a k (internal slot.Scope) = link_inside k.spec.scope (λ s e. site_before _ s ((good.objects _ k.spec k.spec_is).scope s e))
+  object_inside a k (internal slot.Value) = value_inside k.spec.value
 
   inside-opening : (a : Addr) (x : Spot) → IsContentOf (opening_heap p) (content (opening_heap p) a x)
   inside-opening a x =

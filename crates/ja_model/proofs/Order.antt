@@ -1,9 +1,9 @@
 -- The order of abstract values, states and tables: joins are above what they join, and what is below each other is equal.
-use Rattle.std.specs.Prelude.{◌≡◌, ℕ, ℤ, pos, negsuc, Bool, true, false, ◌||◌, ◌&&◌, if◌then◌else◌, ◌==◌, cond, IsTrue, List, [], ◌∷◌, Option, Some, None, unwrap_or}
+use Rattle.std.specs.Prelude.{◌≡◌, ℕ, ℤ, pos, negsuc, Bool, true, false, ◌||◌, ◌&&◌, if◌then◌else◌, ◌==◌, IsTrue, List, [], ◌∷◌, Option, Some, None, unwrap_or}
 use Rattle.std.specs.Ordering.{int_eq}
 use Rattle.std.specs.Option.{option_map}
-use Rattle.std.proofs.Common.{refl, sym, ◌∙◌, ap, subst, arith}
-use Rattle.std.proofs.lemmas.Bool.{or_left, or_right, false≢true, true≢false, cond_both}
+use Rattle.std.proofs.Common.{refl, sym, ◌∙◌, ap, subst}
+use Rattle.std.proofs.lemmas.Bool.{or_left, false≢true, true≢false}
 use Rattle.std.proofs.lemmas.Bool.Decides.{Decides-int_eq}
 use lib.Pointwise.{bytes_decides}
 use Rattle.ja_base.specs.declared.ids.Label.{Label}
@@ -18,11 +18,11 @@ use Rattle.ja_model.specs.declared.abstraction.NumberPart.{NumberPart}
 use Rattle.ja_model.specs.declared.abstraction.NumberPart.TheVariants as number_part
 use Rattle.ja_model.specs.declared.abstraction.TextPart.{TextPart}
 use Rattle.ja_model.specs.declared.abstraction.TextPart.TheVariants as text_part
-use Rattle.ja_model.specs.AbstractValue.{AbstractValue, AbstractProperty, join, join_properties, join_flags, join_may, join_attrs, no_property, same_label}
+use Rattle.ja_model.specs.AbstractValue.{AbstractValue, AbstractProperty, join, join_properties, join_flags, join_may, join_attrs, no_property}
 use Rattle.ja_model.specs.AbstractState.{AbstractState, join_states, join_masks}
 use Rattle.ja_model.specs.Meaning.{LeqValue, LeqProperty, LeqState, number_has, text_has, opened}
 use Rattle.ja_model.specs.Reading.{Entries, Demands}
-use Rattle.ja_model.specs.Table.{Table, root, same_context, with_state, with_states, with_demands, with_out, demanded, joined_state, visit_open, opened_entries}
+use Rattle.ja_model.specs.Table.{Table, root, same_context, with_state, with_states, with_demands, demanded, joined_state, visit_open, opened_entries}
 use Rattle.ja_model.proofs.Values.{number_has-join_left, text_has-join_left}
 
 -- ---- one test

@@ -7,10 +7,13 @@ use Rattle.ja_base.specs.declared.ids.Label.{Label}
 use Rattle.ja_prim.specs.declared.primitive.Num.TheVariants.{NaN, Whole}
 use Rattle.ja_prim.specs.declared.primitive.Primitive.{Primitive}
 use Rattle.ja_prim.specs.declared.primitive.Primitive.TheVariants as primitive
+use Rattle.ja_graph.specs.declared.attrs.Attrs.{Attrs}
 use Rattle.ja_graph.specs.declared.program.Program.{Program}
 use Rattle.ja_model.specs.declared.machine.Addr.{Addr}
 use Rattle.ja_model.specs.declared.machine.Value.{Value}
 use Rattle.ja_model.specs.declared.machine.Value.TheVariants as value
+use Rattle.ja_model.specs.declared.machine.Content as property
+use Rattle.ja_model.specs.declared.machine.Content.TheVariants as contents
 use Rattle.ja_model.specs.declared.machine.Heap.{Heap}
 use Rattle.ja_model.specs.declared.abstraction.NumberPart.{NumberPart}
 use Rattle.ja_model.specs.declared.abstraction.NumberPart.TheVariants as number_part
@@ -18,10 +21,10 @@ use Rattle.ja_model.specs.declared.abstraction.TextPart.{TextPart}
 use Rattle.ja_model.specs.declared.abstraction.TextPart.TheVariants as text_part
 use Rattle.ja_model.specs.AbstractValue.{Labels, AbstractValue, AbstractProperty, same_label, has_present_flag, has_number, has_text, is_present, has_part, present_part}
 use Rattle.ja_model.specs.AbstractState.{labels_of}
-use Rattle.ja_model.specs.Meaning.{label_of, number_has, text_has, has_primitive, has_value, Content, missing, held, present, knows}
+use Rattle.ja_model.specs.Meaning.{label_of, number_has, text_has, has_primitive, has_value, Content, missing, held, present, present_row, content_of, allows_attrs, knows}
 use Rattle.ja_model.specs.Reading.{known_part, join_all, join_values}
 use Rattle.ja_model.specs.Transfer.{as_read}
-use Rattle.ja_model.proofs.Interface.{IsObjectOf, IsValueOf, IsHeap}
+use Rattle.ja_model.proofs.Interface.{IsObjectOf, IsValueOf, IsContentOf, IsHeap}
 use Rattle.ja_model.proofs.Labels.{IsAmong, same_label-true, some_among, labels_of-has}
 use Rattle.ja_model.proofs.Values.{has_value-join_left, has_value-join_right, knows-join_left, knows-join_right}
 
@@ -53,6 +56,7 @@ knows-known_part h q (held u) e = has_value-flags h q.value q.value.flags.absent
 knows-known_part h q (present u attrs) e =
     let (v, a) = and_parts _ _ e in
     and_from _ _ (has_value-flags h q.value q.value.flags.absent false u v) a
+knows-known_part h q (present_row attrs) e = e
 
 -- what is read has the primitives
 has_primitive-as_read : (v : AbstractValue) (q : Primitive) → IsTrue (has_primitive v q) → IsTrue (has_primitive (as_read v) q)
@@ -168,3 +172,17 @@ is_present-has_value p h heap v (value.Object a) o e = is_present_from_label (la
 -- .. and some part
 pub has_part-has_value : (p : Program) (h : Heap) → IsHeap p h → (v : AbstractValue) (u : Value) → IsValueOf h u → IsTrue (has_value h v u) → IsTrue (has_part (labels_of p) v)
 has_part-has_value p h heap v u o e = has_part_from_present (labels_of p) v (is_present-has_value p h heap v u o e)
+
+-- ---- a property that is known
+
+-- what is known of a property has its attributes
+pub allows_attrs-known : (h : Heap) (q : AbstractProperty) (x : property.Content) (attrs : Attrs) → IsTrue (knows h q (content_of x attrs)) → IsTrue (allows_attrs q.attrs attrs)
+allows_attrs-known h q (contents.Value v) attrs e = (and_parts (has_value h q.value v) (allows_attrs q.attrs attrs) e).1
+allows_attrs-known h q contents.Row attrs e = (and_parts q.value.flags.row (allows_attrs q.attrs attrs) e).1
+
+-- .. and a present part
+pub is_present-known : (p : Program) (h : Heap) → IsHeap p h → (q : AbstractProperty) (x : property.Content) (attrs : Attrs) → IsContentOf h (content_of x attrs) → IsTrue (knows h q (content_of x attrs)) → IsTrue (is_present (labels_of p) q.value)
+is_present-known p h heap q (contents.Value v) attrs o e = is_present-has_value p h heap q.value v o (and_parts (has_value h q.value v) (allows_attrs q.attrs attrs) e).0
+is_present-known p h heap q contents.Row attrs o e =
+    let row : IsTrue q.value.flags.row = (and_parts q.value.flags.row (allows_attrs q.attrs attrs) e).0 in
+    by_flag (labels_of p) q.value (grind (arith, row, or_left, or_right))

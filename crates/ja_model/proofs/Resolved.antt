@@ -17,7 +17,7 @@ use Rattle.ja_model.specs.declared.abstraction.Key.{Key}
 use Rattle.ja_model.specs.Heap.{count, objects_of, object_at}
 use Rattle.ja_model.specs.AbstractValue.{Labels, AbstractValue, AbstractProperty, same_label, join_properties, no_property}
 use Rattle.ja_model.specs.AbstractState.{new, old, same_key}
-use Rattle.ja_model.specs.Meaning.{label_of, has_value, Spot, Content, missing, held, present, content, key_of, knows, IsAsAtEntry}
+use Rattle.ja_model.specs.Meaning.{label_of, has_value, Spot, Content, missing, held, present, present_row, content, key_of, knows, IsAsAtEntry}
 use Rattle.ja_model.specs.Reading.{View, origins, renamed_labels, renamed, known_part, from_entry, demands_of, own}
 use Rattle.ja_model.proofs.Interface.{IsObjectOf, IsValueOf, IsContentOf, Grows, IsFilled, IsRead}
 use Rattle.ja_model.proofs.Keys.{same_key-true, same_key-self}
@@ -136,6 +136,7 @@ knows-renamed e c mask aged q (held u) o h = has_value-renamed e c mask aged q.v
 knows-renamed e c mask aged q (present u attrs) o h =
     let (v, a) = and_parts _ _ h in
     and_from _ _ (has_value-renamed e c mask aged q.value u o v) a
+knows-renamed e c mask aged q (present_row attrs) o h = h
 
 -- ---- the resolved reading
 

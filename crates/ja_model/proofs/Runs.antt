@@ -12,12 +12,12 @@ use Rattle.ja_base.specs.declared.ids.Reg.{Reg}
 use Rattle.ja_prim.specs.declared.primitive.Primitive.TheVariants as primitive
 use Rattle.ja_prim.specs.declared.primitive.Num.TheVariants.{Whole}
 use Rattle.ja_graph.specs.declared.node.Node.{Node}
-use Rattle.ja_graph.specs.declared.node.Node.TheVariants.{Const, FindName, ReadRef, WriteRef, Call, Return, Escape}
+use Rattle.ja_graph.specs.declared.node.Node.TheVariants.{ReadRef, Call}
 use Rattle.ja_graph.specs.declared.node.NodeInfo.{NodeInfo}
 use Rattle.ja_graph.specs.declared.program.Function.{Function}
 use Rattle.ja_graph.specs.declared.program.Program.{Program}
 use Rattle.ja_graph.specs.Program.{node_at, global}
-use Rattle.ja_graph.specs.WellFormed.{IsWellFormed, IsNodeInRange, IsRegister}
+use Rattle.ja_graph.specs.WellFormed.{IsWellFormed, IsRegister, fixed_registers}
 use Rattle.ja_model.specs.declared.machine.Value.{Value}
 use Rattle.ja_model.specs.declared.machine.Value.TheVariants as value
 use Rattle.ja_model.specs.declared.machine.Heap.{Heap}
@@ -40,6 +40,7 @@ use Rattle.ja_model.specs.Warning.{AreWarnings, kind_of, allows_fault, is_null, 
 use Rattle.ja_model.specs.Sound.{CoversRuns, WarnsOfFaults}
 use Rattle.ja_model.proofs.Interface.{IsValueOf}
 use Rattle.ja_model.proofs.Heaps
+use Rattle.ja_model.proofs.Nodes.{IsNodeInRange, node_in_range, node_sites, global_fits}
 use Rattle.ja_model.proofs.Labels.{same_label_from}
 use Rattle.ja_model.proofs.Parts.{has_part-has_value}
 use Rattle.ja_model.proofs.Opening.{IsRunHeap-opening, count-opening, first-opening}
@@ -67,12 +68,9 @@ module _ (p : Program) (t : Table) (good : IsWellFormed p) (closed : IsClosed p 
 
   -- ---- the state in which a run begins
 
-  global_fits : 0 < length p.opening
-  global_fits = let l : 5 ≤ length p.opening = good.builtin_objects in omega arith
-
   global_label : label_of (opening_heap p) (first_of global) ≡ new global
   global_label =
-      let one : count (opening_heap p) global ≡ 1 = count-opening p good global global_fits in
+      let one : count (opening_heap p) global ≡ 1 = count-opening p good global (global_fits p good) in
       Heaps.same_parts _ (new global) refl (Heaps.label_is_new (opening_heap p) (first_of global) (omega arith))
 
   registers_are : registers_of p program_function ≡ good.text.registers
@@ -80,7 +78,7 @@ module _ (p : Program) (t : Table) (good : IsWellFormed p) (closed : IsClosed p 
 
   opening_length : length (opening_registers (registers_of p program_function)) ≡ good.text.registers
   opening_length =
-      let six : 6 ≤ good.text.registers = (good.each 0 good.text good.text_is).registers in
+      let fixed : fixed_registers good.text ≤ good.text.registers = (good.each 0 good.text good.text_is).registers in
       omega (arith, length-replicate (registers_of p program_function - 5) undefined, registers_are)
 
   -- what the registers hold at the entry
@@ -92,7 +90,7 @@ module _ (p : Program) (t : Table) (good : IsWellFormed p) (closed : IsClosed p 
       cond-false (r == 1) _ _ (ne_eqb r 1 (λ g. omega arith)) ∙ (cond-false (r == 2) _ _ (ne_eqb r 2 (λ g. omega arith)) ∙ cond-false (r == 4) _ _ (ne_eqb r 4 (λ g. omega arith)))
 
   global_at_entry : AtEntry 1 (value.Object (first_of global))
-  global_at_entry = (first-opening p good global global_fits, same_label_from (new global) _ (sym global_label))
+  global_at_entry = (first-opening p good global (global_fits p good), same_label_from (new global) _ (sym global_label))
 
   register_at_entry : (n r : ℕ) (v : Value) → slice_get (opening_registers n) r ≡ Some v → AtEntry r v
   register_at_entry n zero v e = subst (AtEntry 0) (same_Some undefined v e) (tt, refl)
@@ -130,14 +128,16 @@ module _ (p : Program) (t : Table) (good : IsWellFormed p) (closed : IsClosed p 
 
   -- ---- each state of a run
 
-  node_in_range : (n : NodeId) (info : NodeInfo) → node_at p program_function n ≡ Some info → IsNodeInRange p good.text info.node
-  node_in_range n info e =
-      ((good.each 0 good.text good.text_is).each n.0 info (sym (ap (λ o. slice_get (option_map_or (λ (fn : Function). fn.nodes) o []) n.0) good.text_is) ∙ e)).node
+  node_of_text : (n : NodeId) (info : NodeInfo) → node_at p program_function n ≡ Some info → slice_get good.text.nodes n.0 ≡ Some info
+  node_of_text n info e = sym (ap (λ o. slice_get (option_map_or (λ (fn : Function). fn.nodes) o []) n.0) good.text_is) ∙ e
+
+  in_range_at : (n : NodeId) (info : NodeInfo) → node_at p program_function n ≡ Some info → IsNodeInRange p good.text info.node
+  in_range_at n info e = node_in_range p good.text info ((good.each 0 good.text good.text_is).each n.0 info (node_of_text n info e))
 
   node_kept : (c : Conf) (k : IsKept p good.text t c) (o : Option NodeInfo) → node_at p program_function k.frame.node ≡ o → OnStep (IsKept p good.text t) (option_and_then (λ (info : NodeInfo). node_step p c k.frame [] info info.node) o)
   node_kept c k None e = tt
   node_kept c k (Some info) e =
-      step_kept p good t entries c k.frame k.state k.run_heap k.run_frame k.holds info info.node (node_in_range k.frame.node info e) (settled_step p t k.frame.node k.state info closed e k.state_is)
+      step_kept p good t entries c k.frame k.state k.run_heap k.run_frame k.holds info info.node (in_range_at k.frame.node info e) (node_sites p good 0 good.text k.frame.node.0 info good.text_is (node_of_text k.frame.node info e)) (settled_step p t k.frame.node k.state info closed e k.state_is)
 
   step_keeps : (c : Conf) (answer : Answer) → IsKept p good.text t c → OnStep (IsKept p good.text t) (step p c answer)
   step_keeps c Tick k =
@@ -192,17 +192,13 @@ module _ (p : Program) (t : Table) (good : IsWellFormed p) (closed : IsClosed p 
 
   -- what goes wrong at a node is allowed by the table's state there
   fault_allowed : (c : Conf) (k : IsKept p good.text t c) (info : NodeInfo) (kind : WarningKind) (place : Place) (node : Node) → IsNodeInRange p good.text node → fault_at k.frame info node ≡ Some (kind, place) → (kind_of node ≡ Some kind) × (info.place ≡ place) × IsTrue (allows_fault p k.state node)
-  fault_allowed c k info kind place (Const dst v) in_range e = absurd (false≢true (ap is_some e))
-  fault_allowed c k info kind place (FindName dst name) in_range e = absurd (false≢true (ap is_some e))
-  fault_allowed c k info kind place (WriteRef base name src) in_range e = absurd (false≢true (ap is_some e))
-  fault_allowed c k info kind place (Return src) in_range e = absurd (false≢true (ap is_some e))
-  fault_allowed c k info kind place Escape in_range e = absurd (false≢true (ap is_some e))
   fault_allowed c k info kind place (ReadRef dst base name error) in_range e =
       let parts : (is_null (register_of k.frame base) ≡ true) × ((UnboundName, info.place) ≡ (kind, place)) = cond_some _ _ _ e in
       (ap (λ (u : WarningKind × Place). Some u.0) parts.1, ap (λ (u : WarningKind × Place). u.1) parts.1, null_allowed c.heap (k.state.register base.0) (register_of k.frame base) parts.0 (register_has p (opening_heap p) c.heap k.frame k.state base k.holds (in_frame c k base in_range.1)))
-  fault_allowed c k info kind place (Call dst callee receiver error) in_range e =
+  fault_allowed c k info kind place (Call dst callee receiver args error) in_range e =
       let parts : (NotAFunction ≡ kind) × (info.place ≡ place) = some_pair_parts _ _ _ _ e in
       (ap Some parts.0, parts.1, has_part-has_value p c.heap k.run_heap.heap (k.state.register callee.0) (register_of k.frame callee) (register_of_heap p good.text c.heap k.frame callee k.run_frame (in_frame c k callee in_range.1)) (register_has p (opening_heap p) c.heap k.frame k.state callee k.holds (in_frame c k callee in_range.1)))
+  fault_allowed c k info kind place node in_range e = absurd (false≢true (ap is_some e))
 
   -- .. so it has a warning
   pub warned : (ws : List Warning) → AreWarnings p t ws → WarnsOfFaults p ws
@@ -211,5 +207,5 @@ module _ (p : Program) (t : Table) (good : IsWellFormed p) (closed : IsClosed p 
       let at_frame : fault_of_frames p (k.frame ∷ []) ≡ Some (kind, place) = sym (ap (fault_of_frames p) k.frames_are) ∙ fault in
       let at_program : option_and_then (λ (info : NodeInfo). fault_at k.frame info info.node) (node_at p program_function k.frame.node) ≡ Some (kind, place) = sym (ap (λ g. option_and_then (λ (info : NodeInfo). fault_at k.frame info info.node) (node_at p g k.frame.node)) k.run_frame.function_is) ∙ at_frame in
       option_and_then_some (λ (info : NodeInfo). fault_at k.frame info info.node) (node_at p program_function k.frame.node) (kind, place) at_program (λ info info_is fault_is.
-      let parts : (kind_of info.node ≡ Some kind) × (info.place ≡ place) × IsTrue (allows_fault p k.state info.node) = fault_allowed c k info kind place info.node (node_in_range k.frame.node info info_is) fault_is in
+      let parts : (kind_of info.node ≡ Some kind) × (info.place ≡ place) × IsTrue (allows_fault p k.state info.node) = fault_allowed c k info kind place info.node (in_range_at k.frame.node info info_is) fault_is in
       warnings.complete kind place info.node k.state (record { context = root; number = k.frame.node; info = info; info_is = info_is; node_is = refl; kind_is = parts.0; place_is = parts.1; state_is = k.state_is }) parts.2)

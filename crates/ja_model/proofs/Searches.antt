@@ -1,11 +1,14 @@
 -- Reading a name and searching a scope chain: what the heap gives is in what the abstract state gives.
 use Rattle.std.specs.Prelude.{◌≡◌, ℕ, ◌&&◌, ◌||◌, if◌then◌else◌, IsTrue, List, map, Option, Some, None, find}
 use Rattle.std.specs.Option.{option_map_or}
-use Rattle.std.proofs.Common.{refl, sym, subst}
+use Rattle.std.proofs.Common.{refl, sym, ap, subst}
 use Rattle.std.proofs.lemmas.Bool.{or_left, or_right, and_from, cond-true}
 use Rattle.ja_base.specs.declared.ids.Label.{Label}
 use Rattle.ja_graph.specs.declared.program.Program.{Program}
 use Rattle.ja_model.specs.declared.machine.Addr.{Addr}
+use Rattle.ja_model.specs.declared.machine.Value.{Value}
+use Rattle.ja_model.specs.declared.machine.Content.{Content}
+use Rattle.ja_model.specs.declared.machine.Content.TheVariants as contents
 use Rattle.ja_model.specs.declared.machine.Property.{Property}
 use Rattle.ja_model.specs.declared.machine.Heap.{Heap}
 use Rattle.ja_model.specs.declared.abstraction.Slot.TheVariants as slot
@@ -24,6 +27,11 @@ use Rattle.ja_model.proofs.Rounds.{reached-start, reached-next}
 use Rattle.ja_model.proofs.Values.{and_three, has_value-join_left, has_value-join_right}
 use Rattle.ja_model.proofs.Walks.{content-outer, outer_before, Searched, LeadsOut, find_searched, label-among, some_label-object, link_label, no_link_absent, got-Some, got-None, may_have-has, may_lack-has}
 
+-- the value of what holds one
+abbrev value_in : Content → Value
+value_in (contents.Value v) = v
+value_in contents.Row = undefined
+
 module _ (p : Program) (e c : Heap) (w : View) (r : IsRead p e c w) (t : List ℕ) (k : Key) (same : IsTrue (same_key (key_of p (named t)) k)) where
   -- ---- reading
 
@@ -41,26 +49,26 @@ module _ (p : Program) (e c : Heap) (w : View) (r : IsRead p e c w) (t : List �
     of_base_here = cond-true (base (label_of c a)) (got w (label_of c a) k) no_value b
 
     -- by what [[Get]] finds
-    read_by : (g : Option Property) → heap.get c a t ≡ g → IsTrue (has_value c (read_value w base k) (option_map_or (λ (q : Property). q.value) g undefined))
-    read_by (Some q) is =
+    read_by : (g : Option Property) → heap.get c a t ≡ g → (v : Value) → option_map_or (λ (q : Property). q.content) g (contents.Value undefined) ≡ contents.Value v → IsTrue (has_value c (read_value w base k) v)
+    read_by (Some q) is v holds =
         let gets = got-Some p e c w r t k same a o (filled_walk base filled a o b) q is in
-        has_value-as_read c (join_values (map of_base w.labels)) q.value (has_value-join_values c of_base w.labels (label_of c a) q.value (label-among p e c w r a o) (subst (λ v. IsTrue (has_value c v q.value)) (sym of_base_here) gets.found))
-    read_by None is =
+        has_value-as_read c (join_values (map of_base w.labels)) v (has_value-join_values c of_base w.labels (label_of c a) v (label-among p e c w r a o) (subst (λ u. IsTrue (has_value c u v)) (sym of_base_here) (gets.found v holds)))
+    read_by None is v holds =
         let lacks = got-None p e c w r t k same a o (filled_walk base filled a o b) is in
-        or_right _ _ (absent-join_values of_base w.labels (label_of c a) (label-among p e c w r a o) (subst (λ (v : AbstractValue). IsTrue v.flags.absent) (sym of_base_here) lacks.absent))
+        subst (λ u. IsTrue (has_value c (read_value w base k) u)) (ap value_in holds) (or_right _ _ (absent-join_values of_base w.labels (label_of c a) (label-among p e c w r a o) (subst (λ (u : AbstractValue). IsTrue u.flags.absent) (sym of_base_here) lacks.absent)))
 
-    -- the value that is read is in the value that the abstract read gives
-    pub read_value-read : IsTrue (has_value c (read_value w base k) (read c a t))
-    read_value-read = read_by (heap.get c a t) refl
+    -- a value that is read is in the value that the abstract read gives
+    pub read_value-read : (v : Value) → read c a t ≡ contents.Value v → IsTrue (has_value c (read_value w base k) v)
+    read_value-read v holds = read_by (heap.get c a t) refl v holds
 
     -- by what [[Get]] finds
-    read_of_heap_by : (g : Option Property) → heap.get c a t ≡ g → IsValueOf c (option_map_or (λ (q : Property). q.value) g undefined)
-    read_of_heap_by (Some q) is = (got-Some p e c w r t k same a o (filled_walk base filled a o b) q is).of_heap
-    read_of_heap_by None is = tt
+    read_of_heap_by : (g : Option Property) → heap.get c a t ≡ g → (v : Value) → option_map_or (λ (q : Property). q.content) g (contents.Value undefined) ≡ contents.Value v → IsValueOf c v
+    read_of_heap_by (Some q) is v holds = (got-Some p e c w r t k same a o (filled_walk base filled a o b) q is).of_heap v holds
+    read_of_heap_by None is v holds = subst (λ u. IsValueOf c u) (ap value_in holds) tt
 
     -- .. and is undefined or a value of the heap
-    pub read-of_heap : IsValueOf c (read c a t)
-    read-of_heap = read_of_heap_by (heap.get c a t) refl
+    pub read-of_heap : (v : Value) → read c a t ≡ contents.Value v → IsValueOf c v
+    read-of_heap v holds = read_of_heap_by (heap.get c a t) refl v holds
 
   -- ---- searching
 

@@ -7,22 +7,25 @@ use Rattle.ja_base.specs.declared.ids.Reg.{Reg}
 use Rattle.ja_base.specs.declared.ids.Site.{Site}
 use Rattle.ja_prim.specs.declared.primitive.Primitive.{Primitive}
 use Rattle.ja_prim.specs.declared.primitive.Primitive.TheVariants as primitive
+use Rattle.ja_graph.specs.declared.node.Args.{Args}
 use Rattle.ja_graph.specs.declared.node.Node.{Node}
 use Rattle.ja_graph.specs.declared.node.Node.TheVariants.{Const, FindName, ReadRef, WriteRef, Call, Return, Escape}
 use Rattle.ja_graph.specs.declared.node.NodeInfo.{NodeInfo}
 use Rattle.ja_graph.specs.declared.program.Program.{Program}
 use Rattle.ja_graph.specs.Program.{global, reference_error_prototype, type_error_prototype}
-use Rattle.ja_graph.specs.WellFormed.{IsWellFormed, IsDestination, IsRegister, IsName, IsNodeSite, IsNodeInRange}
+use Rattle.ja_graph.specs.WellFormed.{IsWellFormed, IsDestination, IsRegister, IsName, fixed_registers}
 use Rattle.ja_model.specs.declared.abstraction.Key.TheVariants as key
 use Rattle.ja_model.specs.declared.machine.Addr.{Addr}
 use Rattle.ja_model.specs.declared.machine.Value.{Value}
 use Rattle.ja_model.specs.declared.machine.Value.TheVariants as value
+use Rattle.ja_model.specs.declared.machine.Content.{Content}
+use Rattle.ja_model.specs.declared.machine.Content.TheVariants as contents
 use Rattle.ja_model.specs.declared.machine.Frame.{Frame}
 use Rattle.ja_model.specs.declared.machine.Conf.{Conf}
 use Rattle.ja_model.specs.declared.machine.Event.{Event}
 use Rattle.ja_model.specs.Heap.{count, object_at, with_new, new_address, with_object, object_with_value, with_own, can_put, get}
 use Rattle.ja_model.specs.Heap as heap
-use Rattle.ja_model.specs.Machine.{first_of, name_text, opening_heap, program_function, register_of, scope, thrown, with_result, moved_to, next_state, find_name, find_name_step, read, read_step, write_step, call_step, error_object, is_text_length, unbound_message, not_a_function_message, undefined, node_step}
+use Rattle.ja_model.specs.Machine.{first_of, name_text, opening_heap, program_function, register_of, scope, thrown, with_result, moved_to, next_state, find_name, find_name_step, read, after_read, read_step, write_step, call_step, error_object, is_text_length, unbound_message, not_a_function_message, undefined, node_step}
 use Rattle.ja_model.specs.Machine as machine
 use Rattle.ja_model.specs.AbstractValue.{AbstractValue, Labels, of_primitive, has_part}
 use Rattle.ja_model.specs.AbstractState.{AbstractState, new, labels_of, with_register}
@@ -33,6 +36,7 @@ use Rattle.ja_model.specs.Table.{Table, root}
 use Rattle.ja_model.proofs.Interface.{IsObjectOf, IsValueOf, IsRead, IsFilled}
 use Rattle.ja_model.proofs.Lists.{member-append_left, member-append_right, some_value}
 use Rattle.ja_model.proofs.Resolved.{object_from_ordinal}
+use Rattle.ja_model.proofs.Nodes.{IsNodeSite, HasNodeSites, read_site, call_site, IsNodeInRange, global_fits, reference_error_fits, type_error_fits}
 use Rattle.ja_model.proofs.Heaps
 use Rattle.ja_model.proofs.Keys.{key_of-name, same_key_from}
 use Rattle.ja_model.proofs.Labels.{same_label_from}
@@ -70,7 +74,7 @@ module _ (p : Program) (good : IsWellFormed p) (t : Table) (entries : EntriesHol
   in_frame r l = let e : length f.registers ≡ good.text.registers = run_frame.registers_are in omega arith
 
   six_registers : 6 ≤ good.text.registers
-  six_registers = (good.each 0 good.text good.text_is).registers
+  six_registers = let l : fixed_registers good.text ≤ good.text.registers = (good.each 0 good.text good.text_is).registers in omega arith
 
   -- ---- a result
 
@@ -124,21 +128,25 @@ module _ (p : Program) (good : IsWellFormed p) (t : Table) (entries : EntriesHol
       let v_there : IsValueOf c.heap (find_name c.heap b (name_text p name)) = find_name-of_heap p (opening_heap p) c.heap w is_read (name_text p name) (key.Name name) same start settled.filled b of_heap has in
       result_kept dst (find_name c.heap b (name_text p name)) (found w start (key.Name name)) in_range.0 v_there v_has (settled.goes info.next.0 (with_register a dst (found w start (key.Name name))) (member_gives _ info.next (with_register a dst (found w start (key.Name name))) (part (find_name c.heap b (name_text p name)) (found w start (key.Name name)) v_there v_has)))
 
-  read_by : (dst base : Reg) (name : NameId) (error : Site) (x : Value) → IsNodeInRange p good.text (ReadRef dst base name error) → IsSettled p t a info (ReadRef dst base name error) → IsValueOf c.heap x → IsTrue (has_value c.heap (a.register base.0) x) → Kept (read_step p c f [] info dst name error x)
-  read_by dst base name error (value.Object b) in_range settled of_heap has =
+  read_kept : (dst base : Reg) (name : NameId) (error : Site) (b : Addr) → IsNodeInRange p good.text (ReadRef dst base name error) → IsSettled p t a info (ReadRef dst base name error) → IsObjectOf c.heap b → IsTrue ((a.register base.0).label (label_of c.heap b)) → (x : Content) → read c.heap b (name_text p name) ≡ x → Kept (after_read c f [] info dst x)
+  read_kept dst base name error b in_range settled of_heap has (contents.Value v) is =
       let labels : Labels = (a.register base.0).label in
       let u : AbstractValue = read_value w labels (key.Name name) in
-      let v : Value = read c.heap b (name_text p name) in
       let same : IsTrue (Rattle.ja_model.specs.AbstractState.same_key (key_of p (named (name_text p name))) (key.Name name)) = same_key_from _ (key.Name name) (name_key name in_range.2) in
-      let v_has : IsTrue (has_value c.heap u v) = read_value-read p (opening_heap p) c.heap w is_read (name_text p name) (key.Name name) same labels settled.filled b of_heap has in
-      let v_there : IsValueOf c.heap v = read-of_heap p (opening_heap p) c.heap w is_read (name_text p name) (key.Name name) same labels settled.filled b of_heap has in
+      let v_has : IsTrue (has_value c.heap u v) = read_value-read p (opening_heap p) c.heap w is_read (name_text p name) (key.Name name) same labels settled.filled b of_heap has v is in
+      let v_there : IsValueOf c.heap v = read-of_heap p (opening_heap p) c.heap w is_read (name_text p name) (key.Name name) same labels settled.filled b of_heap has v is in
       result_kept dst v u in_range.0 v_there v_has (settled.goes info.next.0 (with_register a dst u) (member-append_right (info.next.0, with_register a dst u) (throws w (a.register base.0).flags.null info error reference_error_prototype (unbound_message (name_text p name))) (sets w dst u info.next) (member_gives _ info.next (with_register a dst u) (part v u v_there v_has))))
-  read_by dst base name error (value.Primitive primitive.Null) in_range settled of_heap has =
-      throw_kept error reference_error_prototype (unbound_message (name_text p name)) in_range.3 (let l : 5 ≤ length p.opening = good.builtin_objects in omega arith) (λ e. settled.goes info.handler.0 (with_error a error reference_error_prototype (unbound_message (name_text p name))) (member-append_left (info.handler.0, with_error a error reference_error_prototype (unbound_message (name_text p name))) (throws w (a.register base.0).flags.null info error reference_error_prototype (unbound_message (name_text p name))) (sets w dst (read_value w (a.register base.0).label (key.Name name)) info.next) (member_gives _ info.handler _ (and_from _ _ has e))))
-  read_by dst base name error (value.Primitive primitive.Undefined) in_range settled of_heap has = tt
-  read_by dst base name error (value.Primitive (primitive.Bool q)) in_range settled of_heap has = tt
-  read_by dst base name error (value.Primitive (primitive.Number q)) in_range settled of_heap has = tt
-  read_by dst base name error (value.Primitive (primitive.Text q)) in_range settled of_heap has = tt
+  read_kept dst base name error b in_range settled of_heap has contents.Row is = tt
+
+  read_by : (dst base : Reg) (name : NameId) (error : Site) (x : Value) → IsNodeInRange p good.text (ReadRef dst base name error) → IsNodeSite p error → IsSettled p t a info (ReadRef dst base name error) → IsValueOf c.heap x → IsTrue (has_value c.heap (a.register base.0) x) → Kept (read_step p c f [] info dst name error x)
+  read_by dst base name error (value.Object b) in_range site settled of_heap has =
+      read_kept dst base name error b in_range settled of_heap has (read c.heap b (name_text p name)) refl
+  read_by dst base name error (value.Primitive primitive.Null) in_range site settled of_heap has =
+      throw_kept error reference_error_prototype (unbound_message (name_text p name)) site (reference_error_fits p good) (λ e. settled.goes info.handler.0 (with_error a error reference_error_prototype (unbound_message (name_text p name))) (member-append_left (info.handler.0, with_error a error reference_error_prototype (unbound_message (name_text p name))) (throws w (a.register base.0).flags.null info error reference_error_prototype (unbound_message (name_text p name))) (sets w dst (read_value w (a.register base.0).label (key.Name name)) info.next) (member_gives _ info.handler _ (and_from _ _ has e))))
+  read_by dst base name error (value.Primitive primitive.Undefined) in_range site settled of_heap has = tt
+  read_by dst base name error (value.Primitive (primitive.Bool q)) in_range site settled of_heap has = tt
+  read_by dst base name error (value.Primitive (primitive.Number q)) in_range site settled of_heap has = tt
+  read_by dst base name error (value.Primitive (primitive.Text q)) in_range site settled of_heap has = tt
 
   -- the heap after a put is one of the run, and each value of the heap before is one of it
   put_run_heap : (b : Addr) (u : List ℕ) (v : Value) → IsObjectOf c.heap b → IsValueOf c.heap v → IsRunHeap p (heap.put c.heap b u v) × ((x : Value) → IsValueOf c.heap x → IsValueOf (heap.put c.heap b u v) x)
@@ -164,11 +172,11 @@ module _ (p : Program) (good : IsWellFormed p) (t : Table) (entries : EntriesHol
       kept_next p good.text t (heap.put c.heap b (name_text p name) (register_of f src)) (moved_to f info.next) _ after.state now.0 (IsRunFrame-moved p good.text c.heap (heap.put c.heap b (name_text p name) (register_of f src)) f now.1 run_frame info.next) (settled.goes info.next.0 after.state after.member) after.holds
 
   global_there : IsObjectOf c.heap (first_of global)
-  global_there = object_from_ordinal c.heap (first_of global) (let one : count c.heap global ≡ 1 = run_heap.single global (let l : 5 ≤ length p.opening = good.builtin_objects in omega arith) in omega arith)
+  global_there = object_from_ordinal c.heap (first_of global) (let one : count c.heap global ≡ 1 = run_heap.single global (global_fits p good) in omega arith)
 
   global_label : new global ≡ label_of c.heap (first_of global)
   global_label =
-      let one : count c.heap global ≡ 1 = run_heap.single global (let l : 5 ≤ length p.opening = good.builtin_objects in omega arith) in
+      let one : count c.heap global ≡ 1 = run_heap.single global (global_fits p good) in
       sym (Heaps.same_parts (label_of c.heap (first_of global)) (new global) refl (Heaps.label_is_new c.heap (first_of global) (omega arith)))
 
   write_by : (base : Reg) (name : NameId) (src : Reg) (x : Value) → IsNodeInRange p good.text (WriteRef base name src) → IsSettled p t a info (WriteRef base name src) → IsValueOf c.heap x → IsTrue (has_value c.heap (a.register base.0) x) → Kept (write_step p c f [] info name (register_of f src) x)
@@ -180,19 +188,20 @@ module _ (p : Program) (good : IsWellFormed p) (t : Table) (entries : EntriesHol
   write_by base name src (value.Primitive (primitive.Number q)) in_range settled of_heap has = tt
   write_by base name src (value.Primitive (primitive.Text q)) in_range settled of_heap has = tt
 
-  call_kept : (dst callee receiver : Reg) (error : Site) → IsNodeInRange p good.text (Call dst callee receiver error) → IsSettled p t a info (Call dst callee receiver error) → Kept (call_step c f [] info error (register_of f callee))
-  call_kept dst callee receiver error in_range settled =
-      throw_kept error type_error_prototype not_a_function_message in_range.3 (let l : 5 ≤ length p.opening = good.builtin_objects in omega arith) (λ e. settled.goes info.handler.0 (with_error a error type_error_prototype not_a_function_message) (member_gives _ info.handler _ (and_from _ _ (part (register_of f callee) (a.register callee.0) (register_of_heap p good.text c.heap f callee run_frame (in_frame callee in_range.1)) (register_has p (opening_heap p) c.heap f a callee holds (in_frame callee in_range.1))) e)))
+  call_kept : (dst callee receiver : Reg) (args : Args) (error : Site) → IsNodeInRange p good.text (Call dst callee receiver args error) → IsNodeSite p error → IsSettled p t a info (Call dst callee receiver args error) → Kept (call_step c f [] info error (register_of f callee))
+  call_kept dst callee receiver args error in_range site settled =
+      throw_kept error type_error_prototype not_a_function_message site (type_error_fits p good) (λ e. settled.goes info.handler.0 (with_error a error type_error_prototype not_a_function_message) (member_gives _ info.handler _ (and_from _ _ (part (register_of f callee) (a.register callee.0) (register_of_heap p good.text c.heap f callee run_frame (in_frame callee in_range.1)) (register_has p (opening_heap p) c.heap f a callee holds (in_frame callee in_range.1))) e)))
 
   -- the state after a step of a node
-  pub step_kept : (node : Node) → IsNodeInRange p good.text node → IsSettled p t a info node → OnStep (IsKept p good.text t) (node_step p c f [] info node)
-  step_kept (Const dst v) in_range settled = const_kept dst v in_range settled
-  step_kept (FindName dst name) in_range settled =
+  pub step_kept : (node : Node) → IsNodeInRange p good.text node → HasNodeSites p node → IsSettled p t a info node → OnStep (IsKept p good.text t) (node_step p c f [] info node)
+  step_kept (Const dst v) in_range sites settled = const_kept dst v in_range settled
+  step_kept (FindName dst name) in_range sites settled =
       find_by dst name (register_of f scope) in_range settled (register_of_heap p good.text c.heap f scope run_frame (in_frame scope (omega (arith, six_registers)))) (register_has p (opening_heap p) c.heap f a scope holds (in_frame scope (omega (arith, six_registers))))
-  step_kept (ReadRef dst base name error) in_range settled =
-      read_by dst base name error (register_of f base) in_range settled (register_of_heap p good.text c.heap f base run_frame (in_frame base in_range.1)) (register_has p (opening_heap p) c.heap f a base holds (in_frame base in_range.1))
-  step_kept (WriteRef base name src) in_range settled =
+  step_kept (ReadRef dst base name error) in_range sites settled =
+      read_by dst base name error (register_of f base) in_range (read_site p dst base name error sites) settled (register_of_heap p good.text c.heap f base run_frame (in_frame base in_range.1)) (register_has p (opening_heap p) c.heap f a base holds (in_frame base in_range.1))
+  step_kept (WriteRef base name src) in_range sites settled =
       write_by base name src (register_of f base) in_range settled (register_of_heap p good.text c.heap f base run_frame (in_frame base in_range.0)) (register_has p (opening_heap p) c.heap f a base holds (in_frame base in_range.0))
-  step_kept (Call dst callee receiver error) in_range settled = call_kept dst callee receiver error in_range settled
-  step_kept (Return src) in_range settled = tt
-  step_kept Escape in_range settled = tt
+  step_kept (Call dst callee receiver args error) in_range sites settled = call_kept dst callee receiver args error in_range (call_site p dst callee receiver args error sites) settled
+  step_kept (Return src) in_range sites settled = tt
+  step_kept Escape in_range sites settled = tt
+  step_kept node in_range sites settled = tt

@@ -9,7 +9,7 @@ use Rattle.ja_prim.specs.declared.primitive.Num.TheVariants.{NaN, Whole}
 use Rattle.ja_prim.specs.declared.primitive.Primitive.{Primitive}
 use Rattle.ja_prim.specs.declared.primitive.Primitive.TheVariants as primitive
 use Rattle.ja_prim.specs.Index.{is_index, is_index_text}
-use Rattle.ja_graph.specs.declared.node.Attrs.{Attrs}
+use Rattle.ja_graph.specs.declared.attrs.Attrs.{Attrs}
 use Rattle.ja_model.specs.declared.machine.Value.{Value}
 use Rattle.ja_model.specs.declared.machine.Value.TheVariants as value
 use Rattle.ja_model.specs.declared.machine.Heap.{Heap}
@@ -20,7 +20,7 @@ use Rattle.ja_model.specs.declared.abstraction.TextPart.TheVariants as text_part
 use Rattle.ja_model.specs.declared.abstraction.May.{May}
 use Rattle.ja_model.specs.declared.abstraction.AAttrs.{AAttrs}
 use Rattle.ja_model.specs.AbstractValue.{AbstractValue, AbstractProperty, number_class, join_classes, join_numbers, text_class, join_text_classes, join_texts, join, join_may, join_attrs, join_properties}
-use Rattle.ja_model.specs.Meaning.{label_of, number_has, text_has, has_primitive, has_value, Content, missing, held, present, allows, allows_attrs, knows}
+use Rattle.ja_model.specs.Meaning.{label_of, number_has, text_has, has_primitive, has_value, Content, missing, held, present, present_row, allows, allows_attrs, knows}
 
 -- ---- numbers
 
@@ -191,6 +191,9 @@ knows-join_left h a b (held v) e = has_value-join_left h a.value b.value v e
 knows-join_left h a b (present v attrs) e =
     let (r, s) = and_parts (has_value h a.value v) (allows_attrs a.attrs attrs) e in
     and_from _ _ (has_value-join_left h a.value b.value v r) (allows_attrs-join_left a.attrs b.attrs attrs s)
+knows-join_left h a b (present_row attrs) e =
+    let (r, s) = and_parts a.value.flags.row (allows_attrs a.attrs attrs) e in
+    and_from _ _ (or_left a.value.flags.row b.value.flags.row r) (allows_attrs-join_left a.attrs b.attrs attrs s)
 
 -- .. and those of the right one
 pub knows-join_right : (h : Heap) (a b : AbstractProperty) (c : Content) → IsTrue (knows h b c) → IsTrue (knows h (join_properties a b) c)
@@ -199,3 +202,6 @@ knows-join_right h a b (held v) e = has_value-join_right h a.value b.value v e
 knows-join_right h a b (present v attrs) e =
     let (r, s) = and_parts (has_value h b.value v) (allows_attrs b.attrs attrs) e in
     and_from _ _ (has_value-join_right h a.value b.value v r) (allows_attrs-join_right a.attrs b.attrs attrs s)
+knows-join_right h a b (present_row attrs) e =
+    let (r, s) = and_parts b.value.flags.row (allows_attrs b.attrs attrs) e in
+    and_from _ _ (or_right a.value.flags.row b.value.flags.row r) (allows_attrs-join_right a.attrs b.attrs attrs s)

@@ -7,6 +7,8 @@ use Rattle.std.proofs.lemmas.Option.{none-some, same_Some}
 use Rattle.ja_base.specs.declared.ids.Label.{Label}
 use Rattle.ja_graph.specs.declared.program.Program.{Program}
 use Rattle.ja_model.specs.declared.machine.Addr.{Addr}
+use Rattle.ja_model.specs.declared.machine.Value.{Value}
+use Rattle.ja_model.specs.declared.machine.Content.TheVariants as contents
 use Rattle.ja_model.specs.declared.machine.Property.{Property}
 use Rattle.ja_model.specs.declared.machine.Object.{Object}
 use Rattle.ja_model.specs.declared.machine.Heap.{Heap}
@@ -15,13 +17,13 @@ use Rattle.ja_model.specs.declared.abstraction.Key.{Key}
 use Rattle.ja_model.specs.Heap as heap
 use Rattle.ja_model.specs.AbstractValue.{Labels, AbstractValue, same_label, is_present, present_part, no_value, absent_value}
 use Rattle.ja_model.specs.AbstractState.{same_key}
-use Rattle.ja_model.specs.Meaning.{label_of, has_value, Spot, named, internal, missing, present, content, held_address, property_content, key_of, knows, allows, allows_attrs}
+use Rattle.ja_model.specs.Meaning.{label_of, has_value, Spot, named, internal, missing, content, content_of, held_address, property_content, key_of, knows, allows, allows_attrs}
 use Rattle.ja_model.specs.Reading.{View, demands_of, prototype, own, may_be_absent, may_be_present, some_label, next_prototype, asked, ends_at, may_lack, may_have, join_values, got, may_refuse, may_accept, demands_of_walk}
 use Rattle.ja_model.proofs.Interface.{IsObjectOf, IsValueOf, IsContentOf, IsHeap, IsFilled, IsRead}
 use Rattle.ja_model.proofs.Keys.{same_key-self}
 use Rattle.ja_model.proofs.Labels.{IsAmong, same_label-self, some_among}
 use Rattle.ja_model.proofs.Rounds.{reached-start, reached-next}
-use Rattle.ja_model.proofs.Parts.{label_of-among, is_present-has_value, has_value-present_part, has_value-join_values}
+use Rattle.ja_model.proofs.Parts.{label_of-among, is_present-known, allows_attrs-known, has_value-present_part, has_value-join_values}
 use Rattle.ja_model.proofs.Resolved.{own-knows}
 use Rattle.ja_model.proofs.Values.{and_three, and_three_parts, has_value-join_left}
 
@@ -85,9 +87,9 @@ outer_before p h good a b e =
     let (o, at, is) = linked heap.outer_of (heap.object_at h a) b e in
     good.outer_before a b o at is
 
--- the value of an own property is one of the heap
-own-value : (p : Program) (h : Heap) → IsHeap p h → (a : Addr) (t : List ℕ) (q : Property) → heap.own h a t ≡ Some q → IsValueOf h q.value
-own-value p h good a t q e = subst (IsContentOf h) (content-named h a t ∙ ap property_content e) (good.inside a (named t))
+-- what an own property holds is of the heap
+own-content : (p : Program) (h : Heap) → IsHeap p h → (a : Addr) (t : List ℕ) (q : Property) → heap.own h a t ≡ Some q → IsContentOf h (content_of q.content q.attrs)
+own-content p h good a t q e = subst (IsContentOf h) (content-named h a t ∙ ap property_content e) (good.inside a (named t))
 
 -- ---- what the walk along prototypes ends with
 
@@ -221,10 +223,10 @@ module _ (p : Program) (h : Heap) (good : IsHeap p h) (set : Labels) (t : List �
 
 -- ---- what the abstract walks give
 
--- the walk may find the property: its value and its attributes are known
+-- the walk may find the property: its value, if it has one, and its attributes are known
 pub record Gets (c : Heap) (w : View) (l : Label) (k : Key) (q : Property) : Type 0 where
-  pub of_heap : IsValueOf c q.value
-  pub found : IsTrue (has_value c (got w l k) q.value)
+  pub of_heap : (v : Value) → q.content ≡ contents.Value v → IsValueOf c v
+  pub found : (v : Value) → q.content ≡ contents.Value v → IsTrue (has_value c (got w l k) v)
   pub had : IsTrue (may_have w l k)
   pub refused : q.attrs.read_only ≡ true → IsTrue (may_refuse w l k)
   pub accepted : q.attrs.read_only ≡ false → IsTrue (may_accept w l k)
@@ -261,15 +263,14 @@ module _ (p : Program) (e c : Heap) (w : View) (r : IsRead p e c w) (t : List �
       subst (λ y. IsTrue (knows c (own w (label_of c a) k) y)) (content-named c a t ∙ ap property_content none) (own-knows p e c w r a (named t) k same o filled)
 
   -- a property of its own is known at the key
-  pub knows-own : (a : Addr) → IsObjectOf c a → IsFilled w.entries (demands_of w.state (label_of c a) k) → (q : Property) → heap.own c a t ≡ Some q → IsTrue (knows c (own w (label_of c a) k) (present q.value q.attrs))
+  pub knows-own : (a : Addr) → IsObjectOf c a → IsFilled w.entries (demands_of w.state (label_of c a) k) → (q : Property) → heap.own c a t ≡ Some q → IsTrue (knows c (own w (label_of c a) k) (content_of q.content q.attrs))
   knows-own a o filled q some =
       subst (λ y. IsTrue (knows c (own w (label_of c a) k) y)) (content-named c a t ∙ ap property_content some) (own-knows p e c w r a (named t) k same o filled)
 
   -- an object that has a property of its own may be present at the key
   pub may_be_present-own : (a : Addr) → IsObjectOf c a → IsFilled w.entries (demands_of w.state (label_of c a) k) → (q : Property) → heap.own c a t ≡ Some q → IsTrue (may_be_present w (label_of c a) k)
   may_be_present-own a o filled q some =
-      let (v, attrs) = and_parts (has_value c (own w (label_of c a) k).value q.value) (allows_attrs (own w (label_of c a) k).attrs q.attrs) (knows-own a o filled q some) in
-      subst (λ ls. IsTrue (is_present ls (own w (label_of c a) k).value)) (sym r.labels) (is_present-has_value p c r.heap_now (own w (label_of c a) k).value q.value (own-value p c r.heap_now a t q some) v)
+      subst (λ ls. IsTrue (is_present ls (own w (label_of c a) k).value)) (sym r.labels) (is_present-known p c r.heap_now (own w (label_of c a) k) q.content q.attrs (own-content p c r.heap_now a t q some) (knows-own a o filled q some))
 
   module _ (l : Label) (filled : IsFilled w.entries (demands_of_walk w l k)) where
     -- the walk demands what the reading at an object that is asked does
@@ -310,11 +311,11 @@ module _ (p : Program) (e c : Heap) (w : View) (r : IsRead p e c w) (t : List �
         let filled_d = filled_own d holder.is_object holder.is_reached in
         let m : Label = label_of c d in
         let there : IsTrue (may_be_present w m k) = may_be_present-own d holder.is_object filled_d q holder.has_own in
-        let parts : IsTrue (has_value c (own w m k).value q.value) × IsTrue (allows_attrs (own w m k).attrs q.attrs) = and_parts (has_value c (own w m k).value q.value) (allows_attrs (own w m k).attrs q.attrs) (knows-own d holder.is_object filled_d q holder.has_own) in
-        let allowed : IsTrue (allows (own w m k).attrs.read_only q.attrs.read_only) = (and_three_parts (allows (own w m k).attrs.read_only q.attrs.read_only) (allows (own w m k).attrs.dont_enum q.attrs.dont_enum) (allows (own w m k).attrs.dont_delete q.attrs.dont_delete) parts.1).0 in
+        let known : IsTrue (knows c (own w m k) (content_of q.content q.attrs)) = knows-own d holder.is_object filled_d q holder.has_own in
+        let allowed : IsTrue (allows (own w m k).attrs.read_only q.attrs.read_only) = (and_three_parts (allows (own w m k).attrs.read_only q.attrs.read_only) (allows (own w m k).attrs.dont_enum q.attrs.dont_enum) (allows (own w m k).attrs.dont_delete q.attrs.dont_delete) (allows_attrs-known c (own w m k) q.content q.attrs known)).0 in
         record {
-          of_heap = own-value p c r.heap_now d t q holder.has_own;
-          found = has_value-join_left c (join_values (map (λ (x : Label). if asked w l k x then present_part (own w x k).value else no_value) w.labels)) (if may_lack w l k then absent_value else no_value) q.value (has_value-join_values c (λ (x : Label). if asked w l k x then present_part (own w x k).value else no_value) w.labels m q.value (label-among p e c w r d holder.is_object) (subst (λ v. IsTrue (has_value c v q.value)) (sym (cond-true (asked w l k m) (present_part (own w m k).value) no_value holder.is_reached)) (has_value-present_part c (own w m k).value q.value parts.0)));
+          of_heap = λ v is. subst (λ x. IsContentOf c (content_of x q.attrs)) is (own-content p c r.heap_now d t q holder.has_own);
+          found = λ v is. has_value-join_left c (join_values (map (λ (x : Label). if asked w l k x then present_part (own w x k).value else no_value) w.labels)) (if may_lack w l k then absent_value else no_value) v (has_value-join_values c (λ (x : Label). if asked w l k x then present_part (own w x k).value else no_value) w.labels m v (label-among p e c w r d holder.is_object) (subst (λ u. IsTrue (has_value c u v)) (sym (cond-true (asked w l k m) (present_part (own w m k).value) no_value holder.is_reached)) (has_value-present_part c (own w m k).value v (and_parts (has_value c (own w m k).value v) (allows_attrs (own w m k).attrs q.attrs) (subst (λ x. IsTrue (knows c (own w m k) (content_of x q.attrs))) is known)).0)));
           had = some_label-object p e c w r (λ x. asked w l k x && may_be_present w x k) d holder.is_object (and_from _ _ holder.is_reached there);
           refused = λ set. some_label-object p e c w r (λ x. asked w l k x && may_be_present w x k && (own w x k).attrs.read_only.set) d holder.is_object (and_three _ _ _ holder.is_reached there (subst (λ b. IsTrue (allows (own w m k).attrs.read_only b)) set allowed));
           accepted = λ unset. or_left _ _ (some_label-object p e c w r (λ x. asked w l k x && may_be_present w x k && (own w x k).attrs.read_only.unset) d holder.is_object (and_three _ _ _ holder.is_reached there (subst (λ b. IsTrue (allows (own w m k).attrs.read_only b)) unset allowed)));

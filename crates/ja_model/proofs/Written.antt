@@ -23,7 +23,7 @@ use Rattle.ja_model.specs.AbstractValue.{Labels, AbstractValue, AbstractProperty
 use Rattle.ja_model.specs.AbstractState.{AbstractState, labels_of, same_key, with_property}
 use Rattle.ja_model.specs.Reading.{View, Entries, demands_of, demands_of_walk, next_prototype, asked, may_be_absent, may_accept, may_refuse, prototype}
 use Rattle.ja_model.specs.Transfer.{view_of, gives, written_attrs, written, strong_put, weakly_written, weak_put, put_at, put}
-use Rattle.ja_model.specs.Meaning.{Content, missing, held, present, Spot, named, content, label_of, key_of, has_value, knows, allows_attrs, Holds}
+use Rattle.ja_model.specs.Meaning.{Content, missing, held, present, present_row, Spot, named, content, label_of, key_of, has_value, knows, allows_attrs, Holds}
 use Rattle.ja_model.proofs.Interface.{IsObjectOf, IsFilled, IsRead}
 use Rattle.ja_model.proofs.Lists.{Member, member-append_left, member-append_right, list_any-filter, some_value}
 use Rattle.ja_model.proofs.Heaps
@@ -57,6 +57,7 @@ same_knows h now q (held v) same e = same_has h now q.value v same e
 same_knows h now q (present v attrs) same e =
     let k : IsTrue (has_value h q.value v) × IsTrue (allows_attrs q.attrs attrs) = and_parts _ _ e in
     and_from _ _ (same_has h now q.value v same k.0) k.1
+same_knows h now q (present_row attrs) same e = e
 
 module _ (p : Program) (e h : Heap) (entries : Entries) (a : AbstractState) (f : Frame) (read : IsRead p e h (view_of p entries a)) (holds : Holds p e h f a) (b : Addr) (there : IsObjectOf h b) (t : List ℕ) (k : Key) (same : IsTrue (same_key (key_of p (named t)) k)) (only : (x : Spot) → key_of p x ≡ k → x ≡ named t) (filled : IsFilled entries (demands_of_walk (view_of p entries a) (label_of h b) k)) (u : AbstractValue) (next : NodeId) where
   abbrev w : View

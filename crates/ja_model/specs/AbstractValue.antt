@@ -9,7 +9,7 @@ use Rattle.ja_prim.specs.declared.primitive.Num.TheVariants.{NaN, Whole}
 use Rattle.ja_prim.specs.declared.primitive.Primitive.{Primitive}
 use Rattle.ja_prim.specs.declared.primitive.Primitive.TheVariants as primitive
 use Rattle.ja_prim.specs.Index.{is_index, is_index_text}
-use Rattle.ja_graph.specs.declared.node.Attrs.{Attrs}
+use Rattle.ja_graph.specs.declared.attrs.Attrs.{Attrs}
 use Rattle.ja_model.specs.declared.abstraction.Flags.{Flags}
 use Rattle.ja_model.specs.declared.abstraction.NumberPart.{NumberPart}
 use Rattle.ja_model.specs.declared.abstraction.NumberPart.TheVariants as number_part
@@ -125,6 +125,9 @@ entry_value = of_flags (record no_flags { entry = true })
 
 abbrev pub undefined_value : AbstractValue
 undefined_value = of_flags (record no_flags { undefined = true })
+
+abbrev pub row_value : AbstractValue
+row_value = of_flags (record no_flags { row = true })
 
 abbrev pub null_value : AbstractValue
 null_value = of_flags (record no_flags { null = true })

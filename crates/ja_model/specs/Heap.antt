@@ -4,9 +4,10 @@ use Rattle.std.specs.Option.{option_and_then, option_map_or}
 use Rattle.std.specs.List.{sum_by}
 use lib.Pointwise.{pointwise}
 use Rattle.ja_base.specs.declared.ids.Site.{Site}
-use Rattle.ja_graph.specs.declared.node.Attrs.{Attrs}
+use Rattle.ja_graph.specs.declared.attrs.Attrs.{Attrs}
 use Rattle.ja_model.specs.declared.machine.Addr.{Addr}
 use Rattle.ja_model.specs.declared.machine.Value.{Value}
+use Rattle.ja_model.specs.declared.machine.Content.TheVariants as contents
 use Rattle.ja_model.specs.declared.machine.Property.{Property}
 use Rattle.ja_model.specs.declared.machine.Object.{Object}
 use Rattle.ja_model.specs.declared.machine.Heap.{Heap}
@@ -92,9 +93,9 @@ no_attrs = record { read_only = false; dont_enum = false; dont_delete = false }
 
 -- the properties after the value of a name is set: attributes stay, and a new property has none and comes last
 abbrev pub with_value : List Property → List ℕ → Value → List Property
-with_value [] name v = record { name = name; value = v; attrs = no_attrs } ∷ []
+with_value [] name v = record { name = name; content = contents.Value v; attrs = no_attrs } ∷ []
 with_value (q ∷ qs) name v =
-    if same_text q.name name then record q { value = v } ∷ qs else q ∷ with_value qs name v
+    if same_text q.name name then record q { content = contents.Value v } ∷ qs else q ∷ with_value qs name v
 
 abbrev pub object_with_value : Object → List ℕ → Value → Object
 object_with_value o name v = record o { properties = with_value o.properties name v }

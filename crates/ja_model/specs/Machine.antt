@@ -8,7 +8,8 @@ use Rattle.ja_base.specs.declared.ids.NodeId.{NodeId}
 use Rattle.ja_base.specs.declared.ids.NameId.{NameId}
 use Rattle.ja_base.specs.declared.ids.Reg.{Reg}
 use Rattle.ja_base.specs.declared.ids.Site.{Site}
-use Rattle.ja_base.specs.declared.ids.ScopeKind.TheVariants.{TextLength, Register}
+use Rattle.ja_base.specs.declared.ids.ScopeKind.{ScopeKind}
+use Rattle.ja_base.specs.declared.ids.ScopeKind.TheVariants.{TextLength, Register, Row}
 use Rattle.ja_prim.specs.declared.primitive.Num.TheVariants.{Whole}
 use Rattle.ja_prim.specs.declared.primitive.Primitive.TheVariants.{Undefined, Null, Number, Text}
 use Rattle.ja_graph.specs.declared.node.Node.{Node}
@@ -17,11 +18,15 @@ use Rattle.ja_graph.specs.declared.node.NodeInfo.{NodeInfo}
 use Rattle.ja_graph.specs.declared.program.Function.{Function}
 use Rattle.ja_graph.specs.declared.program.ObjectSpec.{ObjectSpec}
 use Rattle.ja_graph.specs.declared.program.PropertySpec.{PropertySpec}
+use Rattle.ja_graph.specs.declared.program.SpecContent.{SpecContent}
+use Rattle.ja_graph.specs.declared.program.SpecContent.TheVariants as spec_content
 use Rattle.ja_graph.specs.declared.program.Program.{Program}
 use Rattle.ja_graph.specs.Program.{node_at, object_spec, global, reference_error_prototype, type_error_prototype}
 use Rattle.ja_model.specs.declared.machine.Addr.{Addr}
 use Rattle.ja_model.specs.declared.machine.Value.{Value}
 use Rattle.ja_model.specs.declared.machine.Value.TheVariants as value
+use Rattle.ja_model.specs.declared.machine.Content.{Content}
+use Rattle.ja_model.specs.declared.machine.Content.TheVariants as contents
 use Rattle.ja_model.specs.declared.machine.Property.{Property}
 use Rattle.ja_model.specs.declared.machine.Object.{Object}
 use Rattle.ja_model.specs.declared.machine.Heap.{Heap}
@@ -44,12 +49,17 @@ abbrev pub first_of : Site → Addr
 first_of s = record { site = s; ordinal = 0 }
 
 -- the heap in which a run begins
+abbrev pub opening_content : SpecContent → Content
+opening_content (spec_content.Prim q) = contents.Value (value.Primitive q)
+opening_content (spec_content.Object s) = contents.Value (value.Object (first_of s))
+opening_content spec_content.Row = contents.Row
+
 abbrev pub opening_property : Program → PropertySpec → Property
-opening_property p q = record { name = name_text p q.name; value = value.Primitive q.value; attrs = q.attrs }
+opening_property p q = record { name = name_text p q.name; content = opening_content q.content; attrs = q.attrs }
 
 abbrev pub opening_object : Program → ObjectSpec → Object
 opening_object p o = record {
-  slots = record { prototype = option_map first_of o.prototype; outer = None; scope = None; value = None };
+  slots = record { prototype = option_map first_of o.prototype; outer = None; scope = option_map first_of o.scope; value = o.value };
   properties = map (opening_property p) o.properties;
 }
 
@@ -113,7 +123,7 @@ scope = record { 0 = 2 }
 abbrev pub error_object : Site → List ℕ → Object
 error_object prototype message = record {
   slots = record { prototype = Some (first_of prototype); outer = None; scope = None; value = None };
-  properties = record { name = codes "message"; value = value.Primitive (Text message); attrs = no_attrs } ∷ [];
+  properties = record { name = codes "message"; content = contents.Value (value.Primitive (Text message)); attrs = no_attrs } ∷ [];
 }
 
 -- the greatest length of a text
@@ -123,15 +133,16 @@ max_units = 1048576
 abbrev pub is_text_length : List ℕ → Bool
 is_text_length t = nat_le (length t) max_units
 
-abbrev pub left_scope : Conf → NodeInfo → Event
-left_scope c info = end_state c (ending.Scope Register info.place)
+-- the run leaves the profile at the node's place
+abbrev pub left_scope : Conf → NodeInfo → ScopeKind → Event
+left_scope c info kind = end_state c (ending.Scope kind info.place)
 
 -- the node throws an error, which it makes at its site; a message that is too long leaves the profile
 abbrev pub throws : Conf → Frame → List Frame → NodeInfo → Site → Site → List ℕ → Event
 throws c f below info error prototype message =
     if is_text_length message
     then next_state c (with_new c.heap error (error_object prototype message)) (with_result f thrown (value.Object (new_address c.heap error)) info.handler) below
-    else end_state c (ending.Scope TextLength info.place)
+    else left_scope c info TextLength
 
 abbrev pub unbound_message : List ℕ → List ℕ
 unbound_message name = name ++ codes " is not bound"
@@ -148,28 +159,33 @@ abbrev pub find_name : Heap → Addr → List ℕ → Value
 find_name h a name = name_base (find (λ b. has h b name) (scopes h a))
 
 -- what [[Get]] gives, or undefined
-abbrev pub read : Heap → Addr → List ℕ → Value
-read h a name = option_map_or (λ (q : Property). q.value) (get h a name) undefined
+abbrev pub read : Heap → Addr → List ℕ → Content
+read h a name = option_map_or (λ (q : Property). q.content) (get h a name) (contents.Value undefined)
+
+-- a row that is read leaves the profile
+abbrev pub after_read : Conf → Frame → List Frame → NodeInfo → Reg → Content → Event
+after_read c f below info dst (contents.Value v) = next_state c c.heap (with_result f dst v info.next) below
+after_read c f below info dst contents.Row = left_scope c info Row
 
 -- one clause per kind of node; what its registers hold comes last
 abbrev pub find_name_step : Program → Conf → Frame → List Frame → NodeInfo → Reg → NameId → Value → Event
 find_name_step p c f below info dst name (value.Object a) =
     next_state c c.heap (with_result f dst (find_name c.heap a (name_text p name)) info.next) below
-find_name_step p c f below info dst name (value.Primitive v) = left_scope c info
+find_name_step p c f below info dst name (value.Primitive v) = left_scope c info Register
 
 abbrev pub read_step : Program → Conf → Frame → List Frame → NodeInfo → Reg → NameId → Site → Value → Event
 read_step p c f below info dst name error (value.Object a) =
-    next_state c c.heap (with_result f dst (read c.heap a (name_text p name)) info.next) below
+    after_read c f below info dst (read c.heap a (name_text p name))
 read_step p c f below info dst name error (value.Primitive Null) =
     throws c f below info error reference_error_prototype (unbound_message (name_text p name))
-read_step p c f below info dst name error (value.Primitive v) = left_scope c info
+read_step p c f below info dst name error (value.Primitive v) = left_scope c info Register
 
 abbrev pub write_step : Program → Conf → Frame → List Frame → NodeInfo → NameId → Value → Value → Event
 write_step p c f below info name v (value.Object a) =
     next_state c (put c.heap a (name_text p name) v) (moved_to f info.next) below
 write_step p c f below info name v (value.Primitive Null) =
     next_state c (put c.heap (first_of global) (name_text p name) v) (moved_to f info.next) below
-write_step p c f below info name v (value.Primitive w) = left_scope c info
+write_step p c f below info name v (value.Primitive w) = left_scope c info Register
 
 -- no value can be called yet
 abbrev pub call_step : Conf → Frame → List Frame → NodeInfo → Site → Value → Event
@@ -185,9 +201,11 @@ node_step p c f below info (Const dst v) = Some (next_state c c.heap (with_resul
 node_step p c f below info (FindName dst name) = Some (find_name_step p c f below info dst name (register_of f scope))
 node_step p c f below info (ReadRef dst base name error) = Some (read_step p c f below info dst name error (register_of f base))
 node_step p c f below info (WriteRef base name src) = Some (write_step p c f below info name (register_of f src) (register_of f base))
-node_step p c f below info (Call dst callee receiver error) = Some (call_step c f below info error (register_of f callee))
+node_step p c f below info (Call dst callee receiver args error) = Some (call_step c f below info error (register_of f callee))
 node_step p c f below info (Return src) = leaves c below ending.Normal
 node_step p c f below info Escape = leaves c below (ending.Uncaught (register_of f thrown))
+-- the other kinds aren't built yet
+node_step p c f below info node = None
 
 -- a step of the top frame; nothing where no frame is left or it stands at no node
 abbrev pub frames_step : Program → Conf → List Frame → Option Event

@@ -11,11 +11,13 @@ use Rattle.ja_prim.specs.declared.primitive.Num.TheVariants.{NaN, Whole}
 use Rattle.ja_prim.specs.declared.primitive.Primitive.{Primitive}
 use Rattle.ja_prim.specs.declared.primitive.Primitive.TheVariants as primitive
 use Rattle.ja_prim.specs.Index.{is_index, is_index_text}
-use Rattle.ja_graph.specs.declared.node.Attrs.{Attrs}
+use Rattle.ja_graph.specs.declared.attrs.Attrs.{Attrs}
 use Rattle.ja_graph.specs.declared.program.Program.{Program}
 use Rattle.ja_model.specs.declared.machine.Addr.{Addr}
 use Rattle.ja_model.specs.declared.machine.Value.{Value}
 use Rattle.ja_model.specs.declared.machine.Value.TheVariants as value
+use Rattle.ja_model.specs.declared.machine.Content as property
+use Rattle.ja_model.specs.declared.machine.Content.TheVariants as contents
 use Rattle.ja_model.specs.declared.machine.Property.{Property}
 use Rattle.ja_model.specs.declared.machine.Object.{Object}
 use Rattle.ja_model.specs.declared.machine.Heap.{Heap}
@@ -32,7 +34,7 @@ use Rattle.ja_model.specs.declared.abstraction.Key.{Key}
 use Rattle.ja_model.specs.declared.abstraction.Key.TheVariants as key
 use Rattle.ja_model.specs.Heap.{count, object_at, property_of}
 use Rattle.ja_model.specs.Machine.{name_text, opening_heap, first_of}
-use Rattle.ja_model.specs.AbstractValue.{AbstractValue, AbstractProperty, same_label, of_label, of_primitive, of_attrs, absent_property, no_property, bare, join_flags, join_attrs}
+use Rattle.ja_model.specs.AbstractValue.{AbstractValue, AbstractProperty, same_label, of_label, of_primitive, of_attrs, row_value, absent_property, no_property, bare, join_flags, join_attrs}
 use Rattle.ja_model.specs.AbstractState.{AbstractState, same_key, name_key, join_masks}
 use Rattle.ja_model.specs.Reading.{Entries}
 
@@ -83,8 +85,9 @@ pub data Content : Type 0 where
   missing : Content
   -- what a slot holds
   held : Value → Content
-  -- a property
+  -- a property, and one that is out of the profile
   present : Value → Attrs → Content
+  present_row : Attrs → Content
 
 abbrev pub held_address : Option Addr → Content
 held_address None = missing
@@ -94,9 +97,13 @@ abbrev pub held_primitive : Option Primitive → Content
 held_primitive None = missing
 held_primitive (Some q) = held (value.Primitive q)
 
+abbrev pub content_of : property.Content → Attrs → Content
+content_of (contents.Value v) attrs = present v attrs
+content_of contents.Row attrs = present_row attrs
+
 abbrev pub property_content : Option Property → Content
 property_content None = missing
-property_content (Some q) = present q.value q.attrs
+property_content (Some q) = content_of q.content q.attrs
 
 abbrev pub object_content : Object → Spot → Content
 object_content o (named t) = property_content (property_of o t)
@@ -134,6 +141,7 @@ abbrev pub knows : Heap → AbstractProperty → Content → Bool
 knows h q missing = q.value.flags.absent
 knows h q (held v) = has_value h q.value v
 knows h q (present v attrs) = has_value h q.value v && allows_attrs q.attrs attrs
+knows h q (present_row attrs) = q.value.flags.row && allows_attrs q.attrs attrs
 
 -- ---- states
 
@@ -185,6 +193,7 @@ abbrev pub of_content : Heap → Content → AbstractProperty
 of_content h missing = absent_property
 of_content h (held v) = bare (of_value h v)
 of_content h (present v attrs) = record { value = of_value h v; attrs = of_attrs attrs }
+of_content h (present_row attrs) = record { value = row_value; attrs = of_attrs attrs }
 
 -- what the objects of a label have at a key; a site has one object there at most, whose label is new
 abbrev pub key_content : Program → Addr → Key → Content

@@ -6,7 +6,7 @@ use Rattle.ja_base.specs.declared.ids.Reg.{Reg}
 use Rattle.ja_base.specs.declared.ids.Site.{Site}
 use Rattle.ja_prim.specs.declared.primitive.Primitive.TheVariants as primitive
 use Rattle.ja_graph.specs.declared.node.Node.{Node}
-use Rattle.ja_graph.specs.declared.node.Node.TheVariants.{Const, FindName, ReadRef, WriteRef, Call, Return, Escape}
+use Rattle.ja_graph.specs.declared.node.Node.TheVariants.{Const, FindName, ReadRef, WriteRef, Call}
 use Rattle.ja_graph.specs.declared.node.NodeInfo.{NodeInfo}
 use Rattle.ja_graph.specs.declared.program.Program.{Program}
 use Rattle.ja_graph.specs.Program.{global, reference_error_prototype, type_error_prototype, message}
@@ -122,13 +122,13 @@ transfer_node p w info (WriteRef base name src) =
       states = put w target (key.Name name) (w.state.register src.0) info.next;
       demands = demands_of_read w target (key.Name name);
     }
-transfer_node p w info (Call dst callee receiver error) =
+transfer_node p w info (Call dst callee receiver args error) =
     record {
       states = throws w (has_part w.labels (w.state.register callee.0)) info error type_error_prototype not_a_function_message;
       demands = no_demands;
     }
-transfer_node p w info (Return src) = record { states = no_states; demands = no_demands }
-transfer_node p w info Escape = record { states = no_states; demands = no_demands }
+-- Return and Escape lead to no node; the other kinds aren't built yet
+transfer_node p w info node = record { states = no_states; demands = no_demands }
 
 abbrev pub transfer : Program → Entries → AbstractState → NodeInfo → Out
 transfer p entries a info = transfer_node p (view_of p entries a) info info.node

@@ -25,13 +25,13 @@ use Rattle.ja_model.specs.Table.{Table}
 
 -- what may go wrong at a node
 abbrev pub kind_of : Node → Option WarningKind
-kind_of (Call dst callee receiver error) = Some NotAFunction
+kind_of (Call dst callee receiver args error) = Some NotAFunction
 kind_of (ReadRef dst base name error) = Some UnboundName
 kind_of node = None
 
 -- the state allows it to go wrong: the callee has a part that can't be called (no part can yet), the base has null
 abbrev pub allows_fault : Program → AbstractState → Node → Bool
-allows_fault p a (Call dst callee receiver error) = has_part (labels_of p) (a.register callee.0)
+allows_fault p a (Call dst callee receiver args error) = has_part (labels_of p) (a.register callee.0)
 allows_fault p a (ReadRef dst base name error) = (a.register base.0).flags.null
 allows_fault p a node = false
 
@@ -86,7 +86,7 @@ is_null (value.Primitive primitive.Null) = true
 is_null v = false
 
 abbrev pub fault_at : Frame → NodeInfo → Node → Option (WarningKind × Place)
-fault_at f info (Call dst callee receiver error) = Some (NotAFunction, info.place)
+fault_at f info (Call dst callee receiver args error) = Some (NotAFunction, info.place)
 fault_at f info (ReadRef dst base name error) = if is_null (register_of f base) then Some (UnboundName, info.place) else None
 fault_at f info node = None
 

@@ -8,5 +8,7 @@ mod table;
 
 pub use abstraction::{AAttrs, Flags, Key, Mask, May, NumberPart, Slot, TextPart};
 pub use laws::{closed_covers, warned_of_faults};
-pub use machine::{Addr, Answer, Conf, End, Event, Frame, Heap, Object, Property, Slots, Value};
+pub use machine::{
+    Addr, Answer, Conf, Content, End, Event, Frame, Heap, Object, Property, Slots, Value,
+};
 pub use table::{Item, Warning, WarningKind};

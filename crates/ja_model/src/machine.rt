@@ -18,11 +18,18 @@ pub enum Value {
     Object(Addr),
 }
 
+/// What a property holds: a value, or what is out of the profile, a row.
+#[derive(Drop)]
+pub enum Content {
+    Value(Value),
+    Row,
+}
+
 /// A property (ES3 8.6).
 #[derive(Drop)]
 pub struct Property {
     pub name: Text16,
-    pub value: Value,
+    pub content: Content,
     pub attrs: Attrs,
 }
 

@@ -1,18 +1,18 @@
 -- Visits raise a table, and a round that changes nothing leaves a closed one.
-use Rattle.std.specs.Prelude.{◌≡◌, ◌≢◌, ◌<◌, ◌^◌, ℕ, ◌+◌, Bool, true, false, ◌&&◌, if◌then◌else◌, ◌==◌, List, [], ◌∷◌, ◌++◌, length, Option, Some, None, IsSome, is_some, slice_get, vec_len}
+use Rattle.std.specs.Prelude.{◌≡◌, ◌≢◌, ◌<◌, ◌≤◌, ◌^◌, ℕ, ◌+◌, Bool, true, false, ◌&&◌, if◌then◌else◌, ◌==◌, List, [], ◌∷◌, ◌++◌, length, Option, Some, None, IsSome, is_some, slice_get, vec_len}
 use Rattle.std.specs.Bool.{beq}
 use Rattle.std.specs.Option.{option_map, option_map_or, option_and_then}
 use Rattle.std.proofs.Common.{refl, sym, ◌∙◌, ap, subst, inl, inr, get_or, arith}
 use Rattle.std.proofs.lemmas.Bool.{and_parts, false≢true}
 use Rattle.std.proofs.lemmas.Bool.Decides.{nat_tests}
-use Rattle.std.proofs.lemmas.Option.{slice_get-get_or, slice_get_cases}
+use Rattle.std.proofs.lemmas.Option.{same_Some, slice_get-get_or, slice_get_cases}
 use borrow.Author.Count.{below_more}
 use Rattle.ja_base.specs.declared.ids.Context.{Context}
 use Rattle.ja_graph.specs.declared.node.NodeInfo.{NodeInfo}
 use Rattle.ja_graph.specs.declared.program.Function.{Function}
 use Rattle.ja_graph.specs.declared.program.Program.{Program}
 use Rattle.ja_graph.specs.Program.{nodes_of, node_at}
-use Rattle.ja_graph.specs.WellFormed.{IsWellFormed}
+use Rattle.ja_graph.specs.WellFormed.{IsWellFormed, node_count}
 use Rattle.ja_model.specs.declared.table.Item.{Item}
 use Rattle.ja_model.specs.declared.table.Item.TheVariants.{Open, Step}
 use Rattle.ja_model.specs.Machine.{program_function}
@@ -170,9 +170,16 @@ more_settled p t n below here =
 
 -- ---- nodes
 
+-- the first function has no more nodes than all have
+first_nodes : (fns : List Function) (fn : Function) → slice_get fns 0 ≡ Some fn → length fn.nodes ≤ node_count fns
+first_nodes [] fn e = absurd (false≢true (ap is_some e))
+first_nodes (x ∷ fns) fn e = let same : length x.nodes ≡ length fn.nodes = ap (λ (f : Function). length f.nodes) (same_Some x fn e) in omega arith
+
 pub few_nodes : (p : Program) → IsWellFormed p → length (nodes_of p program_function) < 2 ^ 32
 few_nodes p w =
-    subst (λ (o : Option Function). length (option_map_or (λ (fn : Function). fn.nodes) o []) < 2 ^ 32) (sym w.text_is) ((w.each 0 w.text w.text_is).few_nodes)
+    let all : length w.text.nodes ≤ node_count p.functions = first_nodes p.functions w.text w.text_is in
+    let few : node_count p.functions ≤ 131072 = w.few_nodes in
+    subst (λ (o : Option Function). length (option_map_or (λ (fn : Function). fn.nodes) o []) < 2 ^ 32) (sym w.text_is) (omega arith)
 
 -- the step of a node with a state is an item
 pub step_is_item : (p : Program) (a : ATable) (n : ℕ) → n < length (nodes_of p program_function) → IsSome ((table_of a).state root n) → IsItem p (table_of a) (step_at n)

@@ -7,11 +7,15 @@ use Rattle.std.proofs.lemmas.Bool.{cases_Bool, false≢true, true≢false, eqb-t
 use Rattle.ja_base.specs.declared.ids.Label.{Label}
 use Rattle.ja_base.specs.declared.ids.NameId.{NameId}
 use Rattle.ja_base.specs.declared.ids.Site.{Site}
+use Rattle.ja_prim.specs.declared.primitive.Primitive.{Primitive}
 use Rattle.ja_graph.specs.declared.program.ObjectSpec.{ObjectSpec}
+use Rattle.ja_graph.specs.declared.attrs.Attrs.{Attrs}
 use Rattle.ja_graph.specs.declared.program.PropertySpec.{PropertySpec}
+use Rattle.ja_graph.specs.declared.program.SpecContent.{SpecContent}
+use Rattle.ja_graph.specs.declared.program.SpecContent.TheVariants as spec_content
 use Rattle.ja_graph.specs.declared.program.Program.{Program}
 use Rattle.ja_graph.specs.Program.{object_spec}
-use Rattle.ja_graph.specs.WellFormed.{IsWellFormed, IsObjectWellFormed, IsName}
+use Rattle.ja_graph.specs.WellFormed.{IsWellFormed, IsObjectWellFormed, IsName, IsContent}
 use Rattle.ja_model.specs.declared.abstraction.Slot.{Slot}
 use Rattle.ja_model.specs.declared.abstraction.Slot.TheVariants as slot
 use Rattle.ja_model.specs.declared.abstraction.Key.{Key}
@@ -20,16 +24,16 @@ use Rattle.ja_model.specs.declared.machine.Addr.{Addr}
 use Rattle.ja_model.specs.declared.machine.Property.{Property}
 use Rattle.ja_model.specs.declared.machine.Object.{Object}
 use Rattle.ja_model.specs.Heap.{object_at, count, same_text}
-use Rattle.ja_model.specs.Machine.{name_text, first_of, opening_property, opening_object, opening_heap}
-use Rattle.ja_model.specs.AbstractValue.{no_value, unknown_attrs, no_property, bare, of_label}
+use Rattle.ja_model.specs.Machine.{name_text, first_of, opening_content, opening_property, opening_object, opening_heap}
+use Rattle.ja_model.specs.AbstractValue.{AbstractProperty, no_value, unknown_attrs, no_property, bare, of_label, of_attrs}
 use Rattle.ja_model.specs.AbstractState.{new, is_key}
-use Rattle.ja_model.specs.Meaning.{missing, named, internal, object_content, property_content, held_address, label_of, of_content, key_content, opened_at, opened}
+use Rattle.ja_model.specs.Meaning.{missing, named, internal, object_content, content_of, property_content, held_address, held_primitive, label_of, of_content, key_content, opened_at, opened}
 use Rattle.ja_model.proofs.Heaps
 use Rattle.ja_model.proofs.Lists.{slice_get_some, some_value}
-use Rattle.ja_model.proofs.Opening.{IsOpened, objects-opening, opened_at_address, count-opening}
+use Rattle.ja_model.proofs.Opening.{IsOpened, site_before, objects-opening, opened_at_address, count-opening}
 use Rattle.ja_value.specs.declared.property.AProp.{AProp}
 use Rattle.ja_value.specs.Value.{value_of, property_of}
-use Rattle.ja_rules.specs.Readings.{property_given, prototype_given, slot_property, opened_property}
+use Rattle.ja_rules.specs.Readings.{value_given, property_given, object_given, primitive_given, slot_property, opened_property}
 
 -- what a search finds is at some place, and passes the test
 pub find_at : {X : Type 0} (test : X → Bool) (xs : List X) (x : X) → find test xs ≡ Some x → (i : ℕ) × (slice_get xs i ≡ Some x) × (test x ≡ true)
@@ -58,6 +62,21 @@ spec_fits p good s o e =
     (i, good.objects i o at, subst (λ n. n < length p.opening) same fits)
 
 module _ (p : Program) (good : IsWellFormed p) where
+  -- ---- values
+
+  -- the object of a site without a node is there alone, so its label is new
+  label_of-first : (s : Site) → s.0 < length p.opening → label_of (opening_heap p) (first_of s) ≡ new s
+  label_of-first s h =
+      let one : count (opening_heap p) s ≡ 1 = count-opening p good s h in
+      let is_new : (label_of (opening_heap p) (first_of s)).old ≡ false = Heaps.label_is_new (opening_heap p) (first_of s) (omega arith) in
+      λ i. record { site = s; old = is_new i }
+
+  -- what a property has when a run begins
+  spec_content_is : (x : SpecContent) (attrs : Attrs) → IsContent p x → of_content (opening_heap p) (content_of (opening_content x) attrs) ≡ record { value = value_given x; attrs = of_attrs attrs }
+  spec_content_is (spec_content.Prim q) attrs fits = refl
+  spec_content_is (spec_content.Object s) attrs fits = ap (λ l. let r : AbstractProperty = record { value = of_label l; attrs = of_attrs attrs } in r) (label_of-first s fits)
+  spec_content_is spec_content.Row attrs fits = refl
+
   -- ---- names
 
   named_at : (n : NameId) → IsName p n → slice_get p.names n.0 ≡ Some (name_text p n)
@@ -72,45 +91,36 @@ module _ (p : Program) (good : IsWellFormed p) where
       ]
 
   -- the first property of a name's text is the first one of the name
-  named_content : (qs : List PropertySpec) (n : NameId) → ((j : ℕ) (q : PropertySpec) → slice_get qs j ≡ Some q → IsName p q.name) → IsName p n → of_content (opening_heap p) (property_content (find (λ (q : Property). same_text q.name (name_text p n)) (map (opening_property p) qs))) ≡ property_given (find (λ (q : PropertySpec). q.name.0 == n.0) qs)
-  named_content [] n names h = refl
-  named_content (q ∷ qs) n names h =
+  named_content : (qs : List PropertySpec) (n : NameId) → ((j : ℕ) (q : PropertySpec) → slice_get qs j ≡ Some q → IsName p q.name) → ((j : ℕ) (q : PropertySpec) → slice_get qs j ≡ Some q → IsContent p q.content) → IsName p n → of_content (opening_heap p) (property_content (find (λ (q : Property). same_text q.name (name_text p n)) (map (opening_property p) qs))) ≡ property_given (find (λ (q : PropertySpec). q.name.0 == n.0) qs)
+  named_content [] n names contents h = refl
+  named_content (q ∷ qs) n names contents h =
       let same : same_text (name_text p q.name) (name_text p n) ≡ (q.name.0 == n.0) = same_name q.name n (names 0 q refl) h in
       elim (cases_Bool (q.name.0 == n.0)) [
-        | inl t ↦ ap (λ o. of_content (opening_heap p) (property_content o)) (cond-true _ _ _ (same ∙ t)) ∙ sym (ap property_given (cond-true _ _ _ t))
-        | inr f ↦ ap (λ o. of_content (opening_heap p) (property_content o)) (cond-false _ _ _ (same ∙ f)) ∙ (named_content qs n (λ j r k. names (suc j) r k) h ∙ sym (ap property_given (cond-false _ _ _ f)))
+        | inl t ↦ ap (λ o. of_content (opening_heap p) (property_content o)) (cond-true _ _ _ (same ∙ t)) ∙ (spec_content_is q.content q.attrs (contents 0 q refl) ∙ sym (ap property_given (cond-true _ _ _ t)))
+        | inr f ↦ ap (λ o. of_content (opening_heap p) (property_content o)) (cond-false _ _ _ (same ∙ f)) ∙ (named_content qs n (λ j r k. names (suc j) r k) (λ j r k. contents (suc j) r k) h ∙ sym (ap property_given (cond-false _ _ _ f)))
       ]
 
   -- ---- slots
 
-  -- the object of a site without a node is there alone, so its label is new
-  label_of-first : (s : Site) → s.0 < length p.opening → label_of (opening_heap p) (first_of s) ≡ new s
-  label_of-first s h =
-      let one : count (opening_heap p) s ≡ 1 = count-opening p good s h in
-      let is_new : (label_of (opening_heap p) (first_of s)).old ≡ false = Heaps.label_is_new (opening_heap p) (first_of s) (omega arith) in
-      λ i. record { site = s; old = is_new i }
+  link_content : (o : Option Site) → ((s : Site) → o ≡ Some s → s.0 < length p.opening) → of_content (opening_heap p) (held_address (option_map first_of o)) ≡ object_given o
+  link_content None h = refl
+  link_content (Some s) h = ap (λ l. bare (of_label l)) (label_of-first s (h s refl))
 
-  prototype_content : (o : Option Site) → ((s : Site) → o ≡ Some s → s.0 < length p.opening) → of_content (opening_heap p) (held_address (option_map first_of o)) ≡ prototype_given o
-  prototype_content None h = refl
-  prototype_content (Some s) h = ap (λ l. bare (of_label l)) (label_of-first s (h s refl))
-
-  prototype_fits : (i : ℕ) (o : ObjectSpec) → IsObjectWellFormed p i o → (s : Site) → o.prototype ≡ Some s → s.0 < length p.opening
-  prototype_fits i o w s e =
-      let (j, q, before, at, site_is) = w.prototype s e in
-      let fits : q.site.0 < length p.opening = (good.objects j q at).site in
-      omega arith
+  primitive_content : (o : Option Primitive) → of_content (opening_heap p) (held_primitive o) ≡ primitive_given o
+  primitive_content None = refl
+  primitive_content (Some q) = refl
 
   slot_content : (i : ℕ) (o : ObjectSpec) → IsObjectWellFormed p i o → (s : Slot) → of_content (opening_heap p) (object_content (opening_object p o) (internal s)) ≡ slot_property o s
-  slot_content i o w slot.Prototype = prototype_content o.prototype (prototype_fits i o w)
+  slot_content i o w slot.Prototype = link_content o.prototype (λ s e. site_before p good i s (w.prototype s e))
   slot_content i o w slot.Outer = refl
-  slot_content i o w slot.Scope = refl
-  slot_content i o w slot.Value = refl
+  slot_content i o w slot.Scope = link_content o.scope (λ s e. site_before p good i s (w.scope s e))
+  slot_content i o w slot.Value = primitive_content o.value
 
   -- ---- labels and keys
 
   opened_content : (a : Addr) (i : ℕ) (o : ObjectSpec) → IsObjectWellFormed p i o → object_at (opening_heap p) a ≡ Some (opening_object p o) → (k : Key) → IsTrue (is_key p k) → of_content (opening_heap p) (key_content p a k) ≡ opened_property o k
   opened_content a i o w at (key.Name n) h =
-      ap (λ r. of_content (opening_heap p) (option_map_or (λ (q : Object). object_content q (named (name_text p n))) r missing)) at ∙ named_content o.properties n w.names (ltb-true n.0 (length p.names) h)
+      ap (λ r. of_content (opening_heap p) (option_map_or (λ (q : Object). object_content q (named (name_text p n))) r missing)) at ∙ named_content o.properties n w.names w.contents (ltb-true n.0 (length p.names) h)
   opened_content a i o w at key.OtherIndex h = refl
   opened_content a i o w at key.OtherName h = refl
   opened_content a i o w at (key.Slot s) h =

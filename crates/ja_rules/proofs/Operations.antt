@@ -12,7 +12,7 @@ use Rattle.ja_graph.specs.declared.node.NodeInfo.{NodeInfo}
 use Rattle.ja_graph.specs.declared.node.Node.{Node}
 use Rattle.ja_graph.specs.declared.program.Function.{Function}
 use Rattle.ja_graph.specs.declared.program.Program.{Program}
-use Rattle.ja_graph.specs.WellFormed.{IsWellFormed, IsInfoInRange}
+use Rattle.ja_graph.specs.WellFormed.{IsWellFormed, IsNodeWellFormed}
 use Rattle.ja_graph.specs.Program.{nodes_of}
 use Rattle.ja_model.specs.declared.table.Warning.{Warning}
 use Rattle.ja_model.specs.declared.table.WarningKind.{WarningKind}
@@ -369,7 +369,7 @@ below_next p a n info o earlier after i s b e =
     e ∙ ap (λ (q : Option Operation). with_found q earlier) (sym at) ∙ ap (λ os. with_found (operation_at p (table_of a) n) os) b ∙ ap (λ m. operations_below p (table_of a) m) (sym (add-one n))
 
 -- the numbers of a node with a state are in range
-pub in_range : (p : Program) (a : ATable) (n : ℕ) (info : NodeInfo) (o : Option AState) → IsWellFormed p → Fits p a → slice_get (nodes_of p program_function) n ≡ Some info → slice_get a.states.items n ≡ Some o → (s : AState) → o ≡ Some s → (fn : Function) × IsInfoInRange p fn info × (vec_len s.registers ≡ fn.registers)
+pub in_range : (p : Program) (a : ATable) (n : ℕ) (info : NodeInfo) (o : Option AState) → IsWellFormed p → Fits p a → slice_get (nodes_of p program_function) n ≡ Some info → slice_get a.states.items n ≡ Some o → (s : AState) → o ≡ Some s → (fn : Function) × IsNodeWellFormed p fn info × (vec_len s.registers ≡ fn.registers)
 in_range p a n info o w f i at s e = (
   w.text,
   (w.each 0 w.text w.text_is).each n info (ap (λ (q : Option Function). slice_get (option_map_or (λ (fn : Function). fn.nodes) q []) n) (sym w.text_is) ∙ i),

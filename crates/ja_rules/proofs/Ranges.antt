@@ -11,12 +11,12 @@ use Rattle.ja_base.specs.declared.ids.NodeId.{NodeId}
 use Rattle.ja_base.specs.declared.ids.Reg.{Reg}
 use Rattle.ja_base.specs.declared.ids.Site.{Site}
 use Rattle.ja_graph.specs.declared.node.Node.{Node}
-use Rattle.ja_graph.specs.declared.node.Node.TheVariants.{Const, FindName, ReadRef, WriteRef, Call, Return, Escape}
+use Rattle.ja_graph.specs.declared.node.Node.TheVariants.{Const, FindName, ReadRef, WriteRef, Call}
 use Rattle.ja_graph.specs.declared.node.NodeInfo.{NodeInfo}
 use Rattle.ja_graph.specs.declared.program.Function.{Function}
 use Rattle.ja_graph.specs.declared.program.Program.{Program}
 use Rattle.ja_graph.specs.Program.{node_at, nodes_of, reference_error_prototype, type_error_prototype}
-use Rattle.ja_graph.specs.WellFormed.{IsWellFormed, IsNodeInRange, IsInfoInRange, IsName}
+use Rattle.ja_graph.specs.WellFormed.{IsWellFormed, IsNodeWellFormed, IsName}
 use Rattle.ja_model.specs.declared.abstraction.Key.{Key}
 use Rattle.ja_model.specs.declared.abstraction.Key.TheVariants as key
 use Rattle.ja_model.specs.Machine.{program_function, registers_of, scope, name_text, is_text_length, unbound_message, not_a_function_message}
@@ -27,6 +27,7 @@ use Rattle.ja_model.specs.Transfer.{Out, gives, sets, throws, with_error, put_at
 use Rattle.ja_model.specs.Table.{demanded, opened_entries}
 use Rattle.ja_model.proofs.Keys.{same_key-true}
 use Rattle.ja_model.proofs.Labels.{among_some}
+use Rattle.ja_model.proofs.Nodes.{IsNodeInRange, node_in_range}
 use Rattle.ja_state.specs.declared.state.AState.{AState}
 use Rattle.ja_rules.specs.declared.step.Outcome.{Outcome}
 use Rattle.ja_rules.specs.Readings.{given_by, demands_in, out_of}
@@ -42,9 +43,33 @@ pub registers_of_text : (p : Program) (good : IsWellFormed p) → registers_of p
 registers_of_text p good = ap (λ o. option_map_or (λ (fn : Function). fn.registers) o 0) good.text_is
 
 -- each node of the program is in range
-pub info_in_range : (p : Program) (good : IsWellFormed p) (n : NodeId) (info : NodeInfo) → node_at p program_function n ≡ Some info → IsInfoInRange p good.text info
+pub info_in_range : (p : Program) (good : IsWellFormed p) (n : NodeId) (info : NodeInfo) → node_at p program_function n ≡ Some info → IsNodeWellFormed p good.text info
 info_in_range p good n info e =
     (good.each 0 good.text good.text_is).each n.0 info (ap (λ (xs : List NodeInfo). slice_get xs n.0) (sym (nodes_of_text p good)) ∙ e)
+
+-- ---- registers and names of a node
+
+-- those that its step uses are of the state and of the program
+abbrev pub HasNumbers : Program → ℕ → Node → Type 0
+HasNumbers p count (Const dst v) = dst.0 < count
+HasNumbers p count (FindName dst name) = dst.0 < count
+HasNumbers p count (ReadRef dst base name error) = (dst.0 < count) × (base.0 < count) × IsName p name
+HasNumbers p count (WriteRef base name src) = (base.0 < count) × (src.0 < count)
+HasNumbers p count (Call dst callee receiver args error) = callee.0 < count
+HasNumbers p count node = Unit {0}
+
+numbers_from : (p : Program) (fn : Function) (node : Node) → IsNodeInRange p fn node → HasNumbers p fn.registers node
+numbers_from p fn (Const dst v) r = r.0
+numbers_from p fn (FindName dst name) r = r.0.0
+numbers_from p fn (ReadRef dst base name error) r = (r.0.0, r.1, r.2)
+numbers_from p fn (WriteRef base name src) r = (r.0, r.2)
+numbers_from p fn (Call dst callee receiver args error) r = r.1
+numbers_from p fn node r = tt
+
+-- .. at a state with the registers of the function
+pub numbers_of : (p : Program) (info : NodeInfo) (count : ℕ) (node : Node) → (fn : Function) × IsNodeWellFormed p fn info × (count ≡ fn.registers) → info.node ≡ node → HasNumbers p count node
+numbers_of p info count node (fn, known, same) is =
+    subst (λ n. HasNumbers p n node) (sym same) (numbers_from p fn node (subst (λ n. IsNodeInRange p fn n) is (node_in_range p fn info known)))
 
 -- ---- keys that are demanded
 
@@ -83,9 +108,8 @@ node_keys p fn w info (Const dst v) r m j h = absurd (false≢true h)
 node_keys p fn w info (FindName dst name) r m j h = search_keys p w _ (key.Name name) (name_is_key p name r.1) m j h
 node_keys p fn w info (ReadRef dst base name error) r m j h = read_keys p w _ (key.Name name) (name_is_key p name r.2) m j h
 node_keys p fn w info (WriteRef base name src) r m j h = read_keys p w _ (key.Name name) (name_is_key p name r.1) m j h
-node_keys p fn w info (Call dst callee receiver error) r m j h = absurd (false≢true h)
-node_keys p fn w info (Return src) r m j h = absurd (false≢true h)
-node_keys p fn w info Escape r m j h = absurd (false≢true h)
+node_keys p fn w info (Call dst callee receiver args error) r m j h = absurd (false≢true h)
+node_keys p fn w info node r m j h = absurd (false≢true h)
 
 some_or : (b : Bool) (o : Option AbstractProperty) (q : AbstractProperty) → IsSome (if b then Some q else o) → (b ≡ false → IsSome o)
 some_or b o q h f = subst (λ c. IsSome (if c then Some q else o)) f h
@@ -147,10 +171,9 @@ node_states p count w info (ReadRef dst base name error) h k =
     below-append count (throws w (w.state.register base.0).flags.null info error reference_error_prototype (unbound_message (name_text p name))) (sets w dst (read_value w (w.state.register base.0).label (key.Name name)) info.next) (below-throws count w (w.state.register base.0).flags.null info error reference_error_prototype (unbound_message (name_text p name)) k) (below-sets count w dst (read_value w (w.state.register base.0).label (key.Name name)) info.next h)
 node_states p count w info (WriteRef base name src) h k =
     below-put_at count w (written_labels (w.state.register base.0)) (key.Name name) (w.state.register src.0) info.next (filter (written_labels (w.state.register base.0)) w.labels) h
-node_states p count w info (Call dst callee receiver error) h k =
+node_states p count w info (Call dst callee receiver args error) h k =
     below-throws count w (has_part w.labels (w.state.register callee.0)) info error type_error_prototype not_a_function_message k
-node_states p count w info (Return src) h k = tt
-node_states p count w info Escape h k = tt
+node_states p count w info node h k = tt
 
 given_below : (count : ℕ) (given : List (NodeId × AState)) → Below count (map given_by given) → AllByRecursion (λ (s : NodeId × AState). s.0.0 < count) given
 given_below count [] h = tt
@@ -158,7 +181,7 @@ given_below count (s ∷ given) h = (h.0, given_below count given h.1)
 
 -- ---- a step of the program
 
-module _ (p : Program) (good : IsWellFormed p) (e : Entries) (a : AbstractState) (info : NodeInfo) (o : Outcome) (out_is : out_of o ≡ transfer p e a info) (in_range : IsInfoInRange p good.text info) where
+module _ (p : Program) (good : IsWellFormed p) (e : Entries) (a : AbstractState) (info : NodeInfo) (o : Outcome) (out_is : out_of o ≡ transfer p e a info) (in_range : IsNodeWellFormed p good.text info) where
   -- each state goes to a node of the program
   pub step_nodes : (count : ℕ) → count ≡ length (nodes_of p program_function) → AllByRecursion (λ (s : NodeId × AState). s.0.0 < count) o.states.items
   step_nodes count count_is =
@@ -170,7 +193,7 @@ module _ (p : Program) (good : IsWellFormed p) (e : Entries) (a : AbstractState)
   -- each key that is demanded is one of the program
   pub step_keys : (d : Entries) → d ≡ demanded e (demands_in o.demands) → ((l : Label) (k : Key) → IsSome (e l k) → IsTrue (is_key p k)) → (l : Label) (k : Key) → IsSome (d l k) → IsTrue (is_key p k)
   step_keys d d_is was l k h =
-      demanded_keys p e (demands_in o.demands) was (λ m j t. node_keys p good.text (view_of p e a) info info.node in_range.node m j (subst (λ (x : Out). IsTrue (x.demands m j)) out_is t)) l k (subst (λ (x : Entries). IsSome (x l k)) d_is h)
+      demanded_keys p e (demands_in o.demands) was (λ m j t. node_keys p good.text (view_of p e a) info info.node (node_in_range p good.text info in_range) m j (subst (λ (x : Out). IsTrue (x.demands m j)) out_is t)) l k (subst (λ (x : Entries). IsSome (x l k)) d_is h)
 
 -- the text has a node
 pub has_node : (p : Program) (good : IsWellFormed p) → 0 < length good.text.nodes

@@ -6,8 +6,11 @@ use Rattle.ja_base.specs.declared.ids.Label.{Label}
 use Rattle.ja_base.specs.declared.ids.NodeId.{NodeId}
 use Rattle.ja_base.specs.declared.ids.NameId.{NameId}
 use Rattle.ja_base.specs.declared.ids.Site.{Site}
+use Rattle.ja_prim.specs.declared.primitive.Primitive.{Primitive}
 use Rattle.ja_graph.specs.declared.program.ObjectSpec.{ObjectSpec}
 use Rattle.ja_graph.specs.declared.program.PropertySpec.{PropertySpec}
+use Rattle.ja_graph.specs.declared.program.SpecContent.{SpecContent}
+use Rattle.ja_graph.specs.declared.program.SpecContent.TheVariants as spec_content
 use Rattle.ja_graph.specs.declared.program.Program.{Program}
 use Rattle.ja_graph.specs.Program.{nodes_of, node_at}
 use Rattle.ja_model.specs.declared.abstraction.Slot.{Slot}
@@ -15,7 +18,7 @@ use Rattle.ja_model.specs.declared.abstraction.Slot.TheVariants as slot
 use Rattle.ja_model.specs.declared.abstraction.Key.{Key}
 use Rattle.ja_model.specs.declared.abstraction.Key.TheVariants as key
 use Rattle.ja_model.specs.Machine.{program_function, registers_of}
-use Rattle.ja_model.specs.AbstractValue.{AbstractProperty, same_label, absent_property, of_primitive, of_attrs, of_label, bare}
+use Rattle.ja_model.specs.AbstractValue.{AbstractValue, AbstractProperty, same_label, row_value, absent_property, of_primitive, of_attrs, of_label, bare}
 use Rattle.ja_model.specs.AbstractState.{AbstractState, new, same_key, labels_below, is_key}
 use Rattle.ja_model.specs.Reading.{Demands, Entries, View, got, may_have, may_lack, may_refuse, may_accept}
 use Rattle.ja_model.specs.Transfer.{Out}
@@ -91,21 +94,32 @@ HaveSameRegisters given count = AllByRecursion (λ (s : NodeId × AState). vec_l
 
 -- ---- the contents of the opening heap
 
--- what an object of the opening heap has at a name and at a key
+-- what an object of the opening heap has at a name, at a slot and at a key
+abbrev pub value_given : SpecContent → AbstractValue
+value_given (spec_content.Prim q) = of_primitive q
+value_given (spec_content.Object s) = of_label (new s)
+value_given spec_content.Row = row_value
+
 abbrev pub property_given : Option PropertySpec → AbstractProperty
 property_given None = absent_property
-property_given (Some q) = record { value = of_primitive q.value; attrs = of_attrs q.attrs }
+property_given (Some q) = record { value = value_given q.content; attrs = of_attrs q.attrs }
 
 abbrev pub named_property : ObjectSpec → NameId → AbstractProperty
 named_property o n = property_given (find (λ (q : PropertySpec). q.name.0 == n.0) o.properties)
 
-abbrev pub prototype_given : Option Site → AbstractProperty
-prototype_given None = absent_property
-prototype_given (Some s) = bare (of_label (new s))
+abbrev pub object_given : Option Site → AbstractProperty
+object_given None = absent_property
+object_given (Some s) = bare (of_label (new s))
+
+abbrev pub primitive_given : Option Primitive → AbstractProperty
+primitive_given None = absent_property
+primitive_given (Some q) = bare (of_primitive q)
 
 abbrev pub slot_property : ObjectSpec → Slot → AbstractProperty
-slot_property o slot.Prototype = prototype_given o.prototype
-slot_property o s = absent_property
+slot_property o slot.Prototype = object_given o.prototype
+slot_property o slot.Outer = absent_property
+slot_property o slot.Scope = object_given o.scope
+slot_property o slot.Value = primitive_given o.value
 
 abbrev pub opened_property : ObjectSpec → Key → AbstractProperty
 opened_property o (key.Name n) = named_property o n

@@ -2,7 +2,7 @@ ghost use Rattle.std.specs.Prelude.{◌≡◌, ◌≤◌, ◌<◌, ◌+◌, ◌^
 ghost use Rattle.std.specs.Option.{option_and_then};
 ghost use Rattle.ja_graph.specs.declared.program.Function.{Function};
 ghost use Rattle.ja_graph.specs.Program.{nodes_of};
-ghost use Rattle.ja_graph.specs.WellFormed.{IsWellFormed, IsInfoInRange};
+ghost use Rattle.ja_graph.specs.WellFormed.{IsWellFormed, IsNodeWellFormed};
 ghost use Rattle.ja_model.specs.Machine.{program_function};
 ghost use Rattle.ja_model.specs.Table.{IsClosed};
 ghost use Rattle.ja_model.specs.Sound.{WarnsOfFaults};
@@ -77,7 +77,7 @@ fn comes_before(a: &Warning, b: &Warning) -> bool
 
 // What may go wrong at a node, from a state at it.
 fn operation_of(program: &Program, info: &NodeInfo, state: &AState) -> Option<Operation>
-    requires info { (fn : Function) × IsInfoInRange program.now fn info.now × (vec_len state.now.registers ≡ fn.registers) }
+    requires info { (fn : Function) × IsNodeWellFormed program.now fn info.now × (vec_len state.now.registers ≡ fn.registers) }
     requires sites { length program.now.sites < 2 ^ 32 }
     ensures { result ≡ operation_of program.now (state_of state.now) info.now }
 {
@@ -92,11 +92,7 @@ fn operation_of(program: &Program, info: &NodeInfo, state: &AState) -> Option<Op
             let more = base.labels.has_below(sites);
             Some(Operation::new(WarningKind::UnboundName, info.place, base.flags.null, more))
         }
-        Node::Const { .. }
-        | Node::FindName { .. }
-        | Node::WriteRef { .. }
-        | Node::Return { .. }
-        | Node::Escape => None,
+        _ => None,
     }
 }
 
@@ -137,7 +133,7 @@ fn add_node(
     state: &Option<AState>,
     found: &mut Vec<Operation>,
 ) -> Result<(), Memory>
-    requires info { (a : AState) → state.now ≡ Some a → (fn : Function) × IsInfoInRange program.now fn info.now × (vec_len a.registers ≡ fn.registers) }
+    requires info { (a : AState) → state.now ≡ Some a → (fn : Function) × IsNodeWellFormed program.now fn info.now × (vec_len a.registers ≡ fn.registers) }
     requires sites { length program.now.sites < 2 ^ 32 }
     requires order { AreInOrder found.old.items }
     ensures { OnOk result (found.new.items ≡ with_found (option_and_then (λ a. operation_of program.now (state_of a) info.now) state.now) found.old.items) }

@@ -1,7 +1,7 @@
 ghost use Rattle.std.specs.Prelude.{◌≡◌, ◌<◌, ◌++◌, IfOk, All, length, true, vec_len};
 ghost use Rattle.ja_base.specs.declared.ids.NodeId.{NodeId};
 ghost use Rattle.ja_graph.specs.declared.program.Function.{Function};
-ghost use Rattle.ja_graph.specs.WellFormed.{IsWellFormed, IsInfoInRange};
+ghost use Rattle.ja_graph.specs.WellFormed.{IsWellFormed, IsNodeWellFormed};
 ghost use Rattle.ja_graph.specs.Program.{reference_error_prototype, type_error_prototype};
 ghost use Rattle.ja_model.specs.declared.abstraction.Key.TheVariants as key;
 ghost use Rattle.ja_model.specs.Machine.{name_text, unbound_message, not_a_function_message};
@@ -42,7 +42,7 @@ pub fn transfer(
     entries: &DemandedEntries,
 ) -> Result<Outcome, Memory>
     requires program { IsWellFormed program.now }
-    requires info { (fn : Function) × IsInfoInRange program.now fn info.now × (vec_len state.now.registers ≡ fn.registers) }
+    requires info { (fn : Function) × IsNodeWellFormed program.now fn info.now × (vec_len state.now.registers ≡ fn.registers) }
     ensures out { IfOk result (λ o. out_of o ≡ transfer program.now (entries_of entries.now) (state_of state.now) info.now) }
     ensures registers { IfOk result (λ o. All (λ (s : NodeId × AState). vec_len s.1.registers ≡ vec_len state.now.registers) o.states.items) }
 {
@@ -59,11 +59,11 @@ pub fn transfer(
 impl Reader<'_> {
     /// The abstract step of a node.
     fn step(&self, program: &Program, info: &NodeInfo) -> Result<Outcome, Memory>
-        requires info { (fn : Function) × IsInfoInRange program.now fn info.now × (vec_len self.now.state.now.registers ≡ fn.registers) }
+        requires info { (fn : Function) × IsNodeWellFormed program.now fn info.now × (vec_len self.now.state.now.registers ≡ fn.registers) }
         ensures { IfOk result (IsOutcome (vec_len self.now.state.now.registers) (transfer_node program.now (view_of self.now) info.now info.now.node)) }
     {
         match &info.node {
-            Node::Const { dst, value } => self.constant(*dst, value, info.next),
+            Node::Const { dst, prim } => self.constant(*dst, prim, info.next),
             Node::FindName { dst, name } => self.find_name(*dst, *name, info.next),
             Node::ReadRef {
                 dst,
@@ -73,8 +73,7 @@ impl Reader<'_> {
             } => self.read_name(program, info, *dst, *base, *name, *error),
             Node::WriteRef { base, name, src } => self.write_name(*base, *name, *src, info.next),
             Node::Call { callee, error, .. } => self.call(info, *callee, *error),
-            Node::Return { .. } => self.leaves(),
-            Node::Escape => self.leaves(),
+            _ => self.leaves(),
         }
     }
 
@@ -174,7 +173,7 @@ impl Reader<'_> {
         Ok(outcome)
     }
 
-    /// The function is left, so no node of it is next.
+    /// The function is left, so no node of it is next; or the kind isn't built yet.
     fn leaves(&self) -> Result<Outcome, Memory>
         ensures { IfOk result (IsOutcome (vec_len self.now.state.now.registers) (record { states = no_states; demands = no_demands })) }
     {

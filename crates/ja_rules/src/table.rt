@@ -9,15 +9,16 @@ ghost use Rattle.ja_model.specs.declared.abstraction.Key.{Key};
 ghost use Rattle.ja_model.specs.AbstractState.{is_key};
 ghost use Rattle.ja_model.specs.Machine.{program_function};
 ghost use Rattle.ja_model.specs.Meaning.{opened};
-ghost use Rattle.ja_value.specs.Value.{property_of};
+ghost use Rattle.ja_value.specs.Value.{value_of, property_of};
 ghost use Rattle.ja_model.specs.Table.{opening_table, visited, visit_step, IsItem, demanded, root, opened_entries};
 ghost use Rattle.ja_state.specs.declared.state.AState.{AState};
 ghost use Rattle.ja_state.specs.State.{state_of, entries_of};
 
 use crate::{DemandList, Outcome, transfer};
 use ja_base::{Label, Memory, NameId, NodeId, Site};
-use ja_graph::{NodeInfo, ObjectSpec, Program, PropertySpec};
+use ja_graph::{NodeInfo, ObjectSpec, Program, PropertySpec, SpecContent};
 use ja_model::{Item, Key, Slot};
+use ja_prim::Primitive;
 use ja_state::{AState, DemandedEntries};
 use ja_value::{AProp, AValue, exact_attrs, unknown_attrs};
 use std::alloc::Global;
@@ -30,7 +31,7 @@ pub struct ATable {
     pub entries: DemandedEntries,
 }
 
-ghost use Rattle.ja_rules.specs.Readings.{table_of, Fits, demands_in, states_in, with_given, with_all_given, given_by, HaveRegisters, HaveSameRegisters, HasStep, named_property, opened_property, opened_pair};
+ghost use Rattle.ja_rules.specs.Readings.{table_of, Fits, demands_in, states_in, with_given, with_all_given, given_by, HaveRegisters, HaveSameRegisters, HasStep, value_given, named_property, object_given, primitive_given, opened_property, opened_pair};
 
 // No state at any of so many nodes.
 fn no_states(alloc: Global, count: usize) -> Result<Vec<Option<AState>>, Memory>
@@ -123,14 +124,57 @@ fn property_spec(object: &ObjectSpec, name: NameId) -> Option<&PropertySpec>
         .find(|property| property.name.0 == name.0)
 }
 
+// What a property has when a run begins.
+fn opened_value(alloc: Global, content: &SpecContent) -> Result<AValue, Memory>
+    ensures { IfOk result (λ v. value_of v ≡ value_given content.now) }
+{
+    match content {
+        SpecContent::Prim(primitive) => AValue::of_primitive(alloc, primitive),
+        SpecContent::Object(site) => AValue::of_label(
+            alloc,
+            Label {
+                site: *site,
+                old: false,
+            },
+        ),
+        SpecContent::Row => Ok(AValue::row(alloc)),
+    }
+}
+
 // What an object of the opening heap has at a name.
 fn named_property(alloc: Global, object: &ObjectSpec, name: NameId) -> Result<AProp, Memory>
     ensures { IfOk result (λ q. property_of q ≡ named_property object.now name) }
 {
     match property_spec(object, name) {
         Some(property) => Ok(AProp {
-            value: AValue::of_primitive(alloc, &property.value)?,
+            value: opened_value(alloc, &property.content)?,
             attrs: exact_attrs(property.attrs),
+        }),
+        None => Ok(AProp::absent(alloc)),
+    }
+}
+
+// What a slot for an object has, if an object is in it.
+fn object_slot(alloc: Global, site: Option<Site>) -> Result<AProp, Memory>
+    ensures { IfOk result (λ q. property_of q ≡ object_given site) }
+{
+    match site {
+        Some(site) => Ok(AProp {
+            value: AValue::of_label(alloc, Label { site, old: false })?,
+            attrs: unknown_attrs(),
+        }),
+        None => Ok(AProp::absent(alloc)),
+    }
+}
+
+// What the slot for a primitive has, if a primitive is in it.
+fn primitive_slot(alloc: Global, primitive: &Option<Primitive>) -> Result<AProp, Memory>
+    ensures { IfOk result (λ q. property_of q ≡ primitive_given primitive.now) }
+{
+    match primitive {
+        Some(primitive) => Ok(AProp {
+            value: AValue::of_primitive(alloc, primitive)?,
+            attrs: unknown_attrs(),
         }),
         None => Ok(AProp::absent(alloc)),
     }
@@ -142,13 +186,9 @@ fn opened_property(alloc: Global, object: &ObjectSpec, key: Key) -> Result<AProp
 {
     match key {
         Key::Name(name) => named_property(alloc, object, name),
-        Key::Slot(Slot::Prototype) => match object.prototype {
-            Some(site) => Ok(AProp {
-                value: AValue::of_label(alloc, Label { site, old: false })?,
-                attrs: unknown_attrs(),
-            }),
-            None => Ok(AProp::absent(alloc)),
-        },
+        Key::Slot(Slot::Prototype) => object_slot(alloc, object.prototype),
+        Key::Slot(Slot::Scope) => object_slot(alloc, object.scope),
+        Key::Slot(Slot::Value) => primitive_slot(alloc, &object.value),
         _ => Ok(AProp::absent(alloc)),
     }
 }

@@ -1,7 +1,7 @@
 ghost use Rattle.std.specs.Prelude.{◌≡◌, ◌≢◌, ◌↔◌, IfOk, IsTrue, true, false};
 ghost use Rattle.ja_prim.specs.declared.primitive.Num.TheVariants as num;
 ghost use Rattle.ja_prim.specs.declared.primitive.Primitive.TheVariants as primitive;
-ghost use Rattle.ja_model.specs.AbstractValue.{no_value, join, join_flags, has_present_flag, has_number, has_text, of_flags, of_primitive, of_label, is_present, has_part};
+ghost use Rattle.ja_model.specs.AbstractValue.{no_value, join, join_flags, has_present_flag, has_number, has_text, of_flags, row_value, of_primitive, of_label, is_present, has_part};
 ghost use Rattle.ja_model.specs.AbstractState.{labels_below, aged};
 
 use crate::LabelSet;
@@ -185,6 +185,17 @@ impl AValue {
                 Ok(AValue::of_text(alloc, text))
             }
         }
+    }
+
+    /// Exactly a row.
+    pub fn row(alloc: Global) -> AValue
+        ensures { value_of result ≡ row_value }
+    {
+        let flags = Flags {
+            row: true,
+            ..NO_FLAGS
+        };
+        AValue::of_flags(alloc, flags)
     }
 
     /// Exactly the objects of a label.

@@ -1,11 +1,11 @@
-use Rattle.std.proofs.Common.{rules, ◌≡◌, ◌<◌, ◌≤◌, sym, ap, subst, ◌∙◌, length, vec_len}
+use Rattle.std.proofs.Common.{rules, arith, ◌≡◌, ◌<◌, ◌≤◌, sym, ap, subst, ◌∙◌, length, vec_len}
 use Rattle.std.proofs.lemmas.Bool.{false≢true}
 use Rattle.std.proofs.lemmas.List.{length-replicate}
 use Rattle.std.specs.Prelude.{None}
 use Rattle.std.specs.Option.{is_some}
 use Rattle.ja_graph.specs.declared.program.Function.{Function}
 use Rattle.ja_graph.specs.Program.{nodes_of}
-use Rattle.ja_graph.specs.WellFormed.{IsFunctionWellFormed}
+use Rattle.ja_graph.specs.WellFormed.{IsFunctionWellFormed, fixed_registers}
 use Rattle.ja_model.specs.Machine.{program_function, registers_of}
 use Rattle.ja_model.specs.Reading.{Entries}
 use Rattle.ja_state.specs.State.{entries_of}
@@ -18,7 +18,8 @@ pub entry-requires : goal.entry-requires
 entry-requires c =
     let text : c.index-as_slice-0.result ≡ c.requires.text = first_is c.args.program.now.functions c.as_slice.result.now c.index-as_slice-0.result c.requires.text c.as_slice.ensures c.index-as_slice-0.is c.requires.text_is in
     let w : IsFunctionWellFormed c.args.program.now c.requires.text = c.requires.each 0 c.requires.text c.requires.text_is in
-    subst (λ (fn : Function). 6 ≤ fn.registers) (sym text) w.registers
+    let fixed : fixed_registers c.requires.text ≤ c.requires.text.registers = w.registers in
+    subst (λ (fn : Function). 6 ≤ fn.registers) (sym text) (omega arith)
 
 pub index_mut-requires : goal.index_mut-requires
 index_mut-requires c =
