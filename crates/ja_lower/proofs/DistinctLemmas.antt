@@ -1,18 +1,20 @@
 -- The names of a program: each stands once, few enough, the built-in ones first.
-use Rattle.std.proofs.Common.{◌≡◌, ℕ, zero, suc, ◌+◌, ◌≤◌, Bool, true, false, cond, not, ◌||◌, List, [], ◌∷◌, ◌++◌, length, map, Some, refl, sym, ap, ◌∙◌, arith, length-append}
-use Rattle.std.specs.List.{slice_get, filter, flat_map, list_any}
+use Rattle.std.proofs.Common.{◌≡◌, ℕ, zero, suc, ◌+◌, ◌≤◌, Bool, true, false, cond, not, ◌||◌, List, [], ◌∷◌, ◌++◌, length, map, take, Some, refl, sym, ap, ◌∙◌, append-nil, append_assoc, arith, length-append}
+use Rattle.std.specs.List.{slice_get, filter, flat_map, fold, list_any}
 use Rattle.std.specs.Str.{bytes_eq}
 use Rattle.std.specs.Cmp.Lexicographic.{nat_list_eq_equiv}
-use lib.Chars.{codes}
 use mathlib.Core.Bool.{true≢false}
 use Rattle.std.proofs.lemmas.List.{length-map}
 use Rattle.ja_lower.specs.declared.straight.Operand.{Operand}
 use Rattle.ja_lower.specs.declared.straight.Operand.TheVariants as operand
 use Rattle.ja_lower.specs.declared.straight.Line.{Line}
 use Rattle.ja_lower.specs.declared.straight.Target.{Target}
-use Rattle.ja_lower.specs.Names.{builtin_names, operand_names, line_names, once, names_of}
+use Rattle.ja_graph.specs.WellFormed.{builtin_names}
+use Rattle.ja_lower.specs.Names.{operand_names, line_names, once, names_of, with_name}
 use Rattle.ja_lower.specs.Lowering.{size_of}
-use Rattle.ja_lower.proofs.SizeLemmas.{size_of-cons}
+use Rattle.ja_lower.proofs.NamesLemmas.{fold-with_name}
+use Rattle.ja_lower.proofs.SizeLemmas.{size_of-cons, some_temporaries}
+use Rattle.ja_lower.proofs.TableLemmas.{names-count, names-once}
 
 -- no text is one of those behind it
 abbrev Apart : List (List ℕ) → Type 0
@@ -111,23 +113,54 @@ length-line_names : (ss : List Line) → length (flat_map line_names ss) ≤ siz
 length-line_names [] = omega arith
 length-line_names (s ∷ ss) =
     let targets = map (λ (t : Target). t.name) s.targets in
-    omega (arith, length-append (line_names s) (flat_map line_names ss), length-append targets (operand_names s.operand), length-map s.targets (λ (t : Target). t.name), length-operand_names s.operand, length-line_names ss, size_of-cons s ss)
+    omega (arith, length-append (line_names s) (flat_map line_names ss), length-append targets (operand_names s.operand), length-map s.targets (λ (t : Target). t.name), length-operand_names s.operand, length-line_names ss, size_of-cons s ss, some_temporaries s.operand)
 
-pub few_names : (ss : List Line) → length (names_of ss) ≤ 5 + size_of ss
+pub few_names : (ss : List Line) → length (names_of ss) ≤ 96 + size_of ss
 unfolding names_of
 few_names ss =
     let texts = flat_map line_names ss in
-    omega (arith, length-once-le (builtin_names ++ texts), length-append builtin_names texts, length-line_names ss)
+    omega (arith, length-once-le (builtin_names ++ texts), length-append builtin_names texts, names-count, length-line_names ss)
 
 pub names-distinct : (ss : List Line) (i j : ℕ) (t : List ℕ) → slice_get (names_of ss) i ≡ Some t → slice_get (names_of ss) j ≡ Some t → i ≡ j
 unfolding names_of
 names-distinct ss i j t is also =
     distinct_from_apart (once (builtin_names ++ flat_map line_names ss)) i j t (apart-once (builtin_names ++ flat_map line_names ss)) is also
 
-pub first_name : (ss : List Line) → slice_get (names_of ss) 0 ≡ Some (codes "name")
-unfolding names_of once
-first_name ss = refl
+-- more names only follow
+with_names-follow : (names us : List (List ℕ)) → take (length names) (fold with_name names us) ≡ names
+with_names-follow names us = at (more names us)
+  where
+    take-front : (xs ys : List (List ℕ)) → take (length xs) (xs ++ ys) ≡ xs
+    take-front [] ys = refl
+    take-front (x ∷ xs) ys = ap (λ zs. x ∷ zs) (take-front xs ys)
 
-pub second_name : (ss : List Line) → slice_get (names_of ss) 1 ≡ Some (codes "message")
-unfolding names_of once
-second_name ss = refl
+    -- the names with some behind them
+    one : (ns : List (List ℕ)) (t : List ℕ) → (b : Bool) → (rest : List (List ℕ)) × (cond b ns (ns ++ t ∷ []) ≡ ns ++ rest)
+    one ns t true = ([], sym (append-nil ns))
+    one ns t false = (t ∷ [], refl)
+
+    more : (ns ts : List (List ℕ)) → (rest : List (List ℕ)) × (fold with_name ns ts ≡ ns ++ rest)
+    more ns [] = ([], sym (append-nil ns))
+    more ns (t ∷ ts) =
+        let first = one ns t (list_any (bytes_eq t) ns) in
+        let later = more (with_name ns t) ts in
+        (first.0 ++ later.0, later.1 ∙ ap (λ ms. ms ++ later.0) first.1 ∙ append_assoc ns first.0 later.0)
+
+    at : (rest : List (List ℕ)) × (fold with_name names us ≡ names ++ rest) → take (length names) (fold with_name names us) ≡ names
+    at found = ap (take (length names)) found.1 ∙ take-front names found.0
+
+pub names-first : (ss : List Line) → take (length builtin_names) (names_of ss) ≡ builtin_names
+unfolding names_of
+names-first ss =
+    let texts = flat_map line_names ss in
+    let whole : once (builtin_names ++ texts) ≡ fold with_name builtin_names texts = sym (fold-with_name builtin_names texts) ∙ ap (λ names. fold with_name names texts) names-once in
+    ap (take (length builtin_names)) whole ∙ with_names-follow builtin_names texts
+
+pub many_names : (ss : List Line) → 96 ≤ length (names_of ss)
+many_names ss =
+    omega (arith, ap length (names-first ss), names-count, length-take-le (length builtin_names) (names_of ss))
+  where
+    length-take-le : (n : ℕ) (ts : List (List ℕ)) → length (take n ts) ≤ length ts
+    length-take-le zero ts = omega arith
+    length-take-le (suc n) [] = omega arith
+    length-take-le (suc n) (t ∷ ts) = omega (arith, length-take-le n ts)

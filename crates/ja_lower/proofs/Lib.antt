@@ -2,5 +2,8 @@ pub mod NamesLemmas
 pub mod SizeLemmas
 pub mod LinkLemmas
 pub mod RangeLemmas
+pub mod MakingLemmas
 pub mod DistinctLemmas
+pub mod TableLemmas
+pub mod ObjectLemmas
 pub mod WellFormedLemmas

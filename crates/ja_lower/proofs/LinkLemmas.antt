@@ -7,7 +7,7 @@ use Rattle.ja_lower.specs.Lowering.{next_of, linked}
 -- a node with the number n
 abbrev pub info_at : ℕ → ℕ → Step → NodeInfo
 info_at escape n s =
-    record { node = s.node; next = next_of escape n s.node; handler = record { 0 = escape }; place = s.place }
+    record { node = s.node; next = next_of escape n s.node; other = record { 0 = escape }; handler = record { 0 = escape }; place = s.place }
 
 pub linked-push : (escape n at : ℕ) (ss : List Step) (s : Step) → at ≡ n + length ss → linked escape n (ss ++ s ∷ []) ≡ linked escape n ss ++ info_at escape at s ∷ []
 linked-push escape n at [] s count =

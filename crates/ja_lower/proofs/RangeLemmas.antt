@@ -1,20 +1,24 @@
 -- The nodes of a text have registers, names and sites that are there.
-use Rattle.std.proofs.Common.{◌≡◌, ℕ, zero, suc, ◌+◌, ◌<◌, ◌≤◌, max, Bool, true, false, cond, List, [], ◌∷◌, ◌++◌, length, map, Option, Some, None, unwrap_or, refl, ap, ◌∙◌, subst, inr, arith, length-append}
-use Rattle.std.specs.List.{slice_get, flat_map, fold, position_from}
+use Rattle.std.proofs.Common.{◌≡◌, ℕ, zero, suc, ◌+◌, ◌<◌, ◌≤◌, max, Bool, true, false, cond, List, [], ◌∷◌, ◌++◌, length, map, Option, Some, None, unwrap_or, refl, subst, inr, arith}
+use Rattle.std.specs.List.{AllByRecursion, slice_get, fold, position_from}
+use Rattle.std.specs.Option.{option_to_list}
 use Rattle.std.specs.Str.{bytes_eq}
-use Rattle.std.proofs.lemmas.List.{length-map}
+use Rattle.ja_base.specs.declared.ids.FnId.{FnId}
+use Rattle.ja_base.specs.declared.ids.Place.{Place}
 use Rattle.ja_base.specs.declared.ids.Reg.{Reg}
+use Rattle.ja_graph.specs.declared.node.Args.TheVariants.{Registers}
+use Rattle.ja_graph.specs.declared.node.Node.TheVariants as node
 use Rattle.ja_graph.specs.declared.program.Function.{Function}
 use Rattle.ja_graph.specs.declared.program.Program.{Program}
-use Rattle.ja_graph.specs.WellFormed.{IsRegister, IsDestination, IsName, IsNodeInRange}
+use Rattle.ja_graph.specs.Node.{register_set, registers_named, name_in, function_in}
+use Rattle.ja_graph.specs.WellFormed.{IsRegister, IsDestination, IsName, IsAllowed}
 use Rattle.ja_lower.specs.declared.straight.Operand.{Operand}
 use Rattle.ja_lower.specs.declared.straight.Operand.TheVariants.{Number, Name, Call}
 use Rattle.ja_lower.specs.declared.straight.Line.{Line}
 use Rattle.ja_lower.specs.declared.straight.Target.{Target}
 use Rattle.ja_lower.specs.declared.steps.Step.{Step}
 use Rattle.ja_lower.specs.Names.{name_id}
-use Rattle.ja_lower.specs.Steps.{temporary, temporaries, operand_temporaries, error_places, find_steps, operand_steps, operand_value, write_steps, line_steps, text_steps, closing_steps}
-use Rattle.ja_lower.specs.Lowering.{error_site}
+use Rattle.ja_lower.specs.Steps.{step, temporary, temporaries, operand_temporaries, error_places, find_steps, read_steps, operand_steps, operand_value, write_steps, line_steps, text_steps, closing_steps}
 
 -- P holds of each element
 abbrev pub Each : {X : Type 0} → (X → Type 0) → List X → Type 0
@@ -53,55 +57,135 @@ fold-max-ge m [] = omega arith
 fold-max-ge m (t ∷ ts) = omega (arith, fold-max-ge (max m t) ts)
 
 -- the numbers of a step's node are in range
-abbrev pub InRange : Program → Function → Step → Type 0
-InRange p fn s = IsNodeInRange p fn s.node
+pub record InRange (p : Program) (fn : Function) (s : Step) : Type 0 where
+  pub sets : AllByRecursion (IsDestination fn) (option_to_list (register_set s.node))
+  pub names_registers : AllByRecursion (IsRegister fn) (registers_named s.node)
+  pub name : AllByRecursion (IsName p) (option_to_list (name_in s.node))
+  pub function : AllByRecursion (λ (f : FnId). f.0 < length p.functions) (option_to_list (function_in s.node))
+  pub allowed : IsAllowed p fn s.node
 
-module _ (p : Program) (fn : Function) (names : List (List ℕ)) (same : names ≡ p.names) (some : 0 < length names) where
+module _ (p : Program) (fn : Function) (names : List (List ℕ)) (same : names ≡ p.names) (some : 0 < length names) (none : length fn.parameters ≡ 0) where
   pub is_name : (t : List ℕ) → IsName p (name_id names t)
   is_name t =
       subst (λ ns. unwrap_or (position_from (bytes_eq t) 0 names) 0 < length ns) same (position_from-lt (bytes_eq t) names some)
 
   is_destination : (k : ℕ) → 6 + k < fn.registers → IsDestination fn (temporary k)
-  is_destination k h = (h, inr (inr (omega arith)))
+  is_destination k h = (h, inr (inr (omega (arith, none))))
 
   find_steps-range : (k : ℕ) (ts : List Target) → 6 + (k + length ts) ≤ fn.registers → Each (InRange p fn) (find_steps names k ts)
+  unfolding register_set registers_named name_in function_in
   find_steps-range k [] fits = tt
-  find_steps-range k (t ∷ ts) fits = ((is_destination k (omega arith), is_name t.name), find_steps-range (k + 1) ts (omega arith))
+  find_steps-range k (t ∷ ts) fits = (
+    record {
+      sets = (is_destination k (omega arith), tt);
+      names_registers = tt;
+      name = (is_name t.name, tt);
+      function = tt;
+      allowed = tt;
+    },
+    find_steps-range (k + 1) ts (omega arith),
+  )
 
   write_steps-range : (value : Reg) (k : ℕ) (ts : List Target) → IsRegister fn value → 6 + (k + length ts) ≤ fn.registers → Each (InRange p fn) (write_steps names value k ts)
+  unfolding register_set registers_named name_in function_in
   write_steps-range value k [] is fits = tt
   write_steps-range value k (t ∷ ts) is fits =
-      each-append (InRange p fn) (write_steps names value (k + 1) ts) _ (write_steps-range value (k + 1) ts is (omega arith)) ((omega arith, is_name t.name, is), tt)
+      each-append (InRange p fn) (write_steps names value (k + 1) ts) _ (write_steps-range value (k + 1) ts is (omega arith)) (
+        record {
+          sets = tt;
+          names_registers = (omega arith, (is, tt));
+          name = (is_name t.name, tt);
+          function = tt;
+          allowed = tt;
+        },
+        tt,
+      )
 
   operand_value-range : (k : ℕ) (o : Operand) → 6 + (k + operand_temporaries o) ≤ fn.registers → IsRegister fn (operand_value k o)
   operand_value-range k (Number value place) fits = omega arith
   operand_value-range k (Name name place) fits = omega arith
   operand_value-range k (Call name place bracket) fits = omega arith
 
-  operand_steps-range : (k site : ℕ) (o : Operand) → 6 + (k + operand_temporaries o) ≤ fn.registers → length p.opening ≤ site → site + length (error_places o) ≤ length p.sites → Each (InRange p fn) (operand_steps names k site o)
-  operand_steps-range k site (Number value place) fits low high = (is_destination k (omega arith), tt)
-  operand_steps-range k site (Name name place) fits low high =
-      ((is_destination k (omega arith), is_name name), ((is_destination (k + 1) (omega arith), omega arith, is_name name, (low, omega arith)), tt))
-  operand_steps-range k site (Call name place bracket) fits low high =
-      ((is_destination k (omega arith), is_name name), ((is_destination (k + 1) (omega arith), omega arith, is_name name, (low, omega arith)), ((is_destination (k + 2) (omega arith), omega arith, omega arith, (omega arith, omega arith)), tt)))
+  read_steps-range : (k site : ℕ) (name : List ℕ) (place : Place) → 6 + (k + 2) ≤ fn.registers → Each (InRange p fn) (read_steps names k site name place)
+  unfolding register_set registers_named name_in function_in
+  read_steps-range k site name place fits = (
+    record {
+      sets = (is_destination k (omega arith), tt);
+      names_registers = tt;
+      name = (is_name name, tt);
+      function = tt;
+      allowed = tt;
+    },
+    (
+      record {
+        sets = (is_destination (k + 1) (omega arith), tt);
+        names_registers = (omega arith, tt);
+        name = (is_name name, tt);
+        function = tt;
+        allowed = tt;
+      },
+      tt,
+    ),
+  )
 
-  line_steps-range : (site : ℕ) (s : Line) → 6 + temporaries s ≤ fn.registers → length p.opening ≤ site → site + length (error_places s.operand) ≤ length p.sites → Each (InRange p fn) (line_steps names site s)
-  line_steps-range site s fits low high =
+  operand_steps-range : (k site : ℕ) (o : Operand) → 6 + (k + operand_temporaries o) ≤ fn.registers → Each (InRange p fn) (operand_steps names k site o)
+  unfolding register_set registers_named name_in function_in
+  operand_steps-range k site (Number value place) fits = (
+    record {
+      sets = (is_destination k (omega arith), tt);
+      names_registers = tt;
+      name = tt;
+      function = tt;
+      allowed = tt;
+    },
+    tt,
+  )
+  operand_steps-range k site (Name name place) fits = read_steps-range k site name place fits
+  operand_steps-range k site (Call name place bracket) fits =
+      each-append (InRange p fn) (read_steps names k site name place) (step (node.Call (temporary (k + 2)) (temporary (k + 1)) (temporary k) (Registers []) (record { 0 = site + 1 })) bracket ∷ []) (read_steps-range k site name place (omega arith)) (
+        record {
+          sets = (is_destination (k + 2) (omega arith), tt);
+          names_registers = (omega arith, (omega arith, tt));
+          name = tt;
+          function = tt;
+          allowed = tt;
+        },
+        tt,
+      )
+
+  line_steps-range : (site : ℕ) (s : Line) → 6 + temporaries s ≤ fn.registers → Each (InRange p fn) (line_steps names site s)
+  line_steps-range site s fits =
       let n = length s.targets in
       let value = operand_value n s.operand in
       let finds = find_steps-range 0 s.targets (omega arith) in
-      let operand = operand_steps-range n site s.operand (omega arith) low high in
+      let operand = operand_steps-range n site s.operand (omega arith) in
       let writes = write_steps-range value 0 s.targets (operand_value-range n s.operand (omega arith)) (omega arith) in
       each-append (InRange p fn) (find_steps names 0 s.targets) _ finds (each-append (InRange p fn) (operand_steps names n site s.operand) _ operand writes)
 
-  pub text_steps-range : (site most : ℕ) (ss : List Line) → 6 + fold max most (map temporaries ss) ≤ fn.registers → length p.opening ≤ site → site + length (flat_map (λ (s : Line). map error_site (error_places s.operand)) ss) ≤ length p.sites → Each (InRange p fn) (text_steps names site ss)
-  text_steps-range site most [] fits low high = tt
-  text_steps-range site most (s ∷ ss) fits low high =
-      let places = error_places s.operand in
-      let later = flat_map (λ (t : Line). map error_site (error_places t.operand)) ss in
-      let count : length (map error_site places ++ later) ≡ length places + length later = length-append (map error_site places) later ∙ ap (λ n. n + length later) (length-map places error_site) in
+  pub text_steps-range : (site most : ℕ) (ss : List Line) → 6 + fold max most (map temporaries ss) ≤ fn.registers → Each (InRange p fn) (text_steps names site ss)
+  text_steps-range site most [] fits = tt
+  text_steps-range site most (s ∷ ss) fits =
       let greatest = fold-max-ge (max most (temporaries s)) (map temporaries ss) in
-      each-append (InRange p fn) (line_steps names site s) _ (line_steps-range site s (omega (arith, greatest)) low (omega (arith, count))) (text_steps-range (site + length places) (max most (temporaries s)) ss fits (omega arith) (omega (arith, count)))
+      each-append (InRange p fn) (line_steps names site s) _ (line_steps-range site s (omega (arith, greatest))) (text_steps-range (site + length (error_places s.operand)) (max most (temporaries s)) ss fits)
 
   pub closing_steps-range : 6 < fn.registers → Each (InRange p fn) closing_steps
-  closing_steps-range h = (is_destination 0 (omega arith), (omega arith, (tt, tt)))
+  unfolding register_set registers_named name_in function_in
+  closing_steps-range h = (
+    record {
+      sets = (is_destination 0 (omega arith), tt);
+      names_registers = tt;
+      name = tt;
+      function = tt;
+      allowed = tt;
+    },
+    (
+      record {
+        sets = tt;
+        names_registers = (omega arith, tt);
+        name = tt;
+        function = tt;
+        allowed = tt;
+      },
+      (record { sets = tt; names_registers = tt; name = tt; function = tt; allowed = tt }, tt),
+    ),
+  )

@@ -1,37 +1,34 @@
 -- The program of a text is well formed.
-use Rattle.std.proofs.Common.{◌≡◌, ◌≢◌, ℕ, zero, suc, ◌+◌, ◌-◌, ◌*◌, ◌<◌, ◌≤◌, max, List, [], ◌∷◌, ◌++◌, length, map, Option, Some, None, refl, sym, ap, ◌∙◌, subst, ◌⊎◌, inl, inr, arith, length-append}
-use Rattle.std.specs.List.{slice_get, flat_map, fold}
-use Rattle.std.specs.Option.{option_map, IsSome}
+use Rattle.std.proofs.Common.{◌≡◌, ◌≢◌, ℕ, zero, suc, ◌+◌, ◌-◌, ◌<◌, ◌≤◌, ◌==◌, max, List, [], ◌∷◌, ◌++◌, length, map, Option, Some, None, String, refl, sym, ap, ◌∙◌, subst, ◌⊎◌, inl, inr, arith, length-append}
+use Rattle.std.specs.List.{AllByRecursion, slice_get, find, flat_map, fold, range_with_len}
+use Rattle.std.specs.Option.{option_map, is_some}
+use Rattle.std.specs.declared.alloc.Global.{Global}
 use Rattle.std.proofs.lemmas.Bool.{cases_lt}
 use Rattle.std.proofs.lemmas.List.{length-map}
 use Rattle.std.proofs.lemmas.Option.{slice_get_within}
-use Rattle.ja_base.specs.declared.ids.Site.{Site}
+use Rattle.ja_graph.specs.declared.builtins.TheConstants.{BUILTIN_CLASSES}
 use Rattle.ja_graph.specs.declared.node.Node.{Node}
-use Rattle.ja_graph.specs.declared.node.Node.TheVariants.{Const, FindName, ReadRef, WriteRef, Call, Return, Escape}
+use Rattle.ja_graph.specs.declared.node.Node.TheVariants as node
+use Rattle.ja_graph.specs.declared.node.Node.TheVariants.{Escape}
 use Rattle.ja_graph.specs.declared.node.NodeInfo.{NodeInfo}
+use Rattle.ja_graph.specs.declared.program.Class.{Class}
 use Rattle.ja_graph.specs.declared.program.Function.{Function}
 use Rattle.ja_graph.specs.declared.program.ObjectSpec.{ObjectSpec}
-use Rattle.ja_graph.specs.declared.program.PropertySpec.{PropertySpec}
 use Rattle.ja_graph.specs.declared.program.Program.{Program}
-use Rattle.ja_graph.specs.Program.{object_spec, global, reference_error_prototype, type_error_prototype}
-use lib.Chars.{codes}
-use Rattle.ja_graph.specs.WellFormed.{IsInfoInRange, IsFunctionWellFormed, IsObjectWellFormed, IsWellFormed}
-use Rattle.ja_lower.specs.declared.straight.Operand.{Operand}
-use Rattle.ja_lower.specs.declared.straight.Operand.TheVariants as operand
+use Rattle.ja_graph.specs.WellFormed.{IsNodeWellFormed, IsFunctionWellFormed, OwnedMaking, makings_from, IsSiteTold, IsBuiltin, IsWellFormed}
 use Rattle.ja_lower.specs.declared.straight.Line.{Line}
 use Rattle.ja_lower.specs.declared.steps.Step.{Step}
 use Rattle.ja_lower.specs.Names.{names_of}
-use Rattle.ja_lower.specs.Steps.{step, first_place, operand_temporaries, temporaries, error_places, text_steps, closing_steps}
-use Rattle.ja_lower.specs.Builtins.{builtin_sites, opening_objects, object_prototype, error_prototype, builtin_object, builtin_property, error_properties}
-use Rattle.ja_lower.specs.Lowering.{size_of, IsSmall, steps_of, next_of, linked, error_site, sites_of, text_function, straight_program}
+use Rattle.ja_lower.specs.Steps.{step, first_place, temporaries, error_places, text_steps, closing_steps}
+use Rattle.ja_lower.specs.Builtins.{builtin_sites, opening_objects}
+use Rattle.ja_lower.specs.Lowering.{size_of, IsSmall, steps_of, next_of, linked, error_site, sites_of, text_function, functions_of, straight_program}
 use Rattle.ja_lower.proofs.LinkLemmas.{info_at}
 use Rattle.ja_lower.proofs.RangeLemmas.{Each, each-append, each-at, InRange, text_steps-range, closing_steps-range, fold-max-ge}
-use Rattle.ja_lower.proofs.SizeLemmas.{size_of-cons, length-text_steps, length-error_places}
-use Rattle.ja_lower.proofs.DistinctLemmas.{few_names, names-distinct, first_name, second_name}
-
-length-linked : (escape n : ℕ) (ss : List Step) → length (linked escape n ss) ≡ length ss
-length-linked escape n [] = refl
-length-linked escape n (s ∷ ss) = ap suc (length-linked escape (n + 1) ss)
+use Rattle.ja_lower.proofs.MakingLemmas.{places_of, makings-functions_of, numbers-error_makings, sites-places_of, told-error_makings}
+use Rattle.ja_lower.proofs.SizeLemmas.{size_of-cons, length-linked, node_count-functions_of, error_places-lt}
+use Rattle.ja_lower.proofs.DistinctLemmas.{few_names, names-distinct, names-first, many_names}
+use Rattle.ja_lower.proofs.TableLemmas.{table-objects, table-sites, table-count, sites-count, sites-classes}
+use Rattle.ja_lower.proofs.ObjectLemmas.{below-at, object-well_formed, class-at, get-front}
 
 -- a node with its edges comes from the step of its number
 slice_get-linked : (escape n i : ℕ) (ss : List Step) → slice_get (linked escape n ss) i ≡ option_map (info_at escape (n + i)) (slice_get ss i)
@@ -47,37 +44,27 @@ slice_get-append (x ∷ xs) ys i =
     let there : suc (length xs) + i ≡ suc (length xs + i) = omega arith in
     ap (slice_get (x ∷ (xs ++ ys))) there ∙ slice_get-append xs ys i
 
--- the greatest number of temporaries is below that of targets and lines, and three more
-few_temporaries : (most : ℕ) (ss : List Line) → fold max most (map temporaries ss) ≤ max most (size_of ss + 2)
+-- the greatest number of temporaries is at most that of nodes
+few_temporaries : (most : ℕ) (ss : List Line) → fold max most (map temporaries ss) ≤ max most (size_of ss)
 few_temporaries most [] = omega arith
 few_temporaries most (s ∷ ss) =
-    omega (arith, few_temporaries (max most (temporaries s)) ss, size_of-cons s ss, few (s.operand))
-  where
-    few : (o : Operand) → operand_temporaries o ≤ 3
-    few (operand.Number value place) = omega arith
-    few (operand.Name name place) = omega arith
-    few (operand.Call name place bracket) = omega arith
+    omega (arith, few_temporaries (max most (temporaries s)) ss, size_of-cons s ss)
 
--- each line has at most two error sites
-few_errors : (ss : List Line) → length (flat_map (λ (s : Line). map error_site (error_places s.operand)) ss) ≤ 2 * size_of ss
+-- each line has fewer error sites than nodes
+few_errors : (ss : List Line) → length (places_of ss) ≤ size_of ss
 few_errors [] = omega arith
 few_errors (s ∷ ss) =
-    let later = flat_map (λ (t : Line). map error_site (error_places t.operand)) ss in
-    omega (arith, length-append (map error_site (error_places s.operand)) later, length-map (error_places s.operand) error_site, length-error_places s.operand, few_errors ss, size_of-cons s ss)
+    omega (arith, length-append (error_places s.operand) (places_of ss), error_places-lt s.operand, few_errors ss, size_of-cons s ss)
 
 -- the last step is Escape
 last_step : (names : List (List ℕ)) (ss : List Line) → slice_get (steps_of names ss) (length (steps_of names ss) - 1) ≡ Some (step Escape first_place)
 last_step names ss =
-    let front = text_steps names 5 ss in
+    let front = text_steps names 14 ss in
     let last : length (front ++ closing_steps) - 1 ≡ length front + 2 = omega (arith, length-append front closing_steps) in
     ap (slice_get (front ++ closing_steps)) last ∙ slice_get-append front closing_steps 2
 
 some_steps : (names : List (List ℕ)) (ss : List Line) → 0 < length (steps_of names ss)
-some_steps names ss = omega (arith, length-append (text_steps names 5 ss) closing_steps)
-
-few_steps : (names : List (List ℕ)) (ss : List Line) → length (steps_of names ss) ≤ 3 * size_of ss + 3
-few_steps names ss =
-    omega (arith, length-append (text_steps names 5 ss) closing_steps, length-text_steps names 5 ss)
+some_steps names ss = omega (arith, length-append (text_steps names 14 ss) closing_steps)
 
 -- a node that isn't Escape isn't the last
 not_last : (names : List (List ℕ)) (ss : List Line) (n : ℕ) (s : Step) → slice_get (steps_of names ss) n ≡ Some s → s.node ≢ Escape → n + 1 < length (steps_of names ss)
@@ -97,38 +84,63 @@ not_last names ss n s is other = at (cases_lt (n + 1) (length (steps_of names ss
         some_same a b e = cc
 
 -- the node that follows is there
-next-within : (escape n count : ℕ) (node : Node) → escape < count → (node ≢ Escape → n + 1 < count) → (next_of escape n node).0 < count
-next-within escape n count (Const dst value) last other = other (λ e. cc)
-next-within escape n count (FindName dst name) last other = other (λ e. cc)
-next-within escape n count (ReadRef dst base name error) last other = other (λ e. cc)
-next-within escape n count (WriteRef base name src) last other = other (λ e. cc)
-next-within escape n count (Call dst callee receiver error) last other = other (λ e. cc)
-next-within escape n count (Return src) last other = last
-next-within escape n count Escape last other = last
+next-within : (escape n count : ℕ) (k : Node) → escape < count → (k ≢ Escape → n + 1 < count) → (next_of escape n k).0 < count
+next-within escape n count (node.Const _ _) last other = other (λ e. cc)
+next-within escape n count (node.Move _ _) last other = other (λ e. cc)
+next-within escape n count (node.FindName _ _) last other = other (λ e. cc)
+next-within escape n count (node.ReadRef _ _ _ _) last other = other (λ e. cc)
+next-within escape n count (node.ReadSoft _ _ _) last other = other (λ e. cc)
+next-within escape n count (node.WriteRef _ _ _) last other = other (λ e. cc)
+next-within escape n count (node.DeleteRef _ _ _) last other = other (λ e. cc)
+next-within escape n count (node.ToObject _ _ _ _) last other = other (λ e. cc)
+next-within escape n count (node.NeedObject _ _) last other = other (λ e. cc)
+next-within escape n count (node.ReadProp _ _ _) last other = other (λ e. cc)
+next-within escape n count (node.WriteProp _ _ _ _) last other = other (λ e. cc)
+next-within escape n count (node.DeleteProp _ _ _) last other = other (λ e. cc)
+next-within escape n count (node.HasProp _ _ _) last other = other (λ e. cc)
+next-within escape n count (node.InstanceOf _ _ _ _ _) last other = other (λ e. cc)
+next-within escape n count (node.NewObject _ _ _) last other = other (λ e. cc)
+next-within escape n count (node.MakeFunction _ _ _ _) last other = other (λ e. cc)
+next-within escape n count (node.Enter _ _) last other = other (λ e. cc)
+next-within escape n count (node.Declare _) last other = other (λ e. cc)
+next-within escape n count (node.Bind _ _ _) last other = other (λ e. cc)
+next-within escape n count (node.PushScope _) last other = other (λ e. cc)
+next-within escape n count (node.Convert _ _ _ _) last other = other (λ e. cc)
+next-within escape n count (node.Unary _ _ _) last other = other (λ e. cc)
+next-within escape n count (node.Binary _ _ _ _) last other = other (λ e. cc)
+next-within escape n count (node.Branch _) last other = other (λ e. cc)
+next-within escape n count (node.Call _ _ _ _ _) last other = other (λ e. cc)
+next-within escape n count (node.New _ _ _ _ _) last other = other (λ e. cc)
+next-within escape n count (node.Names _ _) last other = other (λ e. cc)
+next-within escape n count (node.Pick _ _ _) last other = other (λ e. cc)
+next-within escape n count (node.Throw _) last other = other (λ e. cc)
+next-within escape n count (node.Intrinsic _ _ _) last other = other (λ e. cc)
+next-within escape n count (node.Device _ _) last other = other (λ e. cc)
+next-within escape n count (node.Stop _) last other = other (λ e. cc)
+next-within escape n count (node.Return src) last other = last
+next-within escape n count node.Escape last other = last
 
-steps-range : (ss : List Line) → Each (InRange (straight_program ss) (text_function (names_of ss) ss)) (steps_of (names_of ss) ss)
+steps-range : (text : String Global) (ss : List Line) → Each (InRange (straight_program text ss) (text_function (names_of ss) ss)) (steps_of (names_of ss) ss)
 unfolding straight_program
-steps-range ss =
-    let p = straight_program ss in
+steps-range text ss =
+    let p = straight_program text ss in
     let fn = text_function (names_of ss) ss in
     let names = names_of ss in
-    let some : 0 < length names = slice_get_within names 0 _ (first_name ss) in
-    let places = flat_map (λ (s : Line). map error_site (error_places s.operand)) ss in
-    let sites : 5 + length places ≤ length (builtin_sites ++ places) = omega (arith, length-append builtin_sites places) in
-    each-append (InRange p fn) (text_steps names 5 ss) closing_steps (text_steps-range p fn names refl some 5 1 ss (omega arith) (omega arith) sites) (closing_steps-range p fn names refl some (omega (arith, fold-max-ge 1 (map temporaries ss))))
+    let some : 0 < length names = omega (arith, many_names ss) in
+    each-append (InRange p fn) (text_steps names 14 ss) closing_steps (text_steps-range p fn names refl some refl 14 1 ss (omega arith)) (closing_steps-range p fn names refl some refl (omega (arith, fold-max-ge 1 (map temporaries ss))))
 
 -- a node with its edges, by its step
-info-range : (ss : List Line) (n : ℕ) (info : NodeInfo) → slice_get (text_function (names_of ss) ss).nodes n ≡ Some info → IsInfoInRange (straight_program ss) (text_function (names_of ss) ss) info
-info-range ss n info is =
+info-range : (text : String Global) (ss : List Line) (n : ℕ) (info : NodeInfo) → slice_get (text_function (names_of ss) ss).nodes n ≡ Some info → IsNodeWellFormed (straight_program text ss) (text_function (names_of ss) ss) info
+info-range text ss n info is =
     let steps = steps_of (names_of ss) ss in
     at (slice_get steps n) refl (sym (slice_get-linked (length steps - 1) 0 n steps) ∙ is)
   where
-    at : (o : Option Step) → slice_get (steps_of (names_of ss) ss) n ≡ o → option_map (info_at (length (steps_of (names_of ss) ss) - 1) (0 + n)) o ≡ Some info → IsInfoInRange (straight_program ss) (text_function (names_of ss) ss) info
+    at : (o : Option Step) → slice_get (steps_of (names_of ss) ss) n ≡ o → option_map (info_at (length (steps_of (names_of ss) ss) - 1) (0 + n)) o ≡ Some info → IsNodeWellFormed (straight_program text ss) (text_function (names_of ss) ss) info
     at None here e = absurd (cc)
     at (Some s) here e =
         let names = names_of ss in
         let steps = steps_of names ss in
-        let p = straight_program ss in
+        let p = straight_program text ss in
         let fn = text_function names ss in
         let escape = length steps - 1 in
         let same : info_at escape (0 + n) s ≡ info = cc in
@@ -137,14 +149,20 @@ info-range ss n info is =
         let count = length-linked escape 0 steps in
         let other : s.node ≢ Escape → 0 + n + 1 < length steps = λ differs. omega (arith, not_last names ss n s here differs) in
         let next = next-within escape (0 + n) (length steps) s.node last other in
-        subst (IsInfoInRange p fn) same (record {
-          node = each-at (InRange p fn) steps n s (steps-range ss) here;
+        let range = each-at (InRange p fn) steps n s (steps-range text ss) here in
+        subst (IsNodeWellFormed p fn) same (record {
+          sets = range.sets;
+          names_registers = range.names_registers;
+          name = range.name;
+          function = range.function;
+          allowed = range.allowed;
           next = omega (arith, next, count);
+          other = omega (arith, last, count);
           handler = omega (arith, last, count);
         })
 
-function-well_formed : (ss : List Line) → IsSmall ss → IsFunctionWellFormed (straight_program ss) (text_function (names_of ss) ss)
-function-well_formed ss small =
+function-well_formed : (text : String Global) (ss : List Line) → IsSmall ss → IsFunctionWellFormed (straight_program text ss) (text_function (names_of ss) ss)
+function-well_formed text ss small =
     let names = names_of ss in
     let steps = steps_of names ss in
     let escape = length steps - 1 in
@@ -156,113 +174,79 @@ function-well_formed ss small =
       escape = refl;
       registers = omega arith;
       few_registers = omega (arith, few_temporaries 1 ss);
-      few_nodes = omega (arith, count, few_steps names ss);
-      each = info-range ss;
+      parameters = tt;
+      each = info-range text ss;
     }
 
--- the properties of a prototype of errors are `name` and `message`, names 0 and 1
-error_properties-names : (name : List ℕ) (j : ℕ) (q : PropertySpec) → slice_get (error_properties name) j ≡ Some q → (q.name.0 ≡ j) × (q.name.0 < 2)
-error_properties-names name zero q is =
-    let same : builtin_property 0 name ≡ q = cc in
-    let number : q.name.0 ≡ 0 = ap (λ (r : PropertySpec). r.name.0) (sym same) in
-    (number, omega arith)
-error_properties-names name (suc zero) q is =
-    let same : builtin_property 1 [] ≡ q = cc in
-    let number : q.name.0 ≡ 1 = ap (λ (r : PropertySpec). r.name.0) (sym same) in
-    (number, omega arith)
-error_properties-names name (suc (suc j)) q is = absurd (cc)
-
-abbrev no_properties : List PropertySpec
-no_properties = []
-
-no_properties-names : (j : ℕ) (q : PropertySpec) → slice_get no_properties j ≡ Some q → (q.name.0 ≡ j) × (q.name.0 < 2)
-no_properties-names j q is = absurd (cc)
-
--- an object whose properties are named by their places
-object-well_formed : (p : Program) (i : ℕ) (o : ObjectSpec) → 2 ≤ length p.names → o.site.0 < length p.opening → ((s : Site) → o.prototype ≡ Some s → (j : ℕ) × (q : ObjectSpec) × (j < i) × (slice_get p.opening j ≡ Some q) × (q.site.0 ≡ s.0)) → ((j : ℕ) (q : PropertySpec) → slice_get o.properties j ≡ Some q → (q.name.0 ≡ j) × (q.name.0 < 2)) → IsObjectWellFormed p i o
-object-well_formed p i o two site prototype places = record {
-  site = site;
-  prototype = prototype;
-  names = λ j q is. omega (arith, (places j q is).1);
-  once = λ j k q r is also same. omega (arith, (places j q is).0, (places k r also).0);
-}
-
--- the object of a prototype stands before
-prototype_before : (ss : List Line) (i j : ℕ) (a s : Site) (q : ObjectSpec) → j < i → slice_get opening_objects j ≡ Some q → q.site.0 ≡ a.0 → Some a ≡ Some s → (k : ℕ) × (r : ObjectSpec) × (k < i) × (slice_get (straight_program ss).opening k ≡ Some r) × (r.site.0 ≡ s.0)
-unfolding straight_program
-prototype_before ss i j a s q before is site e = let same : a ≡ s = cc in (j, q, before, is, site ∙ ap (λ (t : Site). t.0) same)
-
-two_names : (ss : List Line) → 2 ≤ length (names_of ss)
-two_names ss = slice_get_within (names_of ss) 1 _ (second_name ss)
-
-objects-well_formed : (ss : List Line) (i : ℕ) (o : ObjectSpec) → slice_get opening_objects i ≡ Some o → IsObjectWellFormed (straight_program ss) i o
-unfolding straight_program
-objects-well_formed ss zero o is =
-    let same : builtin_object object_prototype None [] ≡ o = cc in
-    let two = two_names ss in
-    subst (IsObjectWellFormed (straight_program ss) 0) same (object-well_formed (straight_program ss) 0 (builtin_object object_prototype None []) two (omega arith) (λ s e. absurd (cc)) no_properties-names)
-objects-well_formed ss (suc zero) o is =
-    let object = builtin_object global (Some object_prototype) [] in
-    let same : object ≡ o = cc in
-    subst (IsObjectWellFormed (straight_program ss) 1) same (object-well_formed (straight_program ss) 1 object (two_names ss) (omega arith) (λ s e. prototype_before ss 1 0 object_prototype s _ (omega arith) refl refl e) no_properties-names)
-objects-well_formed ss (suc (suc zero)) o is =
-    let object = builtin_object error_prototype (Some object_prototype) (error_properties (codes "Error")) in
-    let same : object ≡ o = cc in
-    subst (IsObjectWellFormed (straight_program ss) 2) same (object-well_formed (straight_program ss) 2 object (two_names ss) (omega arith) (λ s e. prototype_before ss 2 0 object_prototype s _ (omega arith) refl refl e) (error_properties-names (codes "Error")))
-objects-well_formed ss (suc (suc (suc zero))) o is =
-    let object = builtin_object reference_error_prototype (Some error_prototype) (error_properties (codes "ReferenceError")) in
-    let same : object ≡ o = cc in
-    subst (IsObjectWellFormed (straight_program ss) 3) same (object-well_formed (straight_program ss) 3 object (two_names ss) (omega arith) (λ s e. prototype_before ss 3 2 error_prototype s _ (omega arith) refl refl e) (error_properties-names (codes "ReferenceError")))
-objects-well_formed ss (suc (suc (suc (suc zero)))) o is =
-    let object = builtin_object type_error_prototype (Some error_prototype) (error_properties (codes "TypeError")) in
-    let same : object ≡ o = cc in
-    subst (IsObjectWellFormed (straight_program ss) 4) same (object-well_formed (straight_program ss) 4 object (two_names ss) (omega arith) (λ s e. prototype_before ss 4 2 error_prototype s _ (omega arith) refl refl e) (error_properties-names (codes "TypeError")))
-objects-well_formed ss (suc (suc (suc (suc (suc i))))) o is = absurd (cc)
-
-all_objects : (ss : List Line) (s : ℕ) → s < length opening_objects → IsSome (object_spec (straight_program ss) s)
-unfolding straight_program
-all_objects ss zero within = refl
-all_objects ss (suc zero) within = refl
-all_objects ss (suc (suc zero)) within = refl
-all_objects ss (suc (suc (suc zero))) within = refl
-all_objects ss (suc (suc (suc (suc zero)))) within = refl
-all_objects ss (suc (suc (suc (suc (suc s))))) within = absurd (omega arith)
-
-functions-well_formed : (ss : List Line) → IsSmall ss → (f : ℕ) (fn : Function) → slice_get (straight_program ss).functions f ≡ Some fn → IsFunctionWellFormed (straight_program ss) fn
-unfolding straight_program
-functions-well_formed ss small zero fn is =
+functions-well_formed : (text : String Global) (ss : List Line) → IsSmall ss → (f : ℕ) (fn : Function) → slice_get (functions_of ss) f ≡ Some fn → IsFunctionWellFormed (straight_program text ss) fn
+unfolding functions_of
+functions-well_formed text ss small zero fn is =
     let same : text_function (names_of ss) ss ≡ fn = cc in
-    subst (IsFunctionWellFormed (straight_program ss)) same (function-well_formed ss small)
-functions-well_formed ss small (suc f) fn is = absurd (cc)
+    subst (IsFunctionWellFormed (straight_program text ss)) same (function-well_formed text ss small)
+functions-well_formed text ss small (suc f) fn is = absurd (cc)
 
-program-well_formed : (ss : List Line) → IsSmall ss → IsWellFormed (straight_program ss)
+-- the built-in objects have their classes
+builtin-sites : (text : String Global) (ss : List Line) (s : ℕ) (c : Class) → slice_get BUILTIN_CLASSES s ≡ Some c → IsBuiltin (straight_program text ss) s c
 unfolding straight_program
-program-well_formed ss small =
+builtin-sites text ss s c is =
+    let found = class-at builtin_sites s c (ap (λ cs. slice_get cs s) sites-classes ∙ is) in
+    let errors = flat_map (λ (l : Line). map error_site (error_places l.operand)) ss in
+    (found.0, get-front builtin_sites errors s found.0 found.1, found.2, omega (arith, slice_get_within builtin_sites s found.0 found.1, sites-count, table-count))
+
+-- how many sites there are
+length-sites_of : (ss : List Line) → length (sites_of ss) ≡ 14 + length (places_of ss)
+length-sites_of ss =
     let errors = flat_map (λ (s : Line). map error_site (error_places s.operand)) ss in
-    let sites = length-append builtin_sites errors in
+    omega (arith, length-append builtin_sites errors, sites-count, ap length (sites-places_of ss), length-map (places_of ss) error_site)
+
+-- the sites of nodes have the numbers behind those of the built-in objects
+sites-numbered : (ss : List Line) → map (λ (m : OwnedMaking). m.making.site.0) (makings_from 0 (functions_of ss)) ≡ range_with_len (length opening_objects) (length (sites_of ss) - length opening_objects)
+sites-numbered ss =
+    let from : 14 ≡ length opening_objects = sym table-count in
+    let count : length (places_of ss) ≡ length (sites_of ss) - length opening_objects = omega (arith, length-sites_of ss, table-count) in
+    ap (map (λ (m : OwnedMaking). m.making.site.0)) (makings-functions_of ss)
+    ∙ numbers-error_makings 14 (places_of ss)
+    ∙ ap (λ a. range_with_len a (length (places_of ss))) from
+    ∙ ap (range_with_len (length opening_objects)) count
+
+program-well_formed : (text : String Global) (ss : List Line) → IsSmall ss → IsWellFormed (straight_program text ss)
+unfolding straight_program functions_of
+program-well_formed text ss small =
+    let p = straight_program text ss in
+    let sites = ap (λ xs. builtin_sites ++ xs) (sites-places_of ss) in
     record {
       text = text_function (names_of ss) ss;
       text_is = refl;
-      each = functions-well_formed ss small;
-      builtin_objects = omega arith;
-      objects = objects-well_formed ss;
-      all_objects = all_objects ss;
-      sites = omega (arith, sites);
-      few_sites = omega (arith, sites, few_errors ss);
-      name = first_name ss;
-      message = second_name ss;
+      text_functions = omega arith;
+      value_first = omega arith;
+      text_first = omega arith;
+      each = functions-well_formed text ss small;
+      few_nodes = omega (arith, node_count-functions_of ss);
+      objects = λ i o is. object-well_formed p i o table-count (many_names ss) table-objects is;
+      all_objects = λ s within. below-at (λ n. is_some (find (λ (o : ObjectSpec). o.site.0 == n) opening_objects)) 14 s table-sites (omega (arith, within, table-count));
+      builtins = builtin-sites text ss;
+      sites = omega (arith, length-sites_of ss, table-count);
+      numbered = sites-numbered ss;
+      told = subst (AllByRecursion (IsSiteTold p)) (sym (makings-functions_of ss)) (told-error_makings p builtin_sites 14 (places_of ss) sites sites-count);
+      few_sites = omega (arith, length-sites_of ss, few_errors ss);
+      names = names-first ss;
       distinct = names-distinct ss;
       few_names = omega (arith, few_names ss);
     }
 
 -- a program with these parts is well formed
-pub well_formed_from_parts : (p : Program) (ss : List Line) (function : Function) → p.functions ≡ function ∷ [] → function ≡ text_function (names_of ss) ss → p.sites ≡ sites_of ss → p.names ≡ names_of ss → p.opening ≡ opening_objects → IsSmall ss → IsWellFormed p
-unfolding straight_program
-well_formed_from_parts p ss function functions text sites names opening small =
-    let is : p ≡ straight_program ss = λ i. record {
+pub well_formed_from_parts : (p : Program) (ss : List Line) (function : Function) → p.functions ≡ function ∷ [] → function ≡ text_function (names_of ss) ss → p.text_functions ≡ 1 → p.sites ≡ sites_of ss → p.names ≡ names_of ss → p.signatures ≡ [] → p.opening ≡ opening_objects → p.value_first ≡ record { 0 = 0 } → p.text_first ≡ record { 0 = 0 } → IsSmall ss → IsWellFormed p
+unfolding straight_program functions_of
+well_formed_from_parts p ss function functions text one sites names signatures opening value_first text_first small =
+    let is : p ≡ straight_program p.text ss = λ i. record {
       functions = (functions ∙ ap (λ (f : Function). f ∷ []) text) i;
+      text_functions = one i;
       sites = sites i;
       names = names i;
+      signatures = signatures i;
       opening = opening i;
+      value_first = value_first i;
+      text_first = text_first i;
+      text = p.text;
     } in
-    subst IsWellFormed (sym is) (program-well_formed ss small)
+    subst IsWellFormed (sym is) (program-well_formed p.text ss small)

@@ -1,57 +1,87 @@
--- The built-in objects, as far as they are built (ES3 15.1, 15.2.4, 15.11.4, 15.11.7), and their sites.
-use Rattle.std.specs.Prelude.{ℕ, true, false, List, [], ◌∷◌, Option, Some, None}
+-- The built-in objects that are no functions (ES3 section 15), by the table of them, with their names and sites.
+use Rattle.std.specs.Prelude.{ℕ, pos, false, List, [], map, Some, None}
+use Rattle.std.specs.Option.{option_map}
 use lib.Chars.{codes}
-use Rattle.ja_base.specs.declared.ids.Site.{Site}
-use Rattle.ja_prim.specs.declared.primitive.Primitive.TheVariants.{Text}
+use Rattle.ja_base.specs.declared.ids.NameId.{NameId}
+use Rattle.ja_prim.specs.declared.primitive.Num.TheVariants as number
+use Rattle.ja_prim.specs.declared.primitive.Primitive.{Primitive}
+use Rattle.ja_prim.specs.declared.primitive.Primitive.TheVariants as primitive
+use Rattle.ja_graph.specs.declared.attrs.Attrs.{Attrs}
+use Rattle.ja_graph.specs.declared.node.ErrorKind.{ErrorKind}
+use Rattle.ja_graph.specs.declared.node.ErrorKind.TheVariants as kind
 use Rattle.ja_graph.specs.declared.program.Class.{Class}
-use Rattle.ja_graph.specs.declared.program.Class.TheVariants.{Object, Error}
 use Rattle.ja_graph.specs.declared.program.ObjectSpec.{ObjectSpec}
 use Rattle.ja_graph.specs.declared.program.PropertySpec.{PropertySpec}
+use Rattle.ja_graph.specs.declared.program.SpecContent.{SpecContent}
+use Rattle.ja_graph.specs.declared.program.SpecContent.TheVariants as spec
 use Rattle.ja_graph.specs.declared.program.SiteInfo.{SiteInfo}
-use Rattle.ja_graph.specs.Program.{global, reference_error_prototype, type_error_prototype}
+use Rattle.ja_graph.specs.WellFormed.{builtin_names}
+use Rattle.ja_lower.specs.declared.opening.TheConstants.{BUILTIN_SITES, OPENING}
+use Rattle.ja_lower.specs.declared.opening.BuiltinObject.{BuiltinObject}
+use Rattle.ja_lower.specs.declared.opening.Constant.{Constant}
+use Rattle.ja_lower.specs.declared.opening.Constant.TheVariants as constant
+use Rattle.ja_lower.specs.declared.opening.Content.{Content}
+use Rattle.ja_lower.specs.declared.opening.Content.TheVariants as content
+use Rattle.ja_lower.specs.Names.{name_id}
 
-abbrev pub object_prototype : Site
-object_prototype = record { 0 = 1 }
+-- the number of a built-in name: its place among them
+unfoldable pub builtin_number : List ℕ → NameId
+builtin_number name = name_id builtin_names name
 
-abbrev pub error_prototype : Site
-error_prototype = record { 0 = 2 }
+-- the name of a kind of errors (15.11.7.9)
+abbrev pub error_name : ErrorKind → List ℕ
+error_name kind.Error = codes "Error"
+error_name kind.EvalError = codes "EvalError"
+error_name kind.RangeError = codes "RangeError"
+error_name kind.ReferenceError = codes "ReferenceError"
+error_name kind.SyntaxError = codes "SyntaxError"
+error_name kind.TypeError = codes "TypeError"
+error_name kind.URIError = codes "URIError"
+
+-- a primitive value of the table
+abbrev pub primitive_of : Constant → Primitive
+primitive_of constant.Undefined = primitive.Undefined
+primitive_of constant.NaN = primitive.Number number.NaN
+primitive_of constant.False = primitive.Bool false
+primitive_of constant.Zero = primitive.Number (number.Whole (pos 0))
+primitive_of constant.Empty = primitive.Text []
+primitive_of (constant.ErrorName kind) = primitive.Text (error_name kind)
+
+-- what a property of the table has
+abbrev pub content_of : Content → SpecContent
+content_of (content.Prim value) = spec.Prim (primitive_of value)
+content_of (content.Object site) = spec.Object site
+content_of content.Row = spec.Row
+
+-- a property of the table
+abbrev pub property_of : List ℕ → Content → Attrs → PropertySpec
+property_of name content attrs = record { name = builtin_number name; content = content_of content; attrs = attrs }
+
+-- an object of the table: none is a function, so none has a scope
+abbrev pub object_of : BuiltinObject → List PropertySpec → ObjectSpec
+object_of o properties = record {
+  site = o.site;
+  prototype = o.prototype;
+  scope = None;
+  value = option_map primitive_of o.value;
+  properties = properties;
+}
+
+-- the built-in objects, each behind its prototype
+unfoldable pub opening_objects : List ObjectSpec
+opening_objects = map (λ row. object_of row.0 (map (λ e. property_of e.0.now e.1 e.2) row.1.now)) OPENING
 
 -- a site of a built-in object, with the name under which reports print it
 abbrev pub builtin_site : Class → List ℕ → SiteInfo
-builtin_site kind path = record { class = kind; place = record { line = 0; column = 0 }; builtin = Some path }
-
--- sites 0 to 4
-abbrev pub builtin_sites : List SiteInfo
-builtin_sites =
-    builtin_site Object (codes "global")
-    ∷ builtin_site Object (codes "Object.prototype")
-    ∷ builtin_site Error (codes "Error.prototype")
-    ∷ builtin_site Error (codes "ReferenceError.prototype")
-    ∷ builtin_site Error (codes "TypeError.prototype")
-    ∷ []
-
--- a property of a built-in object: a text that a for-in doesn't show
-abbrev pub builtin_property : ℕ → List ℕ → PropertySpec
-builtin_property name value = record {
-  name = record { 0 = name };
-  value = Text value;
-  attrs = record { read_only = false; dont_enum = true; dont_delete = false };
+builtin_site kind path = record {
+  class = kind;
+  place = record { line = 0; column = 0 };
+  owner = None;
+  calls = None;
+  constructs = None;
+  builtin = Some path;
 }
 
--- `name` and `message` of a prototype of errors
-abbrev pub error_properties : List ℕ → List PropertySpec
-error_properties name = builtin_property 0 name ∷ builtin_property 1 [] ∷ []
-
--- an object that is there when a run begins
-abbrev pub builtin_object : Site → Option Site → List PropertySpec → ObjectSpec
-builtin_object site prototype properties = record { site = site; prototype = prototype; properties = properties }
-
--- the built-in objects, each behind its prototype
-abbrev pub opening_objects : List ObjectSpec
-opening_objects =
-    builtin_object object_prototype None []
-    ∷ builtin_object global (Some object_prototype) []
-    ∷ builtin_object error_prototype (Some object_prototype) (error_properties (codes "Error"))
-    ∷ builtin_object reference_error_prototype (Some error_prototype) (error_properties (codes "ReferenceError"))
-    ∷ builtin_object type_error_prototype (Some error_prototype) (error_properties (codes "TypeError"))
-    ∷ []
+-- the sites of the built-in objects, by their numbers
+unfoldable pub builtin_sites : List SiteInfo
+builtin_sites = map (λ row. builtin_site row.0 row.1.now) BUILTIN_SITES

@@ -4,4 +4,3 @@ pub mod Builtins
 pub mod Lowering
 pub mod Built
 pub mod Reading
-pub mod Size

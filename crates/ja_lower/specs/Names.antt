@@ -3,16 +3,12 @@ use Rattle.std.specs.Prelude.{ℕ, not, List, [], ◌∷◌, ◌++◌, map, unwr
 use Rattle.std.specs.List.{filter, flat_map, list_any, position_from}
 use Rattle.std.specs.Bool.{if◌then◌else◌}
 use Rattle.std.specs.Str.{bytes_eq}
-use lib.Chars.{codes}
 use Rattle.ja_base.specs.declared.ids.NameId.{NameId}
+use Rattle.ja_graph.specs.WellFormed.{builtin_names}
 use Rattle.ja_lower.specs.declared.straight.Operand.{Operand}
 use Rattle.ja_lower.specs.declared.straight.Operand.TheVariants as operand
 use Rattle.ja_lower.specs.declared.straight.Line.{Line}
 use Rattle.ja_lower.specs.declared.straight.Target.{Target}
-
--- names 0 to 4
-abbrev pub builtin_names : List (List ℕ)
-builtin_names = codes "name" ∷ codes "message" ∷ codes "length" ∷ codes "callee" ∷ codes "arguments" ∷ []
 
 -- the name in an operand, if it has one
 abbrev pub operand_names : Operand → List (List ℕ)

@@ -4,6 +4,7 @@ use Rattle.ja_base.specs.declared.ids.Place.{Place}
 use Rattle.ja_base.specs.declared.ids.Reg.{Reg}
 use Rattle.ja_prim.specs.declared.primitive.Num.TheVariants.{Whole}
 use Rattle.ja_prim.specs.declared.primitive.Primitive.TheVariants as primitive
+use Rattle.ja_graph.specs.declared.node.Args.TheVariants.{Registers}
 use Rattle.ja_graph.specs.declared.node.Node.{Node}
 use Rattle.ja_graph.specs.declared.node.Node.TheVariants.{Const, FindName, ReadRef, WriteRef, Call, Return, Escape}
 use Rattle.ja_lower.specs.declared.straight.Operand.{Operand}
@@ -56,7 +57,7 @@ operand_steps names k site (operand.Number value place) =
 operand_steps names k site (operand.Name name place) = read_steps names k site name place
 operand_steps names k site (operand.Call name place bracket) =
     read_steps names k site name place
-    ++ step (Call (temporary (k + 2)) (temporary (k + 1)) (temporary k) (record { 0 = site + 1 })) bracket ∷ []
+    ++ step (Call (temporary (k + 2)) (temporary (k + 1)) (temporary k) (Registers []) (record { 0 = site + 1 })) bracket ∷ []
 
 -- the register that has the operand's value: its last temporary
 abbrev pub operand_value : ℕ → Operand → Reg
@@ -70,9 +71,9 @@ write_steps names value k [] = []
 write_steps names value k (t ∷ ts) =
     write_steps names value (k + 1) ts ++ step (WriteRef (temporary k) (name_id names t.name) value) t.assign ∷ []
 
--- the first error site of a node, behind the sites of the five built-in objects
+-- the first error site of a node, behind the sites of the 14 built-in objects
 abbrev pub first_site : ℕ
-first_site = 5
+first_site = 14
 
 -- the nodes of a line, with error sites from `site` on
 abbrev pub line_steps : List (List ℕ) → ℕ → Line → List Step

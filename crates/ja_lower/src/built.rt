@@ -1,9 +1,7 @@
 //! The lines of a tree whose forms are all built, or the place of the first form that is not.
 
-ghost use Rattle.std.specs.Prelude.{◌≡◌, ◌≤◌, ◌+◌, Ok, Err, IsErr, length, IfOk, OnOk};
+ghost use Rattle.std.specs.Prelude.{◌≡◌, Ok, Err, IfOk};
 ghost use Rattle.ja_lower.specs.Built as spec;
-ghost use Rattle.ja_lower.specs.Lowering.{size_of};
-ghost use Rattle.ja_lower.specs.Size.{assignments, statement_size, tree_size};
 ghost use Rattle.ja_lower.specs.Reading.{IsRead, Adds, AreLines};
 
 use crate::excluded::is_excluded;
@@ -34,7 +32,6 @@ fn alone(alloc: Global, operand: Operand) -> Line
 /// Reads a name.
 fn read_name(alloc: Global, name: &Name) -> Result<Line, LowerFault>
     ensures read { IsRead (spec.read_name name.now) result }
-    ensures size { IfOk result (λ line. length line.targets ≡ 0) }
 {
     if is_excluded(name.text.units()) {
         return Err(LowerFault::Unbuilt { place: name.place });
@@ -52,7 +49,6 @@ fn read_name(alloc: Global, name: &Name) -> Result<Line, LowerFault>
 /// Reads a literal.
 fn read_literal(alloc: Global, value: &Primitive, place: Place) -> Result<Line, LowerFault>
     ensures read { IsRead (spec.read_literal value.now place) result }
-    ensures size { IfOk result (λ line. length line.targets ≡ 0) }
 {
     match value {
         Primitive::Number(Num::Whole(value)) => {
@@ -87,7 +83,6 @@ fn is_plain_call(suffix: &Suffix<Expression>) -> bool
 /// Reads the call of an operand.
 fn read_call(alloc: Global, callee: Operand, bracket: Place) -> Result<Line, LowerFault>
     ensures read { IsRead (spec.read_call callee bracket) result }
-    ensures size { IfOk result (λ line. length line.targets ≡ 0) }
 {
     match callee {
         Operand::Name { name, place } => Ok(alone(
@@ -105,7 +100,6 @@ fn read_call(alloc: Global, callee: Operand, bracket: Place) -> Result<Line, Low
 /// Reads the first suffix behind a head.
 fn read_suffix(alloc: Global, head: Line, suffix: &Suffix<Expression>) -> Result<Line, LowerFault>
     ensures read { IsRead (spec.read_suffix head.targets head.operand suffix.now) result }
-    ensures size { IfOk result (λ line. length line.targets ≡ 0) }
 {
     let Line { targets, operand } = head;
     let place = suffix_place(suffix);
@@ -122,7 +116,6 @@ fn read_chain(
     suffixes: &[Suffix<Expression>],
 ) -> Result<Line, LowerFault>
     ensures read { IsRead (spec.read_chain (Ok head) suffixes.now) result }
-    ensures size { IfOk result (λ line. length line.targets ≤ length head.targets) }
 {
     match suffixes {
         [] => Ok(head),
@@ -157,7 +150,6 @@ fn target_of(line: Line, assign: Place) -> Option<Target>
 /// Puts a target before a line.
 fn with_target(target: Target, line: Line) -> Result<Line, AllocError>
     ensures line { IfOk result (λ l. Ok l ≡ spec.with_target target (Ok line)) }
-    ensures size { IfOk result (λ l. length l.targets ≡ length line.targets + 1) }
 {
     let Line { targets, operand } = line;
     let mut targets = targets.into_vec();
@@ -191,7 +183,6 @@ fn is_behind(operator: UpdateOperator) -> bool
 /// A form that is not built, at this place.
 fn unbuilt(place: Place) -> Result<Line, LowerFault>
     ensures read { IsRead (Err place) result }
-    ensures never { IsErr result }
 {
     Err(LowerFault::Unbuilt { place })
 }
@@ -199,16 +190,14 @@ fn unbuilt(place: Place) -> Result<Line, LowerFault>
 /// Behind a line, a form that is not built, at this place.
 fn unbuilt_behind(_: Line, place: Place) -> Result<Line, LowerFault>
     ensures read { IsRead (Err place) result }
-    ensures never { IsErr result }
 {
     Err(LowerFault::Unbuilt { place })
 }
 
 /// Reads an expression.
-#[tactic(auto, unfolding(crate::specs::Built::read, crate::specs::Size::assignments))]
+#[tactic(auto, unfolding(crate::specs::Built::read))]
 fn read(alloc: Global, expression: &Expression) -> Result<Line, LowerFault>
     ensures read { IsRead (spec.read expression.now) result }
-    ensures size { IfOk result (λ line. length line.targets ≤ assignments expression.now) }
 {
     match expression {
         Expression::Name(name) => read_name(alloc, name),
@@ -276,7 +265,6 @@ fn read_statement(
     lines: &mut Vec<Line>,
 ) -> Result<(), LowerFault>
     ensures read { Adds (spec.read_statement statement.now) lines.old.items lines.new.items result }
-    ensures size { OnOk result (size_of lines.new.items ≤ size_of lines.old.items + statement_size statement.now) }
 {
     let place = match statement {
         Statement::Empty { .. } => return Ok(()),
@@ -307,7 +295,6 @@ fn read_statement(
 /// The lines of statements whose forms are all built.
 pub(crate) fn lines_of(alloc: Global, statements: &[Statement]) -> Result<Vec<Line>, LowerFault>
     ensures read { AreLines (spec.read_all statements.now) result }
-    ensures size { IfOk result (λ lines. size_of lines.items ≤ tree_size statements.now) }
 {
     let mut lines = Vec::new(alloc);
     for statement in statements {

@@ -9,6 +9,8 @@ use std::alloc::{AllocError, AllocFailed};
 pub enum LowerFault {
     /// The first form that is not built has this place.
     Unbuilt { place: Place },
+    /// The program has more than 65,536 nodes.
+    Nodes,
     /// Memory was refused.
     Memory,
 }

@@ -2,7 +2,8 @@
 
 ghost use Rattle.std.specs.Prelude.{◌≡◌, ◌+◌, ◌<◌, ◌≤◌, ◌^◌, ◌++◌, [], length, map, IfOk, OnOk};
 ghost use Rattle.std.specs.List.{fold, flat_map};
-ghost use Rattle.ja_lower.specs.Names.{builtin_names, operand_names, line_names, names_of, name_id, with_name};
+ghost use Rattle.ja_graph.specs.WellFormed.{builtin_names};
+ghost use Rattle.ja_lower.specs.Names.{operand_names, line_names, names_of, name_id, with_name};
 ghost use Rattle.ja_lower.specs.Lowering.{IsSmall};
 
 use crate::straight::{Line, Operand, Target};

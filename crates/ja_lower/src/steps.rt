@@ -6,8 +6,8 @@ ghost use Rattle.ja_lower.specs.Lowering.{IsSmall};
 
 use crate::names::Names;
 use crate::straight::{Line, Operand, Target};
-use ja_base::{Memory, Place, Reg, Site};
-use ja_graph::{FIXED_REGISTERS, Node};
+use ja_base::{Memory, Place, Reg, Seq, Site};
+use ja_graph::{Args, BUILTIN_CLASSES, FIXED_REGISTERS, Node};
 use ja_prim::{Num, Primitive};
 use std::alloc::Global;
 
@@ -22,7 +22,7 @@ pub(crate) struct Step {
 const FIRST_PLACE: Place = Place { line: 1, column: 1 };
 
 /// The first error site of a node, behind the sites of the built-in objects.
-const FIRST_NODE_SITE: u32 = 5;
+const FIRST_NODE_SITE: u32 = BUILTIN_CLASSES.len() as u32;
 
 /// The register of a line's temporary.
 fn temporary(k: usize) -> Reg
@@ -64,6 +64,7 @@ fn find_targets(names: &Names, targets: &[Target], steps: &mut Vec<Step>) -> Res
 /// Lowers an operand, with temporaries from `first` on and error sites from `site` on. The result is
 /// the register that has its value.
 fn lower_operand(
+    alloc: Global,
     names: &Names,
     first: usize,
     site: u32,
@@ -78,9 +79,9 @@ fn lower_operand(
     match operand {
         Operand::Number { value, place } => {
             let dst = temporary(first);
-            let value = Primitive::Number(Num::Whole(*value));
+            let prim = Primitive::Number(Num::Whole(*value));
             steps.push(Step {
-                node: Node::Const { dst, value },
+                node: Node::Const { dst, prim },
                 place: *place,
             })?;
             Ok(dst)
@@ -100,6 +101,7 @@ fn lower_operand(
                 dst,
                 callee: temporary(first + 1),
                 receiver: temporary(first),
+                args: Args::Registers(Seq::new(alloc)),
                 error: Site(site + 1),
             };
             steps.push(Step {
@@ -165,26 +167,37 @@ fn write_targets(
 }
 
 /// Lowers a line, with error sites from `site` on.
-fn lower_line(names: &Names, site: u32, line: &Line, steps: &mut Vec<Step>) -> Result<(), Memory>
+fn lower_line(
+    alloc: Global,
+    names: &Names,
+    site: u32,
+    line: &Line,
+    steps: &mut Vec<Step>,
+) -> Result<(), Memory>
     requires targets { length line.now.targets < 2 ^ 25 }
     requires sites { site < 2 ^ 31 }
     ensures { OnOk result (steps.new.items ≡ steps.old.items ++ line_steps names.now site line.now) }
 {
     let targets = line.targets.as_slice();
     find_targets(names, targets, steps)?;
-    let value = lower_operand(names, targets.len(), site, &line.operand, steps)?;
+    let value = lower_operand(alloc, names, targets.len(), site, &line.operand, steps)?;
     write_targets(names, value, targets, steps)?;
     Ok(())
 }
 
 /// Lowers the lines, with error sites behind those of the built-in objects.
-fn lower_lines(names: &Names, lines: &[Line], steps: &mut Vec<Step>) -> Result<(), Memory>
+fn lower_lines(
+    alloc: Global,
+    names: &Names,
+    lines: &[Line],
+    steps: &mut Vec<Step>,
+) -> Result<(), Memory>
     requires { IsSmall lines.now }
     ensures { OnOk result (steps.new.items ≡ steps.old.items ++ text_steps names.now first_site lines.now) }
 {
     let mut site = FIRST_NODE_SITE;
     for line in lines {
-        lower_line(names, site, line, steps)?;
+        lower_line(alloc, names, site, line, steps)?;
         site += error_count(&line.operand);
     }
     Ok(())
@@ -198,7 +211,7 @@ fn close(steps: &mut Vec<Step>) -> Result<(), Memory>
     steps.push(Step {
         node: Node::Const {
             dst: undefined,
-            value: Primitive::Undefined,
+            prim: Primitive::Undefined,
         },
         place: FIRST_PLACE,
     })?;
@@ -219,7 +232,7 @@ pub(crate) fn steps_of(alloc: Global, names: &Names, lines: &[Line]) -> Result<V
     ensures { IfOk result (λ steps. steps.items ≡ text_steps names.now first_site lines.now ++ closing_steps) }
 {
     let mut steps = Vec::new(alloc);
-    lower_lines(names, lines, &mut steps)?;
+    lower_lines(alloc, names, lines, &mut steps)?;
     close(&mut steps)?;
     Ok(steps)
 }

@@ -1,14 +1,14 @@
 //! The nodes of small texts, and the places of forms that are not built, against rows that were
 //! written by hand.
 
-ghost use Rattle.std.specs.Prelude.{◌≡◌, length, IfOk, IfSome};
-ghost use Rattle.ja_lower.specs.Size.{assignments};
+ghost use Rattle.std.specs.Prelude.{◌≡◌, IfOk, IfSome};
+ghost use Rattle.ja_lower.specs.Lowering.{line_nodes};
 
 use crate::program::straight_program;
 use crate::straight::{Line, Operand, Target};
 use crate::{LowerFault, lower};
 use ja_base::{Place, Seq};
-use ja_graph::{Node, Program};
+use ja_graph::{Args, Node, Program};
 use ja_prim::{Int, Num, Primitive, Text16};
 use ja_syntax::{BinaryOperator, Expression, Name, Operation, Statement, Suffix, Tree};
 use sqlite_items::{Boxed, Items};
@@ -24,7 +24,7 @@ fn letter(alloc: Global, unit: u16) -> Result<Text16, AllocError> {
 /// The kind of a node, and its numbers in the order of its fields.
 fn node_row(node: &Node) -> (&'static str, [u32; 4]) {
     match node {
-        Node::Const { dst, value } => match value {
+        Node::Const { dst, prim } => match prim {
             Primitive::Undefined => ("Const undefined", [dst.0, 0, 0, 0]),
             Primitive::Number(Num::Whole(_)) => ("Const number", [dst.0, 0, 0, 0]),
             _ => ("Const", [dst.0, 0, 0, 0]),
@@ -41,14 +41,25 @@ fn node_row(node: &Node) -> (&'static str, [u32; 4]) {
             dst,
             callee,
             receiver,
+            args,
             error,
-        } => ("Call", [dst.0, callee.0, receiver.0, error.0]),
+        } => match args {
+            Args::Registers(registers) if registers.is_empty() => {
+                ("Call", [dst.0, callee.0, receiver.0, error.0])
+            }
+            _ => (
+                "Call with arguments",
+                [dst.0, callee.0, receiver.0, error.0],
+            ),
+        },
         Node::Return { src } => ("Return", [src.0, 0, 0, 0]),
         Node::Escape => ("Escape", [0, 0, 0, 0]),
+        _ => ("another", [0, 0, 0, 0]),
     }
 }
 
 /// A node as it is expected: its kind, its numbers, its next node and its handler, its line and column.
+/// Its other edge leads where its handler does.
 #[derive(Clone, Copy)]
 struct Row(&'static str, [u32; 4], [u32; 2], [u32; 2]);
 
@@ -63,6 +74,7 @@ fn assert_text(rt: &impl Abort, program: &Program, registers: u32, rows: &[Row])
             assert_eq!(rt; kind, row.0);
             assert_eq!(rt; numbers, row.1);
             assert_eq!(rt; [info.next.0, info.handler.0], row.2);
+            assert_eq!(rt; info.other, info.handler);
             assert_eq!(rt; [info.place.line, info.place.column], row.3);
         }
     }
@@ -70,7 +82,7 @@ fn assert_text(rt: &impl Abort, program: &Program, registers: u32, rows: &[Row])
 
 /// `x = 3;` in line 1.
 fn assignment(alloc: Global) -> Result<Option<Line>, AllocError>
-    ensures { IfOk result (λ line. IfSome line (λ s. length s.targets ≡ 1)) }
+    ensures { IfOk result (λ line. IfSome line (λ s. line_nodes s ≡ 3)) }
 {
     let Some(value) = Int::new(3) else {
         return Ok(None);
@@ -91,7 +103,7 @@ fn assignment(alloc: Global) -> Result<Option<Line>, AllocError>
 
 /// `y();` in line 2.
 fn call(alloc: Global) -> Result<Line, AllocError>
-    ensures { IfOk result (λ s. length s.targets ≡ 0) }
+    ensures { IfOk result (λ s. line_nodes s ≡ 3) }
 {
     Ok(Line {
         targets: Seq::new(alloc),
@@ -105,7 +117,7 @@ fn call(alloc: Global) -> Result<Line, AllocError>
 
 /// `a = b = a;` in line 3.
 fn chain(alloc: Global) -> Result<Line, AllocError>
-    ensures { IfOk result (λ s. length s.targets ≡ 2) }
+    ensures { IfOk result (λ s. line_nodes s ≡ 6) }
 {
     let first = Target {
         name: letter(alloc, 97)?,
@@ -128,18 +140,18 @@ fn chain(alloc: Global) -> Result<Line, AllocError>
 
 /// The nodes of `x = 3;`, `y();` and `a = b = a;`.
 static ROWS: [Row; 15] = [
-    Row("FindName", [6, 5, 0, 0], [1, 14], [1, 1]),
+    Row("FindName", [6, 96, 0, 0], [1, 14], [1, 1]),
     Row("Const number", [7, 0, 0, 0], [2, 14], [1, 5]),
-    Row("WriteRef", [6, 5, 7, 0], [3, 14], [1, 3]),
-    Row("FindName", [6, 6, 0, 0], [4, 14], [2, 1]),
-    Row("ReadRef", [7, 6, 6, 5], [5, 14], [2, 1]),
-    Row("Call", [8, 7, 6, 6], [6, 14], [2, 2]),
-    Row("FindName", [6, 7, 0, 0], [7, 14], [3, 1]),
-    Row("FindName", [7, 8, 0, 0], [8, 14], [3, 5]),
-    Row("FindName", [8, 7, 0, 0], [9, 14], [3, 9]),
-    Row("ReadRef", [9, 8, 7, 7], [10, 14], [3, 9]),
-    Row("WriteRef", [7, 8, 9, 0], [11, 14], [3, 7]),
-    Row("WriteRef", [6, 7, 9, 0], [12, 14], [3, 3]),
+    Row("WriteRef", [6, 96, 7, 0], [3, 14], [1, 3]),
+    Row("FindName", [6, 97, 0, 0], [4, 14], [2, 1]),
+    Row("ReadRef", [7, 6, 97, 14], [5, 14], [2, 1]),
+    Row("Call", [8, 7, 6, 15], [6, 14], [2, 2]),
+    Row("FindName", [6, 98, 0, 0], [7, 14], [3, 1]),
+    Row("FindName", [7, 99, 0, 0], [8, 14], [3, 5]),
+    Row("FindName", [8, 98, 0, 0], [9, 14], [3, 9]),
+    Row("ReadRef", [9, 8, 98, 16], [10, 14], [3, 9]),
+    Row("WriteRef", [7, 99, 9, 0], [11, 14], [3, 7]),
+    Row("WriteRef", [6, 98, 9, 0], [12, 14], [3, 3]),
     Row("Const undefined", [6, 0, 0, 0], [13, 14], [1, 1]),
     Row("Return", [6, 0, 0, 0], [14, 14], [1, 1]),
     Row("Escape", [0, 0, 0, 0], [14, 14], [1, 1]),
@@ -152,10 +164,10 @@ fn lowers_three_lines(rt: HostRuntime) -> Result<(), Fail> {
     let second = call(alloc)?;
     let third = chain(alloc)?;
     let lines = vec![in alloc; first, second, third]?;
-    let program = straight_program(alloc, &lines)?;
-    assert_eq!(rt; program.sites.len(), 8);
-    assert_eq!(rt; program.names.len(), 9);
-    assert_eq!(rt; program.opening.len(), 5);
+    let program = straight_program(alloc, &lines, "x = 3;\ny();\na = b = a;")?;
+    assert_eq!(rt; program.sites.len(), 17);
+    assert_eq!(rt; program.names.len(), 100);
+    assert_eq!(rt; program.opening.len(), 14);
     assert_text(&rt, &program, 10, &ROWS);
     Ok(())
 }
@@ -166,10 +178,7 @@ fn column(column: u32) -> Place {
 }
 
 /// A name at a column.
-#[tactic(auto, unfolding(crate::specs::Size::assignments))]
-fn name(alloc: Global, text: &str, at: u32) -> Result<Expression, AllocError>
-    ensures { IfOk result (λ e. assignments e ≡ 0) }
-{
+fn name(alloc: Global, text: &str, at: u32) -> Result<Expression, AllocError> {
     let units: Vec<u16> = text.bytes().map(|byte| u16::from(byte)).collect(alloc)?;
     Ok(Expression::Name(Name {
         text: Text16::from_units(units),
@@ -178,11 +187,7 @@ fn name(alloc: Global, text: &str, at: u32) -> Result<Expression, AllocError>
 }
 
 /// A first operand, and `+ y` behind it with the operator at a column and `y` at another.
-#[tactic(auto, unfolding(crate::specs::Size::assignments))]
-fn sum(alloc: Global, first: Expression, at: u32, behind: u32) -> Result<Expression, AllocError>
-    requires { assignments first ≡ 0 }
-    ensures { IfOk result (λ e. assignments e ≡ 0) }
-{
+fn sum(alloc: Global, first: Expression, at: u32, behind: u32) -> Result<Expression, AllocError> {
     let operation = Operation {
         operator: BinaryOperator::Plus,
         right: name(alloc, "y", behind)?,
@@ -196,11 +201,7 @@ fn sum(alloc: Global, first: Expression, at: u32, behind: u32) -> Result<Express
 }
 
 /// A head, and `()` behind it with the `(` at a column.
-#[tactic(auto, unfolding(crate::specs::Size::assignments))]
-fn called(alloc: Global, head: Expression, at: u32) -> Result<Expression, AllocError>
-    requires { assignments head ≡ 0 }
-    ensures { IfOk result (λ e. assignments e ≡ 0) }
-{
+fn called(alloc: Global, head: Expression, at: u32) -> Result<Expression, AllocError> {
     let suffix = Suffix::Call {
         arguments: Items::new(alloc),
         place: column(at),
@@ -217,9 +218,7 @@ fn assert_unbuilt(
     alloc: Global,
     value: Expression,
     at: u32,
-) -> Result<(), AllocError>
-    requires { assignments value ≡ 0 }
-{
+) -> Result<(), AllocError> {
     let statement = Statement::Expression {
         value,
         place: column(1),
@@ -227,7 +226,7 @@ fn assert_unbuilt(
     let tree = Tree {
         statements: Items::from_vec(vec![in alloc; statement]?),
     };
-    match lower(alloc, &tree) {
+    match lower(alloc, &tree, "") {
         Err(LowerFault::Unbuilt { place }) => assert_eq!(rt; place, column(at)),
         _ => assert!(rt; false),
     }
@@ -258,7 +257,36 @@ fn lowers_a_call(rt: HostRuntime) -> Result<(), Fail> {
     let tree = Tree {
         statements: Items::from_vec(vec![in alloc; statement]?),
     };
-    let program = lower(alloc, &tree);
+    let program = lower(alloc, &tree, "x();");
     assert!(rt; program.is_ok());
+    Ok(())
+}
+
+/// A text of this many lines `1;`.
+fn ones(alloc: Global, count: u32) -> Result<Tree, AllocError> {
+    let mut statements = Vec::new(alloc);
+    for line in 1..=count {
+        let place = Place { line, column: 1 };
+        let Some(value) = Int::new(1) else {
+            continue;
+        };
+        let value = Expression::Literal {
+            value: Primitive::Number(Num::Whole(value)),
+            place,
+        };
+        statements.push(Statement::Expression { value, place })?;
+    }
+    Ok(Tree {
+        statements: Items::from_vec(statements),
+    })
+}
+
+#[test]
+fn counts_nodes(rt: HostRuntime) -> Result<(), Fail> {
+    let alloc = rt.alloc();
+    let most = lower(alloc, &ones(alloc, 65_533)?, "");
+    assert!(rt; most.is_ok());
+    let more = lower(alloc, &ones(alloc, 65_534)?, "");
+    assert!(rt; matches!(&more, Err(LowerFault::Nodes)));
     Ok(())
 }

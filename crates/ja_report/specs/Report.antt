@@ -74,7 +74,14 @@ table_sites p t = flat_map (line_sites p) (table_lines p t)
 -- a site of the text has a place and a class
 abbrev pub class_text : Class → List ℕ
 class_text class.Object = codes "Object"
+class_text class.Function = codes "Function"
+class_text class.Array = codes "Array"
+class_text class.String = codes "String"
+class_text class.Boolean = codes "Boolean"
+class_text class.Number = codes "Number"
 class_text class.Error = codes "Error"
+class_text class.Math = codes "Math"
+class_text class.Activation = codes "Activation"
 
 unfoldable pub info_text : Program → ℕ → List ℕ
 info_text p s = option_map_or (λ (info : SiteInfo). place_text info.place ++ codes " " ++ class_text info.class) (slice_get p.sites s) []

@@ -1,10 +1,11 @@
 //! Writers of the lines of a table: values at entry, and states.
 
-ghost use Rattle.std.specs.Prelude.{◌≡◌, ◌<◌, ◌++◌, [], ◌∷◌, OnOk, IfOk, length, map, vec_len};
+ghost use Rattle.std.specs.Prelude.{◌≡◌, ◌<◌, ◌++◌, [], ◌∷◌, false, OnOk, IfOk, length, map, vec_len};
 ghost use Rattle.std.specs.List.{range_with_len};
 ghost use Rattle.ja_graph.specs.WellFormed.{IsWellFormed};
 ghost use Rattle.ja_model.specs.Machine.{program_function, registers_of};
-ghost use Rattle.ja_model.specs.AbstractState.{keys_of};
+ghost use Rattle.ja_model.specs.AbstractValue.{has_part};
+ghost use Rattle.ja_model.specs.AbstractState.{keys_of, labels_below};
 ghost use Rattle.ja_value.specs.Value.{value_of, property_of};
 ghost use Rattle.ja_state.specs.State.{object_of, state_of, entries_of};
 ghost use Rattle.ja_report.specs.Lines.{entry, point, owner_text, property_text, value_sites, is_undefined, register_line, register_lines, has_attrs, is_known, is_entry, property_line, object_lines, property_lines, mask_line, mask_lines, state_lines, entry_line, entry_lines};
@@ -155,11 +156,9 @@ fn push_properties(
 
 // ---- registers
 
-/// Whether a value is exactly undefined.
-#[tactic(auto, unfolding(crate::specs::Lines::is_undefined))]
-fn is_undefined(program: &Program, value: &AValue) -> bool
-    requires { IsWellFormed program.now }
-    ensures { result ≡ is_undefined program.now (value_of value.now) }
+/// Whether a value has some part but undefined; of labels, those of the first `sites` sites.
+fn has_more(sites: u32, value: &AValue) -> bool
+    ensures { let v = value_of value.now in result ≡ has_part (labels_below sites) (record v { flags = record v.flags { undefined = false } }) }
 {
     let flags = value.flags;
     let flagged = flags.absent
@@ -171,8 +170,16 @@ fn is_undefined(program: &Program, value: &AValue) -> bool
         | flags.nan;
     let number = !matches!(value.number, NumberPart::Nothing);
     let text = !matches!(&value.text, TextPart::Nothing);
-    let more = flagged | number | text | value.labels.has_below(site_count(program));
-    flags.undefined & !more
+    flagged | number | text | value.labels.has_below(sites)
+}
+
+/// Whether a value is exactly undefined.
+#[tactic(auto, unfolding(crate::specs::Lines::is_undefined))]
+fn is_undefined(program: &Program, value: &AValue) -> bool
+    requires { IsWellFormed program.now }
+    ensures { result ≡ is_undefined program.now (value_of value.now) }
+{
+    value.flags.undefined & !has_more(site_count(program), value)
 }
 
 #[tactic(auto, using(crate::proofs::OutputLemmas::adds_none, crate::proofs::OutputLemmas::adds_one), unfolding(crate::specs::Lines::register_line, crate::specs::Lines::line_text, crate::specs::Lines::line_sites))]

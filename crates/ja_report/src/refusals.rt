@@ -21,6 +21,8 @@ pub enum Refusal {
     Scope { kind: ScopeKind, place: Place },
     /// The text nests more than 200 levels deep.
     Depth,
+    /// The text's graph has more than 65,536 nodes.
+    Nodes,
     /// The text has a form that is not built, at this place.
     Unbuilt { place: Place },
 }
@@ -42,6 +44,15 @@ fn scope_name(kind: ScopeKind) -> &'static [u8]
         ScopeKind::ReservedWord => b"ReservedWord",
         ScopeKind::ArgumentsName => b"ArgumentsName",
         ScopeKind::TextLength => b"TextLength",
+        ScopeKind::Fraction => b"Fraction",
+        ScopeKind::Range => b"Range",
+        ScopeKind::Row => b"Row",
+        ScopeKind::CodeMaker => b"CodeMaker",
+        ScopeKind::DeviceObject => b"DeviceObject",
+        ScopeKind::LengthObject => b"LengthObject",
+        ScopeKind::SharedArgument => b"SharedArgument",
+        ScopeKind::CaseChange => b"CaseChange",
+        ScopeKind::Radix => b"Radix",
         ScopeKind::Register => b"Register",
     }
 }
@@ -75,6 +86,7 @@ pub fn refusal_text(alloc: Global, refusal: Refusal) -> Result<Vec<u8>, Memory>
             text.push(b'\n')?;
         }
         Refusal::Depth => text.extend_from_slice(b"limit depth 200\n")?,
+        Refusal::Nodes => text.extend_from_slice(b"limit nodes 65536\n")?,
         Refusal::Unbuilt { place } => {
             text.extend_from_slice(b"unbuilt ")?;
             push_place(&mut text, place)?;

@@ -180,7 +180,14 @@ fn class_text(class: Class) -> &'static [u8]
 {
     match class {
         Class::Object => b"Object",
+        Class::Function => b"Function",
+        Class::Array => b"Array",
+        Class::String => b"String",
+        Class::Boolean => b"Boolean",
+        Class::Number => b"Number",
         Class::Error => b"Error",
+        Class::Math => b"Math",
+        Class::Activation => b"Activation",
     }
 }
 

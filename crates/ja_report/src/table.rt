@@ -3,7 +3,7 @@
 ghost use Rattle.std.specs.Prelude.{◌≡◌, ◌<◌, [], ◌∷◌, OnOk, IfOk, length, vec_len};
 ghost use Rattle.ja_base.specs.declared.ids.Label.{Label};
 ghost use Rattle.ja_graph.specs.WellFormed.{IsWellFormed};
-ghost use Rattle.ja_model.specs.AbstractState.{keys_of};
+ghost use Rattle.ja_model.specs.AbstractState.{keys_below, keys_of};
 ghost use Rattle.ja_value.specs.Value.{property_of};
 ghost use Rattle.ja_state.specs.State.{entries_of};
 ghost use Rattle.ja_rules.specs.Readings.{table_of, Fits};
@@ -29,13 +29,12 @@ fn name_count(program: &Program) -> u32
     program.names.len() as u32
 }
 
-/// The keys of a program, in order.
-pub(crate) fn all_keys(alloc: Global, program: &Program) -> Result<Vec<Key>, Memory>
-    requires { IsWellFormed program.now }
-    ensures { IfOk result (λ keys. keys.items ≡ keys_of program.now) }
+/// The keys of a program with so many names, in order.
+fn keys_below(alloc: Global, names: u32) -> Result<Vec<Key>, Memory>
+    ensures { IfOk result (λ keys. keys.items ≡ keys_below names) }
 {
     let mut keys = Vec::new(alloc);
-    for number in 0..name_count(program) {
+    for number in 0..names {
         keys.push(Key::Name(NameId(number)))?;
     }
     keys.push(Key::OtherIndex)?;
@@ -45,6 +44,14 @@ pub(crate) fn all_keys(alloc: Global, program: &Program) -> Result<Vec<Key>, Mem
     keys.push(Key::Slot(Slot::Scope))?;
     keys.push(Key::Slot(Slot::Value))?;
     Ok(keys)
+}
+
+/// The keys of a program, in order.
+pub(crate) fn all_keys(alloc: Global, program: &Program) -> Result<Vec<Key>, Memory>
+    requires { IsWellFormed program.now }
+    ensures { IfOk result (λ keys. keys.items ≡ keys_of program.now) }
+{
+    keys_below(alloc, name_count(program))
 }
 
 // ---- values at entry
@@ -84,7 +91,6 @@ fn push_pair(
 }
 
 /// Writes the demanded values at entry, and gives their number.
-#[tactic(auto, using(crate::proofs::EntryLemmas::pairs_count))]
 pub(crate) fn push_entries(
     out: &mut Output,
     alloc: Global,

@@ -20,6 +20,9 @@ fn program(alloc: Global) -> Result<Program, Fail> {
     sites.push(SiteInfo {
         class: Class::Object,
         place: Place { line: 0, column: 0 },
+        owner: None,
+        calls: None,
+        constructs: None,
         builtin: Some(text(alloc, &[103, 108, 111, 98, 97, 108])?),
     })?;
     sites.push(SiteInfo {
@@ -28,6 +31,9 @@ fn program(alloc: Global) -> Result<Program, Fail> {
             line: 3,
             column: 12,
         },
+        owner: Some(FnId(0)),
+        calls: None,
+        constructs: None,
         builtin: None,
     })?;
     let mut names = Vec::new(alloc);
@@ -36,9 +42,14 @@ fn program(alloc: Global) -> Result<Program, Fail> {
     names.push(text(alloc, &[])?)?;
     Ok(Program {
         functions: Seq::new(alloc),
+        text_functions: 1,
         sites: Seq::from_vec(sites),
         names: Seq::from_vec(names),
+        signatures: Seq::new(alloc),
         opening: Seq::new(alloc),
+        value_first: FnId(0),
+        text_first: FnId(0),
+        text: String::new(alloc),
     })
 }
 

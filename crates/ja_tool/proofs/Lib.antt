@@ -1,4 +1,1 @@
-pub mod ExpressionSizes
 pub mod Reporting
-pub mod Sizes
-pub mod StatementSizes

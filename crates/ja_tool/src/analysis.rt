@@ -84,6 +84,8 @@ fn solve_and_report(alloc: Global, program: &Program) -> Result<Answer, Memory>
 pub enum TextFault {
     /// It is none of the language, or memory was refused.
     Parse(ParseFault),
+    /// Its graph has more than 65,536 nodes.
+    Nodes,
     /// The first form that is not built has this place.
     Unbuilt { place: Place },
 }
@@ -99,9 +101,10 @@ pub fn program_of_text(alloc: Global, text: &str) -> Result<Program, TextFault>
         Ok(tree) => tree,
         Err(fault) => return Err(TextFault::Parse(fault)),
     };
-    match lower(alloc, &tree) {
+    match lower(alloc, &tree, text) {
         Ok(program) => Ok(program),
         Err(LowerFault::Unbuilt { place }) => Err(TextFault::Unbuilt { place }),
+        Err(LowerFault::Nodes) => Err(TextFault::Nodes),
         Err(LowerFault::Memory) => Err(TextFault::Parse(ParseFault::Memory)),
     }
 }
@@ -121,11 +124,13 @@ fn explain(alloc: Global, fault: TextFault) -> Result<Answer, Memory>
             refuse(alloc, Status::Limit, Refusal::Depth)
         }
         TextFault::Parse(ParseFault::Memory) => Err(Memory),
+        TextFault::Nodes => refuse(alloc, Status::Limit, Refusal::Nodes),
         TextFault::Unbuilt { place } => refuse(alloc, Status::Unbuilt, Refusal::Unbuilt { place }),
     }
 }
 
 // Analyses a text.
+#[tactic(auto, using(crate::proofs::Reporting::analyses))]
 fn analyse_text(alloc: Global, text: &str) -> Result<Answer, Memory>
     requires { length text.now ≤ 16777216 }
     ensures { IfOk result (λ a. Analyses text.now a.status a.text.items) }

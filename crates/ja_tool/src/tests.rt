@@ -219,6 +219,26 @@ fn long_texts(rt: HostRuntime) -> Result<(), Fail> {
     Ok(())
 }
 
+// The status of that many statements `1;`, and whether it was refused for its nodes.
+fn statements(alloc: Global, count: usize) -> Result<(Status, bool), Fail> {
+    let mut text = Vec::new(alloc);
+    for _ in 0..count {
+        text.extend_from_slice(b"1;")?;
+    }
+    let (status, written) = analysed(alloc, &text)?;
+    Ok((
+        status,
+        written.as_slice() == b"limit nodes 65536\n".as_slice(),
+    ))
+}
+
+#[test]
+fn nodes(rt: HostRuntime) -> Result<(), Fail> {
+    assert_eq!(rt; statements(rt.alloc(), 65_533)?, (Status::Done, false));
+    assert_eq!(rt; statements(rt.alloc(), 65_534)?, (Status::Limit, true));
+    Ok(())
+}
+
 // A budget of one visit is spent on the first node, whose base isn't known yet.
 fn assert_spent(rt: &impl Abort, alloc: Global, text: &str) -> Result<(), Fail> {
     assert!(rt; text.len() <= MAX_BYTES);

@@ -54,6 +54,7 @@ fn write_answer<K: Sink>(sink: &mut K, text: &[u8]) -> Result<(), Failed>
 
 /// The program: `words` are those after its name. Reads a text from the source, analyses it, and
 /// writes the answer whole to the sink, which is finished last. The status says which answer it was.
+#[tactic(auto, using(crate::proofs::Reporting::answered))]
 pub fn tajs<S: Source, K: Sink>(
     alloc: Global,
     words: &[String],

@@ -1,7 +1,8 @@
 use Rattle.std.proofs.Common.{[], ap, sym, ◌∙◌}
 use Rattle.std.specs.List.{fold, flat_map}
 use Rattle.std.proofs.lemmas.List.Sums.{fold-append}
-use Rattle.ja_lower.specs.Names.{builtin_names, line_names, names_of, with_name}
+use Rattle.ja_graph.specs.WellFormed.{builtin_names}
+use Rattle.ja_lower.specs.Names.{line_names, names_of, with_name}
 use Rattle.ja_lower.proofs.NamesLemmas.{fold-with_name-nil}
 use Rattle.ja_lower.proofs.names.Names.fill.Goals as goal
 

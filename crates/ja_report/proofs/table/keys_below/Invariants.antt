@@ -1,7 +1,7 @@
 use Rattle.std.proofs.Common.{◌≡◌, map}
 use Rattle.std.specs.List.{range_with_len}
 use Rattle.ja_model.specs.AbstractState.{name_key}
-use Rattle.ja_report.proofs.table.all_keys.Given as goal
+use Rattle.ja_report.proofs.table.keys_below.Given as goal
 
 -- the names so far
 abbrev pub invariant-loop-number : goal.invariant-loop-number
