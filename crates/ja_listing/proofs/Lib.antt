@@ -1,0 +1,4 @@
+pub mod Parts
+pub mod Links
+pub mod Kept
+pub mod Inside

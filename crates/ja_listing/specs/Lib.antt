@@ -1,0 +1,4 @@
+pub mod Listing
+pub mod Spots
+pub mod Passes
+pub mod Laws

@@ -1,0 +1,24 @@
+use ja_base::Place;
+use ja_graph::Node;
+
+/// A spot of a listing, by its number: edges and jumps lead to it.
+#[derive(Clone, Copy, Debug, PartialEq, Eq)]
+pub struct Spot(pub u32);
+
+/// One line of a listing.
+#[derive(Drop)]
+pub enum Item {
+    /// A node, with the spots of those of its edges that don't lead to what follows: `other` of a
+    /// branch or of a list without names left, and its handler. Without a spot such an edge leads
+    /// out of the function.
+    Node {
+        node: Node,
+        other: Option<Spot>,
+        handler: Option<Spot>,
+        place: Place,
+    },
+    /// The spot of what follows.
+    Spot(Spot),
+    /// What comes here goes on at the spot.
+    Jump(Spot),
+}
