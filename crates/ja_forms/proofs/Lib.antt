@@ -1,0 +1,6 @@
+pub mod NamesLemmas
+pub mod FormLemmas
+pub mod MovingLemmas
+pub mod WayLemmas
+pub mod StatementLemmas
+pub mod TextOrderLemmas

@@ -1,0 +1,14 @@
+pub mod Names
+pub mod Lines
+pub mod References
+pub mod Operators
+pub mod Literals
+pub mod Calls
+pub mod Expressions
+pub mod Ways
+pub mod Registers
+pub mod Standing
+pub mod Statements
+pub mod TextOrder
+pub mod TextParts
+pub mod Functions

@@ -1,0 +1,71 @@
+-- What an expression comes to, a value or a reference, and how a reference is read and written (ES3 8.7).
+use Rattle.std.specs.Prelude.{◌≡◌, ℕ, List, Result, Ok, Err}
+use Rattle.ja_base.specs.declared.ids.Memory.{Memory}
+use Rattle.ja_base.specs.declared.ids.Place.{Place}
+use Rattle.ja_base.specs.declared.ids.Reg.{Reg}
+use Rattle.ja_prim.specs.declared.primitive.Primitive.TheVariants as primitive
+use Rattle.ja_graph.specs.declared.node.Wrappers.{Wrappers}
+use Rattle.ja_graph.specs.declared.node.Node.TheVariants.{FindName, ReadRef, WriteRef, ToObject, ReadProp, WriteProp}
+use Rattle.ja_forms.specs.declared.outcome.Outcome.{Outcome}
+use Rattle.ja_forms.specs.declared.outcome.Outcome.TheVariants.{Value, Name, Member}
+use Rattle.ja_forms.specs.Lines.{Listing, Valued, Scene, site, name_id, with_node, with_result, with_const, with_text}
+
+-- a listing, and what the expression listed last comes to
+pub record Listed : Type 0 where
+  pub listing : Listing
+  pub outcome : Outcome
+
+-- how an expression is listed
+abbrev pub Form : Type 0
+Form = Scene → Listing → Listed
+
+abbrev pub valued : Valued → Listed
+valued v = record { listing = v.listing; outcome = Value v.value }
+
+-- GetValue (8.7.1)
+abbrev pub get_value : Scene → Outcome → Listing → Valued
+get_value scene (Value v) l = record { listing = l; value = v }
+get_value scene (Name base name place) l = with_result scene place (λ dst. ReadRef dst base name (site 0)) l
+get_value scene (Member object key place) l = with_result scene place (λ dst. ReadProp dst object key) l
+
+-- PutValue (8.7.2), at the place of the form that writes; nothing is written to a value
+abbrev pub put_value : Scene → Place → Outcome → Reg → Listing → Listing
+put_value scene place (Value v) src l = l
+put_value scene place (Name base name at) src l = with_node scene place (WriteRef base name src) l
+put_value scene place (Member object key at) src l = with_node scene place (WriteProp object key src (site 0)) l
+
+-- an expression's value
+unfoldable pub value_of : Form → Scene → Listing → Valued
+value_of x scene l = let r = x scene l in get_value scene r.outcome r.listing
+
+abbrev pub wrappers : Wrappers
+wrappers = record { boolean = site 0; number = site 1; text = site 2 }
+
+-- the object of a value (9.9)
+abbrev pub with_object : Scene → Place → Reg → Listing → Valued
+with_object scene place src l = with_result scene place (λ dst. ToObject dst src wrappers (site 3)) l
+
+-- a name (10.1.4)
+unfoldable pub with_name : List ℕ → Place → Scene → Listing → Listed
+with_name name place scene l =
+    let v = with_result scene place (λ dst. FindName dst (name_id scene name)) l in
+    record { listing = v.listing; outcome = Name v.value (name_id scene name) place }
+
+-- `.NAME` behind a value (11.2.1): the key is known, and comes before the object's conversion
+unfoldable pub with_member : List ℕ → Place → Scene → Reg → Listing → Listed
+with_member name place scene object l =
+    let key = with_const scene place (primitive.Text name) l in
+    let o = with_object scene place object key.listing in
+    record { listing = o.listing; outcome = Member o.value key.value place }
+
+-- `[F]` behind a value: the key is converted behind the object
+unfoldable pub with_element : Place → Scene → Reg → Reg → Listing → Listed
+with_element place scene object key l =
+    let o = with_object scene place object l in
+    let k = with_text scene place key o.listing in
+    record { listing = k.listing; outcome = Member o.value k.value place }
+
+-- what the functions that list expressions give, unless memory was refused
+abbrev pub Comes : Listed → Result Outcome Memory → Listing → Type 0
+Comes r (Ok outcome) new = r ≡ record { listing = new; outcome = outcome }
+Comes r (Err e) new = Unit {0}
