@@ -39,9 +39,12 @@ abbrev pub declare_function : Scene → Statement-F Expression Statement Case �
 declare_function scene (Statement-F.Statement::Function function) base l = bind_function scene function.place function.name base l
 declare_function scene _ base l = l
 
+abbrev pub declare_function_of : Scene → Statement → ℕ → Listing → Listing
+declare_function_of scene s base l = declare_function scene (out-Statement s) base l
+
 unfoldable pub declare_functions : Scene → List Statement → ℕ → Listing → Listing
 declare_functions scene [] base l = l
-declare_functions scene (s ∷ ss) base l = declare_functions scene ss base (declare_function scene (out-Statement s) base l)
+declare_functions scene (s ∷ ss) base l = declare_functions scene ss base (declare_function_of scene s base l)
 
 -- the variables (10.1.3), at the place of the function
 unfoldable pub declare_variables : Scene → Place → List (List ℕ) → Listing → Listing

@@ -3,6 +3,7 @@
 
 mod around;
 mod blocks;
+mod body;
 mod call;
 mod choice;
 mod choices;
@@ -27,6 +28,7 @@ mod trials;
 mod way;
 
 pub use around::Around;
+pub use body::{function_listing, program_listing};
 pub use draft::Draft;
 pub use expression::{assign, form, value};
 pub use names::Names;

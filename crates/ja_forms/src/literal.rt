@@ -256,7 +256,11 @@ fn function_id(scene: &Scene<'_, '_>, place: Place) -> Result<FnId, Memory>
 }
 
 /// Adds the object of a function.
-fn make_function(scene: &Scene<'_, '_>, place: Place, draft: &mut Draft) -> Result<Reg, Memory>
+pub(crate) fn make_function(
+    scene: &Scene<'_, '_>,
+    place: Place,
+    draft: &mut Draft,
+) -> Result<Reg, Memory>
     ensures { lines.Gives (spec.make_function scene.now place draft.old) result draft.new }
 {
     let function = function_id(scene, place)?;

@@ -1,4 +1,4 @@
-use crate::{Names, add_names, functions_in};
+use crate::{Names, Scene, add_names, function_listing, functions_in, program_listing};
 use ja_base::Place;
 use ja_prim::{Primitive, Text16};
 use ja_syntax::{Expression, FunctionOf, Name, Statement};
@@ -48,5 +48,34 @@ fn functions_and_names_of_a_text(rt: HostRuntime) -> Result<(), Fail> {
     assert_eq!(rt; texts[0].units(), &[102u16] as &[u16]);
     assert_eq!(rt; texts[1].units(), &[97u16] as &[u16]);
     assert_eq!(rt; texts[2].units(), &[115u16] as &[u16]);
+    Ok(())
+}
+
+/// How many lines the listings of the program and of its function have.
+fn lines(alloc: Global, statements: &[Statement]) -> Result<(usize, usize), Fail> {
+    let functions = functions_in(alloc, statements)?;
+    let mut names = Names::new(alloc);
+    add_names(&mut names, statements)?;
+    let scene = Scene {
+        alloc,
+        names: &names,
+        functions: &[PLACE],
+        handler: None,
+    };
+    let program = program_listing(&scene, statements)?;
+    match functions.as_slice() {
+        [function] => {
+            let function = function_listing(&scene, function)?;
+            Ok((program.len(), function.len()))
+        }
+        _ => Ok((program.len(), 0)),
+    }
+}
+
+// MakeFunction, Bind, Const, Return, Escape; Enter, Const, Return, Const, Return, Escape.
+#[test]
+fn listings_of_a_text(rt: HostRuntime) -> Result<(), Fail> {
+    let statements = vec![in rt.alloc(); example(rt.alloc())?]?;
+    assert_eq!(rt; lines(rt.alloc(), statements.as_slice())?, (5, 6));
     Ok(())
 }
