@@ -6,6 +6,7 @@ ghost use Rattle.ja_forms.specs.Lines as lines;
 use crate::draft::Draft;
 use crate::scene::Scene;
 use ja_base::{Memory, Place, Reg};
+use ja_graph::renaming::copied;
 use ja_graph::{Hint, Node, UnaryOp};
 use ja_prim::{Primitive, Text16};
 use std::alloc::Global;
@@ -15,28 +16,6 @@ pub(crate) fn copied_text(alloc: Global, text: &Text16) -> Result<Text16, Memory
     ensures { IfOk result (λ copy. copy ≡ text.now) }
 {
     Ok(Text16::from_units(Vec::from_slice(alloc, text.units())?))
-}
-
-/// A copy of a primitive value.
-fn copied(alloc: Global, prim: &Primitive) -> Result<Primitive, Memory>
-    ensures { IfOk result (λ copy. copy ≡ prim.now) }
-{
-    match prim {
-        Primitive::Undefined => Ok(Primitive::Undefined),
-        Primitive::Null => Ok(Primitive::Null),
-        Primitive::Bool(truth) => {
-            let truth = *truth;
-            Ok(Primitive::Bool(truth))
-        }
-        Primitive::Number(number) => {
-            let number = *number;
-            Ok(Primitive::Number(number))
-        }
-        Primitive::Text(text) => {
-            let text = copied_text(alloc, text)?;
-            Ok(Primitive::Text(text))
-        }
-    }
 }
 
 /// Adds a constant.

@@ -33,8 +33,8 @@ pub trait Renames {
         ensures { result ≡ (renaming self.now).site site };
 }
 
-/// A primitive value, in memory of its own.
-fn copied(alloc: Global, prim: &Primitive) -> Result<Primitive, Memory>
+/// A copy of a primitive value, in memory of its own. The only error is that memory was refused.
+pub fn copied(alloc: Global, prim: &Primitive) -> Result<Primitive, Memory>
     ensures { IfOk result (λ copy. copy ≡ prim.now) }
 {
     Ok(match prim {
