@@ -1,1 +1,5 @@
 pub mod RenamingLemmas
+pub mod EachLemmas
+pub mod NumberedLemmas
+pub mod WellFormedLemmas
+pub mod OnceLemmas

@@ -2,3 +2,4 @@ pub mod Node
 pub mod Program
 pub mod WellFormed
 pub mod Renaming
+pub mod Parts

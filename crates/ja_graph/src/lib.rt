@@ -6,11 +6,20 @@ mod attrs;
 mod builtins;
 mod facts;
 mod node;
+mod parts;
 mod program;
 mod registers;
 pub mod renaming;
 #[cfg(test)]
 mod renaming_tests;
+mod well_formed_functions;
+mod well_formed_names;
+mod well_formed_nodes;
+mod well_formed_opening;
+mod well_formed_programs;
+mod well_formed_sites;
+#[cfg(test)]
+mod well_formed_tests;
 
 pub use attrs::Attrs;
 pub use builtins::{
@@ -24,3 +33,8 @@ pub use node::{Args, BinaryOp, ErrorKind, Hint, Made, Node, NodeInfo, UnaryOp, W
 pub use program::{Class, Function, ObjectSpec, Program, PropertySpec, SiteInfo, SpecContent};
 pub use registers::{CALLEE_REGISTER, COUNT, FIXED_REGISTERS, REST, SCOPE, THIS, THROWN};
 pub use renaming::{Renames, renamed};
+pub use well_formed_functions::is_function_well_formed;
+pub use well_formed_nodes::{
+    all_registers_below, function_in, is_node_well_formed, name_in, register_set,
+};
+pub use well_formed_programs::well_formed;
