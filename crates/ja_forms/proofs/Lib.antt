@@ -4,3 +4,6 @@ pub mod MovingLemmas
 pub mod WayLemmas
 pub mod StatementLemmas
 pub mod TextOrderLemmas
+pub mod CopyLemmas
+pub mod PartLemmas
+pub mod SpecialLemmas

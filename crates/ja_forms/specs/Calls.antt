@@ -8,9 +8,10 @@ use Rattle.ja_prim.specs.declared.primitive.Primitive.TheVariants as primitive
 use Rattle.ja_graph.specs.declared.node.Args.TheVariants.{Registers}
 use Rattle.ja_graph.specs.declared.node.Node.TheVariants.{Call, New}
 use Rattle.ja_forms.specs.declared.outcome.Outcome.{Outcome}
-use Rattle.ja_forms.specs.declared.outcome.Outcome.TheVariants.{Value, Name, Member}
+use Rattle.ja_forms.specs.declared.outcome.Outcome.TheVariants.{Value, Name, Member, Special}
 use Rattle.ja_forms.specs.Lines.{Listing, Valued, Scene, site, with_result, with_const}
 use Rattle.ja_forms.specs.References.{Form, get_value, value_of}
+use Rattle.ja_forms.specs.Specials.{list_special}
 
 -- arguments are listed from the left to the right, each into a register
 pub record Arguments : Type 0 where
@@ -27,6 +28,7 @@ with_call scene place callee receiver values l =
     with_result scene place (λ dst. Call dst callee receiver (Registers values) (site 0)) l
 
 -- A reference is read behind the arguments, and its object is the receiver; what is no reference is called without one.
+-- A special form is listed behind its arguments.
 abbrev pub call_outcome : Outcome → Scene → Place → List Reg → Listing → Valued
 call_outcome (Value v) scene place values l =
     let receiver = with_const scene place primitive.Null l in with_call scene place v receiver.value values receiver.listing
@@ -34,6 +36,7 @@ call_outcome (Name base name at) scene place values l =
     let f = get_value scene (Name base name at) l in with_call scene place f.value base values f.listing
 call_outcome (Member object key at) scene place values l =
     let f = get_value scene (Member object key at) l in with_call scene place f.value object values f.listing
+call_outcome (Special form at) scene place values l = list_special form scene place values l
 
 -- the call of what stands before it
 unfoldable pub list_call : List Form → Place → Scene → Outcome → Listing → Valued

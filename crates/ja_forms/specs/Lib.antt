@@ -1,5 +1,6 @@
 pub mod Names
 pub mod Lines
+pub mod Specials
 pub mod References
 pub mod Operators
 pub mod Literals
@@ -12,3 +13,4 @@ pub mod Statements
 pub mod TextOrder
 pub mod TextParts
 pub mod Functions
+pub mod Parts

@@ -1,5 +1,5 @@
 -- The listing of a function so far, and the lines that are added to it.
-use Rattle.std.specs.Prelude.{◌≡◌, ℕ, ◌+◌, List, [], ◌∷◌, ◌++◌, Option, Some, None, Result, Ok, Err}
+use Rattle.std.specs.Prelude.{◌≡◌, ℕ, ◌+◌, Bool, List, [], ◌∷◌, ◌++◌, Option, Some, None, Result, Ok, Err}
 use Rattle.ja_base.specs.declared.ids.Memory.{Memory}
 use Rattle.ja_base.specs.declared.ids.NameId.{NameId}
 use Rattle.ja_base.specs.declared.ids.Place.{Place}
@@ -35,12 +35,14 @@ register n = record { 0 = n }
 abbrev pub site : ℕ → Site
 site n = record { 0 = n }
 
--- What a form needs of the program: its names, and the places of its words `function`, in the order of the text; and the spot to
--- which what is thrown goes, if something around the form handles it.
+-- What a form needs of the program: its names, and the places of its words `function`, in the order of the text; the spot to which
+-- what is thrown goes, if something around the form handles it; and whether names that begin with `$` are special forms, as in the
+-- texts of built-in functions.
 pub record Scene : Type 0 where
   pub names : List (List ℕ)
   pub functions : List Place
   pub handler : Option Spot
+  pub specials : Bool
 
 abbrev pub name_id : Scene → List ℕ → NameId
 name_id scene name = number scene.names name

@@ -18,7 +18,7 @@ use Rattle.ja_graph.specs.declared.node.Node.TheVariants.{Branch, Convert, Binar
 use Rattle.ja_forms.specs.Lines.{Listing, Valued, Scene, site, spot_of, behind_spots, with_node, with_branch, with_result, with_spot, with_jump, with_default, with_unary, with_number, with_text, with_truth, with_const, with_copy, with_move}
 use Rattle.ja_listing.specs.declared.item.Spot.{Spot}
 use Rattle.ja_forms.specs.declared.outcome.Outcome.{Outcome}
-use Rattle.ja_forms.specs.declared.outcome.Outcome.TheVariants.{Value, Name, Member}
+use Rattle.ja_forms.specs.declared.outcome.Outcome.TheVariants.{Value, Name, Member, Special}
 use Rattle.ja_forms.specs.References.{Form, get_value, put_value, value_of}
 
 -- ---- unary operators (11.4)
@@ -28,6 +28,7 @@ abbrev pub with_delete : Scene → Place → Outcome → Listing → Valued
 with_delete scene place (Value v) l = with_const scene place (primitive.Bool true) l
 with_delete scene place (Name base name at) l = with_result scene place (λ dst. DeleteRef dst base name) l
 with_delete scene place (Member object key at) l = with_result scene place (λ dst. DeleteProp dst object key) l
+with_delete scene place (Special form at) l = with_const scene place (primitive.Bool true) l
 
 -- a name that nothing binds is no error for `typeof` (11.4.3)
 abbrev pub get_softly : Scene → Outcome → Listing → Valued

@@ -305,7 +305,7 @@ keep_block finally place around base l =
     let saved = with_copy around.scene place scope (restarted base (behind_spots 4 l)) in
     let listed = list_all_statements finally (unlabelled around) (base + 1) (record { items = []; temporary = base + 1; spot = saved.listing.spot }) in
     record {
-      listing = record saved.listing { spot = listed.spot };
+      listing = saved.listing;
       first = l.spot;
       saved = saved.value;
       template = record { items = listed.items; temporary = base + 1; spot = saved.listing.spot; spots = listed.spot - saved.listing.spot };

@@ -9,6 +9,7 @@ use Rattle.ja_graph.specs.Renaming.{Renaming, renamed}
 use Rattle.ja_listing.specs.declared.item.Spot.{Spot}
 use Rattle.ja_listing.specs.declared.item.Item.{Item}
 use Rattle.ja_listing.specs.declared.item.Item.TheVariants as item
+use Rattle.ja_listing.specs.Listing.{node_count}
 use Rattle.ja_forms.specs.Lines.{Listing, Scene, with_jump, with_move}
 use Rattle.ja_forms.specs.Literals.{scope}
 
@@ -38,12 +39,16 @@ moved_item t by to (item.Node node other handler place) =
 moved_item t by to (item.Spot s) = item.Spot (moved_spot t to s)
 moved_item t by to (item.Jump s) = item.Jump (moved_spot t to s)
 
+-- How many spots a copy takes. A block of more nodes than a program may have is in no graph, and its copies take none.
+unfoldable pub spots_taken : Template → ℕ
+spots_taken t = if nat_lt 65536 (node_count t.items) then 0 else t.spots
+
 -- a copy whose temporaries begin at a register
 unfoldable pub with_block : Template → ℕ → Listing → Listing
 with_block t base l = record {
   items = l.items ++ map (moved_item t (base - t.temporary) l.spot) t.items;
   temporary = l.temporary;
-  spot = l.spot + t.spots;
+  spot = l.spot + spots_taken t;
 }
 
 -- ---- ways

@@ -73,6 +73,7 @@ pub(crate) fn handled_at<'a, 't>(scene: &Scene<'a, 't>, handler: Spot) -> Scene<
         names: scene.names,
         functions: scene.functions,
         handler: Some(handler),
+        specials: scene.specials,
     }
 }
 

@@ -97,10 +97,8 @@ pub(crate) fn keep(
     let mut apart = Draft::new(scene.alloc, inner, spot);
     let unlabelled = around.unlabelled();
     statements(&unlabelled, inner, block, &mut apart)?;
-    let behind = apart.spot();
-    draft.go_on_at(behind);
-    let spots = behind.saturating_sub(spot);
-    let template = Template::new(apart.into_items(), inner, spot, spots);
+    let spots = apart.spot().saturating_sub(spot);
+    let template = Template::new(scene.alloc, apart, inner, spot, spots)?;
     Ok(Kept {
         first,
         saved,

@@ -12,7 +12,6 @@ use crate::scene::Scene;
 use crate::statement_list::statements;
 use ja_base::{Memory, Place, Reg, Site};
 use ja_graph::Node;
-use ja_listing::Item;
 use ja_prim::{Primitive, Text16};
 use ja_syntax::{FunctionTree, Name, Statement, hoisted_variables, mentions_arguments};
 
@@ -31,6 +30,7 @@ fn unhandled<'a, 't>(scene: &Scene<'a, 't>) -> Scene<'a, 't>
         names: scene.names,
         functions: scene.functions,
         handler: None,
+        specials: scene.specials,
     }
 }
 
@@ -176,20 +176,20 @@ fn first_temporary(parameters: usize) -> Result<u32, Memory>
 /// The listing of the program, at the beginning of its text. It fails where memory is refused, or
 /// where the numbers of temporaries, spots or functions are used up.
 #[tactic(auto, unfolding(crate::specs::Functions::program_listing))]
-pub fn program_listing(scene: &Scene<'_, '_>, inside: &[Statement]) -> Result<Vec<Item>, Memory>
-    ensures { IfOk result (λ items. items.items ≡ spec.program_listing scene.now inside.now) }
+pub fn program_listing(scene: &Scene<'_, '_>, inside: &[Statement]) -> Result<Draft, Memory>
+    ensures { IfOk result (λ draft. draft.items ≡ spec.program_listing scene.now inside.now) }
 {
     let scene = unhandled(scene);
     let mut draft = Draft::new(scene.alloc, FIXED_REGISTERS, 0);
     body(&scene, FIRST_PLACE, inside, FIXED_REGISTERS, &mut draft)?;
-    Ok(draft.into_items())
+    Ok(draft)
 }
 
 /// The listing of a function, at the place of its word `function`. It fails as `program_listing` does,
 /// and where there are more than 1,000,000,000 parameters.
 #[tactic(auto, unfolding(crate::specs::Functions::function_listing))]
-pub fn function_listing(scene: &Scene<'_, '_>, function: &FunctionTree) -> Result<Vec<Item>, Memory>
-    ensures { IfOk result (λ items. items.items ≡ spec.function_listing scene.now function.now) }
+pub fn function_listing(scene: &Scene<'_, '_>, function: &FunctionTree) -> Result<Draft, Memory>
+    ensures { IfOk result (λ draft. draft.items ≡ spec.function_listing scene.now function.now) }
 {
     let scene = unhandled(scene);
     let base = first_temporary(function.parameters.len())?;
@@ -203,5 +203,5 @@ pub fn function_listing(scene: &Scene<'_, '_>, function: &FunctionTree) -> Resul
         base,
         &mut draft,
     )?;
-    Ok(draft.into_items())
+    Ok(draft)
 }

@@ -11,6 +11,7 @@ use crate::expression::value;
 use crate::outcome::Outcome;
 use crate::reference::get_value;
 use crate::scene::Scene;
+use crate::special_call::{call_with, list_special};
 use ja_base::{Memory, Place, Reg, Seq, Site};
 use ja_graph::{Args, Node};
 use ja_prim::Primitive;
@@ -45,19 +46,13 @@ fn add_call(
 ) -> Result<Reg, Memory>
     ensures { lines.Gives (spec.with_call scene.now place callee receiver values.items draft.old) result draft.new }
 {
-    let dst = draft.fresh()?;
-    let node = Node::Call {
-        dst,
-        callee,
-        receiver,
-        args: Args::Registers(Seq::from_vec(values)),
-        error: Site(0),
-    };
-    draft.node(scene.handler, place, node)?;
+    let args = Args::Registers(Seq::from_vec(values));
+    let dst = call_with(scene, place, callee, receiver, args, draft)?;
     Ok(dst)
 }
 
-/// Calls what an expression comes to: a reference is read, and its object is the receiver.
+/// Calls what an expression comes to: a reference is read, and its object is the receiver. A special
+/// form is listed.
 fn call_outcome(
     callee: Outcome,
     scene: &Scene<'_, '_>,
@@ -81,6 +76,10 @@ fn call_outcome(
         Outcome::Member { object, .. } => {
             let function = get_value(scene, callee, draft)?;
             let dst = add_call(scene, place, function, object, values, draft)?;
+            Ok(dst)
+        }
+        Outcome::Special { form, .. } => {
+            let dst = list_special(form, scene, place, values, draft)?;
             Ok(dst)
         }
     }

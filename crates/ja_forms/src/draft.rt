@@ -1,39 +1,60 @@
 //! The listing of a function, as it is written.
 
-ghost use Rattle.std.specs.Prelude.{◌≡◌, ◌+◌, OnOk, IfOk, None, Some};
-ghost use Rattle.std.specs.Prelude.{[]};
+ghost use Rattle.std.specs.Prelude.{◌≡◌, ◌+◌, ◌∷◌, ◌++◌, [], min, OnOk, IfOk, None, Some};
 ghost use Rattle.ja_listing.specs.declared.item.Item.TheVariants as item;
+ghost use Rattle.ja_listing.specs.Listing.{node_count};
 ghost use Rattle.ja_forms.specs.Lines as lines;
+ghost use Rattle.ja_forms.specs.Parts.{part_items, items_of, counted};
 
+use crate::part::{Part, written};
 use ja_base::{Memory, Place, Reg};
 use ja_graph::Node;
 use ja_listing::{Item, Spot};
 use std::alloc::Global;
 use std::marker::Model;
 
-/// A listing so far, with the numbers of its next temporary and its next spot.
+/// A listing so far, with how many nodes it has (4,294,967,295 stands for more, too) and the numbers
+/// of its next temporary and its next spot. Copies of blocks aren't written out.
 #[derive(Drop)]
 pub struct Draft {
-    items: Vec<Item>,
+    parts: Vec<Part>,
+    nodes: u32,
     temporary: u32,
     spot: u32,
 }
 
 impl Model for Draft {
+    ghost use Rattle.std.specs.Prelude.{◌≡◌};
     ghost use Rattle.ja_forms.specs.Lines as lines;
+    ghost use Rattle.ja_forms.specs.Parts.{items_of, counted};
 
     ghost Value = { lines.Listing };
 
-    ghost view = { λ d. record { items = d.items.items; temporary = d.temporary; spot = d.spot } };
+    ghost view = { λ d. record { items = items_of d.parts.items; temporary = d.temporary; spot = d.spot } };
+
+    ghost invariant = { λ d. d.nodes ≡ counted (items_of d.parts.items) };
+}
+
+/// How many nodes a line is: one or none.
+#[tactic(auto, unfolding(ja_listing::specs::Listing::node_count))]
+fn nodes_of(item: &Item) -> u32
+    ensures { result ≡ counted (item.now ∷ []) }
+{
+    match item {
+        Item::Node { .. } => 1,
+        Item::Spot(_) | Item::Jump(_) => 0,
+    }
 }
 
 impl Draft {
     /// An empty listing, whose temporaries and spots begin at these numbers.
+    #[tactic(auto, unfolding(ja_listing::specs::Listing::node_count))]
     pub fn new(alloc: Global, temporary: u32, spot: u32) -> Draft
         ensures { result ≡ record { items = []; temporary = temporary; spot = spot } }
     {
         Draft {
-            items: Vec::new(alloc),
+            parts: Vec::new(alloc),
+            nodes: 0,
             temporary,
             spot,
         }
@@ -46,11 +67,31 @@ impl Draft {
         self.temporary
     }
 
+    /// How many nodes there are; 4,294,967,295 stands for more, too.
+    pub fn nodes(&self) -> u32
+        ensures { result ≡ min (node_count self.now.items) 4294967295 }
+    {
+        self.nodes
+    }
+
+    /// Adds a part, which has so many nodes.
+    #[tactic(auto, using(crate::proofs::PartLemmas::count_push))]
+    pub(crate) fn part(&mut self, part: Part, nodes: u32) -> Result<(), Memory>
+        requires { nodes ≡ counted (part_items part) }
+        ensures { lines.Adds (record self.old { items = self.old.items ++ part_items part }) result self.new }
+    {
+        self.parts.push(part)?;
+        self.nodes = self.nodes.saturating_add(nodes);
+        Ok(())
+    }
+
     /// Adds a line.
+    #[tactic(auto, using(crate::proofs::PartLemmas::items_of_line))]
     pub fn item(&mut self, item: Item) -> Result<(), Memory>
         ensures { lines.Adds (lines.with_item self.old item) result self.new }
     {
-        self.items.push(item)?;
+        let nodes = nodes_of(&item);
+        self.part(Part::Item(item), nodes)?;
         Ok(())
     }
 
@@ -100,13 +141,6 @@ impl Draft {
             }
             None => Err(Memory),
         }
-    }
-
-    /// Goes on with spots from a number on.
-    pub fn go_on_at(&mut self, spot: u32)
-        ensures { self.new ≡ record self.old { spot = spot } }
-    {
-        self.spot = spot;
     }
 
     /// Begins the temporaries again at a register.
@@ -160,11 +194,22 @@ impl Draft {
         })
     }
 
-    /// The lines.
-    pub fn into_items(self) -> Vec<Item>
-        ensures { result.items ≡ self.items }
+    /// The parts, and how many nodes they have.
+    pub(crate) fn into_parts(self) -> (Vec<Part>, u32)
+        ensures items { items_of result.0.items ≡ self.items }
+        ensures nodes { result.1 ≡ counted self.items }
     {
-        let Draft { items, .. } = self;
-        items
+        let Draft { parts, nodes, .. } = self;
+        (parts, nodes)
+    }
+
+    /// The lines, with the copies of blocks written out. Memory counts as refused where there are more
+    /// than 16,777,216.
+    pub fn into_items(self, alloc: Global) -> Result<Vec<Item>, Memory>
+        ensures { IfOk result (λ items. items.items ≡ self.items) }
+    {
+        let Draft { parts, .. } = self;
+        let items = written(alloc, parts)?;
+        Ok(items)
     }
 }

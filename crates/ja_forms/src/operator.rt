@@ -24,7 +24,7 @@ fn delete(
     ensures { lines.Gives (spec.with_delete scene.now place outcome draft.old) result draft.new }
 {
     match outcome {
-        Outcome::Value(_) => {
+        Outcome::Value(_) | Outcome::Special { .. } => {
             let dst = constant(scene, place, Primitive::Bool(true), draft)?;
             Ok(dst)
         }
@@ -51,7 +51,7 @@ fn get_softly(scene: &Scene<'_, '_>, outcome: Outcome, draft: &mut Draft) -> Res
             draft.node(scene.handler, place, Node::ReadSoft { dst, base, name })?;
             Ok(dst)
         }
-        Outcome::Value(_) | Outcome::Member { .. } => {
+        Outcome::Value(_) | Outcome::Member { .. } | Outcome::Special { .. } => {
             let value = get_value(scene, outcome, draft)?;
             Ok(value)
         }

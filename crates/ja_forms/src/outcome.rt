@@ -1,7 +1,8 @@
+use crate::special::Special;
 use ja_base::{NameId, Place, Reg};
 
-/// What an expression comes to (ES3 8.7), in registers: its value, or a reference with the place of
-/// its name or member.
+/// What an expression comes to (ES3 8.7): in registers its value, or a reference with the place of
+/// its name or member; or a special form, with the place of its name.
 #[derive(Clone, Copy, Debug, PartialEq, Eq)]
 pub enum Outcome {
     Value(Reg),
@@ -14,6 +15,10 @@ pub enum Outcome {
     Member {
         object: Reg,
         key: Reg,
+        place: Place,
+    },
+    Special {
+        form: Special,
         place: Place,
     },
 }

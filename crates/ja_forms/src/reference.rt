@@ -1,4 +1,4 @@
-//! What expressions come to: values and references (ES3 8.7).
+//! What expressions come to: values, references (ES3 8.7) and special forms.
 
 ghost use Rattle.std.specs.Prelude.{◌≡◌};
 ghost use Rattle.ja_forms.specs.Lines as lines;
@@ -8,6 +8,7 @@ use crate::conversion::{constant, copied_text, text};
 use crate::draft::Draft;
 use crate::outcome::Outcome;
 use crate::scene::Scene;
+use crate::special::{Special, special_of};
 use ja_base::{Memory, Place, Reg, Site};
 use ja_graph::{Node, Wrappers};
 use ja_prim::{Primitive, Text16};
@@ -38,6 +39,10 @@ pub(crate) fn get_value(
             draft.node(scene.handler, place, Node::ReadProp { dst, object, key })?;
             Ok(dst)
         }
+        Outcome::Special { place, .. } => {
+            let dst = constant(scene, place, Primitive::Undefined, draft)?;
+            Ok(dst)
+        }
     }
 }
 
@@ -52,7 +57,7 @@ pub(crate) fn put_value(
     ensures { lines.Adds (spec.put_value scene.now place outcome src draft.old) result draft.new }
 {
     match outcome {
-        Outcome::Value(_) => Ok(()),
+        Outcome::Value(_) | Outcome::Special { .. } => Ok(()),
         Outcome::Name { base, name, .. } => {
             draft.node(scene.handler, place, Node::WriteRef { base, name, src })?;
             Ok(())
@@ -95,6 +100,32 @@ pub(crate) fn object(
     Ok(dst)
 }
 
+/// The name of a variable.
+fn variable(
+    scene: &Scene<'_, '_>,
+    text: &Text16,
+    place: Place,
+    draft: &mut Draft,
+) -> Result<Outcome, Memory>
+    ensures { spec.Comes (spec.with_variable text.now place scene.now draft.old) result draft.new }
+{
+    let name = scene.name(text.units());
+    let base = draft.fresh()?;
+    draft.node(scene.handler, place, Node::FindName { dst: base, name })?;
+    Ok(Outcome::Name { base, name, place })
+}
+
+/// The special form of a name, where names may be special forms.
+fn special_in(scene: &Scene<'_, '_>, name: &[u16]) -> Option<Special>
+    ensures { result ≡ spec.special_in scene.now name.now }
+{
+    if scene.specials {
+        special_of(name)
+    } else {
+        None
+    }
+}
+
 /// A name.
 #[tactic(auto, unfolding(crate::specs::References::with_name))]
 pub(crate) fn name(
@@ -105,10 +136,13 @@ pub(crate) fn name(
 ) -> Result<Outcome, Memory>
     ensures { spec.Comes (spec.with_name text.now place scene.now draft.old) result draft.new }
 {
-    let name = scene.name(text.units());
-    let base = draft.fresh()?;
-    draft.node(scene.handler, place, Node::FindName { dst: base, name })?;
-    Ok(Outcome::Name { base, name, place })
+    match special_in(scene, text.units()) {
+        Some(form) => Ok(Outcome::Special { form, place }),
+        None => {
+            let outcome = variable(scene, text, place, draft)?;
+            Ok(outcome)
+        }
+    }
 }
 
 /// `.NAME` behind a value.

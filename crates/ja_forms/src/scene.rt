@@ -10,13 +10,15 @@ use std::alloc::Global;
 use std::marker::Model;
 
 /// The names of a program with their numbers; the places of its words `function`, in the order of
-/// the text; and the spot to which what is thrown goes, if something around the form handles it.
+/// the text; the spot to which what is thrown goes, if something around the form handles it; and
+/// whether names that begin with `$` are special forms, as in the texts of built-in functions.
 #[derive(Drop)]
 pub struct Scene<'a, 't> {
     pub alloc: Global,
     pub names: &'a Names<'t>,
     pub functions: &'a [Place],
     pub handler: Option<Spot>,
+    pub specials: bool,
 }
 
 impl<'a, 't> Model for Scene<'a, 't> {
@@ -24,7 +26,7 @@ impl<'a, 't> Model for Scene<'a, 't> {
 
     ghost Value = { lines.Scene };
 
-    ghost view = { λ s. record { names = s.names.now; functions = s.functions.now; handler = s.handler } };
+    ghost view = { λ s. record { names = s.names.now; functions = s.functions.now; handler = s.handler; specials = s.specials } };
 }
 
 impl<'a, 't> Scene<'a, 't> {

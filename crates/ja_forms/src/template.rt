@@ -1,124 +1,98 @@
 //! What was listed of a block of `finally`, and its copies.
 
 ghost use Rattle.std.specs.Prelude.{◌≡◌, ◌+◌, ◌-◌, IfOk, OnOk};
-ghost use Rattle.std.specs.Option.{option_map};
 ghost use Rattle.ja_forms.specs.Lines as lines;
 ghost use Rattle.ja_forms.specs.Ways as ways;
 
 use crate::draft::Draft;
-use crate::moving::moved;
+use crate::moves::Moves;
+use crate::part::Part;
 use ja_base::Memory;
-use ja_listing::{Item, Spot};
+use sqlite_items::Items;
 use std::alloc::Global;
 use std::marker::Model;
+use std::rc::Rc;
 
-/// What was listed of a block, and where its temporaries and its spots begin.
+/// What was listed of a block, how many nodes that has, and where its temporaries and its spots
+/// begin. Its copies share it.
 #[derive(Drop)]
 pub struct Template {
-    items: Vec<Item>,
+    parts: Rc<Items<Part>>,
+    nodes: u32,
     temporary: u32,
     spot: u32,
     spots: u32,
 }
 
 impl Model for Template {
+    ghost use Rattle.std.specs.Prelude.{◌≡◌};
+    ghost use Rattle.ja_forms.specs.Parts.{items_of, counted};
     ghost use Rattle.ja_forms.specs.Ways as ways;
 
     ghost Value = { ways.Template };
 
-    ghost view = { λ t. record { items = t.items.items; temporary = t.temporary; spot = t.spot; spots = t.spots } };
+    ghost view = { λ t. record { items = items_of t.parts.value; temporary = t.temporary; spot = t.spot; spots = t.spots } };
+
+    ghost invariant = { λ t. t.nodes ≡ counted (items_of t.parts.value) };
 }
 
 impl Template {
     /// What was listed, from a temporary and a spot on, and how many spots it has.
-    pub fn new(items: Vec<Item>, temporary: u32, spot: u32, spots: u32) -> Template
-        ensures { result ≡ record { items = items.items; temporary = temporary; spot = spot; spots = spots } }
+    pub fn new(
+        alloc: Global,
+        draft: Draft,
+        temporary: u32,
+        spot: u32,
+        spots: u32,
+    ) -> Result<Template, Memory>
+        ensures { IfOk result (λ t. t ≡ record { items = draft.items; temporary = temporary; spot = spot; spots = spots }) }
     {
-        Template {
-            items,
+        let (parts, nodes) = draft.into_parts();
+        let parts = Rc::new(alloc, Items::from_vec(parts))?;
+        Ok(Template {
+            parts,
+            nodes,
             temporary,
             spot,
             spots,
-        }
+        })
     }
+}
 
-    /// Where a spot is in a copy whose spots begin at this one. Past the last number that a spot
-    /// may have memory counts as refused.
-    fn moved_spot(&self, to: u32, spot: Spot) -> Result<Spot, Memory>
-        ensures { IfOk result (λ s. s ≡ ways.moved_spot self.now to spot) }
-    {
-        if spot.0 < self.spot {
-            return Ok(spot);
-        }
-        let after = spot.0 - self.spot;
-        if after >= self.spots {
-            return Ok(spot);
-        }
-        match to.checked_add(after) {
-            Some(number) => Ok(Spot(number)),
-            None => Err(Memory),
-        }
-    }
+/// The most nodes that a program may have.
+const MOST_NODES: u32 = 65_536;
 
-    fn moved_spot_if_any(&self, to: u32, spot: Option<Spot>) -> Result<Option<Spot>, Memory>
-        ensures { IfOk result (λ s. s ≡ option_map (ways.moved_spot self.now to) spot) }
+impl Template {
+    /// How many spots a copy takes: none, if the block has more nodes than a program may have.
+    #[tactic(auto, unfolding(crate::specs::Ways::spots_taken), using(crate::proofs::PartLemmas::counted_past))]
+    fn spots_taken(&self) -> u32
+        ensures { result ≡ ways.spots_taken self.now }
     {
-        match spot {
-            None => Ok(None),
-            Some(spot) => {
-                let spot = self.moved_spot(to, spot)?;
-                Ok(Some(spot))
-            }
-        }
-    }
-
-    /// A line of a copy, whose temporaries are moved up.
-    fn moved_item(&self, alloc: Global, by: u32, to: u32, item: &Item) -> Result<Item, Memory>
-        ensures { IfOk result (λ i. i ≡ ways.moved_item self.now by to item.now) }
-    {
-        match item {
-            Item::Node {
-                node,
-                other,
-                handler,
-                place,
-            } => {
-                let node = moved(alloc, node, self.temporary, by)?;
-                let other = self.moved_spot_if_any(to, *other)?;
-                let handler = self.moved_spot_if_any(to, *handler)?;
-                let place = *place;
-                Ok(Item::Node {
-                    node,
-                    other,
-                    handler,
-                    place,
-                })
-            }
-            Item::Spot(spot) => {
-                let spot = self.moved_spot(to, *spot)?;
-                Ok(Item::Spot(spot))
-            }
-            Item::Jump(spot) => {
-                let spot = self.moved_spot(to, *spot)?;
-                Ok(Item::Jump(spot))
-            }
+        if self.nodes > MOST_NODES {
+            0
+        } else {
+            self.spots
         }
     }
 }
 
 impl Draft {
-    /// Adds a copy of a block, whose temporaries begin at a register. Where a number would pass the
-    /// last one memory counts as refused.
-    #[tactic(auto, unfolding(crate::specs::Ways::with_block))]
-    pub fn block(&mut self, alloc: Global, template: &Template, base: u32) -> Result<(), Memory>
+    /// Adds a copy of a block, whose temporaries begin at a register.
+    #[tactic(auto, unfolding(crate::specs::Ways::with_block), using(crate::proofs::PartLemmas::items_of_copy, crate::proofs::PartLemmas::count_copy))]
+    pub fn block(&mut self, template: &Template, base: u32) -> Result<(), Memory>
         ensures { lines.Adds (ways.with_block template.now base self.old) result self.new }
     {
         let by = base.saturating_sub(template.temporary);
-        let to = self.take_spots(template.spots)?;
-        for item in &template.items {
-            let item = template.moved_item(alloc, by, to, item)?;
-            self.item(item)?;
-        }
+        let to = self.take_spots(template.spots_taken())?;
+        let moves = Moves {
+            temporary: template.temporary,
+            spot: template.spot,
+            spots: template.spots,
+            by,
+            to,
+        };
+        let parts = template.parts.clone()?;
+        self.part(Part::Copy { parts, moves }, template.nodes)?;
         Ok(())
     }
 }

@@ -1,32 +1,44 @@
-use crate::{Draft, Names, Outcome, Scene, form};
+use crate::{Draft, Names, Outcome, Scene, form, program_listing};
 use ja_base::{Memory, Place, Reg};
 use ja_graph::Node;
-use ja_listing::Item;
-use ja_prim::Text16;
-use ja_syntax::{Expression, Name, Suffix};
+use ja_listing::{Item, node_count};
+use ja_prim::{Primitive, Text16};
+use ja_syntax::{Expression, Name, Statement, Suffix};
 use sqlite_items::{Boxed, Items};
 use std::alloc::Global;
 
 const PLACE: Place = Place { line: 1, column: 1 };
 
-/// A name of one unit.
-fn name(alloc: Global, unit: u16) -> Result<Name, Memory> {
-    let units = Vec::from_slice(alloc, &[unit])?;
+/// `$put`, `$object` and `$get`.
+const PUT: &[u16] = &[36, 112, 117, 116];
+
+const OBJECT: &[u16] = &[36, 111, 98, 106, 101, 99, 116];
+
+const GET: &[u16] = &[36, 103, 101, 116];
+
+/// A text.
+fn text(alloc: Global, units: &[u16]) -> Result<Text16, Memory> {
+    let units = Vec::from_slice(alloc, units)?;
+    Ok(Text16::from_units(units))
+}
+
+/// A name.
+fn name(alloc: Global, units: &[u16]) -> Result<Name, Memory> {
     Ok(Name {
-        text: Text16::from_units(units),
+        text: text(alloc, units)?,
         place: PLACE,
     })
 }
 
 /// `.NAME`
 fn member(alloc: Global, unit: u16) -> Result<Suffix<Expression>, Memory> {
-    let name = name(alloc, unit)?;
+    let name = name(alloc, &[unit])?;
     Ok(Suffix::Member { name, place: PLACE })
 }
 
 /// `(NAME)`
 fn call(alloc: Global, unit: u16) -> Result<Suffix<Expression>, Memory> {
-    let name = name(alloc, unit)?;
+    let name = name(alloc, &[unit])?;
     let mut arguments = Items::new(alloc);
     arguments.push(Expression::Name(name))?;
     Ok(Suffix::Call {
@@ -48,17 +60,65 @@ fn suffixes(alloc: Global) -> Result<Items<Suffix<Expression>>, Memory> {
 /// `a.b(c)`
 fn call_of_a_member(alloc: Global) -> Result<Expression, Memory> {
     let suffixes = suffixes(alloc)?;
-    let name = name(alloc, 97)?;
+    let name = name(alloc, &[97])?;
     let head = Boxed::new(alloc, Expression::Name(name))?;
     Ok(Expression::Chain { head, suffixes })
 }
 
-/// The names `a`, `b` and `c`.
+/// A call of a name.
+fn call_of(
+    alloc: Global,
+    callee: &[u16],
+    arguments: Items<Expression>,
+) -> Result<Expression, Memory> {
+    let mut suffixes = Items::new(alloc);
+    suffixes.push(Suffix::Call {
+        arguments,
+        place: PLACE,
+    })?;
+    let callee = name(alloc, callee)?;
+    let head = Boxed::new(alloc, Expression::Name(callee))?;
+    Ok(Expression::Chain { head, suffixes })
+}
+
+/// `$object(a)`
+fn object_of_a(alloc: Global) -> Result<Expression, Memory> {
+    let mut arguments = Items::new(alloc);
+    arguments.push(Expression::Name(name(alloc, &[97])?))?;
+    call_of(alloc, OBJECT, arguments)
+}
+
+/// `$get(c, d)`
+fn get_of_c_and_d(alloc: Global) -> Result<Expression, Memory> {
+    let mut arguments = Items::new(alloc);
+    arguments.push(Expression::Name(name(alloc, &[99])?))?;
+    arguments.push(Expression::Name(name(alloc, &[100])?))?;
+    call_of(alloc, GET, arguments)
+}
+
+/// `$put($object(a), "b", $get(c, d))`
+fn calls_of_special_forms(alloc: Global) -> Result<Expression, Memory> {
+    let key = Expression::Literal {
+        value: Primitive::Text(text(alloc, &[98])?),
+        place: PLACE,
+    };
+    let mut arguments = Items::new(alloc);
+    arguments.push(object_of_a(alloc)?)?;
+    arguments.push(key)?;
+    arguments.push(get_of_c_and_d(alloc)?)?;
+    call_of(alloc, PUT, arguments)
+}
+
+/// The names `a`, `b`, `c`, `d`, `$put`, `$object` and `$get`.
 fn names(alloc: Global) -> Result<Names<'static>, Memory> {
     let mut names = Names::new(alloc);
     names.add(&[97])?;
     names.add(&[98])?;
     names.add(&[99])?;
+    names.add(&[100])?;
+    names.add(PUT)?;
+    names.add(OBJECT)?;
+    names.add(GET)?;
     Ok(names)
 }
 
@@ -66,6 +126,7 @@ fn names(alloc: Global) -> Result<Names<'static>, Memory> {
 fn listed(
     alloc: Global,
     names: &Names<'_>,
+    specials: bool,
     expression: &Expression,
 ) -> Result<(Vec<Item>, Outcome), Memory> {
     let scene = Scene {
@@ -73,13 +134,15 @@ fn listed(
         names,
         functions: &[],
         handler: None,
+        specials,
     };
     let mut draft = Draft::new(alloc, 6, 0);
     let outcome = form(&scene, expression, &mut draft)?;
-    Ok((draft.into_items(), outcome))
+    Ok((draft.into_items(alloc)?, outcome))
 }
 
-/// What a line is in a word, the register that it sets, and two of those that it reads.
+/// What a line is in a word, the register that it sets, and two of those that it reads; or three
+/// that it reads.
 fn line_of(item: &Item) -> (&'static str, u32, u32, u32) {
     let Item::Node { node, .. } = item else {
         return ("no node", 0, 0, 0);
@@ -90,6 +153,12 @@ fn line_of(item: &Item) -> (&'static str, u32, u32, u32) {
         Node::Const { dst, .. } => ("Const", dst.0, 0, 0),
         Node::ToObject { dst, src, .. } => ("ToObject", dst.0, src.0, 0),
         Node::ReadProp { dst, object, key } => ("ReadProp", dst.0, object.0, key.0),
+        Node::WriteProp {
+            object,
+            key,
+            src,
+            ..
+        } => ("WriteProp", object.0, key.0, src.0),
         Node::Call {
             dst,
             callee,
@@ -116,10 +185,114 @@ const LINES: [(&str, u32, u32, u32); 8] = [
 fn a_call_of_a_member_is_listed(rt: HostRuntime) -> Result<(), Memory> {
     let names = names(rt.alloc())?;
     let expression = call_of_a_member(rt.alloc())?;
-    let (items, outcome) = listed(rt.alloc(), &names, &expression)?;
+    let (items, outcome) = listed(rt.alloc(), &names, false, &expression)?;
     assert_eq!(rt; outcome, Outcome::Value(Reg(13)));
     assert_eq!(rt; items.len(), 8);
     for (item, line) in items.iter().zip(&LINES) {
+        assert!(rt; line_of(item) == *line);
+    }
+    Ok(())
+}
+
+/// `try {} finally { .. }`, so many times one in another.
+fn nested(alloc: Global, levels: usize) -> Result<Statement, Memory> {
+    let mut statement = Statement::Empty { place: PLACE };
+    for _ in 0..levels {
+        let mut finally = Items::new(alloc);
+        finally.push(statement)?;
+        statement = Statement::Try {
+            block: Items::new(alloc),
+            catch: None,
+            finally: Some(finally),
+            place: PLACE,
+        };
+    }
+    Ok(statement)
+}
+
+/// The listing of a program of one statement without names.
+fn program(alloc: Global, statement: Statement) -> Result<Draft, Memory> {
+    let names = Names::new(alloc);
+    let scene = Scene {
+        alloc,
+        names: &names,
+        functions: &[],
+        handler: None,
+        specials: false,
+    };
+    let statements = vec![in alloc; statement]?;
+    program_listing(&scene, statements.as_slice())
+}
+
+// Each level has 4 nodes, and two copies of what is inside it.
+#[test]
+fn nested_blocks_of_finally_are_listed_at_once(rt: HostRuntime) -> Result<(), Memory> {
+    let alloc = rt.alloc();
+    let few = program(alloc, nested(alloc, 3)?)?;
+    assert_eq!(rt; few.nodes(), 31);
+    assert_eq!(rt; node_count(few.into_items(alloc)?.as_slice()), 31);
+    let many = program(alloc, nested(alloc, 19)?)?;
+    assert_eq!(rt; many.nodes(), 2_097_151);
+    let most = program(alloc, nested(alloc, 99)?)?;
+    assert_eq!(rt; most.nodes(), 4_294_967_295);
+    Ok(())
+}
+
+/// The lines of `$put($object(a), "b", $get(c, d))` with special forms.
+const SPECIAL_LINES: [(&str, u32, u32, u32); 10] = [
+    ("FindName", 6, 0, 0),
+    ("ReadRef", 7, 6, 0),
+    ("ToObject", 8, 7, 0),
+    ("Const", 9, 0, 0),
+    ("FindName", 10, 2, 0),
+    ("ReadRef", 11, 10, 0),
+    ("FindName", 12, 3, 0),
+    ("ReadRef", 13, 12, 0),
+    ("ReadProp", 14, 11, 13),
+    ("WriteProp", 8, 9, 14),
+];
+
+#[test]
+fn special_forms_are_listed(rt: HostRuntime) -> Result<(), Memory> {
+    let names = names(rt.alloc())?;
+    let expression = calls_of_special_forms(rt.alloc())?;
+    let (items, outcome) = listed(rt.alloc(), &names, true, &expression)?;
+    assert_eq!(rt; outcome, Outcome::Value(Reg(14)));
+    assert_eq!(rt; items.len(), 10);
+    for (item, line) in items.iter().zip(&SPECIAL_LINES) {
+        assert!(rt; line_of(item) == *line);
+    }
+    Ok(())
+}
+
+/// Its lines without special forms.
+const ORDINARY_LINES: [(&str, u32, u32, u32); 16] = [
+    ("FindName", 6, 4, 0),
+    ("FindName", 7, 5, 0),
+    ("FindName", 8, 0, 0),
+    ("ReadRef", 9, 8, 0),
+    ("ReadRef", 10, 7, 0),
+    ("Call", 11, 10, 7),
+    ("Const", 12, 0, 0),
+    ("FindName", 13, 6, 0),
+    ("FindName", 14, 2, 0),
+    ("ReadRef", 15, 14, 0),
+    ("FindName", 16, 3, 0),
+    ("ReadRef", 17, 16, 0),
+    ("ReadRef", 18, 13, 0),
+    ("Call", 19, 18, 13),
+    ("ReadRef", 20, 6, 0),
+    ("Call", 21, 20, 6),
+];
+
+#[test]
+fn special_forms_are_ordinary_calls_elsewhere(rt: HostRuntime) -> Result<(), Memory> {
+    let names = names(rt.alloc())?;
+    let expression = calls_of_special_forms(rt.alloc())?;
+    let (items, outcome) = listed(rt.alloc(), &names, false, &expression)?;
+    assert_eq!(rt; outcome, Outcome::Value(Reg(21)));
+    assert_eq!(rt; items.len(), 16);
+    for (item, line) in items.iter().zip(&ORDINARY_LINES) {
         assert!(rt; line_of(item) == *line);
     }
     Ok(())

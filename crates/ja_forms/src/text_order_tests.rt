@@ -61,11 +61,12 @@ fn lines(alloc: Global, statements: &[Statement]) -> Result<(usize, usize), Fail
         names: &names,
         functions: &[PLACE],
         handler: None,
+        specials: false,
     };
-    let program = program_listing(&scene, statements)?;
+    let program = program_listing(&scene, statements)?.into_items(alloc)?;
     match functions.as_slice() {
         [function] => {
-            let function = function_listing(&scene, function)?;
+            let function = function_listing(&scene, function)?.into_items(alloc)?;
             Ok((program.len(), function.len()))
         }
         _ => Ok((program.len(), 0)),

@@ -73,7 +73,7 @@ pub(crate) fn rethrow(
     draft.restart(inner);
     let src = copy(scene, place, THROWN, draft)?;
     let copied = later(base, 2)?;
-    draft.block(scene.alloc, template, copied)?;
+    draft.block(template, copied)?;
     draft.node(scene.handler, place, Node::Throw { src })?;
     Ok(())
 }
@@ -99,7 +99,7 @@ pub(crate) fn ways_out(
     draft.jump(exceptional)?;
     draft.mark(normal)?;
     let inner = later(base, 1)?;
-    draft.block(scene.alloc, &kept.template, inner)?;
+    draft.block(&kept.template, inner)?;
     draft.jump(end)?;
     draft.mark(exceptional)?;
     rethrow(&kept.template, scene, place, base, draft)?;

@@ -215,7 +215,7 @@ fn leave_finally(
 {
     set_scope(scene, place, kept, saved, draft)?;
     let base = copy_base(value, saved)?;
-    draft.block(scene.alloc, block, base)?;
+    draft.block(block, base)?;
     Ok(None)
 }
 
