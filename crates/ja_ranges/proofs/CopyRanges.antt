@@ -1,0 +1,149 @@
+-- A copy of a block is in range, and so is what a jump lists on its way.
+use Rattle.std.proofs.Common.{◌≡◌, ◌+◌, ◌-◌, ℕ, Bool, true, false, nat_le, if◌then◌else◌, List, [], ◌∷◌, map, Option, Some, None, inr, refl, arith}
+use Rattle.std.specs.List.{AllByRecursion}
+use Rattle.std.specs.Option.{option_map, option_to_list}
+use Rattle.std.proofs.lemmas.Bool.{leb-true}
+use Rattle.ja_base.specs.declared.ids.Place.{Place}
+use Rattle.ja_base.specs.declared.ids.Reg.{Reg}
+use Rattle.ja_graph.specs.declared.node.Args.TheVariants as args
+use Rattle.ja_graph.specs.declared.node.Node.{Node}
+use Rattle.ja_graph.specs.declared.node.Node.TheVariants as node
+use Rattle.ja_graph.specs.Node.{register_set, name_in, function_in, makings}
+use Rattle.ja_graph.specs.Renaming.{renamed}
+use Rattle.ja_graph.proofs.RenamingLemmas.{sets_renamed}
+use Rattle.ja_listing.specs.declared.item.Spot.{Spot}
+use Rattle.ja_listing.specs.declared.item.Item.{Item}
+use Rattle.ja_listing.specs.declared.item.Item.TheVariants as item
+use Rattle.ja_forms.specs.Lines.{Listing, Scene}
+use Rattle.ja_forms.specs.Ways.{Template, moved_register, moving, moved_item, with_block, Way, of_loop, of_switch, of_label, of_catch, of_finally, Leaving, with_scope, copy_base, leave, restored, arrive, arrive_or, jump_to, leave_all}
+use Rattle.ja_ranges.specs.InRange.{Limits, IsTemporary, IsDestination, IsOfTexts, IsInRange, OfNode, AllInRange}
+use Rattle.ja_ranges.proofs.LineRanges.{all_append, sound_with_jump, sound_move_to_scope}
+use Rattle.ja_ranges.proofs.Sound.{IsSound, IsSoundWay}
+
+-- ---- a moved node
+
+-- what a moved node keeps: its name, its function, that it is one of texts, and its sites
+abbrev Keeps : ℕ → ℕ → Node → Type 0
+Keeps first by n =
+    (name_in (renamed (moving first by) n) ≡ name_in n)
+    × (function_in (renamed (moving first by) n) ≡ function_in n)
+    × (IsOfTexts n → IsOfTexts (renamed (moving first by) n))
+    × (makings (renamed (moving first by) n) ≡ makings n)
+
+keeps : (first by : ℕ) (n : Node) → Keeps first by n
+unfolding renamed name_in function_in makings
+keeps first by (node.Const dst prim) = (refl, refl, λ h. h, refl)
+keeps first by (node.Move dst src) = (refl, refl, λ h. h, refl)
+keeps first by (node.FindName dst name) = (refl, refl, λ h. h, refl)
+keeps first by (node.ReadRef dst base name error) = (refl, refl, λ h. h, refl)
+keeps first by (node.ReadSoft dst base name) = (refl, refl, λ h. h, refl)
+keeps first by (node.WriteRef base name src) = (refl, refl, λ h. h, refl)
+keeps first by (node.DeleteRef dst base name) = (refl, refl, λ h. h, refl)
+keeps first by (node.ToObject dst src sites error) = (refl, refl, λ h. h, refl)
+keeps first by (node.NeedObject src error) = (refl, refl, λ h. h, refl)
+keeps first by (node.ReadProp dst object key) = (refl, refl, λ h. h, refl)
+keeps first by (node.WriteProp object key src error) = (refl, refl, λ h. h, refl)
+keeps first by (node.DeleteProp dst object key) = (refl, refl, λ h. h, refl)
+keeps first by (node.HasProp dst object key) = (refl, refl, λ h. h, refl)
+keeps first by (node.InstanceOf dst left right not_function not_object) = (refl, refl, λ h. h, refl)
+keeps first by (node.NewObject dst site kind) = (refl, refl, λ h. h, refl)
+keeps first by (node.MakeFunction dst function site proto_site) = (refl, refl, λ h. h, refl)
+keeps first by (node.Enter site None) = (refl, refl, λ h. h, refl)
+keeps first by (node.Enter site (Some arguments)) = (refl, refl, λ h. h, refl)
+keeps first by (node.Declare name) = (refl, refl, λ h. h, refl)
+keeps first by (node.Bind name src read_only) = (refl, refl, λ h. h, refl)
+keeps first by (node.PushScope site) = (refl, refl, λ h. h, refl)
+keeps first by (node.Convert dst src hint other) = (refl, refl, λ h. h, refl)
+keeps first by (node.Unary dst op src) = (refl, refl, λ h. h, refl)
+keeps first by (node.Binary dst op a b) = (refl, refl, λ h. h, refl)
+keeps first by (node.Branch src) = (refl, refl, λ h. h, refl)
+keeps first by (node.Call dst callee receiver (args.Registers list) error) = (refl, refl, λ h. h, refl)
+keeps first by (node.Call dst callee receiver (args.Elements array) error) = (refl, refl, λ h. h, refl)
+keeps first by (node.Call dst callee receiver args.Tail error) = (refl, refl, λ h. h, refl)
+keeps first by (node.New dst callee args site error) = (refl, refl, λ h. h, refl)
+keeps first by (node.Names list object) = (refl, refl, λ h. h, refl)
+keeps first by (node.Pick list dst object) = (refl, refl, λ h. h, refl)
+keeps first by (node.Throw src) = (refl, refl, λ h. h, refl)
+keeps first by (node.Return src) = (refl, refl, λ h. h, refl)
+keeps first by node.Escape = (refl, refl, λ h. h, refl)
+keeps first by (node.Intrinsic dst which args) = (refl, refl, λ h. h, refl)
+keeps first by (node.Device dst which) = (refl, refl, λ h. h, refl)
+keeps first by (node.Stop kind) = (refl, refl, λ h. h, refl)
+
+module _ (limits : Limits) (first by : ℕ) (temporary : IsTemporary limits first) where
+  moved_if : (r : Reg) (b : Bool) → nat_le first r.0 ≡ b → IsDestination limits r → IsDestination limits (if b then record { 0 = r.0 + by } else r)
+  moved_if r true e h = let low = leb-true first r.0 e in inr (inr (omega arith))
+  moved_if r false e h = h
+
+  moved_sets : (o : Option Reg) → AllByRecursion (IsDestination limits) (option_to_list o) → AllByRecursion (IsDestination limits) (option_to_list (option_map (moved_register first by) o))
+  moved_sets None h = h
+  moved_sets (Some r) h = (moved_if r (nat_le first r.0) refl h.0, h.1)
+
+  -- temporaries move up, and other registers stay
+  pub moved_in_range : (n : Node) → IsInRange limits n → IsInRange limits (renamed (moving first by) n)
+  moved_in_range n h =
+      let k = keeps first by n in
+      record {
+        sets = rw (sets_renamed (moving first by) n) (moved_sets (register_set n) h.sets);
+        name = rw k.0 h.name;
+        function = rw k.1 h.function;
+        of_texts = λ texts. k.2 (h.of_texts texts);
+        sites = rw k.3 h.sites;
+      }
+
+-- ---- a copy
+
+module _ (limits : Limits) (t : Template) (temporary : IsTemporary limits t.temporary) where
+  moved_item_in_range : (by to : ℕ) (i : Item) → OfNode (IsInRange limits) i → OfNode (IsInRange limits) (moved_item t by to i)
+  moved_item_in_range by to (item.Node n other handler place) h = moved_in_range limits t.temporary by temporary n h
+  moved_item_in_range by to (item.Spot s) h = tt
+  moved_item_in_range by to (item.Jump s) h = tt
+
+  moved_items_in_range : (by to : ℕ) (items : List Item) → AllInRange limits items → AllInRange limits (map (moved_item t by to) items)
+  moved_items_in_range by to [] h = h
+  moved_items_in_range by to (i ∷ items) h = (moved_item_in_range by to i h.0, moved_items_in_range by to items h.1)
+
+  pub sound_with_block : (base : ℕ) (l : Listing) → AllInRange limits t.items → IsSound limits l → IsSound limits (with_block t base l)
+  unfolding with_block
+  sound_with_block base l h s = record {
+    nodes = all_append (OfNode (IsInRange limits)) l.items (map (moved_item t (base - t.temporary) l.spot) t.items) s.nodes (moved_items_in_range (base - t.temporary) l.spot t.items h);
+    next = s.next;
+  }
+
+-- ---- the ways out
+
+module _ (limits : Limits) (scene : Scene) (place : Place) where
+  sound_with_scope : (kept : Option Reg) (saved : Reg) (l : Listing) → IsSound limits l → IsSound limits (with_scope scene place kept saved l)
+  sound_with_scope None saved l s = s
+  sound_with_scope (Some kept) saved l s = sound_move_to_scope scene place saved s
+
+  sound_leave : (value : Option Reg) (w : Way) (v : Leaving) → IsSoundWay limits w → IsSound limits v.listing → IsSound limits (leave scene place value w v).listing
+  sound_leave value (of_loop labels end turn) v h s = s
+  sound_leave value (of_switch end) v h s = s
+  sound_leave value (of_label label end) v h s = s
+  sound_leave value (of_catch saved) v h s = s
+  sound_leave value (of_finally saved t) v h s =
+      sound_with_block limits t h.1 (copy_base value saved) (with_scope scene place v.kept saved v.listing) h.0 (sound_with_scope v.kept saved v.listing s)
+
+  sound_restored : (kept : Option Reg) (l : Listing) → IsSound limits l → IsSound limits (restored scene place kept l)
+  sound_restored None l s = s
+  sound_restored (Some kept) l s = sound_move_to_scope scene place kept s
+
+  sound_arrive : (v : Leaving) (target : Spot) → IsSound limits v.listing → IsSound limits (arrive scene place v target)
+  sound_arrive v target s = sound_with_jump target (sound_restored v.kept v.listing s)
+
+  sound_arrive_or : (target : Option Spot) (v : Leaving) (on : Listing) → IsSound limits v.listing → IsSound limits on → IsSound limits (arrive_or target (arrive scene place v) on)
+  sound_arrive_or None v on s t = t
+  sound_arrive_or (Some spot) v on s t = sound_arrive v spot s
+
+  pub sound_jump_to : (target : Way → Option Spot) (ws : List Way) (v : Leaving) → AllByRecursion (IsSoundWay limits) ws → IsSound limits v.listing → IsSound limits (jump_to scene place target ws v)
+  unfolding jump_to
+  sound_jump_to target [] v h s = s
+  sound_jump_to target (w ∷ ws) v h s =
+      sound_arrive_or (target w) v (jump_to scene place target ws (leave scene place None w v)) s
+      (sound_jump_to target ws (leave scene place None w v) h.1 (sound_leave None w v h.0 s))
+
+  pub sound_leave_all : (value : Reg) (ws : List Way) (v : Leaving) → AllByRecursion (IsSoundWay limits) ws → IsSound limits v.listing → IsSound limits (leave_all scene place value ws v)
+  unfolding leave_all
+  sound_leave_all value [] v h s = s
+  sound_leave_all value (w ∷ ws) v h s = sound_leave_all value ws (leave scene place (Some value) w v) h.1 (sound_leave (Some value) w v h.0 s)

@@ -1,0 +1,10 @@
+pub mod Sound
+pub mod NodeRanges
+pub mod LineRanges
+pub mod OperandRanges
+pub mod CallRanges
+pub mod ExpressionRanges
+pub mod CopyRanges
+pub mod StatementRanges
+pub mod DoesRanges
+pub mod FunctionRanges
