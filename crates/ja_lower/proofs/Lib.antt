@@ -1,9 +1,8 @@
-pub mod NamesLemmas
-pub mod SizeLemmas
-pub mod LinkLemmas
-pub mod RangeLemmas
-pub mod MakingLemmas
-pub mod DistinctLemmas
-pub mod TableLemmas
-pub mod ObjectLemmas
+pub mod NumberingLemmas
+pub mod SiteLemmas
+pub mod FunctionLemmas
 pub mod WellFormedLemmas
+pub mod Listed
+pub mod Shifts
+pub mod Sizes
+pub mod Wholes

@@ -1,6 +1,3 @@
-pub mod Names
-pub mod Steps
-pub mod Builtins
 pub mod Lowering
-pub mod Built
-pub mod Reading
+pub mod Limits
+pub mod Room

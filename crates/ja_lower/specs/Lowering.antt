@@ -1,101 +1,135 @@
--- The program of a text: of its lines, where all its forms are built.
-use Rattle.std.specs.Prelude.{ℕ, ◌+◌, ◌-◌, ◌*◌, ◌≤◌, max, List, [], ◌∷◌, ◌++◌, map, length, Some, None, String}
+-- What a tree is lowered to: the functions of its text with their nodes, the sites of these nodes, and the names.
+use Rattle.std.specs.Prelude.{ℕ, Bool, true, false, suc, ◌+◌, max, List, [], ◌∷◌, ◌++◌, map, length, Option, Some, None}
 use Rattle.std.specs.List.{fold, flat_map, sum_by}
-use Rattle.std.specs.declared.alloc.Global.{Global}
-use Rattle.ja_base.specs.declared.ids.NodeId.{NodeId}
-use Rattle.ja_base.specs.declared.ids.Place.{Place}
+use Rattle.std.specs.Option.{option_map_or, option_to_list}
+use Rattle.ja_base.specs.declared.ids.FnId.{FnId}
+use Rattle.ja_base.specs.declared.ids.Reg.{Reg}
 use Rattle.ja_graph.specs.declared.node.Node.{Node}
-use Rattle.ja_graph.specs.declared.node.Node.TheVariants.{Return, Escape}
 use Rattle.ja_graph.specs.declared.node.NodeInfo.{NodeInfo}
-use Rattle.ja_graph.specs.declared.program.Class.TheVariants.{Error}
+use Rattle.ja_graph.specs.declared.program.Class.{Class}
+use Rattle.ja_graph.specs.declared.program.Class.TheVariants as class
 use Rattle.ja_graph.specs.declared.program.Function.{Function}
-use Rattle.ja_graph.specs.declared.program.Program.{Program}
 use Rattle.ja_graph.specs.declared.program.SiteInfo.{SiteInfo}
-use Rattle.ja_lower.specs.declared.straight.Line.{Line}
-use Rattle.ja_lower.specs.declared.steps.Step.{Step}
+use Rattle.ja_graph.specs.Node.{Making, register_set, registers_named, function_in, makings}
+use Rattle.ja_graph.specs.Renaming.{Renaming, identity, renamed}
+use Rattle.ja_listing.specs.Listing.{assembled}
+use Rattle.ja_forms.specs.Functions.{program_listing, function_listing}
+use Rattle.ja_forms.specs.Lines.{Scene}
+use Rattle.ja_forms.specs.Names.{number, with_name}
+use Rattle.ja_forms.specs.TextOrder.{functions_in, names_in}
+use Rattle.ja_lower.specs.declared.body.Body.{Body}
+use Rattle.ja_lower.specs.declared.lowered.Lowered.{Lowered}
+use Rattle.ja_syntax.specs.declared.tree.FunctionOf.{FunctionOf}
+use Rattle.ja_syntax.specs.declared.tree.Name.{Name}
 use Rattle.ja_syntax.specs.declared.tree.Statement.{Statement}
-use Rattle.ja_lower.specs.Built.{lines_of}
-use Rattle.ja_lower.specs.Names.{names_of}
-use Rattle.ja_lower.specs.Steps.{operand_temporaries, temporaries, error_places, first_site, text_steps, closing_steps}
-use Rattle.ja_lower.specs.Builtins.{builtin_sites, opening_objects}
 
--- how many nodes a line has: one that finds and one that writes each target, and one for each temporary of its operand
-abbrev pub line_nodes : Line → ℕ
-line_nodes s = 2 * length s.targets + operand_temporaries s.operand
+-- the names of a program: some come first, then those of the text, each once
+unfoldable pub names_of : List (List ℕ) → List Statement → List (List ℕ)
+names_of first statements = fold with_name (fold with_name [] first) (names_in statements)
 
--- how many nodes lines have
-abbrev pub size_of : List Line → ℕ
-size_of lines = sum_by line_nodes lines
+-- what the forms of a text need of the program: the texts of built-in functions have special forms, others have none
+abbrev pub scene_with : Bool → List (List ℕ) → List Statement → Scene
+scene_with specials names statements = record {
+  names = names;
+  functions = map (λ (f : FunctionOf Statement). f.place) (functions_in statements);
+  handler = None;
+  specials = specials;
+}
 
--- with the three nodes that close the text they are at most 65,536
-abbrev pub IsSmall : List Line → Type 0
-IsSmall lines = size_of lines + 3 ≤ 65536
+abbrev pub scene_of : List (List ℕ) → List Statement → Scene
+scene_of names statements = scene_with false names statements
 
--- the nodes of a text in order, Escape the last
-abbrev pub steps_of : List (List ℕ) → List Line → List Step
-steps_of names lines = text_steps names first_site lines ++ closing_steps
+-- ---- functions, whose nodes have their sites numbered each for itself
 
--- the node that follows the one with the number n: Return and Escape have none, and lead to Escape
-abbrev pub next_of : ℕ → ℕ → Node → NodeId
-next_of escape n (Return src) = record { 0 = escape }
-next_of escape n Escape = record { 0 = escape }
-next_of escape n _ = record { 0 = n + 1 }
+abbrev pub program_body : Scene → List Statement → Body
+program_body scene statements = record { name = []; parameters = []; nodes = assembled (program_listing scene statements) }
 
--- the nodes from the number n on with their edges; each handler is Escape, and no node has another edge
-abbrev pub linked : ℕ → ℕ → List Step → List NodeInfo
-linked escape n [] = []
-linked escape n (s ∷ ss) =
-    record { node = s.node; next = next_of escape n s.node; other = record { 0 = escape }; handler = record { 0 = escape }; place = s.place }
-    ∷ linked escape (n + 1) ss
+-- a function without a name has an empty one
+abbrev pub function_body : Scene → FunctionOf Statement → Body
+function_body scene f = record {
+  name = option_map_or (λ (n : Name). n.text) f.name [];
+  parameters = map (λ (p : Name). number scene.names p.text) f.parameters;
+  nodes = assembled (function_listing scene f);
+}
 
--- the registers that each function has, and the temporaries of the line that takes most
-abbrev pub registers_of : List Line → ℕ
-registers_of lines = 6 + fold max 1 (map temporaries lines)
+-- the program, and the functions of its text in the order of the text
+unfoldable pub bodies_of : Scene → List Statement → List Body
+bodies_of scene statements = program_body scene statements ∷ map (function_body scene) (functions_in statements)
 
--- the site of an error that a node of the text makes
-abbrev pub error_site : Place → SiteInfo
-error_site place = record {
-  class = Error;
-  place = place;
-  owner = Some (record { 0 = 0 });
-  calls = None;
-  constructs = None;
+-- ---- registers: those that each function has, and as many as its nodes name
+
+abbrev pub registers_in : Node → List Reg
+registers_in node = option_to_list (register_set node) ++ registers_named node
+
+unfoldable pub registers_of : ℕ → List NodeInfo → ℕ
+registers_of parameters nodes =
+    fold max (6 + parameters) (map (λ (r : Reg). r.0 + 1) (flat_map (λ (info : NodeInfo). registers_in info.node) nodes))
+
+-- ---- sites: they are numbered by function and node
+
+-- a node whose sites are numbered from a number on
+abbrev pub shifting : ℕ → Renaming
+shifting first = record identity { site = λ s. record { 0 = first + s.0 } }
+
+abbrev pub site_count : Node → ℕ
+site_count node = length (makings node)
+
+-- nodes whose sites are numbered from a number on
+unfoldable pub numbered : ℕ → List NodeInfo → List NodeInfo
+numbered first [] = []
+numbered first (info ∷ infos) =
+    record info { node = renamed (shifting first) info.node } ∷ numbered (first + site_count info.node) infos
+
+unfoldable pub sites_in : List NodeInfo → ℕ
+sites_in nodes = sum_by (λ (info : NodeInfo). site_count info.node) nodes
+
+abbrev pub function_of : ℕ → Body → Function
+function_of first body = record {
+  name = body.name;
+  parameters = body.parameters;
+  registers = registers_of (length body.parameters) body.nodes;
+  nodes = numbered first body.nodes;
+}
+
+unfoldable pub functions_of : ℕ → List Body → List Function
+functions_of first [] = []
+functions_of first (body ∷ bodies) = function_of first body ∷ functions_of (first + sites_in body.nodes) bodies
+
+-- the function that is called, and that constructs, where a node makes a function object
+abbrev pub run_by : Node → Class → Option FnId
+run_by node class.Function = function_in node
+run_by node other = None
+
+-- what is known of a site of a node of a function
+abbrev pub site_of : ℕ → NodeInfo → Making → SiteInfo
+site_of function info making = record {
+  class = making.class;
+  place = info.place;
+  owner = Some (record { 0 = function });
+  calls = run_by info.node making.class;
+  constructs = run_by info.node making.class;
   builtin = None;
 }
 
--- the sites: those of the built-in objects, then one for each node that may make an error, in the nodes' order
-abbrev pub sites_of : List Line → List SiteInfo
-sites_of lines =
-    builtin_sites ++ flat_map (λ (s : Line). map error_site (error_places s.operand)) lines
+unfoldable pub sites_of_nodes : ℕ → List NodeInfo → List SiteInfo
+sites_of_nodes function nodes = flat_map (λ (info : NodeInfo). map (site_of function info) (makings info.node)) nodes
 
--- the text as a function without a name, by the names of the program
-abbrev pub text_function : List (List ℕ) → List Line → Function
-text_function names lines = record {
-  name = [];
-  parameters = [];
-  registers = registers_of lines;
-  nodes = linked (length (steps_of names lines) - 1) 0 (steps_of names lines);
-}
+-- the sites of functions, the first of which has this number
+unfoldable pub sites_of : ℕ → List Body → List SiteInfo
+sites_of function [] = []
+sites_of function (body ∷ bodies) = sites_of_nodes function body.nodes ++ sites_of (suc function) bodies
 
--- the functions of a program: its text alone
-unfoldable pub functions_of : List Line → List Function
-functions_of lines = text_function (names_of lines) lines ∷ []
+-- ---- the whole
 
--- The program of lines, with the text that they come from. The functions that begin default values aren't built yet, and the
--- text stands in their place.
-unfoldable pub straight_program : String Global → List Line → Program
-straight_program text lines = record {
-  functions = functions_of lines;
-  text_functions = 1;
-  sites = sites_of lines;
-  names = names_of lines;
-  signatures = [];
-  opening = opening_objects;
-  value_first = record { 0 = 0 };
-  text_first = record { 0 = 0 };
-  text = text;
-}
+-- a tree, with or without special forms, where these names come first, and its sites are numbered from a number on
+abbrev pub lowered_with : Bool → List (List ℕ) → ℕ → List Statement → Lowered
+lowered_with specials names first statements =
+    let bodies = bodies_of (scene_with specials (names_of names statements) statements) statements in
+    record { functions = functions_of first bodies; sites = sites_of 0 bodies; names = names_of names statements }
 
--- the program of a tree, with the text that it comes from
-unfoldable pub program_of : String Global → List Statement → Program
-program_of text statements = straight_program text (lines_of statements)
+unfoldable pub lowered : List (List ℕ) → ℕ → List Statement → Lowered
+lowered names first statements = lowered_with false names first statements
+
+-- the tree of a text of built-in functions
+unfoldable pub lowered_prelude : List (List ℕ) → ℕ → List Statement → Lowered
+lowered_prelude names first statements = lowered_with true names first statements

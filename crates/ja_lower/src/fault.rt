@@ -1,15 +1,15 @@
 ghost use Rattle.std.specs.Prelude.{◌≡◌};
 ghost use Rattle.ja_lower.specs.declared.fault.LowerFault.TheVariants.{Memory as NoMemory};
 
-use ja_base::{Memory, Place};
+use ja_base::Memory;
 use std::alloc::{AllocError, AllocFailed};
 
-/// Why a tree has no program.
+/// Why a tree isn't lowered.
 #[derive(Clone, Copy, Debug, PartialEq, Eq)]
 pub enum LowerFault {
-    /// The first form that is not built has this place.
-    Unbuilt { place: Place },
-    /// The program has more than 65,536 nodes.
+    /// It has more than 4,096 functions, the program among them.
+    Functions,
+    /// Its functions have more than 65,536 nodes, each parameter of a function counted as one more.
     Nodes,
     /// Memory was refused.
     Memory,

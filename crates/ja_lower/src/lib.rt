@@ -1,56 +1,141 @@
 //! From the tree of a text to its flow graph.
 #![tactic(auto)]
 
-ghost use Rattle.std.specs.Prelude.{◌≡◌, ◌≤◌, None, IfOk, IfErr};
-ghost use Rattle.std.specs.String.{string_bytes};
-ghost use Rattle.ja_graph.specs.WellFormed.{IsWellFormed, node_count};
-ghost use Rattle.ja_lower.specs.Built.{unbuilt};
-ghost use Rattle.ja_lower.specs.Reading.{Explains};
-ghost use Rattle.ja_lower.specs.Lowering.{program_of};
+ghost use Rattle.std.specs.Prelude.{◌≡◌, ◌<◌, ◌≤◌, ◌^◌, length, IfOk, IfErr};
+ghost use Rattle.std.specs.List.{AllByRecursion};
+ghost use Rattle.ja_lower.specs.Limits.{size_with, Explains, ExplainsPrelude, ExplainsSize, IsWithin, IsPreludeWithin, IsWithinSize};
+ghost use Rattle.ja_lower.specs.Lowering.{lowered, lowered_prelude, lowered_with, names_of};
 
-mod built;
-mod builtins;
-mod excluded;
+mod bodies;
+mod body;
 mod fault;
-mod function;
-mod names;
-mod opening;
-mod program;
-mod steps;
-mod straight;
+pub mod laws;
+mod lowered;
+mod numbering;
+mod registers;
+mod sites;
+#[cfg(test)]
+mod tests;
+mod whole;
 
-use crate::built::lines_of;
-use crate::function::is_small;
-use crate::program::straight_program;
+use crate::bodies::bodies_of;
+use crate::whole::whole_of;
+pub use body::Body;
 pub use fault::LowerFault;
-use ja_graph::Program;
-use ja_syntax::Tree;
+use ja_base::{Memory, Seq};
+use ja_forms::{Names, add_names, functions_in};
+use ja_prim::Text16;
+use ja_syntax::{Statement, Tree};
+pub use lowered::Lowered;
 use std::alloc::Global;
 
-/// The program of a tree all of whose forms are built, with the text that the tree comes from. Its
-/// nodes are at most 65,536.
+/// The most functions that a text may have; the program is one more.
+const MAX_FUNCTIONS: usize = 4_095;
+
+/// The most names that a program may have.
+const MAX_NAMES: usize = 1_048_576;
+
+/// The names of a program: some come first, then those of its text, each once.
+#[tactic(auto, unfolding(crate::specs::Lowering::names_of))]
+fn names_of<'a>(
+    alloc: Global,
+    first: &'a [Text16],
+    statements: &'a [Statement],
+) -> Result<Names<'a>, Memory>
+    requires { length first.now ≤ 65536 }
+    ensures { IfOk result (λ names. names ≡ names_of first.now statements.now) }
+{
+    let mut names = Names::new(alloc);
+    for text in first {
+        names.add(text.units())?;
+    }
+    add_names(&mut names, statements)?;
+    Ok(names)
+}
+
+/// Lowers a tree, with or without special forms.
+#[tactic(auto, using(crate::proofs::Sizes::exceeds_explains))]
+fn lower_with(
+    alloc: Global,
+    specials: bool,
+    tree: &Tree,
+    names: &[Text16],
+    first_site: u32,
+) -> Result<Lowered, LowerFault>
+    requires names { length names.now ≤ 65536 }
+    requires sites { first_site ≤ 65536 }
+    ensures lowered { IfOk result (λ l. l ≡ lowered_with specials names.now first_site tree.now.statements) }
+    ensures within { IfOk result (λ l. IsWithinSize (size_with specials names.now tree.now.statements) tree.now.statements) }
+    ensures registers { IfOk result (λ l. AllByRecursion (λ fn. fn.registers ≤ 262144) l.functions) }
+    ensures names { IfOk result (λ l. length l.names ≤ 1048576) }
+    ensures fault { IfErr result (ExplainsSize (size_with specials names.now tree.now.statements) tree.now.statements) }
+{
+    let statements = tree.statements.as_slice();
+    let functions = functions_in(alloc, statements)?;
+    if functions.len() > MAX_FUNCTIONS {
+        return Err(LowerFault::Functions);
+    }
+    let names = names_of(alloc, names, statements)?;
+    let bodies = bodies_of(alloc, specials, &names, statements, &functions)?;
+    if names.len() > MAX_NAMES {
+        return Err(LowerFault::Memory);
+    }
+    let whole = whole_of(alloc, first_site, bodies)?;
+    Ok(Lowered {
+        functions: Seq::from_vec(whole.functions),
+        sites: Seq::from_vec(whole.sites),
+        names: names.texts(alloc)?,
+    })
+}
+
+/// Lowers a tree, whatever its forms are. The names of the program begin with `names`, of which it takes each once, and
+/// the sites of its nodes are numbered from `first_site` on.
 ///
 /// # Errors
 ///
-/// `Unbuilt` exactly where a form is not built, with the place of the first one; else `Nodes` exactly
-/// where the program has more than 65,536 nodes, before it is written; else `Memory`, where memory
-/// was refused.
-#[tactic(auto, unfolding(crate::specs::Built::unbuilt, crate::specs::Built::lines_of, crate::specs::Lowering::program_of))]
-pub fn lower(alloc: Global, tree: &Tree, text: &str) -> Result<Program, LowerFault>
-    ensures program { IfOk result (λ p. p ≡ program_of p.text tree.now.statements) }
-    ensures text { IfOk result (λ p. string_bytes p.text ≡ text.now) }
-    ensures built { IfOk result (λ _. unbuilt tree.now.statements ≡ None) }
-    ensures few { IfOk result (λ p. node_count p.functions ≤ 65536) }
-    ensures well_formed { IfOk result IsWellFormed }
-    ensures fault { IfErr result (Explains tree.now.statements) }
+/// `Functions` exactly where there are more than 4,096 functions, the program among them; else `Nodes`
+/// exactly where they have more than 65,536 nodes, each parameter of a function counted as one more; else `Memory`,
+/// where memory was refused. More than 262,144 registers in a function, or more than 1,048,576 names, count as refused
+/// memory.
+#[tactic(auto, unfolding(crate::specs::Limits::size_of, crate::specs::Lowering::lowered))]
+pub fn lower(
+    alloc: Global,
+    tree: &Tree,
+    names: &[Text16],
+    first_site: u32,
+) -> Result<Lowered, LowerFault>
+    requires names { length names.now ≤ 65536 }
+    requires sites { first_site ≤ 65536 }
+    ensures lowered { IfOk result (λ l. l ≡ lowered names.now first_site tree.now.statements) }
+    ensures within { IfOk result (λ l. IsWithin names.now tree.now.statements) }
+    ensures registers { IfOk result (λ l. AllByRecursion (λ fn. fn.registers ≤ 262144) l.functions) }
+    ensures names { IfOk result (λ l. length l.names ≤ 1048576) }
+    ensures fault { IfErr result (Explains names.now tree.now.statements) }
 {
-    let lines = lines_of(alloc, tree.statements.as_slice())?;
-    if !is_small(&lines) {
-        return Err(LowerFault::Nodes);
-    }
-    let program = straight_program(alloc, &lines, text)?;
-    Ok(program)
+    lower_with(alloc, false, tree, names, first_site)
 }
 
-#[cfg(test)]
-mod tests;
+/// Lowers the tree of a text of built-in functions: as `lower`, but names that begin with `$` are special forms
+/// (`ja_forms::SPECIALS`), where the table has them. The call of a special form that doesn't have its arguments, or such a
+/// name that isn't called, is undefined.
+///
+/// # Errors
+///
+/// Those of `lower`.
+#[tactic(auto, unfolding(crate::specs::Limits::prelude_size_of, crate::specs::Lowering::lowered_prelude))]
+pub fn lower_prelude(
+    alloc: Global,
+    tree: &Tree,
+    names: &[Text16],
+    first_site: u32,
+) -> Result<Lowered, LowerFault>
+    requires names { length names.now ≤ 65536 }
+    requires sites { first_site ≤ 65536 }
+    ensures lowered { IfOk result (λ l. l ≡ lowered_prelude names.now first_site tree.now.statements) }
+    ensures within { IfOk result (λ l. IsPreludeWithin names.now tree.now.statements) }
+    ensures registers { IfOk result (λ l. AllByRecursion (λ fn. fn.registers ≤ 262144) l.functions) }
+    ensures names { IfOk result (λ l. length l.names ≤ 1048576) }
+    ensures fault { IfErr result (ExplainsPrelude names.now tree.now.statements) }
+{
+    lower_with(alloc, true, tree, names, first_site)
+}

@@ -1,0 +1,4 @@
+pub mod DistinctLemmas
+pub mod ObjectLemmas
+pub mod TableLemmas
+pub mod WellFormedLemmas

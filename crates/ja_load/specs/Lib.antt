@@ -1,0 +1,4 @@
+pub mod Built
+pub mod Builtins
+pub mod Explaining
+pub mod Loading

@@ -1,0 +1,44 @@
+ghost use Rattle.std.specs.Prelude.{◌≡◌};
+ghost use Rattle.ja_grammar.specs.declared.fault.ParseFault.TheVariants.{Memory as NoMemory};
+ghost use Rattle.ja_load.specs.declared.fault.LoadFault.TheVariants.{Parse};
+
+use ja_base::{Memory, Place};
+use ja_grammar::ParseFault;
+use std::alloc::{AllocError, AllocFailed};
+
+/// Why a text has no program.
+#[derive(Clone, Copy, Debug, PartialEq, Eq)]
+pub enum LoadFault {
+    /// It is none of the language, or memory was refused.
+    Parse(ParseFault),
+    /// It has more than 4,096 functions, the program among them.
+    Functions,
+    /// Its functions have more than 65,536 nodes, each parameter of a function counted as one more.
+    Nodes,
+    /// The first form that is not built has this place.
+    Unbuilt { place: Place },
+}
+
+impl From<Memory> for LoadFault {
+    ghost from_gives = { λ _ e. e ≡ Parse NoMemory };
+
+    fn from(_: Memory) -> Self {
+        LoadFault::Parse(ParseFault::Memory)
+    }
+}
+
+impl From<AllocError> for LoadFault {
+    ghost from_gives = { λ _ e. e ≡ Parse NoMemory };
+
+    fn from(_: AllocError) -> Self {
+        LoadFault::Parse(ParseFault::Memory)
+    }
+}
+
+impl<T: Drop> From<AllocFailed<T>> for LoadFault {
+    ghost from_gives = { λ _ e. e ≡ Parse NoMemory };
+
+    fn from(_: AllocFailed<T>) -> Self {
+        LoadFault::Parse(ParseFault::Memory)
+    }
+}

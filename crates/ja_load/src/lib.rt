@@ -1,0 +1,18 @@
+//! From a text to its program: its tree, lowered, with the objects that are there when a run begins.
+#![tactic(auto)]
+
+mod built;
+mod builtins;
+mod excluded;
+mod fault;
+mod loading;
+mod opening;
+
+pub use built::unbuilt;
+pub use fault::LoadFault;
+pub use loading::load;
+
+#[cfg(test)]
+mod graph_tests;
+#[cfg(test)]
+mod tests;

@@ -1,0 +1,219 @@
+-- Functions of which what is listed is in range are well formed.
+use Rattle.std.proofs.Common.{◌≡◌, ℕ, zero, suc, ◌+◌, ◌-◌, ◌<◌, ◌≤◌, max, Bool, false, List, [], ◌∷◌, ◌++◌, length, map, Some, refl, sym, ap, ◌∙◌, subst, arith}
+use Rattle.std.specs.List.{AllByRecursion, slice_get, flat_map, fold}
+use Rattle.std.specs.Option.{option_to_list}
+use Rattle.ja_base.specs.declared.ids.FnId.{FnId}
+use Rattle.ja_base.specs.declared.ids.NameId.{NameId}
+use Rattle.ja_base.specs.declared.ids.Reg.{Reg}
+use Rattle.ja_graph.specs.declared.node.Args.TheVariants as args
+use Rattle.ja_graph.specs.declared.node.Node.{Node}
+use Rattle.ja_graph.specs.declared.node.Node.TheVariants as node
+use Rattle.ja_graph.specs.declared.node.NodeInfo.{NodeInfo}
+use Rattle.ja_graph.specs.declared.program.Function.{Function}
+use Rattle.ja_graph.specs.declared.program.Program.{Program}
+use Rattle.ja_graph.specs.Node.{register_set, registers_named, function_in}
+use Rattle.ja_graph.specs.Renaming.{renamed}
+use Rattle.ja_graph.specs.WellFormed.{IsRegister, IsDestination, IsName, IsAllowed, IsNodeWellFormed, IsFunctionWellFormed}
+use Rattle.ja_listing.specs.declared.item.Item.{Item}
+use Rattle.ja_listing.specs.declared.item.Item.TheVariants as item
+use Rattle.ja_listing.specs.Listing.{nodes_from, assembled}
+use Rattle.ja_listing.specs.Laws.{EndsWithEscape, LastIsEscape, EdgesLeadInside}
+use Rattle.ja_listing.proofs.Kept.{assembled_ends}
+use Rattle.ja_listing.proofs.Inside.{assembled_inside}
+use Rattle.ja_ranges.specs.InRange.{Limits, IsInRange, IsOfTexts, AllInRange}
+use Rattle.ja_ranges.specs.InRange.{IsDestination as IsDestinationWithin}
+use Rattle.ja_lower.specs.declared.body.Body.{Body}
+use Rattle.ja_lower.specs.Lowering.{shifting, site_count, numbered, sites_in, registers_in, registers_of, function_of, functions_of}
+use Rattle.ja_lower.proofs.NumberingLemmas.{sets_kept, named_kept, name_kept, function_kept, IsSited}
+use Rattle.ja_lower.proofs.SiteLemmas.{length-numbered}
+
+pub all-at : {X : Type 0} (P : X → Type 0) (xs : List X) (n : ℕ) (x : X) → AllByRecursion P xs → slice_get xs n ≡ Some x → P x
+all-at P [] n x each is = absurd (cc)
+all-at P (y ∷ ys) zero x each is = subst P (cc) each.0
+all-at P (y ∷ ys) (suc n) x each is = all-at P ys n x each.1 is
+
+all-left : {X : Type 0} (P : X → Type 0) (xs ys : List X) → AllByRecursion P (xs ++ ys) → AllByRecursion P xs
+all-left P [] ys each = tt
+all-left P (x ∷ xs) ys each = (each.0, all-left P xs ys each.1)
+
+all-right : {X : Type 0} (P : X → Type 0) (xs ys : List X) → AllByRecursion P (xs ++ ys) → AllByRecursion P ys
+all-right P [] ys each = each
+all-right P (x ∷ xs) ys each = all-right P xs ys each.1
+
+pub all-map : {X Y : Type 0} (P : X → Type 0) (Q : Y → Type 0) (f : X → Y) (xs : List X) → ((x : X) → P x → Q (f x)) → AllByRecursion P xs → AllByRecursion Q (map f xs)
+all-map P Q f [] from each = tt
+all-map P Q f (x ∷ xs) from each = (from x each.0, all-map P Q f xs from each.1)
+
+pub all-from : {X : Type 0} (P Q : X → Type 0) (xs : List X) → ((x : X) → P x → Q x) → AllByRecursion P xs → AllByRecursion Q xs
+all-from P Q [] from each = tt
+all-from P Q (x ∷ xs) from each = (from x each.0, all-from P Q xs from each.1)
+
+all-both : {X : Type 0} (P Q R : X → Type 0) (xs : List X) → ((x : X) → P x → Q x → R x) → AllByRecursion P xs → AllByRecursion Q xs → AllByRecursion R xs
+all-both P Q R [] from first second = tt
+all-both P Q R (x ∷ xs) from first second = (from x first.0 second.0, all-both P Q R xs from first.1 second.1)
+
+-- what holds of the registers of all nodes holds of those of each
+flat-at : (P : Reg → Type 0) (infos : List NodeInfo) (n : ℕ) (info : NodeInfo) → AllByRecursion P (flat_map (λ (i : NodeInfo). registers_in i.node) infos) → slice_get infos n ≡ Some info → AllByRecursion P (registers_in info.node)
+flat-at P [] n info each is = absurd (cc)
+flat-at P (i ∷ infos) zero info each is =
+    let same : i ≡ info = cc in
+    subst (λ (x : NodeInfo). AllByRecursion P (registers_in x.node)) same (all-left P (registers_in i.node) (flat_map (λ (x : NodeInfo). registers_in x.node) infos) each)
+flat-at P (i ∷ infos) (suc n) info each is =
+    flat-at P infos n info (all-right P (registers_in i.node) (flat_map (λ (x : NodeInfo). registers_in x.node) infos) each) is
+
+-- ---- registers
+
+-- the greatest is at least the first, and above each register
+max-first : (m : ℕ) (ns : List ℕ) → m ≤ fold max m ns
+max-first m [] = omega arith
+max-first m (n ∷ ns) = omega (arith, max-first (max m n) ns)
+
+max-each : (m : ℕ) (rs : List Reg) → AllByRecursion (λ (r : Reg). r.0 < fold max m (map (λ (s : Reg). s.0 + 1) rs)) rs
+max-each m [] = tt
+max-each m (r ∷ rs) = (omega (arith, max-first (max m (r.0 + 1)) (map (λ (s : Reg). s.0 + 1) rs)), max-each (max m (r.0 + 1)) rs)
+
+registers_first : (parameters : ℕ) (infos : List NodeInfo) → 6 + parameters ≤ registers_of parameters infos
+unfolding registers_of
+registers_first parameters infos =
+    max-first (6 + parameters) (map (λ (r : Reg). r.0 + 1) (flat_map (λ (info : NodeInfo). registers_in info.node) infos))
+
+registers_each : (parameters : ℕ) (infos : List NodeInfo) (n : ℕ) (info : NodeInfo) → slice_get infos n ≡ Some info → AllByRecursion (λ (r : Reg). r.0 < registers_of parameters infos) (registers_in info.node)
+unfolding registers_of
+registers_each parameters infos n info is =
+    flat-at (λ (r : Reg). r.0 < registers_of parameters infos) infos n info (max-each (6 + parameters) (flat_map (λ (i : NodeInfo). registers_in i.node) infos)) is
+
+-- ---- nodes
+
+-- a node of texts is allowed in any function
+is_allowed : (p : Program) (fn : Function) (first : ℕ) (n : Node) → IsOfTexts n → IsAllowed p fn (renamed (shifting first) n)
+unfolding renamed
+is_allowed p fn first (node.Call dst callee receiver (args.Registers list) error) of_texts = tt
+is_allowed p fn first (node.Call dst callee receiver (args.Elements array) error) of_texts = tt
+is_allowed p fn first (node.Call dst callee receiver args.Tail error) of_texts = absurd of_texts
+is_allowed p fn first (node.Intrinsic dst which list) of_texts = absurd of_texts
+is_allowed p fn first (node.Device dst which) of_texts = absurd of_texts
+is_allowed p fn first n of_texts = tt
+
+-- Escape stays
+escape_kept : (first : ℕ) (n : Node) → n ≡ node.Escape → renamed (shifting first) n ≡ node.Escape
+unfolding renamed
+escape_kept first n is = ap (renamed (shifting first)) is
+
+-- the nodes of a listing are in range
+in_range_from : (limits : Limits) (whole items : List Item) → AllInRange limits items → AllByRecursion (λ (info : NodeInfo). IsInRange limits info.node) (nodes_from whole items)
+unfolding nodes_from
+in_range_from limits whole [] each = tt
+in_range_from limits whole (item.Node node other handler place ∷ items) each = (each.0, in_range_from limits whole items each.1)
+in_range_from limits whole (item.Spot s ∷ items) each = in_range_from limits whole items each.1
+in_range_from limits whole (item.Jump s ∷ items) each = in_range_from limits whole items each.1
+
+-- a node whose sites are numbered
+abbrev pub renumbered : ℕ → NodeInfo → NodeInfo
+renumbered first info = record info { node = renamed (shifting first) info.node }
+
+-- it comes from the node with its number
+pub get-numbered : (first : ℕ) (infos : List NodeInfo) (n : ℕ) (info : NodeInfo) → slice_get (numbered first infos) n ≡ Some info → (from : ℕ) × (old : NodeInfo) × (slice_get infos n ≡ Some old) × (renumbered from old ≡ info)
+unfolding numbered
+get-numbered first [] n info is = absurd (cc)
+get-numbered first (i ∷ infos) zero info is = let same : renumbered first i ≡ info = cc in (first, i, refl, same)
+get-numbered first (i ∷ infos) (suc n) info is = get-numbered (first + site_count i.node) infos n info is
+
+-- and that node comes to one
+to-numbered : (first : ℕ) (infos : List NodeInfo) (n : ℕ) (old : NodeInfo) → slice_get infos n ≡ Some old → (from : ℕ) × (slice_get (numbered first infos) n ≡ Some (renumbered from old))
+unfolding numbered
+to-numbered first [] n old is = absurd (cc)
+to-numbered first (i ∷ infos) zero old is = let same : i ≡ old = cc in (first, ap (λ x. Some (renumbered first x)) same)
+to-numbered first (i ∷ infos) (suc n) old is = to-numbered (first + site_count i.node) infos n old is
+
+-- ---- bodies
+
+abbrev pub limits_within : Bool → ℕ → ℕ → Body → Limits
+limits_within specials names functions body = record { parameters = length body.parameters; names = names; functions = functions; specials = specials }
+
+-- What is listed of the body is in range, and so are its parameters, in a program with so many names and functions; names may be special
+-- forms or not.
+pub record IsListed (specials : Bool) (names functions : ℕ) (body : Body) : Type 0 where
+  pub listing : List Item
+  pub nodes : body.nodes ≡ assembled listing
+  pub in_range : AllInRange (limits_within specials names functions body) listing
+  pub ends : EndsWithEscape listing
+  pub parameters : AllByRecursion (λ (n : NameId). n.0 < names) body.parameters
+
+module _ (p : Program) (functions first : ℕ) (body : Body) (some : functions < length p.functions) (listed : IsListed false (length p.names) functions body) where
+  abbrev limits : Limits
+  limits = limits_within false (length p.names) functions body
+
+  nodes_in_range : AllByRecursion (λ (info : NodeInfo). IsInRange limits info.node) body.nodes
+  nodes_in_range =
+      subst (AllByRecursion (λ (info : NodeInfo). IsInRange limits info.node)) (sym listed.nodes) (in_range_from limits listed.listing listed.listing listed.in_range)
+
+  edges : EdgesLeadInside body.nodes
+  edges = subst EdgesLeadInside (sym listed.nodes) (assembled_inside listed.listing listed.ends)
+
+  last_is_escape : LastIsEscape body.nodes
+  last_is_escape = subst LastIsEscape (sym listed.nodes) (assembled_ends listed.listing listed.ends)
+
+  node_well_formed : (n from : ℕ) (old : NodeInfo) → slice_get body.nodes n ≡ Some old → IsNodeWellFormed p (function_of first body) (renumbered from old)
+  node_well_formed n from old is =
+      let fn = function_of first body in
+      let range = all-at (λ (info : NodeInfo). IsInRange limits info.node) body.nodes n old nodes_in_range is in
+      let registers = registers_each (length body.parameters) body.nodes n old is in
+      let set = all-left (IsRegister fn) (option_to_list (register_set old.node)) (registers_named old.node) registers in
+      let named = all-right (IsRegister fn) (option_to_list (register_set old.node)) (registers_named old.node) registers in
+      let inside = edges n old is in
+      let count = length-numbered first body.nodes in
+      record {
+        sets = subst (λ o. AllByRecursion (IsDestination fn) (option_to_list o)) (sym (sets_kept from old.node)) (all-both (IsRegister fn) (IsDestinationWithin limits) (IsDestination fn) (option_to_list (register_set old.node)) (λ r low destination. (low, destination)) set range.sets);
+        names_registers = subst (AllByRecursion (IsRegister fn)) (sym (named_kept from old.node)) named;
+        name = subst (λ o. AllByRecursion (IsName p) (option_to_list o)) (sym (name_kept from old.node)) range.name;
+        function = subst (λ o. AllByRecursion (λ (f : FnId). f.0 < length p.functions) (option_to_list o)) (sym (function_kept from old.node)) (all-from (λ (f : FnId). f.0 ≤ functions) (λ (f : FnId). f.0 < length p.functions) (option_to_list (function_in old.node)) (λ f low. omega arith) range.function);
+        allowed = is_allowed p fn from old.node (range.of_texts refl);
+        next = omega (arith, inside.next, count);
+        other = omega (arith, inside.other, count);
+        handler = omega (arith, inside.handler, count);
+      }
+
+  pub function_well_formed : registers_of (length body.parameters) body.nodes ≤ 262144 → IsFunctionWellFormed p (function_of first body)
+  function_well_formed few =
+      let fn = function_of first body in
+      let end = last_is_escape in
+      let at_end = to-numbered first body.nodes (length body.nodes - 1) end.last end.last_is in
+      let place : length (numbered first body.nodes) - 1 ≡ length body.nodes - 1 = ap (λ n. n - 1) (length-numbered first body.nodes) in
+      record {
+        last = renumbered at_end.0 end.last;
+        last_is = ap (slice_get (numbered first body.nodes)) place ∙ at_end.1;
+        escape = escape_kept at_end.0 end.last.node end.escape;
+        registers = registers_first (length body.parameters) body.nodes;
+        few_registers = few;
+        parameters = listed.parameters;
+        each = λ n info is.
+            let from = get-numbered first body.nodes n info is in
+            subst (IsNodeWellFormed p fn) from.3 (node_well_formed n from.0 from.1 from.2);
+      }
+
+-- ---- functions
+
+pub length-functions : (first : ℕ) (bodies : List Body) → length (functions_of first bodies) ≡ length bodies
+unfolding functions_of
+length-functions first [] = refl
+length-functions first (body ∷ bodies) = ap suc (length-functions (first + sites_in body.nodes) bodies)
+
+-- a function comes from the body with its number
+get-functions : (first : ℕ) (bodies : List Body) (f : ℕ) (fn : Function) → slice_get (functions_of first bodies) f ≡ Some fn → (from : ℕ) × (body : Body) × (slice_get bodies f ≡ Some body) × (function_of from body ≡ fn)
+unfolding functions_of
+get-functions first [] f fn is = absurd (cc)
+get-functions first (body ∷ bodies) zero fn is = let same : function_of first body ≡ fn = cc in (first, body, refl, same)
+get-functions first (body ∷ bodies) (suc f) fn is = get-functions (first + sites_in body.nodes) bodies f fn is
+
+pub functions_well_formed : (p : Program) (functions first : ℕ) (bodies : List Body) → functions < length p.functions → AllByRecursion (IsListed false (length p.names) functions) bodies → p.functions ≡ functions_of first bodies → (f : ℕ) (fn : Function) → slice_get p.functions f ≡ Some fn → fn.registers ≤ 262144 → IsFunctionWellFormed p fn
+functions_well_formed p functions first bodies some listed are f fn is few =
+    let from = get-functions first bodies f fn (ap (λ fs. slice_get fs f) (sym are) ∙ is) in
+    let good = all-at (IsListed false (length p.names) functions) bodies f from.1 listed from.2 in
+    let low : registers_of (length from.1.parameters) from.1.nodes ≤ 262144 = subst (λ (g : Function). g.registers ≤ 262144) (sym from.3) few in
+    subst (IsFunctionWellFormed p) from.3 (function_well_formed p functions from.0 from.1 some good low)
+
+-- the sites of the nodes of a body are its own
+pub listed_sited : (specials : Bool) (names functions : ℕ) (body : Body) → IsListed specials names functions body → AllByRecursion IsSited body.nodes
+listed_sited specials names functions body listed =
+    let limits = limits_within specials names functions body in
+    subst (AllByRecursion IsSited) (sym listed.nodes) (all-from (λ (info : NodeInfo). IsInRange limits info.node) IsSited (assembled listed.listing) (λ info range. range.sites) (in_range_from limits listed.listing listed.listing listed.in_range))

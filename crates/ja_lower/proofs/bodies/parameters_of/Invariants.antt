@@ -1,0 +1,6 @@
+use Rattle.std.proofs.Common.{◌≡◌, map, take}
+use Rattle.ja_forms.specs.Names.{number}
+use Rattle.ja_lower.proofs.bodies.parameters_of.Given as goal
+
+abbrev pub invariant-loop-parameter : goal.invariant-loop-parameter
+invariant-loop-parameter l = l.ids.items ≡ map (λ p. number l.names p.text) (take l.parameter-index l.list)
