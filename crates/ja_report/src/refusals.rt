@@ -21,7 +21,9 @@ pub enum Refusal {
     Scope { kind: ScopeKind, place: Place },
     /// The text nests more than 200 levels deep.
     Depth,
-    /// The text's graph has more than 65,536 nodes.
+    /// The text has more than 4,096 functions, the program among them.
+    Functions,
+    /// The text's functions have more than 65,536 nodes, each parameter of a function counted as one more.
     Nodes,
     /// The text has a form that is not built, at this place.
     Unbuilt { place: Place },
@@ -86,6 +88,7 @@ pub fn refusal_text(alloc: Global, refusal: Refusal) -> Result<Vec<u8>, Memory>
             text.push(b'\n')?;
         }
         Refusal::Depth => text.extend_from_slice(b"limit depth 200\n")?,
+        Refusal::Functions => text.extend_from_slice(b"limit functions 4096\n")?,
         Refusal::Nodes => text.extend_from_slice(b"limit nodes 65536\n")?,
         Refusal::Unbuilt { place } => {
             text.extend_from_slice(b"unbuilt ")?;

@@ -5,7 +5,8 @@ use Rattle.ja_graph.specs.declared.program.Program.{Program}
 use Rattle.ja_model.specs.declared.table.Warning.{Warning}
 use Rattle.ja_tool.specs.declared.status.Status.{Status}
 use Rattle.ja_tool.specs.declared.status.Status.TheVariants.{Done, Warned, Usage, ReadFault, WriteFault, TooLong, NotText, Syntax, Scope, Limit, Spent, Memory, Unbuilt}
-use Rattle.ja_tool.specs.Answers.{IsAnalysed, Reports, status_of, IsProgramOf, Analyses, Call, HasCause, IsCommand, IsInput, Written, IsAnswered}
+use Rattle.ja_load.specs.Loading.{IsProgramOf}
+use Rattle.ja_tool.specs.Answers.{IsAnalysed, Reports, status_of, Analyses, Call, HasCause, IsCommand, IsInput, Written, IsAnswered}
 use Rattle.ja_base.specs.Streams.{Appends, TurnsTo}
 use Rattle.std.specs.Prelude.{true}
 

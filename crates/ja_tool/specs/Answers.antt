@@ -1,5 +1,5 @@
 -- The answers of the program: the cause of each status, and the text that is written with it.
-use Rattle.std.specs.Prelude.{◌≡◌, ◌<◌, ◌≤◌, ◌⊎◌, ◌+◌, ℕ, String, Bool, true, List, [], ◌∷◌, map, length, Option, Some, None, Err}
+use Rattle.std.specs.Prelude.{◌≡◌, ◌≤◌, ◌⊎◌, ◌+◌, ℕ, String, Bool, true, List, [], ◌∷◌, map, length, Option}
 use lib.Chars.{codes}
 use Rattle.std.specs.Str.{IsUtf8}
 use Rattle.std.specs.Str.Lossy.{utf8_valid_len}
@@ -9,14 +9,8 @@ use Rattle.ja_base.specs.declared.ids.Place.{Place}
 use Rattle.ja_base.specs.declared.ids.ScopeKind.{ScopeKind}
 use Rattle.ja_base.specs.Streams.{Rose, Keeps, Took, IsAtEnd, IsLonger, TakesCount, Appends, AppendsFront, TurnsTo}
 use Rattle.ja_graph.specs.declared.program.Program.{Program}
-use Rattle.ja_grammar.specs.Language.{Spells, Explains, max_levels, Answers as AnswersTo}
-use Rattle.ja_grammar.specs.ReadStatement.{program}
-use Rattle.ja_grammar.specs.declared.fault.ParseFault.{ParseFault}
 use Rattle.ja_grammar.specs.declared.fault.ParseFault.TheVariants as fault
-use Rattle.ja_lex.specs.Tokens.{tokens}
-use Rattle.ja_graph.specs.WellFormed.{node_count}
-use Rattle.ja_lower.specs.Built.{unbuilt, lines_of}
-use Rattle.ja_lower.specs.Lowering.{functions_of, program_of}
+use Rattle.ja_load.specs.Loading.{IsProgramOf, HasManyFunctions, HasManyNodes, IsUnbuiltAt, IsNone}
 use Rattle.ja_model.specs.declared.table.Item.{Item}
 use Rattle.ja_model.specs.declared.table.Warning.{Warning}
 use Rattle.ja_model.specs.Sound.{CoversRuns, WarnsOfFaults}
@@ -25,11 +19,8 @@ use Rattle.ja_model.specs.Warning.{AreWarnings}
 use Rattle.ja_report.specs.declared.refusals.Refusal.{Refusal}
 use Rattle.ja_report.specs.declared.refusals.Refusal.TheVariants as refusal
 use Rattle.ja_tool.specs.declared.analysis.Answer.{Answer}
-use Rattle.ja_tool.specs.declared.analysis.TextFault.{TextFault}
-use Rattle.ja_tool.specs.declared.analysis.TextFault.TheVariants as text_fault
 use Rattle.ja_report.specs.Refusals.{refusal_text}
 use Rattle.ja_report.specs.Report.{report_text, spent_text}
-use Rattle.ja_syntax.specs.declared.tree.Statement.{Statement}
 use Rattle.ja_rules.specs.declared.solver.Solved.{Solved}
 use Rattle.ja_rules.specs.Readings.{table_of, Fits}
 use Rattle.ja_rules.specs.Solving.{WasSpent}
@@ -46,42 +37,6 @@ max_bytes = 16777216
 
 abbrev pub budget : ℕ
 budget = 1000000
-
--- the bytes are a text of the language, and these its statements
-abbrev pub IsTextOf : List ℕ → List Statement → Type 0
-IsTextOf bytes statements = IsUtf8 bytes × Spells max_levels (tokens bytes) statements
-
--- the greatest number of nodes of a text's graph
-abbrev pub max_nodes : ℕ
-max_nodes = 65536
-
--- the program of a text all of whose forms are built and which hasn't too many nodes
-pub record IsProgramOf (bytes : List ℕ) (p : Program) : Type 0 where
-  pub statements : List Statement
-  pub text : IsTextOf bytes statements
-  pub built : unbuilt statements ≡ None
-  pub few : node_count p.functions ≤ max_nodes
-  pub program : p ≡ program_of p.text statements
-  pub keeps : string_bytes p.text ≡ bytes
-
--- all forms of the text are built, and its graph has too many nodes
-abbrev pub HasManyNodes : List ℕ → Type 0
-HasManyNodes bytes =
-    (statements : List Statement) × IsTextOf bytes statements × (unbuilt statements ≡ None) × (max_nodes < node_count (functions_of (lines_of statements)))
-
--- a form of the text is not built, and the first one has this place
-abbrev pub IsUnbuiltAt : List ℕ → Place → Type 0
-IsUnbuiltAt bytes place = (statements : List Statement) × IsTextOf bytes statements × (unbuilt statements ≡ Some place)
-
--- the bytes are a text, and this is what its tokens are refused with, which says why it is none of the language
-abbrev pub IsNone : List ℕ → ParseFault → Type 0
-IsNone bytes fault = IsUtf8 bytes × Explains (tokens bytes) fault × AnswersTo (program max_levels (tokens bytes)) (Err fault)
-
--- why a text has no program
-abbrev pub HasNone : List ℕ → TextFault → Type 0
-HasNone bytes (text_fault.Parse fault) = IsNone bytes fault
-HasNone bytes text_fault.Nodes = HasManyNodes bytes
-HasNone bytes (text_fault.Unbuilt place) = IsUnbuiltAt bytes place
 
 -- What is printed of a program, with these warnings: the table that the printed visits build, which is closed and covers
 -- every run; an operation that goes wrong in some run is among the warnings.
@@ -121,7 +76,8 @@ Analyses bytes Syntax text = (place : Place) × IsNone bytes (fault.Syntax place
 Analyses bytes Scope text =
     (kind : ScopeKind) × (place : Place) × IsNone bytes (fault.Scope kind place) × (text ≡ refusal_text (refusal.Scope kind place))
 Analyses bytes Limit text =
-    ((place : Place) × IsNone bytes (fault.Depth place) × (text ≡ refusal_text refusal.Depth)) ⊎ (HasManyNodes bytes × (text ≡ refusal_text refusal.Nodes))
+    ((place : Place) × IsNone bytes (fault.Depth place) × (text ≡ refusal_text refusal.Depth))
+    ⊎ ((HasManyFunctions bytes × (text ≡ refusal_text refusal.Functions)) ⊎ (HasManyNodes bytes × (text ≡ refusal_text refusal.Nodes)))
 Analyses bytes Unbuilt text = (place : Place) × IsUnbuiltAt bytes place × (text ≡ refusal_text (refusal.Unbuilt place))
 Analyses bytes status text = ⊥
 

@@ -1,14 +1,14 @@
-ghost use Rattle.std.specs.Prelude.{◌≡◌, ◌≤◌, ℕ, List, IfOk, IfErr, length};
+ghost use Rattle.std.specs.Prelude.{◌≡◌, ◌≤◌, ℕ, List, IfOk, length};
 ghost use Rattle.ja_graph.specs.WellFormed.{IsWellFormed};
-ghost use Rattle.ja_tool.specs.Answers.{Analyses, HasNone, IsProgramOf, IsRefusal, IsSolved, Reports, status_of};
+ghost use Rattle.ja_load.specs.Loading.{HasNone};
+ghost use Rattle.ja_tool.specs.Answers.{Analyses, IsRefusal, IsSolved, Reports, status_of};
 
 use crate::status::Status;
-use ja_base::{Memory, Place};
+use ja_base::Memory;
 use ja_grammar::ParseFault;
 use ja_graph::Program;
-use ja_lower::{LowerFault, lower};
+use ja_load::{LoadFault, load};
 use ja_model::Warning;
-use ja_parse::parse;
 use ja_report::{Refusal, refusal_text, report, spent_text};
 use ja_rules::{SolveFault, Solved, solve, warnings};
 use std::alloc::Global;
@@ -79,53 +79,24 @@ fn solve_and_report(alloc: Global, program: &Program) -> Result<Answer, Memory>
     }
 }
 
-/// Why a text has no program.
-#[derive(Clone, Copy, Debug, PartialEq, Eq)]
-pub enum TextFault {
-    /// It is none of the language, or memory was refused.
-    Parse(ParseFault),
-    /// Its graph has more than 65,536 nodes.
-    Nodes,
-    /// The first form that is not built has this place.
-    Unbuilt { place: Place },
-}
-
-/// The program of a text.
-pub fn program_of_text(alloc: Global, text: &str) -> Result<Program, TextFault>
-    requires { length text.now ≤ 16777216 }
-    ensures program { IfOk result (IsProgramOf text.now) }
-    ensures well_formed { IfOk result IsWellFormed }
-    ensures fault { IfErr result (HasNone text.now) }
-{
-    let tree = match parse(alloc, text) {
-        Ok(tree) => tree,
-        Err(fault) => return Err(TextFault::Parse(fault)),
-    };
-    match lower(alloc, &tree, text) {
-        Ok(program) => Ok(program),
-        Err(LowerFault::Unbuilt { place }) => Err(TextFault::Unbuilt { place }),
-        Err(LowerFault::Nodes) => Err(TextFault::Nodes),
-        Err(LowerFault::Memory) => Err(TextFault::Parse(ParseFault::Memory)),
-    }
-}
-
 // Says why a text has no program.
-fn explain(alloc: Global, fault: TextFault) -> Result<Answer, Memory>
+fn explain(alloc: Global, fault: LoadFault) -> Result<Answer, Memory>
     ensures { IfOk result (λ a. (bytes : List ℕ) → HasNone bytes fault → Analyses bytes a.status a.text.items) }
 {
     match fault {
-        TextFault::Parse(ParseFault::Syntax { place }) => {
+        LoadFault::Parse(ParseFault::Syntax { place }) => {
             refuse(alloc, Status::Syntax, Refusal::Syntax { place })
         }
-        TextFault::Parse(ParseFault::Scope { kind, place }) => {
+        LoadFault::Parse(ParseFault::Scope { kind, place }) => {
             refuse(alloc, Status::Scope, Refusal::Scope { kind, place })
         }
-        TextFault::Parse(ParseFault::Depth { .. }) => {
+        LoadFault::Parse(ParseFault::Depth { .. }) => {
             refuse(alloc, Status::Limit, Refusal::Depth)
         }
-        TextFault::Parse(ParseFault::Memory) => Err(Memory),
-        TextFault::Nodes => refuse(alloc, Status::Limit, Refusal::Nodes),
-        TextFault::Unbuilt { place } => refuse(alloc, Status::Unbuilt, Refusal::Unbuilt { place }),
+        LoadFault::Parse(ParseFault::Memory) => Err(Memory),
+        LoadFault::Functions => refuse(alloc, Status::Limit, Refusal::Functions),
+        LoadFault::Nodes => refuse(alloc, Status::Limit, Refusal::Nodes),
+        LoadFault::Unbuilt { place } => refuse(alloc, Status::Unbuilt, Refusal::Unbuilt { place }),
     }
 }
 
@@ -135,7 +106,7 @@ fn analyse_text(alloc: Global, text: &str) -> Result<Answer, Memory>
     requires { length text.now ≤ 16777216 }
     ensures { IfOk result (λ a. Analyses text.now a.status a.text.items) }
 {
-    match program_of_text(alloc, text) {
+    match load(alloc, text) {
         Ok(program) => {
             let answer = solve_and_report(alloc, &program)?;
             Ok(answer)

@@ -21,7 +21,7 @@ pub enum Status {
     Syntax = 7,
     /// The text leaves the profile.
     Scope = 8,
-    /// The text nests too deep, or its graph has too many nodes.
+    /// The text nests too deep, or has too many functions or nodes.
     Limit = 9,
     /// The visits of the budget are spent, and the table isn't closed.
     Spent = 10,

@@ -1,9 +1,9 @@
 //! The answers of the program to whole texts, over memory.
 
-use crate::analysis::program_of_text;
 use crate::status::Status;
 use crate::top::{MAX_BYTES, tajs};
 use ja_base::{MemorySink, MemorySource, NodeId};
+use ja_load::load;
 use ja_model::Item;
 use ja_rules::{SolveFault, solve};
 use std::alloc::Global;
@@ -219,30 +219,77 @@ fn long_texts(rt: HostRuntime) -> Result<(), Fail> {
     Ok(())
 }
 
-// The status of that many statements `1;`, and whether it was refused for its nodes.
-fn statements(alloc: Global, count: usize) -> Result<(Status, bool), Fail> {
-    let mut text = Vec::new(alloc);
+// The status and what was written for a text that has the same bytes that many times, between others.
+fn repeated(
+    alloc: Global,
+    (before, bytes, count, behind): (&[u8], &[u8], usize, &[u8]),
+) -> Result<(Status, Vec<u8>), Fail> {
+    let mut text = before.to_vec(alloc)?;
     for _ in 0..count {
-        text.extend_from_slice(b"1;")?;
+        text.extend_from_slice(bytes)?;
     }
-    let (status, written) = analysed(alloc, &text)?;
-    Ok((
-        status,
-        written.as_slice() == b"limit nodes 65536\n".as_slice(),
-    ))
+    text.extend_from_slice(behind)?;
+    analysed(alloc, &text)
 }
 
 #[test]
-fn nodes(rt: HostRuntime) -> Result<(), Fail> {
-    assert_eq!(rt; statements(rt.alloc(), 65_533)?, (Status::Done, false));
-    assert_eq!(rt; statements(rt.alloc(), 65_534)?, (Status::Limit, true));
+fn limits(rt: HostRuntime) -> Result<(), Fail> {
+    let rows: [((&[u8], &[u8], usize, &[u8]), Status, &[u8]); 6] = [
+        (
+            (b"", b"1;", 65_534, b""),
+            Status::Limit,
+            b"limit nodes 65536\n",
+        ),
+        (
+            (b"function f(", b"a,", 65_527, b"a) {}"),
+            Status::Limit,
+            b"limit nodes 65536\n",
+        ),
+        (
+            (b"function f(", b"a,", 65_526, b"a) {}"),
+            Status::Unbuilt,
+            b"unbuilt 1:1\n",
+        ),
+        (
+            (b"", b"function f() {}", 4_096, b""),
+            Status::Limit,
+            b"limit functions 4096\n",
+        ),
+        (
+            (b"", b"function f() {}", 4_095, b""),
+            Status::Unbuilt,
+            b"unbuilt 1:1\n",
+        ),
+        (
+            (
+                b"",
+                b"try{}finally{",
+                40,
+                b"}}}}}}}}}}}}}}}}}}}}}}}}}}}}}}}}}}}}}}}}",
+            ),
+            Status::Limit,
+            b"limit nodes 65536\n",
+        ),
+    ];
+    for (parts, wanted, line) in rows {
+        let (status, written) = repeated(rt.alloc(), parts)?;
+        assert_eq!(rt; status, wanted, "of {}", parts.2);
+        assert_eq!(rt; written.as_slice(), line);
+    }
+    Ok(())
+}
+
+#[test]
+fn as_many_nodes_as_there_may_be(rt: HostRuntime) -> Result<(), Fail> {
+    let (status, _) = repeated(rt.alloc(), (b"", b"1;", 65_533, b""))?;
+    assert_eq!(rt; status, Status::Done);
     Ok(())
 }
 
 // A budget of one visit is spent on the first node, whose base isn't known yet.
 fn assert_spent(rt: &impl Abort, alloc: Global, text: &str) -> Result<(), Fail> {
     assert!(rt; text.len() <= MAX_BYTES);
-    let Ok(program) = program_of_text(alloc, text) else {
+    let Ok(program) = load(alloc, text) else {
         return Err(Fail::from("no program"));
     };
     match solve(alloc, &program, 1) {
