@@ -63,7 +63,6 @@ fn lower_with(
     first_site: u32,
 ) -> Result<Lowered, LowerFault>
     requires names { length names.now ≤ 65536 }
-    requires sites { first_site ≤ 65536 }
     ensures lowered { IfOk result (λ l. l ≡ lowered_with specials names.now first_site tree.now.statements) }
     ensures within { IfOk result (λ l. IsWithinSize (size_with specials names.now tree.now.statements) tree.now.statements) }
     ensures registers { IfOk result (λ l. AllByRecursion (λ fn. fn.registers ≤ 262144) l.functions) }
@@ -95,8 +94,8 @@ fn lower_with(
 ///
 /// `Functions` exactly where there are more than 4,096 functions, the program among them; else `Nodes`
 /// exactly where they have more than 65,536 nodes, each parameter of a function counted as one more; else `Memory`,
-/// where memory was refused. More than 262,144 registers in a function, or more than 1,048,576 names, count as refused
-/// memory.
+/// where memory was refused. More than 262,144 registers in a function, more than 1,048,576 names, or a site whose number
+/// isn't in 32 bits count as refused memory.
 #[tactic(auto, unfolding(crate::specs::Limits::size_of, crate::specs::Lowering::lowered))]
 pub fn lower(
     alloc: Global,
@@ -105,7 +104,6 @@ pub fn lower(
     first_site: u32,
 ) -> Result<Lowered, LowerFault>
     requires names { length names.now ≤ 65536 }
-    requires sites { first_site ≤ 65536 }
     ensures lowered { IfOk result (λ l. l ≡ lowered names.now first_site tree.now.statements) }
     ensures within { IfOk result (λ l. IsWithin names.now tree.now.statements) }
     ensures registers { IfOk result (λ l. AllByRecursion (λ fn. fn.registers ≤ 262144) l.functions) }
@@ -130,7 +128,6 @@ pub fn lower_prelude(
     first_site: u32,
 ) -> Result<Lowered, LowerFault>
     requires names { length names.now ≤ 65536 }
-    requires sites { first_site ≤ 65536 }
     ensures lowered { IfOk result (λ l. l ≡ lowered_prelude names.now first_site tree.now.statements) }
     ensures within { IfOk result (λ l. IsPreludeWithin names.now tree.now.statements) }
     ensures registers { IfOk result (λ l. AllByRecursion (λ fn. fn.registers ≤ 262144) l.functions) }
