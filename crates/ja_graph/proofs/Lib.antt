@@ -3,3 +3,4 @@ pub mod EachLemmas
 pub mod NumberedLemmas
 pub mod WellFormedLemmas
 pub mod OnceLemmas
+pub mod RegisterLemmas

@@ -1,14 +1,12 @@
 -- Sites that are numbered in order, part by part.
-use Rattle.std.proofs.Common.{◌≡◌, ℕ, zero, suc, ◌+◌, ◌-◌, ◌<◌, ◌≤◌, ◌↔◌, List, [], ◌∷◌, ◌++◌, length, get_or, map, drop, Option, Some, None, refl, sym, ap, ◌∙◌, subst, arith}
+use Rattle.std.proofs.Common.{◌≡◌, ℕ, zero, suc, ◌+◌, ◌-◌, ◌<◌, ◌≤◌, ◌↔◌, List, [], ◌∷◌, ◌++◌, length, get_or, map, drop, Some, None, refl, sym, ap, ◌∙◌, subst, arith}
 use Rattle.std.specs.List.{AllByRecursion, range_with_len}
-use Rattle.std.proofs.lemmas.List.{drop_more, map-append}
-use Rattle.ja_base.specs.declared.ids.Site.{Site}
+use Rattle.std.proofs.lemmas.List.{drop_more}
 use Rattle.ja_graph.specs.declared.node.NodeInfo.{NodeInfo}
-use Rattle.ja_graph.specs.declared.program.Class.{Class}
 use Rattle.ja_graph.specs.declared.program.Function.{Function}
 use Rattle.ja_graph.specs.declared.program.Program.{Program}
-use Rattle.ja_graph.specs.Node.{makings}
-use Rattle.ja_graph.specs.Parts.{AreNumbered, EndsAt, AreSitesNumbered, listed}
+use Rattle.ja_graph.specs.Node.{Making, makings}
+use Rattle.ja_graph.specs.Parts.{AreNumbered, EndsAt, AreSitesNumbered}
 use Rattle.ja_graph.specs.WellFormed.{OwnedMaking, IsSiteTold, owned, makings_of, makings_from}
 
 -- the number of a site
@@ -115,19 +113,7 @@ module _ (p : Program) where
       let there : suc i ≡ i + 1 = omega arith in
       ap (makings_from i) left ∙ ap (λ (k : ℕ). makings_of i fn.nodes ++ makings_from k (drop (i + 1) fns)) there
 
-  listed_cons : (m : Option (Site × Class)) (ms : List (Option (Site × Class))) → listed (m ∷ ms) ≡ listed (m ∷ []) ++ listed ms
-  listed_cons None ms = refl
-  listed_cons (Some m) ms = refl
-
-  listed_from : (i : ℕ) (ms : List (Option (Site × Class))) → listed (drop i ms) ≡ listed (get_or ms i None ∷ []) ++ listed (drop (suc i) ms)
-  listed_from zero [] = refl
-  listed_from (suc i) [] = refl
-  listed_from zero (m ∷ ms) = listed_cons m ms
-  listed_from (suc i) (m ∷ ms) = listed_from i ms
-
-  pub places_left : (owner i : ℕ) (ms : List (Option (Site × Class))) → map (owned owner) (listed (drop i ms)) ≡ map (owned owner) (listed (get_or ms i None ∷ [])) ++ map (owned owner) (listed (drop (i + 1) ms))
-  places_left owner i ms =
-      let there : suc i ≡ i + 1 = omega arith in
-      ap (map (owned owner)) (listed_from i ms)
-      ∙ map-append (owned owner) (listed (get_or ms i None ∷ [])) (listed (drop (suc i) ms))
-      ∙ ap (λ (k : ℕ). map (owned owner) (listed (get_or ms i None ∷ [])) ++ map (owned owner) (listed (drop k ms))) there
+  pub makings_left : (owner i : ℕ) (ms : List Making) (m : Making) → i < length ms → m ≡ get_or ms i m → map (owned owner) (drop i ms) ≡ (owned owner m ∷ []) ++ map (owned owner) (drop (i + 1) ms)
+  makings_left owner i ms m within is =
+      let left : drop i ms ≡ m ∷ drop (i + 1) ms = drop_more ms i m within ∙ ap (λ (x : Making). x ∷ drop (i + 1) ms) (sym is) in
+      ap (map (owned owner)) left

@@ -1,4 +1,5 @@
 pub mod Node
+pub mod Makings
 pub mod Program
 pub mod WellFormed
 pub mod Renaming

@@ -1,5 +1,6 @@
 -- What a node names: registers, names, functions, and the sites where it makes objects.
-use Rattle.std.specs.Prelude.{Bool, true, false, List, [], ◌∷◌, ◌++◌, map, Option, Some, None}
+use Rattle.std.specs.Prelude.{ℕ, Bool, true, false, ◌+◌, max, List, [], ◌∷◌, ◌++◌, map, Option, Some, None}
+use Rattle.std.specs.List.{fold}
 use Rattle.std.specs.Option.{option_to_list}
 use Rattle.ja_base.specs.declared.ids.FnId.{FnId}
 use Rattle.ja_base.specs.declared.ids.NameId.{NameId}
@@ -72,6 +73,14 @@ registers_named (node.Throw src) = src ∷ []
 registers_named (node.Return src) = src ∷ []
 registers_named (node.Intrinsic dst which args) = args
 registers_named _ = []
+
+-- the registers of a node
+abbrev pub registers_in : Node → List Reg
+registers_in node = option_to_list (register_set node) ++ registers_named node
+
+-- as many registers as there were, or so many that these are among them
+abbrev pub registers_with : ℕ → List Reg → ℕ
+registers_with first rs = fold max first (map (λ (r : Reg). r.0 + 1) rs)
 
 -- the name of a node, if it has one
 unfoldable pub name_in : Node → Option NameId

@@ -1,5 +1,5 @@
 -- The parts of a program that is well formed, by name, and what a program's accessors give.
-use Rattle.std.specs.Prelude.{◌≡◌, ◌<◌, ◌≤◌, ◌+◌, ◌-◌, ℕ, List, [], ◌∷◌, Option, Some, None, IsSome, slice_get, length, map, take, ◌↔◌}
+use Rattle.std.specs.Prelude.{◌≡◌, ◌<◌, ◌≤◌, ◌+◌, ◌-◌, ℕ, List, [], ◌∷◌, Option, Some, IsSome, slice_get, length, map, take, ◌↔◌}
 use Rattle.std.specs.Option.{option_map}
 use Rattle.std.specs.List.{AllByRecursion, position_from, range_with_len}
 use Rattle.std.specs.Str.{bytes_eq}
@@ -16,7 +16,6 @@ use Rattle.ja_graph.specs.declared.program.Function.{Function}
 use Rattle.ja_graph.specs.declared.program.ObjectSpec.{ObjectSpec}
 use Rattle.ja_graph.specs.declared.program.PropertySpec.{PropertySpec}
 use Rattle.ja_graph.specs.declared.program.Program.{Program}
-use Rattle.ja_graph.specs.Node.{Making, making}
 use Rattle.ja_graph.specs.Program.{object_spec}
 use Rattle.ja_graph.specs.WellFormed.{IsNodeWellFormed, IsFunctionWellFormed, IsObjectWellFormed, IsContent, IsName, IsBuiltin, IsSiteTold, OwnedMaking, StandsBefore, makings_from, node_count, builtin_names}
 
@@ -37,9 +36,11 @@ default_value p hint.Text = p.text_first
 abbrev pub AreNodesWellFormed : Program → Function → Type 0
 AreNodesWellFormed p fn = (n : ℕ) (info : NodeInfo) → slice_get fn.nodes n ≡ Some info → IsNodeWellFormed p fn info
 
--- the function ends with Escape
-abbrev pub EndsWithEscape : List NodeInfo → Type 0
-EndsWithEscape nodes = (last : NodeInfo) × (slice_get nodes (length nodes - 1) ≡ Some last) × (last.node ≡ Escape)
+-- the last node is Escape
+pub record LastIsEscape (nodes : List NodeInfo) : Type 0 where
+  pub last : NodeInfo
+  pub last_is : slice_get nodes (length nodes - 1) ≡ Some last
+  pub escape : last.node ≡ Escape
 
 -- each function is well formed
 abbrev pub AreFunctionsWellFormed : Program → Type 0
@@ -101,12 +102,6 @@ abbrev pub AreDistinct : List (List ℕ) → Type 0
 AreDistinct names = (i j : ℕ) (t : List ℕ) → slice_get names i ≡ Some t → slice_get names j ≡ Some t → i ≡ j
 
 -- ---- sites of nodes
-
--- sites with the classes of what is made there, those that are there
-abbrev pub listed : List (Option (Site × Class)) → List Making
-listed [] = []
-listed (None ∷ ms) = listed ms
-listed (Some m ∷ ms) = making m.0 m.1 ∷ listed ms
 
 -- a result gives where the numbers of sites end, exactly where they are in order and told
 abbrev pub EndsAt : Program → ℕ → List OwnedMaking → Option ℕ → Type 0

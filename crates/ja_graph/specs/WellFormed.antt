@@ -1,5 +1,5 @@
 -- What makes a program well formed.
-use Rattle.std.specs.Prelude.{◌≡◌, ◌<◌, ◌≤◌, ◌⊎◌, ◌^◌, ◌+◌, ◌-◌, ◌==◌, ℕ, suc, Bool, true, List, [], ◌∷◌, ◌++◌, map, Option, None, Some, IsSome, slice_get, length, take}
+use Rattle.std.specs.Prelude.{◌≡◌, ◌<◌, ◌≤◌, ◌⊎◌, ◌+◌, ◌-◌, ℕ, suc, List, [], ◌∷◌, ◌++◌, map, Some, IsSome, slice_get, length, take}
 use Rattle.std.specs.Option.{option_to_list}
 use Rattle.std.specs.List.{AllByRecursion, flat_map, range_with_len}
 use Rattle.ja_base.specs.declared.ids.FnId.{FnId}

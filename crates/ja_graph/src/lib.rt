@@ -6,12 +6,14 @@ mod attrs;
 mod builtins;
 mod facts;
 mod node;
+mod node_registers;
 mod parts;
 mod program;
 mod registers;
 pub mod renaming;
 #[cfg(test)]
 mod renaming_tests;
+mod sites;
 mod well_formed_functions;
 mod well_formed_names;
 mod well_formed_nodes;
@@ -30,9 +32,11 @@ pub use builtins::{
 };
 pub use facts::may_throw;
 pub use node::{Args, BinaryOp, ErrorKind, Hint, Made, Node, NodeInfo, UnaryOp, Wrappers};
+pub use node_registers::registers_with;
 pub use program::{Class, Function, ObjectSpec, Program, PropertySpec, SiteInfo, SpecContent};
 pub use registers::{CALLEE_REGISTER, COUNT, FIXED_REGISTERS, REST, SCOPE, THIS, THROWN};
 pub use renaming::{Renames, renamed};
+pub use sites::{Making, NodeMakings, makings};
 pub use well_formed_functions::is_function_well_formed;
 pub use well_formed_nodes::{
     all_registers_below, function_in, is_node_well_formed, name_in, register_set,

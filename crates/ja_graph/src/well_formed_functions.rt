@@ -16,8 +16,8 @@ const MOST_REGISTERS: u32 = 262_144;
 const MOST_NODES: usize = 131_072;
 
 /// Whether the last of nodes is Escape.
-fn ends_with_escape(nodes: &[NodeInfo]) -> bool
-    ensures { IsTrue result ↔ spec.EndsWithEscape nodes.now }
+fn is_last_escape(nodes: &[NodeInfo]) -> bool
+    ensures { IsTrue result ↔ spec.LastIsEscape nodes.now }
 {
     match nodes.last() {
         Some(info) => matches!(info.node, Node::Escape),
@@ -62,7 +62,7 @@ fn are_nodes_well_formed(program: &Program, function: &Function) -> bool
 pub fn is_function_well_formed(program: &Program, function: &Function) -> bool
     ensures { IsTrue result ↔ graph.IsFunctionWellFormed program.now function.now }
 {
-    ends_with_escape(function.nodes.as_slice())
+    is_last_escape(function.nodes.as_slice())
         && has_registers(function)
         && are_names(program, function.parameters.as_slice())
         && are_nodes_well_formed(program, function)

@@ -5,9 +5,10 @@ ghost use Rattle.std.specs.List.{AllByRecursion};
 ghost use Rattle.std.specs.Option.{option_to_list};
 ghost use Rattle.ja_base.specs.declared.ids.FnId.{FnId};
 ghost use Rattle.ja_base.specs.declared.ids.Reg.{Reg};
-ghost use Rattle.ja_graph.specs.Node.{argument_registers, register_set, registers_named, name_in, function_in};
+ghost use Rattle.ja_graph.specs.Node.{register_set, registers_named, name_in, function_in};
 ghost use Rattle.ja_graph.specs.WellFormed as graph;
 
+use crate::node_registers::registers_with_named;
 use crate::{Args, FIXED_REGISTERS, Function, Node, NodeInfo, Program};
 use ja_base::{FnId, NameId, Reg};
 
@@ -70,73 +71,11 @@ pub fn function_in(node: &Node) -> Option<FnId>
     }
 }
 
-/// Whether registers are below a limit.
-pub(crate) fn are_below(registers: &[Reg], limit: u32) -> bool
-    ensures { IsTrue result ↔ AllByRecursion (λ (r : Reg). r.0 < limit) registers.now }
-{
-    for register in registers {
-        if register.0 >= limit {
-            return false;
-        }
-    }
-    true
-}
-
-/// Whether the registers of a call's arguments are below a limit.
-fn are_arguments_below(args: &Args, limit: u32) -> bool
-    ensures { IsTrue result ↔ AllByRecursion (λ (r : Reg). r.0 < limit) (argument_registers args.now) }
-{
-    match args {
-        Args::Registers(list) => are_below(list.as_slice(), limit),
-        Args::Elements(array) => array.0 < limit,
-        Args::Tail => true,
-    }
-}
-
 /// Whether the registers that a node names, but for the one that it sets, are below a limit.
-#[tactic(auto, unfolding(crate::specs::Node::registers_named))]
 pub fn all_registers_below(node: &Node, limit: u32) -> bool
     ensures { IsTrue result ↔ AllByRecursion (λ (r : Reg). r.0 < limit) (registers_named node.now) }
 {
-    match node {
-        Node::Move { src, .. }
-        | Node::ToObject { src, .. }
-        | Node::NeedObject { src, .. }
-        | Node::Bind { src, .. }
-        | Node::Unary { src, .. }
-        | Node::Branch { src }
-        | Node::Throw { src }
-        | Node::Return { src } => src.0 < limit,
-        Node::ReadRef { base, .. } | Node::ReadSoft { base, .. } | Node::DeleteRef { base, .. } =>
-            base.0 < limit,
-        Node::WriteRef { base, src, .. } => base.0 < limit && src.0 < limit,
-        Node::ReadProp { object, key, .. }
-        | Node::DeleteProp { object, key, .. }
-        | Node::HasProp { object, key, .. } => object.0 < limit && key.0 < limit,
-        Node::WriteProp {
-            object,
-            key,
-            src,
-            ..
-        } => object.0 < limit && key.0 < limit && src.0 < limit,
-        Node::InstanceOf { left, right, .. } => left.0 < limit && right.0 < limit,
-        Node::Convert { src, other, .. } => {
-            src.0 < limit && other.is_none_or(|other| other.0 < limit)
-        }
-        Node::Binary { a, b, .. } => a.0 < limit && b.0 < limit,
-        Node::Call {
-            callee,
-            receiver,
-            args,
-            ..
-        } => callee.0 < limit && receiver.0 < limit && are_arguments_below(args, limit),
-        Node::New { callee, args, .. } => { callee.0 < limit && are_below(args.as_slice(), limit) }
-        Node::Names { list, object } | Node::Pick { list, object, .. } => {
-            list.0 < limit && object.0 < limit
-        }
-        Node::Intrinsic { args, .. } => are_below(args.as_slice(), limit),
-        _ => true,
-    }
+    registers_with_named(0, node) <= u64::from(limit)
 }
 
 /// Whether a node may set a register of a function.

@@ -1,87 +1,19 @@
 //! Whether the sites of nodes are numbered in order, and told as what they are.
 
 ghost use Rattle.std.specs.Prelude.{◌≡◌, ◌↔◌, ◌<◌, ◌≤◌, ◌∷◌, [], IsTrue, length, map};
-ghost use Rattle.ja_graph.specs.Node.{makings, making, class_of};
+ghost use Rattle.ja_graph.specs.Node.{makings};
 ghost use Rattle.ja_graph.specs.Parts as spec;
 ghost use Rattle.ja_graph.specs.WellFormed as graph;
 
-use crate::{BUILTIN_CLASSES, Class, Made, Node, NodeInfo, Program};
-use ja_base::Site;
-
-/// The class of a new empty object.
-fn class_of(kind: Made) -> Class
-    ensures { result ≡ class_of kind }
-{
-    match kind {
-        Made::Object => Class::Object,
-        Made::Array => Class::Array,
-        Made::Error(_) => Class::Error,
-    }
-}
-
-/// The sites of a node, which are at most four, in the order of its fields, each with the class of what
-/// is made there.
-#[tactic(auto, unfolding(crate::specs::Node::makings))]
-fn makings(node: &Node) -> [Option<(Site, Class)>; 4]
-    ensures { spec.listed result ≡ makings node.now }
-{
-    match node {
-        Node::ReadRef { error, .. }
-        | Node::NeedObject { error, .. }
-        | Node::WriteProp { error, .. }
-        | Node::Call { error, .. } => [Some((*error, Class::Error)), None, None, None],
-        Node::ToObject { sites, error, .. } => [
-            Some((sites.boolean, Class::Boolean)),
-            Some((sites.number, Class::Number)),
-            Some((sites.text, Class::String)),
-            Some((*error, Class::Error)),
-        ],
-        Node::InstanceOf {
-            not_function,
-            not_object,
-            ..
-        } => [
-            Some((*not_function, Class::Error)),
-            Some((*not_object, Class::Error)),
-            None,
-            None,
-        ],
-        Node::NewObject { site, kind, .. } => [Some((*site, class_of(*kind))), None, None, None],
-        Node::MakeFunction {
-            site,
-            proto_site,
-            ..
-        } => [
-            Some((*site, Class::Function)),
-            Some((*proto_site, Class::Object)),
-            None,
-            None,
-        ],
-        Node::Enter { site, arguments } => {
-            let arguments = match arguments {
-                Some(site) => Some((*site, Class::Object)),
-                None => None,
-            };
-            [Some((*site, Class::Activation)), arguments, None, None]
-        }
-        Node::PushScope { site } => [Some((*site, Class::Object)), None, None, None],
-        Node::New { site, error, .. } => [
-            Some((*site, Class::Object)),
-            Some((*error, Class::Error)),
-            None,
-            None,
-        ],
-        _ => [None, None, None, None],
-    }
-}
+use crate::{BUILTIN_CLASSES, Class, Making, Node, NodeInfo, Program, makings};
 
 /// Whether the program tells that the function makes objects of the class at the site.
-fn is_site_told(program: &Program, owner: usize, site: Site, class: Class) -> bool
-    ensures { IsTrue result ↔ graph.IsSiteTold program.now (graph.owned owner (making site class)) }
+fn is_site_told(program: &Program, owner: usize, making: &Making) -> bool
+    ensures { IsTrue result ↔ graph.IsSiteTold program.now (graph.owned owner making.now) }
 {
-    match program.sites.as_slice().get(site.0 as usize) {
+    match program.sites.as_slice().get(making.site.0 as usize) {
         Some(info) => {
-            info.class == class
+            info.class == making.class
                 && match info.owner {
                     Some(function) => function.0 as usize == owner,
                     None => false,
@@ -91,24 +23,14 @@ fn is_site_told(program: &Program, owner: usize, site: Site, class: Class) -> bo
     }
 }
 
-/// The number behind that of a site, if there is one, where it is this number and told.
-fn after(
-    program: &Program,
-    owner: usize,
-    number: usize,
-    made: Option<(Site, Class)>,
-) -> Option<usize>
-    ensures { spec.EndsAt program.now number (map (graph.owned owner) (spec.listed (made ∷ []))) result }
+/// The number behind that of a site, where it is this number and told.
+fn after(program: &Program, owner: usize, number: usize, making: &Making) -> Option<usize>
+    ensures { spec.EndsAt program.now number (graph.owned owner making.now ∷ []) result }
 {
-    match made {
-        Some((site, class)) => {
-            if site.0 as usize == number && is_site_told(program, owner, site, class) {
-                Some(number + 1)
-            } else {
-                None
-            }
-        }
-        None => Some(number),
+    if making.site.0 as usize == number && is_site_told(program, owner, making) {
+        Some(number + 1)
+    } else {
+        None
     }
 }
 
@@ -117,9 +39,9 @@ fn after_node(program: &Program, owner: usize, number: usize, node: &Node) -> Op
     ensures { spec.EndsAt program.now number (map (graph.owned owner) (makings node.now)) result }
 {
     let mut next = number;
-    let made = makings(node);
-    for place in &made {
-        next = after(program, owner, next, *place)?;
+    let makings = makings(node);
+    for making in makings.as_slice() {
+        next = after(program, owner, next, making)?;
     }
     Some(next)
 }

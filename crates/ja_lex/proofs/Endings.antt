@@ -6,7 +6,7 @@ use Rattle.ja_lex.specs.declared.token.Token.{Token}
 use Rattle.ja_lex.specs.declared.element.Element.{Element}
 use Rattle.ja_lex.specs.declared.element.Element.TheVariants as element
 use Rattle.ja_lex.specs.Spots.{after, past, beginning}
-use Rattle.ja_lex.specs.Characters.{char_at}
+use Rattle.ja_prim.specs.Characters.{char_at}
 use Rattle.ja_lex.specs.Marks.{begins_with, longer, longest}
 use Rattle.ja_lex.specs.Tokens.{first_element, element_length, line_behind, led, followed, is_last, token, tokens_after, tokens}
 use Rattle.ja_lex.specs.Laws.{IsEnded, NoneLonger}

@@ -2,9 +2,7 @@ pub mod Bodies
 pub mod Steps
 pub mod Texts
 pub mod Classed
-pub mod Scaling
 pub mod Endings
 pub mod Longest
 pub mod Literals
-pub mod Exact
 pub mod Spans

@@ -1,177 +1,137 @@
 -- What is read of a number is a decimal literal.
-use Rattle.std.proofs.Common.{◌≡◌, ◌≤◌, ◌<◌, ◌⊎◌, inl, inr, ℕ, zero, suc, ◌+◌, Bool, true, false, ◌||◌, ◌==◌, List, [], ◌∷◌, ◌++◌, append_assoc, length, length-take, take, drop, arith, refl, ap, ◌∙◌, sym, subst}
-use Rattle.std.specs.List.{list_all, prefix_len, take_while}
-use Rattle.std.proofs.lemmas.Bool.{cases_lt}
-use Rattle.std.proofs.lemmas.List.Sums.{take_while-cons, prefix_len-le-length}
+use Rattle.std.proofs.Common.{◌≡◌, ◌≤◌, ◌⊎◌, inl, inr, ℕ, ◌+◌, ◌-◌, Bool, true, false, ◌||◌, ◌==◌, if◌then◌else◌, List, [], ◌∷◌, ◌++◌, append_assoc, length, length-append, take, arith, refl, ap, ◌∙◌, sym, subst}
+use Rattle.std.specs.List.{list_all, prefix_len}
+use Rattle.std.proofs.Math.Seq.{take-append_seam}
+use Rattle.std.proofs.lemmas.List.{take-append-drop}
+use Rattle.std.proofs.lemmas.Bool.{and_parts}
 use Rattle.std.proofs.lemmas.Bool.Decides.{nat_tests}
-use Rattle.ja_lex.specs.Characters.{char_at, is_digit}
-use Rattle.ja_lex.specs.Numbers.{digits, fraction, fraction_length, sign_length, has_exponent_letter, exponent, exponent_length, behind_whole, behind_fraction, decimal_length}
+use Rattle.ja_prim.specs.Characters.{char_at, is_digit}
+use Rattle.ja_prim.specs.Numerals.{digits, behind_digits, behind_fraction, is_sign, is_exponent_letter, power, exponent, behind_exponent, behind_decimal}
+use Rattle.ja_prim.proofs.Digits.{split}
+use Rattle.ja_lex.specs.Numbers.{decimal_length}
 use Rattle.ja_lex.specs.Tokens.{begins_number}
 use Rattle.ja_lex.specs.Laws.{IsFraction, IsSign, IsExponent, IsDecimal}
-use Rattle.ja_lex.proofs.Longest.{both, if_true, if_false, length_run, run_none, exponent_of}
+use Rattle.ja_lex.proofs.Classed.{run_all}
+use Rattle.ja_lex.proofs.Longest.{if_true, some_digits, no_digits, digits_past, digits_within, append_parts}
 
-split : (b : Bool) {P : Type 0} → (b ≡ true → P) → (b ≡ false → P) → P
-split true f g = f refl
-split false f g = g refl
+all_digits : (cs : List ℕ) → list_all is_digit (digits cs) ≡ true
+unfolding digits
+all_digits cs = run_all is_digit is_digit (λ _ h. h) cs
 
-all_run : (xs : List ℕ) → list_all is_digit (take_while is_digit xs) ≡ true
-all_run [] = refl
-all_run (x ∷ xs) = split (is_digit x)
-    (λ h. let e : take_while is_digit (x ∷ xs) ≡ x ∷ take_while is_digit xs = take_while-cons is_digit x xs ∙ rw h refl in ap (list_all is_digit) e ∙ rw h (all_run xs))
-    (λ h. let e : take_while is_digit (x ∷ xs) ≡ [] = take_while-cons is_digit x xs ∙ rw h refl in ap (list_all is_digit) e)
+-- ---- the parts of a literal, and what stands behind them
 
-none_take : (n : ℕ) → take {A = ℕ} n [] ≡ []
-none_take zero = refl
-none_take (suc n) = refl
+digits_parted : (cs : List ℕ) → cs ≡ digits cs ++ behind_digits cs
+unfolding digits behind_digits
+digits_parted cs = sym (take-append-drop (prefix_len is_digit cs) cs)
 
-none_drop : (n : ℕ) → drop {A = ℕ} n [] ≡ []
-none_drop zero = refl
-none_drop (suc n) = refl
+-- some characters are a first part, which is what it is to be, and the rest
+record Parted (IsPart : List ℕ → Type 0) (cs rest : List ℕ) : Type 0 where
+  pub part : List ℕ
+  pub sum : cs ≡ part ++ rest
+  pub is_part : IsPart part
 
-take_plus : (a b : ℕ) (xs : List ℕ) → take (a + b) xs ≡ take a xs ++ take b (drop a xs)
-take_plus zero b xs = let e : 0 + b ≡ b = omega arith in rw e refl
-take_plus (suc a) b [] = let e : suc a + b ≡ suc (a + b) = omega arith in rw e (sym (none_take b))
-take_plus (suc a) b (x ∷ xs) = let e : suc a + b ≡ suc (a + b) = omega arith in rw e (ap (λ (ys : List ℕ). x ∷ ys) (take_plus a b xs))
+fraction_parted : (cs : List ℕ) → Parted IsFraction cs (behind_fraction cs)
+unfolding behind_fraction
+fraction_parted [] = record { part = []; sum = refl; is_part = tt }
+fraction_parted (c ∷ cs) = go (c == 46) refl
+  where
+    go : (b : Bool) → c == 46 ≡ b → Parted IsFraction (c ∷ cs) (if b then behind_digits cs else c ∷ cs)
+    go true e = record { part = c ∷ digits cs; sum = ap (λ (v : List ℕ). c ∷ v) (digits_parted cs); is_part = (grind (arith, nat_tests), all_digits cs) }
+    go false e = record { part = []; sum = refl; is_part = tt }
 
-drop_plus : (a b : ℕ) (xs : List ℕ) → drop (a + b) xs ≡ drop b (drop a xs)
-drop_plus zero b xs = let e : 0 + b ≡ b = omega arith in rw e refl
-drop_plus (suc a) b [] = let e : suc a + b ≡ suc (a + b) = omega arith in rw e (sym (none_drop b))
-drop_plus (suc a) b (x ∷ xs) = let e : suc a + b ≡ suc (a + b) = omega arith in rw e (drop_plus a b xs)
+sign_parted : (c : ℕ) (cs : List ℕ) → Parted IsSign cs (power (c ∷ cs))
+unfolding power
+sign_parted c [] = record { part = []; sum = refl; is_part = tt }
+sign_parted c (b ∷ bs) = go (is_sign b) refl
+  where
+    go : (s : Bool) → is_sign b ≡ s → Parted IsSign (b ∷ bs) (if s then bs else b ∷ bs)
+    go true e = record { part = b ∷ []; sum = refl; is_part = (e, refl) }
+    go false e = record { part = []; sum = refl; is_part = tt }
 
--- ---- fractions
-
-fraction_is : (r : List ℕ) → IsFraction (take (fraction_length r) r)
-unfolding fraction fraction_length
-fraction_is [] = tt
-fraction_is (c ∷ xs) = split (c == 46)
-    (λ h. let l : fraction_length (c ∷ xs) ≡ 1 + length (fraction (c ∷ xs)) = if_true (1 + length (fraction (c ∷ xs))) 0 h in
-    let f : fraction (c ∷ xs) ≡ take_while is_digit xs = if_true (take_while is_digit xs) [] h in
-    let n : fraction_length (c ∷ xs) ≡ suc (prefix_len is_digit xs) = l ∙ omega (arith, ap (length {A = ℕ}) f, length_run xs) in
-    let p : c ≡ 46 = grind (arith, nat_tests) in
-    subst (λ (k : ℕ). IsFraction (take k (c ∷ xs))) (sym n) (p, all_run xs))
-    (λ h. let l : fraction_length (c ∷ xs) ≡ 0 = if_false (1 + length (fraction (c ∷ xs))) 0 h in
-    subst (λ (k : ℕ). IsFraction (take k (c ∷ xs))) (sym l) tt)
-
--- ---- exponents
-
-exponent_none : (cs : List ℕ) → length (exponent cs) ≡ 0 → take (exponent_length cs) cs ≡ []
-unfolding exponent_length
-exponent_none cs h =
-    let z : (length (exponent cs) == 0) ≡ true = grind (arith, nat_tests) in
-    ap (λ (k : ℕ). take k cs) (if_true 0 (1 + sign_length cs + length (exponent cs)) z)
-
-exponent_digits : (cs tail : List ℕ) (s : ℕ) → has_exponent_letter cs ≡ true → sign_length cs ≡ s → drop (1 + s) cs ≡ tail → length (exponent cs) ≡ prefix_len is_digit tail
-unfolding exponent
-exponent_digits cs tail s h e f =
-    ap (length {A = ℕ}) (if_true (digits (drop (1 + sign_length cs) cs)) [] h ∙ ap (λ (k : ℕ). take_while is_digit (drop (1 + k) cs)) e ∙ ap (take_while is_digit) f) ∙ length_run tail
-
-power_some : (letter : ℕ) (sign ds w : List ℕ) → letter == 101 || letter == 69 ≡ true → IsSign sign → list_all is_digit ds ≡ true → 1 ≤ length ds → w ≡ letter ∷ (sign ++ ds) → IsExponent w
-power_some letter sign [] w l s a n e = absurd (omega arith)
-power_some letter sign (d ∷ ds) w l s a n e = record {
+exponent_is : (letter : ℕ) (sign ds : List ℕ) → is_exponent_letter letter ≡ true → IsSign sign → list_all is_digit ds ≡ true → 1 ≤ length ds → IsExponent (letter ∷ (sign ++ ds))
+exponent_is letter sign [] l s a n = absurd (omega arith)
+exponent_is letter sign (d ∷ ds) l s a n = record {
   letter = letter;
   sign = sign;
   first = d;
   others = ds;
-  split = e;
+  split = refl;
   is_letter = l;
   is_sign = s;
-  first_digit = (both (is_digit d) (list_all is_digit ds) a).0;
-  other_digits = (both (is_digit d) (list_all is_digit ds) a).1;
+  first_digit = (and_parts (is_digit d) (list_all is_digit ds) a).0;
+  other_digits = (and_parts (is_digit d) (list_all is_digit ds) a).1;
 }
 
--- with a letter and a sign before some digits or none
-power_at : (letter : ℕ) (sign tail cs : List ℕ) (s : ℕ) → letter == 101 || letter == 69 ≡ true → IsSign sign → has_exponent_letter cs ≡ true → sign_length cs ≡ s
-    → take (1 + s) cs ≡ letter ∷ sign → drop (1 + s) cs ≡ tail → (take (exponent_length cs) cs ≡ []) ⊎ IsExponent (take (exponent_length cs) cs)
-power_at letter sign tail cs s l g h e t f = go (cases_lt 0 (prefix_len is_digit tail))
-  where
-    go : (0 < prefix_len is_digit tail) ⊎ (prefix_len is_digit tail ≤ 0) → (take (exponent_length cs) cs ≡ []) ⊎ IsExponent (take (exponent_length cs) cs)
-    go (inr z) = inl (exponent_none cs (exponent_digits cs tail s h e f ∙ omega arith))
-    go (inl z) =
-        let n : exponent_length cs ≡ 1 + s + prefix_len is_digit tail = exponent_of cs tail s h e f z in
-        let k : take (exponent_length cs) cs ≡ letter ∷ (sign ++ take_while is_digit tail) =
-        ap (λ (j : ℕ). take j cs) n ∙ take_plus (1 + s) (prefix_len is_digit tail) cs ∙ ap (λ (v : List ℕ). v ++ take (prefix_len is_digit tail) (drop (1 + s) cs)) t
-        ∙ ap (λ (v : List ℕ). letter ∷ (sign ++ take (prefix_len is_digit tail) v)) f in
-        inr (power_some letter sign (take_while is_digit tail) (take (exponent_length cs) cs) l g (all_run tail) (omega (arith, length_run tail)) k)
+some : (b : Bool) (ds : List ℕ) → (length (if b then ds else []) == 0) ≡ false → (b ≡ true) × (1 ≤ length ds)
+some true ds h = (refl, grind (arith, nat_tests))
+some false ds h = cc
 
-power_is : (r : List ℕ) → (take (exponent_length r) r ≡ []) ⊎ IsExponent (take (exponent_length r) r)
-unfolding exponent exponent_length
-power_is [] = inl refl
-power_is (c ∷ []) = split (c == 101 || c == 69)
-    (λ h. power_at c [] [] (c ∷ []) 0 h tt h refl refl refl)
-    (λ h. inl (exponent_none (c ∷ []) (ap (length {A = ℕ}) (if_false _ [] h))))
-power_is (c ∷ b ∷ bs) = split (c == 101 || c == 69)
-    (λ h. split (b == 43 || b == 45)
-    (λ g. power_at c (b ∷ []) bs (c ∷ b ∷ bs) 1 h (g, refl) h (if_true 1 0 g) refl refl)
-    (λ g. power_at c [] (b ∷ bs) (c ∷ b ∷ bs) 0 h tt h (if_false 1 0 g) refl refl))
-    (λ h. inl (exponent_none (c ∷ b ∷ bs) (ap (length {A = ℕ}) (if_false _ [] h))))
+abbrev MayBeExponent : List ℕ → Type 0
+MayBeExponent w = (w ≡ []) ⊎ IsExponent w
+
+exponent_parted : (cs : List ℕ) → Parted MayBeExponent cs (behind_exponent cs)
+unfolding exponent behind_exponent
+exponent_parted [] = record { part = []; sum = refl; is_part = inl refl }
+exponent_parted (c ∷ cs) = go (length (exponent (c ∷ cs)) == 0) refl
+  where
+    go : (b : Bool) → (length (exponent (c ∷ cs)) == 0) ≡ b → Parted MayBeExponent (c ∷ cs) (if b then c ∷ cs else behind_digits (power (c ∷ cs)))
+    go true e = record { part = []; sum = refl; is_part = inl refl }
+    go false e =
+        let p : List ℕ = power (c ∷ cs) in
+        let s = sign_parted c cs in
+        let l = some (is_exponent_letter c) (digits p) e in
+        record {
+          part = c ∷ (s.part ++ digits p);
+          sum = ap (λ (v : List ℕ). c ∷ v) (s.sum ∙ ap (λ (v : List ℕ). s.part ++ v) (digits_parted p) ∙ sym (append_assoc s.part (digits p) (behind_digits p)));
+          is_part = inr (exponent_is c s.part (digits p) l.0 s.is_part (all_digits p) l.1);
+        }
 
 -- ---- the literal
-
-fraction_within : (r : List ℕ) → fraction_length r ≤ length r
-unfolding fraction fraction_length
-fraction_within [] = omega arith
-fraction_within (c ∷ xs) = split (c == 46)
-    (λ h. let l : fraction_length (c ∷ xs) ≡ 1 + length (fraction (c ∷ xs)) = if_true (1 + length (fraction (c ∷ xs))) 0 h in
-    let f : fraction (c ∷ xs) ≡ take_while is_digit xs = if_true (take_while is_digit xs) [] h in
-    omega (arith, ap (length {A = ℕ}) f, length_run xs, prefix_len-le-length is_digit xs))
-    (λ h. let l : fraction_length (c ∷ xs) ≡ 0 = if_false (1 + length (fraction (c ∷ xs))) 0 h in omega arith)
-
-point_digit : (c d : ℕ) (ds : List ℕ) → c == 46 ≡ true → is_digit d ≡ true → 2 ≤ fraction_length (c ∷ d ∷ ds)
-unfolding fraction fraction_length
-point_digit c d ds h k =
-    let l : fraction_length (c ∷ d ∷ ds) ≡ 1 + length (fraction (c ∷ d ∷ ds)) = if_true (1 + length (fraction (c ∷ d ∷ ds))) 0 h in
-    let f : fraction (c ∷ d ∷ ds) ≡ take_while is_digit (d ∷ ds) = if_true (take_while is_digit (d ∷ ds)) [] h in
-    let n : prefix_len is_digit (d ∷ ds) ≡ 1 + prefix_len is_digit ds = if_true (1 + prefix_len is_digit ds) 0 k in
-    omega (arith, ap (length {A = ℕ}) f, length_run (d ∷ ds))
-
-length_front : (n : ℕ) (xs : List ℕ) → n ≤ length xs → length (take n xs) ≡ n
-length_front n xs h = length-take n xs ∙ omega arith
-
-no_digit : is_digit 0 ≡ false
-unfolding is_digit
-no_digit = refl
 
 either : (a b : Bool) → a || b ≡ true → a ≡ false → b ≡ true
 either true b h e = cc
 either false b h e = h
 
-digit_first : (cs : List ℕ) → begins_number cs ≡ true → (1 ≤ length (take_while is_digit cs)) ⊎ (2 ≤ length (take (fraction_length (behind_whole cs)) (behind_whole cs)))
-unfolding begins_number behind_whole
-digit_first cs h = split (is_digit (char_at cs 0))
-    (λ d. inl (some cs d))
-    (λ n. let e : (char_at cs 0 == 46 ≡ true) × (is_digit (char_at cs 1) ≡ true) = both (char_at cs 0 == 46) (is_digit (char_at cs 1)) (either (is_digit (char_at cs 0)) _ h n) in inr (pointed cs n e.0 e.1))
-  where
-    some : (cs : List ℕ) → is_digit (char_at cs 0) ≡ true → 1 ≤ length (take_while is_digit cs)
-    some [] d = absurd (let e : true ≡ false = sym d ∙ no_digit in cc)
-    some (c ∷ xs) d = let n : prefix_len is_digit (c ∷ xs) ≡ 1 + prefix_len is_digit xs = if_true (1 + prefix_len is_digit xs) 0 d in omega (arith, length_run (c ∷ xs))
+pointed : (c : ℕ) (cs : List ℕ) → c == 46 ≡ true → is_digit (char_at cs 0) ≡ true → 2 + length (behind_fraction (c ∷ cs)) ≤ length (c ∷ cs)
+unfolding behind_fraction
+pointed c [] p h = cc
+pointed c (d ∷ ds) p h =
+    let e : behind_fraction (c ∷ d ∷ ds) ≡ behind_digits ds = if_true (behind_digits (d ∷ ds)) (c ∷ d ∷ ds) p ∙ digits_past (d ∷ []) ds (rw h refl) in
+    omega (arith, ap (length {A = ℕ}) e, digits_within ds)
 
-    pointed : (cs : List ℕ) → is_digit (char_at cs 0) ≡ false → char_at cs 0 == 46 ≡ true → is_digit (char_at cs 1) ≡ true → 2 ≤ length (take (fraction_length (behind_whole cs)) (behind_whole cs))
-    pointed [] n p d = absurd (let e : true ≡ false = sym d ∙ no_digit in cc)
-    pointed (c ∷ []) n p d = absurd (let e : true ≡ false = sym d ∙ no_digit in cc)
-    pointed (c ∷ d ∷ ds) n p k =
-        let b : behind_whole (c ∷ d ∷ ds) ≡ c ∷ d ∷ ds = ap (λ (j : ℕ). drop j (c ∷ d ∷ ds)) (run_none c (d ∷ ds) n) in
-        let l : 2 ≤ fraction_length (c ∷ d ∷ ds) = point_digit c d ds p k in
-        let m : length (take (fraction_length (c ∷ d ∷ ds)) (c ∷ d ∷ ds)) ≡ fraction_length (c ∷ d ∷ ds) = length_front (fraction_length (c ∷ d ∷ ds)) (c ∷ d ∷ ds) (fraction_within (c ∷ d ∷ ds)) in
-        subst (λ (v : List ℕ). 2 ≤ length (take (fraction_length v) v)) (sym b) (omega arith)
+digit_first : (cs : List ℕ) → begins_number cs ≡ true → (1 ≤ length (digits cs)) ⊎ (2 + length (behind_fraction (behind_digits cs)) ≤ length (behind_digits cs))
+unfolding begins_number
+digit_first [] h = cc
+digit_first (c ∷ cs) h = split (is_digit c)
+    (λ d. inl (some_digits c cs d))
+    (λ n. let e = and_parts (c == 46) (is_digit (char_at cs 0)) (either (is_digit c) _ h n) in
+    inr (subst (λ (v : List ℕ). 2 + length (behind_fraction v) ≤ length v) (sym (no_digits c cs n)) (pointed c cs e.0 e.1)))
+
+front_is : (cs front rest : List ℕ) → cs ≡ front ++ rest → take (length cs - length rest) cs ≡ front
+front_is cs front rest e =
+    let n : length cs - length rest ≡ length front = omega (arith, ap (length {A = ℕ}) e, length-append front rest) in
+    ap (λ (k : ℕ). take k cs) n ∙ ap (take (length front)) e ∙ take-append_seam front rest
 
 pub decimal_is : (cs : List ℕ) → begins_number cs ≡ true → IsDecimal (take (decimal_length cs) cs)
-unfolding decimal_length behind_whole behind_fraction
+unfolding behind_decimal
 decimal_is cs h =
-    let n : ℕ = prefix_len is_digit cs in
-    let r : List ℕ = behind_whole cs in
-    let f : ℕ = fraction_length r in
-    let q : List ℕ = behind_fraction cs in
-    let e : ℕ = exponent_length q in
-    let s : take (n + f + e) cs ≡ take n cs ++ (take f r ++ take e q) =
-    take_plus (n + f) e cs ∙ ap (λ (v : List ℕ). v ++ take e (drop (n + f) cs)) (take_plus n f cs) ∙ ap (λ (v : List ℕ). (take n cs ++ take f r) ++ take e v) (drop_plus n f cs)
-    ∙ append_assoc (take n cs) (take f r) (take e q) in
+    let r : List ℕ = behind_digits cs in
+    let f = fraction_parted r in
+    let x = exponent_parted (behind_fraction r) in
+    let n : length r ≡ length f.part + length (behind_fraction r) = ap (length {A = ℕ}) f.sum ∙ length-append f.part (behind_fraction r) in
+    let s : cs ≡ (digits cs ++ (f.part ++ x.part)) ++ behind_decimal cs =
+    digits_parted cs ∙ ap (λ (v : List ℕ). digits cs ++ v) (f.sum ∙ ap (λ (v : List ℕ). f.part ++ v) x.sum) ∙ sym (append_parts (digits cs) f.part x.part (behind_decimal cs)) in
     record {
-      whole = take n cs;
-      point = take f r;
-      power = take e q;
-      split = s;
-      whole_digits = all_run cs;
-      is_fraction = fraction_is r;
-      has_digit = digit_first cs h;
-      is_power = power_is q;
+      whole = digits cs;
+      point = f.part;
+      power = x.part;
+      split = front_is cs (digits cs ++ (f.part ++ x.part)) (behind_decimal cs) s;
+      whole_digits = all_digits cs;
+      is_fraction = f.is_part;
+      has_digit = has_digit _ _ _ _ (digit_first cs h) n;
+      is_power = x.is_part;
     }
+  where
+    has_digit : (a b c p : ℕ) → (1 ≤ a) ⊎ (2 + b ≤ c) → c ≡ p + b → (1 ≤ a) ⊎ (2 ≤ p)
+    has_digit a b c p (inl l) e = inl l
+    has_digit a b c p (inr l) e = inr (omega arith)

@@ -1,17 +1,13 @@
 -- The decimal literal that is read is the longest.
-use Rattle.std.proofs.Common.{◌≡◌, ◌≤◌, ◌⊎◌, inl, inr, ℕ, suc, ◌+◌, Bool, true, false, ◌&&◌, ◌||◌, ◌==◌, if◌then◌else◌, cond, List, [], ◌∷◌, ◌++◌, append_assoc, length, length-take, length-append, drop, arith, refl, ap, ◌∙◌, sym, subst}
-use Rattle.std.specs.List.{list_all, prefix_len, take_while}
-use Rattle.std.proofs.lemmas.List.Sums.{prefix_len-le-length}
+use Rattle.std.proofs.Common.{◌≡◌, ◌≤◌, ◌⊎◌, inl, inr, ℕ, suc, ◌+◌, Bool, true, false, ◌==◌, if◌then◌else◌, List, [], ◌∷◌, ◌++◌, append_assoc, length, length-append, length-drop, drop, arith, refl, ap, ◌∙◌, sym, subst}
+use Rattle.std.specs.List.{list_all, prefix_len}
+use Rattle.std.proofs.lemmas.Bool.{and_parts}
 use Rattle.std.proofs.lemmas.Bool.Decides.{nat_tests}
-use Rattle.ja_lex.specs.Characters.{is_digit}
-use Rattle.ja_lex.specs.Numbers.{digits, fraction, fraction_length, sign_length, has_exponent_letter, exponent, exponent_length, behind_whole, behind_fraction, decimal_length}
+use Rattle.std.proofs.lemmas.List.Folds.{length-prefix_len}
+use Rattle.ja_prim.specs.Characters.{char_at, is_digit}
+use Rattle.ja_prim.specs.Numerals.{digits, behind_digits, behind_fraction, is_sign, is_exponent_letter, power, exponent, behind_exponent, behind_decimal}
+use Rattle.ja_lex.specs.Numbers.{decimal_length}
 use Rattle.ja_lex.specs.Laws.{IsFraction, IsSign, IsExponent, IsDecimal}
-
--- ---- the longest beginning that passes
-
-pub both : (a b : Bool) → a && b ≡ true → (a ≡ true) × (b ≡ true)
-both true b h = (refl, h)
-both false b h = cc
 
 pub if_true : {A : Type 0} {b : Bool} (x y : A) → b ≡ true → (if b then x else y) ≡ x
 if_true x y h = rw h refl
@@ -19,154 +15,125 @@ if_true x y h = rw h refl
 pub if_false : {A : Type 0} {b : Bool} (x y : A) → b ≡ false → (if b then x else y) ≡ y
 if_false x y h = rw h refl
 
-pub length_run : (xs : List ℕ) → length (take_while is_digit xs) ≡ prefix_len is_digit xs
-length_run xs = length-take (prefix_len is_digit xs) xs ∙ omega (arith, prefix_len-le-length is_digit xs)
-
-pub run_past : (xs ys : List ℕ) → list_all is_digit xs ≡ true → prefix_len is_digit (xs ++ ys) ≡ length xs + prefix_len is_digit ys
-run_past [] ys h = omega arith
-run_past (x ∷ xs) ys h =
-    let d : (is_digit x ≡ true) × (list_all is_digit xs ≡ true) = both (is_digit x) (list_all is_digit xs) h in
-    let e : prefix_len is_digit (xs ++ ys) ≡ length xs + prefix_len is_digit ys = run_past xs ys d.1 in
-    let f : cond (is_digit x) (1 + prefix_len is_digit (xs ++ ys)) 0 ≡ 1 + prefix_len is_digit (xs ++ ys) = if_true (1 + prefix_len is_digit (xs ++ ys)) 0 d.0 in
-    f ∙ omega (arith, e)
-
-pub run_none : (x : ℕ) (xs : List ℕ) → is_digit x ≡ false → prefix_len is_digit (x ∷ xs) ≡ 0
-run_none x xs h = if_false (1 + prefix_len is_digit xs) 0 h
-
-drop_past : (n : ℕ) (xs ys : List ℕ) → drop (length xs + n) (xs ++ ys) ≡ drop n ys
-drop_past n [] ys = let e : 0 + n ≡ n = omega arith in rw e refl
-drop_past n (x ∷ xs) ys = let e : length (x ∷ xs) + n ≡ suc (length xs + n) = omega arith in rw e (drop_past n xs ys)
-
 point_no_digit : (c : ℕ) → c ≡ 46 → is_digit c ≡ false
-unfolding is_digit
 point_no_digit c h = grind (arith, nat_tests)
 
-letter_no_digit : (c : ℕ) → c == 101 || c == 69 ≡ true → is_digit c ≡ false
-unfolding is_digit
+letter_no_digit : (c : ℕ) → is_exponent_letter c ≡ true → is_digit c ≡ false
 letter_no_digit c h = grind (arith, nat_tests)
 
-letter_no_point : (c : ℕ) → c == 101 || c == 69 ≡ true → c == 46 ≡ false
+letter_no_point : (c : ℕ) → is_exponent_letter c ≡ true → c == 46 ≡ false
 letter_no_point c h = grind (arith, nat_tests)
 
-digit_no_sign : (c : ℕ) → is_digit c ≡ true → c == 43 || c == 45 ≡ false
-unfolding is_digit
+digit_no_sign : (c : ℕ) → is_digit c ≡ true → is_sign c ≡ false
 digit_no_sign c h = grind (arith, nat_tests)
 
--- ---- exponents
+-- ---- what stands behind digits
 
-pub exponent_of : (cs tail : List ℕ) (s : ℕ) → has_exponent_letter cs ≡ true → sign_length cs ≡ s → drop (1 + s) cs ≡ tail → 1 ≤ prefix_len is_digit tail
-    → exponent_length cs ≡ 1 + s + prefix_len is_digit tail
-unfolding exponent exponent_length
-exponent_of cs tail s h e f n =
-    let g : exponent cs ≡ take_while is_digit tail = if_true (digits (drop (1 + sign_length cs) cs)) [] h ∙ ap (λ (k : ℕ). take_while is_digit (drop (1 + k) cs)) e ∙ ap (take_while is_digit) f in
-    let l : length (exponent cs) ≡ prefix_len is_digit tail = ap length g ∙ length_run tail in
-    let z : (length (exponent cs) == 0) ≡ false = grind (arith, nat_tests) in
-    if_false 0 (1 + sign_length cs + length (exponent cs)) z ∙ ap (λ (k : ℕ). 1 + k + length (exponent cs)) e ∙ ap (λ (k : ℕ). 1 + s + k) l
+pub some_digits : (c : ℕ) (cs : List ℕ) → is_digit c ≡ true → 1 ≤ length (digits (c ∷ cs))
+unfolding digits
+some_digits c cs h = omega (arith, length-prefix_len is_digit (c ∷ cs), if_true (1 + prefix_len is_digit cs) 0 h)
 
-digits_at : (first : ℕ) (others rest : List ℕ) → is_digit first ≡ true → list_all is_digit others ≡ true
-    → prefix_len is_digit (first ∷ (others ++ rest)) ≡ 1 + length others + prefix_len is_digit rest
-digits_at first others rest h k =
-    if_true (1 + prefix_len is_digit (others ++ rest)) 0 h ∙ omega (arith, run_past others rest k)
+pub no_digits : (c : ℕ) (cs : List ℕ) → is_digit c ≡ false → behind_digits (c ∷ cs) ≡ c ∷ cs
+unfolding behind_digits
+no_digits c cs h = ap (λ (k : ℕ). drop k (c ∷ cs)) (if_false (1 + prefix_len is_digit cs) 0 h)
 
-exponent_at : (letter : ℕ) (sign : List ℕ) (first : ℕ) (others rest : List ℕ) → letter == 101 || letter == 69 ≡ true → IsSign sign → is_digit first ≡ true
-    → list_all is_digit others ≡ true → length (letter ∷ (sign ++ first ∷ others)) ≤ exponent_length ((letter ∷ (sign ++ first ∷ others)) ++ rest)
-exponent_at letter [] first others rest l s d k =
-    let n : prefix_len is_digit (first ∷ (others ++ rest)) ≡ 1 + length others + prefix_len is_digit rest = digits_at first others rest d k in
-    let e : exponent_length (letter ∷ (first ∷ (others ++ rest))) ≡ 1 + 0 + prefix_len is_digit (first ∷ (others ++ rest)) =
-    exponent_of (letter ∷ (first ∷ (others ++ rest))) (first ∷ (others ++ rest)) 0 l (if_false 1 0 (digit_no_sign first d)) refl (omega arith) in
-    omega arith
-exponent_at letter (c ∷ []) first others rest l s d k =
-    let n : prefix_len is_digit (first ∷ (others ++ rest)) ≡ 1 + length others + prefix_len is_digit rest = digits_at first others rest d k in
-    let e : exponent_length (letter ∷ (c ∷ (first ∷ (others ++ rest)))) ≡ 1 + 1 + prefix_len is_digit (first ∷ (others ++ rest)) =
-    exponent_of (letter ∷ (c ∷ (first ∷ (others ++ rest)))) (first ∷ (others ++ rest)) 1 l (if_true 1 0 s.0) refl (omega arith) in
-    omega arith
-exponent_at letter (c ∷ b ∷ bs) first others rest l s d k = cc
+pub digits_past : (ds cs : List ℕ) → list_all is_digit ds ≡ true → behind_digits (ds ++ cs) ≡ behind_digits cs
+unfolding behind_digits
+digits_past [] cs h = refl
+digits_past (d ∷ ds) cs h =
+    let e : (is_digit d ≡ true) × (list_all is_digit ds ≡ true) = and_parts (is_digit d) (list_all is_digit ds) h in
+    let n : prefix_len is_digit (d ∷ (ds ++ cs)) ≡ suc (prefix_len is_digit (ds ++ cs)) = if_true (1 + prefix_len is_digit (ds ++ cs)) 0 e.0 ∙ omega arith in
+    ap (λ (k : ℕ). drop k (d ∷ (ds ++ cs))) n ∙ digits_past ds cs e.1
 
-exponent_longest : (w rest : List ℕ) → IsExponent w → length w ≤ exponent_length (w ++ rest)
-exponent_longest w rest h = subst (λ (v : List ℕ). length v ≤ exponent_length (v ++ rest)) (sym h.split)
-    (exponent_at h.letter h.sign h.first h.others rest h.is_letter h.is_sign h.first_digit h.other_digits)
+pub digits_within : (cs : List ℕ) → length (behind_digits cs) ≤ length cs
+unfolding behind_digits
+digits_within cs = omega (arith, length-drop (prefix_len is_digit cs) cs)
+
+-- ---- what stands behind a fraction and an exponent
+
+within : (b : Bool) (xs ys : List ℕ) (n : ℕ) → length xs ≤ n → length ys ≤ n → length (if b then xs else ys) ≤ n
+within true xs ys n h k = h
+within false xs ys n h k = k
+
+fraction_within : (cs : List ℕ) → length (behind_fraction cs) ≤ length cs
+unfolding behind_fraction
+fraction_within cs = within _ (behind_digits (drop 1 cs)) cs (length cs) (omega (arith, digits_within (drop 1 cs), length-drop 1 cs)) (omega arith)
+
+power_within : (cs : List ℕ) → length (power cs) ≤ length cs
+unfolding power
+power_within cs = within _ (drop 2 cs) (drop 1 cs) (length cs) (omega (arith, length-drop 2 cs)) (omega (arith, length-drop 1 cs))
+
+exponent_within : (cs : List ℕ) → length (behind_exponent cs) ≤ length cs
+unfolding behind_exponent
+exponent_within cs = within _ cs (behind_digits (power cs)) (length cs) (omega arith) (omega (arith, digits_within (power cs), power_within cs))
+
+power_is : (letter : ℕ) (sign : List ℕ) (d : ℕ) (cs : List ℕ) → IsSign sign → is_digit d ≡ true → power (letter ∷ (sign ++ d ∷ cs)) ≡ d ∷ cs
+unfolding power
+power_is letter [] d cs s h = if_false cs (d ∷ cs) (digit_no_sign d h)
+power_is letter (c ∷ []) d cs s h = if_true (d ∷ cs) (c ∷ d ∷ cs) s.0
+power_is letter (c ∷ b ∷ bs) d cs s h = cc
+
+exponent_by : (cs : List ℕ) (d : ℕ) (ds : List ℕ) → is_exponent_letter (char_at cs 0) ≡ true → power cs ≡ d ∷ ds → is_digit d ≡ true → behind_exponent cs ≡ behind_digits (d ∷ ds)
+unfolding exponent behind_exponent
+exponent_by cs d ds l p h =
+    let e : exponent cs ≡ digits (d ∷ ds) = if_true (digits (power cs)) [] l ∙ ap digits p in
+    let n : 1 ≤ length (digits (d ∷ ds)) = some_digits d ds h in
+    let z : (length (exponent cs) == 0) ≡ false = ap (λ (xs : List ℕ). length xs == 0) e ∙ grind (arith, nat_tests) in
+    if_false cs (behind_digits (power cs)) z ∙ ap behind_digits p
 
 -- an exponent begins with no digit and no point
-power_run : (w rest : List ℕ) → IsExponent w → prefix_len is_digit (w ++ rest) ≡ 0
-power_run w rest h = subst (λ (v : List ℕ). prefix_len is_digit (v ++ rest) ≡ 0) (sym h.split) (run_none h.letter _ (letter_no_digit h.letter h.is_letter))
+record Passed (w rest : List ℕ) : Type 0 where
+  pub no_digit : behind_digits (w ++ rest) ≡ w ++ rest
+  pub no_point : behind_fraction (w ++ rest) ≡ w ++ rest
+  pub past : behind_exponent (w ++ rest) ≡ behind_digits rest
 
-power_point : (w rest : List ℕ) → IsExponent w → fraction_length (w ++ rest) ≡ 0
-unfolding fraction_length
-power_point w rest h = subst (λ (v : List ℕ). fraction_length (v ++ rest) ≡ 0) (sym h.split) (if_false _ 0 (letter_no_point h.letter h.is_letter))
+passed_at : (letter : ℕ) (sign : List ℕ) (d : ℕ) (ds rest : List ℕ) → is_exponent_letter letter ≡ true → IsSign sign → is_digit d ≡ true → list_all is_digit ds ≡ true
+    → Passed (letter ∷ (sign ++ d ∷ ds)) rest
+unfolding behind_fraction
+passed_at letter sign d ds rest l s h k = record {
+  no_digit = no_digits letter ((sign ++ d ∷ ds) ++ rest) (letter_no_digit letter l);
+  no_point = if_false _ _ (letter_no_point letter l);
+  past =
+      exponent_by (letter ∷ ((sign ++ d ∷ ds) ++ rest)) d (ds ++ rest) l
+      (ap (λ (v : List ℕ). power (letter ∷ v)) (append_assoc sign (d ∷ ds) rest) ∙ power_is letter sign d (ds ++ rest) s h) h
+      ∙ digits_past (d ∷ ds) rest (rw (h, k) refl);
+}
 
--- ---- fractions
-
-fraction_at : (c : ℕ) (ds tail : List ℕ) → c ≡ 46 → list_all is_digit ds ≡ true → fraction_length (c ∷ (ds ++ tail)) ≡ 1 + length ds + prefix_len is_digit tail
-unfolding fraction fraction_length
-fraction_at c ds tail e h =
-    let p : (c == 46) ≡ true = grind (arith, nat_tests) in
-    let f : fraction (c ∷ (ds ++ tail)) ≡ take_while is_digit (ds ++ tail) = if_true (take_while is_digit (ds ++ tail)) [] p in
-    let l : length (fraction (c ∷ (ds ++ tail))) ≡ length ds + prefix_len is_digit tail = ap length f ∙ length_run (ds ++ tail) ∙ run_past ds tail h in
-    if_true (1 + length (fraction (c ∷ (ds ++ tail)))) 0 p ∙ omega (arith, l)
+passed : (w rest : List ℕ) → IsExponent w → Passed w rest
+passed w rest h = subst (λ (v : List ℕ). Passed v rest) (sym h.split) (passed_at h.letter h.sign h.first h.others rest h.is_letter h.is_sign h.first_digit h.other_digits)
 
 -- ---- the literal
 
--- what stands behind the digits before the point, where these digits are followed by no digit
-whole_past : (whole tail : List ℕ) → list_all is_digit whole ≡ true → behind_whole (whole ++ tail) ≡ drop (prefix_len is_digit tail) tail
-unfolding behind_whole
-whole_past whole tail h = ap (λ (k : ℕ). drop k (whole ++ tail)) (run_past whole tail h) ∙ drop_past (prefix_len is_digit tail) whole tail
+past_power : (w rest : List ℕ) → (w ≡ []) ⊎ IsExponent w → length (behind_exponent (behind_digits (w ++ rest))) ≤ length rest
+past_power w rest (inl e) = subst (λ (v : List ℕ). length (behind_exponent (behind_digits (v ++ rest))) ≤ length rest) (sym e) (omega (arith, exponent_within (behind_digits rest), digits_within rest))
+past_power w rest (inr x) =
+    let p = passed w rest x in
+    let e : behind_exponent (behind_digits (w ++ rest)) ≡ behind_digits rest = ap behind_exponent p.no_digit ∙ p.past in
+    omega (arith, ap (length {A = ℕ}) e, digits_within rest)
 
-whole_stays : (whole tail : List ℕ) → list_all is_digit whole ≡ true → prefix_len is_digit tail ≡ 0 → behind_whole (whole ++ tail) ≡ tail
-whole_stays whole tail h z = whole_past whole tail h ∙ ap (λ (k : ℕ). drop k tail) z
+past_point : (point w rest : List ℕ) → IsFraction point → (w ≡ []) ⊎ IsExponent w → length (behind_decimal (point ++ (w ++ rest))) ≤ length rest
+unfolding behind_decimal behind_fraction
+past_point [] w rest f (inl e) =
+    subst (λ (v : List ℕ). length (behind_decimal (v ++ rest)) ≤ length rest) (sym e)
+    (omega (arith, exponent_within (behind_fraction (behind_digits rest)), fraction_within (behind_digits rest), digits_within rest))
+past_point [] w rest f (inr x) =
+    let p = passed w rest x in
+    let e : behind_decimal (w ++ rest) ≡ behind_digits rest = ap (λ (v : List ℕ). behind_exponent (behind_fraction v)) p.no_digit ∙ ap behind_exponent p.no_point ∙ p.past in
+    omega (arith, ap (length {A = ℕ}) e, digits_within rest)
+past_point (c ∷ ds) w rest f q =
+    let tail : List ℕ = ds ++ (w ++ rest) in
+    let p : (c == 46) ≡ true = let e : c ≡ 46 = f.0 in grind (arith, nat_tests) in
+    let e : behind_fraction (behind_digits (c ∷ tail)) ≡ behind_digits (w ++ rest) =
+    ap behind_fraction (no_digits c tail (point_no_digit c f.0)) ∙ if_true (behind_digits tail) (c ∷ tail) p ∙ digits_past ds (w ++ rest) f.1 in
+    subst (λ (v : List ℕ). length (behind_exponent v) ≤ length rest) (sym e) (past_power w rest q)
 
-decimal_parts : (cs : List ℕ) (n f e : ℕ) → prefix_len is_digit cs ≡ n → fraction_length (behind_whole cs) ≡ f → exponent_length (behind_fraction cs) ≡ e → decimal_length cs ≡ n + f + e
-unfolding decimal_length
-decimal_parts cs n f e a b c = rw (a, b, c) refl
-
-longest_by : (whole point power rest : List ℕ) → list_all is_digit whole ≡ true → IsFraction point → (power ≡ []) ⊎ IsExponent power
-    → length whole + length point + length power ≤ decimal_length (whole ++ (point ++ (power ++ rest)))
-unfolding behind_fraction
-longest_by whole [] power rest h p (inl e) =
-    let cs : List ℕ = whole ++ (power ++ rest) in
-    let d : decimal_length cs ≡ prefix_len is_digit cs + fraction_length (behind_whole cs) + exponent_length (behind_fraction cs) = decimal_parts cs _ _ _ refl refl refl in
-    let n : prefix_len is_digit cs ≡ length whole + prefix_len is_digit (power ++ rest) = run_past whole (power ++ rest) h in
-    omega (arith, ap (length {A = ℕ}) e)
-longest_by whole [] power rest h p (inr x) =
-    let cs : List ℕ = whole ++ (power ++ rest) in
-    let z : prefix_len is_digit (power ++ rest) ≡ 0 = power_run power rest x in
-    let n : prefix_len is_digit cs ≡ length whole + prefix_len is_digit (power ++ rest) = run_past whole (power ++ rest) h in
-    let b : behind_whole cs ≡ power ++ rest = whole_stays whole (power ++ rest) h z in
-    let f : fraction_length (behind_whole cs) ≡ 0 = ap fraction_length b ∙ power_point power rest x in
-    let g : behind_fraction cs ≡ power ++ rest = ap (λ (k : ℕ). drop k (behind_whole cs)) f ∙ b in
-    let d : decimal_length cs ≡ prefix_len is_digit cs + 0 + exponent_length (power ++ rest) = decimal_parts cs _ _ _ refl f (ap exponent_length g) in
-    omega (arith, exponent_longest power rest x)
-longest_by whole (c ∷ ds) power rest h p q =
-    let tail : List ℕ = c ∷ (ds ++ (power ++ rest)) in
-    let cs : List ℕ = whole ++ tail in
-    let z : prefix_len is_digit tail ≡ 0 = run_none c (ds ++ (power ++ rest)) (point_no_digit c p.0) in
-    let n : prefix_len is_digit cs ≡ length whole + prefix_len is_digit tail = run_past whole tail h in
-    let b : behind_whole cs ≡ tail = whole_stays whole tail h z in
-    let f : fraction_length (behind_whole cs) ≡ 1 + length ds + prefix_len is_digit (power ++ rest) = ap fraction_length b ∙ fraction_at c ds (power ++ rest) p.0 p.1 in
-    go q cs tail z n b f
-  where
-    go : (power ≡ []) ⊎ IsExponent power → (cs tail : List ℕ) → prefix_len is_digit tail ≡ 0 → prefix_len is_digit cs ≡ length whole + prefix_len is_digit tail
-        → behind_whole cs ≡ c ∷ (ds ++ (power ++ rest)) → fraction_length (behind_whole cs) ≡ 1 + length ds + prefix_len is_digit (power ++ rest)
-        → length whole + length (c ∷ ds) + length power ≤ decimal_length cs
-    go (inl e) cs tail z n b f =
-        let d : decimal_length cs ≡ prefix_len is_digit cs + fraction_length (behind_whole cs) + exponent_length (behind_fraction cs) = decimal_parts cs _ _ _ refl refl refl in
-        omega (arith, ap (length {A = ℕ}) e)
-    go (inr x) cs tail z n b f =
-        let y : prefix_len is_digit (power ++ rest) ≡ 0 = power_run power rest x in
-        let k : fraction_length (behind_whole cs) ≡ length (c ∷ ds) + 0 = f ∙ omega (arith, y) in
-        let g : behind_fraction cs ≡ power ++ rest = ap (λ (j : ℕ). drop j (behind_whole cs)) k ∙ ap (drop (length (c ∷ ds) + 0)) b ∙ drop_past 0 (c ∷ ds) (power ++ rest) in
-        let d : decimal_length cs ≡ prefix_len is_digit cs + fraction_length (behind_whole cs) + exponent_length (power ++ rest) = decimal_parts cs _ _ _ refl refl (ap exponent_length g) in
-        omega (arith, exponent_longest power rest x)
-
-length_parts : (a b c : List ℕ) → length (a ++ (b ++ c)) ≡ length a + length b + length c
-length_parts a b c = simp length-append (omega arith)
-
-append_parts : (a b c r : List ℕ) → (a ++ (b ++ c)) ++ r ≡ a ++ (b ++ (c ++ r))
+pub append_parts : (a b c r : List ℕ) → (a ++ (b ++ c)) ++ r ≡ a ++ (b ++ (c ++ r))
 append_parts a b c r = simp append_assoc
 
 pub decimal_longest : (w rest : List ℕ) → IsDecimal w → length w ≤ decimal_length (w ++ rest)
+unfolding behind_decimal
 decimal_longest w rest h =
-    let e : length w ≡ length h.whole + length h.point + length h.power = ap (length {A = ℕ}) h.split ∙ length_parts h.whole h.point h.power in
-    let f : w ++ rest ≡ h.whole ++ (h.point ++ (h.power ++ rest)) = ap (λ (v : List ℕ). v ++ rest) h.split ∙ append_parts h.whole h.point h.power rest in
-    let g : decimal_length (w ++ rest) ≡ decimal_length (h.whole ++ (h.point ++ (h.power ++ rest))) = ap decimal_length f in
-    let l : length h.whole + length h.point + length h.power ≤ decimal_length (h.whole ++ (h.point ++ (h.power ++ rest))) = longest_by h.whole h.point h.power rest h.whole_digits h.is_fraction h.is_power in
-    omega arith
+    let e : w ++ rest ≡ h.whole ++ (h.point ++ (h.power ++ rest)) = ap (λ (v : List ℕ). v ++ rest) h.split ∙ append_parts h.whole h.point h.power rest in
+    let f : behind_decimal (w ++ rest) ≡ behind_decimal (h.point ++ (h.power ++ rest)) =
+    ap behind_decimal e ∙ ap (λ (v : List ℕ). behind_exponent (behind_fraction v)) (digits_past h.whole (h.point ++ (h.power ++ rest)) h.whole_digits) in
+    omega (arith, ap (length {A = ℕ}) f, past_point h.point h.power rest h.is_fraction h.is_power, length-append w rest)

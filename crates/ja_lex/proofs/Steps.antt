@@ -1,8 +1,7 @@
 -- Steps of the lexer's loops.
-use Rattle.std.proofs.Common.{◌≡◌, ◌≤◌, ◌<◌, ℕ, zero, suc, ◌+◌, ◌-◌, max, Bool, true, false, ◌&&◌, ◌||◌, ◌==◌, if◌then◌else◌, List, [], ◌∷◌, ◌++◌, append_assoc, subst, length, get_or, take, drop, drop-cons, add-one, sub-one, arith, refl, ap, ◌∙◌, sym}
+use Rattle.std.proofs.Common.{◌≡◌, ◌≤◌, ◌<◌, ℕ, zero, suc, ◌+◌, ◌-◌, max, Bool, true, false, ◌&&◌, ◌||◌, ◌==◌, if◌then◌else◌, List, [], ◌∷◌, subst, length, get_or, take, drop, drop-cons, add-one, sub-one, arith, refl, ap, ◌∙◌, sym}
 use Rattle.std.proofs.lemmas.List.{take_all}
-use Rattle.std.specs.List.{list_any, take_while}
-use Rattle.std.proofs.lemmas.List.Sums.{take_while-cons}
+use Rattle.std.specs.List.{list_any}
 use Rattle.std.proofs.lemmas.Bool.Decides.{nat_tests}
 use Rattle.ja_lex.specs.declared.spot.Spot.{Spot}
 use Rattle.ja_lex.specs.declared.token.Token.{Token}
@@ -10,7 +9,7 @@ use Rattle.ja_lex.specs.declared.token.TokenKind.{TokenKind}
 use Rattle.ja_lex.specs.declared.token.TokenKind.TheVariants as kind
 use Rattle.ja_lex.specs.declared.element.Element.{Element}
 use Rattle.ja_lex.specs.declared.element.Element.TheVariants as element
-use Rattle.ja_lex.specs.Characters.{char_at, is_part, is_terminator}
+use Rattle.ja_prim.specs.Characters.{char_at, is_terminator}
 use Rattle.ja_lex.specs.Spots.{after, past}
 use Rattle.ja_lex.specs.Marks.{begins_with, longest, marks, mark_or, mark, stranger, bad}
 use Rattle.ja_lex.specs.Tokens.{first_element, element_length, line_behind, led, followed, is_last, token, tokens_after}
@@ -84,14 +83,6 @@ mark_or_is other (m ∷ ms) h = refl
 pub mark_found : (cs w : List ℕ) → 1 ≤ length w → w ≡ longest [] marks cs → element.Token (kind.Mark w) (length w) ≡ mark cs
 unfolding mark
 mark_found cs w h e = subst (λ (v : List ℕ). element.Token (kind.Mark w) (length w) ≡ mark_or (bad (stranger (char_at cs 0))) v) e (mark_or_is _ w h)
-
--- ---- words
-
-pub word_next : (units cs : List ℕ) (i : ℕ) → i < length cs → is_part (get_or cs i 0) ≡ true
-    → (units ++ get_or cs i 0 ∷ []) ++ take_while is_part (drop (i + 1) cs) ≡ units ++ take_while is_part (drop i cs)
-word_next units cs i h e =
-    append_assoc units (get_or cs i 0 ∷ []) (take_while is_part (drop (i + 1) cs))
-    ∙ ap (λ ws. units ++ ws) (sym (rw (add-one, drop-cons cs i 0) (take_while-cons is_part (get_or cs i 0) (drop (suc i) cs) ∙ rw e refl)))
 
 -- ---- tokens
 

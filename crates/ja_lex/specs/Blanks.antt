@@ -4,7 +4,7 @@ use Rattle.std.specs.Option.{option_map}
 use Rattle.ja_lex.specs.declared.token.TokenFault.TheVariants.{Lexical}
 use Rattle.ja_lex.specs.declared.element.Element.{Element}
 use Rattle.ja_lex.specs.declared.element.Element.TheVariants as element
-use Rattle.ja_lex.specs.Characters.{char_at, is_terminator}
+use Rattle.ja_prim.specs.Characters.{char_at, is_terminator}
 use Rattle.ja_lex.specs.Marks.{bad}
 
 -- no line terminator

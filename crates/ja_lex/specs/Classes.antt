@@ -2,7 +2,7 @@
 use Rattle.std.specs.Prelude.{ℕ, Bool}
 use Rattle.ja_lex.specs.declared.characters.Class.{Class}
 use Rattle.ja_lex.specs.declared.characters.Class.TheVariants.{InLine, Part, Digit, Hexadecimal}
-use Rattle.ja_lex.specs.Characters.{is_part, is_digit, is_hexadecimal}
+use Rattle.ja_prim.specs.Characters.{is_part, is_digit, is_hexadecimal}
 use Rattle.ja_lex.specs.Blanks.{is_in_line}
 
 abbrev pub passes : Class → ℕ → Bool

@@ -1,8 +1,9 @@
 -- What the definition of tokens comes to: lists that end once, and longest matches.
-use Rattle.std.specs.Prelude.{◌≡◌, ◌⊎◌, ◌≤◌, ◌*◌, ◌^◌, ℕ, true, false, ◌||◌, ◌==◌, List, [], ◌∷◌, ◌++◌, length}
+use Rattle.std.specs.Prelude.{◌≡◌, ◌⊎◌, ◌≤◌, ℕ, true, false, List, [], ◌∷◌, ◌++◌, length}
 use Rattle.std.specs.List.{list_all}
 use Rattle.ja_lex.specs.declared.token.Token.{Token}
-use Rattle.ja_lex.specs.Characters.{is_digit}
+use Rattle.ja_prim.specs.Characters.{is_digit}
+use Rattle.ja_prim.specs.Numerals.{is_sign, is_exponent_letter}
 use Rattle.ja_lex.specs.Marks.{begins_with}
 use Rattle.ja_lex.specs.Tokens.{is_last}
 
@@ -30,7 +31,7 @@ IsFraction (c ∷ ds) = (c ≡ 46) × (list_all is_digit ds ≡ true)
 -- nothing, a plus or a minus
 abbrev pub IsSign : List ℕ → Type 0
 IsSign [] = Unit {0}
-IsSign (c ∷ cs) = ((c == 43 || c == 45) ≡ true) × (cs ≡ [])
+IsSign (c ∷ cs) = (is_sign c ≡ true) × (cs ≡ [])
 
 -- an exponent: `e` or `E`, a sign or none, and digits
 pub record IsExponent (w : List ℕ) : Type 0 where
@@ -39,7 +40,7 @@ pub record IsExponent (w : List ℕ) : Type 0 where
   pub first : ℕ
   pub others : List ℕ
   pub split : w ≡ letter ∷ (sign ++ first ∷ others)
-  pub is_letter : (letter == 101 || letter == 69) ≡ true
+  pub is_letter : is_exponent_letter letter ≡ true
   pub is_sign : IsSign sign
   pub first_digit : is_digit first ≡ true
   pub other_digits : list_all is_digit others ≡ true
@@ -54,8 +55,3 @@ pub record IsDecimal (w : List ℕ) : Type 0 where
   pub is_fraction : IsFraction point
   pub has_digit : (1 ≤ length whole) ⊎ (2 ≤ length point)
   pub is_power : (power ≡ []) ⊎ IsExponent power
-
--- v is m * 10^up / 10^down, and the profile has it
-pub record IsValue (m up down v : ℕ) : Type 0 where
-  pub exact : v * 10 ^ down ≡ m * 10 ^ up
-  pub small : v ≤ 9007199254740991

@@ -1,4 +1,3 @@
-pub mod Characters
 pub mod Spots
 pub mod Blanks
 pub mod Classes

@@ -7,7 +7,7 @@ use Rattle.ja_lex.specs.declared.token.TokenKind.TheVariants as kind
 use Rattle.ja_lex.specs.declared.element.Element.{Element}
 use Rattle.ja_lex.specs.declared.element.Element.TheVariants as element
 use Rattle.ja_lex.specs.declared.marks.TheConstants.{MARKS}
-use Rattle.ja_lex.specs.Characters.{char_at}
+use Rattle.ja_prim.specs.Characters.{char_at, is_ascii}
 
 -- a refusal, whose span is its first character
 abbrev pub bad : TokenFault → Element
@@ -33,7 +33,7 @@ marks = map (λ mark. mark.now) MARKS
 
 -- why no token begins with a character that no rule takes: past ASCII it leaves the profile
 abbrev pub stranger : ℕ → TokenFault
-stranger c = if nat_lt c 128 then Lexical else Scope scope.NonAscii
+stranger c = if is_ascii c then Lexical else Scope scope.NonAscii
 
 abbrev pub mark_or : Element → List ℕ → Element
 mark_or other [] = other

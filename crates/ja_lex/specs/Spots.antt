@@ -3,7 +3,7 @@ use Rattle.std.specs.Prelude.{ℕ, zero, suc, ◌+◌, Bool, not, ◌&&◌, ◌=
 use Rattle.std.specs.Char.{len_utf8}
 use Rattle.ja_base.specs.declared.ids.Place.{Place}
 use Rattle.ja_lex.specs.declared.spot.Spot.{Spot}
-use Rattle.ja_lex.specs.Characters.{char_at, is_terminator}
+use Rattle.ja_prim.specs.Characters.{char_at, is_terminator}
 
 abbrev pub place_at : ℕ → ℕ → Place
 place_at line column = record { line = line; column = column }

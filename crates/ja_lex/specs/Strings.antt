@@ -11,7 +11,7 @@ use Rattle.ja_lex.specs.declared.element.Element.TheVariants as element
 use Rattle.ja_lex.specs.declared.item.Item.{Item}
 use Rattle.ja_lex.specs.declared.item.Item.TheVariants as item
 use Rattle.ja_lex.specs.declared.strings.Body.{Body}
-use Rattle.ja_lex.specs.Characters.{char_at, is_terminator, is_digit, is_hexadecimal, is_escape}
+use Rattle.ja_prim.specs.Characters.{char_at, is_terminator, is_digit, is_hexadecimal, is_escape}
 use Rattle.ja_lex.specs.Marks.{bad}
 
 -- what `\` and a character that is no digit, no x, no u and no line terminator stand for: b, t, n, v, f and r a control character, any other itself

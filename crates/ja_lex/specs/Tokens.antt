@@ -8,7 +8,7 @@ use Rattle.ja_lex.specs.declared.token.Token.{Token}
 use Rattle.ja_lex.specs.declared.element.Element.{Element}
 use Rattle.ja_lex.specs.declared.element.Element.TheVariants as element
 use Rattle.ja_lex.specs.declared.spot.Spot.{Spot}
-use Rattle.ja_lex.specs.Characters.{char_at, is_terminator, is_white, is_digit, is_part, is_escape}
+use Rattle.ja_prim.specs.Characters.{char_at, is_terminator, is_blank, is_digit, is_part, is_escape}
 use Rattle.ja_lex.specs.Spots.{beginning, after, past}
 use Rattle.ja_lex.specs.Blanks.{is_in_line, long_comment}
 use Rattle.ja_lex.specs.Words.{word}
@@ -30,9 +30,6 @@ begins_word cs = is_part (char_at cs 0) || is_escape cs 0
 
 unfoldable pub begins_string : List ℕ → Bool
 begins_string cs = char_at cs 0 == 39 || char_at cs 0 == 34
-
-unfoldable pub is_blank : ℕ → Bool
-is_blank c = is_white c || is_terminator c
 
 -- `/` and another character
 unfoldable pub begins_comment : List ℕ → ℕ → Bool

@@ -6,7 +6,7 @@ use Rattle.ja_lex.specs.declared.token.TokenFault.TheVariants.{Scope}
 use Rattle.ja_lex.specs.declared.token.TokenKind.TheVariants as kind
 use Rattle.ja_lex.specs.declared.element.Element.{Element}
 use Rattle.ja_lex.specs.declared.element.Element.TheVariants as element
-use Rattle.ja_lex.specs.Characters.{is_part, is_escape}
+use Rattle.ja_prim.specs.Characters.{is_part, is_escape}
 use Rattle.ja_lex.specs.Marks.{bad}
 
 -- The longest beginning of letters, digits, `_` and `$`. An escape right behind it goes on with the identifier, and is refused.

@@ -1,8 +1,11 @@
-ghost use Rattle.std.specs.Prelude.{◌≡◌, ◌≤◌, drop, length};
-ghost use Rattle.std.specs.List.{prefix_len, take_while};
-ghost use Rattle.ja_lex.specs.Characters as spec;
+ghost use Rattle.std.specs.Prelude.{◌≡◌, ◌≤◌, true, drop, length, IfOk};
+ghost use Rattle.std.specs.List.{list_all, prefix_len, take_while};
+ghost use Rattle.ja_prim.specs.Characters as spec;
 ghost use Rattle.ja_lex.specs.Blanks as blanks;
 ghost use Rattle.ja_lex.specs.Classes.{passes};
+
+use ja_prim::units_of;
+use std::alloc::{AllocFailed, Global};
 
 /// The character at an index, NUL past the end.
 pub fn char_at(text: &[char], index: usize) -> char
@@ -28,7 +31,7 @@ pub fn behind(text: &[char], count: usize) -> &[char]
 }
 
 /// Whether a character is a line terminator (ES3 7.3).
-#[tactic(auto, unfolding(crate::specs::Characters::is_terminator))]
+#[tactic(auto, unfolding(ja_prim::specs::Characters::is_terminator))]
 pub fn is_terminator(c: char) -> bool
     ensures { result ≡ spec.is_terminator c }
 {
@@ -36,7 +39,7 @@ pub fn is_terminator(c: char) -> bool
 }
 
 /// Whether a character is white space (ES3 7.2).
-#[tactic(auto, unfolding(crate::specs::Characters::is_white))]
+#[tactic(auto, unfolding(ja_prim::specs::Characters::is_white))]
 pub fn is_white(c: char) -> bool
     ensures { result ≡ spec.is_white c }
 {
@@ -53,7 +56,6 @@ pub fn is_white(c: char) -> bool
 }
 
 /// Whether a character is a decimal digit.
-#[tactic(auto, unfolding(crate::specs::Characters::is_digit))]
 pub fn is_digit(c: char) -> bool
     ensures { result ≡ spec.is_digit c }
 {
@@ -61,7 +63,7 @@ pub fn is_digit(c: char) -> bool
 }
 
 /// Whether a character is a hexadecimal digit.
-#[tactic(auto, unfolding(crate::specs::Characters::is_hexadecimal))]
+#[tactic(auto, unfolding(ja_prim::specs::Characters::is_hexadecimal))]
 pub fn is_hexadecimal(c: char) -> bool
     ensures { result ≡ spec.is_hexadecimal c }
 {
@@ -69,7 +71,7 @@ pub fn is_hexadecimal(c: char) -> bool
 }
 
 /// Whether an identifier may go on with a character.
-#[tactic(auto, unfolding(crate::specs::Characters::is_part))]
+#[tactic(auto, unfolding(ja_prim::specs::Characters::is_part))]
 pub fn is_part(c: char) -> bool
     ensures { result ≡ spec.is_part c }
 {
@@ -77,7 +79,7 @@ pub fn is_part(c: char) -> bool
 }
 
 /// Whether `\u` and four hexadecimal digits stand at an index.
-#[tactic(auto, unfolding(crate::specs::Characters::is_escape))]
+#[tactic(auto, unfolding(ja_prim::specs::Characters::is_escape))]
 pub fn is_escape(text: &[char], index: usize) -> bool
     requires { index ≤ 67108864 }
     ensures { result ≡ spec.is_escape text.now index }
@@ -133,4 +135,13 @@ pub fn run(class: Class, text: &[char]) -> &[char]
     ensures within { length result.now ≤ length text.now }
 {
     &text[..run_length(class, text)]
+}
+
+/// The units of characters of ASCII.
+#[tactic(auto, using(crate::proofs::Classed::ascii_units))]
+pub fn units(alloc: Global, text: &[char]) -> Result<Vec<u16>, AllocFailed<u16>>
+    requires { list_all spec.is_ascii text.now ≡ true }
+    ensures { IfOk result (λ units. units.items ≡ text.now) }
+{
+    units_of(alloc, text)
 }

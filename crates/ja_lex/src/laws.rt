@@ -1,10 +1,10 @@
 //! What the definition of tokens comes to, in the words of ES3 section 7. The functions do nothing; their contracts are the
 //! laws.
-ghost use Rattle.std.specs.Prelude.{◌≡◌, ◌≤◌, ◌++◌, ℕ, [], List, true, length, take, Some};
+ghost use Rattle.std.specs.Prelude.{◌≡◌, ◌≤◌, ◌++◌, ℕ, [], List, true, length, take};
 ghost use Rattle.std.specs.Str.{IsUtf8};
-ghost use Rattle.ja_lex.specs.Laws.{IsEnded, AreInOrder, NoneLonger, IsDecimal, IsValue};
+ghost use Rattle.ja_lex.specs.Laws.{IsEnded, AreInOrder, NoneLonger, IsDecimal};
 ghost use Rattle.ja_lex.specs.Marks.{marks, longest};
-ghost use Rattle.ja_lex.specs.Numbers.{decimal_length, scaled};
+ghost use Rattle.ja_lex.specs.Numbers.{decimal_length};
 ghost use Rattle.ja_lex.specs.Tokens.{begins_number, tokens};
 
 /// Of each text the last token is the end or a refusal, and no other is.
@@ -30,11 +30,4 @@ pub fn marks_are_longest()
 pub fn decimals_are_longest()
     ensures literal { (text : List ℕ) → begins_number text ≡ true → IsDecimal (take (decimal_length text) text) }
     ensures longest { (word rest : List ℕ) → IsDecimal word → length word ≤ decimal_length (word ++ rest) }
-{}
-
-/// A decimal literal has a value exactly where m * 10^up / 10^down is a whole number that the profile has, and it is that
-/// number.
-pub fn values_are_exact()
-    ensures exact { (m up down value : ℕ) → scaled m up down ≡ Some value → IsValue m up down value }
-    ensures found { (m up down value : ℕ) → IsValue m up down value → scaled m up down ≡ Some value }
 {}

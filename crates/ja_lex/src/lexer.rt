@@ -1,7 +1,7 @@
 ghost use Rattle.std.specs.Prelude.{◌≡◌, ◌<◌, ◌≤◌, false, length, IfOk, take};
 ghost use Rattle.std.specs.List.{list_any};
 ghost use Rattle.std.specs.Str.{chars};
-ghost use Rattle.ja_lex.specs.Characters.{is_terminator};
+ghost use Rattle.ja_prim.specs.Characters.{is_terminator, is_blank};
 ghost use Rattle.ja_lex.specs.Spots.{beginning};
 ghost use Rattle.ja_lex.specs.Laws.{IsEnded};
 ghost use Rattle.ja_lex.specs.Tokens as spec;
@@ -20,9 +20,8 @@ use ja_base::{Memory, Seq};
 use std::alloc::{AllocError, Global};
 
 /// Whether a character is a blank.
-#[tactic(auto, unfolding(crate::specs::Tokens::is_blank))]
 fn is_blank(c: char) -> bool
-    ensures { result ≡ spec.is_blank c }
+    ensures { result ≡ is_blank c }
 {
     is_white(c) || is_terminator(c)
 }

@@ -10,7 +10,6 @@ mod laws;
 mod lexer;
 mod marks;
 mod numbers;
-mod scaled;
 mod spot;
 mod strings;
 #[cfg(test)]
@@ -18,9 +17,7 @@ mod tests;
 mod token;
 mod words;
 
-pub use laws::{
-    decimals_are_longest, marks_are_longest, spans_are_in_order, texts_end_once, values_are_exact,
-};
+pub use laws::{decimals_are_longest, marks_are_longest, spans_are_in_order, texts_end_once};
 pub use lexer::tokens;
 pub use marks::MARKS;
 pub use spot::Spot;

@@ -1,140 +1,133 @@
-ghost use Rattle.std.specs.Prelude.{◌≡◌, ◌≤◌, length, IfOk, IfSome};
+ghost use Rattle.std.specs.Prelude.{◌≡◌, ◌≤◌, true, false, length, IfOk};
+ghost use Rattle.std.specs.List.{list_all};
 ghost use Rattle.std.specs.Str.Parse.{AllDigits};
+ghost use Rattle.ja_prim.specs.Characters.{is_ascii};
+ghost use Rattle.ja_prim.specs.Numerals as numerals;
 ghost use Rattle.ja_lex.specs.Numbers as spec;
 
-use crate::characters::{Class, behind, char_at, is_digit, is_escape, is_part, run, run_length};
+use crate::characters::{
+    Class, behind, char_at, is_digit, is_escape, is_part, run, run_length, units,
+};
 use crate::element::Element;
 use crate::marks::bad;
-use crate::scaled::{limited_value, placed};
 use crate::token::{TokenFault, TokenKind};
 use ja_base::ScopeKind;
-use ja_prim::Int;
-use std::alloc::{AllocError, Global};
+use ja_prim::{Num, Stop, hexadecimal_value, placed};
+use std::alloc::{AllocFailed, Global};
 
-/// The digits behind a `.`, if one stands first.
-#[tactic(auto, using(crate::proofs::Classed::all_digits), unfolding(crate::specs::Numbers::fraction))]
-fn fraction(text: &[char]) -> &[char]
-    ensures value { result.now ≡ spec.fraction text.now }
+/// The longest beginning of digits.
+#[tactic(auto, using(ja_prim::proofs::Digits::all_digits), unfolding(ja_prim::specs::Numerals::digits))]
+fn digits(text: &[char]) -> &[char]
+    ensures value { result.now ≡ numerals.digits text.now }
     ensures within { length result.now ≤ length text.now }
     ensures all { AllDigits 10 result.now }
 {
-    if char_at(text, 0) == '.' {
-        run(Class::Digit, behind(text, 1))
-    } else {
-        &[]
-    }
+    run(Class::Digit, text)
 }
 
-/// How many characters a `.` and the digits behind it are.
-#[tactic(auto, unfolding(crate::specs::Numbers::fraction_length))]
-fn fraction_length(text: &[char]) -> usize
-    requires { length text.now ≤ 16777216 }
-    ensures value { result ≡ spec.fraction_length text.now }
-    ensures within { result ≤ 16777217 }
-{
-    if char_at(text, 0) == '.' {
-        1 + fraction(text).len()
-    } else {
-        0
-    }
-}
-
-/// How many characters the sign behind the first character is.
-fn sign_length(text: &[char]) -> usize
-    ensures value { result ≡ spec.sign_length text.now }
-    ensures within { result ≤ 1 }
-{
-    if char_at(text, 1) == '+' || char_at(text, 1) == '-' {
-        1
-    } else {
-        0
-    }
-}
-
-/// The digits of an exponent, if one stands first.
-#[tactic(auto, unfolding(crate::specs::Numbers::exponent))]
-fn exponent(text: &[char]) -> &[char]
-    ensures value { result.now ≡ spec.exponent text.now }
-    ensures within { length result.now ≤ length text.now }
-{
-    if char_at(text, 0) == 'e' || char_at(text, 0) == 'E' {
-        run(Class::Digit, behind(text, 1 + sign_length(text)))
-    } else {
-        &[]
-    }
-}
-
-/// How many characters an exponent is.
-#[tactic(auto, unfolding(crate::specs::Numbers::exponent_length))]
-fn exponent_length(text: &[char]) -> usize
-    requires { length text.now ≤ 16777216 }
-    ensures value { result ≡ spec.exponent_length text.now }
-    ensures within { result ≤ 16777218 }
-{
-    let digits = exponent(text);
-    if digits.len() == 0 {
-        0
-    } else {
-        1 + sign_length(text) + digits.len()
-    }
-}
-
-/// What stands behind the digits before the point.
-#[tactic(auto, unfolding(crate::specs::Numbers::behind_whole))]
-fn behind_whole(text: &[char]) -> &[char]
-    ensures value { result.now ≡ spec.behind_whole text.now }
+/// What stands behind the digits that stand first.
+#[tactic(auto, unfolding(ja_prim::specs::Numerals::behind_digits))]
+fn behind_digits(text: &[char]) -> &[char]
+    ensures value { result.now ≡ numerals.behind_digits text.now }
     ensures within { length result.now ≤ length text.now }
 {
     behind(text, run_length(Class::Digit, text))
 }
 
-/// What stands behind the fraction.
-#[tactic(auto, unfolding(crate::specs::Numbers::behind_fraction))]
+/// The digits behind a `.`, if one stands first.
+#[tactic(auto, unfolding(ja_prim::specs::Numerals::fraction))]
+fn fraction(text: &[char]) -> &[char]
+    ensures value { result.now ≡ numerals.fraction text.now }
+    ensures within { length result.now ≤ length text.now }
+    ensures all { AllDigits 10 result.now }
+{
+    if char_at(text, 0) == '.' {
+        digits(behind(text, 1))
+    } else {
+        &[]
+    }
+}
+
+/// What stands behind a `.` and its digits, if one stands first.
+#[tactic(auto, unfolding(ja_prim::specs::Numerals::behind_fraction))]
 fn behind_fraction(text: &[char]) -> &[char]
-    requires { length text.now ≤ 16777216 }
-    ensures value { result.now ≡ spec.behind_fraction text.now }
+    ensures value { result.now ≡ numerals.behind_fraction text.now }
     ensures within { length result.now ≤ length text.now }
 {
-    let rest = behind_whole(text);
-    behind(rest, fraction_length(rest))
+    if char_at(text, 0) == '.' {
+        behind_digits(behind(text, 1))
+    } else {
+        text
+    }
+}
+
+/// What stands behind an exponent's letter and its sign, if it has one.
+#[tactic(auto, unfolding(ja_prim::specs::Numerals::power))]
+fn power(text: &[char]) -> &[char]
+    ensures value { result.now ≡ numerals.power text.now }
+    ensures within { length result.now ≤ length text.now }
+{
+    if char_at(text, 1) == '+' || char_at(text, 1) == '-' {
+        behind(text, 2)
+    } else {
+        behind(text, 1)
+    }
+}
+
+/// The digits of an exponent, if one stands first.
+#[tactic(auto, unfolding(ja_prim::specs::Numerals::exponent))]
+fn exponent(text: &[char]) -> &[char]
+    ensures value { result.now ≡ numerals.exponent text.now }
+    ensures all { AllDigits 10 result.now }
+{
+    if char_at(text, 0) == 'e' || char_at(text, 0) == 'E' {
+        digits(power(text))
+    } else {
+        &[]
+    }
+}
+
+/// What stands behind an exponent, if one stands first.
+#[tactic(auto, unfolding(ja_prim::specs::Numerals::behind_exponent))]
+fn behind_exponent(text: &[char]) -> &[char]
+    ensures value { result.now ≡ numerals.behind_exponent text.now }
+    ensures within { length result.now ≤ length text.now }
+{
+    if exponent(text).len() == 0 {
+        text
+    } else {
+        behind_digits(power(text))
+    }
 }
 
 /// How many characters the longest decimal literal is.
-#[tactic(auto, unfolding(crate::specs::Numbers::decimal_length))]
+#[tactic(auto, unfolding(ja_prim::specs::Numerals::behind_decimal))]
 fn decimal_length(text: &[char]) -> usize
-    requires { length text.now ≤ 16777216 }
     ensures value { result ≡ spec.decimal_length text.now }
-    ensures within { result ≤ 50331651 }
+    ensures within { result ≤ length text.now }
 {
-    run_length(Class::Digit, text)
-        + fraction_length(behind_whole(text))
-        + exponent_length(behind_fraction(text))
+    text.len() - behind_exponent(behind_fraction(behind_digits(text))).len()
 }
 
-/// The value of the longest decimal literal, where the profile has it.
-#[tactic(auto, using(crate::proofs::Classed::all_digits, crate::proofs::Classed::all_digits_append), unfolding(crate::specs::Numbers::decimal_value))]
-fn decimal_value(alloc: Global, text: &[char]) -> Result<Option<u64>, AllocError>
+/// The exact value of the longest decimal literal.
+#[tactic(auto, using(ja_prim::proofs::Digits::all_digits_append, crate::proofs::Classed::all_digits), unfolding(ja_prim::specs::Numerals::decimal_value))]
+fn decimal_value(alloc: Global, text: &[char]) -> Result<Result<Num, Stop>, AllocFailed<u16>>
     requires { length text.now ≤ 16777216 }
-    ensures value { IfOk result (λ value. value ≡ spec.decimal_value text.now) }
-    ensures within { IfOk result (λ value. IfSome value (λ n. n ≤ 9007199254740991)) }
+    ensures { IfOk result (λ value. value ≡ numerals.decimal_value false text.now) }
 {
-    let places = fraction(behind_whole(text));
-    let rest = behind_fraction(text);
-    let mut digits = run(Class::Digit, text).to_vec(alloc)?;
-    digits.extend_from_slice(places)?;
-    Ok(placed(
-        char_at(rest, 1) == '-',
-        &digits,
-        exponent(rest),
-        places.len(),
-    ))
+    let rest = behind_fraction(behind_digits(text));
+    let whole = units(alloc, digits(text))?;
+    let places = units(alloc, fraction(behind_digits(text)))?;
+    let power = units(alloc, exponent(rest))?;
+    Ok(placed(false, char_at(rest, 1) == '-', &whole, &places, &power))
 }
 
 /// The hexadecimal digits behind `0x` or `0X`, if these stand there.
-#[tactic(auto, unfolding(crate::specs::Numbers::hexadecimal_digits))]
+#[tactic(auto, using(crate::proofs::Classed::all_hexadecimal), unfolding(crate::specs::Numbers::hexadecimal_digits))]
 fn hexadecimal_digits(text: &[char]) -> &[char]
     ensures value { result.now ≡ spec.hexadecimal_digits text.now }
     ensures within { length result.now ≤ length text.now }
+    ensures ascii { list_all is_ascii result.now ≡ true }
 {
     if char_at(text, 0) == '0' && (char_at(text, 1) == 'x' || char_at(text, 1) == 'X') {
         run(Class::Hexadecimal, behind(text, 2))
@@ -151,19 +144,17 @@ fn is_octal(text: &[char]) -> bool
 }
 
 /// A literal of a length and a value.
-fn of_value(length: usize, value: Option<u64>) -> Element
-    requires { IfSome value (λ n. n ≤ 9007199254740991) }
+fn of_value(length: usize, value: Result<Num, Stop>) -> Element
     ensures { result ≡ spec.of_value length value }
 {
-    let number = match value {
-        None => None,
-        Some(value) => Int::new(value as i64),
-    };
-    match number {
-        None => bad(TokenFault::Scope(ScopeKind::Number)),
-        Some(value) => Element::Token {
-            kind: TokenKind::Number(value),
-            length,
+    match value {
+        Err(_) => bad(TokenFault::Scope(ScopeKind::Number)),
+        Ok(number) => match number {
+            Num::NaN => bad(TokenFault::Scope(ScopeKind::Number)),
+            Num::Whole(value) => Element::Token {
+                kind: TokenKind::Number(value),
+                length,
+            },
         },
     }
 }
@@ -178,7 +169,7 @@ fn is_run_into(text: &[char], index: usize) -> bool
 
 /// The number that the text begins with.
 #[tactic(auto, unfolding(crate::specs::Numbers::number))]
-pub fn number(alloc: Global, text: &[char]) -> Result<Element, AllocError>
+pub fn number(alloc: Global, text: &[char]) -> Result<Element, AllocFailed<u16>>
     requires { length text.now ≤ 16777216 }
     ensures { IfOk result (λ e. e ≡ spec.number text.now) }
 {
@@ -191,7 +182,8 @@ pub fn number(alloc: Global, text: &[char]) -> Result<Element, AllocError>
         if is_run_into(text, length) {
             return Ok(bad(TokenFault::Lexical));
         }
-        return Ok(of_value(length, limited_value(16, digits)));
+        let value = hexadecimal_value(&units(alloc, digits)?);
+        return Ok(of_value(length, value));
     }
     let length = decimal_length(text);
     if is_run_into(text, length) {

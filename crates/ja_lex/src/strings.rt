@@ -1,17 +1,16 @@
 ghost use Rattle.std.specs.Prelude.{◌≡◌, ◌≤◌, ◌+◌, ◌++◌, true, length, IfOk, IfSome, OnOk};
-ghost use Rattle.std.specs.Char.Escape.{encode_utf16};
-ghost use Rattle.ja_lex.specs.Characters.{char_at, is_hexadecimal};
+ghost use Rattle.std.specs.Char.{digit_value};
+ghost use Rattle.ja_prim.specs.Characters.{char_at, is_hexadecimal};
 ghost use Rattle.ja_lex.specs.Strings as spec;
 
 use crate::characters::{behind, char_at, is_digit, is_escape, is_hexadecimal, is_terminator};
 use crate::element::Element;
 use crate::item::Item;
 use crate::marks::bad;
-use crate::scaled::digit;
 use crate::token::{TokenFault, TokenKind};
 use crate::words::MOST_UNITS;
 use ja_base::ScopeKind;
-use ja_prim::Text16;
+use ja_prim::{Text16, push_character};
 use std::alloc::{AllocFailed, Global};
 
 /// What stands between the quotes of a string literal: its units, whether it has an octal escape, and how many characters
@@ -37,6 +36,14 @@ fn escaped(c: char) -> char
         'r' => '\r',
         other => other,
     }
+}
+
+/// The value of a digit.
+fn digit(c: char) -> u32
+    ensures value { result ≡ digit_value c }
+    ensures within { result ≤ 36 }
+{
+    c.to_digit(36).unwrap_or(36)
 }
 
 /// The number of the two hexadecimal digits from an index on.
@@ -138,21 +145,6 @@ fn first_item(text: &[char]) -> Item
             length: 1,
         }
     }
-}
-
-/// Appends the units of a character.
-fn push_character(units: &mut Vec<u16>, c: char) -> Result<(), AllocFailed<u16>>
-    ensures { OnOk result (units.new.items ≡ units.old.items ++ encode_utf16 c) }
-{
-    let code = u32::from(c);
-    if code < 0x1_0000 {
-        units.push(code as u16)?;
-    } else {
-        let over = code - 0x1_0000;
-        units.push((0xD800 + over / 0x400) as u16)?;
-        units.push((0xDC00 + over % 0x400) as u16)?;
-    }
-    Ok(())
 }
 
 /// Whether an item is none.

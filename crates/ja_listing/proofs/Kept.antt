@@ -4,11 +4,12 @@ use Rattle.ja_base.specs.declared.ids.Place.{Place}
 use Rattle.ja_graph.specs.declared.node.Node.{Node}
 use Rattle.ja_graph.specs.declared.node.Node.TheVariants.{Escape}
 use Rattle.ja_graph.specs.declared.node.NodeInfo.{NodeInfo}
+use Rattle.ja_graph.specs.Parts.{LastIsEscape}
 use Rattle.ja_listing.specs.declared.item.Spot.{Spot}
 use Rattle.ja_listing.specs.declared.item.Item.{Item}
 use Rattle.ja_listing.specs.declared.item.Item.TheVariants as item
 use Rattle.ja_listing.specs.Listing.{node_count, nodes_from, assembled}
-use Rattle.ja_listing.specs.Laws.{EndsWithEscape, LastIsEscape, placed}
+use Rattle.ja_listing.specs.Laws.{EndsWithEscape, placed}
 
 pub counted : (whole items : List Item) → length (nodes_from whole items) ≡ node_count items
 unfolding nodes_from node_count

@@ -1,5 +1,5 @@
 -- What assembling a listing comes to.
-use Rattle.std.specs.Prelude.{◌≡◌, ◌-◌, ◌<◌, ℕ, List, [], ◌∷◌, ◌++◌, length, Option, Some, slice_get}
+use Rattle.std.specs.Prelude.{◌≡◌, ◌<◌, ℕ, List, [], ◌∷◌, ◌++◌, length, Option, Some, slice_get}
 use Rattle.ja_base.specs.declared.ids.Place.{Place}
 use Rattle.ja_graph.specs.declared.node.Node.{Node}
 use Rattle.ja_graph.specs.declared.node.Node.TheVariants.{Escape}
@@ -25,12 +25,6 @@ pub record LeadsInside (nodes : ℕ) (info : NodeInfo) : Type 0 where
 -- the edges of each node lead to nodes of its function
 abbrev pub EdgesLeadInside : List NodeInfo → Type 0
 EdgesLeadInside nodes = (n : ℕ) (info : NodeInfo) → slice_get nodes n ≡ Some info → LeadsInside (length nodes) info
-
--- the last node is Escape
-pub record LastIsEscape (nodes : List NodeInfo) : Type 0 where
-  pub last : NodeInfo
-  pub last_is : slice_get nodes (length nodes - 1) ≡ Some last
-  pub escape : last.node ≡ Escape
 
 -- the nodes of a listing with their places, in order
 unfoldable pub placed : List Item → List (Node × Place)

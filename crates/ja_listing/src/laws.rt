@@ -1,8 +1,9 @@
 //! What assembling a listing comes to. The functions do nothing; their contracts are the laws.
 ghost use Rattle.std.specs.Prelude.{◌≡◌, List, length, map};
+ghost use Rattle.ja_graph.specs.Parts.{LastIsEscape};
 ghost use Rattle.ja_listing.specs.declared.item.Item.{Item};
 ghost use Rattle.ja_listing.specs.Listing.{node_count, assembled};
-ghost use Rattle.ja_listing.specs.Laws.{EndsWithEscape, EdgesLeadInside, LastIsEscape, placed};
+ghost use Rattle.ja_listing.specs.Laws.{EndsWithEscape, EdgesLeadInside, placed};
 
 /// A listing comes to as many nodes as it has.
 #[tactic(auto, using(crate::proofs::Kept::assembled_counted))]

@@ -3,7 +3,7 @@ use Rattle.std.proofs.Common.{◌≡◌, ℕ, zero, suc, Bool, true, not, ◌&&�
 use Rattle.std.specs.List.{find, fold, list_any}
 use Rattle.std.specs.Option.{is_some, is_none}
 use Rattle.ja_base.specs.declared.ids.Site.{Site}
-use Rattle.ja_forms.specs.Names.{with_name}
+use Rattle.ja_names.specs.Names.{with_name}
 use Rattle.ja_graph.specs.declared.builtins.TheConstants.{BUILTIN_CLASSES}
 use Rattle.ja_graph.specs.declared.program.ObjectSpec.{ObjectSpec}
 use Rattle.ja_graph.specs.declared.program.PropertySpec.{PropertySpec}

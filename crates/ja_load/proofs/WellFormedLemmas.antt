@@ -5,8 +5,8 @@ use Rattle.std.specs.List.{AllByRecursion, slice_get, find, fold, range_with_len
 use Rattle.std.specs.Option.{is_some}
 use Rattle.std.proofs.lemmas.List.{length-map}
 use Rattle.std.proofs.lemmas.Option.{slice_get_within}
-use Rattle.ja_forms.specs.Names.{with_name}
-use Rattle.ja_forms.specs.TextOrder.{functions_in, names_in}
+use Rattle.ja_names.specs.Names.{with_name}
+use Rattle.ja_names.specs.TextOrder.{functions_in, names_in}
 use Rattle.ja_graph.specs.declared.builtins.TheConstants.{BUILTIN_CLASSES}
 use Rattle.ja_graph.specs.declared.program.Class.{Class}
 use Rattle.ja_graph.specs.declared.program.Function.{Function}

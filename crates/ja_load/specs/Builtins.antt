@@ -4,7 +4,7 @@ use Rattle.std.specs.List.{zip}
 use Rattle.std.specs.Option.{option_map}
 use lib.Chars.{codes}
 use Rattle.ja_base.specs.declared.ids.NameId.{NameId}
-use Rattle.ja_forms.specs.Names.{number}
+use Rattle.ja_names.specs.Names.{number}
 use Rattle.ja_prim.specs.declared.primitive.Num.TheVariants.{NaN, Whole}
 use Rattle.ja_prim.specs.declared.primitive.Primitive.{Primitive}
 use Rattle.ja_prim.specs.declared.primitive.Primitive.TheVariants as primitive

@@ -4,7 +4,7 @@
 ghost use Rattle.std.specs.Prelude.{◌≡◌, ◌<◌, ◌^◌, Some, length, map, IfOk};
 ghost use Rattle.std.specs.List.{zip};
 ghost use Rattle.ja_graph.specs.WellFormed as graph;
-ghost use Rattle.ja_forms.specs.Names.{number};
+ghost use Rattle.ja_names.specs.Names.{number};
 ghost use Rattle.ja_load.specs.Builtins.{builtin_number, error_name, primitive_of, content_of, property_of, object_of, opening_objects, builtin_site, builtin_sites};
 
 use crate::opening::{BUILTIN_PATHS, BuiltinObject, Constant, Content, Entry, OPENING};

@@ -13,6 +13,16 @@ pub use fault::LoadFault;
 pub use loading::load;
 
 #[cfg(test)]
+mod expression_tests;
+#[cfg(test)]
 mod graph_tests;
+#[cfg(test)]
+mod lower_tests;
+#[cfg(test)]
+mod name_tests;
+#[cfg(test)]
+mod parse_tests;
+#[cfg(test)]
+mod statement_tests;
 #[cfg(test)]
 mod tests;

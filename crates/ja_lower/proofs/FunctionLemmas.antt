@@ -1,6 +1,6 @@
 -- Functions of which what is listed is in range are well formed.
-use Rattle.std.proofs.Common.{◌≡◌, ℕ, zero, suc, ◌+◌, ◌-◌, ◌<◌, ◌≤◌, max, Bool, false, List, [], ◌∷◌, ◌++◌, length, map, Some, refl, sym, ap, ◌∙◌, subst, arith}
-use Rattle.std.specs.List.{AllByRecursion, slice_get, flat_map, fold}
+use Rattle.std.proofs.Common.{◌≡◌, ℕ, zero, suc, ◌+◌, ◌-◌, ◌<◌, ◌≤◌, Bool, false, List, [], ◌∷◌, ◌++◌, length, map, Some, refl, sym, ap, ◌∙◌, subst, arith}
+use Rattle.std.specs.List.{AllByRecursion, slice_get, flat_map}
 use Rattle.std.specs.Option.{option_to_list}
 use Rattle.ja_base.specs.declared.ids.FnId.{FnId}
 use Rattle.ja_base.specs.declared.ids.NameId.{NameId}
@@ -11,19 +11,21 @@ use Rattle.ja_graph.specs.declared.node.Node.TheVariants as node
 use Rattle.ja_graph.specs.declared.node.NodeInfo.{NodeInfo}
 use Rattle.ja_graph.specs.declared.program.Function.{Function}
 use Rattle.ja_graph.specs.declared.program.Program.{Program}
-use Rattle.ja_graph.specs.Node.{register_set, registers_named, function_in}
+use Rattle.ja_graph.specs.Node.{register_set, registers_named, registers_in, function_in}
+use Rattle.ja_graph.specs.Parts.{LastIsEscape}
 use Rattle.ja_graph.specs.Renaming.{renamed}
 use Rattle.ja_graph.specs.WellFormed.{IsRegister, IsDestination, IsName, IsAllowed, IsNodeWellFormed, IsFunctionWellFormed}
+use Rattle.ja_graph.proofs.RegisterLemmas.{first_stay, each_among}
 use Rattle.ja_listing.specs.declared.item.Item.{Item}
 use Rattle.ja_listing.specs.declared.item.Item.TheVariants as item
 use Rattle.ja_listing.specs.Listing.{nodes_from, assembled}
-use Rattle.ja_listing.specs.Laws.{EndsWithEscape, LastIsEscape, EdgesLeadInside}
+use Rattle.ja_listing.specs.Laws.{EndsWithEscape, EdgesLeadInside}
 use Rattle.ja_listing.proofs.Kept.{assembled_ends}
 use Rattle.ja_listing.proofs.Inside.{assembled_inside}
 use Rattle.ja_ranges.specs.InRange.{Limits, IsInRange, IsOfTexts, AllInRange}
 use Rattle.ja_ranges.specs.InRange.{IsDestination as IsDestinationWithin}
 use Rattle.ja_lower.specs.declared.body.Body.{Body}
-use Rattle.ja_lower.specs.Lowering.{shifting, site_count, numbered, sites_in, registers_in, registers_of, function_of, functions_of}
+use Rattle.ja_lower.specs.Lowering.{shifting, site_count, numbered, sites_in, registers_of, function_of, functions_of}
 use Rattle.ja_lower.proofs.NumberingLemmas.{sets_kept, named_kept, name_kept, function_kept, IsSited}
 use Rattle.ja_lower.proofs.SiteLemmas.{length-numbered}
 
@@ -63,24 +65,15 @@ flat-at P (i ∷ infos) (suc n) info each is =
 
 -- ---- registers
 
--- the greatest is at least the first, and above each register
-max-first : (m : ℕ) (ns : List ℕ) → m ≤ fold max m ns
-max-first m [] = omega arith
-max-first m (n ∷ ns) = omega (arith, max-first (max m n) ns)
-
-max-each : (m : ℕ) (rs : List Reg) → AllByRecursion (λ (r : Reg). r.0 < fold max m (map (λ (s : Reg). s.0 + 1) rs)) rs
-max-each m [] = tt
-max-each m (r ∷ rs) = (omega (arith, max-first (max m (r.0 + 1)) (map (λ (s : Reg). s.0 + 1) rs)), max-each (max m (r.0 + 1)) rs)
-
 registers_first : (parameters : ℕ) (infos : List NodeInfo) → 6 + parameters ≤ registers_of parameters infos
 unfolding registers_of
 registers_first parameters infos =
-    max-first (6 + parameters) (map (λ (r : Reg). r.0 + 1) (flat_map (λ (info : NodeInfo). registers_in info.node) infos))
+    first_stay (6 + parameters) (flat_map (λ (info : NodeInfo). registers_in info.node) infos)
 
 registers_each : (parameters : ℕ) (infos : List NodeInfo) (n : ℕ) (info : NodeInfo) → slice_get infos n ≡ Some info → AllByRecursion (λ (r : Reg). r.0 < registers_of parameters infos) (registers_in info.node)
 unfolding registers_of
 registers_each parameters infos n info is =
-    flat-at (λ (r : Reg). r.0 < registers_of parameters infos) infos n info (max-each (6 + parameters) (flat_map (λ (i : NodeInfo). registers_in i.node) infos)) is
+    flat-at (λ (r : Reg). r.0 < registers_of parameters infos) infos n info (each_among (6 + parameters) (registers_of parameters infos) (flat_map (λ (i : NodeInfo). registers_in i.node) infos) (omega arith)) is
 
 -- ---- nodes
 

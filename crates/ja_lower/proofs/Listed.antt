@@ -3,8 +3,8 @@ use Rattle.std.proofs.Common.{◌≡◌, ◌+◌, ℕ, List, [], ◌∷◌, leng
 use Rattle.std.proofs.lemmas.List.{length-map}
 use Rattle.std.proofs.lemmas.List.Sums.{sum_by-cons}
 use Rattle.std.specs.List.{fold, sum_by}
-use Rattle.ja_forms.specs.Lines.{Scene}
-use Rattle.ja_forms.specs.TextOrder.{functions_in}
+use Rattle.ja_draft.specs.Lines.{Scene}
+use Rattle.ja_names.specs.TextOrder.{functions_in}
 use Rattle.ja_lower.specs.Limits.{size_of_body}
 use Rattle.ja_lower.specs.Lowering.{program_body, function_body, bodies_of}
 use Rattle.ja_syntax.specs.declared.tree.FunctionOf.{FunctionOf}

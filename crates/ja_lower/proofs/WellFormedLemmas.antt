@@ -7,10 +7,10 @@ use Rattle.ja_graph.specs.declared.program.Function.{Function}
 use Rattle.ja_graph.specs.declared.program.Program.{Program}
 use Rattle.ja_graph.specs.declared.program.SiteInfo.{SiteInfo}
 use Rattle.ja_graph.specs.WellFormed.{IsFunctionWellFormed, OwnedMaking, makings_from, IsSiteTold, node_count}
-use Rattle.ja_forms.specs.Functions.{program_listing, function_listing}
-use Rattle.ja_forms.specs.Lines.{Scene}
-use Rattle.ja_forms.specs.Names.{number}
-use Rattle.ja_forms.specs.TextOrder.{functions_in}
+use Rattle.ja_statements.specs.Functions.{program_listing, function_listing}
+use Rattle.ja_draft.specs.Lines.{Scene}
+use Rattle.ja_names.specs.Names.{number}
+use Rattle.ja_names.specs.TextOrder.{functions_in}
 use Rattle.ja_ranges.specs.InRange.{AllInRange, limits_of}
 use Rattle.ja_ranges.proofs.FunctionRanges.{program_in_range, function_in_range, program_ends, function_ends}
 use Rattle.ja_ranges.proofs.LineRanges.{name_in_range}

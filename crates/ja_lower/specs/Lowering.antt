@@ -1,22 +1,21 @@
 -- What a tree is lowered to: the functions of its text with their nodes, the sites of these nodes, and the names.
-use Rattle.std.specs.Prelude.{ℕ, Bool, true, false, suc, ◌+◌, max, List, [], ◌∷◌, ◌++◌, map, length, Option, Some, None}
+use Rattle.std.specs.Prelude.{ℕ, Bool, true, false, suc, ◌+◌, List, [], ◌∷◌, ◌++◌, map, length, Option, Some, None}
 use Rattle.std.specs.List.{fold, flat_map, sum_by}
-use Rattle.std.specs.Option.{option_map_or, option_to_list}
+use Rattle.std.specs.Option.{option_map_or}
 use Rattle.ja_base.specs.declared.ids.FnId.{FnId}
-use Rattle.ja_base.specs.declared.ids.Reg.{Reg}
 use Rattle.ja_graph.specs.declared.node.Node.{Node}
 use Rattle.ja_graph.specs.declared.node.NodeInfo.{NodeInfo}
 use Rattle.ja_graph.specs.declared.program.Class.{Class}
 use Rattle.ja_graph.specs.declared.program.Class.TheVariants as class
 use Rattle.ja_graph.specs.declared.program.Function.{Function}
 use Rattle.ja_graph.specs.declared.program.SiteInfo.{SiteInfo}
-use Rattle.ja_graph.specs.Node.{Making, register_set, registers_named, function_in, makings}
+use Rattle.ja_graph.specs.Node.{Making, registers_in, registers_with, function_in, makings}
 use Rattle.ja_graph.specs.Renaming.{Renaming, identity, renamed}
 use Rattle.ja_listing.specs.Listing.{assembled}
-use Rattle.ja_forms.specs.Functions.{program_listing, function_listing}
-use Rattle.ja_forms.specs.Lines.{Scene}
-use Rattle.ja_forms.specs.Names.{number, with_name}
-use Rattle.ja_forms.specs.TextOrder.{functions_in, names_in}
+use Rattle.ja_statements.specs.Functions.{program_listing, function_listing}
+use Rattle.ja_draft.specs.Lines.{Scene}
+use Rattle.ja_names.specs.Names.{number, with_name}
+use Rattle.ja_names.specs.TextOrder.{functions_in, names_in}
 use Rattle.ja_lower.specs.declared.body.Body.{Body}
 use Rattle.ja_lower.specs.declared.lowered.Lowered.{Lowered}
 use Rattle.ja_syntax.specs.declared.tree.FunctionOf.{FunctionOf}
@@ -58,12 +57,9 @@ bodies_of scene statements = program_body scene statements ∷ map (function_bod
 
 -- ---- registers: those that each function has, and as many as its nodes name
 
-abbrev pub registers_in : Node → List Reg
-registers_in node = option_to_list (register_set node) ++ registers_named node
-
 unfoldable pub registers_of : ℕ → List NodeInfo → ℕ
 registers_of parameters nodes =
-    fold max (6 + parameters) (map (λ (r : Reg). r.0 + 1) (flat_map (λ (info : NodeInfo). registers_in info.node) nodes))
+    registers_with (6 + parameters) (flat_map (λ (info : NodeInfo). registers_in info.node) nodes)
 
 -- ---- sites: they are numbered by function and node
 

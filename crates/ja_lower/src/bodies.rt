@@ -3,8 +3,8 @@
 ghost use Rattle.std.specs.Prelude.{◌≡◌, ◌≤◌, ◌+◌, ◌++◌, [], length, map, IfOk, IfErr, OnOk};
 ghost use Rattle.std.specs.List.{sum_by};
 ghost use Rattle.std.specs.Option.{option_map_or};
-ghost use Rattle.ja_forms.specs.Names.{number};
-ghost use Rattle.ja_forms.specs.TextOrder as text;
+ghost use Rattle.ja_names.specs.Names.{number};
+ghost use Rattle.ja_names.specs.TextOrder as text;
 ghost use Rattle.ja_listing.specs.Listing.{assembled};
 ghost use Rattle.ja_lower.specs.Limits.{size_of_body};
 ghost use Rattle.ja_lower.specs.Lowering as spec;
@@ -12,10 +12,12 @@ ghost use Rattle.ja_lower.specs.Room.{Exceeds};
 
 use crate::{Body, LowerFault};
 use ja_base::{Memory, NameId, Place, Seq};
-use ja_forms::{Draft, Names, Scene, function_listing, program_listing};
+use ja_draft::{Draft, Scene};
 use ja_graph::NodeInfo;
 use ja_listing::assembled;
+use ja_names::Names;
 use ja_prim::Text16;
+use ja_statements::{function_listing, program_listing};
 use ja_syntax::{FunctionTree, Name, Statement};
 use std::alloc::Global;
 

@@ -14,8 +14,6 @@ mod lowered;
 mod numbering;
 mod registers;
 mod sites;
-#[cfg(test)]
-mod tests;
 mod whole;
 
 use crate::bodies::bodies_of;
@@ -23,7 +21,7 @@ use crate::whole::whole_of;
 pub use body::Body;
 pub use fault::LowerFault;
 use ja_base::{Memory, Seq};
-use ja_forms::{Names, add_names, functions_in};
+use ja_names::{Names, add_names, functions_in};
 use ja_prim::Text16;
 use ja_syntax::{Statement, Tree};
 pub use lowered::Lowered;
@@ -114,7 +112,7 @@ pub fn lower(
 }
 
 /// Lowers the tree of a text of built-in functions: as `lower`, but names that begin with `$` are special forms
-/// (`ja_forms::SPECIALS`), where the table has them. The call of a special form that doesn't have its arguments, or such a
+/// (`ja_expressions::SPECIALS`), where the table has them. The call of a special form that doesn't have its arguments, or such a
 /// name that isn't called, is undefined.
 ///
 /// # Errors

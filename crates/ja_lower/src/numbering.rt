@@ -6,9 +6,8 @@ ghost use Rattle.ja_graph.specs.Node as graph;
 ghost use Rattle.ja_graph.specs.Renaming.{renamed};
 ghost use Rattle.ja_lower.specs.Lowering as spec;
 
-use crate::sites::{Making, makings};
 use ja_base::{FnId, Memory, NameId, Reg, Seq, Site};
-use ja_graph::{NodeInfo, Renames, renamed};
+use ja_graph::{Making, NodeInfo, Renames, makings, renamed};
 use std::alloc::Global;
 
 /// Sites that are numbered from a number on, as far as numbers go.
@@ -96,9 +95,9 @@ pub(crate) fn numbered(
     let mut list = Vec::with_capacity(alloc, nodes.len())?;
     let mut first = first_site;
     for info in nodes {
-        let makings = makings(alloc, &info.node)?;
-        list.push(shifted(alloc, first, info, &makings)?)?;
-        first = behind(first, makings.len())?;
+        let makings = makings(&info.node);
+        list.push(shifted(alloc, first, info, makings.as_slice())?)?;
+        first = behind(first, makings.as_slice().len())?;
     }
     Ok(Seq::from_vec(list))
 }

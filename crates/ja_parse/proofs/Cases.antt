@@ -12,7 +12,7 @@ use Rattle.ja_grammar.specs.Input.{Tokens, Outcome, Done, Refused, Follows, ◌>
 use Rattle.ja_grammar.specs.ReadExpression.{Below}
 use Rattle.ja_grammar.specs.ReadStatement.{Clauses, clause_by, case, default}
 use Rattle.ja_parse.specs.Clauses.{clauses_from, clauses_behind}
-use Rattle.ja_parse.proofs.Turns.{one_more, no_more, same_error}
+use Rattle.ja_cursor.proofs.Turns.{one_more, no_more, same_error}
 
 module _ (d : ℕ) (b : Below) (c : Context) where
   pub clauses_start : (n : ℕ) (i : Tokens) → n ≡ length i → clauses_behind d b c i ≡ clauses_from d b c (n - 0) (record { defaulted = false; found = [] }) i

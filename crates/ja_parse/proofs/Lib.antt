@@ -1,9 +1,5 @@
 pub mod Cases
 pub mod Keywords
 pub mod Levels
-pub mod Marks
 pub mod Operators
-pub mod References
-pub mod Sequences
-pub mod Turns
 pub mod Variables

@@ -1,4 +1,4 @@
-//! Blocks, declared variables and the ends of statements (ES3 12.1, 12.2, 7.9).
+//! Blocks, declared variables and expression statements (ES3 12.1, 12.2, 12.4).
 
 ghost use Rattle.std.specs.Prelude.{zero, true, false};
 ghost use Rattle.ja_syntax.specs.declared.symbol.Symbol.TheVariants as k;
@@ -13,36 +13,12 @@ ghost use Rattle.ja_grammar.specs.declared.part.ExpressionPart.TheVariants as of
 ghost use Rattle.ja_grammar.specs.declared.part.StatementPart.TheVariants as part;
 ghost use Rattle.ja_parse.specs.Nests.{Nests};
 
-use crate::cursor::Cursor;
 use crate::grammar::Grammar;
-use crate::name::declared;
-use crate::operator::{ends_clause, is_close_brace};
+use ja_cursor::{Cursor, declared, ended, ends_clause, is_close_brace};
 use ja_grammar::{Context, ExpressionPart, Refusal, StatementPart, Stop};
 use ja_syntax::{Declaration, Expression, Initialiser, Statement, Symbol};
 use sqlite_items::Items;
 use std::alloc::Global;
-
-/// Ends a statement: takes `;`, or inserts it before `}`, the text's end or a new line (7.9).
-#[tactic(auto, unfolding(ja_grammar::specs::ReadStatement::ended))]
-pub fn ended(cursor: &mut Cursor<'_>) -> Result<(), Stop>
-    ensures { Follows (spec.ended cursor.old) result cursor.new }
-{
-    match cursor.symbol() {
-        Symbol::Semicolon => {
-            cursor.take();
-            Ok(())
-        }
-        Symbol::CloseBrace => Ok(()),
-        Symbol::End => Ok(()),
-        _ => {
-            if cursor.line_before() {
-                Ok(())
-            } else {
-                Err(Stop::Refused(Refusal::Unexpected))
-            }
-        }
-    }
-}
 
 impl<
     F: Fn(Global, &mut Cursor<'_>, usize, ExpressionPart) -> Result<Expression, Stop>,

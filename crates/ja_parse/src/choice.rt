@@ -14,12 +14,9 @@ ghost use Rattle.ja_grammar.specs.declared.part.StatementPart.TheVariants as par
 ghost use Rattle.ja_parse.specs.Nests.{Nests};
 ghost use Rattle.ja_parse.specs.Clauses.{clauses_behind, try_behind_catch, try_whole};
 
-use crate::context::switch_context;
-use crate::cursor::Cursor;
 use crate::grammar::Grammar;
-use crate::name::declared;
-use crate::tree::if_of;
 use ja_base::Place;
+use ja_cursor::{Cursor, declared, if_of, switch_context};
 use ja_grammar::{Context, ExpressionPart, Refusal, StatementPart, Stop};
 use ja_syntax::{Case, CatchOf, Expression, Statement, Symbol};
 use sqlite_items::Items;

@@ -10,18 +10,17 @@ ghost use Rattle.ja_grammar.specs.ReadExpression as spec;
 ghost use Rattle.ja_grammar.specs.ReadStatement.{below};
 ghost use Rattle.ja_parse.specs.Nests.{Nests};
 
-use crate::cursor::Cursor;
 use crate::grammar::Grammar;
-use crate::operator::{
-    LEVELS, assignment_operator, begins_property, begins_suffix, binary_operator, is_prefix,
-    postfix_of, prefix_update, unary_operator,
-};
-use crate::reference::is_reference;
-use crate::tree::{assign, chained, conditional, created, operated, sequence, unary, update};
 use ja_base::Place;
+use ja_cursor::{
+    Cursor, LEVELS, assign, assignment_operator, begins_property, begins_suffix, binary_operator,
+    chained, conditional, created, is_prefix, operated, postfix_of, prefix_update, sequence, unary,
+    unary_operator, update,
+};
 use ja_grammar::{Context, ExpressionPart, Refusal, StatementPart, Stop};
 use ja_syntax::{
-    BinaryOperator, Expression, Operation, Statement, Suffix, Symbol, UnaryOperator, UpdateOperator,
+    BinaryOperator, Expression, Operation, Statement, Suffix, Symbol, UnaryOperator,
+    UpdateOperator, is_reference,
 };
 use sqlite_items::Items;
 use std::alloc::Global;

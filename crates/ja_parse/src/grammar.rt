@@ -7,7 +7,7 @@ ghost use Rattle.ja_grammar.specs.Input.{Follows};
 ghost use Rattle.ja_grammar.specs.ReadStatement.{below};
 ghost use Rattle.ja_parse.specs.Nests.{Nests};
 
-use crate::cursor::Cursor;
+use ja_cursor::Cursor;
 use ja_grammar::{Context, ExpressionPart, Refusal, StatementPart, Stop};
 use ja_syntax::{Expression, Statement};
 use std::alloc::Global;

@@ -15,15 +15,11 @@ ghost use Rattle.ja_parse.specs.Nests.{Nests};
 ghost use Rattle.ja_parse.specs.Clauses.{for_behind, for_rest_behind, variables_behind};
 ghost use Rattle.ja_syntax.specs.declared.tree.ForFirst.TheVariants as first;
 
-use crate::block::ended;
-use crate::context::loop_context;
-use crate::cursor::Cursor;
 use crate::grammar::Grammar;
-use crate::reference::is_reference;
-use crate::tree::{do_of, for_in_of, for_of, while_of};
 use ja_base::Place;
+use ja_cursor::{Cursor, do_of, ended, for_in_of, for_of, loop_context, while_of};
 use ja_grammar::{Context, ExpressionPart, Refusal, StatementPart, Stop};
-use ja_syntax::{Declaration, Expression, ForFirst, ForTarget, Statement, Symbol};
+use ja_syntax::{Declaration, Expression, ForFirst, ForTarget, Statement, Symbol, is_reference};
 use sqlite_items::{Boxed, Items};
 use std::alloc::Global;
 

@@ -12,93 +12,17 @@ ghost use Rattle.ja_grammar.specs.ReadStatement.{below};
 ghost use Rattle.ja_grammar.specs.declared.part.ExpressionPart.TheVariants as of_expression;
 ghost use Rattle.ja_grammar.specs.declared.part.StatementPart.TheVariants as part;
 ghost use Rattle.ja_parse.specs.Nests.{Nests};
-ghost use Rattle.ja_parse.specs.Taking.{Takes};
+ghost use Rattle.ja_cursor.specs.Taking.{Takes};
 
-use crate::block::ended;
-use crate::context::{has_label, has_loop, labelled_context, may_break};
-use crate::cursor::Cursor;
 use crate::grammar::Grammar;
-use crate::operator::{ends_return, is_label_behind};
-use crate::tree::labelled_of;
 use ja_base::Place;
+use ja_cursor::{
+    Cursor, break_target, continue_target, ended, ends_return, enter_label, has_label,
+    labelled_context, labelled_of, may_break,
+};
 use ja_grammar::{Context, ExpressionPart, Refusal, StatementPart, Stop};
 use ja_syntax::{Expression, Name, Statement};
 use std::alloc::Global;
-
-/// Takes the label behind the jump at `place`, if it is `allowed`; one that is only `known` breaks
-/// a rule.
-fn allowed_label(
-    alloc: Global,
-    cursor: &mut Cursor<'_>,
-    allowed: bool,
-    known: bool,
-    place: Place,
-) -> Result<Option<Name>, Stop>
-    ensures { Follows (spec.labelled_by place (head cursor.old) allowed known cursor.old) result cursor.new }
-{
-    if allowed {
-        let name = cursor.name(alloc)?;
-        cursor.take();
-        return Ok(Some(name));
-    }
-    if known {
-        Err(Stop::Refused(Refusal::Broken(place)))
-    } else {
-        Err(Stop::Refused(Refusal::Unexpected))
-    }
-}
-
-/// Reads the label behind the `continue` at `place`, if there is one on its line (12.7).
-#[tactic(auto, unfolding(ja_grammar::specs::ReadStatement::jump_target))]
-fn continue_target(
-    alloc: Global,
-    cursor: &mut Cursor<'_>,
-    context: &Context<'_>,
-    place: Place,
-) -> Result<Option<Name>, Stop>
-    ensures { Follows (spec.jump_target (contexts.has_loop (context_of context.now)) (contexts.has_label (context_of context.now)) true place cursor.old) result cursor.new }
-{
-    if !is_label_behind(cursor) {
-        return Ok(None);
-    }
-    let word = cursor.word();
-    let allowed = has_loop(context, word);
-    let known = has_label(context, word);
-    allowed_label(alloc, cursor, allowed, known, place)
-}
-
-/// Reads the label behind the `break` at `place`, if there is one on its line (12.8).
-#[tactic(auto, unfolding(ja_grammar::specs::ReadStatement::jump_target))]
-fn break_target(
-    alloc: Global,
-    cursor: &mut Cursor<'_>,
-    context: &Context<'_>,
-    place: Place,
-) -> Result<Option<Name>, Stop>
-    ensures { Follows (spec.jump_target (contexts.has_label (context_of context.now)) (contexts.has_label (context_of context.now)) context.now.in_breakable place cursor.old) result cursor.new }
-{
-    if !is_label_behind(cursor) {
-        return if context.in_breakable {
-            Ok(None)
-        } else {
-            Err(Stop::Refused(Refusal::Broken(place)))
-        };
-    }
-    let known = has_label(context, cursor.word());
-    allowed_label(alloc, cursor, known, known, place)
-}
-
-/// Takes the `:` behind the label at `place`, which counts.
-#[tactic(auto, unfolding(ja_grammar::specs::ReadStatement::enter_label))]
-fn enter_label(cursor: &mut Cursor<'_>, depth: usize, place: Place) -> Result<(), Stop>
-    ensures { Takes (spec.enter_label depth place cursor.old) cursor.old result cursor.new }
-{
-    if depth == 0 {
-        return Err(Stop::Refused(Refusal::DeepLabel(place)));
-    }
-    cursor.take();
-    Ok(())
-}
 
 impl<
     F: Fn(Global, &mut Cursor<'_>, usize, ExpressionPart) -> Result<Expression, Stop>,

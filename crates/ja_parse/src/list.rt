@@ -11,46 +11,12 @@ ghost use Rattle.ja_grammar.specs.ReadExpression as spec;
 ghost use Rattle.ja_grammar.specs.ReadStatement.{below};
 ghost use Rattle.ja_parse.specs.Nests.{Nests};
 
-use crate::cursor::Cursor;
 use crate::grammar::Grammar;
-use crate::name::declared;
-use crate::operator::{is_close_brace, is_close_bracket};
+use ja_cursor::{Cursor, is_close_brace, is_close_bracket};
 use ja_grammar::{Context, ExpressionPart, StatementPart, Stop};
-use ja_syntax::{Expression, Name, Property, Statement, Symbol};
+use ja_syntax::{Expression, Property, Statement, Symbol};
 use sqlite_items::Items;
 use std::alloc::Global;
-
-/// Reads declared names with commas between.
-fn names(alloc: Global, cursor: &mut Cursor<'_>) -> Result<Items<Name>, Stop>
-    ensures { Follows (separated spec.declared cursor.old) result cursor.new }
-{
-    let mut found = Items::new(alloc);
-    let first = declared(alloc, cursor)?;
-    found.push(first)?;
-    for _turn in 0..cursor.left() {
-        if !cursor.sees(Symbol::Comma) {
-            return Ok(found);
-        }
-        cursor.take();
-        let item = declared(alloc, cursor)?;
-        found.push(item)?;
-    }
-    Ok(found)
-}
-
-/// Reads the parameters of a function and their `)`.
-#[tactic(auto, unfolding(ja_grammar::specs::Input::listed))]
-pub fn parameters(alloc: Global, cursor: &mut Cursor<'_>) -> Result<Items<Name>, Stop>
-    ensures { Follows (listed k.CloseParenthesis spec.declared cursor.old) result cursor.new }
-{
-    if cursor.sees(Symbol::CloseParenthesis) {
-        cursor.take();
-        return Ok(Items::new(alloc));
-    }
-    let found = names(alloc, cursor)?;
-    cursor.expect(Symbol::CloseParenthesis)?;
-    Ok(found)
-}
 
 impl<
     F: Fn(Global, &mut Cursor<'_>, usize, ExpressionPart) -> Result<Expression, Stop>,

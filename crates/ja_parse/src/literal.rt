@@ -1,6 +1,6 @@
 //! Primary expressions and functions (ES3 11.1, 13).
 
-ghost use Rattle.std.specs.Prelude.{◌≡◌, false, IfOk};
+ghost use Rattle.std.specs.Prelude.{false};
 ghost use Rattle.ja_syntax.specs.declared.symbol.Symbol.TheVariants as k;
 ghost use Rattle.ja_grammar.specs.Contexts.{function_context};
 ghost use Rattle.ja_grammar.specs.Input.{Follows, head, listed, until};
@@ -11,44 +11,12 @@ ghost use Rattle.ja_grammar.specs.ReadStatement.{below};
 ghost use Rattle.ja_grammar.specs.declared.part.StatementPart.TheVariants as of_statement;
 ghost use Rattle.ja_parse.specs.Nests.{Nests};
 
-use crate::context::function_context;
-use crate::cursor::{Cursor, text_of};
 use crate::grammar::Grammar;
-use crate::list::parameters;
-use crate::name::{declared, function_name};
+use ja_cursor::{Cursor, function_context, function_name, literal_of, parameters, property_name};
 use ja_grammar::{Context, ExpressionPart, Refusal, StatementPart, Stop};
-use ja_prim::{Num, Primitive};
-use ja_syntax::{Expression, FunctionTree, Name, Property, PropertyName, Statement, Symbol};
+use ja_syntax::{Expression, FunctionTree, Name, Property, Statement, Symbol};
 use sqlite_items::Items;
-use std::alloc::{AllocError, Global};
-
-/// The name of a property that the next token is (11.1.5).
-#[tactic(auto, unfolding(ja_grammar::specs::Forms::property_name))]
-fn property_name(alloc: Global, cursor: &Cursor<'_>) -> Result<Option<PropertyName>, AllocError>
-    ensures { IfOk result (λ name. name ≡ forms.property_name (head cursor.now)) }
-{
-    match cursor.symbol() {
-        Symbol::Name => Ok(Some(PropertyName::Word(text_of(alloc, cursor.word())?))),
-        Symbol::Text => Ok(Some(PropertyName::Text(text_of(alloc, cursor.units())?))),
-        Symbol::Number => Ok(Some(PropertyName::Number(cursor.number()))),
-        _ => Ok(None),
-    }
-}
-
-/// The value of the literal that the next token is (7.8).
-#[tactic(auto, unfolding(ja_grammar::specs::Forms::literal_of))]
-fn literal_of(alloc: Global, cursor: &Cursor<'_>) -> Result<Option<Primitive>, AllocError>
-    ensures { IfOk result (λ value. value ≡ forms.literal_of (head cursor.now)) }
-{
-    match cursor.symbol() {
-        Symbol::Null => Ok(Some(Primitive::Null)),
-        Symbol::True => Ok(Some(Primitive::Bool(true))),
-        Symbol::False => Ok(Some(Primitive::Bool(false))),
-        Symbol::Number => Ok(Some(Primitive::Number(Num::Whole(cursor.number())))),
-        Symbol::Text => Ok(Some(Primitive::Text(text_of(alloc, cursor.units())?))),
-        _ => Ok(None),
-    }
-}
+use std::alloc::Global;
 
 impl<
     F: Fn(Global, &mut Cursor<'_>, usize, ExpressionPart) -> Result<Expression, Stop>,

@@ -6,9 +6,8 @@ ghost use Rattle.ja_grammar.specs.ReadExpression.{expression_part};
 ghost use Rattle.ja_grammar.specs.ReadStatement as spec;
 ghost use Rattle.ja_grammar.specs.ReadStatement.{below};
 
-use crate::context::program_context;
-use crate::cursor::Cursor;
 use crate::grammar::Grammar;
+use ja_cursor::{Cursor, program_context};
 use ja_grammar::{Context, ExpressionPart, StatementPart, Stop};
 use ja_syntax::{Expression, Statement};
 use sqlite_items::Items;

@@ -10,9 +10,9 @@ ghost use Rattle.ja_lex.specs.Tokens.{tokens};
 ghost use Rattle.ja_syntax.specs.Rules.{KeepsRules};
 ghost use Rattle.ja_syntax.specs.declared.tree.Statement.{Statement as StatementOf};
 
-use crate::cursor::Cursor;
 use crate::program::read_program;
 use ja_base::{Place, ScopeKind};
+use ja_cursor::Cursor;
 use ja_grammar::{ParseFault, Refusal, Stop};
 use ja_lex::{Token, tokens};
 use ja_syntax::{Statement, Tree};

@@ -13,9 +13,8 @@ ghost use Rattle.ja_grammar.specs.declared.part.ExpressionPart.TheVariants as of
 ghost use Rattle.ja_grammar.specs.declared.part.StatementPart.TheVariants as part;
 ghost use Rattle.ja_parse.specs.Nests.{Nests};
 
-use crate::cursor::Cursor;
 use crate::grammar::Grammar;
-use crate::operator::is_label;
+use ja_cursor::{Cursor, is_label};
 use ja_grammar::{Context, ExpressionPart, Refusal, StatementPart, Stop};
 use ja_syntax::{Expression, Statement, Symbol};
 use sqlite_items::Items;

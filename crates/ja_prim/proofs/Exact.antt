@@ -7,7 +7,7 @@ use Rattle.ja_prim.specs.declared.primitive.Num.TheVariants.{Whole}
 use Rattle.ja_prim.specs.Capped.{parted}
 use Rattle.ja_prim.specs.Judged.{judged, signed, max_magnitude}
 use Rattle.ja_prim.specs.LawsOfTexts.{IsLiteralValue}
-use Rattle.ja_prim.specs.TextToNumber.{placed}
+use Rattle.ja_prim.specs.Numerals.{placed}
 use Rattle.ja_prim.proofs.Capping.{pow_some}
 use Rattle.ja_prim.proofs.Judging.{judged_parts, verdict, not_less, less}
 

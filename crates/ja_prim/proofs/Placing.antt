@@ -10,7 +10,7 @@ use Rattle.std.specs.Char.{digit_value}
 use Rattle.std.specs.Str.Parse.{digits_value, digits_value_after, AllDigits}
 use Rattle.ja_prim.specs.Capped.{capped, parted}
 use Rattle.ja_prim.specs.Judged.{judged}
-use Rattle.ja_prim.specs.TextToNumber.{placed}
+use Rattle.ja_prim.specs.Numerals.{placed}
 use Rattle.ja_prim.proofs.Capping.{value_append, pow_some, times_grows, cap_times, raised_far}
 use Rattle.ja_prim.proofs.Judging.{times_le, judged_parts, parted_capped, zero_capped}
 

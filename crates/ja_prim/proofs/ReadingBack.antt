@@ -12,11 +12,12 @@ use Rattle.std.proofs.lemmas.List.Sums.{suffix_len_is}
 use Rattle.std.proofs.Math.Nat.{mul-one}
 use Rattle.ja_prim.specs.declared.primitive.Num.{Num}
 use Rattle.ja_prim.specs.declared.primitive.Num.TheVariants.{NaN, Whole}
-use Rattle.ja_prim.specs.Blanks.{is_white, is_terminator, is_blank, behind_blanks, before_blanks}
+use Rattle.ja_prim.specs.Blanks.{behind_blanks, before_blanks}
+use Rattle.ja_prim.specs.Characters.{is_white, is_terminator, is_blank, is_digit}
 use Rattle.ja_prim.specs.Texts.{same_text}
-use Rattle.ja_prim.specs.Index.{is_digit}
 use Rattle.ja_prim.specs.Judged.{judged, signed}
 use Rattle.ja_prim.specs.LawsOfTexts.{IsReadBack}
+use Rattle.ja_prim.specs.Numerals as numerals
 use Rattle.ja_prim.specs.TextToNumber as spec
 use Rattle.ja_prim.proofs.Exact.{judged_found}
 
@@ -33,7 +34,7 @@ minus_not_blank : is_blank 45 ≡ false
 unfolding is_white is_terminator
 minus_not_blank = refl
 
-digit_not_sign : (c : ℕ) → digit_value c < 10 → spec.is_sign c ≡ false
+digit_not_sign : (c : ℕ) → digit_value c < 10 → numerals.is_sign c ≡ false
 digit_not_sign c h = grind (arith, nat_tests)
 
 digit_not : (c n : ℕ) → digit_value c < 10 → 58 ≤ n → (c == n) ≡ false
@@ -45,12 +46,12 @@ prefix_all : (ds : List ℕ) → AllDigits 10 ds → prefix_len is_digit ds ≡ 
 prefix_all [] h = refl
 prefix_all (d ∷ ds) h = rw (digit_unit d h.0) (ap (λ (n : ℕ). 1 + n) (prefix_all ds h.1) ∙ omega arith)
 
-digits_all : (ds : List ℕ) → AllDigits 10 ds → spec.digits ds ≡ ds
-unfolding spec.digits
+digits_all : (ds : List ℕ) → AllDigits 10 ds → numerals.digits ds ≡ ds
+unfolding numerals.digits
 digits_all ds h = ap (λ (n : ℕ). take n ds) (prefix_all ds h) ∙ take_all (length ds) ds (omega arith)
 
-behind_all : (ds : List ℕ) → AllDigits 10 ds → spec.behind_digits ds ≡ []
-unfolding spec.behind_digits
+behind_all : (ds : List ℕ) → AllDigits 10 ds → numerals.behind_digits ds ≡ []
+unfolding numerals.behind_digits
 behind_all ds h = ap (λ (n : ℕ). drop n ds) (prefix_all ds h) ∙ drop_all (length ds) ds (omega arith)
 
 digit_at : (ds : List ℕ) (i : ℕ) → AllDigits 10 ds → i < length ds → digit_value (get_or ds i 0) < 10
@@ -78,7 +79,7 @@ positive : (n : ℕ) → (suc n == 0) ≡ false
 positive n = grind (arith, nat_tests)
 
 decimal_of_digits : (negative : Bool) (d : ℕ) (ds : List ℕ) → AllDigits 10 (d ∷ ds) → spec.decimal negative (d ∷ ds) ≡ judged negative (digits_value 10 (d ∷ ds)) 1
-unfolding spec.decimal spec.fraction spec.behind_fraction spec.is_exponent spec.power spec.placed
+unfolding spec.decimal numerals.behind_decimal numerals.fraction numerals.behind_fraction numerals.exponent numerals.behind_exponent numerals.decimal_value numerals.placed
 decimal_of_digits negative d ds h = rw (digits_all (d ∷ ds) h, behind_all (d ∷ ds) h, some (length ds), append-nil ds, mul-one) refl
 
 and_false : (b : Bool) → b && false ≡ false
@@ -139,7 +140,7 @@ read_minus n (d ∷ ds) h k e small =
     ap spec.literal (whole_text 45 (d ∷ ds) minus_not_blank (last_digit d ds k)) ∙ literal_minus (d ∷ ds) ∙ signed_minus d ds k ∙ value_of true d ds n k e small
 
 nan_back : spec.text_to_number (codes "NaN") ≡ Ok NaN
-unfolding spec.text_to_number spec.literal spec.is_hexadecimal spec.signed_literal spec.unsigned spec.decimal spec.digits spec.behind_digits spec.fraction spec.behind_fraction spec.is_exponent behind_blanks before_blanks is_white is_terminator
+unfolding spec.text_to_number spec.literal spec.is_hexadecimal spec.signed_literal spec.unsigned spec.decimal numerals.digits numerals.behind_digits numerals.fraction numerals.behind_fraction numerals.exponent numerals.behind_exponent numerals.behind_decimal behind_blanks before_blanks is_white is_terminator
 nan_back = refl
 
 whole_back : (z : ℤ) → neg_ℤ (pos 9007199254740991) ≤ℤ z → z ≤ℤ pos 9007199254740991 → spec.text_to_number (signed_decimal z) ≡ Ok (Whole z)

@@ -1,13 +1,11 @@
 -- Which numbers and texts are array indices (ES3 15.4): 0 to 4,294,967,294, and their decimal texts.
 use Rattle.std.specs.Prelude.{ℕ, ◌+◌, ◌-◌, ◌*◌, ℤ, pos, negsuc, Bool, false, not, ◌&&◌, ◌||◌, ◌==◌, nat_lt, nat_le, List, [], ◌∷◌, length}
 use Rattle.std.specs.List.{list_all}
+use Rattle.ja_prim.specs.Characters.{is_digit}
 
 abbrev pub is_index : ℤ → Bool
 is_index (pos n) = nat_lt n 4294967295
 is_index (negsuc n) = false
-
-abbrev pub is_digit : ℕ → Bool
-is_digit c = nat_le 48 c && nat_le c 57
 
 -- the number that the digits write, from the first on
 abbrev pub digits_value : ℕ → List ℕ → ℕ

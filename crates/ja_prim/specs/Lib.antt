@@ -2,11 +2,13 @@ pub mod Arithmetic
 pub mod Bits
 pub mod Blanks
 pub mod Capped
+pub mod Characters
 pub mod Comparison
 pub mod Conversions
 pub mod Index
 pub mod Judged
 pub mod Laws
 pub mod LawsOfTexts
+pub mod Numerals
 pub mod TextToNumber
 pub mod Texts

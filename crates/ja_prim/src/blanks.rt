@@ -1,11 +1,12 @@
 ghost use Rattle.std.specs.Prelude.{◌≡◌, ◌≤◌, ◌-◌, length};
 ghost use Rattle.std.specs.List.{prefix_len, suffix_len};
 ghost use Rattle.ja_prim.specs.Blanks as spec;
+ghost use Rattle.ja_prim.specs.Characters.{is_white, is_terminator, is_blank};
 
 /// Whether a unit is white space (ES3 7.2).
-#[tactic(auto, unfolding(crate::specs::Blanks::is_white))]
+#[tactic(auto, unfolding(crate::specs::Characters::is_white))]
 fn is_white(unit: u16) -> bool
-    ensures { result ≡ spec.is_white unit }
+    ensures { result ≡ is_white unit }
 {
     unit == 0x9
         || unit == 0xB
@@ -20,23 +21,23 @@ fn is_white(unit: u16) -> bool
 }
 
 /// Whether a unit is a line terminator (ES3 7.3).
-#[tactic(auto, unfolding(crate::specs::Blanks::is_terminator))]
+#[tactic(auto, unfolding(crate::specs::Characters::is_terminator))]
 fn is_terminator(unit: u16) -> bool
-    ensures { result ≡ spec.is_terminator unit }
+    ensures { result ≡ is_terminator unit }
 {
     unit == 0xA || unit == 0xD || unit == 0x2028 || unit == 0x2029
 }
 
 /// Whether a unit is white space or a line terminator.
 fn is_blank(unit: u16) -> bool
-    ensures { result ≡ spec.is_blank unit }
+    ensures { result ≡ is_blank unit }
 {
     is_white(unit) || is_terminator(unit)
 }
 
 /// How many units that stand first are blank.
 fn blanks_before(units: &[u16]) -> usize
-    ensures value { result ≡ prefix_len spec.is_blank units.now }
+    ensures value { result ≡ prefix_len is_blank units.now }
     ensures within { result ≤ length units.now }
 {
     'units: for (i, unit) in units.iter().enumerate() {
@@ -49,7 +50,7 @@ fn blanks_before(units: &[u16]) -> usize
 
 /// How many units stand before the blank ones at the end.
 fn without_blanks_behind(units: &[u16]) -> usize
-    ensures value { result ≡ length units.now - suffix_len spec.is_blank units.now }
+    ensures value { result ≡ length units.now - suffix_len is_blank units.now }
     ensures within { result ≤ length units.now }
 {
     let mut count = units.len();

@@ -1,5 +1,6 @@
 ghost use Rattle.std.specs.Prelude.{◌≡◌, ◌≤◌, ◌<◌, ◌^◌, true, length};
 ghost use Rattle.std.specs.List.{list_all};
+ghost use Rattle.ja_prim.specs.Characters.{is_digit};
 ghost use Rattle.ja_prim.specs.Conversions.{index_of};
 ghost use Rattle.ja_prim.specs.Index as spec;
 
@@ -7,14 +8,14 @@ use crate::Text16;
 
 /// Whether a unit is a decimal digit.
 pub fn is_digit(unit: u16) -> bool
-    ensures { result ≡ spec.is_digit unit }
+    ensures { result ≡ is_digit unit }
 {
     unit >= 48 && unit <= 57
 }
 
 /// Whether all units are decimal digits.
 pub fn all_digits(units: &[u16]) -> bool
-    ensures { result ≡ list_all spec.is_digit units.now }
+    ensures { result ≡ list_all is_digit units.now }
 {
     units.iter().all(|unit| is_digit(*unit))
 }
@@ -32,7 +33,7 @@ fn starts_with_zero(units: &[u16]) -> bool
 /// The number that up to ten decimal digits write.
 fn digits_value(units: &[u16]) -> u64
     requires few { length units.now ≤ 10 }
-    requires all { list_all spec.is_digit units.now ≡ true }
+    requires all { list_all is_digit units.now ≡ true }
     ensures { result ≡ spec.digits_value 0 units.now }
 {
     let mut value: u64 = 0;

@@ -8,7 +8,7 @@ ghost use Rattle.ja_prim.specs.declared.primitive.Primitive.TheVariants.{Number,
 ghost use Rattle.ja_prim.specs.Comparison.{strict_equal};
 ghost use Rattle.ja_prim.specs.Judged.{signed};
 ghost use Rattle.ja_prim.specs.LawsOfTexts.{IsReadBack, is_nan, is_less, IsTransitive, IsRanked, IsLiteralValue};
-ghost use Rattle.ja_prim.specs.TextToNumber.{placed};
+ghost use Rattle.ja_prim.specs.Numerals.{placed};
 
 /// The number of the text of a number is that number (ES3 9.8.1).
 pub fn numbers_are_read_back()

@@ -2,13 +2,14 @@ ghost use Rattle.std.specs.Prelude.{◌≡◌, ◌≤◌, ◌<◌, drop, length}
 ghost use Rattle.std.specs.Char.{is_ascii_hexdigit};
 ghost use Rattle.std.specs.List.{list_all, prefix_len};
 ghost use Rattle.std.specs.Str.Parse.{AllDigits};
-ghost use Rattle.ja_prim.specs.Index.{is_digit};
+ghost use Rattle.ja_prim.specs.Characters.{char_at, is_digit};
+ghost use Rattle.ja_prim.specs.Numerals as numerals;
 ghost use Rattle.ja_prim.specs.TextToNumber as spec;
 
 use crate::blanks::trimmed;
-use crate::capped::{CAP, capped_after, judge};
-use crate::index::{all_digits, is_digit};
-use crate::placed::placed;
+use crate::capped::judge;
+use crate::index::is_digit;
+use crate::values::{hexadecimal_value, placed};
 use crate::{Num, Stop};
 
 /// `Infinity`
@@ -16,7 +17,7 @@ const INFINITY: [u16; 8] = [73, 110, 102, 105, 110, 105, 116, 121];
 
 /// The unit at an index, 0 past the end.
 fn unit_at(units: &[u16], index: usize) -> u16
-    ensures { result ≡ spec.unit_at units.now index }
+    ensures { result ≡ char_at units.now index }
 {
     if index < units.len() { units[index] } else { 0 }
 }
@@ -47,9 +48,9 @@ fn digit_count(units: &[u16]) -> usize
 }
 
 /// The digits that stand first.
-#[tactic(auto, using(crate::proofs::Digits::all_digits), unfolding(crate::specs::TextToNumber::digits))]
+#[tactic(auto, using(crate::proofs::Digits::all_digits), unfolding(crate::specs::Numerals::digits))]
 fn digits(units: &[u16]) -> &[u16]
-    ensures value { result.now ≡ spec.digits units.now }
+    ensures value { result.now ≡ numerals.digits units.now }
     ensures within { length result.now ≤ length units.now }
     ensures all { AllDigits 10 result.now }
 {
@@ -57,18 +58,18 @@ fn digits(units: &[u16]) -> &[u16]
 }
 
 /// What stands behind the digits that stand first.
-#[tactic(auto, unfolding(crate::specs::TextToNumber::behind_digits))]
+#[tactic(auto, unfolding(crate::specs::Numerals::behind_digits))]
 fn behind_digits(units: &[u16]) -> &[u16]
-    ensures value { result.now ≡ spec.behind_digits units.now }
+    ensures value { result.now ≡ numerals.behind_digits units.now }
     ensures within { length result.now ≤ length units.now }
 {
     behind(units, digit_count(units))
 }
 
 /// The digits behind a `.`, if one stands first.
-#[tactic(auto, unfolding(crate::specs::TextToNumber::fraction))]
+#[tactic(auto, unfolding(crate::specs::Numerals::fraction))]
 fn fraction(units: &[u16]) -> &[u16]
-    ensures value { result.now ≡ spec.fraction units.now }
+    ensures value { result.now ≡ numerals.fraction units.now }
     ensures within { length result.now ≤ length units.now }
     ensures all { AllDigits 10 result.now }
 {
@@ -80,9 +81,9 @@ fn fraction(units: &[u16]) -> &[u16]
 }
 
 /// What stands behind a `.` and its digits, if one stands first.
-#[tactic(auto, unfolding(crate::specs::TextToNumber::behind_fraction))]
+#[tactic(auto, unfolding(crate::specs::Numerals::behind_fraction))]
 fn behind_fraction(units: &[u16]) -> &[u16]
-    ensures value { result.now ≡ spec.behind_fraction units.now }
+    ensures value { result.now ≡ numerals.behind_fraction units.now }
     ensures within { length result.now ≤ length units.now }
 {
     if unit_at(units, 0) == 46 {
@@ -94,15 +95,15 @@ fn behind_fraction(units: &[u16]) -> &[u16]
 
 /// Whether a unit is `+` or `-`.
 fn is_sign(unit: u16) -> bool
-    ensures { result ≡ spec.is_sign unit }
+    ensures { result ≡ numerals.is_sign unit }
 {
     unit == 43 || unit == 45
 }
 
 /// What stands behind an exponent's letter and its sign, if it has one.
-#[tactic(auto, unfolding(crate::specs::TextToNumber::power))]
+#[tactic(auto, unfolding(crate::specs::Numerals::power))]
 fn power(units: &[u16]) -> &[u16]
-    ensures { result.now ≡ spec.power units.now }
+    ensures { result.now ≡ numerals.power units.now }
 {
     if is_sign(unit_at(units, 1)) {
         behind(units, 2)
@@ -111,41 +112,48 @@ fn power(units: &[u16]) -> &[u16]
     }
 }
 
-/// Whether there are one digit or more, and nothing else.
-fn are_digits(units: &[u16]) -> bool
-    ensures { result ≡ spec.are_digits units.now }
+/// The digits of an exponent, if one stands first.
+#[tactic(auto, unfolding(crate::specs::Numerals::exponent))]
+fn exponent(units: &[u16]) -> &[u16]
+    ensures { result.now ≡ numerals.exponent units.now }
 {
-    !units.is_empty() && all_digits(units)
+    if unit_at(units, 0) == 101 || unit_at(units, 0) == 69 {
+        digits(power(units))
+    } else {
+        &[]
+    }
 }
 
-/// Whether there is nothing, or an exponent.
-#[tactic(auto, unfolding(crate::specs::TextToNumber::is_exponent))]
-fn is_exponent(units: &[u16]) -> bool
-    ensures { result ≡ spec.is_exponent units.now }
+/// What stands behind an exponent, if one stands first.
+#[tactic(auto, unfolding(crate::specs::Numerals::behind_exponent))]
+fn behind_exponent(units: &[u16]) -> &[u16]
+    ensures { result.now ≡ numerals.behind_exponent units.now }
 {
-    units.is_empty()
-        || ((unit_at(units, 0) == 101 || unit_at(units, 0) == 69) && are_digits(power(units)))
+    if exponent(units).is_empty() {
+        units
+    } else {
+        behind_digits(power(units))
+    }
 }
 
 /// The value of a decimal literal with no sign, or NaN.
-#[tactic(auto, using(crate::proofs::Digits::all_digits_append), unfolding(crate::specs::TextToNumber::decimal))]
+#[tactic(auto, using(crate::proofs::Digits::all_digits_append), unfolding(crate::specs::TextToNumber::decimal, crate::specs::Numerals::behind_decimal, crate::specs::Numerals::decimal_value))]
 fn decimal(negative: bool, units: &[u16]) -> Result<Num, Stop>
     requires { length units.now < 9223372036854775808 }
     ensures { result ≡ spec.decimal negative units.now }
 {
     let whole = digits(units);
-    let rest = behind_digits(units);
-    let places = fraction(rest);
-    let exponent = behind_fraction(rest);
-    if (whole.is_empty() && places.is_empty()) || !is_exponent(exponent) {
+    let places = fraction(behind_digits(units));
+    let rest = behind_fraction(behind_digits(units));
+    if (whole.is_empty() && places.is_empty()) || !behind_exponent(rest).is_empty() {
         return Ok(Num::NaN);
     }
     placed(
         negative,
-        unit_at(exponent, 1) == 45,
+        unit_at(rest, 1) == 45,
         whole,
         places,
-        power(exponent),
+        exponent(rest),
     )
 }
 
@@ -202,7 +210,7 @@ fn is_hexadecimal(units: &[u16]) -> bool
 }
 
 /// The value of a literal with no white space at its ends.
-#[tactic(auto, using(crate::proofs::Judging::hexadecimal_value), unfolding(crate::specs::TextToNumber::literal))]
+#[tactic(auto, unfolding(crate::specs::TextToNumber::literal, crate::specs::Capped::parted))]
 fn literal(units: &[u16]) -> Result<Num, Stop>
     requires { length units.now < 9223372036854775808 }
     ensures { result ≡ spec.literal units.now }
@@ -211,7 +219,7 @@ fn literal(units: &[u16]) -> Result<Num, Stop>
         return judge(false, 0, true);
     }
     if is_hexadecimal(units) {
-        return judge(false, capped_after(CAP, 16, 0, behind(units, 2)), true);
+        return hexadecimal_value(behind(units, 2));
     }
     signed_literal(units)
 }

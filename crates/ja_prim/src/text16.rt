@@ -79,8 +79,8 @@ fn characters_of(alloc: Global, text: &str) -> Result<Vec<char>, AllocError>
     Ok(characters)
 }
 
-/// Appends the units of a character.
-fn push_character(units: &mut Vec<u16>, c: char) -> Result<(), AllocFailed<u16>>
+/// Appends the UTF-16 units of a character.
+pub fn push_character(units: &mut Vec<u16>, c: char) -> Result<(), AllocFailed<u16>>
     ensures { OnOk result (units.new.items ≡ units.old.items ++ encode_utf16 c) }
 {
     let code = u32::from(c);
@@ -94,8 +94,8 @@ fn push_character(units: &mut Vec<u16>, c: char) -> Result<(), AllocFailed<u16>>
     Ok(())
 }
 
-/// The units of characters.
-fn units_of(alloc: Global, characters: &[char]) -> Result<Vec<u16>, AllocFailed<u16>>
+/// The UTF-16 units of characters.
+pub fn units_of(alloc: Global, characters: &[char]) -> Result<Vec<u16>, AllocFailed<u16>>
     ensures { IfOk result (λ units. units.items ≡ flat_map encode_utf16 characters.now) }
 {
     let mut units = Vec::new(alloc);

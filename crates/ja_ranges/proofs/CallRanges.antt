@@ -11,15 +11,15 @@ use Rattle.ja_graph.specs.declared.node.Args.TheVariants.{Registers, Elements, T
 use Rattle.ja_graph.specs.declared.node.Made.{Made}
 use Rattle.ja_graph.specs.declared.node.Made.TheVariants as made
 use Rattle.ja_graph.specs.declared.node.Node.TheVariants.{NewObject, WriteProp, MakeFunction, PushScope, Bind, Call, New, ReadProp, DeleteProp, HasProp, Stop, Intrinsic}
-use Rattle.ja_forms.specs.declared.outcome.Outcome.{Outcome}
-use Rattle.ja_forms.specs.declared.outcome.Outcome.TheVariants as outcome
-use Rattle.ja_forms.specs.declared.special.Special.{Special}
-use Rattle.ja_forms.specs.declared.special.Special.TheVariants as special
-use Rattle.ja_forms.specs.Lines.{Listing, Scene, site, name_id}
-use Rattle.ja_forms.specs.References.{Form, value_of}
-use Rattle.ja_forms.specs.Literals.{Member, scope, write_known, new_object, write_element, write_elements, write_length, list_array, property_text, write_member, write_members, list_object, function_id, make_function, list_named_function, list_function}
-use Rattle.ja_forms.specs.Specials.{list_special}
-use Rattle.ja_forms.specs.Calls.{Arguments, list_arguments, with_call, call_outcome, list_call, new_of, list_new}
+use Rattle.ja_expressions.specs.declared.outcome.Outcome.{Outcome}
+use Rattle.ja_expressions.specs.declared.outcome.Outcome.TheVariants as outcome
+use Rattle.ja_expressions.specs.declared.special.Special.{Special}
+use Rattle.ja_expressions.specs.declared.special.Special.TheVariants as special
+use Rattle.ja_draft.specs.Lines.{Listing, Scene, site, name_id}
+use Rattle.ja_expressions.specs.References.{Form, value_of}
+use Rattle.ja_expressions.specs.Literals.{Member, scope, write_known, new_object, write_element, write_elements, write_length, list_array, property_text, write_member, write_members, list_object, function_id, make_function, list_named_function, list_function}
+use Rattle.ja_expressions.specs.Specials.{list_special}
+use Rattle.ja_expressions.specs.Calls.{Arguments, list_arguments, with_call, call_outcome, list_call, new_of, list_new}
 use Rattle.ja_ranges.specs.InRange.{Limits, IsTemporary, limits_of}
 use Rattle.ja_ranges.proofs.LineRanges.{all_append, name_in_range, function_in_range, sound_with_node, sound_with_result, sound_with_const, sound_with_copy, sound_with_text, sound_move_to_scope}
 use Rattle.ja_ranges.proofs.NodeRanges.{read_prop_in_range, write_prop_in_range, delete_prop_in_range, has_prop_in_range, new_object_in_range, make_function_in_range, push_scope_in_range, bind_in_range, call_in_range, new_in_range, spread_in_range, stop_in_range, tail_in_range, intrinsic_in_range}

@@ -1,5 +1,5 @@
 -- A copy of a block is in range, and so is what a jump lists on its way.
-use Rattle.std.proofs.Common.{◌≡◌, ◌+◌, ◌-◌, ℕ, Bool, true, false, nat_le, if◌then◌else◌, List, [], ◌∷◌, map, Option, Some, None, inr, refl, arith}
+use Rattle.std.proofs.Common.{◌≡◌, ◌+◌, ◌-◌, ◌==◌, ℕ, Bool, true, false, nat_le, nat_lt, if◌then◌else◌, List, [], ◌∷◌, map, Option, Some, None, inr, refl, arith}
 use Rattle.std.specs.List.{AllByRecursion}
 use Rattle.std.specs.Option.{option_map, option_to_list}
 use Rattle.std.proofs.lemmas.Bool.{leb-true}
@@ -14,8 +14,10 @@ use Rattle.ja_graph.proofs.RenamingLemmas.{sets_renamed}
 use Rattle.ja_listing.specs.declared.item.Spot.{Spot}
 use Rattle.ja_listing.specs.declared.item.Item.{Item}
 use Rattle.ja_listing.specs.declared.item.Item.TheVariants as item
-use Rattle.ja_forms.specs.Lines.{Listing, Scene}
-use Rattle.ja_forms.specs.Ways.{Template, moved_register, moving, moved_item, with_block, Way, of_loop, of_switch, of_label, of_catch, of_finally, Leaving, with_scope, copy_base, leave, restored, arrive, arrive_or, jump_to, leave_all}
+use Rattle.ja_listing.specs.Listing.{node_count}
+use Rattle.ja_draft.specs.Lines.{Listing, Scene}
+use Rattle.ja_draft.specs.Copies.{Template, leading, template_of, moved_register, moving, moved_item, copied, with_block}
+use Rattle.ja_statements.specs.Ways.{Way, of_loop, of_switch, of_label, of_catch, of_finally, Leaving, with_scope, copy_base, leave, restored, arrive, arrive_or, jump_to, leave_all}
 use Rattle.ja_ranges.specs.InRange.{Limits, IsTemporary, IsDestination, IsOfTexts, IsInRange, OfNode, AllInRange}
 use Rattle.ja_ranges.proofs.LineRanges.{all_append, sound_with_jump, sound_move_to_scope}
 use Rattle.ja_ranges.proofs.Sound.{IsSound, IsSoundWay}
@@ -103,12 +105,40 @@ module _ (limits : Limits) (t : Template) (temporary : IsTemporary limits t.temp
   moved_items_in_range by to [] h = h
   moved_items_in_range by to (i ∷ items) h = (moved_item_in_range by to i h.0, moved_items_in_range by to items h.1)
 
-  pub sound_with_block : (base : ℕ) (l : Listing) → AllInRange limits t.items → IsSound limits l → IsSound limits (with_block t base l)
-  unfolding with_block
-  sound_with_block base l h s = record {
+  sound_copied : (base : ℕ) (l : Listing) → AllInRange limits t.items → IsSound limits l → IsSound limits (copied t base l)
+  unfolding copied
+  sound_copied base l h s = record {
     nodes = all_append (OfNode (IsInRange limits)) l.items (map (moved_item t (base - t.temporary) l.spot) t.items) s.nodes (moved_items_in_range (base - t.temporary) l.spot t.items h);
     next = s.next;
   }
+
+  sound_either : (b : Bool) (l other : Listing) → IsSound limits l → IsSound limits other → IsSound limits (if b then l else other)
+  sound_either true l other s o = s
+  sound_either false l other s o = o
+
+  pub sound_with_block : (base : ℕ) (l : Listing) → AllInRange limits t.items → IsSound limits l → IsSound limits (with_block t base l)
+  unfolding with_block
+  sound_with_block base l h s = sound_either (nat_lt 65536 (node_count l.items)) l (copied t base l) s (sound_copied base l h s)
+
+-- ---- what is copied
+
+module _ (limits : Limits) where
+  jump_in_range : (way : Option Spot) → AllInRange limits (map item.Jump (option_to_list way))
+  jump_in_range None = tt
+  jump_in_range (Some s) = (tt, tt)
+
+  abbrev pub IsTemplate : Template → Type 0
+  IsTemplate t = AllInRange limits t.items × IsTemporary limits t.temporary
+
+  either_in_range : (b : Bool) (t other : Template) → IsTemplate t → IsTemplate other → IsTemplate (if b then t else other)
+  either_in_range true t other h o = h
+  either_in_range false t other h o = o
+
+  -- what is copied of a block is in range
+  pub template_in_range : (items : List Item) (temporary spot spots : ℕ) → AllInRange limits items → IsTemporary limits temporary → IsTemplate (template_of items temporary spot spots)
+  unfolding template_of
+  template_in_range items temporary spot spots h t =
+      either_in_range (node_count items == 0) _ _ (jump_in_range (leading items), t) (h, t)
 
 -- ---- the ways out
 

@@ -13,9 +13,9 @@ use Rattle.ja_syntax.specs.declared.tree.Statement.{Statement}
 use Rattle.ja_syntax.specs.declared.tree.Expression.{Expression, roll-Expression}
 use Rattle.ja_syntax.specs.declared.tree.Expression.TheOpen.{Expression-F}
 use Rattle.ja_syntax.specs.declared.tree.Expression.TheFolds.{fold-roll-Expression, ind-Expression, map-Expression}
-use Rattle.ja_forms.specs.Lines.{Listing, Valued, Scene, register}
-use Rattle.ja_forms.specs.References.{Listed, Form}
-use Rattle.ja_forms.specs.Expressions.{with_suffix, apply_operations, list_others, member_of, list_assignment, form_step, form}
+use Rattle.ja_draft.specs.Lines.{Listing, Valued, Scene, register}
+use Rattle.ja_expressions.specs.References.{Listed, Form}
+use Rattle.ja_expressions.specs.Expressions.{with_suffix, apply_operations, list_others, member_of, list_assignment, form_step, form}
 use Rattle.ja_ranges.specs.InRange.{limits_of}
 use Rattle.ja_ranges.proofs.LineRanges.{sound_with_const, sound_with_copy}
 use Rattle.ja_ranges.proofs.OperandRanges.{sound_valued, sound_get_value, sound_with_name, sound_with_member, sound_with_element, sound_value_of, sound_list_unary, sound_list_update, sound_list_conditional, sound_apply_operation, sound_assign, sound_assign_by}

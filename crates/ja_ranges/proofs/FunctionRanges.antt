@@ -12,9 +12,9 @@ use Rattle.ja_syntax.specs.declared.tree.Statement.{Statement, out-Statement}
 use Rattle.ja_syntax.specs.declared.tree.Expression.{Expression}
 use Rattle.ja_syntax.specs.declared.tree.Case.{Case}
 use Rattle.ja_syntax.specs.declared.tree.Expression.TheOpen.{Statement-F}
-use Rattle.ja_forms.specs.Functions.{first_temporary, nothing_listed, with_entry, bind_function, declare_function, declare_function_of, declare_functions, declare_variables, ended, with_body, unhandled, first_place, program_listing, function_listing}
-use Rattle.ja_forms.specs.Lines.{Listing, Scene, restarted, name_id, with_node, with_const}
-use Rattle.ja_forms.specs.Statements.{list_all_statements, does}
+use Rattle.ja_statements.specs.Functions.{first_temporary, nothing_listed, with_entry, bind_function, declare_function, declare_function_of, declare_functions, declare_variables, ended, with_body, unhandled, first_place, program_listing, function_listing}
+use Rattle.ja_draft.specs.Lines.{Listing, Scene, restarted, name_id, with_node, with_const}
+use Rattle.ja_statements.specs.Statements.{list_all_statements, does}
 use Rattle.ja_ranges.specs.InRange.{IsTemporary, AllInRange, limits_of}
 use Rattle.ja_ranges.proofs.CallRanges.{sound_make_function}
 use Rattle.ja_ranges.proofs.DoesRanges.{each_in_range}

@@ -12,8 +12,8 @@ use Rattle.ja_graph.specs.declared.node.UnaryOp.{UnaryOp}
 use Rattle.ja_listing.specs.declared.item.Spot.{Spot}
 use Rattle.ja_listing.specs.declared.item.Item.{Item}
 use Rattle.ja_listing.specs.declared.item.Item.TheVariants as item
-use Rattle.ja_forms.specs.Lines.{Listing, Scene, register, name_id, with_item, with_node, with_branch, with_result, with_spot, with_jump, behind_spots, restarted, with_default, with_unary, with_number, with_text, with_truth, with_const, with_copy, with_move}
-use Rattle.ja_forms.specs.Literals.{scope, same_place, function_id}
+use Rattle.ja_draft.specs.Lines.{Listing, Scene, register, name_id, with_item, with_node, with_branch, with_result, with_spot, with_jump, behind_spots, restarted, with_default, with_unary, with_number, with_text, with_truth, with_const, with_copy, with_move}
+use Rattle.ja_expressions.specs.Literals.{scope, same_place, function_id}
 use Rattle.ja_ranges.specs.InRange.{Limits, IsTemporary, IsDestination, IsInRange, OfNode}
 use Rattle.ja_ranges.proofs.NodeRanges.{const_in_range, convert_in_range, move_in_range, unary_in_range}
 use Rattle.ja_ranges.proofs.Sound.{IsSound, IsSoundValued}

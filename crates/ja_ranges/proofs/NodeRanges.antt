@@ -12,8 +12,8 @@ use Rattle.ja_graph.specs.declared.node.Hint.{Hint}
 use Rattle.ja_graph.specs.declared.node.Made.{Made}
 use Rattle.ja_graph.specs.declared.node.UnaryOp.{UnaryOp}
 use Rattle.ja_graph.specs.declared.node.Node.TheVariants as node
-use Rattle.ja_forms.specs.Lines.{site}
-use Rattle.ja_forms.specs.References.{wrappers}
+use Rattle.ja_draft.specs.Lines.{site}
+use Rattle.ja_expressions.specs.References.{wrappers}
 use Rattle.ja_ranges.specs.InRange.{Limits, IsTemporary, IsDestination, IsInRange}
 
 pub const_in_range : (limits : Limits) (dst : Reg) (prim : Primitive) → IsTemporary limits dst.0 → IsInRange limits (node.Const dst prim)

@@ -13,14 +13,14 @@ use Rattle.ja_graph.specs.declared.node.BinaryOp.{BinaryOp}
 use Rattle.ja_graph.specs.declared.node.BinaryOp.TheVariants as op
 use Rattle.ja_graph.specs.declared.node.Hint.TheVariants as hint
 use Rattle.ja_graph.specs.declared.node.Node.TheVariants.{Branch, Convert, Binary, FindName, ReadRef, WriteRef, ReadSoft, DeleteRef, ToObject, ReadProp, WriteProp, DeleteProp, NeedObject, HasProp, InstanceOf}
-use Rattle.ja_forms.specs.declared.outcome.Outcome.{Outcome}
-use Rattle.ja_forms.specs.declared.outcome.Outcome.TheVariants.{Value, Name, Member}
-use Rattle.ja_forms.specs.declared.outcome.Outcome.TheVariants as outcome
-use Rattle.ja_forms.specs.declared.special.Special.{Special}
-use Rattle.ja_forms.specs.Lines.{Listing, Valued, Scene, site, name_id, with_node, with_text}
-use Rattle.ja_forms.specs.References.{Form, valued, get_value, put_value, value_of, wrappers, with_object, with_variable, special_in, with_special_or_variable, with_name, with_member, with_element}
-use Rattle.ja_forms.specs.Specials.{special_of}
-use Rattle.ja_forms.specs.Operators.{with_delete, get_softly, with_type, apply_unary, on_value, on_outcome, list_unary, update_op, update_value, update_outcome, list_update, binary_op, with_binary, on_defaults, on_defaults_backwards, on_numbers, beside, on_loose, on_in, on_instance, apply_binary, and_then, or_else, Choice, consequence, alternative, list_conditional, apply_operation, assign_to, assign_to_by, assign, assign_by}
+use Rattle.ja_expressions.specs.declared.outcome.Outcome.{Outcome}
+use Rattle.ja_expressions.specs.declared.outcome.Outcome.TheVariants.{Value, Name, Member}
+use Rattle.ja_expressions.specs.declared.outcome.Outcome.TheVariants as outcome
+use Rattle.ja_expressions.specs.declared.special.Special.{Special}
+use Rattle.ja_draft.specs.Lines.{Listing, Valued, Scene, site, name_id, with_node, with_text}
+use Rattle.ja_expressions.specs.References.{Form, valued, get_value, put_value, value_of, wrappers, with_object, with_variable, special_in, with_special_or_variable, with_name, with_member, with_element}
+use Rattle.ja_expressions.specs.Specials.{special_of}
+use Rattle.ja_expressions.specs.Operators.{with_delete, get_softly, with_type, apply_unary, on_value, on_outcome, list_unary, update_op, update_value, update_outcome, list_update, binary_op, with_binary, on_defaults, on_defaults_backwards, on_numbers, beside, on_loose, on_in, on_instance, apply_binary, and_then, or_else, Choice, consequence, alternative, list_conditional, apply_operation, assign_to, assign_to_by, assign, assign_by}
 use Rattle.ja_ranges.specs.InRange.{Limits, IsTemporary, limits_of}
 use Rattle.ja_ranges.proofs.LineRanges.{name_in_range, sound_with_node, sound_with_branch, sound_with_spot, sound_with_jump, sound_behind_spots, sound_with_result, sound_with_const, sound_with_copy, sound_with_default, sound_with_unary, sound_with_truth, sound_with_number, sound_with_text, sound_move_to_temporary}
 use Rattle.ja_ranges.proofs.NodeRanges.{find_name_in_range, read_ref_in_range, read_soft_in_range, write_ref_in_range, delete_ref_in_range, to_object_in_range, need_object_in_range, read_prop_in_range, write_prop_in_range, delete_prop_in_range, has_prop_in_range, instance_of_in_range, convert_in_range, binary_in_range, branch_in_range}

@@ -1,12 +1,12 @@
 -- What each part of a listing keeps.
 use Rattle.std.proofs.Common.{◌≡◌, ◌<◌, ℕ, true}
 use Rattle.std.specs.List.{AllByRecursion}
-use Rattle.ja_forms.specs.declared.outcome.Outcome.{Outcome}
-use Rattle.ja_forms.specs.declared.outcome.Outcome.TheVariants as outcome
-use Rattle.ja_forms.specs.Lines.{Listing, Valued, Scene}
-use Rattle.ja_forms.specs.References.{Listed, Form}
-use Rattle.ja_forms.specs.Ways.{Way, of_loop, of_switch, of_label, of_catch, of_finally}
-use Rattle.ja_forms.specs.Statements.{Around, Does}
+use Rattle.ja_expressions.specs.declared.outcome.Outcome.{Outcome}
+use Rattle.ja_expressions.specs.declared.outcome.Outcome.TheVariants as outcome
+use Rattle.ja_draft.specs.Lines.{Listing, Valued, Scene}
+use Rattle.ja_expressions.specs.References.{Listed, Form}
+use Rattle.ja_statements.specs.Ways.{Way, of_loop, of_switch, of_label, of_catch, of_finally}
+use Rattle.ja_statements.specs.Statements.{Around, Does}
 use Rattle.ja_ranges.specs.InRange.{Limits, IsTemporary, AllInRange, limits_of}
 
 -- the nodes so far are in range, and the next temporary is one

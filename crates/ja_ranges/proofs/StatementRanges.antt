@@ -14,13 +14,14 @@ use Rattle.ja_syntax.specs.declared.tree.ForFirst.{ForFirst}
 use Rattle.ja_syntax.specs.declared.tree.ForFirst.TheVariants as first
 use Rattle.ja_syntax.specs.declared.tree.ForTarget.{ForTarget}
 use Rattle.ja_syntax.specs.declared.tree.ForTarget.TheVariants as target
-use Rattle.ja_forms.specs.Lines.{Listing, Scene, register, site, spot_of, behind_spots, restarted, name_id, with_spot}
-use Rattle.ja_forms.specs.References.{Form, value_of, with_name}
-use Rattle.ja_forms.specs.Literals.{scope}
-use Rattle.ja_forms.specs.Statements.{Around, Does, unlabelled, inside, handled_at, list_all_statements, declare_with, declare_one, declare_all, with_condition, nth_spot, list_branch, list_then, list_else, list_if_alone, list_if, list_body, list_do, list_while, for_condition, for_update, for_first, list_for, for_in_reference, for_in_first, list_for_in, returned, list_return, list_throw, list_labelled, Clause, list_test, list_tests, list_bodies, list_switch, count, Spotted, Guarded, list_guarded, list_handler, list_caught, list_catch, Kept, keep_block, list_rethrow, list_ways_out, protected, list_finally, list_try}
-use Rattle.ja_forms.specs.Ways.{Template, of_loop, of_switch, of_label, of_catch, leaving}
+use Rattle.ja_draft.specs.Lines.{Listing, Scene, register, site, spot_of, behind_spots, restarted, name_id, with_spot}
+use Rattle.ja_expressions.specs.References.{Form, value_of, with_name}
+use Rattle.ja_expressions.specs.Literals.{scope}
+use Rattle.ja_statements.specs.Statements.{Around, Does, unlabelled, inside, handled_at, list_all_statements, declare_with, declare_one, declare_all, with_condition, nth_spot, list_branch, list_then, list_else, list_if_alone, list_if, list_body, list_do, list_while, for_condition, for_update, for_first, list_for, for_in_reference, for_in_first, list_for_in, returned, list_return, list_throw, list_labelled, Clause, list_test, list_tests, list_bodies, list_switch, count, Spotted, Guarded, list_guarded, list_handler, list_caught, list_catch, Kept, keep_block, list_rethrow, list_ways_out, protected, list_finally, list_try}
+use Rattle.ja_draft.specs.Copies.{Template}
+use Rattle.ja_statements.specs.Ways.{of_loop, of_switch, of_label, of_catch, leaving}
 use Rattle.ja_ranges.specs.InRange.{Limits, IsTemporary, AllInRange, limits_of}
-use Rattle.ja_ranges.proofs.CopyRanges.{sound_with_block, sound_leave_all}
+use Rattle.ja_ranges.proofs.CopyRanges.{template_in_range, sound_with_block, sound_leave_all}
 use Rattle.ja_ranges.proofs.LineRanges.{name_in_range, sound_with_node, sound_with_branch, sound_with_spot, sound_with_jump, sound_behind_spots, sound_restarted, sound_taken, sound_with_result, sound_with_const, sound_with_copy, sound_with_truth, sound_move_to_scope}
 use Rattle.ja_ranges.proofs.NodeRanges.{branch_in_range, binary_in_range, names_in_range, pick_in_range, push_scope_in_range, bind_in_range, throw_in_range, return_in_range}
 use Rattle.ja_ranges.proofs.OperandRanges.{sound_put_value, sound_with_object, sound_with_name, sound_value_of, sound_assign}
@@ -208,10 +209,11 @@ sound_kept p a ds place base l w h t s =
     let saved = sound_with_copy a.scene place scope (sound_restarted base t (sound_behind_spots 4 s)) in
     let next = next_temporary (limits_of p a.scene) base t in
     let listed = sound_all_statements ds h p (unlabelled a) (base + 1) _ w next (record { nodes = tt; next = next }) in
+    let template = template_in_range (limits_of p a.scene) _ (base + 1) _ _ listed.nodes next in
     record {
       listing = record { nodes = saved.listing.nodes; next = saved.listing.next };
-      items = listed.nodes;
-      temporary = next;
+      items = template.0;
+      temporary = template.1;
     }
 
 -- ---- statements

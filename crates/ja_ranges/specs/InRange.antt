@@ -11,7 +11,7 @@ use Rattle.ja_graph.specs.declared.node.Node.{Node}
 use Rattle.ja_graph.specs.declared.node.Node.TheVariants.{Call, Intrinsic, Device}
 use Rattle.ja_listing.specs.declared.item.Item.{Item}
 use Rattle.ja_listing.specs.declared.item.Item.TheVariants as item
-use Rattle.ja_forms.specs.Lines.{Scene}
+use Rattle.ja_draft.specs.Lines.{Scene}
 
 -- how many parameters a function has, and how many names its program and how many functions its text; and whether names may be
 -- special forms, as in the texts of built-in functions

@@ -5,8 +5,8 @@ ghost use Rattle.std.specs.Prelude.{List, length};
 ghost use Rattle.ja_syntax.specs.declared.tree.FunctionOf.{FunctionOf};
 ghost use Rattle.ja_syntax.specs.declared.tree.Statement.{Statement};
 ghost use Rattle.ja_listing.specs.Laws.{EndsWithEscape};
-ghost use Rattle.ja_forms.specs.Functions.{program_listing, function_listing};
-ghost use Rattle.ja_forms.specs.Lines.{Scene};
+ghost use Rattle.ja_statements.specs.Functions.{program_listing, function_listing};
+ghost use Rattle.ja_draft.specs.Lines.{Scene};
 ghost use Rattle.ja_ranges.specs.InRange.{AllInRange, limits_of};
 
 /// The numbers of the nodes of a program are in range.

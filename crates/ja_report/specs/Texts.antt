@@ -8,7 +8,7 @@ use Rattle.ja_base.specs.declared.ids.Label.{Label}
 use Rattle.ja_base.specs.declared.ids.NameId.{NameId}
 use Rattle.ja_base.specs.declared.ids.Place.{Place}
 use Rattle.ja_base.specs.declared.ids.Site.{Site}
-use Rattle.ja_prim.specs.Index.{is_digit}
+use Rattle.ja_prim.specs.Characters.{is_digit}
 use Rattle.ja_graph.specs.declared.program.Program.{Program}
 use Rattle.ja_graph.specs.declared.program.SiteInfo.{SiteInfo}
 use Rattle.ja_model.specs.declared.abstraction.Flags.{Flags}

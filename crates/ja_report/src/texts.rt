@@ -3,7 +3,7 @@
 ghost use Rattle.std.specs.Prelude.{◌≡◌, ◌<◌, ◌++◌, false, OnOk, decimal};
 ghost use Rattle.std.specs.List.{list_all};
 ghost use Rattle.std.specs.Fmt.{signed_decimal, digit_glyph};
-ghost use Rattle.ja_prim.specs.Index.{is_digit};
+ghost use Rattle.ja_prim.specs.Characters.{is_digit};
 ghost use Rattle.ja_report.specs.Texts.{place_text, unit_text, units_text, quoted, is_name_unit, is_bare, name_text, slot_text, key_text, site_text, label_text, register_text, attr_text, attrs_text, numbered_site};
 
 use itoa::Buffer;

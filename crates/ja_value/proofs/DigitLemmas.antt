@@ -3,7 +3,8 @@ use Rattle.std.proofs.Common.{◌≡◌, ℕ, ◌+◌, ◌-◌, ◌*◌, ◌<◌
 use Rattle.std.specs.List.{list_all}
 use Rattle.std.proofs.lemmas.Bool.{and_parts, leb-true}
 use Rattle.std.proofs.Math.Nat.{pow-le-pow_right, pow-suc}
-use Rattle.ja_prim.specs.Index.{is_digit, digits_value}
+use Rattle.ja_prim.specs.Characters.{is_digit}
+use Rattle.ja_prim.specs.Index.{digits_value}
 
 -- of the digits from i on the value has those before
 pub record Reads (units : List ℕ) (i value : ℕ) : Type 0 where

@@ -1,6 +1,7 @@
 ghost use Rattle.std.specs.Prelude.{◌≡◌, ◌≢◌, ◌↔◌, ◌<◌, ◌≤◌, IsTrue, IfOk, true, false, length};
 ghost use Rattle.std.specs.List.{list_all};
-ghost use Rattle.ja_prim.specs.Index.{is_index_text, is_digit, digits_value};
+ghost use Rattle.ja_prim.specs.Characters.{is_digit};
+ghost use Rattle.ja_prim.specs.Index.{is_index_text, digits_value};
 ghost use Rattle.ja_model.specs.AbstractValue.{text_class, join_text_classes, join_texts};
 ghost use Rattle.ja_model.specs.declared.abstraction.TextPart.TheVariants as text_part;
 

@@ -1,7 +1,7 @@
 use Rattle.std.proofs.Common.{◌≡◌, ◌≤◌, ◌<◌, ◌||◌, false, length, take, length-drop, sym, ◌∙◌, refl, arith}
 use Rattle.std.specs.List.{list_any}
 use Rattle.std.proofs.lemmas.Bool.Decides.{nat_tests}
-use Rattle.ja_lex.specs.Characters.{is_terminator}
+use Rattle.ja_prim.specs.Characters.{is_terminator}
 use Rattle.ja_lex.specs.declared.element.Element.TheVariants as element
 use Rattle.ja_lex.specs.Tokens.{first_element, tokens_after}
 use Rattle.ja_lex.proofs.Steps.{blank_next, token_next, tokens_end}

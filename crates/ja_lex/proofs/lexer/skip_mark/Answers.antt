@@ -1,5 +1,5 @@
 use Rattle.std.proofs.Common.{◌≡◌, sym, ◌∙◌}
-use Rattle.ja_lex.specs.Characters.{char_at}
+use Rattle.ja_prim.specs.Characters.{char_at}
 use Rattle.ja_lex.specs.Spots.{beginning}
 use Rattle.ja_lex.proofs.Steps.{mark_skip}
 use Rattle.ja_lex.proofs.lexer.skip_mark.Goals as goal

@@ -1,6 +1,6 @@
 use Rattle.std.proofs.Common.{◌≡◌, ◌+◌, drop}
 use Rattle.std.specs.List.{prefix_len}
-use Rattle.ja_prim.specs.Index.{is_digit}
+use Rattle.ja_prim.specs.Characters.{is_digit}
 use Rattle.ja_prim.proofs.literals.digit_count.Given as goal
 
 abbrev pub invariant-units : goal.invariant-units

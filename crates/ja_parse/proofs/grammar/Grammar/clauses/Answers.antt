@@ -3,7 +3,7 @@ use Rattle.std.proofs.lemmas.Grind.{common_steps}
 use Rattle.ja_grammar.specs.Contexts.{context_of}
 use Rattle.ja_grammar.specs.ReadStatement.{below}
 use Rattle.ja_parse.proofs.Cases.{clauses_start, clauses_close, clauses_none, clauses_case, clauses_case_error, clauses_default, clauses_default_error, clauses_twice, clauses_other}
-use Rattle.ja_parse.proofs.Turns.{passed}
+use Rattle.ja_cursor.proofs.Turns.{passed}
 use Rattle.ja_parse.proofs.grammar.Grammar.clauses.Goals as goal
 
 pub loop-turn-init : goal.loop-turn-init

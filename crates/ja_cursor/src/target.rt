@@ -1,0 +1,95 @@
+//! The labels behind jumps, and the `:` behind a label (ES3 12.7, 12.8, 12.12).
+
+ghost use Rattle.std.specs.Prelude.{true};
+ghost use Rattle.ja_grammar.specs.Contexts.{context_of};
+ghost use Rattle.ja_grammar.specs.Contexts as contexts;
+ghost use Rattle.ja_grammar.specs.Input.{Follows, head};
+ghost use Rattle.ja_grammar.specs.ReadStatement as spec;
+ghost use Rattle.ja_cursor.specs.Taking.{Takes};
+
+use crate::context::{has_label, has_loop};
+use crate::cursor::Cursor;
+use crate::operator::is_label_behind;
+use ja_base::Place;
+use ja_grammar::{Context, Refusal, Stop};
+use ja_syntax::Name;
+use std::alloc::Global;
+
+/// Takes the label behind the jump at `place`, if it is `allowed`; one that is only `known` breaks
+/// a rule.
+fn allowed_label(
+    alloc: Global,
+    cursor: &mut Cursor<'_>,
+    allowed: bool,
+    known: bool,
+    place: Place,
+) -> Result<Option<Name>, Stop>
+    ensures { Follows (spec.labelled_by place (head cursor.old) allowed known cursor.old) result cursor.new }
+{
+    if allowed {
+        let name = cursor.name(alloc)?;
+        cursor.take();
+        return Ok(Some(name));
+    }
+    if known {
+        Err(Stop::Refused(Refusal::Broken(place)))
+    } else {
+        Err(Stop::Refused(Refusal::Unexpected))
+    }
+}
+
+/// Reads the label behind the `continue` at `place`, if there is one on its line (12.7). A label of no
+/// loop is refused as `Broken` at `place`, and one that is unknown as `Unexpected`.
+#[tactic(auto, unfolding(ja_grammar::specs::ReadStatement::jump_target))]
+pub fn continue_target(
+    alloc: Global,
+    cursor: &mut Cursor<'_>,
+    context: &Context<'_>,
+    place: Place,
+) -> Result<Option<Name>, Stop>
+    ensures { Follows (spec.jump_target (contexts.has_loop (context_of context.now)) (contexts.has_label (context_of context.now)) true place cursor.old) result cursor.new }
+{
+    if !is_label_behind(cursor) {
+        return Ok(None);
+    }
+    let word = cursor.word();
+    let allowed = has_loop(context, word);
+    let known = has_label(context, word);
+    allowed_label(alloc, cursor, allowed, known, place)
+}
+
+/// Reads the label behind the `break` at `place`, if there is one on its line (12.8). One that is unknown
+/// is refused as `Unexpected`; where there is none, and nothing to break, `Broken` at `place` is the
+/// refusal.
+#[tactic(auto, unfolding(ja_grammar::specs::ReadStatement::jump_target))]
+pub fn break_target(
+    alloc: Global,
+    cursor: &mut Cursor<'_>,
+    context: &Context<'_>,
+    place: Place,
+) -> Result<Option<Name>, Stop>
+    ensures { Follows (spec.jump_target (contexts.has_label (context_of context.now)) (contexts.has_label (context_of context.now)) context.now.in_breakable place cursor.old) result cursor.new }
+{
+    if !is_label_behind(cursor) {
+        return if context.in_breakable {
+            Ok(None)
+        } else {
+            Err(Stop::Refused(Refusal::Broken(place)))
+        };
+    }
+    let known = has_label(context, cursor.word());
+    allowed_label(alloc, cursor, known, known, place)
+}
+
+/// Takes the `:` behind the label at `place`, which counts (12.12). Where no level is left, that is
+/// refused as `DeepLabel` at `place`.
+#[tactic(auto, unfolding(ja_grammar::specs::ReadStatement::enter_label))]
+pub fn enter_label(cursor: &mut Cursor<'_>, depth: usize, place: Place) -> Result<(), Stop>
+    ensures { Takes (spec.enter_label depth place cursor.old) cursor.old result cursor.new }
+{
+    if depth == 0 {
+        return Err(Stop::Refused(Refusal::DeepLabel(place)));
+    }
+    cursor.take();
+    Ok(())
+}

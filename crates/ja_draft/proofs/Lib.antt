@@ -1,0 +1,3 @@
+pub mod MovingLemmas
+pub mod CopyLemmas
+pub mod PartLemmas

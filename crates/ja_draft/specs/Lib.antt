@@ -1,0 +1,4 @@
+pub mod Lines
+pub mod Registers
+pub mod Copies
+pub mod Parts

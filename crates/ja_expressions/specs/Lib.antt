@@ -1,0 +1,6 @@
+pub mod Specials
+pub mod References
+pub mod Operators
+pub mod Literals
+pub mod Calls
+pub mod Expressions

@@ -1,0 +1,126 @@
+//! The special forms of the texts of built-in functions: calls of names that begin with `$`, which are no variables.
+
+ghost use Rattle.std.specs.Prelude.{◌≡◌};
+ghost use Rattle.std.specs.Str.{bytes_eq};
+ghost use Rattle.ja_expressions.specs.Specials as spec;
+
+use ja_base::ScopeKind;
+use ja_graph::ErrorKind;
+
+/// A special form.
+#[derive(Clone, Copy, Debug, PartialEq, Eq)]
+pub enum Special {
+    /// `$get(o, k)`: `[[Get]]` of an object, by a text.
+    Get,
+    /// `$put(o, k, v)`: `[[Put]]`; its value is `v`.
+    Put,
+    /// `$delete(o, k)`: `[[Delete]]`.
+    Delete,
+    /// `$has(o, k)`: `[[HasProperty]]`.
+    Has,
+    /// `$object(v)`: ToObject (ES3 9.9).
+    Object,
+    /// `$text(v)`: ToString (ES3 9.8).
+    Text,
+    /// `$make_TypeError()`: a new error of the kind.
+    Make(ErrorKind),
+    /// `$call(f, r, a, ..)`: calls `f` on the receiver `r`.
+    Call,
+    /// `$spread(f, r, a)`: the arguments are the elements of `a`.
+    Spread,
+    /// `$tail(f, r)`: the arguments are those of the caller from the second on.
+    Tail,
+    /// `$stop_Fraction()`: ends the run out of the profile.
+    Stop(ScopeKind),
+    /// An operation of the built-in functions, by its number.
+    Intrinsic(u32),
+}
+
+/// The names of the special forms.
+pub const SPECIALS: [(&[u8], Special); 36] = [
+    (b"$get", Special::Get),
+    (b"$put", Special::Put),
+    (b"$delete", Special::Delete),
+    (b"$has", Special::Has),
+    (b"$object", Special::Object),
+    (b"$text", Special::Text),
+    (b"$make_Error", Special::Make(ErrorKind::Error)),
+    (b"$make_EvalError", Special::Make(ErrorKind::EvalError)),
+    (b"$make_RangeError", Special::Make(ErrorKind::RangeError)),
+    (
+        b"$make_ReferenceError",
+        Special::Make(ErrorKind::ReferenceError),
+    ),
+    (b"$make_SyntaxError", Special::Make(ErrorKind::SyntaxError)),
+    (b"$make_TypeError", Special::Make(ErrorKind::TypeError)),
+    (b"$make_URIError", Special::Make(ErrorKind::URIError)),
+    (b"$call", Special::Call),
+    (b"$spread", Special::Spread),
+    (b"$tail", Special::Tail),
+    (b"$stop_Eval", Special::Stop(ScopeKind::Eval)),
+    (b"$stop_With", Special::Stop(ScopeKind::With)),
+    (b"$stop_RegExp", Special::Stop(ScopeKind::RegExp)),
+    (b"$stop_Octal", Special::Stop(ScopeKind::Octal)),
+    (b"$stop_Number", Special::Stop(ScopeKind::Number)),
+    (b"$stop_NonAscii", Special::Stop(ScopeKind::NonAscii)),
+    (
+        b"$stop_IdentifierEscape",
+        Special::Stop(ScopeKind::IdentifierEscape),
+    ),
+    (
+        b"$stop_ReservedWord",
+        Special::Stop(ScopeKind::ReservedWord),
+    ),
+    (
+        b"$stop_ArgumentsName",
+        Special::Stop(ScopeKind::ArgumentsName),
+    ),
+    (b"$stop_TextLength", Special::Stop(ScopeKind::TextLength)),
+    (b"$stop_Fraction", Special::Stop(ScopeKind::Fraction)),
+    (b"$stop_Range", Special::Stop(ScopeKind::Range)),
+    (b"$stop_Row", Special::Stop(ScopeKind::Row)),
+    (b"$stop_CodeMaker", Special::Stop(ScopeKind::CodeMaker)),
+    (
+        b"$stop_DeviceObject",
+        Special::Stop(ScopeKind::DeviceObject),
+    ),
+    (
+        b"$stop_LengthObject",
+        Special::Stop(ScopeKind::LengthObject),
+    ),
+    (
+        b"$stop_SharedArgument",
+        Special::Stop(ScopeKind::SharedArgument),
+    ),
+    (b"$stop_CaseChange", Special::Stop(ScopeKind::CaseChange)),
+    (b"$stop_Radix", Special::Stop(ScopeKind::Radix)),
+    (b"$stop_Register", Special::Stop(ScopeKind::Register)),
+];
+
+/// Whether the units of a text are these bytes.
+fn is_word(units: &[u16], word: &[u8]) -> bool
+    ensures { result ≡ bytes_eq word.now units.now }
+{
+    match (units, word) {
+        ([], []) => true,
+        ([unit, units @ ..], [byte, word @ ..]) => {
+            *unit == u16::from(*byte) && is_word(units, word)
+        }
+        _ => false,
+    }
+}
+
+/// The special form of a name.
+#[tactic(auto, unfolding(crate::proofs::SpecialLemmas::form_in))]
+pub(crate) fn special_of(name: &[u16]) -> Option<Special>
+    ensures { result ≡ spec.special_of name.now }
+{
+    let mut table: &[(&[u8], Special)] = &SPECIALS;
+    while let [(word, special), rest @ ..] = table {
+        if is_word(name, word) {
+            return Some(*special);
+        }
+        table = rest;
+    }
+    None
+}

@@ -1,9 +1,0 @@
-pub mod NamesLemmas
-pub mod FormLemmas
-pub mod MovingLemmas
-pub mod WayLemmas
-pub mod StatementLemmas
-pub mod TextOrderLemmas
-pub mod CopyLemmas
-pub mod PartLemmas
-pub mod SpecialLemmas

@@ -1,0 +1,8 @@
+-- What the code keeps for a part of a text.
+use Rattle.ja_names.specs.declared.text_order_parts.Part.{Part}
+use Rattle.ja_names.specs.declared.text_order_parts.Part.TheVariants as part
+use Rattle.ja_names.specs.TextOrder as spec
+
+abbrev pub part_of : Part → spec.Part
+part_of (part.Function function) = spec.a_function function.now
+part_of (part.Name text) = spec.a_name text.now

@@ -1,0 +1,95 @@
+//! Parts of a text in a row.
+
+ghost use Rattle.std.specs.Prelude.{◌≡◌, ◌++◌, ◌∷◌, [], map, IfOk, OnOk};
+ghost use Rattle.std.specs.List.{flat_map, fold};
+ghost use Rattle.ja_names.specs.Names.{with_name};
+ghost use Rattle.ja_names.specs.TextOrder as spec;
+
+use crate::names::Names;
+use ja_base::Memory;
+use ja_syntax::FunctionTree;
+use std::alloc::Global;
+use std::marker::Model;
+
+/// A function of a text, or a name.
+#[derive(Drop)]
+enum Part<'a> {
+    Function(&'a FunctionTree),
+    Name(&'a [u16]),
+}
+
+/// Parts of a text, in their order. Contracts see their list.
+#[derive(Drop)]
+pub(crate) struct Parts<'a> {
+    row: Vec<Part<'a>>,
+}
+
+impl<'a> Model for Parts<'a> {
+    ghost use Rattle.std.specs.Prelude.{map};
+    ghost use Rattle.std.specs.Coded.{codes};
+    ghost use Rattle.ja_syntax.specs.contracts.tree.Statement as statement;
+    ghost use Rattle.ja_names.specs.TextOrder as spec;
+
+    ghost Value = { spec.Parts };
+
+    ghost coded = { Prim.hlevel (codes, statement.the_row.coded) };
+
+    ghost use Rattle.ja_names.specs.TextParts.{part_of};
+
+    ghost view = { λ p. map part_of p.row.items };
+}
+
+impl<'a> Parts<'a> {
+    /// No parts.
+    pub(crate) fn new(alloc: Global) -> Self
+        ensures { result ≡ [] }
+    {
+        Parts {
+            row: Vec::new(alloc),
+        }
+    }
+
+    /// Adds a function.
+    pub(crate) fn add_function(&mut self, function: &'a FunctionTree) -> Result<(), Memory>
+        ensures { OnOk result (self.new ≡ self.old ++ spec.a_function function.now ∷ []) }
+    {
+        self.row.push(Part::Function(function))?;
+        Ok(())
+    }
+
+    /// Adds a name.
+    pub(crate) fn add_name(&mut self, text: &'a [u16]) -> Result<(), Memory>
+        ensures { OnOk result (self.new ≡ self.old ++ spec.a_name text.now ∷ []) }
+    {
+        self.row.push(Part::Name(text))?;
+        Ok(())
+    }
+
+    /// The functions among them.
+    pub(crate) fn functions(&self, alloc: Global) -> Result<Vec<&'a FunctionTree>, Memory>
+        ensures { IfOk result (λ fs. map (λ f. f.now) fs.items ≡ flat_map spec.if_function self.now) }
+    {
+        let mut functions = Vec::new(alloc);
+        for part in &self.row {
+            if let Part::Function(function) = part {
+                functions.push(*function)?;
+            }
+        }
+        Ok(functions)
+    }
+
+    /// Adds the names among them, each once.
+    pub(crate) fn add_names(&self, names: &mut Names<'a>) -> Result<(), Memory>
+        ensures { OnOk result (names.new ≡ fold with_name names.old (flat_map spec.if_name self.now)) }
+    {
+        for part in &self.row {
+            if let Part::Name(text) = part {
+                if names.len() >= 1 << 32 {
+                    return Err(Memory);
+                }
+                names.add(text)?;
+            }
+        }
+        Ok(())
+    }
+}

@@ -1,0 +1,4 @@
+pub mod Ways
+pub mod Standing
+pub mod Statements
+pub mod Functions

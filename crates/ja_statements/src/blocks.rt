@@ -1,0 +1,106 @@
+//! The blocks of a `try` (ES3 12.14).
+
+ghost use Rattle.std.specs.Prelude.{◌≡◌, None, map};
+ghost use Rattle.std.specs.Option.{option_map};
+ghost use Rattle.ja_expressions.specs.Expressions.{form};
+ghost use Rattle.ja_draft.specs.Lines as lines;
+ghost use Rattle.ja_statements.specs.Standing.{Guards, Keeps, around_of, guarded_at};
+ghost use Rattle.ja_statements.specs.Statements as spec;
+
+use crate::around::{Around, handled_at, later, nth_spot, with_way};
+use crate::statement_list::statements;
+use crate::trials::{Guarded, Kept, handler};
+use crate::way::Way;
+use ja_base::{Memory, Place};
+use ja_draft::conversion::{copy, set};
+use ja_draft::{Draft, Template};
+use ja_graph::SCOPE;
+use ja_syntax::{Name, Statement};
+
+/// A block whose errors are caught.
+#[cycle(statements)]
+#[tactic(auto, unfolding(crate::specs::Statements::list_guarded))]
+pub(crate) fn guarded(
+    block: &[Statement],
+    around: &Around<'_, '_, '_>,
+    base: u32,
+    place: Place,
+    draft: &mut Draft,
+) -> Result<Guarded, Memory>
+    ensures { Guards (spec.list_guarded (map spec.does block.now) place (around_of around.now) base draft.old) result draft.new }
+{
+    let outer = around.scene;
+    let first = draft.take_spots(2)?;
+    draft.restart(base);
+    let saved = copy(outer, place, SCOPE, draft)?;
+    let handler = nth_spot(first, 0)?;
+    let behind = later(base, 1)?;
+    let scene = handled_at(outer, handler);
+    let inner = Around {
+        scene: &scene,
+        ways: around.ways,
+        labels: &[],
+    };
+    statements(&inner, behind, block, draft)?;
+    Ok(Guarded { first, saved })
+}
+
+/// The handler and the block of a `catch`.
+#[cycle(statements)]
+#[tactic(auto, unfolding(crate::specs::Statements::list_caught))]
+pub(crate) fn caught(
+    body: &[Statement],
+    parameter: &Name,
+    around: &Around<'_, '_, '_>,
+    base: u32,
+    place: Place,
+    guarded: Guarded,
+    draft: &mut Draft,
+) -> Result<(), Memory>
+    ensures { lines.Adds (spec.list_caught parameter.now (map spec.does body.now) place (around_of around.now) base (guarded_at guarded draft.old)) result draft.new }
+{
+    let scene = around.scene;
+    handler(parameter, scene, place, guarded, draft)?;
+    let behind = later(base, 1)?;
+    let ways = with_way(scene.alloc, Way::of_catch(guarded.saved), around.ways)?;
+    let inner = Around {
+        scene,
+        ways: ways.as_slice(),
+        labels: &[],
+    };
+    statements(&inner, behind, body, draft)?;
+    set(scene, place, SCOPE, guarded.saved, draft)?;
+    let end = nth_spot(guarded.first, 1)?;
+    draft.mark(end)?;
+    Ok(())
+}
+
+/// Lists the block of a `finally` apart, and takes the spots of its `try`.
+#[cycle(statements)]
+#[tactic(auto, unfolding(crate::specs::Statements::keep_block))]
+pub(crate) fn keep(
+    block: &[Statement],
+    around: &Around<'_, '_, '_>,
+    base: u32,
+    place: Place,
+    draft: &mut Draft,
+) -> Result<Kept, Memory>
+    ensures { Keeps (spec.keep_block (map spec.does block.now) place (around_of around.now) base draft.old) result draft.new }
+{
+    let scene = around.scene;
+    let first = draft.take_spots(4)?;
+    draft.restart(base);
+    let saved = copy(scene, place, SCOPE, draft)?;
+    let inner = later(base, 1)?;
+    let spot = draft.spot();
+    let mut apart = Draft::new(scene.alloc, inner, spot);
+    let unlabelled = around.unlabelled();
+    statements(&unlabelled, inner, block, &mut apart)?;
+    let spots = apart.spot().saturating_sub(spot);
+    let template = Template::new(scene.alloc, apart, inner, spot, spots)?;
+    Ok(Kept {
+        first,
+        saved,
+        template,
+    })
+}

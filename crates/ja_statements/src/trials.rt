@@ -1,0 +1,106 @@
+//! What is listed of a `try` beside the statements in it (ES3 12.14).
+
+ghost use Rattle.std.specs.Prelude.{◌≡◌, ◌+◌};
+ghost use Rattle.ja_draft.specs.Lines as lines;
+ghost use Rattle.ja_statements.specs.Standing.{guarded_at};
+ghost use Rattle.ja_statements.specs.Statements as spec;
+
+use crate::around::{later, nth_spot};
+use ja_base::{Memory, Place, Reg, Site};
+use ja_draft::conversion::{copy, set};
+use ja_draft::{Draft, Scene, Template};
+use ja_graph::{Node, SCOPE, THROWN};
+use ja_syntax::Name;
+
+/// The first of the spots of a block whose errors are caught, and the register that keeps the scope
+/// chain.
+#[derive(Clone, Copy)]
+pub(crate) struct Guarded {
+    pub(crate) first: u32,
+    pub(crate) saved: Reg,
+}
+
+/// The first of the spots of a block with a `finally`, the register that keeps the scope chain, and
+/// what was listed of the block of the `finally`.
+#[derive(Drop)]
+pub(crate) struct Kept {
+    pub(crate) first: u32,
+    pub(crate) saved: Reg,
+    pub(crate) template: Template,
+}
+
+/// The beginning of a handler: the scope chain is set again, and an object before it binds the
+/// parameter.
+#[tactic(auto, unfolding(crate::specs::Statements::list_handler))]
+pub(crate) fn handler(
+    parameter: &Name,
+    scene: &Scene<'_, '_>,
+    place: Place,
+    guarded: Guarded,
+    draft: &mut Draft,
+) -> Result<(), Memory>
+    ensures { lines.Adds (spec.list_handler parameter.now place scene.now (guarded_at guarded draft.old)) result draft.new }
+{
+    let handler = nth_spot(guarded.first, 0)?;
+    let end = nth_spot(guarded.first, 1)?;
+    draft.jump(end)?;
+    draft.mark(handler)?;
+    set(scene, place, SCOPE, guarded.saved, draft)?;
+    draft.node(scene.handler, place, Node::PushScope { site: Site(0) })?;
+    let node = Node::Bind {
+        name: scene.name(parameter.text.units()),
+        src: THROWN,
+        read_only: false,
+    };
+    draft.node(scene.handler, place, node)?;
+    Ok(())
+}
+
+/// The way of an error: the block, and the error is thrown again.
+#[tactic(auto, unfolding(crate::specs::Statements::list_rethrow))]
+pub(crate) fn rethrow(
+    template: &Template,
+    scene: &Scene<'_, '_>,
+    place: Place,
+    base: u32,
+    draft: &mut Draft,
+) -> Result<(), Memory>
+    ensures { lines.Adds (spec.list_rethrow template.now place scene.now base draft.old) result draft.new }
+{
+    let inner = later(base, 1)?;
+    draft.restart(inner);
+    let src = copy(scene, place, THROWN, draft)?;
+    let copied = later(base, 2)?;
+    draft.block(template, copied)?;
+    draft.node(scene.handler, place, Node::Throw { src })?;
+    Ok(())
+}
+
+/// The ways out of a block with a `finally` that are no jumps.
+#[tactic(auto, unfolding(crate::specs::Statements::list_ways_out))]
+pub(crate) fn ways_out(
+    kept: &Kept,
+    scene: &Scene<'_, '_>,
+    place: Place,
+    base: u32,
+    draft: &mut Draft,
+) -> Result<(), Memory>
+    ensures { lines.Adds (spec.list_ways_out place scene.now base kept.now.first kept.now.saved kept.now.template draft.old) result draft.new }
+{
+    let handler = nth_spot(kept.first, 0)?;
+    let normal = nth_spot(kept.first, 1)?;
+    let exceptional = nth_spot(kept.first, 2)?;
+    let end = nth_spot(kept.first, 3)?;
+    draft.jump(normal)?;
+    draft.mark(handler)?;
+    set(scene, place, SCOPE, kept.saved, draft)?;
+    draft.jump(exceptional)?;
+    draft.mark(normal)?;
+    let inner = later(base, 1)?;
+    draft.block(&kept.template, inner)?;
+    draft.jump(end)?;
+    draft.mark(exceptional)?;
+    rethrow(&kept.template, scene, place, base, draft)?;
+    draft.mark(end)?;
+    Ok(())
+}
