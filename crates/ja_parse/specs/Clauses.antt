@@ -1,5 +1,5 @@
 -- Ends of statements that are read by functions of their own.
-use Rattle.std.specs.Prelude.{ℕ, List, [], false, Some, None}
+use Rattle.std.specs.Prelude.{ℕ, Bool, List, [], true, false, Some, None}
 use Rattle.ja_base.specs.declared.ids.Place.{Place}
 use Rattle.ja_syntax.specs.declared.symbol.Symbol.{Symbol}
 use Rattle.ja_syntax.specs.declared.symbol.Symbol.TheVariants as k
@@ -12,8 +12,13 @@ use Rattle.ja_syntax.specs.declared.tree.Statement.{Statement}
 use Rattle.ja_syntax.specs.declared.tree.Statement.TheVariants as s
 use Rattle.ja_grammar.specs.Contexts.{Context}
 use Rattle.ja_grammar.specs.Input.{Parser, ◌>>=◌, ◌>>◌, pure, look, expect, many, many_from, take_token, symbol}
-use Rattle.ja_grammar.specs.ReadExpression.{Below}
+use Rattle.ja_grammar.specs.ReadExpression.{Below, assignment, assignment_below}
 use Rattle.ja_grammar.specs.ReadStatement.{Clauses, block, clause_by, handlers_by, finally, for_rest, for_variables_by, for_by}
+
+-- the value of a variable that is declared, in the head of a `for` or elsewhere
+abbrev pub variable_value : ℕ → Below → Bool → Parser Expression
+variable_value d b true = assignment_below d b true
+variable_value d b false = assignment d b false
 
 -- the clauses of a `switch` behind those that were found, and the `}`, in at most n turns
 unfoldable pub clauses_from : ℕ → Below → Context → ℕ → Clauses → Parser (List Case)

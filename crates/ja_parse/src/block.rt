@@ -11,10 +11,12 @@ ghost use Rattle.ja_grammar.specs.ReadStatement as spec;
 ghost use Rattle.ja_grammar.specs.ReadStatement.{below};
 ghost use Rattle.ja_grammar.specs.declared.part.ExpressionPart.TheVariants as of_expression;
 ghost use Rattle.ja_grammar.specs.declared.part.StatementPart.TheVariants as part;
+ghost use Rattle.ja_parse.specs.Clauses.{variable_value};
 ghost use Rattle.ja_parse.specs.Nests.{Nests};
 
 use crate::grammar::Grammar;
-use ja_cursor::{Cursor, declared, ended, ends_clause, is_close_brace};
+use crate::list::ListEnd;
+use ja_cursor::{Cursor, declared, ended};
 use ja_grammar::{Context, ExpressionPart, Refusal, StatementPart, Stop};
 use ja_syntax::{Declaration, Expression, Initialiser, Statement, Symbol};
 use sqlite_items::Items;
@@ -24,33 +26,6 @@ impl<
     F: Fn(Global, &mut Cursor<'_>, usize, ExpressionPart) -> Result<Expression, Stop>,
     G: Fn(Global, &mut Cursor<'_>, usize, &Context<'_>, StatementPart) -> Result<Statement, Stop>,
 > Grammar<F, G> {
-    /// Reads the statements of a block.
-    fn block_statements(
-        &self,
-        cursor: &mut Cursor<'_>,
-        context: &Context<'_>,
-    ) -> Result<Items<Statement>, Stop>
-        requires { Nests self.now.depth (F.pre self.now.expression) (F.post self.now.expression) (G.pre self.now.statement) (G.post self.now.statement) }
-        ensures { Follows (until expressions.is_close_brace ((below self.now.depth).statement (context_of context.now) (part.Whole 0 false)) cursor.old) result cursor.new }
-    {
-        let mut found = Items::new(self.alloc);
-        for _turn in 0..cursor.left() {
-            if is_close_brace(cursor.symbol()) {
-                return Ok(found);
-            }
-            let item = self.statement_below(
-                cursor,
-                context,
-                StatementPart::Whole {
-                    labels: 0,
-                    outermost: false,
-                },
-            )?;
-            found.push(item)?;
-        }
-        Ok(found)
-    }
-
     /// Reads a block with its braces (12.1).
     #[tactic(auto, unfolding(ja_grammar::specs::ReadStatement::block))]
     pub fn block(
@@ -62,35 +37,8 @@ impl<
         ensures { Follows (spec.block self.now.depth (below self.now.depth) (context_of context.now) cursor.old) result cursor.new }
     {
         cursor.opening(self.depth, Symbol::OpenBrace)?;
-        let found = self.block_statements(cursor, context)?;
+        let found = self.statements_below(cursor, context, ListEnd::Brace, false)?;
         cursor.expect(Symbol::CloseBrace)?;
-        Ok(found)
-    }
-
-    /// Reads the statements of a clause of a `switch`.
-    pub fn clause_statements(
-        &self,
-        cursor: &mut Cursor<'_>,
-        context: &Context<'_>,
-    ) -> Result<Items<Statement>, Stop>
-        requires { Nests self.now.depth (F.pre self.now.expression) (F.post self.now.expression) (G.pre self.now.statement) (G.post self.now.statement) }
-        ensures { Follows (until forms.ends_clause ((below self.now.depth).statement (context_of context.now) (part.Whole 0 false)) cursor.old) result cursor.new }
-    {
-        let mut found = Items::new(self.alloc);
-        for _turn in 0..cursor.left() {
-            if ends_clause(cursor.symbol()) {
-                return Ok(found);
-            }
-            let item = self.statement_below(
-                cursor,
-                context,
-                StatementPart::Whole {
-                    labels: 0,
-                    outermost: false,
-                },
-            )?;
-            found.push(item)?;
-        }
         Ok(found)
     }
 
@@ -106,93 +54,64 @@ impl<
         Ok(x)
     }
 
-    /// Reads a declared variable and its value (12.2).
+    /// Reads the value of a variable that is declared, in the head of a `for` or elsewhere.
+    fn variable_value(&self, cursor: &mut Cursor<'_>, in_head: bool) -> Result<Expression, Stop>
+        requires { Nests self.now.depth (F.pre self.now.expression) (F.post self.now.expression) (G.pre self.now.statement) (G.post self.now.statement) }
+        ensures { Follows (variable_value self.now.depth (below self.now.depth) in_head cursor.old) result cursor.new }
+    {
+        if in_head {
+            self.expression_below(cursor, ExpressionPart::Assignment { no_in: true })
+        } else {
+            self.assignment(cursor, false)
+        }
+    }
+
+    /// Reads a declared variable and its value (12.2, 12.6).
     #[tactic(auto, unfolding(ja_grammar::specs::ReadStatement::variable))]
-    fn variable(&self, cursor: &mut Cursor<'_>) -> Result<Declaration<Expression>, Stop>
-        requires { Nests self.now.depth (F.pre self.now.expression) (F.post self.now.expression) (G.pre self.now.statement) (G.post self.now.statement) }
-        ensures { Follows (spec.variable (expressions.assignment self.now.depth (below self.now.depth) false) cursor.old) result cursor.new }
-    {
-        let name = declared(self.alloc, cursor)?;
-        match cursor.symbol() {
-            Symbol::Assign => {
-                let place = cursor.place();
-                cursor.take();
-                let value = self.assignment(cursor, false)?;
-                Ok(Declaration {
-                    name,
-                    initialiser: Some(Initialiser { value, place }),
-                })
-            }
-            _ => Ok(Declaration {
-                name,
-                initialiser: None,
-            }),
-        }
-    }
-
-    /// Reads a variable declared in the head of a `for`, and its value (12.6).
-    #[tactic(auto, unfolding(ja_grammar::specs::ReadStatement::variable))]
-    fn for_variable(&self, cursor: &mut Cursor<'_>) -> Result<Declaration<Expression>, Stop>
-        requires { Nests self.now.depth (F.pre self.now.expression) (F.post self.now.expression) (G.pre self.now.statement) (G.post self.now.statement) }
-        ensures { Follows (spec.variable ((below self.now.depth).expression (of_expression.Assignment true)) cursor.old) result cursor.new }
-    {
-        let name = declared(self.alloc, cursor)?;
-        match cursor.symbol() {
-            Symbol::Assign => {
-                let place = cursor.place();
-                cursor.take();
-                let value = self.expression_below(
-                    cursor,
-                    ExpressionPart::Assignment { no_in: true },
-                )?;
-                Ok(Declaration {
-                    name,
-                    initialiser: Some(Initialiser { value, place }),
-                })
-            }
-            _ => Ok(Declaration {
-                name,
-                initialiser: None,
-            }),
-        }
-    }
-
-    /// Reads declared variables with commas between.
-    fn declarations(&self, cursor: &mut Cursor<'_>) -> Result<Items<Declaration<Expression>>, Stop>
-        requires { Nests self.now.depth (F.pre self.now.expression) (F.post self.now.expression) (G.pre self.now.statement) (G.post self.now.statement) }
-        ensures { Follows (separated (spec.variable (expressions.assignment self.now.depth (below self.now.depth) false)) cursor.old) result cursor.new }
-    {
-        let mut found = Items::new(self.alloc);
-        let first = self.variable(cursor)?;
-        found.push(first)?;
-        for _turn in 0..cursor.left() {
-            if !cursor.sees(Symbol::Comma) {
-                return Ok(found);
-            }
-            cursor.take();
-            let item = self.variable(cursor)?;
-            found.push(item)?;
-        }
-        Ok(found)
-    }
-
-    /// Reads the variables declared in the head of a `for`, with commas between.
-    pub fn for_declarations(
+    fn variable(
         &self,
         cursor: &mut Cursor<'_>,
+        in_head: bool,
+    ) -> Result<Declaration<Expression>, Stop>
+        requires { Nests self.now.depth (F.pre self.now.expression) (F.post self.now.expression) (G.pre self.now.statement) (G.post self.now.statement) }
+        ensures { Follows (spec.variable (variable_value self.now.depth (below self.now.depth) in_head) cursor.old) result cursor.new }
+    {
+        let name = declared(self.alloc, cursor)?;
+        match cursor.symbol() {
+            Symbol::Assign => {
+                let place = cursor.place();
+                cursor.take();
+                let value = self.variable_value(cursor, in_head)?;
+                Ok(Declaration {
+                    name,
+                    initialiser: Some(Initialiser { value, place }),
+                })
+            }
+            _ => Ok(Declaration {
+                name,
+                initialiser: None,
+            }),
+        }
+    }
+
+    /// Reads declared variables with commas between, in the head of a `for` or elsewhere.
+    pub fn declarations(
+        &self,
+        cursor: &mut Cursor<'_>,
+        in_head: bool,
     ) -> Result<Items<Declaration<Expression>>, Stop>
         requires { Nests self.now.depth (F.pre self.now.expression) (F.post self.now.expression) (G.pre self.now.statement) (G.post self.now.statement) }
-        ensures { Follows (separated (spec.variable ((below self.now.depth).expression (of_expression.Assignment true))) cursor.old) result cursor.new }
+        ensures { Follows (separated (spec.variable (variable_value self.now.depth (below self.now.depth) in_head)) cursor.old) result cursor.new }
     {
         let mut found = Items::new(self.alloc);
-        let first = self.for_variable(cursor)?;
+        let first = self.variable(cursor, in_head)?;
         found.push(first)?;
         for _turn in 0..cursor.left() {
             if !cursor.sees(Symbol::Comma) {
                 return Ok(found);
             }
             cursor.take();
-            let item = self.for_variable(cursor)?;
+            let item = self.variable(cursor, in_head)?;
             found.push(item)?;
         }
         Ok(found)
@@ -206,7 +125,7 @@ impl<
     {
         let place = cursor.place();
         cursor.take();
-        let declarations = self.declarations(cursor)?;
+        let declarations = self.declarations(cursor, false)?;
         ended(cursor)?;
         Ok(Statement::Variables {
             declarations,

@@ -15,6 +15,7 @@ ghost use Rattle.ja_parse.specs.Nests.{Nests};
 ghost use Rattle.ja_parse.specs.Clauses.{clauses_behind, try_behind_catch, try_whole};
 
 use crate::grammar::Grammar;
+use crate::list::ListEnd;
 use ja_base::Place;
 use ja_cursor::{Cursor, declared, if_of, switch_context};
 use ja_grammar::{Context, ExpressionPart, Refusal, StatementPart, Stop};
@@ -37,7 +38,7 @@ impl<
         ensures { Follows (spec.clause self.now.depth (below self.now.depth) (context_of context.now) cursor.old) result cursor.new }
     {
         cursor.expect(Symbol::Colon)?;
-        self.clause_statements(cursor, context)
+        self.statements_below(cursor, context, ListEnd::Clause, false)
     }
 
     /// Reads a clause with a test.

@@ -168,7 +168,7 @@ impl<
         ensures { Follows (spec.for_variables self.now.depth (below self.now.depth) (context_of context.now) place cursor.old) result cursor.new }
     {
         cursor.take();
-        let found = self.for_declarations(cursor)?;
+        let found = self.declarations(cursor, true)?;
         self.for_variables_behind(cursor, context, place, found)
     }
 

@@ -1,6 +1,6 @@
 //! Lists within expressions: the loops of the parser.
 
-ghost use Rattle.std.specs.Prelude.{zero, false, true, not, is_none};
+ghost use Rattle.std.specs.Prelude.{◌≡◌, zero, false, true, not, is_none};
 ghost use Rattle.ja_syntax.specs.declared.symbol.Symbol.TheVariants as k;
 ghost use Rattle.ja_grammar.specs.declared.part.ExpressionPart.TheVariants as of_expression;
 ghost use Rattle.ja_grammar.specs.declared.part.StatementPart.TheVariants as of_statement;
@@ -9,41 +9,60 @@ ghost use Rattle.ja_grammar.specs.Forms as forms;
 ghost use Rattle.ja_grammar.specs.Input.{Follows, listed, separated, until};
 ghost use Rattle.ja_grammar.specs.ReadExpression as spec;
 ghost use Rattle.ja_grammar.specs.ReadStatement.{below};
+ghost use Rattle.ja_parse.specs.Ends.{ends};
 ghost use Rattle.ja_parse.specs.Nests.{Nests};
 
 use crate::grammar::Grammar;
-use ja_cursor::{Cursor, is_close_brace, is_close_bracket};
+use ja_cursor::{Cursor, ends_clause, is_close_brace, is_close_bracket};
 use ja_grammar::{Context, ExpressionPart, StatementPart, Stop};
 use ja_syntax::{Expression, Property, Statement, Symbol};
 use sqlite_items::Items;
 use std::alloc::Global;
 
+/// What ends a list of statements.
+#[derive(Clone, Copy)]
+pub enum ListEnd {
+    /// The `}` of a block or of a function's body.
+    Brace,
+    /// The next clause of a `switch`, or its `}`.
+    Clause,
+}
+
+/// Whether a symbol ends a list of statements.
+fn is_end(end: ListEnd, symbol: Symbol) -> bool
+    ensures { result ≡ ends end symbol }
+{
+    match end {
+        ListEnd::Brace => is_close_brace(symbol),
+        ListEnd::Clause => ends_clause(symbol),
+    }
+}
+
 impl<
     F: Fn(Global, &mut Cursor<'_>, usize, ExpressionPart) -> Result<Expression, Stop>,
     G: Fn(Global, &mut Cursor<'_>, usize, &Context<'_>, StatementPart) -> Result<Statement, Stop>,
 > Grammar<F, G> {
-    /// Reads the statements of a function's body.
-    pub fn body_statements(
+    /// Reads statements one level below, up to the end of their list.
+    pub fn statements_below(
         &self,
         cursor: &mut Cursor<'_>,
         context: &Context<'_>,
+        end: ListEnd,
+        outermost: bool,
     ) -> Result<Items<Statement>, Stop>
         requires { Nests self.now.depth (F.pre self.now.expression) (F.post self.now.expression) (G.pre self.now.statement) (G.post self.now.statement) }
-        ensures { Follows (until spec.is_close_brace ((below self.now.depth).statement (context_of context.now) (of_statement.Whole 0 true)) cursor.old) result cursor.new }
+        ensures { Follows (until (ends end) ((below self.now.depth).statement (context_of context.now) (of_statement.Whole 0 outermost)) cursor.old) result cursor.new }
     {
         let mut found = Items::new(self.alloc);
         for _turn in 0..cursor.left() {
-            if is_close_brace(cursor.symbol()) {
+            if is_end(end, cursor.symbol()) {
                 return Ok(found);
             }
-            let item = self.statement_below(
-                cursor,
-                context,
-                StatementPart::Whole {
-                    labels: 0,
-                    outermost: true,
-                },
-            )?;
+            let part = StatementPart::Whole {
+                labels: 0,
+                outermost,
+            };
+            let item = self.statement_below(cursor, context, part)?;
             found.push(item)?;
         }
         Ok(found)

@@ -12,6 +12,7 @@ ghost use Rattle.ja_grammar.specs.declared.part.StatementPart.TheVariants as of_
 ghost use Rattle.ja_parse.specs.Nests.{Nests};
 
 use crate::grammar::Grammar;
+use crate::list::ListEnd;
 use ja_cursor::{Cursor, function_context, function_name, literal_of, parameters, property_name};
 use ja_grammar::{Context, ExpressionPart, Refusal, StatementPart, Stop};
 use ja_syntax::{Expression, FunctionTree, Name, Property, Statement, Symbol};
@@ -84,7 +85,7 @@ impl<
     {
         cursor.opening(self.depth, Symbol::OpenBrace)?;
         let context = function_context(self.alloc);
-        let body = self.body_statements(cursor, &context)?;
+        let body = self.statements_below(cursor, &context, ListEnd::Brace, true)?;
         cursor.expect(Symbol::CloseBrace)?;
         Ok(body)
     }
