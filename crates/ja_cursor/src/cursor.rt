@@ -97,13 +97,6 @@ fn number_of(kind: &TokenKind) -> Int
     }
 }
 
-/// A text of these units.
-pub fn text_of(alloc: Global, units: &[u16]) -> Result<Text16, AllocError>
-    ensures { IfOk result (λ text. text ≡ units.now) }
-{
-    Ok(Text16::from_units(Vec::from_slice(alloc, units)?))
-}
-
 impl<'a> Cursor<'a> {
     /// At the first of these tokens.
     pub fn new(tokens: &'a [Token]) -> Cursor<'a>
@@ -223,7 +216,7 @@ impl<'a> Cursor<'a> {
         ensures { IfOk result (λ name. name ≡ forms.name_of (spec.head self.now)) }
     {
         Ok(Name {
-            text: text_of(alloc, self.word())?,
+            text: Text16::from_slice(alloc, self.word())?,
             place: self.place(),
         })
     }

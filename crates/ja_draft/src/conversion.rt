@@ -8,15 +8,7 @@ use crate::scene::Scene;
 use ja_base::{Memory, Place, Reg};
 use ja_graph::renaming::copied;
 use ja_graph::{Hint, Node, UnaryOp};
-use ja_prim::{Primitive, Text16};
-use std::alloc::Global;
-
-/// A copy of a text.
-pub fn copied_text(alloc: Global, text: &Text16) -> Result<Text16, Memory>
-    ensures { IfOk result (λ copy. copy ≡ text.now) }
-{
-    Ok(Text16::from_units(Vec::from_slice(alloc, text.units())?))
-}
+use ja_prim::Primitive;
 
 /// Adds a constant.
 pub fn constant(

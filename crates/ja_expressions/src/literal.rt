@@ -8,7 +8,7 @@ ghost use Rattle.ja_expressions.specs.Literals as spec;
 
 use crate::expression::value;
 use ja_base::{FnId, Memory, Place, Reg, Site};
-use ja_draft::conversion::{constant, copied_text, copy, set};
+use ja_draft::conversion::{constant, copy, set};
 use ja_draft::{Draft, Scene};
 use ja_graph::{Made, Node};
 use ja_prim::{Int, Num, Primitive, Text16, to_text};
@@ -50,11 +50,11 @@ fn property_text(alloc: Global, name: &PropertyName) -> Result<Text16, Memory>
 {
     match name {
         PropertyName::Word(text) => {
-            let text = copied_text(alloc, text)?;
+            let text = text.copy(alloc)?;
             Ok(text)
         }
         PropertyName::Text(text) => {
-            let text = copied_text(alloc, text)?;
+            let text = text.copy(alloc)?;
             Ok(text)
         }
         PropertyName::Number(n) => {
@@ -92,8 +92,7 @@ fn write_known(
 fn length_text(alloc: Global) -> Result<Text16, Memory>
     ensures { IfOk result (λ text. text ≡ codes "length") }
 {
-    let units = Vec::from_slice(alloc, &[108_u16, 101, 110, 103, 116, 104])?;
-    Ok(Text16::from_units(units))
+    Ok(Text16::from_ascii(alloc, b"length")?)
 }
 
 /// Adds a new object.

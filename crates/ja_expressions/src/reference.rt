@@ -7,7 +7,7 @@ ghost use Rattle.ja_expressions.specs.References as spec;
 use crate::outcome::Outcome;
 use crate::special::{Special, special_of};
 use ja_base::{Memory, Place, Reg, Site};
-use ja_draft::conversion::{constant, copied_text, text};
+use ja_draft::conversion::{constant, text};
 use ja_draft::{Draft, Scene};
 use ja_graph::{Node, Wrappers};
 use ja_prim::{Primitive, Text16};
@@ -155,7 +155,7 @@ pub(crate) fn member(
 ) -> Result<Outcome, Memory>
     ensures { spec.Comes (spec.with_member name.now place scene.now src draft.old) result draft.new }
 {
-    let name = copied_text(scene.alloc, name)?;
+    let name = name.copy(scene.alloc)?;
     let key = constant(scene, place, Primitive::Text(name), draft)?;
     let object = object(scene, place, src, draft)?;
     Ok(Outcome::Member { object, key, place })

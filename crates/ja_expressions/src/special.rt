@@ -1,11 +1,11 @@
 //! The special forms of the texts of built-in functions: calls of names that begin with `$`, which are no variables.
 
 ghost use Rattle.std.specs.Prelude.{◌≡◌};
-ghost use Rattle.std.specs.Str.{bytes_eq};
 ghost use Rattle.ja_expressions.specs.Specials as spec;
 
 use ja_base::ScopeKind;
 use ja_graph::ErrorKind;
+use ja_prim::spells;
 
 /// A special form.
 #[derive(Clone, Copy, Debug, PartialEq, Eq)]
@@ -97,27 +97,14 @@ pub const SPECIALS: [(&[u8], Special); 36] = [
     (b"$stop_Register", Special::Stop(ScopeKind::Register)),
 ];
 
-/// Whether the units of a text are these bytes.
-fn is_word(units: &[u16], word: &[u8]) -> bool
-    ensures { result ≡ bytes_eq word.now units.now }
-{
-    match (units, word) {
-        ([], []) => true,
-        ([unit, units @ ..], [byte, word @ ..]) => {
-            *unit == u16::from(*byte) && is_word(units, word)
-        }
-        _ => false,
-    }
-}
-
 /// The special form of a name.
 #[tactic(auto, unfolding(crate::proofs::SpecialLemmas::form_in))]
-pub(crate) fn special_of(name: &[u16]) -> Option<Special>
+pub fn special_of(name: &[u16]) -> Option<Special>
     ensures { result ≡ spec.special_of name.now }
 {
     let mut table: &[(&[u8], Special)] = &SPECIALS;
     while let [(word, special), rest @ ..] = table {
-        if is_word(name, word) {
+        if spells(name, word) {
             return Some(*special);
         }
         table = rest;

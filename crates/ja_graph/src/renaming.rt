@@ -42,9 +42,7 @@ pub fn copied(alloc: Global, prim: &Primitive) -> Result<Primitive, Memory>
         Primitive::Null => Primitive::Null,
         Primitive::Bool(value) => Primitive::Bool(*value),
         Primitive::Number(number) => Primitive::Number(*number),
-        Primitive::Text(text) => {
-            Primitive::Text(Text16::from_units(Vec::from_slice(alloc, text.units())?))
-        }
+        Primitive::Text(text) => Primitive::Text(text.copy(alloc)?),
     })
 }
 

@@ -79,14 +79,6 @@ fn stranger(c: char) -> TokenFault
     }
 }
 
-/// The text whose units are these bytes.
-fn text_of(alloc: Global, bytes: &[u8]) -> Result<Text16, AllocError>
-    ensures { IfOk result (λ text. text ≡ bytes.now) }
-{
-    let units: Vec<u16> = bytes.iter().map(|byte| u16::from(*byte)).collect(alloc)?;
-    Ok(Text16::from_units(units))
-}
-
 /// The longest mark that stands there, or why there is none.
 #[tactic(auto, unfolding(crate::specs::Marks::mark))]
 pub fn mark(alloc: Global, text: &[char]) -> Result<Element, AllocError>
@@ -95,9 +87,9 @@ pub fn mark(alloc: Global, text: &[char]) -> Result<Element, AllocError>
     match longest(&MARKS, text) {
         [] => Ok(bad(stranger(char_at(text, 0)))),
         found => {
-            let units = text_of(alloc, found)?;
+            let mark = Text16::from_ascii(alloc, found)?;
             Ok(Element::Token {
-                kind: TokenKind::Mark(units),
+                kind: TokenKind::Mark(mark),
                 length: found.len(),
             })
         }

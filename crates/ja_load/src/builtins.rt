@@ -19,21 +19,13 @@ use std::alloc::Global;
 /// The place of a site that no text has.
 const NO_PLACE: Place = Place { line: 0, column: 0 };
 
-/// A text as 16-bit units, one for each byte.
-fn text_of(alloc: Global, bytes: &[u8]) -> Result<Text16, Memory>
-    ensures { IfOk result (λ t. t ≡ bytes.now) }
-{
-    let units: Vec<u16> = bytes.iter().map(|byte| u16::from(*byte)).collect(alloc)?;
-    Ok(Text16::from_units(units))
-}
-
 /// The texts of names.
 fn texts_of(alloc: Global, names: &[&[u8]]) -> Result<Vec<Text16>, Memory>
     ensures { IfOk result (λ texts. texts.items ≡ map (λ name. name.now) names.now) }
 {
     let mut texts = Vec::new(alloc);
     for name in names {
-        texts.push(text_of(alloc, name)?)?;
+        texts.push(Text16::from_ascii(alloc, name)?)?;
     }
     Ok(texts)
 }
@@ -95,7 +87,10 @@ fn primitive_of(alloc: Global, constant: &Constant) -> Result<Primitive, Memory>
         Constant::False => Primitive::Bool(false),
         Constant::Zero => Primitive::Number(Num::Whole(Int::new(0).unwrap())),
         Constant::Empty => Primitive::Text(Text16::from_units(Vec::new(alloc))),
-        Constant::ErrorName(kind) => Primitive::Text(text_of(alloc, error_name(*kind).as_bytes())?),
+        Constant::ErrorName(kind) => Primitive::Text(Text16::from_ascii(
+            alloc,
+            error_name(*kind).as_bytes(),
+        )?),
     };
     Ok(value)
 }
@@ -184,7 +179,7 @@ pub(crate) fn opening_objects(alloc: Global) -> Result<Seq<ObjectSpec>, Memory>
 fn builtin_site(alloc: Global, class: Class, path: &[u8]) -> Result<SiteInfo, Memory>
     ensures { IfOk result (λ site. site ≡ builtin_site class path.now) }
 {
-    let path = text_of(alloc, path)?;
+    let path = Text16::from_ascii(alloc, path)?;
     Ok(SiteInfo {
         class,
         place: NO_PLACE,

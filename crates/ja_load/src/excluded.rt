@@ -1,6 +1,7 @@
 ghost use Rattle.std.specs.Prelude.{◌≡◌};
-ghost use Rattle.std.specs.Str.{bytes_eq};
 ghost use Rattle.ja_load.specs.Built as spec;
+
+use ja_prim::spells;
 
 /// The names with a meaning that is not built: `arguments` (ES3 10.1.8), the properties that the
 /// built-ins give to the global object (15.1), and those that they give to `Object.prototype`
@@ -47,19 +48,6 @@ pub const EXCLUDED: [&[u8]; 37] = [
     b"toLocaleString",
 ];
 
-/// Whether the units of a text are these bytes.
-fn is_word(units: &[u16], word: &[u8]) -> bool
-    ensures { result ≡ bytes_eq word.now units.now }
-{
-    match (units, word) {
-        ([], []) => true,
-        ([unit, units @ ..], [byte, word @ ..]) => {
-            *unit == u16::from(*byte) && is_word(units, word)
-        }
-        _ => false,
-    }
-}
-
 /// Whether a name is one of the table.
 #[tactic(auto, unfolding(crate::specs::Built::is_excluded))]
 pub(crate) fn is_excluded(name: &[u16]) -> bool
@@ -67,7 +55,7 @@ pub(crate) fn is_excluded(name: &[u16]) -> bool
 {
     let mut table: &[&[u8]] = &EXCLUDED;
     while let [entry, rest @ ..] = table {
-        if is_word(name, entry) {
+        if spells(name, entry) {
             return true;
         }
         table = rest;

@@ -50,10 +50,7 @@ fn name_of(alloc: Global, name: &Option<Name>) -> Result<Text16, Memory>
 {
     match name {
         None => Ok(Text16::from_units(Vec::new(alloc))),
-        Some(name) => {
-            let units = Vec::from_slice(alloc, name.text.units())?;
-            Ok(Text16::from_units(units))
-        }
+        Some(name) => Ok(name.text.copy(alloc)?),
     }
 }
 

@@ -27,7 +27,7 @@ use Rattle.ja_model.specs.AbstractValue.{AbstractValue, AbstractProperty, join_p
 use Rattle.ja_model.specs.AbstractState.{AbstractState, join_states}
 use Rattle.ja_model.specs.Reading.{Entries}
 use Rattle.ja_model.specs.Transfer.{Out, transfer, transfer_node, view_of}
-use Rattle.ja_model.specs.Meaning.{Content, missing, held, present, present_row, has_primitive, has_value, allows_attrs, LeqValue, LeqProperty, Holds, content, knows, label_of, key_of, LeqState, opened}
+use Rattle.ja_model.specs.Meaning.{SpotContent, missing, held, present, present_row, has_primitive, has_value, allows_attrs, LeqValue, LeqProperty, Holds, content, knows, label_of, key_of, LeqState, opened}
 use Rattle.ja_model.specs.Table.{Table, root, with_demands, joined_state, with_state, with_states, with_out, visit_step, IsClosed}
 use Rattle.ja_model.proofs.Interface.{IsFilled}
 use Rattle.ja_model.proofs.Lists.{Member, is_some_from}
@@ -80,7 +80,7 @@ leq_has_value : (h : Heap) (a b : AbstractValue) (v : Value) → LeqValue a b �
 leq_has_value h a b (value.Primitive q) l e = leq_has_primitive a b q l e
 leq_has_value h a b (value.Object o) l e = l.label (label_of h o) e
 
-leq_knows : (h : Heap) (q r : AbstractProperty) (c : Content) → LeqProperty q r → IsTrue (knows h q c) → IsTrue (knows h r c)
+leq_knows : (h : Heap) (q r : AbstractProperty) (c : SpotContent) → LeqProperty q r → IsTrue (knows h q c) → IsTrue (knows h r c)
 leq_knows h q r missing l e = sym (ap (λ (g : Flags). g.absent) l.value.flags) ∙ or_left _ _ e
 leq_knows h q r (held v) l e = leq_has_value h q.value r.value v l.value e
 leq_knows h q r (present v attrs) l e =

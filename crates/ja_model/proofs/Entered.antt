@@ -29,7 +29,7 @@ use Rattle.ja_model.specs.Machine.{name_text, first_of, opening_property, openin
 use Rattle.ja_model.specs.AbstractValue.{AbstractProperty, join_properties, no_property, of_primitive, of_attrs}
 use Rattle.ja_model.specs.AbstractState.{name_key}
 use Rattle.ja_model.specs.Reading.{Entries}
-use Rattle.ja_model.specs.Meaning.{Content, missing, held, present, present_row, Spot, named, internal, content, property_content, label_of, name_of, key_of, has_primitive, has_value, allows, allows_attrs, knows, of_value, of_content, key_content, opened_at, opened, EntriesHold}
+use Rattle.ja_model.specs.Meaning.{SpotContent, missing, held, present, present_row, Spot, named, internal, content, property_content, label_of, name_of, key_of, has_primitive, has_value, allows, allows_attrs, knows, of_value, of_content, key_content, opened_at, opened, EntriesHold}
 use Rattle.ja_model.proofs.Interface.{IsObjectOf}
 use Rattle.ja_model.proofs.Heaps
 use Rattle.ja_model.proofs.Opening.{IsOpened, opened_at_address, count-opening}
@@ -61,7 +61,7 @@ allows_exactly false = refl
 pub of_attrs_allows : (a : Attrs) → IsTrue (allows_attrs (of_attrs a) a)
 of_attrs_allows a = and_three _ _ _ (allows_exactly a.read_only) (allows_exactly a.dont_enum) (allows_exactly a.dont_delete)
 
-of_content_knows : (h : Heap) (c : Content) → IsTrue (knows h (of_content h c) c)
+of_content_knows : (h : Heap) (c : SpotContent) → IsTrue (knows h (of_content h c) c)
 of_content_knows h missing = refl
 of_content_knows h (held v) = of_value_has h v
 of_content_knows h (present v attrs) = and_from _ _ (of_value_has h v) (of_attrs_allows attrs)

@@ -12,7 +12,7 @@ use Rattle.ja_model.specs.declared.machine.Object.{Object}
 use Rattle.ja_model.specs.declared.machine.Heap.{Heap}
 use Rattle.ja_model.specs.Heap.{objects_of, count, size, object_at, with_new, new_address, with_object, object_with_value, prototype_of, outer_of}
 use Rattle.ja_model.specs.Machine.{opening_heap}
-use Rattle.ja_model.specs.Meaning.{Content, missing, held, present, present_row, Spot, content, object_content}
+use Rattle.ja_model.specs.Meaning.{SpotContent, missing, held, present, present_row, Spot, content, object_content}
 use Rattle.ja_model.proofs.Interface.{IsObjectOf, IsValueOf, IsContentOf, IsHeap, Grows}
 use Rattle.ja_model.proofs.Lists.{is_some_from}
 use Rattle.ja_model.proofs.Resolved.{ordinal-below}
@@ -38,7 +38,7 @@ module _ (p : Program) (h : Heap) (s : Site) (o : Object) (known : IsRunHeap p h
   row : s.0 < length h.objects
   row = let e : length h.objects ≡ length p.sites = known.rows in omega arith
 
-  content_stays : (c : Content) → IsContentOf h c → IsContentOf (with_new h s o) c
+  content_stays : (c : SpotContent) → IsContentOf h c → IsContentOf (with_new h s o) c
   content_stays missing k = tt
   content_stays (held v) k = Heaps.value_stays h s o row v k
   content_stays (present v attrs) k = Heaps.value_stays h s o row v k
@@ -127,7 +127,7 @@ module _ (p : Program) (h : Heap) (s : Site) (o : Object) (known : IsRunHeap p h
 -- ---- a write to a property
 
 module _ (p : Program) (h : Heap) (a : Addr) (o : Object) (t : List ℕ) (v : Value) (known : IsRunHeap p h) (there : object_at h a ≡ Some o) (of_heap : IsValueOf h v) where
-  content_written : (c : Content) → IsContentOf h c → IsContentOf (with_object h a (object_with_value o t v)) c
+  content_written : (c : SpotContent) → IsContentOf h c → IsContentOf (with_object h a (object_with_value o t v)) c
   content_written missing k = tt
   content_written (held u) k = Heaps.value_written h a o there t v u k
   content_written (present u attrs) k = Heaps.value_written h a o there t v u k

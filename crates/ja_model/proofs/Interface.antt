@@ -10,7 +10,7 @@ use Rattle.ja_model.specs.declared.machine.Value.TheVariants as value
 use Rattle.ja_model.specs.declared.machine.Object.{Object}
 use Rattle.ja_model.specs.declared.machine.Heap.{Heap}
 use Rattle.ja_model.specs.Heap.{count, size, object_at, prototype_of, outer_of}
-use Rattle.ja_model.specs.Meaning.{Content, missing, held, present, present_row, Spot, content, label_of, key_of, knows, IsAsAtEntry, EntriesHold}
+use Rattle.ja_model.specs.Meaning.{SpotContent, missing, held, present, present_row, Spot, content, label_of, key_of, knows, IsAsAtEntry, EntriesHold}
 use Rattle.ja_model.specs.AbstractState.{labels_of}
 use Rattle.ja_model.specs.Reading.{View, Demands, Entries}
 
@@ -24,7 +24,7 @@ IsValueOf h (value.Primitive q) = Unit {0}
 IsValueOf h (value.Object a) = IsObjectOf h a
 
 -- a content's value is one of the heap
-abbrev pub IsContentOf : Heap → Content → Type 0
+abbrev pub IsContentOf : Heap → SpotContent → Type 0
 IsContentOf h missing = Unit {0}
 IsContentOf h (held v) = IsValueOf h v
 IsContentOf h (present v attrs) = IsValueOf h v

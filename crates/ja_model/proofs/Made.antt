@@ -32,7 +32,7 @@ use Rattle.ja_model.specs.AbstractValue.{AbstractValue, AbstractProperty, join_p
 use Rattle.ja_model.specs.AbstractState.{AbstractState, new, old, same_key, with_property, aged, aged_property, made_property, with_made, exactly_some}
 use Rattle.ja_model.specs.Reading.{prototype}
 use Rattle.ja_model.specs.Transfer.{message_property, with_error}
-use Rattle.ja_model.specs.Meaning.{property_content, Content, missing, held, present, present_row, Spot, named, internal, content, object_content, label_of, key_of, has_primitive, has_value, knows, allows_attrs, Holds, IsAsAtEntry}
+use Rattle.ja_model.specs.Meaning.{property_content, SpotContent, missing, held, present, present_row, Spot, named, internal, content, object_content, label_of, key_of, has_primitive, has_value, knows, allows_attrs, Holds, IsAsAtEntry}
 use Rattle.ja_model.proofs.Interface.{IsObjectOf, IsValueOf, IsContentOf, Grows}
 use Rattle.ja_model.proofs.Resolved.{object_from_ordinal}
 use Rattle.ja_model.proofs.Heaps
@@ -89,7 +89,7 @@ module _ (h : Heap) (s : Site) (o : Object) (row : s.0 < length h.objects) where
   aged_has v (value.Primitive q) there e = aged_has_primitive v q e
   aged_has v (value.Object b) there e = aged_has_object v b there e
 
-  aged_knows : (q : AbstractProperty) (c : Content) → IsContentOf h c → IsTrue (knows h q c) → IsTrue (knows (with_new h s o) (aged_property s q) c)
+  aged_knows : (q : AbstractProperty) (c : SpotContent) → IsContentOf h c → IsTrue (knows h q c) → IsTrue (knows (with_new h s o) (aged_property s q) c)
   aged_knows q missing there e = e
   aged_knows q (held v) there e = aged_has q.value v there e
   aged_knows q (present v attrs) there e =

@@ -21,7 +21,7 @@ use Rattle.ja_model.specs.declared.abstraction.TextPart.{TextPart}
 use Rattle.ja_model.specs.declared.abstraction.TextPart.TheVariants as text_part
 use Rattle.ja_model.specs.AbstractValue.{Labels, AbstractValue, AbstractProperty, same_label, has_present_flag, has_number, has_text, is_present, has_part, present_part}
 use Rattle.ja_model.specs.AbstractState.{labels_of}
-use Rattle.ja_model.specs.Meaning.{label_of, number_has, text_has, has_primitive, has_value, Content, missing, held, present, present_row, content_of, allows_attrs, knows}
+use Rattle.ja_model.specs.Meaning.{label_of, number_has, text_has, has_primitive, has_value, SpotContent, missing, held, present, present_row, content_of, allows_attrs, knows}
 use Rattle.ja_model.specs.Reading.{known_part, join_all, join_values}
 use Rattle.ja_model.specs.Transfer.{as_read}
 use Rattle.ja_model.proofs.Interface.{IsObjectOf, IsValueOf, IsContentOf, IsHeap}
@@ -50,7 +50,7 @@ pub has_value-present_part : (h : Heap) (v : AbstractValue) (u : Value) → IsTr
 has_value-present_part h v u e = has_value-flags h v false false u e
 
 -- the part that isn't as at entry has the contents
-pub knows-known_part : (h : Heap) (q : AbstractProperty) (c : Content) → IsTrue (knows h q c) → IsTrue (knows h (known_part q) c)
+pub knows-known_part : (h : Heap) (q : AbstractProperty) (c : SpotContent) → IsTrue (knows h q c) → IsTrue (knows h (known_part q) c)
 knows-known_part h q missing e = e
 knows-known_part h q (held u) e = has_value-flags h q.value q.value.flags.absent false u e
 knows-known_part h q (present u attrs) e =
@@ -106,7 +106,7 @@ absent-join_values f (m ∷ ms) l a e =
     ]
 
 -- a content that one of a list knows is known to their join
-pub knows-join_all : (h : Heap) (f : Label → AbstractProperty) (labels : List Label) (l : Label) (c : Content) → IsAmong l labels → IsTrue (knows h (f l) c) → IsTrue (knows h (join_all (map f labels)) c)
+pub knows-join_all : (h : Heap) (f : Label → AbstractProperty) (labels : List Label) (l : Label) (c : SpotContent) → IsAmong l labels → IsTrue (knows h (f l) c) → IsTrue (knows h (join_all (map f labels)) c)
 knows-join_all h f [] l c a e = absurd (false≢true a)
 knows-join_all h f (m ∷ ms) l c a e =
     elim (or_cases (same_label l m) (list_any (same_label l) ms) a) [

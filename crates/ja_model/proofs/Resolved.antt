@@ -17,7 +17,7 @@ use Rattle.ja_model.specs.declared.abstraction.Key.{Key}
 use Rattle.ja_model.specs.Heap.{count, objects_of, object_at}
 use Rattle.ja_model.specs.AbstractValue.{Labels, AbstractValue, AbstractProperty, same_label, join_properties, no_property}
 use Rattle.ja_model.specs.AbstractState.{new, old, same_key}
-use Rattle.ja_model.specs.Meaning.{label_of, has_value, Spot, Content, missing, held, present, present_row, content, key_of, knows, IsAsAtEntry}
+use Rattle.ja_model.specs.Meaning.{label_of, has_value, Spot, SpotContent, missing, held, present, present_row, content, key_of, knows, IsAsAtEntry}
 use Rattle.ja_model.specs.Reading.{View, origins, renamed_labels, renamed, known_part, from_entry, demands_of, own}
 use Rattle.ja_model.proofs.Interface.{IsObjectOf, IsValueOf, IsContentOf, Grows, IsFilled, IsRead}
 use Rattle.ja_model.proofs.Keys.{same_key-true, same_key-self}
@@ -130,7 +130,7 @@ has_value-renamed e c mask aged v (value.Primitive q) o h = has_primitive-labels
 has_value-renamed e c mask aged v (value.Object a) o h = renamed_labels-has e c mask aged a o v.label h
 
 -- a content of the entry's heap that was known there is known now to the renamed property
-pub knows-renamed : (e c : Heap) (mask : ℕ → Mask) → IsAged e c mask → (q : AbstractProperty) (x : Content) → IsContentOf e x → IsTrue (knows e q x) → IsTrue (knows c (renamed mask q) x)
+pub knows-renamed : (e c : Heap) (mask : ℕ → Mask) → IsAged e c mask → (q : AbstractProperty) (x : SpotContent) → IsContentOf e x → IsTrue (knows e q x) → IsTrue (knows c (renamed mask q) x)
 knows-renamed e c mask aged q missing o h = h
 knows-renamed e c mask aged q (held u) o h = has_value-renamed e c mask aged q.value u o h
 knows-renamed e c mask aged q (present u attrs) o h =
@@ -141,7 +141,7 @@ knows-renamed e c mask aged q (present_row attrs) o h = h
 -- ---- the resolved reading
 
 -- where each origin that is demanded has a value, what an object had at the entry is known to the join of them
-entry_known : (c : Heap) (mask : ℕ → Mask) (x : Content) (o : Option AbstractProperty) → IsSome o → ((q : AbstractProperty) → o ≡ Some q → IsTrue (knows c (renamed mask q) x)) → IsTrue (knows c (option_map_or (renamed mask) o no_property) x)
+entry_known : (c : Heap) (mask : ℕ → Mask) (x : SpotContent) (o : Option AbstractProperty) → IsSome o → ((q : AbstractProperty) → o ≡ Some q → IsTrue (knows c (renamed mask q) x)) → IsTrue (knows c (option_map_or (renamed mask) o no_property) x)
 entry_known c mask x None s f = absurd (false≢true s)
 entry_known c mask x (Some q) s f = f q refl
 

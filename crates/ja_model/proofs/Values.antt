@@ -20,7 +20,7 @@ use Rattle.ja_model.specs.declared.abstraction.TextPart.TheVariants as text_part
 use Rattle.ja_model.specs.declared.abstraction.May.{May}
 use Rattle.ja_model.specs.declared.abstraction.AAttrs.{AAttrs}
 use Rattle.ja_model.specs.AbstractValue.{AbstractValue, AbstractProperty, number_class, join_classes, join_numbers, text_class, join_text_classes, join_texts, join, join_may, join_attrs, join_properties}
-use Rattle.ja_model.specs.Meaning.{label_of, number_has, text_has, has_primitive, has_value, Content, missing, held, present, present_row, allows, allows_attrs, knows}
+use Rattle.ja_model.specs.Meaning.{label_of, number_has, text_has, has_primitive, has_value, SpotContent, missing, held, present, present_row, allows, allows_attrs, knows}
 
 -- ---- numbers
 
@@ -185,7 +185,7 @@ allows_attrs-join_right m n a e =
     and_three _ _ _ (allows-join_right m.read_only n.read_only a.read_only r) (allows-join_right m.dont_enum n.dont_enum a.dont_enum s.0) (allows-join_right m.dont_delete n.dont_delete a.dont_delete s.1)
 
 -- the join of two properties has the contents of the left one
-pub knows-join_left : (h : Heap) (a b : AbstractProperty) (c : Content) → IsTrue (knows h a c) → IsTrue (knows h (join_properties a b) c)
+pub knows-join_left : (h : Heap) (a b : AbstractProperty) (c : SpotContent) → IsTrue (knows h a c) → IsTrue (knows h (join_properties a b) c)
 knows-join_left h a b missing e = or_left a.value.flags.absent b.value.flags.absent e
 knows-join_left h a b (held v) e = has_value-join_left h a.value b.value v e
 knows-join_left h a b (present v attrs) e =
@@ -196,7 +196,7 @@ knows-join_left h a b (present_row attrs) e =
     and_from _ _ (or_left a.value.flags.row b.value.flags.row r) (allows_attrs-join_left a.attrs b.attrs attrs s)
 
 -- .. and those of the right one
-pub knows-join_right : (h : Heap) (a b : AbstractProperty) (c : Content) → IsTrue (knows h b c) → IsTrue (knows h (join_properties a b) c)
+pub knows-join_right : (h : Heap) (a b : AbstractProperty) (c : SpotContent) → IsTrue (knows h b c) → IsTrue (knows h (join_properties a b) c)
 knows-join_right h a b missing e = or_right a.value.flags.absent b.value.flags.absent e
 knows-join_right h a b (held v) e = has_value-join_right h a.value b.value v e
 knows-join_right h a b (present v attrs) e =

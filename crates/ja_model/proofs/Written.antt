@@ -23,7 +23,7 @@ use Rattle.ja_model.specs.AbstractValue.{Labels, AbstractValue, AbstractProperty
 use Rattle.ja_model.specs.AbstractState.{AbstractState, labels_of, same_key, with_property}
 use Rattle.ja_model.specs.Reading.{View, Entries, demands_of, demands_of_walk, next_prototype, asked, may_be_absent, may_accept, may_refuse, prototype}
 use Rattle.ja_model.specs.Transfer.{view_of, gives, written_attrs, written, strong_put, weakly_written, weak_put, put_at, put}
-use Rattle.ja_model.specs.Meaning.{Content, missing, held, present, present_row, Spot, named, content, label_of, key_of, has_value, knows, allows_attrs, Holds}
+use Rattle.ja_model.specs.Meaning.{SpotContent, missing, held, present, present_row, Spot, named, content, label_of, key_of, has_value, knows, allows_attrs, Holds}
 use Rattle.ja_model.proofs.Interface.{IsObjectOf, IsFilled, IsRead}
 use Rattle.ja_model.proofs.Lists.{Member, member-append_left, member-append_right, list_any-filter, some_value}
 use Rattle.ja_model.proofs.Heaps
@@ -51,7 +51,7 @@ same_has : (h now : Heap) (v : AbstractValue) (x : Value) → ((b : Addr) → la
 same_has h now v (value.Primitive q) same e = e
 same_has h now v (value.Object b) same e = subst (λ l. IsTrue (v.label l)) (sym (same b)) e
 
-same_knows : (h now : Heap) (q : AbstractProperty) (c : Content) → ((b : Addr) → label_of now b ≡ label_of h b) → IsTrue (knows h q c) → IsTrue (knows now q c)
+same_knows : (h now : Heap) (q : AbstractProperty) (c : SpotContent) → ((b : Addr) → label_of now b ≡ label_of h b) → IsTrue (knows h q c) → IsTrue (knows now q c)
 same_knows h now q missing same e = e
 same_knows h now q (held v) same e = same_has h now q.value v same e
 same_knows h now q (present v attrs) same e =

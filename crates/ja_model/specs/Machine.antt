@@ -12,6 +12,7 @@ use Rattle.ja_base.specs.declared.ids.ScopeKind.{ScopeKind}
 use Rattle.ja_base.specs.declared.ids.ScopeKind.TheVariants.{TextLength, Register, Row}
 use Rattle.ja_prim.specs.declared.primitive.Num.TheVariants.{Whole}
 use Rattle.ja_prim.specs.declared.primitive.Primitive.TheVariants.{Undefined, Null, Number, Text}
+use Rattle.ja_prim.specs.Texts.{max_units}
 use Rattle.ja_graph.specs.declared.node.Node.{Node}
 use Rattle.ja_graph.specs.declared.node.Node.TheVariants.{Const, FindName, ReadRef, WriteRef, Call, Return, Escape}
 use Rattle.ja_graph.specs.declared.node.NodeInfo.{NodeInfo}
@@ -126,10 +127,7 @@ error_object prototype message = record {
   properties = record { name = codes "message"; content = contents.Value (value.Primitive (Text message)); attrs = no_attrs } ∷ [];
 }
 
--- the greatest length of a text
-abbrev pub max_units : ℕ
-max_units = 1048576
-
+-- whether there may be a text of these units
 abbrev pub is_text_length : List ℕ → Bool
 is_text_length t = nat_le (length t) max_units
 

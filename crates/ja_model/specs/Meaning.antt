@@ -80,32 +80,32 @@ pub data Spot : Type 0 where
   named : List ℕ → Spot
   internal : Slot → Spot
 
-pub data Content : Type 0 where
+pub data SpotContent : Type 0 where
   -- no property of the name, or an empty slot
-  missing : Content
+  missing : SpotContent
   -- what a slot holds
-  held : Value → Content
+  held : Value → SpotContent
   -- a property, and one that is out of the profile
-  present : Value → Attrs → Content
-  present_row : Attrs → Content
+  present : Value → Attrs → SpotContent
+  present_row : Attrs → SpotContent
 
-abbrev pub held_address : Option Addr → Content
+abbrev pub held_address : Option Addr → SpotContent
 held_address None = missing
 held_address (Some a) = held (value.Object a)
 
-abbrev pub held_primitive : Option Primitive → Content
+abbrev pub held_primitive : Option Primitive → SpotContent
 held_primitive None = missing
 held_primitive (Some q) = held (value.Primitive q)
 
-abbrev pub content_of : property.Content → Attrs → Content
+abbrev pub content_of : property.Content → Attrs → SpotContent
 content_of (contents.Value v) attrs = present v attrs
 content_of contents.Row attrs = present_row attrs
 
-abbrev pub property_content : Option Property → Content
+abbrev pub property_content : Option Property → SpotContent
 property_content None = missing
 property_content (Some q) = content_of q.content q.attrs
 
-abbrev pub object_content : Object → Spot → Content
+abbrev pub object_content : Object → Spot → SpotContent
 object_content o (named t) = property_content (property_of o t)
 object_content o (internal slot.Prototype) = held_address o.slots.prototype
 object_content o (internal slot.Outer) = held_address o.slots.outer
@@ -113,7 +113,7 @@ object_content o (internal slot.Scope) = held_address o.slots.scope
 object_content o (internal slot.Value) = held_primitive o.slots.value
 
 -- of an address that is no object of the heap nothing is there
-abbrev pub content : Heap → Addr → Spot → Content
+abbrev pub content : Heap → Addr → Spot → SpotContent
 content h a x = option_map_or (λ (o : Object). object_content o x) (object_at h a) missing
 
 -- the key of a text is its name, if the program has that name, else the rest of its kind
@@ -137,7 +137,7 @@ abbrev pub allows_attrs : AAttrs → Attrs → Bool
 allows_attrs m a = allows m.read_only a.read_only && allows m.dont_enum a.dont_enum && allows m.dont_delete a.dont_delete
 
 -- the property has the content of an object of the heap
-abbrev pub knows : Heap → AbstractProperty → Content → Bool
+abbrev pub knows : Heap → AbstractProperty → SpotContent → Bool
 knows h q missing = q.value.flags.absent
 knows h q (held v) = has_value h q.value v
 knows h q (present v attrs) = has_value h q.value v && allows_attrs q.attrs attrs
@@ -189,14 +189,14 @@ abbrev pub of_value : Heap → Value → AbstractValue
 of_value h (value.Primitive q) = of_primitive q
 of_value h (value.Object a) = of_label (label_of h a)
 
-abbrev pub of_content : Heap → Content → AbstractProperty
+abbrev pub of_content : Heap → SpotContent → AbstractProperty
 of_content h missing = absent_property
 of_content h (held v) = bare (of_value h v)
 of_content h (present v attrs) = record { value = of_value h v; attrs = of_attrs attrs }
 of_content h (present_row attrs) = record { value = row_value; attrs = of_attrs attrs }
 
 -- what the objects of a label have at a key; a site has one object there at most, whose label is new
-abbrev pub key_content : Program → Addr → Key → Content
+abbrev pub key_content : Program → Addr → Key → SpotContent
 key_content p a (key.Name n) = content (opening_heap p) a (named (name_text p n))
 key_content p a key.OtherIndex = missing
 key_content p a key.OtherName = missing

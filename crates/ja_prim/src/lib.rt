@@ -3,6 +3,7 @@
 
 mod addition;
 mod arithmetic;
+mod ascii;
 mod bits;
 mod blanks;
 mod capped;
@@ -27,6 +28,7 @@ mod writing;
 
 pub use addition::add;
 pub use arithmetic::{add_numbers, div, mul, neg, rem, sub};
+pub use ascii::{push_ascii, spells};
 pub use bits::{and, not, or, shl, shr, to_int32, to_uint32, ushr, xor};
 pub use comparison::compare;
 pub use equality::{loose_eq, strict_eq};

@@ -5,6 +5,7 @@ ghost use Rattle.std.specs.Str.{chars};
 ghost use Rattle.ja_prim.specs.TextToNumber.{text_to_number};
 ghost use Rattle.ja_prim.specs.Texts.{utf16, limited_text, Answers};
 
+use crate::ascii::ascii_units;
 use crate::literals::text_to_number;
 use crate::{Num, PrimFault, Stop};
 use std::alloc::{AllocError, AllocFailed, Global};
@@ -35,6 +36,20 @@ impl Text16 {
         Text16 { units }
     }
 
+    /// The text of these units, in memory of its own. It fails where memory is refused.
+    pub fn from_slice(alloc: Global, units: &[u16]) -> Result<Text16, AllocError>
+        ensures { IfOk result (λ text. text ≡ units.now) }
+    {
+        Ok(Text16::from_units(Vec::from_slice(alloc, units)?))
+    }
+
+    /// The text with a unit for each byte. It fails where memory is refused.
+    pub fn from_ascii(alloc: Global, bytes: &[u8]) -> Result<Text16, AllocError>
+        ensures { IfOk result (λ text. text ≡ bytes.now) }
+    {
+        Ok(Text16::from_units(ascii_units(alloc, bytes)?))
+    }
+
     /// The UTF-16 units of a text. `TextLength` comes exactly where there are more than 1,048,576, and `Memory` where
     /// memory is refused.
     pub fn from_str(alloc: Global, text: &str) -> Result<Text16, PrimFault>
@@ -50,6 +65,13 @@ impl Text16 {
         ensures { result ≡ text_to_number self.now }
     {
         text_to_number(&self.units)
+    }
+
+    /// The same text, in memory of its own. It fails where memory is refused.
+    pub fn copy(&self, alloc: Global) -> Result<Text16, AllocError>
+        ensures { IfOk result (λ text. text ≡ self.now) }
+    {
+        Text16::from_slice(alloc, &self.units)
     }
 
     /// The units.

@@ -2,26 +2,16 @@ ghost use Rattle.std.specs.Prelude.{◌≡◌, IfOk};
 ghost use Rattle.std.specs.Fmt.{signed_decimal};
 ghost use Rattle.ja_prim.specs.Conversions as spec;
 
+use crate::ascii::ascii_units;
 use crate::{Memory, Num, Prim, Primitive, Text16};
 use std::alloc::{AllocError, Global};
-
-/// Units of bytes of ASCII.
-fn widened(alloc: Global, bytes: &[u8]) -> Result<Vec<u16>, AllocError>
-    ensures { IfOk result (λ units. units.items ≡ bytes.now) }
-{
-    let mut units = Vec::new(alloc);
-    'bytes: for b in bytes {
-        units.push(u16::from(*b))?;
-    }
-    Ok(units)
-}
 
 /// The decimal text of a whole number.
 fn whole_text(alloc: Global, n: i64) -> Result<Vec<u16>, AllocError>
     ensures { IfOk result (λ units. units.items ≡ signed_decimal n) }
 {
     let text = format!(in alloc; "{n}")?;
-    widened(alloc, text.as_bytes())
+    ascii_units(alloc, text.as_bytes())
 }
 
 /// The units of the text of a value.
@@ -29,11 +19,11 @@ pub fn text_units(alloc: Global, a: &Prim) -> Result<Vec<u16>, AllocError>
     ensures { IfOk result (λ units. units.items ≡ spec.to_text a.now) }
 {
     match a {
-        Primitive::Undefined => widened(alloc, b"undefined"),
-        Primitive::Null => widened(alloc, b"null"),
-        Primitive::Bool(true) => widened(alloc, b"true"),
-        Primitive::Bool(false) => widened(alloc, b"false"),
-        Primitive::Number(Num::NaN) => widened(alloc, b"NaN"),
+        Primitive::Undefined => ascii_units(alloc, b"undefined"),
+        Primitive::Null => ascii_units(alloc, b"null"),
+        Primitive::Bool(true) => ascii_units(alloc, b"true"),
+        Primitive::Bool(false) => ascii_units(alloc, b"false"),
+        Primitive::Number(Num::NaN) => ascii_units(alloc, b"NaN"),
         Primitive::Number(Num::Whole(n)) => whole_text(alloc, n.get()),
         Primitive::Text(text) => text.units().to_vec(alloc),
     }

@@ -5,7 +5,6 @@ use Rattle.std.specs.Option.{option_map, option_map_or, option_and_then}
 use Rattle.std.specs.Fmt.{decimal, signed_decimal, digit_glyph}
 use lib.Chars.{codes}
 use Rattle.ja_base.specs.declared.ids.Label.{Label}
-use Rattle.ja_base.specs.declared.ids.NameId.{NameId}
 use Rattle.ja_base.specs.declared.ids.Place.{Place}
 use Rattle.ja_base.specs.declared.ids.Site.{Site}
 use Rattle.ja_prim.specs.Characters.{is_digit}
@@ -24,6 +23,7 @@ use Rattle.ja_model.specs.declared.abstraction.Key.{Key}
 use Rattle.ja_model.specs.declared.abstraction.Key.TheVariants as key
 use Rattle.ja_model.specs.AbstractValue.{AbstractValue}
 use Rattle.ja_model.specs.AbstractState.{labels_of}
+use Rattle.ja_model.specs.Machine as machine
 
 -- a place is its line and its column
 unfoldable pub place_text : Place → List ℕ
@@ -64,9 +64,6 @@ is_bare t = option_map_or (λ (c : ℕ). not (is_digit c)) (slice_get t 0) false
 unfoldable pub name_text : List ℕ → List ℕ
 name_text t = if is_bare t then t else quoted t
 
-abbrev pub name_of : Program → NameId → List ℕ
-name_of p n = unwrap_or (slice_get p.names n.0) []
-
 abbrev pub slot_text : Slot → List ℕ
 slot_text slot.Prototype = codes "[[Prototype]]"
 slot_text slot.Outer = codes "[[Outer]]"
@@ -74,7 +71,7 @@ slot_text slot.Scope = codes "[[Scope]]"
 slot_text slot.Value = codes "[[Value]]"
 
 unfoldable pub key_text : Program → Key → List ℕ
-key_text p (key.Name n) = name_text (name_of p n)
+key_text p (key.Name n) = name_text (machine.name_text p n)
 key_text p key.OtherIndex = codes "[index]"
 key_text p key.OtherName = codes "[other]"
 key_text p (key.Slot s) = slot_text s

@@ -12,7 +12,7 @@ use crate::{DemandList, Outcome, Reader};
 use ja_base::{Label, Memory, NameId, NodeId, Reg, Site};
 use ja_graph::{Attrs, MESSAGE, NodeInfo, Program, THROWN};
 use ja_model::{Key, Slot};
-use ja_prim::Text16;
+use ja_prim::{Text16, push_ascii};
 use ja_state::AState;
 use ja_value::{AProp, AValue, exact_attrs, unknown_attrs};
 use std::alloc::Global;
@@ -158,16 +158,6 @@ fn message_property(alloc: Global, message: Text16) -> AProp
     }
 }
 
-/// The units of an ASCII text behind others.
-fn with_ascii(mut units: Vec<u16>, text: &[u8]) -> Result<Vec<u16>, Memory>
-    ensures { IfOk result (λ v. v.items ≡ units.items ++ text.now) }
-{
-    for byte in text {
-        units.push(u16::from(*byte))?;
-    }
-    Ok(units)
-}
-
 /// The message that a name isn't bound.
 pub(crate) fn unbound_message(
     alloc: Global,
@@ -177,8 +167,10 @@ pub(crate) fn unbound_message(
     requires { name.0 < length program.now.names }
     ensures { IfOk result (λ t. t ≡ unbound_message (name_text program.now name)) }
 {
-    let units = Vec::from_slice(alloc, program.names.as_slice()[name.0 as usize].units())?;
-    let units = with_ascii(units, IS_NOT_BOUND)?;
+    let mut units = program.names.as_slice()[name.0 as usize]
+        .units()
+        .to_vec(alloc)?;
+    push_ascii(&mut units, IS_NOT_BOUND)?;
     Ok(Text16::from_units(units))
 }
 
@@ -186,6 +178,5 @@ pub(crate) fn unbound_message(
 pub(crate) fn not_a_function_message(alloc: Global) -> Result<Text16, Memory>
     ensures { IfOk result (λ t. t ≡ not_a_function_message) }
 {
-    let units = with_ascii(Vec::new(alloc), NOT_A_FUNCTION)?;
-    Ok(Text16::from_units(units))
+    Ok(Text16::from_ascii(alloc, NOT_A_FUNCTION)?)
 }

@@ -15,40 +15,14 @@ use Rattle.ja_model.specs.declared.abstraction.Slot.TheVariants as slot
 use Rattle.ja_model.specs.AbstractState.{new, old, site_of, label_number, key_number, labels_below, keys_below, name_key}
 use Rattle.ja_value.specs.declared.property.AProp.{AProp}
 use Rattle.ja_value.specs.Value.{property_of}
+use Rattle.ja_value.specs.Labels.{label_at}
+use Rattle.ja_value.proofs.LabelLemmas.{number_label, labels_range}
 use Rattle.ja_state.specs.declared.entries.DemandedEntries.{DemandedEntries}
-use Rattle.ja_state.specs.Numbers.{label_of, is_demanded, keys_in}
+use Rattle.ja_state.specs.Numbers.{is_demanded, keys_in}
 use Rattle.ja_state.specs.State.{entries_of, pairs_of}
 use Rattle.ja_state.proofs.MapLemmas.{found}
 use Rattle.ja_state.proofs.ListLemmas.{listing, listed_at, listing_filter}
 use Rattle.ja_state.proofs.EntryLemmas.{read}
-use Rattle.ja_state.proofs.StateLemmas.{label_of_number}
-
-pub first_label : (a : ℕ) → label_of (2 * a) ≡ new (site_of a)
-first_label a =
-    let half : (2 * a) / 2 ≡ a = omega arith in
-    let even : ((2 * a) % 2 == 1) ≡ false = grind (arith, common_steps, nat_tests) in
-    λ i. record { site = record { 0 = half i }; old = even i }
-
-pub second_label : (a : ℕ) → label_of (2 * a + 1) ≡ old (site_of a)
-second_label a =
-    let half : (2 * a + 1) / 2 ≡ a = omega arith in
-    let odd : ((2 * a + 1) % 2 == 1) ≡ true = grind (arith, common_steps, nat_tests) in
-    λ i. record { site = record { 0 = half i }; old = odd i }
-
-abbrev pub both : ℕ → List Label
-both s = new (site_of s) ∷ old (site_of s) ∷ []
-
-pub labels_range_from : (a b n : ℕ) → b ≡ 2 * a → flat_map both (range_with_len a n) ≡ map label_of (range_with_len b (2 * n))
-labels_range_from a b zero is = refl
-labels_range_from a b (suc n) is =
-    let two : suc (suc (2 * n)) ≡ 2 * suc n = omega arith in
-    let first : new (site_of a) ≡ label_of b = sym (ap label_of is ∙ first_label a) in
-    let second : old (site_of a) ≡ label_of (b + 1) = sym (ap (λ (q : ℕ). label_of (q + 1)) is ∙ second_label a) in
-    let more : flat_map both (range_with_len (a + 1) n) ≡ map label_of (range_with_len (b + 1 + 1) (2 * n)) = labels_range_from (a + 1) (b + 1 + 1) n (omega arith) in
-    (λ i. first i ∷ second i ∷ more i) ∙ ap (λ (m : ℕ). map label_of (range_with_len b m)) two
-
-pub labels_range : (n : ℕ) → labels_below n ≡ map label_of (range_with_len 0 (2 * n))
-labels_range n = labels_range_from 0 0 n (omega arith)
 
 pub names_range : (a b n : ℕ) → b ≡ 6 + a → map (λ (q : ℕ). name_key (q - 6)) (range_with_len b n) ≡ map name_key (range_with_len a n)
 names_range a b zero is = refl
@@ -58,9 +32,9 @@ names_range a b (suc n) is =
     λ i. name_key (here i) ∷ more i
 
 -- the labels that are listed
-pub labels_listed : {X : Type 0} (m : BTreeMap ℕ X) (n : ℕ) → listing (λ q (x : X). label_of q ∷ []) m.entries 0 (2 * n) ≡ filter (λ (l : Label). is_some (get nat_cmp m (label_number l))) (labels_below n)
+pub labels_listed : {X : Type 0} (m : BTreeMap ℕ X) (n : ℕ) → listing (λ q (x : X). label_at q ∷ []) m.entries 0 (2 * n) ≡ filter (λ (l : Label). is_some (get nat_cmp m (label_number l))) (labels_below n)
 labels_listed m n =
-    listing_filter label_of (λ (l : Label). is_some (get nat_cmp m (label_number l))) m.entries 0 (2 * n) (λ q low. ap (λ (r : ℕ). is_some (get nat_cmp m r)) (label_of_number q))
+    listing_filter label_at (λ (l : Label). is_some (get nat_cmp m (label_number l))) m.entries 0 (2 * n) (λ q low. ap (λ (r : ℕ). is_some (get nat_cmp m r)) (number_label q))
     ∙ ap (filter (λ (l : Label). is_some (get nat_cmp m (label_number l)))) (sym (labels_range n))
 
 -- the names that are demanded
@@ -87,13 +61,13 @@ pairs_here names l None = ap (with_keys l) (sym (filter_none (keys_below names))
 pairs_here names l (Some m) = ap (λ (p : Key → Bool). with_keys l (filter p (keys_below names))) (λ i k. (is_some_map property_of (get nat_cmp m (key_number k))) i)
 
 pub pairs_listed : (e : DemandedEntries) (sites names : ℕ)
-    → listing (λ q (m : BTreeMap ℕ AProp). with_keys (label_of q) (keys_in m names)) e.objects.entries 0 (2 * sites) ≡ pairs_of (entries_of e) (labels_below sites) (keys_below names)
+    → listing (λ q (m : BTreeMap ℕ AProp). with_keys (label_at q) (keys_in m names)) e.objects.entries 0 (2 * sites) ≡ pairs_of (entries_of e) (labels_below sites) (keys_below names)
 pairs_listed e sites names =
     let row : Label → List (Label × Key) = λ l. with_keys l (filter (λ (k : Key). is_some (entries_of e l k)) (keys_below names)) in
-    let same : (q : ℕ) → listed_at (λ q (m : BTreeMap ℕ AProp). with_keys (label_of q) (keys_in m names)) e.objects.entries q ≡ row (label_of q) =
-    λ q. pairs_here names (label_of q) (found e.objects.entries q)
-    ∙ ap (λ (r : ℕ). with_keys (label_of q) (filter (λ (k : Key). is_some (read (get nat_cmp e.objects r) (key_number k))) (keys_below names))) (sym (label_of_number q)) in
-    ap (λ (f : ℕ → List (Label × Key)). flat_map f (range_with_len 0 (2 * sites))) (λ i q. (same q) i) ∙ sym (flat_map-map row label_of (range_with_len 0 (2 * sites))) ∙ ap (flat_map row) (sym (labels_range sites))
+    let same : (q : ℕ) → listed_at (λ q (m : BTreeMap ℕ AProp). with_keys (label_at q) (keys_in m names)) e.objects.entries q ≡ row (label_at q) =
+    λ q. pairs_here names (label_at q) (found e.objects.entries q)
+    ∙ ap (λ (r : ℕ). with_keys (label_at q) (filter (λ (k : Key). is_some (read (get nat_cmp e.objects r) (key_number k))) (keys_below names))) (sym (number_label q)) in
+    ap (λ (f : ℕ → List (Label × Key)). flat_map f (range_with_len 0 (2 * sites))) (λ i q. (same q) i) ∙ sym (flat_map-map row label_at (range_with_len 0 (2 * sites))) ∙ ap (flat_map row) (sym (labels_range sites))
 
 -- the keys that aren't names
 abbrev pub other_keys : List Key

@@ -21,8 +21,8 @@ use Rattle.ja_value.specs.Value.{value_of}
 use Rattle.ja_state.specs.declared.object.AObject.{AObject}
 use Rattle.ja_state.specs.declared.state.AState.{AState}
 use Rattle.ja_state.specs.Joined.{IsJoined}
-use Rattle.ja_state.specs.Numbers.{label_of}
-use Rattle.ja_value.specs.Labels.{mask_in}
+use Rattle.ja_value.specs.Labels.{label_at, mask_in}
+use Rattle.ja_value.proofs.LabelLemmas.{number_label}
 use Rattle.ja_state.specs.State.{Keyed, state_of, register_in, object_of, object_in, entry_keyed, join_keyed, aged_keyed, made_keyed}
 use Rattle.ja_state.proofs.SpreadLemmas.{spread_same, spread_mapped, or_true}
 use Rattle.ja_state.proofs.MapLemmas.{some_is, found}
@@ -30,15 +30,8 @@ use Rattle.ja_state.proofs.RegisterLemmas.{register_past}
 
 -- ---- labels
 
-pub halves : (q r b : ℕ) → q % 2 ≡ r → (b ≡ (if r == 1 then 1 else 0)) → 2 * (q / 2) + b ≡ q
-halves q r b rest bit =
-    ⊎_elim (λ (one : r ≡ 1). let e : b ≡ 1 = grind (arith, common_steps, nat_tests) in omega arith) (λ (other : r ≢ 1). let e : b ≡ 0 = grind (arith, common_steps, nat_tests) in omega arith) (cases_eq r 1)
-
-pub label_of_number : (q : ℕ) → label_number (label_of q) ≡ q
-label_of_number q = halves q (q % 2) (if (q % 2) == 1 then 1 else 0) refl refl
-
 pub label_numbered : (q : ℕ) → (l : Label) × (label_number l ≡ q)
-label_numbered q = (label_of q, label_of_number q)
+label_numbered q = (label_at q, number_label q)
 
 pub same_label_is : (a b : Label) → same_label a b ≡ (label_number a == label_number b)
 same_label_is a b = grind (arith, common_steps, nat_tests)

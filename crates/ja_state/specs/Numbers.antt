@@ -3,16 +3,11 @@ use Rattle.std.specs.Prelude.{ℕ, ◌/◌, ◌%◌, ◌==◌, is_some, filter, 
 use Rattle.std.specs.Option.{option_map, option_and_then}
 use Rattle.std.specs.Ordering.{nat_cmp}
 use Rattle.std.specs.BTreeMap.{BTreeMap, get}
-use Rattle.ja_base.specs.declared.ids.Label.{Label}
 use Rattle.ja_model.specs.declared.abstraction.Key.{Key}
 use Rattle.ja_model.specs.AbstractValue.{AbstractProperty}
 use Rattle.ja_model.specs.AbstractState.{key_number, keys_below}
 use Rattle.ja_value.specs.declared.property.AProp.{AProp}
 use Rattle.ja_value.specs.Value.{property_of}
-
--- the label of a number
-abbrev pub label_of : ℕ → Label
-label_of q = record { site = record { 0 = q / 2 }; old = (q % 2) == 1 }
 
 -- demanded properties by the numbers of keys, and by the numbers of labels and keys
 abbrev pub property_in : BTreeMap ℕ AProp → ℕ → Option AbstractProperty

@@ -4,15 +4,16 @@ ghost use Rattle.std.specs.BTreeMap.{get};
 ghost use Rattle.std.specs.Option.{option_map};
 ghost use Rattle.ja_model.specs.AbstractValue.{same_label, no_property, join_properties};
 ghost use Rattle.ja_model.specs.AbstractState.{same_key, labels_below, keys_below, name_key};
+ghost use Rattle.ja_value.specs.Labels.{label_at};
 ghost use Rattle.ja_value.specs.Value.{property_of};
-ghost use Rattle.ja_state.specs.Numbers.{label_of, property_in, entry_in, is_demanded, keys_in};
+ghost use Rattle.ja_state.specs.Numbers.{property_in, entry_in, is_demanded, keys_in};
 
-use crate::keys::{key_number, label_at, label_number};
+use crate::keys::{key_number, label_among};
 use crate::maps::put;
 use crate::object::copy_properties;
 use ja_base::{Label, Memory, NameId};
 use ja_model::{Key, Slot};
-use ja_value::{AProp, AValue, unknown_attrs};
+use ja_value::{AProp, AValue, label_number, unknown_attrs};
 use std::alloc::Global;
 use std::collections::BTreeMap;
 
@@ -196,9 +197,9 @@ fn push_label(
     sites: u32,
     names: u32,
 ) -> Result<(), Memory>
-    ensures { IfOk result (λ _. pairs.new.items ≡ pairs.old.items ++ (if nat_lt number (2 * sites) then map (λ k. (label_of number, k)) (keys_in properties.now names) else [])) }
+    ensures { IfOk result (λ _. pairs.new.items ≡ pairs.old.items ++ (if nat_lt number (2 * sites) then map (λ k. (label_at number, k)) (keys_in properties.now names) else [])) }
 {
-    if let Some(label) = label_at(number, sites) {
+    if let Some(label) = label_among(number, sites) {
         let keys = demanded_keys(alloc, properties, names)?;
         push_pairs(pairs, label, &keys)?;
     }

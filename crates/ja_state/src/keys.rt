@@ -1,9 +1,10 @@
 ghost use Rattle.std.specs.Prelude.{◌≡◌, ◌*◌, nat_lt, if◌then◌else◌, Some, None};
-ghost use Rattle.ja_model.specs.AbstractState.{key_number, label_number};
-ghost use Rattle.ja_state.specs.Numbers.{label_of};
+ghost use Rattle.ja_model.specs.AbstractState.{key_number};
+ghost use Rattle.ja_value.specs.Labels.{label_at};
 
-use ja_base::{Label, Site};
+use ja_base::Label;
 use ja_model::{Key, Slot};
+use ja_value::label_at;
 
 /// The number of a key: the internal properties, the rests, and then the names.
 pub fn key_number(key: Key) -> u64
@@ -20,22 +21,12 @@ pub fn key_number(key: Key) -> u64
     }
 }
 
-/// The number of a label: twice its site, and one more where it is old.
-pub fn label_number(label: Label) -> u64
-    ensures { result ≡ label_number label }
-{
-    2 * u64::from(label.site.0) + u64::from(label.old)
-}
-
 /// The label of a number, if it is of the first sites.
-pub fn label_at(number: u64, sites: u32) -> Option<Label>
-    ensures { result ≡ (if nat_lt number (2 * sites) then Some (label_of number) else None) }
+pub fn label_among(number: u64, sites: u32) -> Option<Label>
+    ensures { result ≡ (if nat_lt number (2 * sites) then Some (label_at number) else None) }
 {
     if number < 2 * u64::from(sites) {
-        Some(Label {
-            site: Site((number / 2) as u32),
-            old: number % 2 == 1,
-        })
+        Some(label_at(number))
     } else {
         None
     }

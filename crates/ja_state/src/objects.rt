@@ -8,11 +8,10 @@ ghost use Rattle.ja_state.specs.State.{object_of, object_in, entry_keyed, join_k
 ghost use Rattle.ja_state.specs.Joined.{IsJoined};
 
 use crate::AObject;
-use crate::keys::label_number;
 use crate::maps::put;
 use ja_base::{Label, Memory, Site};
 use ja_model::Key;
-use ja_value::AProp;
+use ja_value::{AProp, label_number};
 use std::alloc::Global;
 use std::collections::BTreeMap;
 use std::mem;

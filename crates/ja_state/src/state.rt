@@ -3,19 +3,19 @@ ghost use Rattle.ja_base.specs.declared.ids.Label.{Label};
 ghost use Rattle.ja_model.specs.declared.abstraction.Key.{Key};
 ghost use Rattle.ja_model.specs.AbstractValue.{Labels, entry_property};
 ghost use Rattle.ja_model.specs.AbstractState.{entry_state, join_states, with_register, with_property, with_made, labels_below, sites_below, site_of};
-ghost use Rattle.ja_state.specs.Numbers.{label_of};
+ghost use Rattle.ja_value.specs.Labels.{label_at};
 ghost use Rattle.ja_model.specs.Reading.{renamed};
 ghost use Rattle.ja_value.specs.Value.{value_of, property_of};
 
 use crate::AObject;
-use crate::keys::{label_at, label_number};
+use crate::keys::label_among;
 use crate::maps::put;
 use crate::masks::{copy_masks, join_masks};
 use crate::objects::{copy_objects, join_objects, made_objects, write_at};
 use crate::registers::{aged_values, copy_values, entry_values, join_values};
 use ja_base::{Label, Memory, Reg, Site};
 use ja_model::{Key, Mask};
-use ja_value::{AProp, AValue, copy_text_part, mask_at};
+use ja_value::{AProp, AValue, copy_text_part, label_number, mask_at};
 use std::alloc::Global;
 use std::collections::BTreeMap;
 
@@ -175,9 +175,9 @@ impl AState {
 
 /// Adds the label of a number, if it is of the first sites.
 fn push_label(labels: &mut Vec<Label>, number: u64, sites: u32) -> Result<(), Memory>
-    ensures { IfOk result (λ _. labels.new.items ≡ labels.old.items ++ (if nat_lt number (2 * sites) then label_of number ∷ [] else [])) }
+    ensures { IfOk result (λ _. labels.new.items ≡ labels.old.items ++ (if nat_lt number (2 * sites) then label_at number ∷ [] else [])) }
 {
-    if let Some(label) = label_at(number, sites) {
+    if let Some(label) = label_among(number, sites) {
         labels.push(label)?;
     }
     Ok(())

@@ -187,8 +187,7 @@ fn parameter_names(alloc: Global, parameters: &[Name]) -> Result<Items<Text16>, 
 {
     let mut names = Items::new(alloc);
     for parameter in parameters {
-        let units = Vec::from_slice(alloc, parameter.text.units())?;
-        names.push(Text16::from_units(units))?;
+        names.push(parameter.text.copy(alloc)?)?;
     }
     Ok(names)
 }

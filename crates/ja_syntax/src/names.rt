@@ -62,8 +62,7 @@ impl<'a> Names<'a> {
     {
         let mut texts = Items::new(alloc);
         for text in &self.texts {
-            let units = Vec::from_slice(alloc, text)?;
-            texts.push(Text16::from_units(units))?;
+            texts.push(Text16::from_slice(alloc, text)?)?;
         }
         Ok(texts)
     }

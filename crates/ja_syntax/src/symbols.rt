@@ -2,7 +2,6 @@
 //! length of its texts, so that a token is compared with few of them.
 
 ghost use Rattle.std.specs.Prelude.{◌≡◌, ◌==◌, List, ℕ, length, map, option_copied};
-ghost use Rattle.std.specs.Str.{bytes_eq};
 ghost use Rattle.ja_syntax.specs.Lookups.{of_length};
 ghost use Rattle.ja_syntax.specs.Lookups as tables;
 ghost use Rattle.ja_syntax.specs.Symbols as spec;
@@ -10,6 +9,7 @@ ghost use Rattle.ja_syntax.specs.Symbols as spec;
 use crate::symbol::Symbol;
 use ja_base::ScopeKind;
 use ja_lex::{TokenFault, TokenKind};
+use ja_prim::spells;
 
 const KEYWORDS_OF_2: [(&[u8], Symbol); 3] = [
     (b"do", Symbol::Do),
@@ -172,29 +172,12 @@ const PUNCTUATORS_OF_3: [(&[u8], Symbol); 5] = [
 
 const PUNCTUATORS_OF_4: [(&[u8], Symbol); 1] = [(b">>>=", Symbol::ShiftRightUnsignedAssign)];
 
-/// Whether units spell a text of ASCII.
-fn spells(mut text: &[u8], mut units: &[u16]) -> bool
-    ensures { result ≡ bytes_eq text.entry.now units.entry.now }
-{
-    while let [byte, rest @ ..] = text {
-        let [unit, others @ ..] = units else {
-            return false;
-        };
-        if u16::from(*byte) != *unit {
-            return false;
-        }
-        text = rest;
-        units = others;
-    }
-    units.is_empty()
-}
-
 /// What a table gives for a text.
 fn lookup<T: Copy>(mut table: &[(&[u8], T)], units: &[u16]) -> Option<T>
     ensures { result ≡ tables.lookup (map (λ e. (e.0.now, e.1)) table.entry.now) units.now }
 {
     while let [entry, rest @ ..] = table {
-        if spells(entry.0, units) {
+        if spells(units, entry.0) {
             return Some(entry.1);
         }
         table = rest;
@@ -329,7 +312,7 @@ pub fn scope_of(kind: &TokenKind) -> Option<ScopeKind>
 pub fn names_arguments(name: &[u16]) -> bool
     ensures { result ≡ spec.names_arguments name.now }
 {
-    spells(b"arguments", name)
+    spells(name, b"arguments")
 }
 
 /// Whether a token is the word `arguments`.

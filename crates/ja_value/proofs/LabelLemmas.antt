@@ -114,10 +114,13 @@ labels_from a (suc n) =
     let next : 2 * (a + 1) ≡ 2 * a + 1 + 1 = omega arith in
     rw (twice, label_new a, label_old a) (ap (λ (ls : List Label). new (site_of a) ∷ old (site_of a) ∷ ls) (labels_from (a + 1) n ∙ ap (λ (k : ℕ). map label_at (range_with_len k (2 * n))) next))
 
+pub labels_range : (n : ℕ) → labels_below n ≡ map label_at (range_with_len 0 (2 * n))
+labels_range = labels_from 0
+
 -- the labels of the first sites that are in a set
 pub labels_list : (ks : List ℕ) → IsStrictlySortedBy nat_cmp ks → (sites end : ℕ) → end ≡ 2 * sites → map label_at (filter (below end) ks) ≡ filter (in_numbers ks) (labels_below sites)
 labels_list ks s sites end e =
-    ap (λ (n : ℕ). map label_at (filter (below n) ks)) e ∙ numbers_list ks s (2 * sites) ∙ ap (filter (in_numbers ks)) (sym (labels_from 0 sites))
+    ap (λ (n : ℕ). map label_at (filter (below n) ks)) e ∙ numbers_list ks s (2 * sites) ∙ ap (filter (in_numbers ks)) (sym (labels_range sites))
 
 -- all is listed once nothing is to come
 pub listed : (items : List Label) (ks rest : List ℕ) (sites end : ℕ) → end ≡ 2 * sites → rest ≡ [] → IsStrictlySortedBy nat_cmp ks → items ++ map label_at (filter (below end) rest) ≡ map label_at (filter (below end) ks) → items ≡ filter (in_numbers ks) (labels_below sites)

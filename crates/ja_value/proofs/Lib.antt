@@ -1,4 +1,3 @@
-pub mod DigitLemmas
 pub mod FlagLemmas
 pub mod LabelLemmas
 pub mod RenamingLemmas

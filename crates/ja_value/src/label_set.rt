@@ -18,15 +18,15 @@ pub struct LabelSet {
     numbers: BTreeSet<u64>,
 }
 
-/// The number of a label.
-fn label_number(label: Label) -> u64
+/// The number of a label: twice its site, and one more where it is old.
+pub fn label_number(label: Label) -> u64
     ensures { result ≡ label_number label }
 {
     2 * u64::from(label.site.0) + u64::from(label.old)
 }
 
 /// The label of a number.
-fn label_at(number: u64) -> Label
+pub fn label_at(number: u64) -> Label
     requires { number < 2 ^ 33 }
     ensures { result ≡ label_at number }
 {

@@ -1,65 +1,18 @@
-ghost use Rattle.std.specs.Prelude.{◌≡◌, ◌≢◌, ◌↔◌, ◌<◌, ◌≤◌, IsTrue, IfOk, true, false, length};
-ghost use Rattle.std.specs.List.{list_all};
-ghost use Rattle.ja_prim.specs.Characters.{is_digit};
-ghost use Rattle.ja_prim.specs.Index.{is_index_text, digits_value};
+ghost use Rattle.std.specs.Prelude.{◌≡◌, ◌≢◌, ◌↔◌, IsTrue, IfOk, true, false};
+ghost use Rattle.ja_prim.specs.Index.{is_index_text};
 ghost use Rattle.ja_model.specs.AbstractValue.{text_class, join_text_classes, join_texts};
 ghost use Rattle.ja_model.specs.declared.abstraction.TextPart.TheVariants as text_part;
 
 use ja_base::Memory;
 use ja_model::TextPart;
-use ja_prim::Text16;
+use ja_prim::{Text16, array_index};
 use std::alloc::Global;
-
-/// One more than the greatest array index (ES3 15.4).
-const INDEX_END: u64 = 4_294_967_295;
-
-/// The units of the first and the last decimal digit.
-const DIGIT_ZERO: u16 = 48;
-
-const DIGIT_NINE: u16 = 57;
-
-/// Whether each unit is a decimal digit.
-fn all_digits(units: &[u16]) -> bool
-    ensures { result ≡ list_all is_digit units.now }
-{
-    units
-        .iter()
-        .all(|unit| DIGIT_ZERO <= *unit && *unit <= DIGIT_NINE)
-}
-
-/// The number that up to ten decimal digits write.
-fn digits_value(units: &[u16]) -> u64
-    requires few { length units.now ≤ 10 }
-    requires digits { list_all is_digit units.now ≡ true }
-    ensures { result ≡ digits_value 0 units.now }
-{
-    let mut value = 0;
-    for unit in units {
-        value = 10 * value + u64::from(*unit - DIGIT_ZERO);
-    }
-    value
-}
 
 /// Whether a text is the decimal text of an array index (ES3 15.4).
 pub fn is_index_text(text: &Text16) -> bool
     ensures { result ≡ is_index_text text.now }
 {
-    let units = text.units();
-    if units.is_empty() || units.len() > 10 || !all_digits(units) {
-        return false;
-    }
-    if units[0] == DIGIT_ZERO && units.len() != 1 {
-        return false;
-    }
-    digits_value(units) < INDEX_END
-}
-
-/// The same text once more.
-pub fn copy_text(alloc: Global, text: &Text16) -> Result<Text16, Memory>
-    ensures { IfOk result (λ t. t ≡ text.now) }
-{
-    let units = text.units().to_vec(alloc)?;
-    Ok(Text16::from_units(units))
+    array_index(text).is_some()
 }
 
 /// Whether two texts are the same.
@@ -76,7 +29,7 @@ pub fn copy_text_part(alloc: Global, part: &TextPart) -> Result<TextPart, Memory
     match part {
         TextPart::Nothing => Ok(TextPart::Nothing),
         TextPart::One(text) => {
-            let text = copy_text(alloc, text)?;
+            let text = text.copy(alloc)?;
             Ok(TextPart::One(text))
         }
         TextPart::IndexText => Ok(TextPart::IndexText),
@@ -127,10 +80,10 @@ fn join_one(alloc: Global, text: &Text16, part: &TextPart) -> Result<TextPart, M
 {
     let class = class_of_text(text);
     match part {
-        TextPart::Nothing => Ok(TextPart::One(copy_text(alloc, text)?)),
+        TextPart::Nothing => Ok(TextPart::One(text.copy(alloc)?)),
         TextPart::One(other) => {
             if same_text(text, other) {
-                return Ok(TextPart::One(copy_text(alloc, text)?));
+                return Ok(TextPart::One(text.copy(alloc)?));
             }
             Ok(join_text_classes(&class, &class_of_text(other)))
         }

@@ -6,7 +6,7 @@ ghost use Rattle.ja_model.specs.AbstractState.{labels_below, aged};
 
 use crate::LabelSet;
 use crate::numbers::widen_number;
-use crate::texts::{copy_text, copy_text_part, widen_text};
+use crate::texts::{copy_text_part, widen_text};
 use ja_base::{Label, Memory, Site};
 use ja_model::{Flags, NumberPart, TextPart};
 use ja_prim::{Int, Num, Primitive, Text16};
@@ -181,7 +181,7 @@ impl AValue {
             }
             Primitive::Number(Num::Whole(number)) => Ok(AValue::of_number(alloc, *number)),
             Primitive::Text(text) => {
-                let text = copy_text(alloc, text)?;
+                let text = text.copy(alloc)?;
                 Ok(AValue::of_text(alloc, text))
             }
         }

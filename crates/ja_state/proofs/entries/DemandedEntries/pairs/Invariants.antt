@@ -2,9 +2,10 @@ use Rattle.std.proofs.Common.{ℕ, ◌*◌, map}
 use Rattle.std.specs.BTreeMap.{BTreeMap}
 use Rattle.ja_model.specs.declared.abstraction.Key.{Key}
 use Rattle.ja_value.specs.declared.property.AProp.{AProp}
-use Rattle.ja_state.specs.Numbers.{label_of, keys_in}
+use Rattle.ja_value.specs.Labels.{label_at}
+use Rattle.ja_state.specs.Numbers.{keys_in}
 use Rattle.ja_state.proofs.ListLemmas.{Listing}
 use Rattle.ja_state.proofs.entries.DemandedEntries.pairs.Given as goal
 
 abbrev pub invariant-loop-number : goal.invariant-loop-number
-invariant-loop-number l = Listing (λ q (m : BTreeMap ℕ AProp). map (λ (k : Key). (label_of q, k)) (keys_in m l.names)) 0 (2 * l.sites) l.self.objects.entries l.number-iterator l.pairs.items
+invariant-loop-number l = Listing (λ q (m : BTreeMap ℕ AProp). map (λ (k : Key). (label_at q, k)) (keys_in m l.names)) 0 (2 * l.sites) l.self.objects.entries l.number-iterator l.pairs.items
