@@ -1,5 +1,5 @@
 -- The program of a text is well formed, by what is proved of lowering.
-use Rattle.std.proofs.Common.{◌≡◌, ℕ, zero, suc, ◌+◌, ◌-◌, ◌*◌, ◌<◌, ◌≤◌, ◌==◌, true, List, [], ◌∷◌, ◌++◌, length, map, take, Some, refl, sym, ap, ◌∙◌, subst, arith, length-append}
+use Rattle.std.proofs.Common.{◌≡◌, ℕ, zero, suc, ◌+◌, ◌-◌, ◌*◌, ◌<◌, ◌≤◌, ◌==◌, true, false, List, [], ◌∷◌, ◌++◌, length, map, filter, take, Some, refl, sym, ap, ◌∙◌, subst, arith, length-append}
 use Rattle.std.specs.Prelude.{IsSome}
 use Rattle.std.specs.List.{AllByRecursion, slice_get, find, fold, range_with_len}
 use Rattle.std.specs.Option.{is_some}
@@ -20,7 +20,7 @@ use Rattle.ja_load.proofs.ObjectLemmas.{below-at, object-well_formed, class-at, 
 use Rattle.ja_load.proofs.TableLemmas.{are_objects, table-objects, table-sites, table-count, sites_count, sites-classes}
 use Rattle.ja_lower.specs.declared.body.Body.{Body}
 use Rattle.ja_lower.specs.Limits.{function_count, size_of, IsWithin}
-use Rattle.ja_lower.specs.Lowering.{names_of, scene_of, bodies_of, function_body, sites_in, functions_of, lowered}
+use Rattle.ja_lower.specs.Lowering.{is_name, names_of, scene_of, bodies_of, function_body, sites_in, functions_of, lowered}
 use Rattle.ja_syntax.specs.declared.tree.Statement.{Statement}
 
 -- ---- the laws of lowering
@@ -56,10 +56,10 @@ length-functions_of first (body ∷ bodies) = ap suc (length-functions_of (first
 pub lowered-count : (names : List (List ℕ)) (first : ℕ) (statements : List Statement) → length (lowered names first statements).functions ≡ function_count statements
 unfolding lowered bodies_of
 lowered-count names first statements =
-    let scene = scene_of (names_of names statements) statements in
+    let scene = scene_of (names_of false names statements) statements in
     omega (arith, length-functions_of first (bodies_of scene statements), length-map (functions_in statements) (function_body scene))
 
-lowered-names : (names : List (List ℕ)) (first : ℕ) (statements : List Statement) → (lowered names first statements).names ≡ fold with_name (fold with_name [] names) (names_in statements)
+lowered-names : (names : List (List ℕ)) (first : ℕ) (statements : List Statement) → (lowered names first statements).names ≡ fold with_name (fold with_name [] names) (filter (is_name false) (names_in statements))
 unfolding lowered names_of
 lowered-names names first statements = refl
 
@@ -79,7 +79,7 @@ all-at P (y ∷ ys) (suc i) x all is = all-at P ys i x all.1 is
 pub loaded_is_well_formed : FunctionsAreWellFormed → SitesAreNumbered → SitesAreTold → SitesAreFew → NodesAreWithinTheSize → (p : Program) (statements : List Statement) → IsWithin builtin_names statements → AllByRecursion (λ (fn : Function). fn.registers ≤ 262144) (lowered builtin_names (length builtin_sites) statements).functions → length (lowered builtin_names (length builtin_sites) statements).names ≤ 1048576 → p.functions ≡ (lowered builtin_names (length builtin_sites) statements).functions → p.text_functions ≡ length (lowered builtin_names (length builtin_sites) statements).functions → p.sites ≡ builtin_sites ++ (lowered builtin_names (length builtin_sites) statements).sites → p.names ≡ (lowered builtin_names (length builtin_sites) statements).names → p.opening ≡ opening_objects → p.value_first.0 ≡ 0 → p.text_first.0 ≡ 0 → IsWellFormed p
 loaded_is_well_formed well_formed are_numbered are_told are_few in_size p statements within registers few_names functions text_functions sites names opening value_first text_first =
     let l = lowered builtin_names (length builtin_sites) statements in
-    let own = names_in statements in
+    let own = filter (is_name false) (names_in statements) in
     let count : 0 < length l.functions = omega (arith, lowered-count builtin_names (length builtin_sites) statements) in
     let same_count : length p.functions ≡ length l.functions = ap length functions in
     let text = first_element l.functions count in

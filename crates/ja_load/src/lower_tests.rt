@@ -1,6 +1,7 @@
-use ja_base::{FnId, Memory, Place, Site};
+use ja_base::{FnId, Memory, Place, Seq, Site};
 use ja_graph::{Class, Node};
-use ja_lower::{LowerFault, Lowered, lower};
+use ja_lower::{LowerFault, Lowered, lower, lower_prelude};
+use ja_parse::parse;
 use ja_prim::{Int, Num, Primitive, Text16};
 use ja_syntax::{Expression, FunctionTree, Name, Statement, Tree};
 use sqlite_items::Items;
@@ -125,5 +126,29 @@ fn a_function_is_lowered(rt: HostRuntime) -> Result<(), Fail> {
         return Err("no entry".into());
     };
     assert!(rt; matches!(&entry.node, Node::Enter { site: Site(12), .. }));
+    Ok(())
+}
+
+/// The names of the program of a text of built-in functions.
+fn prelude_names(alloc: Global, text: &str) -> Result<Seq<Text16>, Fail> {
+    if text.len() > 16_777_216 {
+        return Err(Fail::from("too long"));
+    }
+    let Ok(tree) = parse(alloc, text) else {
+        return Err(Fail::from("no tree"));
+    };
+    match lower_prelude(alloc, &tree, &[], 0) {
+        Ok(lowered) => Ok(lowered.names),
+        Err(_) => Err(Fail::from("not lowered")),
+    }
+}
+
+#[test]
+fn special_forms_are_no_names(rt: HostRuntime) -> Result<(), Fail> {
+    let names = prelude_names(rt.alloc(), "$put(a, \"b\", $object(a));")?;
+    let names = names.as_slice();
+    assert_eq!(rt; names.len(), 2);
+    assert_eq!(rt; names[0].units(), &[97u16] as &[u16]);
+    assert_eq!(rt; names[1].units(), &[98u16] as &[u16]);
     Ok(())
 }

@@ -1,5 +1,5 @@
 use ja_base::Place;
-use ja_names::{Names, add_names, functions_in};
+use ja_names::{functions_in, names_in};
 use ja_prim::{Primitive, Text16};
 use ja_syntax::{Expression, FunctionOf, Name, Statement};
 use sqlite_items::Items;
@@ -40,13 +40,10 @@ fn functions_and_names_of_a_text(rt: HostRuntime) -> Result<(), Fail> {
     let functions = functions_in(alloc, statements.as_slice())?;
     assert_eq!(rt; functions.len(), 1);
     assert_eq!(rt; functions[0].parameters.as_slice().len(), 1);
-    let mut names = Names::new(alloc);
-    add_names(&mut names, statements.as_slice())?;
-    let texts = names.texts(alloc)?;
-    let texts = texts.as_slice();
-    assert_eq!(rt; texts.len(), 3);
-    assert_eq!(rt; texts[0].units(), &[102u16] as &[u16]);
-    assert_eq!(rt; texts[1].units(), &[97u16] as &[u16]);
-    assert_eq!(rt; texts[2].units(), &[115u16] as &[u16]);
+    let names = names_in(alloc, statements.as_slice())?;
+    assert_eq!(rt; names.len(), 3);
+    assert_eq!(rt; names[0], &[102u16] as &[u16]);
+    assert_eq!(rt; names[1], &[97u16] as &[u16]);
+    assert_eq!(rt; names[2], &[115u16] as &[u16]);
     Ok(())
 }

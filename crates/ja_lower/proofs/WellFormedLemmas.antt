@@ -74,7 +74,7 @@ bodies_sited scene statements =
 -- ---- the whole
 
 abbrev scene_in : List (List ℕ) → List Statement → Scene
-scene_in names statements = scene_of (names_of names statements) statements
+scene_in names statements = scene_of (names_of false names statements) statements
 
 pub functions_are_well_formed : (names : List (List ℕ)) (first : ℕ) (statements : List Statement) (p : Program) (f : ℕ) (fn : Function) → p.functions ≡ (lowered names first statements).functions → p.names ≡ (lowered names first statements).names → 0 < length p.names → slice_get p.functions f ≡ Some fn → fn.registers ≤ 262144 → IsFunctionWellFormed p fn
 unfolding lowered

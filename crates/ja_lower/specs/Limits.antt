@@ -17,7 +17,7 @@ abbrev pub size_of_body : Body → ℕ
 size_of_body body = length body.nodes + length body.parameters
 
 abbrev pub size_with : Bool → List (List ℕ) → List Statement → ℕ
-size_with specials names statements = sum_by size_of_body (bodies_of (scene_with specials (names_of names statements) statements) statements)
+size_with specials names statements = sum_by size_of_body (bodies_of (scene_with specials (names_of specials names statements) statements) statements)
 
 unfoldable pub size_of : List (List ℕ) → List Statement → ℕ
 size_of names statements = size_with false names statements

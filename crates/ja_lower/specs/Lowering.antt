@@ -1,5 +1,5 @@
 -- What a tree is lowered to: the functions of its text with their nodes, the sites of these nodes, and the names.
-use Rattle.std.specs.Prelude.{ℕ, Bool, true, false, suc, ◌+◌, List, [], ◌∷◌, ◌++◌, map, length, Option, Some, None}
+use Rattle.std.specs.Prelude.{ℕ, Bool, true, false, not, ◌&&◌, suc, ◌+◌, List, [], ◌∷◌, ◌++◌, map, filter, length, Option, Some, None, is_some}
 use Rattle.std.specs.List.{fold, flat_map, sum_by}
 use Rattle.std.specs.Option.{option_map_or}
 use Rattle.ja_base.specs.declared.ids.FnId.{FnId}
@@ -14,6 +14,7 @@ use Rattle.ja_graph.specs.Renaming.{Renaming, identity, renamed}
 use Rattle.ja_listing.specs.Listing.{assembled}
 use Rattle.ja_statements.specs.Functions.{program_listing, function_listing}
 use Rattle.ja_draft.specs.Lines.{Scene}
+use Rattle.ja_expressions.specs.Specials.{special_of}
 use Rattle.ja_names.specs.Names.{number, with_name}
 use Rattle.ja_names.specs.TextOrder.{functions_in, names_in}
 use Rattle.ja_lower.specs.declared.body.Body.{Body}
@@ -22,9 +23,13 @@ use Rattle.ja_syntax.specs.declared.tree.FunctionOf.{FunctionOf}
 use Rattle.ja_syntax.specs.declared.tree.Name.{Name}
 use Rattle.ja_syntax.specs.declared.tree.Statement.{Statement}
 
+-- whether a name of a text is one of its program: that of a special form is none, where the text has special forms
+abbrev pub is_name : Bool → List ℕ → Bool
+is_name specials t = not (specials && is_some (special_of t))
+
 -- the names of a program: some come first, then those of the text, each once
-unfoldable pub names_of : List (List ℕ) → List Statement → List (List ℕ)
-names_of first statements = fold with_name (fold with_name [] first) (names_in statements)
+unfoldable pub names_of : Bool → List (List ℕ) → List Statement → List (List ℕ)
+names_of specials first statements = fold with_name (fold with_name [] first) (filter (is_name specials) (names_in statements))
 
 -- what the forms of a text need of the program: the texts of built-in functions have special forms, others have none
 abbrev pub scene_with : Bool → List (List ℕ) → List Statement → Scene
@@ -120,8 +125,8 @@ sites_of function (body ∷ bodies) = sites_of_nodes function body.nodes ++ site
 -- a tree, with or without special forms, where these names come first, and its sites are numbered from a number on
 abbrev pub lowered_with : Bool → List (List ℕ) → ℕ → List Statement → Lowered
 lowered_with specials names first statements =
-    let bodies = bodies_of (scene_with specials (names_of names statements) statements) statements in
-    record { functions = functions_of first bodies; sites = sites_of 0 bodies; names = names_of names statements }
+    let bodies = bodies_of (scene_with specials (names_of specials names statements) statements) statements in
+    record { functions = functions_of first bodies; sites = sites_of 0 bodies; names = names_of specials names statements }
 
 unfoldable pub lowered : List (List ℕ) → ℕ → List Statement → Lowered
 lowered names first statements = lowered_with false names first statements

@@ -1,10 +1,11 @@
 //! From the tree of a text to its flow graph.
 #![tactic(auto)]
 
-ghost use Rattle.std.specs.Prelude.{◌≡◌, ◌<◌, ◌≤◌, ◌^◌, length, IfOk, IfErr};
-ghost use Rattle.std.specs.List.{AllByRecursion};
+ghost use Rattle.std.specs.Prelude.{◌≡◌, ◌<◌, ◌≤◌, ◌^◌, length, map, filter, IfOk, IfErr, OnOk};
+ghost use Rattle.std.specs.List.{AllByRecursion, fold};
+ghost use Rattle.ja_names.specs.Names.{with_name};
 ghost use Rattle.ja_lower.specs.Limits.{size_with, Explains, ExplainsPrelude, ExplainsSize, IsWithin, IsPreludeWithin, IsWithinSize};
-ghost use Rattle.ja_lower.specs.Lowering.{lowered, lowered_prelude, lowered_with, names_of};
+ghost use Rattle.ja_lower.specs.Lowering.{lowered, lowered_prelude, lowered_with, is_name, names_of};
 
 mod bodies;
 mod body;
@@ -21,7 +22,8 @@ use crate::whole::whole_of;
 pub use body::Body;
 pub use fault::LowerFault;
 use ja_base::{Memory, Seq};
-use ja_names::{Names, add_names, functions_in};
+use ja_expressions::special_of;
+use ja_names::{Names, functions_in, names_in};
 use ja_prim::Text16;
 use ja_syntax::{Statement, Tree};
 pub use lowered::Lowered;
@@ -33,21 +35,38 @@ const MAX_FUNCTIONS: usize = 4_095;
 /// The most names that a program may have.
 const MAX_NAMES: usize = 1_048_576;
 
+/// Adds the names of a text, each once; where the text has special forms, their names are none.
+fn add_names<'a>(names: &mut Names<'a>, specials: bool, texts: &[&'a [u16]]) -> Result<(), Memory>
+    ensures { OnOk result (names.new ≡ fold with_name names.old (filter (is_name specials) (map (λ t. t.now) texts.now))) }
+{
+    for text in texts {
+        if specials && special_of(text).is_some() {
+            continue;
+        }
+        if names.len() >= 1 << 32 {
+            return Err(Memory);
+        }
+        names.add(text)?;
+    }
+    Ok(())
+}
+
 /// The names of a program: some come first, then those of its text, each once.
 #[tactic(auto, unfolding(crate::specs::Lowering::names_of))]
 fn names_of<'a>(
     alloc: Global,
+    specials: bool,
     first: &'a [Text16],
     statements: &'a [Statement],
 ) -> Result<Names<'a>, Memory>
     requires { length first.now ≤ 65536 }
-    ensures { IfOk result (λ names. names ≡ names_of first.now statements.now) }
+    ensures { IfOk result (λ names. names ≡ names_of specials first.now statements.now) }
 {
     let mut names = Names::new(alloc);
     for text in first {
         names.add(text.units())?;
     }
-    add_names(&mut names, statements)?;
+    add_names(&mut names, specials, &names_in(alloc, statements)?)?;
     Ok(names)
 }
 
@@ -72,7 +91,7 @@ fn lower_with(
     if functions.len() > MAX_FUNCTIONS {
         return Err(LowerFault::Functions);
     }
-    let names = names_of(alloc, names, statements)?;
+    let names = names_of(alloc, specials, names, statements)?;
     let bodies = bodies_of(alloc, specials, &names, statements, &functions)?;
     if names.len() > MAX_NAMES {
         return Err(LowerFault::Memory);
@@ -111,9 +130,9 @@ pub fn lower(
     lower_with(alloc, false, tree, names, first_site)
 }
 
-/// Lowers the tree of a text of built-in functions: as `lower`, but names that begin with `$` are special forms
-/// (`ja_expressions::SPECIALS`), where the table has them. The call of a special form that doesn't have its arguments, or such a
-/// name that isn't called, is undefined.
+/// Lowers the tree of a text of built-in functions: as `lower`, but the names of the table of special forms
+/// (`ja_expressions::SPECIALS`) stand for these, and are no names of the program. The call of a special form that doesn't
+/// have its arguments, or such a name that isn't called, is undefined.
 ///
 /// # Errors
 ///

@@ -6,4 +6,4 @@ mod text_order;
 mod text_order_parts;
 
 pub use names::Names;
-pub use text_order::{add_names, functions_in};
+pub use text_order::{functions_in, names_in};

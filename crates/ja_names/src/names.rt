@@ -50,11 +50,6 @@ impl<'a> Names<'a> {
         self.texts.len()
     }
 
-    /// Where they take memory from.
-    pub(crate) fn allocator(&self) -> Global {
-        *self.texts.allocator()
-    }
-
     /// The number of a name: its place among the names, or 0 where it isn't one of them.
     pub fn number(&self, text: &[u16]) -> NameId
         ensures { result ≡ spec.number self.now text.now }
@@ -84,8 +79,7 @@ impl<'a> Names<'a> {
     {
         let mut texts = Vec::new(alloc);
         for text in &self.texts {
-            let units = Vec::from_slice(alloc, text)?;
-            texts.push(Text16::from_units(units))?;
+            texts.push(Text16::from_slice(alloc, text)?)?;
         }
         Ok(Seq::from_vec(texts))
     }

@@ -1,11 +1,9 @@
 //! The functions of a text and its names, in the order of the text.
 
 ghost use Rattle.std.specs.Prelude.{◌≡◌, ◌++◌, map, IfOk, OnOk};
-ghost use Rattle.std.specs.List.{flat_map, fold};
-ghost use Rattle.ja_names.specs.Names.{with_name};
+ghost use Rattle.std.specs.List.{flat_map};
 ghost use Rattle.ja_names.specs.TextOrder as spec;
 
-use crate::names::Names;
 use crate::text_order_parts::Parts;
 use ja_base::Memory;
 use ja_prim::Primitive;
@@ -431,14 +429,13 @@ pub fn functions_in<'a>(
     parts.functions(alloc)
 }
 
-/// Adds the names of a text, in its order, each once: identifiers but labels, strings, and the
-/// names of properties. `Err` comes where memory is refused, or a name's number would pass 32
-/// bits; the names are then those that were added before.
+/// The names of a text, in its order, each as often as it stands there: identifiers but labels, strings, and the names
+/// of properties. `Err` comes where memory is refused, and only then.
 #[tactic(auto, unfolding(crate::specs::TextOrder::names_in))]
-pub fn add_names<'a>(names: &mut Names<'a>, statements: &'a [Statement]) -> Result<(), Memory>
-    ensures { OnOk result (names.new ≡ fold with_name names.old (spec.names_in statements.now)) }
+pub fn names_in<'a>(alloc: Global, statements: &'a [Statement]) -> Result<Vec<&'a [u16]>, Memory>
+    ensures { IfOk result (λ names. map (λ t. t.now) names.items ≡ spec.names_in statements.now) }
 {
-    let mut parts = Parts::new(names.allocator());
+    let mut parts = Parts::new(alloc);
     add_statements(&mut parts, statements)?;
-    parts.add_names(names)
+    parts.names(alloc)
 }

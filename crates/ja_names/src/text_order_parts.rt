@@ -1,11 +1,9 @@
 //! Parts of a text in a row.
 
 ghost use Rattle.std.specs.Prelude.{◌≡◌, ◌++◌, ◌∷◌, [], map, IfOk, OnOk};
-ghost use Rattle.std.specs.List.{flat_map, fold};
-ghost use Rattle.ja_names.specs.Names.{with_name};
+ghost use Rattle.std.specs.List.{flat_map};
 ghost use Rattle.ja_names.specs.TextOrder as spec;
 
-use crate::names::Names;
 use ja_base::Memory;
 use ja_syntax::FunctionTree;
 use std::alloc::Global;
@@ -78,18 +76,16 @@ impl<'a> Parts<'a> {
         Ok(functions)
     }
 
-    /// Adds the names among them, each once.
-    pub(crate) fn add_names(&self, names: &mut Names<'a>) -> Result<(), Memory>
-        ensures { OnOk result (names.new ≡ fold with_name names.old (flat_map spec.if_name self.now)) }
+    /// The names among them.
+    pub(crate) fn names(&self, alloc: Global) -> Result<Vec<&'a [u16]>, Memory>
+        ensures { IfOk result (λ names. map (λ t. t.now) names.items ≡ flat_map spec.if_name self.now) }
     {
+        let mut names = Vec::new(alloc);
         for part in &self.row {
             if let Part::Name(text) = part {
-                if names.len() >= 1 << 32 {
-                    return Err(Memory);
-                }
-                names.add(text)?;
+                names.push(*text)?;
             }
         }
-        Ok(())
+        Ok(names)
     }
 }
