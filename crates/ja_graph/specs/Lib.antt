@@ -4,3 +4,4 @@ pub mod Program
 pub mod WellFormed
 pub mod Renaming
 pub mod Parts
+pub mod Kinds
