@@ -1,4 +1,5 @@
-ghost use Rattle.std.specs.Prelude.{◌≡◌, length, IfOk, pos};
+ghost use Rattle.std.specs.Prelude.{◌≡◌, ◌≤◌, length, IfOk, pos};
+ghost use Rattle.ja_prim.specs.Texts.{max_units};
 ghost use Rattle.ja_syntax.specs.Symbols as symbols;
 ghost use Rattle.ja_grammar.specs.Forms as forms;
 ghost use Rattle.ja_grammar.specs.Input as spec;
@@ -49,7 +50,8 @@ fn symbol_ahead(rest: &[Token]) -> Symbol
 /// The text of a word, and of any other token none.
 #[tactic(auto, unfolding(ja_syntax::specs::Symbols::word_of))]
 fn word_of(kind: &TokenKind) -> &[u16]
-    ensures { result.now ≡ symbols.word_of kind.now }
+    ensures value { result.now ≡ symbols.word_of kind.now }
+    ensures within { length result.now ≤ max_units }
 {
     match kind {
         TokenKind::Word(text) => text.units(),
@@ -64,7 +66,8 @@ fn word_of(kind: &TokenKind) -> &[u16]
 /// The units of a string literal, and of any other token none.
 #[tactic(auto, unfolding(ja_syntax::specs::Symbols::units_of))]
 fn units_of(kind: &TokenKind) -> &[u16]
-    ensures { result.now ≡ symbols.units_of kind.now }
+    ensures value { result.now ≡ symbols.units_of kind.now }
+    ensures within { length result.now ≤ max_units }
 {
     match kind {
         TokenKind::Word(_) => &[],
@@ -158,7 +161,8 @@ impl<'a> Cursor<'a> {
     /// The text of the next token, if it is a word, and else none.
     #[tactic(auto, unfolding(ja_grammar::specs::Input::head, ja_syntax::specs::Symbols::word_of))]
     pub fn word(&self) -> &'a [u16]
-        ensures { result.now ≡ forms.word (spec.head self.now) }
+        ensures value { result.now ≡ forms.word (spec.head self.now) }
+        ensures within { length result.now ≤ max_units }
     {
         match self.rest.first() {
             Some(token) => word_of(&token.kind),
@@ -169,7 +173,8 @@ impl<'a> Cursor<'a> {
     /// The units of the next token, if it is a string literal, and else none.
     #[tactic(auto, unfolding(ja_grammar::specs::Input::head, ja_syntax::specs::Symbols::units_of))]
     pub fn units(&self) -> &'a [u16]
-        ensures { result.now ≡ symbols.units_of (spec.head self.now).kind }
+        ensures value { result.now ≡ symbols.units_of (spec.head self.now).kind }
+        ensures within { length result.now ≤ max_units }
     {
         match self.rest.first() {
             Some(token) => units_of(&token.kind),

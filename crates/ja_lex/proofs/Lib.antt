@@ -4,5 +4,7 @@ pub mod Texts
 pub mod Classed
 pub mod Endings
 pub mod Longest
+pub mod LongestMarks
+pub mod OtherElements
 pub mod Literals
 pub mod Spans

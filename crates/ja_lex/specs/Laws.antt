@@ -1,10 +1,10 @@
 -- What the definition of tokens comes to: lists that end once, and longest matches.
 use Rattle.std.specs.Prelude.{◌≡◌, ◌⊎◌, ◌≤◌, ℕ, true, false, List, [], ◌∷◌, ◌++◌, length}
-use Rattle.std.specs.List.{list_all}
+use Rattle.std.specs.List.{list_all, Contains}
 use Rattle.ja_lex.specs.declared.token.Token.{Token}
 use Rattle.ja_prim.specs.Characters.{is_digit}
 use Rattle.ja_prim.specs.Numerals.{is_sign, is_exponent_letter}
-use Rattle.ja_lex.specs.Marks.{begins_with}
+use Rattle.ja_lex.specs.Marks.{marks}
 use Rattle.ja_lex.specs.Tokens.{is_last}
 
 -- there is a last token, the end or a refusal, and no other token is one
@@ -18,10 +18,12 @@ abbrev pub AreInOrder : ℕ → ℕ → List Token → Type 0
 AreInOrder from to [] = from ≤ to
 AreInOrder from to (t ∷ ts) = (from ≤ t.start) × (t.start ≤ t.end) × AreInOrder t.end to ts
 
--- no mark of a table that the characters begin with has more characters than n
-abbrev pub NoneLonger : List (List ℕ) → List ℕ → ℕ → Type 0
-NoneLonger [] cs n = Unit {0}
-NoneLonger (m ∷ ms) cs n = (begins_with m cs ≡ true → length m ≤ n) × NoneLonger ms cs n
+-- m is a mark that the text begins with, and no mark that it begins with is longer
+pub record IsLongestMark (text m : List ℕ) : Type 0 where
+  pub among : Contains marks m
+  pub rest : List ℕ
+  pub begins : text ≡ m ++ rest
+  pub longest : (other behind : List ℕ) → Contains marks other → text ≡ other ++ behind → length other ≤ length m
 
 -- nothing, or a point and digits
 abbrev pub IsFraction : List ℕ → Type 0

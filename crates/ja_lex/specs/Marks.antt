@@ -1,12 +1,11 @@
 -- Punctuators (7.7), and what stands where nothing of the lexical grammar does.
-use Rattle.std.specs.Prelude.{ℕ, Bool, true, false, ◌&&◌, ◌==◌, nat_lt, if◌then◌else◌, List, [], ◌∷◌, length, map}
+use Rattle.std.specs.Prelude.{ℕ, Bool, true, false, ◌&&◌, ◌==◌, nat_lt, if◌then◌else◌, List, [], ◌∷◌, length, codes}
 use Rattle.ja_base.specs.declared.ids.ScopeKind.TheVariants as scope
 use Rattle.ja_lex.specs.declared.token.TokenFault.{TokenFault}
 use Rattle.ja_lex.specs.declared.token.TokenFault.TheVariants.{Scope, Lexical}
 use Rattle.ja_lex.specs.declared.token.TokenKind.TheVariants as kind
 use Rattle.ja_lex.specs.declared.element.Element.{Element}
 use Rattle.ja_lex.specs.declared.element.Element.TheVariants as element
-use Rattle.ja_lex.specs.declared.marks.TheConstants.{MARKS}
 use Rattle.ja_prim.specs.Characters.{char_at, is_ascii}
 
 -- a refusal, whose span is its first character
@@ -28,8 +27,14 @@ abbrev pub longest : List ℕ → List (List ℕ) → List ℕ → List ℕ
 longest best [] cs = best
 longest best (m ∷ ms) cs = longest (longer best m cs) ms cs
 
-abbrev pub marks : List (List ℕ)
-marks = map (λ mark. mark.now) MARKS
+-- the punctuators and the div punctuators (7.7)
+unfoldable pub marks : List (List ℕ)
+marks =
+    codes "{" ∷ codes "}" ∷ codes "(" ∷ codes ")" ∷ codes "[" ∷ codes "]" ∷ codes "." ∷ codes ";" ∷ codes "," ∷ codes "<" ∷ codes ">" ∷ codes "<=" ∷
+    codes ">=" ∷ codes "==" ∷ codes "!=" ∷ codes "===" ∷ codes "!==" ∷ codes "+" ∷ codes "-" ∷ codes "*" ∷ codes "%" ∷ codes "++" ∷ codes "--" ∷
+    codes "<<" ∷ codes ">>" ∷ codes ">>>" ∷ codes "&" ∷ codes "|" ∷ codes "^" ∷ codes "!" ∷ codes "~" ∷ codes "&&" ∷ codes "||" ∷ codes "?" ∷
+    codes ":" ∷ codes "=" ∷ codes "+=" ∷ codes "-=" ∷ codes "*=" ∷ codes "%=" ∷ codes "<<=" ∷ codes ">>=" ∷ codes ">>>=" ∷ codes "&=" ∷ codes "|=" ∷
+    codes "^=" ∷ codes "/" ∷ codes "/=" ∷ []
 
 -- why no token begins with a character that no rule takes: past ASCII it leaves the profile
 abbrev pub stranger : ℕ → TokenFault

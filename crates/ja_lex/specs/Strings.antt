@@ -12,6 +12,7 @@ use Rattle.ja_lex.specs.declared.item.Item.{Item}
 use Rattle.ja_lex.specs.declared.item.Item.TheVariants as item
 use Rattle.ja_lex.specs.declared.strings.Body.{Body}
 use Rattle.ja_prim.specs.Characters.{char_at, is_terminator, is_digit, is_hexadecimal, is_escape}
+use Rattle.ja_prim.specs.Texts.{max_units}
 use Rattle.ja_lex.specs.Marks.{bad}
 
 -- what `\` and a character that is no digit, no x, no u and no line terminator stand for: b, t, n, v, f and r a control character, any other itself
@@ -107,7 +108,7 @@ abbrev pub of_body : Option Body → Element
 of_body None = bad Lexical
 of_body (Some b) =
     if b.octal then bad (Scope scope.Octal)
-    else if nat_lt 1048576 (length b.units) then bad (Scope scope.TextLength)
+    else if nat_lt max_units (length b.units) then bad (Scope scope.TextLength)
     else element.Token (kind.Text b.units) (b.length + 2)
 
 -- a literal that begins with a quote

@@ -7,11 +7,12 @@ use Rattle.ja_lex.specs.declared.token.TokenKind.TheVariants as kind
 use Rattle.ja_lex.specs.declared.element.Element.{Element}
 use Rattle.ja_lex.specs.declared.element.Element.TheVariants as element
 use Rattle.ja_prim.specs.Characters.{is_part, is_escape}
+use Rattle.ja_prim.specs.Texts.{max_units}
 use Rattle.ja_lex.specs.Marks.{bad}
 
 -- The longest beginning of letters, digits, `_` and `$`. An escape right behind it goes on with the identifier, and is refused.
 unfoldable pub word : List ℕ → Element
 word cs =
     if is_escape cs (prefix_len is_part cs) then bad (Scope scope.IdentifierEscape)
-    else if nat_lt 1048576 (prefix_len is_part cs) then bad (Scope scope.TextLength)
+    else if nat_lt max_units (prefix_len is_part cs) then bad (Scope scope.TextLength)
     else element.Token (kind.Word (take_while is_part cs)) (prefix_len is_part cs)

@@ -19,6 +19,5 @@ mod words;
 
 pub use laws::{decimals_are_longest, marks_are_longest, spans_are_in_order, texts_end_once};
 pub use lexer::tokens;
-pub use marks::MARKS;
 pub use spot::Spot;
 pub use token::{Token, TokenFault, TokenKind};

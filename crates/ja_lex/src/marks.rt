@@ -8,8 +8,8 @@ use ja_base::ScopeKind;
 use ja_prim::Text16;
 use std::alloc::{AllocError, Global};
 
-/// The punctuators of ES3 7.7, with `/` and `/=`.
-pub const MARKS: [&[u8]; 48] = [
+/// The punctuators and the div punctuators (ES3 7.7).
+const MARKS: [&[u8]; 48] = [
     b"{", b"}", b"(", b")", b"[", b"]", b".", b";", b",", b"<", b">", b"<=", b">=", b"==", b"!=",
     b"===", b"!==", b"+", b"-", b"*", b"%", b"++", b"--", b"<<", b">>", b">>>", b"&", b"|", b"^",
     b"!", b"~", b"&&", b"||", b"?", b":", b"=", b"+=", b"-=", b"*=", b"%=", b"<<=", b">>=",
@@ -56,6 +56,14 @@ fn longer<'a>(best: &'a [u8], mark: &'a [u8], text: &[char]) -> &'a [u8]
     }
 }
 
+/// The marks.
+#[tactic(auto, unfolding(crate::specs::Marks::marks))]
+fn marks() -> &'static [&'static [u8]]
+    ensures { map (λ mark. mark.now) result.now ≡ spec.marks }
+{
+    &MARKS
+}
+
 /// The longest mark of a table that the text begins with, or the empty one.
 fn longest<'a>(mut table: &[&'a [u8]], text: &[char]) -> &'a [u8]
     ensures { result.now ≡ spec.longest [] (map (λ mark. mark.now) table.entry.now) text.now }
@@ -80,11 +88,11 @@ fn stranger(c: char) -> TokenFault
 }
 
 /// The longest mark that stands there, or why there is none.
-#[tactic(auto, unfolding(crate::specs::Marks::mark))]
+#[tactic(auto, using(crate::proofs::LongestMarks::short), unfolding(crate::specs::Marks::mark))]
 pub fn mark(alloc: Global, text: &[char]) -> Result<Element, AllocError>
     ensures { IfOk result (λ e. e ≡ spec.mark text.now) }
 {
-    match longest(&MARKS, text) {
+    match longest(marks(), text) {
         [] => Ok(bad(stranger(char_at(text, 0)))),
         found => {
             let mark = Text16::from_ascii(alloc, found)?;

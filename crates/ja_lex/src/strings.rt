@@ -8,16 +8,15 @@ use crate::element::Element;
 use crate::item::Item;
 use crate::marks::bad;
 use crate::token::{TokenFault, TokenKind};
-use crate::words::MOST_UNITS;
-use ja_base::ScopeKind;
-use ja_prim::{Text16, push_character};
+use ja_base::{ScopeKind, Seq};
+use ja_prim::{MAX_UNITS, Text16, push_character};
 use std::alloc::{AllocFailed, Global};
 
 /// What stands between the quotes of a string literal: its units, whether it has an octal escape, and how many characters
 /// it is.
 #[derive(Drop)]
 pub struct Body {
-    pub units: Text16,
+    pub units: Seq<u16>,
     pub octal: bool,
     pub length: usize,
 }
@@ -205,7 +204,7 @@ fn read_body(alloc: Global, quote: char, text: &[char]) -> Result<Option<Body>, 
     'items: while let [first, ..] = rest {
         if *first == quote {
             return Ok(Some(Body {
-                units: Text16::from_units(units),
+                units: Seq::from_vec(units),
                 octal,
                 length: count,
             }));
@@ -241,11 +240,11 @@ pub fn string(alloc: Global, text: &[char]) -> Result<Element, AllocFailed<u16>>
         ) => {
             if octal {
                 Ok(bad(TokenFault::Scope(ScopeKind::Octal)))
-            } else if units.units().len() > MOST_UNITS {
+            } else if units.len() > MAX_UNITS {
                 Ok(bad(TokenFault::Scope(ScopeKind::TextLength)))
             } else {
                 Ok(Element::Token {
-                    kind: TokenKind::Text(units),
+                    kind: TokenKind::Text(Text16::from_units(units.into_vec())),
                     length: length + 2,
                 })
             }

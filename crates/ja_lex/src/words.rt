@@ -6,11 +6,8 @@ use crate::element::Element;
 use crate::marks::bad;
 use crate::token::{TokenFault, TokenKind};
 use ja_base::ScopeKind;
-use ja_prim::Text16;
+use ja_prim::{MAX_UNITS, Text16};
 use std::alloc::{AllocFailed, Global};
-
-/// The most units that an identifier or a string may have.
-pub const MOST_UNITS: usize = 1_048_576;
 
 /// The identifier or reserved word that the text begins with, or its escape.
 #[tactic(auto, using(crate::proofs::Classed::all_part), unfolding(crate::specs::Words::word))]
@@ -22,7 +19,7 @@ pub fn word(alloc: Global, text: &[char]) -> Result<Element, AllocFailed<u16>>
     if is_escape(text, length) {
         return Ok(bad(TokenFault::Scope(ScopeKind::IdentifierEscape)));
     }
-    if length > MOST_UNITS {
+    if length > MAX_UNITS {
         return Ok(bad(TokenFault::Scope(ScopeKind::TextLength)));
     }
     let units = units(alloc, run(Class::Part, text))?;

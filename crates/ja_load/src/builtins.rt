@@ -1,8 +1,9 @@
 //! The built-in objects that are no functions (ES3 section 15), as the table has them, with their names
 //! and sites.
 
-ghost use Rattle.std.specs.Prelude.{◌≡◌, ◌<◌, ◌^◌, Some, length, map, IfOk};
-ghost use Rattle.std.specs.List.{zip};
+ghost use Rattle.std.specs.Prelude.{◌≡◌, ◌<◌, ◌≤◌, ◌^◌, Some, length, map, IfOk, IsTrue};
+ghost use Rattle.std.specs.List.{list_all, zip};
+ghost use Rattle.ja_prim.specs.Texts.{is_short, max_units};
 ghost use Rattle.ja_graph.specs.WellFormed as graph;
 ghost use Rattle.ja_names.specs.Names.{number};
 ghost use Rattle.ja_load.specs.Builtins.{builtin_number, error_name, primitive_of, content_of, property_of, object_of, opening_objects, builtin_site, builtin_sites};
@@ -21,6 +22,7 @@ const NO_PLACE: Place = Place { line: 0, column: 0 };
 
 /// The texts of names.
 fn texts_of(alloc: Global, names: &[&[u8]]) -> Result<Vec<Text16>, Memory>
+    requires { IsTrue (list_all (λ name. is_short name.now) names.now) }
     ensures { IfOk result (λ texts. texts.items ≡ map (λ name. name.now) names.now) }
 {
     let mut texts = Vec::new(alloc);
@@ -64,7 +66,8 @@ fn builtin_number(name: &[u8]) -> NameId
 
 /// The name of a kind of errors.
 fn error_name(kind: ErrorKind) -> &'static str
-    ensures { result.now ≡ error_name kind }
+    ensures value { result.now ≡ error_name kind }
+    ensures within { length result.now ≤ max_units }
 {
     match kind {
         ErrorKind::Error => "Error",
@@ -176,10 +179,10 @@ pub(crate) fn opening_objects(alloc: Global) -> Result<Seq<ObjectSpec>, Memory>
 }
 
 /// A site of a built-in object, with the name under which reports print it.
-fn builtin_site(alloc: Global, class: Class, path: &[u8]) -> Result<SiteInfo, Memory>
+fn builtin_site(alloc: Global, class: Class, path: &Text16) -> Result<SiteInfo, Memory>
     ensures { IfOk result (λ site. site ≡ builtin_site class path.now) }
 {
-    let path = Text16::from_ascii(alloc, path)?;
+    let path = path.copy(alloc)?;
     Ok(SiteInfo {
         class,
         place: NO_PLACE,
@@ -191,8 +194,8 @@ fn builtin_site(alloc: Global, class: Class, path: &[u8]) -> Result<SiteInfo, Me
 }
 
 /// The sites of built-in objects with these classes and names.
-fn sites_of(alloc: Global, classes: &[Class], paths: &[&[u8]]) -> Result<Vec<SiteInfo>, Memory>
-    ensures { IfOk result (λ sites. sites.items ≡ map (λ row. builtin_site row.0 row.1.now) (zip classes.now paths.now)) }
+fn sites_of(alloc: Global, classes: &[Class], paths: &[Text16]) -> Result<Vec<SiteInfo>, Memory>
+    ensures { IfOk result (λ sites. sites.items ≡ map (λ row. builtin_site row.0 row.1) (zip classes.now paths.now)) }
 {
     let mut sites = Vec::new(alloc);
     let mut left = paths;
@@ -211,5 +214,6 @@ fn sites_of(alloc: Global, classes: &[Class], paths: &[&[u8]]) -> Result<Vec<Sit
 pub(crate) fn builtin_sites(alloc: Global) -> Result<Vec<SiteInfo>, Memory>
     ensures { IfOk result (λ sites. sites.items ≡ builtin_sites) }
 {
-    sites_of(alloc, &BUILTIN_CLASSES, &BUILTIN_PATHS)
+    let paths = texts_of(alloc, &BUILTIN_PATHS)?;
+    sites_of(alloc, &BUILTIN_CLASSES, &paths)
 }

@@ -4,7 +4,7 @@ use ja_expressions::{Outcome, form};
 use ja_graph::Node;
 use ja_listing::Item;
 use ja_names::Names;
-use ja_prim::{Primitive, Text16};
+use ja_prim::{MAX_UNITS, Primitive, Text16};
 use ja_syntax::{Expression, Name, Suffix};
 use sqlite_items::{Boxed, Items};
 use std::alloc::Global;
@@ -20,8 +20,11 @@ const GET: &[u16] = &[36, 103, 101, 116];
 
 /// A text.
 fn text(alloc: Global, units: &[u16]) -> Result<Text16, Memory> {
-    let units = Vec::from_slice(alloc, units)?;
-    Ok(Text16::from_units(units))
+    if units.len() > MAX_UNITS {
+        return Err(Memory);
+    }
+    let text = Text16::from_slice(alloc, units)?;
+    Ok(text)
 }
 
 /// A name.
@@ -111,16 +114,28 @@ fn calls_of_special_forms(alloc: Global) -> Result<Expression, Memory> {
     call_of(alloc, PUT, arguments)
 }
 
-/// The names `a`, `b`, `c`, `d`, `$put`, `$object` and `$get`.
-fn names(alloc: Global) -> Result<Names<'static>, Memory> {
+/// The texts `a`, `b`, `c`, `d`, `$put`, `$object` and `$get`.
+fn texts(alloc: Global) -> Result<Vec<Text16>, Memory> {
+    let mut texts = Vec::new(alloc);
+    texts.push(text(alloc, &[97])?)?;
+    texts.push(text(alloc, &[98])?)?;
+    texts.push(text(alloc, &[99])?)?;
+    texts.push(text(alloc, &[100])?)?;
+    texts.push(text(alloc, PUT)?)?;
+    texts.push(text(alloc, OBJECT)?)?;
+    texts.push(text(alloc, GET)?)?;
+    Ok(texts)
+}
+
+/// The names that are these texts.
+fn names_of<'a>(alloc: Global, texts: &'a [Text16]) -> Result<Names<'a>, Memory> {
     let mut names = Names::new(alloc);
-    names.add(&[97])?;
-    names.add(&[98])?;
-    names.add(&[99])?;
-    names.add(&[100])?;
-    names.add(PUT)?;
-    names.add(OBJECT)?;
-    names.add(GET)?;
+    for text in texts {
+        if names.len() >= 1 << 32 {
+            return Err(Memory);
+        }
+        names.add(text)?;
+    }
     Ok(names)
 }
 
@@ -185,7 +200,8 @@ const LINES: [(&str, u32, u32, u32); 8] = [
 
 #[test]
 fn a_call_of_a_member_is_listed(rt: HostRuntime) -> Result<(), Memory> {
-    let names = names(rt.alloc())?;
+    let texts = texts(rt.alloc())?;
+    let names = names_of(rt.alloc(), &texts)?;
     let expression = call_of_a_member(rt.alloc())?;
     let (items, outcome) = listed(rt.alloc(), &names, false, &expression)?;
     assert_eq!(rt; outcome, Outcome::Value(Reg(13)));
@@ -212,7 +228,8 @@ const SPECIAL_LINES: [(&str, u32, u32, u32); 10] = [
 
 #[test]
 fn special_forms_are_listed(rt: HostRuntime) -> Result<(), Memory> {
-    let names = names(rt.alloc())?;
+    let texts = texts(rt.alloc())?;
+    let names = names_of(rt.alloc(), &texts)?;
     let expression = calls_of_special_forms(rt.alloc())?;
     let (items, outcome) = listed(rt.alloc(), &names, true, &expression)?;
     assert_eq!(rt; outcome, Outcome::Value(Reg(14)));
@@ -245,7 +262,8 @@ const ORDINARY_LINES: [(&str, u32, u32, u32); 16] = [
 
 #[test]
 fn special_forms_are_ordinary_calls_elsewhere(rt: HostRuntime) -> Result<(), Memory> {
-    let names = names(rt.alloc())?;
+    let texts = texts(rt.alloc())?;
+    let names = names_of(rt.alloc(), &texts)?;
     let expression = calls_of_special_forms(rt.alloc())?;
     let (items, outcome) = listed(rt.alloc(), &names, false, &expression)?;
     assert_eq!(rt; outcome, Outcome::Value(Reg(21)));

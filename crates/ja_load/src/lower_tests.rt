@@ -12,8 +12,8 @@ const PLACE: Place = Place { line: 1, column: 1 };
 
 /// A text of one letter.
 fn letter(alloc: Global, unit: u16) -> Result<Text16, Memory> {
-    let units = Vec::from_slice(alloc, &[unit])?;
-    Ok(Text16::from_units(units))
+    let text = Text16::from_slice(alloc, &[unit])?;
+    Ok(text)
 }
 
 /// A name of one letter.

@@ -36,11 +36,11 @@ const MAX_FUNCTIONS: usize = 4_095;
 const MAX_NAMES: usize = 1_048_576;
 
 /// Adds the names of a text, each once; where the text has special forms, their names are none.
-fn add_names<'a>(names: &mut Names<'a>, specials: bool, texts: &[&'a [u16]]) -> Result<(), Memory>
+fn add_names<'a>(names: &mut Names<'a>, specials: bool, texts: &[&'a Text16]) -> Result<(), Memory>
     ensures { OnOk result (names.new ≡ fold with_name names.old (filter (is_name specials) (map (λ t. t.now) texts.now))) }
 {
     for text in texts {
-        if specials && special_of(text).is_some() {
+        if specials && special_of(text.units()).is_some() {
             continue;
         }
         if names.len() >= 1 << 32 {
@@ -64,7 +64,7 @@ fn names_of<'a>(
 {
     let mut names = Names::new(alloc);
     for text in first {
-        names.add(text.units())?;
+        names.add(text)?;
     }
     add_names(&mut names, specials, &names_in(alloc, statements)?)?;
     Ok(names)

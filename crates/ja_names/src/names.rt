@@ -13,7 +13,7 @@ use std::marker::Model;
 /// the list of texts.
 #[derive(Drop)]
 pub struct Names<'a> {
-    texts: Vec<&'a [u16]>,
+    texts: Vec<&'a Text16>,
     numbers: BTreeMap<&'a [u16], u32>,
 }
 
@@ -58,17 +58,18 @@ impl<'a> Names<'a> {
     }
 
     /// Adds a name, if it isn't one yet.
-    pub fn add(&mut self, text: &'a [u16]) -> Result<(), Memory>
+    pub fn add(&mut self, text: &'a Text16) -> Result<(), Memory>
         requires { length self.old < 2 ^ 32 }
         ensures names { OnOk result (self.new ≡ spec.with_name self.old text.now) }
         ensures few { OnOk result (length self.new ≤ length self.old + 1) }
     {
-        if self.numbers.contains_key(text) {
+        let units = text.units();
+        if self.numbers.contains_key(units) {
             return Ok(());
         }
         let number = self.texts.len() as u32;
         self.texts.reserve(1)?;
-        self.numbers.insert(text, number)?;
+        self.numbers.insert(units, number)?;
         self.texts.push(text)?;
         Ok(())
     }
@@ -79,7 +80,7 @@ impl<'a> Names<'a> {
     {
         let mut texts = Vec::new(alloc);
         for text in &self.texts {
-            texts.push(Text16::from_slice(alloc, text)?)?;
+            texts.push(text.copy(alloc)?)?;
         }
         Ok(Seq::from_vec(texts))
     }

@@ -19,7 +19,7 @@ fn add_literal<'a>(parts: &mut Parts<'a>, value: &'a Primitive) -> Result<(), Me
     ensures { OnOk result (parts.new ≡ parts.old ++ spec.in_literal value.now) }
 {
     match value {
-        Primitive::Text(text) => parts.add_name(text.units()),
+        Primitive::Text(text) => parts.add_name(text),
         _ => Ok(()),
     }
 }
@@ -29,8 +29,8 @@ fn add_property_name<'a>(parts: &mut Parts<'a>, name: &'a PropertyName) -> Resul
     ensures { OnOk result (parts.new ≡ parts.old ++ spec.in_property_name name.now) }
 {
     match name {
-        PropertyName::Word(text) => parts.add_name(text.units()),
-        PropertyName::Text(text) => parts.add_name(text.units()),
+        PropertyName::Word(text) => parts.add_name(text),
+        PropertyName::Text(text) => parts.add_name(text),
         PropertyName::Number(_) => Ok(()),
     }
 }
@@ -39,7 +39,7 @@ fn add_identifiers<'a>(parts: &mut Parts<'a>, names: &'a [Name]) -> Result<(), M
     ensures { OnOk result (parts.new ≡ parts.old ++ flat_map spec.in_name names.now) }
 {
     for name in names {
-        parts.add_name(name.text.units())?;
+        parts.add_name(&name.text)?;
     }
     Ok(())
 }
@@ -49,7 +49,7 @@ fn add_identifier<'a>(parts: &mut Parts<'a>, name: &'a Option<Name>) -> Result<(
 {
     match name {
         None => Ok(()),
-        Some(name) => parts.add_name(name.text.units()),
+        Some(name) => parts.add_name(&name.text),
     }
 }
 
@@ -61,7 +61,7 @@ fn add_expression<'a>(parts: &mut Parts<'a>, expression: &'a Expression) -> Resu
 {
     match expression {
         Expression::This { .. } => Ok(()),
-        Expression::Name(name) => parts.add_name(name.text.units()),
+        Expression::Name(name) => parts.add_name(&name.text),
         Expression::Literal { value, .. } => add_literal(parts, value),
         Expression::Array { elements, .. } => add_elements(parts, elements.as_slice()),
         Expression::Object { properties, .. } => add_properties(parts, properties.as_slice()),
@@ -178,7 +178,7 @@ fn add_suffix<'a>(parts: &mut Parts<'a>, suffix: &'a Suffix<Expression>) -> Resu
     ensures { OnOk result (parts.new ≡ parts.old ++ spec.in_suffix spec.in_expression suffix.now) }
 {
     match suffix {
-        Suffix::Member { name, .. } => parts.add_name(name.text.units()),
+        Suffix::Member { name, .. } => parts.add_name(&name.text),
         Suffix::Index { key, .. } => add_expression(parts, key),
         Suffix::Call { arguments, .. } => add_expressions(parts, arguments.as_slice()),
     }
@@ -225,7 +225,7 @@ fn add_declaration<'a>(
 ) -> Result<(), Memory>
     ensures { OnOk result (parts.new ≡ parts.old ++ spec.in_declaration spec.in_expression declaration.now) }
 {
-    parts.add_name(declaration.name.text.units())?;
+    parts.add_name(&declaration.name.text)?;
     add_initialiser(parts, &declaration.initialiser)
 }
 
@@ -367,7 +367,7 @@ fn add_catch<'a>(parts: &mut Parts<'a>, catch: &'a Option<CatchOf<Statement>>) -
     match catch {
         None => Ok(()),
         Some(catch) => {
-            parts.add_name(catch.parameter.text.units())?;
+            parts.add_name(&catch.parameter.text)?;
             add_statements(parts, catch.body.as_slice())
         }
     }
@@ -432,7 +432,7 @@ pub fn functions_in<'a>(
 /// The names of a text, in its order, each as often as it stands there: identifiers but labels, strings, and the names
 /// of properties. `Err` comes where memory is refused, and only then.
 #[tactic(auto, unfolding(crate::specs::TextOrder::names_in))]
-pub fn names_in<'a>(alloc: Global, statements: &'a [Statement]) -> Result<Vec<&'a [u16]>, Memory>
+pub fn names_in<'a>(alloc: Global, statements: &'a [Statement]) -> Result<Vec<&'a Text16>, Memory>
     ensures { IfOk result (λ names. map (λ t. t.now) names.items ≡ spec.names_in statements.now) }
 {
     let mut parts = Parts::new(alloc);

@@ -5,6 +5,7 @@ ghost use Rattle.std.specs.List.{flat_map};
 ghost use Rattle.ja_names.specs.TextOrder as spec;
 
 use ja_base::Memory;
+use ja_prim::Text16;
 use ja_syntax::FunctionTree;
 use std::alloc::Global;
 use std::marker::Model;
@@ -13,7 +14,7 @@ use std::marker::Model;
 #[derive(Drop)]
 enum Part<'a> {
     Function(&'a FunctionTree),
-    Name(&'a [u16]),
+    Name(&'a Text16),
 }
 
 /// Parts of a text, in their order. Contracts see their list.
@@ -56,7 +57,7 @@ impl<'a> Parts<'a> {
     }
 
     /// Adds a name.
-    pub(crate) fn add_name(&mut self, text: &'a [u16]) -> Result<(), Memory>
+    pub(crate) fn add_name(&mut self, text: &'a Text16) -> Result<(), Memory>
         ensures { OnOk result (self.new ≡ self.old ++ spec.a_name text.now ∷ []) }
     {
         self.row.push(Part::Name(text))?;
@@ -77,7 +78,7 @@ impl<'a> Parts<'a> {
     }
 
     /// The names among them.
-    pub(crate) fn names(&self, alloc: Global) -> Result<Vec<&'a [u16]>, Memory>
+    pub(crate) fn names(&self, alloc: Global) -> Result<Vec<&'a Text16>, Memory>
         ensures { IfOk result (λ names. map (λ t. t.now) names.items ≡ flat_map spec.if_name self.now) }
     {
         let mut names = Vec::new(alloc);

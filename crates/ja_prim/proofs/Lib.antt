@@ -1,10 +1,13 @@
+pub mod Bitwise
 pub mod Capping
 pub mod Digits
 pub mod Equalities
 pub mod Exact
 pub mod Integers
 pub mod Judging
+pub mod NumberTexts
 pub mod Orders
 pub mod Placing
 pub mod ReadingBack
 pub mod Residues
+pub mod Shifts

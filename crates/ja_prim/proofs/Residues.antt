@@ -6,7 +6,7 @@ use Rattle.ja_prim.specs.declared.primitive.Num.TheVariants.{Whole}
 use Rattle.ja_prim.specs.Bits as bits
 use Rattle.ja_prim.specs.Laws.{AreCongruent, IsUnsignedResidue, IsSignedResidue}
 
-residue_below : (z : ℤ) → bits.residue z < 2 ^ 32
+pub residue_below : (z : ℤ) → bits.residue z < 2 ^ 32
 residue_below (pos a) = omega arith
 residue_below (negsuc a) = omega arith
 
@@ -17,10 +17,10 @@ residue_congruent (negsuc a) = (negsuc (a / 2 ^ 32), omega (arith, ints))
 pub unsigned_residue : (z : ℤ) → IsUnsignedResidue z (bits.to_uint32 (Whole z))
 unsigned_residue z = record { below = residue_below z; congruent = residue_congruent z }
 
-low : (r : ℕ) → r < 2 ^ 31 → bits.signed_of r ≡ pos r
+pub low : (r : ℕ) → r < 2 ^ 31 → bits.signed_of r ≡ pos r
 low r h = rw (lt-ltb r (2 ^ 31) h) refl
 
-high : (r : ℕ) → 2 ^ 31 ≤ r → bits.signed_of r ≡ pos r -ℤ pos (2 ^ 32)
+pub high : (r : ℕ) → 2 ^ 31 ≤ r → bits.signed_of r ≡ pos r -ℤ pos (2 ^ 32)
 high r h = rw (le-ltb r (2 ^ 31) h) refl
 
 shifted : (z n : ℤ) → AreCongruent z n → AreCongruent z (n -ℤ pos (2 ^ 32))

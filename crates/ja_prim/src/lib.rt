@@ -35,7 +35,8 @@ pub use equality::{loose_eq, strict_eq};
 pub use index::array_index;
 pub use int::Int;
 pub use laws::{
-    operations_are_of_integers, quotients_are_exact, remainders_are_exact, residues_are_congruent,
+    operations_are_of_integers, operations_go_by_bits, quotients_are_exact, remainders_are_exact,
+    residues_are_congruent, shifts_are_by_powers_of_two,
 };
 pub use laws_of_texts::{
     literals_are_exact, numbers_are_read_back, order_is_strict, strict_equality_is_an_equivalence,
@@ -45,7 +46,7 @@ pub use numbers::to_num;
 pub use primitive::{Num, Prim, Primitive};
 pub use signature::{Kinds, Signature};
 pub use stop::{PrimFault, Stop};
-pub use text16::{Text16, push_character, units_of};
+pub use text16::{MAX_UNITS, Text16, push_character, units_of};
 pub use truth::to_bool;
 pub use values::{hexadecimal_value, placed};
 pub use writing::to_text;

@@ -1,9 +1,9 @@
-ghost use Rattle.std.specs.Prelude.{◌≡◌, ◌++◌, IfOk, OnOk};
+ghost use Rattle.std.specs.Prelude.{◌≡◌, ◌++◌, ◌≤◌, IfOk, OnOk, length};
 ghost use Rattle.std.specs.Char.Escape.{encode_utf16};
 ghost use Rattle.std.specs.List.{flat_map};
 ghost use Rattle.std.specs.Str.{chars};
 ghost use Rattle.ja_prim.specs.TextToNumber.{text_to_number};
-ghost use Rattle.ja_prim.specs.Texts.{utf16, limited_text, Answers};
+ghost use Rattle.ja_prim.specs.Texts.{utf16, limited_text, max_units, Answers};
 
 use crate::ascii::ascii_units;
 use crate::literals::text_to_number;
@@ -14,23 +14,27 @@ use std::marker::Model;
 /// The most units that a text of the profile may have.
 pub const MAX_UNITS: usize = 1_048_576;
 
-/// A text of 16-bit units. Contracts see the list of units.
+/// A text of at most 1,048,576 units of 16 bits. Contracts see the list of units.
 #[derive(Drop)]
 pub struct Text16 {
     units: Vec<u16>,
 }
 
 impl Model for Text16 {
-    ghost use Rattle.std.specs.Prelude.{ℕ, List};
+    ghost use Rattle.std.specs.Prelude.{ℕ, List, length, ◌≤◌};
+    ghost use Rattle.ja_prim.specs.Texts.{max_units};
 
     ghost Value = { List ℕ };
 
     ghost view = { λ t. t.units.items };
+
+    ghost invariant = { λ t. length t.units.items ≤ max_units };
 }
 
 impl Text16 {
     /// The text of these units, in the vector's own memory.
     pub fn from_units(units: Vec<u16>) -> Text16
+        requires { length units.items ≤ max_units }
         ensures { result ≡ units.items }
     {
         Text16 { units }
@@ -38,6 +42,7 @@ impl Text16 {
 
     /// The text of these units, in memory of its own. It fails where memory is refused.
     pub fn from_slice(alloc: Global, units: &[u16]) -> Result<Text16, AllocError>
+        requires { length units.now ≤ max_units }
         ensures { IfOk result (λ text. text ≡ units.now) }
     {
         Ok(Text16::from_units(Vec::from_slice(alloc, units)?))
@@ -45,6 +50,7 @@ impl Text16 {
 
     /// The text with a unit for each byte. It fails where memory is refused.
     pub fn from_ascii(alloc: Global, bytes: &[u8]) -> Result<Text16, AllocError>
+        requires { length bytes.now ≤ max_units }
         ensures { IfOk result (λ text. text ≡ bytes.now) }
     {
         Ok(Text16::from_units(ascii_units(alloc, bytes)?))
@@ -76,7 +82,8 @@ impl Text16 {
 
     /// The units.
     pub fn units(&self) -> &[u16]
-        ensures { result.now ≡ self.now }
+        ensures value { result.now ≡ self.now }
+        ensures within { length result.now ≤ max_units }
     {
         &self.units
     }

@@ -1,14 +1,17 @@
-ghost use Rattle.std.specs.Prelude.{◌≡◌, IfOk};
+ghost use Rattle.std.specs.Prelude.{◌≡◌, ◌≤◌, IfOk, length};
 ghost use Rattle.std.specs.Fmt.{signed_decimal};
 ghost use Rattle.ja_prim.specs.Conversions as spec;
+ghost use Rattle.ja_prim.specs.Texts.{max_units};
 
 use crate::ascii::ascii_units;
 use crate::{Memory, Num, Prim, Primitive, Text16};
 use std::alloc::{AllocError, Global};
 
 /// The decimal text of a whole number.
+#[tactic(auto, using(crate::proofs::NumberTexts::number_short))]
 fn whole_text(alloc: Global, n: i64) -> Result<Vec<u16>, AllocError>
-    ensures { IfOk result (λ units. units.items ≡ signed_decimal n) }
+    ensures value { IfOk result (λ units. units.items ≡ signed_decimal n) }
+    ensures within { IfOk result (λ units. length units.items ≤ max_units) }
 {
     let text = format!(in alloc; "{n}")?;
     ascii_units(alloc, text.as_bytes())
@@ -16,7 +19,8 @@ fn whole_text(alloc: Global, n: i64) -> Result<Vec<u16>, AllocError>
 
 /// The units of the text of a value.
 pub fn text_units(alloc: Global, a: &Prim) -> Result<Vec<u16>, AllocError>
-    ensures { IfOk result (λ units. units.items ≡ spec.to_text a.now) }
+    ensures value { IfOk result (λ units. units.items ≡ spec.to_text a.now) }
+    ensures within { IfOk result (λ units. length units.items ≤ max_units) }
 {
     match a {
         Primitive::Undefined => ascii_units(alloc, b"undefined"),

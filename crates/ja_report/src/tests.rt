@@ -10,8 +10,8 @@ use ja_prim::{Int, Text16};
 use std::alloc::Global;
 use std::test::Fail;
 
-fn text(alloc: Global, units: &[u16]) -> Result<Text16, Fail> {
-    Ok(Text16::from_units(units.to_vec(alloc)?))
+fn text(alloc: Global, units: &str) -> Result<Text16, Fail> {
+    Ok(Text16::from_str(alloc, units)?)
 }
 
 /// A program with the global object, one site of its text, and the names `x1`, `1x` and the empty one.
@@ -23,7 +23,7 @@ fn program(alloc: Global) -> Result<Program, Fail> {
         owner: None,
         calls: None,
         constructs: None,
-        builtin: Some(text(alloc, &[103, 108, 111, 98, 97, 108])?),
+        builtin: Some(text(alloc, "global")?),
     })?;
     sites.push(SiteInfo {
         class: Class::Error,
@@ -37,9 +37,9 @@ fn program(alloc: Global) -> Result<Program, Fail> {
         builtin: None,
     })?;
     let mut names = Vec::new(alloc);
-    names.push(text(alloc, &[120, 49])?)?;
-    names.push(text(alloc, &[49, 120])?)?;
-    names.push(text(alloc, &[])?)?;
+    names.push(text(alloc, "x1")?)?;
+    names.push(text(alloc, "1x")?)?;
+    names.push(text(alloc, "")?)?;
     Ok(Program {
         functions: Seq::new(alloc),
         text_functions: 1,
@@ -80,7 +80,7 @@ fn values(rt: HostRuntime) -> Result<(), Fail> {
     push_primitive_parts(&mut out, flags)?;
     let minus_five = Int::new(-5).ok_or("-5")?;
     push_number_part(&mut out, NumberPart::One(minus_five))?;
-    let constant = text(alloc, &[97, 34, 92, 233, 10, 65535])?;
+    let constant = text(alloc, "a\"\\\u{e9}\n\u{ffff}")?;
     push_text_part(&mut out, &TextPart::One(constant))?;
     close_parts(&mut out, 0)?;
     let expected = b"entry|undefined|NaN|-5|\"a\\\"\\\\\\u00e9\\u000a\\uffff\"";

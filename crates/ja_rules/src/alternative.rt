@@ -12,13 +12,10 @@ use crate::{DemandList, Outcome, Reader};
 use ja_base::{Label, Memory, NameId, NodeId, Reg, Site};
 use ja_graph::{Attrs, MESSAGE, NodeInfo, Program, THROWN};
 use ja_model::{Key, Slot};
-use ja_prim::{Text16, push_ascii};
+use ja_prim::{MAX_UNITS, Text16, push_ascii};
 use ja_state::AState;
 use ja_value::{AProp, AValue, exact_attrs, unknown_attrs};
 use std::alloc::Global;
-
-/// The greatest length of a text.
-const MAX_UNITS: usize = 1_048_576;
 
 /// No attribute is set.
 pub(crate) const NO_ATTRS: Attrs = Attrs {
@@ -88,16 +85,16 @@ impl Reader<'_> {
         info: &NodeInfo,
         error: Site,
         prototype: Site,
-        message: Text16,
+        message: Vec<u16>,
     ) -> Result<Alternative, Memory>
         requires { 0 < vec_len self.now.state.now.registers }
-        ensures { IfOk result (IsGiven (vec_len self.now.state.now.registers) (throws (view_of self.now) is_thrown info.now error prototype message)) }
+        ensures { IfOk result (IsGiven (vec_len self.now.state.now.registers) (throws (view_of self.now) is_thrown info.now error prototype message.items)) }
     {
         let is_given = is_thrown & is_text_length(&message);
         if !is_given {
             return Ok(None);
         }
-        let state = self.with_error(error, prototype, message)?;
+        let state = self.with_error(error, prototype, Text16::from_units(message))?;
         Ok(Some((info.handler, state)))
     }
 
@@ -126,11 +123,11 @@ impl Reader<'_> {
     }
 }
 
-/// Whether a text isn't too long.
-fn is_text_length(text: &Text16) -> bool
-    ensures { result ≡ is_text_length text.now }
+/// Whether units aren't too many for a text.
+fn is_text_length(units: &[u16]) -> bool
+    ensures { result ≡ is_text_length units.now }
 {
-    text.units().len() <= MAX_UNITS
+    units.len() <= MAX_UNITS
 }
 
 /// The internal property of an object whose prototype is the object of a site.
@@ -158,25 +155,27 @@ fn message_property(alloc: Global, message: Text16) -> AProp
     }
 }
 
-/// The message that a name isn't bound.
+/// The units of the message that a name isn't bound. They may be too many for a text.
 pub(crate) fn unbound_message(
     alloc: Global,
     program: &Program,
     name: NameId,
-) -> Result<Text16, Memory>
+) -> Result<Vec<u16>, Memory>
     requires { name.0 < length program.now.names }
-    ensures { IfOk result (λ t. t ≡ unbound_message (name_text program.now name)) }
+    ensures { IfOk result (λ units. units.items ≡ unbound_message (name_text program.now name)) }
 {
     let mut units = program.names.as_slice()[name.0 as usize]
         .units()
         .to_vec(alloc)?;
     push_ascii(&mut units, IS_NOT_BOUND)?;
-    Ok(Text16::from_units(units))
+    Ok(units)
 }
 
-/// The message that a value is not a function.
-pub(crate) fn not_a_function_message(alloc: Global) -> Result<Text16, Memory>
-    ensures { IfOk result (λ t. t ≡ not_a_function_message) }
+/// The units of the message that a value is not a function.
+pub(crate) fn not_a_function_message(alloc: Global) -> Result<Vec<u16>, Memory>
+    ensures { IfOk result (λ units. units.items ≡ not_a_function_message) }
 {
-    Ok(Text16::from_ascii(alloc, NOT_A_FUNCTION)?)
+    let mut units = Vec::new(alloc);
+    push_ascii(&mut units, NOT_A_FUNCTION)?;
+    Ok(units)
 }

@@ -35,7 +35,7 @@ fn add_declared<'a>(
     ensures { OnOk result (names.new ≡ fold with_name names.old (spec.declared_names declarations.now)) }
 {
     for declaration in declarations {
-        names.add(declaration.name.text.units())?;
+        names.add(&declaration.name.text)?;
     }
     Ok(())
 }
@@ -56,7 +56,7 @@ fn add_target<'a>(names: &mut Names<'a>, target: &'a ForTarget<Expression>) -> R
     ensures { OnOk result (names.new ≡ fold with_name names.old (spec.target_names target.now)) }
 {
     match target {
-        ForTarget::Variable(declaration) => names.add(declaration.name.text.units()),
+        ForTarget::Variable(declaration) => names.add(&declaration.name.text),
         ForTarget::Reference(_) => Ok(()),
     }
 }

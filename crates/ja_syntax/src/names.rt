@@ -13,7 +13,7 @@ use std::marker::Model;
 /// Names, each once, in the order in which they were added. Contracts see the list of texts.
 #[derive(Drop)]
 pub(crate) struct Names<'a> {
-    texts: Vec<&'a [u16]>,
+    texts: Vec<&'a Text16>,
     known: BTreeMap<&'a [u16], ()>,
 }
 
@@ -44,14 +44,15 @@ impl<'a> Names<'a> {
     }
 
     /// Adds a name, if it isn't one yet.
-    pub(crate) fn add(&mut self, text: &'a [u16]) -> Result<(), Memory>
+    pub(crate) fn add(&mut self, text: &'a Text16) -> Result<(), Memory>
         ensures { OnOk result (self.new ≡ with_name self.old text.now) }
     {
-        if self.known.contains_key(text) {
+        let units = text.units();
+        if self.known.contains_key(units) {
             return Ok(());
         }
         self.texts.reserve(1)?;
-        self.known.insert(text, ())?;
+        self.known.insert(units, ())?;
         self.texts.push(text)?;
         Ok(())
     }
@@ -62,7 +63,7 @@ impl<'a> Names<'a> {
     {
         let mut texts = Items::new(alloc);
         for text in &self.texts {
-            texts.push(Text16::from_slice(alloc, text)?)?;
+            texts.push(text.copy(alloc)?)?;
         }
         Ok(texts)
     }

@@ -7,8 +7,8 @@ use std::alloc::Global;
 use std::collections::BTreeMap;
 use std::test::Fail;
 
-fn text(alloc: Global, units: &[u16]) -> Result<Text16, Fail> {
-    Ok(Text16::from_units(units.to_vec(alloc)?))
+fn text(alloc: Global, units: &str) -> Result<Text16, Fail> {
+    Ok(Text16::from_str(alloc, units)?)
 }
 
 #[test]
@@ -22,13 +22,13 @@ fn values_join(rt: HostRuntime) -> Result<(), Fail> {
     assert!(rt; value.join(alloc, &AValue::of_number(alloc, minus_one))?);
     assert_eq!(rt; value.number, NumberPart::Whole);
 
-    let word = AValue::of_text(alloc, text(alloc, &[120])?);
+    let word = AValue::of_text(alloc, text(alloc, "x")?);
     assert!(rt; value.join(alloc, &word)?);
-    let other = AValue::of_text(alloc, text(alloc, &[48, 49])?);
+    let other = AValue::of_text(alloc, text(alloc, "01")?);
     assert!(rt; value.join(alloc, &other)?);
     assert!(rt; matches!(value.text, TextPart::OtherText));
-    assert!(rt; is_index_text(&text(alloc, &[52, 50, 57, 52, 57, 54, 55, 50, 57, 52])?));
-    assert!(rt; !is_index_text(&text(alloc, &[52, 50, 57, 52, 57, 54, 55, 50, 57, 53])?));
+    assert!(rt; is_index_text(&text(alloc, "4294967294")?));
+    assert!(rt; !is_index_text(&text(alloc, "4294967295")?));
     Ok(())
 }
 

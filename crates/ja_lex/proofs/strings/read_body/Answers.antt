@@ -8,7 +8,7 @@ use Rattle.ja_lex.proofs.strings.read_body.Goals as goal
 pub returns-then-first-quote-clause-value : goal.returns-then-first-quote-clause-value
 returns-then-first-quote-clause-value c =
     let e : get_or c.items.rest.now 0 0 ≡ c.args.quote = sym (get_or_read c.items.rest.now _ _ (omega arith) c.first-item.is 0) ∙ c.if-first-quote.true in
-    rw c.from_units.ensures (closed_at c.items.units.items c.items.octal c.items.count
+    rw c.from_vec.ensures (closed_at c.items.units.items c.items.octal c.items.count
     ∙ sym (ap (option_map (prefixed c.items.units.items c.items.octal c.items.count)) (body_closed c.args.quote c.items.rest.now c.in-len1-up.len_at_least e)) ∙ c.items.invariant.same)
 
 pub returns-then-is_wrong-clause-value : goal.returns-then-is_wrong-clause-value

@@ -13,4 +13,4 @@ pub returns-in_default : goal.returns-in_default
 returns-in_default c =
     let items = c.loop-class.sites.items in
     let none = zip-end (drop c.loop-class.class-index c.args.classes.now) c.loop-class.left.now c.in_default.len_below in
-    sym (append-nil items) ∙ ap (λ rows. items ++ map (λ row. builtin_site row.0 row.1.now) rows) (sym none) ∙ c.loop-class.invariant
+    sym (append-nil items) ∙ ap (λ rows. items ++ map (λ row. builtin_site row.0 row.1) rows) (sym none) ∙ c.loop-class.invariant
