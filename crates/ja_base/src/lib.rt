@@ -18,6 +18,3 @@ pub use source::Source;
 pub use std_streams::{StdSink, StdSource};
 pub use sure_streams::{SureSink, SureSource};
 pub use whole::{ReadFault, read_all, write_all};
-
-#[cfg(test)]
-mod stream_tests;

@@ -15,6 +15,3 @@ pub use entries::DemandedEntries;
 pub use keys::key_number;
 pub use object::AObject;
 pub use state::AState;
-
-#[cfg(test)]
-mod tests;

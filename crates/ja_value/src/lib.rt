@@ -15,6 +15,3 @@ pub use texts::{
     copy_text_part, is_index_text, join_texts, same_text, same_texts, text_class, widen_text,
 };
 pub use value::{AValue, join_flags, same_flags, widen_flags};
-
-#[cfg(test)]
-mod tests;

@@ -1,6 +1,6 @@
-use crate::{AObject, AState, DemandedEntries};
 use ja_base::{Label, NameId, Reg, Site};
 use ja_model::{Key, Mask, Slot};
+use ja_state::{AObject, AState, DemandedEntries};
 use ja_value::{AProp, AValue};
 use std::test::Fail;
 

@@ -1,8 +1,8 @@
-use crate::{AProp, AValue, LabelSet, exact_attrs, is_index_text};
 use ja_base::{Label, Site};
 use ja_graph::Attrs;
 use ja_model::{Mask, NumberPart, TextPart};
 use ja_prim::{Int, Num, Primitive, Text16};
+use ja_value::{AProp, AValue, LabelSet, exact_attrs, is_index_text};
 use std::alloc::Global;
 use std::collections::BTreeMap;
 use std::test::Fail;

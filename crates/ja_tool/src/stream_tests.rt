@@ -1,4 +1,4 @@
-use crate::{
+use ja_base::{
     MemorySink, MemorySource, ReadFault, Sink, StdSink, StdSource, SureSink, SureSource, read_all,
     write_all,
 };
