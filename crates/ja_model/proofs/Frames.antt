@@ -24,23 +24,34 @@ use Rattle.ja_model.proofs.Lists.{slice_get-set_same, slice_get-set_other, slice
 use Rattle.ja_model.proofs.Growing.{IsRunHeap}
 use Rattle.ja_model.proofs.Closed.{HasWithin}
 
--- the program's frame: where it came from, its registers, and that they hold values of the heap
+-- the program's frame: where it came from and stands, its registers, and that they hold values of the heap
 pub record IsRunFrame (p : Program) (text : Function) (h : Heap) (f : Frame) : Type 0 where
   pub function_is : f.function ≡ program_function
+  pub node_fits : f.node.0 < length text.nodes
   pub born_is : f.born ≡ 0
   pub receiver_is : f.receiver ≡ first_of global
   pub registers_are : length f.registers ≡ text.registers
   pub values : (r : ℕ) (v : Value) → slice_get f.registers r ≡ Some v → IsValueOf h v
 
--- A state of a run: its heap and its frame are as they should be, and the table's state at its node holds.
-pub record IsKept (p : Program) (text : Function) (t : Table) (c : Conf) : Type 0 where
+-- a state of a run: its heap and its frame are as they should be
+pub record IsRun (p : Program) (text : Function) (c : Conf) : Type 0 where
   pub frame : Frame
   pub frames_are : c.frames ≡ frame ∷ []
   pub run_heap : IsRunHeap p c.heap
   pub run_frame : IsRunFrame p text c.heap frame
+
+-- the table's state at its node holds
+pub record IsHeld (p : Program) (t : Table) (c : Conf) : Type 0 where
+  pub frame : Frame
+  pub frames_are : c.frames ≡ frame ∷ []
   pub state : AbstractState
   pub state_is : t.state root frame.node.0 ≡ Some state
   pub holds : Holds p (opening_heap p) c.heap frame state
+
+-- the frame of the state is one of a run
+pub run_frame_of : (p : Program) (text : Function) (c : Conf) → IsRun p text c → (f : Frame) → c.frames ≡ f ∷ [] → IsRunFrame p text c.heap f
+run_frame_of p text c run f e =
+    subst (λ g. IsRunFrame p text c.heap g) (same_Some run.frame f (ap (λ (fs : List Frame). slice_get fs 0) (sym run.frames_are ∙ e))) run.run_frame
 
 -- of the state that an event leads to
 abbrev pub OnNext : (Conf → Type 0) → Event → Type 0
@@ -52,13 +63,11 @@ abbrev pub OnStep : (Conf → Type 0) → Option Event → Type 0
 OnStep P None = Unit {0}
 OnStep P (Some e) = OnNext P e
 
--- a state of a run from its parts
-pub kept_next : (p : Program) (text : Function) (t : Table) (h : Heap) (f : Frame) (steps : ℕ) (b : AbstractState) → IsRunHeap p h → IsRunFrame p text h f → HasWithin p t f.node.0 b → Holds p (opening_heap p) h f b → IsKept p text t (record { heap = h; frames = f ∷ []; steps = steps })
-kept_next p text t h f steps b run_heap run_frame has holds = record {
+-- a state that is held from its parts
+pub held_next : (p : Program) (t : Table) (h : Heap) (f : Frame) (steps : ℕ) (b : AbstractState) → HasWithin p t f.node.0 b → Holds p (opening_heap p) h f b → IsHeld p t (record { heap = h; frames = f ∷ []; steps = steps })
+held_next p t h f steps b has holds = record {
   frame = f;
   frames_are = refl;
-  run_heap = run_heap;
-  run_frame = run_frame;
   state = has.state;
   state_is = has.state_is;
   holds = has.within.holds (opening_heap p) h f holds;
@@ -88,9 +97,10 @@ written_cases registers d r v u l e =
 
 module _ (p : Program) (text : Function) (h now : Heap) (f : Frame) (stays : (v : Value) → IsValueOf h v → IsValueOf now v) (k : IsRunFrame p text h f) where
   -- the frame goes on with a result
-  pub IsRunFrame-with_result : (dst : Reg) (v : Value) (next : NodeId) → dst.0 < length f.registers → IsValueOf now v → IsRunFrame p text now (with_result f dst v next)
-  IsRunFrame-with_result dst v next l o = record {
+  pub IsRunFrame-with_result : (dst : Reg) (v : Value) (next : NodeId) → next.0 < length text.nodes → dst.0 < length f.registers → IsValueOf now v → IsRunFrame p text now (with_result f dst v next)
+  IsRunFrame-with_result dst v next fits l o = record {
     function_is = k.function_is;
+    node_fits = fits;
     born_is = k.born_is;
     receiver_is = k.receiver_is;
     registers_are = length-set f.registers dst.0 v ∙ k.registers_are;
@@ -98,9 +108,10 @@ module _ (p : Program) (text : Function) (h now : Heap) (f : Frame) (stays : (v 
   }
 
   -- .. or without one
-  pub IsRunFrame-moved : (next : NodeId) → IsRunFrame p text now (moved_to f next)
-  IsRunFrame-moved next = record {
+  pub IsRunFrame-moved : (next : NodeId) → next.0 < length text.nodes → IsRunFrame p text now (moved_to f next)
+  IsRunFrame-moved next fits = record {
     function_is = k.function_is;
+    node_fits = fits;
     born_is = k.born_is;
     receiver_is = k.receiver_is;
     registers_are = k.registers_are;

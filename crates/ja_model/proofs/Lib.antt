@@ -1,5 +1,7 @@
 pub mod Attributes
+pub mod Chains
 pub mod Closed
+pub mod Edges
 pub mod Entered
 pub mod Frames
 pub mod Growing
@@ -15,9 +17,11 @@ pub mod Order
 pub mod Parts
 pub mod Resolved
 pub mod Rounds
+pub mod Running
 pub mod Runs
 pub mod Searches
 pub mod Steps
+pub mod Throwing
 pub mod Values
 pub mod Walks
 pub mod Written

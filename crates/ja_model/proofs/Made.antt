@@ -1,8 +1,7 @@
 -- The state after an object more was made holds, and so does the one in which an error was made and thrown.
-use Rattle.std.proofs.Common.{◌≡◌, ◌≢◌, ◌⊎◌, ℕ, suc, ◌<◌, ◌≤◌, Bool, true, false, cond, List, [], length, Some, None, inl, inr, refl, sym, ap, ◌∙◌, subst, arith}
+use Rattle.std.proofs.Common.{◌≡◌, ◌≢◌, ◌⊎◌, ℕ, suc, ◌<◌, ◌≤◌, true, false, List, [], length, Some, None, inl, inr, refl, sym, ap, ◌∙◌, subst, arith}
 use Rattle.std.specs.Prelude.{IsTrue, slice_get, unwrap_or, ◌||◌, ◌==◌}
 use Rattle.std.specs.Bool.{beq}
-use Rattle.std.specs.Option.{is_some}
 use Rattle.std.proofs.lemmas.Bool.{and_parts, and_from, and_left, and_right, or_left, or_right, cases_Bool, cases_eq, false≢true, eq-eqb, ne_eqb, cond-true, cond-false, false_from_ne_true}
 use lib.Chars.{codes}
 use Rattle.ja_base.specs.declared.ids.Label.{Label}
@@ -26,7 +25,7 @@ use Rattle.ja_model.specs.declared.machine.Object.{Object}
 use Rattle.ja_model.specs.declared.machine.Heap.{Heap}
 use Rattle.ja_model.specs.declared.machine.Frame.{Frame}
 use Rattle.ja_model.specs.Heap.{count, with_new, new_address, same_text, no_attrs}
-use Rattle.std.proofs.lemmas.Option.{same_Some, slice_get_within}
+use Rattle.std.proofs.lemmas.Option.{slice_get_within}
 use Rattle.ja_model.specs.Machine.{name_text, first_of, error_object, thrown, with_result}
 use Rattle.ja_model.specs.AbstractValue.{AbstractValue, AbstractProperty, join_properties, same_label, of_label, bare, absent_property}
 use Rattle.ja_model.specs.AbstractState.{AbstractState, new, old, same_key, with_property, aged, aged_property, made_property, with_made, exactly_some}
@@ -34,14 +33,13 @@ use Rattle.ja_model.specs.Reading.{prototype}
 use Rattle.ja_model.specs.Transfer.{message_property, with_error}
 use Rattle.ja_model.specs.Meaning.{property_content, SpotContent, missing, held, present, present_row, Spot, named, internal, content, object_content, label_of, key_of, has_primitive, has_value, knows, allows_attrs, Holds, IsAsAtEntry}
 use Rattle.ja_model.proofs.Interface.{IsObjectOf, IsValueOf, IsContentOf, Grows}
-use Rattle.ja_model.proofs.Resolved.{object_from_ordinal}
 use Rattle.ja_model.proofs.Heaps
 use Rattle.ja_model.proofs.Nodes.{message_is}
 use Rattle.ja_model.proofs.Keys.{same_key-true, key_of-name}
 use Rattle.ja_model.proofs.Labels.{same_label-self, same_label_from}
 use Rattle.ja_model.proofs.Values.{knows-join_left, knows-join_right}
 use Rattle.ja_model.proofs.Entered.{of_primitive_has, of_attrs_allows, text_of_key, no_slot_of_text}
-use Rattle.ja_model.proofs.Growing.{IsRunHeap, IsFitting}
+use Rattle.ja_model.proofs.Growing.{IsRunHeap}
 use Rattle.ja_model.proofs.Frames.{registers_with_result}
 
 -- a label of a site is the new one or the old one
@@ -172,28 +170,6 @@ module _ (p : Program) (e h : Heap) (s : Site) (o : Object) (row : s.0 < length 
 -- ---- an error that is made and thrown
 
 module _ (p : Program) (good : IsWellFormed p) (e h : Heap) (s proto : Site) (text : List ℕ) (a : AbstractState) (f : Frame) (known : IsRunHeap p h) (node_site : length p.opening ≤ s.0) (in_range : s.0 < length p.sites) (first : proto.0 < length p.opening) where
-  -- the error can be made in a heap of the run
-  pub fitting : IsFitting h (error_object proto text)
-  fitting = record {
-    inside = inside_error;
-    prototype = λ b link. subst (λ c. IsObjectOf h c) (same_Some _ _ link) first_there;
-    outer = λ b link. absurd (false≢true (ap is_some link));
-  }
-    where
-      first_there : IsObjectOf h (first_of proto)
-      first_there = object_from_ordinal h (first_of proto) (let one : count h proto ≡ 1 = known.single proto first in omega arith)
-
-      inside_named : (u : List ℕ) (b : Bool) → IsContentOf h (property_content (cond b (Some (record { name = codes "message"; content = contents.Value (value.Primitive (primitive.Text text)); attrs = no_attrs })) None))
-      inside_named u true = tt
-      inside_named u false = tt
-
-      inside_error : (x : Spot) → IsContentOf h (object_content (error_object proto text) x)
-      inside_error (named u) = inside_named u (same_text (codes "message") u)
-      inside_error (internal slot.Prototype) = first_there
-      inside_error (internal slot.Outer) = tt
-      inside_error (internal slot.Scope) = tt
-      inside_error (internal slot.Value) = tt
-
   error_state : AbstractState
   error_state = with_property (with_property (with_made a s) (new s) prototype (bare (of_label (new proto)))) (new s) (key.Name message) (message_property text)
 

@@ -20,7 +20,7 @@ use Rattle.ja_model.specs.AbstractState.{same_key}
 use Rattle.ja_model.specs.Meaning.{label_of, has_value, named, internal, key_of}
 use Rattle.ja_model.specs.Reading.{View, demands_of, outer, own, may_be_absent, some_label, may_lack, may_have, join_values, got, demands_of_walk, next_scope, searched, found, demands_of_search}
 use Rattle.ja_model.specs.Transfer.{read_value, demands_of_read}
-use Rattle.ja_model.proofs.Interface.{IsObjectOf, IsValueOf, IsFilled, IsRead}
+use Rattle.ja_model.proofs.Interface.{IsObjectOf, IsFilled, IsRead}
 use Rattle.ja_model.proofs.Keys.{same_key-self}
 use Rattle.ja_model.proofs.Parts.{has_value-join_values, absent-join_values, has_value-as_read}
 use Rattle.ja_model.proofs.Rounds.{reached-start, reached-next}
@@ -61,15 +61,6 @@ module _ (p : Program) (e c : Heap) (w : View) (r : IsRead p e c w) (t : List �
     pub read_value-read : (v : Value) → read c a t ≡ contents.Value v → IsTrue (has_value c (read_value w base k) v)
     read_value-read v holds = read_by (heap.get c a t) refl v holds
 
-    -- by what [[Get]] finds
-    read_of_heap_by : (g : Option Property) → heap.get c a t ≡ g → (v : Value) → option_map_or (λ (q : Property). q.content) g (contents.Value undefined) ≡ contents.Value v → IsValueOf c v
-    read_of_heap_by (Some q) is v holds = (got-Some p e c w r t k same a o (filled_walk base filled a o b) q is).of_heap v holds
-    read_of_heap_by None is v holds = subst (λ u. IsValueOf c u) (ap value_in holds) tt
-
-    -- .. and is undefined or a value of the heap
-    pub read-of_heap : (v : Value) → read c a t ≡ contents.Value v → IsValueOf c v
-    read-of_heap v holds = read_of_heap_by (heap.get c a t) refl v holds
-
   -- ---- searching
 
   module _ (start : Labels) (filled : IsFilled w.entries (demands_of_search w start k)) where
@@ -108,11 +99,6 @@ module _ (p : Program) (e c : Heap) (w : View) (r : IsRead p e c w) (t : List �
         let there : IsTrue (some_label w (λ l. searched w start k l && may_lack w l k && may_be_absent w l outer)) = some_label-object p e c w r (λ l. searched w start k l && may_lack w l k && may_be_absent w l outer) d last.is_object (and_three _ _ _ last.is_reached lack ends) in
         has_value-join_right c (of_labels with_name) at_end (name_base None) (subst (λ v. IsTrue (has_value c v (name_base None))) (sym (cond-true (some_label w (λ l. searched w start k l && may_lack w l k && may_be_absent w l outer)) null_value no_value there)) refl)
 
-    -- by how the search in the heap ends
-    of_heap_by : (d : Option Addr) → Searched c (searched w start k) t d → IsValueOf c (name_base d)
-    of_heap_by (Some d) here = here.is_object
-    of_heap_by None last = tt
-
     module _ (a : Addr) (o : IsObjectOf c a) (s : IsTrue (start (label_of c a))) where
       -- how the search from it ends
       name_searched : Searched c (searched w start k) t (find (λ (b : Addr). heap.has c b t) (heap.scopes c a))
@@ -121,7 +107,3 @@ module _ (p : Program) (e c : Heap) (w : View) (r : IsRead p e c w) (t : List �
       -- the base of a name is in the value that the abstract search gives
       pub found-find_name : IsTrue (has_value c (found w start k) (find_name c a t))
       found-find_name = found_by (find (λ (b : Addr). heap.has c b t) (heap.scopes c a)) name_searched
-
-      -- .. and is null or an object of the heap
-      pub find_name-of_heap : IsValueOf c (find_name c a t)
-      find_name-of_heap = of_heap_by (find (λ (b : Addr). heap.has c b t) (heap.scopes c a)) name_searched

@@ -19,7 +19,7 @@ use Rattle.ja_model.specs.AbstractValue.{Labels, AbstractValue, same_label, is_p
 use Rattle.ja_model.specs.AbstractState.{same_key}
 use Rattle.ja_model.specs.Meaning.{label_of, has_value, Spot, named, internal, missing, content, content_of, held_address, property_content, key_of, knows, allows, allows_attrs}
 use Rattle.ja_model.specs.Reading.{View, demands_of, prototype, own, may_be_absent, may_be_present, some_label, next_prototype, asked, ends_at, may_lack, may_have, join_values, got, may_refuse, may_accept, demands_of_walk}
-use Rattle.ja_model.proofs.Interface.{IsObjectOf, IsValueOf, IsContentOf, IsHeap, IsFilled, IsRead}
+use Rattle.ja_model.proofs.Interface.{IsObjectOf, IsContentOf, IsHeap, IsFilled, IsRead}
 use Rattle.ja_model.proofs.Keys.{same_key-self}
 use Rattle.ja_model.proofs.Labels.{IsAmong, same_label-self, some_among}
 use Rattle.ja_model.proofs.Rounds.{reached-start, reached-next}
@@ -88,7 +88,7 @@ outer_before p h good a b e =
     good.outer_before a b o at is
 
 -- what an own property holds is of the heap
-own-content : (p : Program) (h : Heap) → IsHeap p h → (a : Addr) (t : List ℕ) (q : Property) → heap.own h a t ≡ Some q → IsContentOf h (content_of q.content q.attrs)
+pub own-content : (p : Program) (h : Heap) → IsHeap p h → (a : Addr) (t : List ℕ) (q : Property) → heap.own h a t ≡ Some q → IsContentOf h (content_of q.content q.attrs)
 own-content p h good a t q e = subst (IsContentOf h) (content-named h a t ∙ ap property_content e) (good.inside a (named t))
 
 -- ---- what the walk along prototypes ends with
@@ -225,7 +225,6 @@ module _ (p : Program) (h : Heap) (good : IsHeap p h) (set : Labels) (t : List �
 
 -- the walk may find the property: its value, if it has one, and its attributes are known
 pub record Gets (c : Heap) (w : View) (l : Label) (k : Key) (q : Property) : Type 0 where
-  pub of_heap : (v : Value) → q.content ≡ contents.Value v → IsValueOf c v
   pub found : (v : Value) → q.content ≡ contents.Value v → IsTrue (has_value c (got w l k) v)
   pub had : IsTrue (may_have w l k)
   pub refused : q.attrs.read_only ≡ true → IsTrue (may_refuse w l k)
@@ -314,7 +313,6 @@ module _ (p : Program) (e c : Heap) (w : View) (r : IsRead p e c w) (t : List �
         let known : IsTrue (knows c (own w m k) (content_of q.content q.attrs)) = knows-own d holder.is_object filled_d q holder.has_own in
         let allowed : IsTrue (allows (own w m k).attrs.read_only q.attrs.read_only) = (and_three_parts (allows (own w m k).attrs.read_only q.attrs.read_only) (allows (own w m k).attrs.dont_enum q.attrs.dont_enum) (allows (own w m k).attrs.dont_delete q.attrs.dont_delete) (allows_attrs-known c (own w m k) q.content q.attrs known)).0 in
         record {
-          of_heap = λ v is. subst (λ x. IsContentOf c (content_of x q.attrs)) is (own-content p c r.heap_now d t q holder.has_own);
           found = λ v is. has_value-join_left c (join_values (map (λ (x : Label). if asked w l k x then present_part (own w x k).value else no_value) w.labels)) (if may_lack w l k then absent_value else no_value) v (has_value-join_values c (λ (x : Label). if asked w l k x then present_part (own w x k).value else no_value) w.labels m v (label-among p e c w r d holder.is_object) (subst (λ u. IsTrue (has_value c u v)) (sym (cond-true (asked w l k m) (present_part (own w m k).value) no_value holder.is_reached)) (has_value-present_part c (own w m k).value v (and_parts (has_value c (own w m k).value v) (allows_attrs (own w m k).attrs q.attrs) (subst (λ x. IsTrue (knows c (own w m k) (content_of x q.attrs))) is known)).0)));
           had = some_label-object p e c w r (λ x. asked w l k x && may_be_present w x k) d holder.is_object (and_from _ _ holder.is_reached there);
           refused = λ set. some_label-object p e c w r (λ x. asked w l k x && may_be_present w x k && (own w x k).attrs.read_only.set) d holder.is_object (and_three _ _ _ holder.is_reached there (subst (λ b. IsTrue (allows (own w m k).attrs.read_only b)) set allowed));

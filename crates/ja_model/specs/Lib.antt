@@ -4,6 +4,7 @@ pub mod Heap
 pub mod Machine
 pub mod Meaning
 pub mod Reading
+pub mod Runs
 pub mod Sound
 pub mod Table
 pub mod Transfer

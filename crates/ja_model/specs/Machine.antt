@@ -14,7 +14,7 @@ use Rattle.ja_prim.specs.declared.primitive.Num.TheVariants.{Whole}
 use Rattle.ja_prim.specs.declared.primitive.Primitive.TheVariants.{Undefined, Null, Number, Text}
 use Rattle.ja_prim.specs.Texts.{max_units}
 use Rattle.ja_graph.specs.declared.node.Node.{Node}
-use Rattle.ja_graph.specs.declared.node.Node.TheVariants.{Const, FindName, ReadRef, WriteRef, Call, Return, Escape}
+use Rattle.ja_graph.specs.declared.node.Node.TheVariants as node
 use Rattle.ja_graph.specs.declared.node.NodeInfo.{NodeInfo}
 use Rattle.ja_graph.specs.declared.program.Function.{Function}
 use Rattle.ja_graph.specs.declared.program.ObjectSpec.{ObjectSpec}
@@ -195,15 +195,41 @@ leaves c [] e = Some (end_state c e)
 leaves c (f ∷ below) e = None
 
 abbrev pub node_step : Program → Conf → Frame → List Frame → NodeInfo → Node → Option Event
-node_step p c f below info (Const dst v) = Some (next_state c c.heap (with_result f dst (value.Primitive v) info.next) below)
-node_step p c f below info (FindName dst name) = Some (find_name_step p c f below info dst name (register_of f scope))
-node_step p c f below info (ReadRef dst base name error) = Some (read_step p c f below info dst name error (register_of f base))
-node_step p c f below info (WriteRef base name src) = Some (write_step p c f below info name (register_of f src) (register_of f base))
-node_step p c f below info (Call dst callee receiver args error) = Some (call_step c f below info error (register_of f callee))
-node_step p c f below info (Return src) = leaves c below ending.Normal
-node_step p c f below info Escape = leaves c below (ending.Uncaught (register_of f thrown))
--- the other kinds aren't built yet
-node_step p c f below info node = None
+node_step p c f below info (node.Const dst v) = Some (next_state c c.heap (with_result f dst (value.Primitive v) info.next) below)
+node_step p c f below info (node.FindName dst name) = Some (find_name_step p c f below info dst name (register_of f scope))
+node_step p c f below info (node.ReadRef dst base name error) = Some (read_step p c f below info dst name error (register_of f base))
+node_step p c f below info (node.WriteRef base name src) = Some (write_step p c f below info name (register_of f src) (register_of f base))
+node_step p c f below info (node.Call dst callee receiver args error) = Some (call_step c f below info error (register_of f callee))
+node_step p c f below info (node.Return src) = leaves c below ending.Normal
+node_step p c f below info node.Escape = leaves c below (ending.Uncaught (register_of f thrown))
+-- the kinds that aren't built have no step
+node_step p c f below info (node.Move dst src) = None
+node_step p c f below info (node.ReadSoft dst base name) = None
+node_step p c f below info (node.DeleteRef dst base name) = None
+node_step p c f below info (node.ToObject dst src sites error) = None
+node_step p c f below info (node.NeedObject src error) = None
+node_step p c f below info (node.ReadProp dst object key) = None
+node_step p c f below info (node.WriteProp object key src error) = None
+node_step p c f below info (node.DeleteProp dst object key) = None
+node_step p c f below info (node.HasProp dst object key) = None
+node_step p c f below info (node.InstanceOf dst left right not_function not_object) = None
+node_step p c f below info (node.NewObject dst site kind) = None
+node_step p c f below info (node.MakeFunction dst function site proto_site) = None
+node_step p c f below info (node.Enter site arguments) = None
+node_step p c f below info (node.Declare name) = None
+node_step p c f below info (node.Bind name src read_only) = None
+node_step p c f below info (node.PushScope site) = None
+node_step p c f below info (node.Convert dst src hint other) = None
+node_step p c f below info (node.Unary dst op src) = None
+node_step p c f below info (node.Binary dst op a b) = None
+node_step p c f below info (node.Branch src) = None
+node_step p c f below info (node.New dst callee args site error) = None
+node_step p c f below info (node.Names list object) = None
+node_step p c f below info (node.Pick list dst object) = None
+node_step p c f below info (node.Throw src) = None
+node_step p c f below info (node.Intrinsic dst which args) = None
+node_step p c f below info (node.Device dst which) = None
+node_step p c f below info (node.Stop kind) = None
 
 -- a step of the top frame; nothing where no frame is left or it stands at no node
 abbrev pub frames_step : Program → Conf → List Frame → Option Event

@@ -6,7 +6,7 @@ use Rattle.ja_base.specs.declared.ids.Reg.{Reg}
 use Rattle.ja_base.specs.declared.ids.Site.{Site}
 use Rattle.ja_prim.specs.declared.primitive.Primitive.TheVariants as primitive
 use Rattle.ja_graph.specs.declared.node.Node.{Node}
-use Rattle.ja_graph.specs.declared.node.Node.TheVariants.{Const, FindName, ReadRef, WriteRef, Call}
+use Rattle.ja_graph.specs.declared.node.Node.TheVariants as node
 use Rattle.ja_graph.specs.declared.node.NodeInfo.{NodeInfo}
 use Rattle.ja_graph.specs.declared.program.Program.{Program}
 use Rattle.ja_graph.specs.Program.{global, reference_error_prototype, type_error_prototype, message}
@@ -29,6 +29,9 @@ no_demands l k = false
 
 abbrev pub no_states : List (ℕ × AbstractState)
 no_states = []
+
+abbrev pub nowhere : Out
+nowhere = record { states = no_states; demands = no_demands }
 
 -- one state, if there is the alternative
 abbrev pub gives : Bool → NodeId → AbstractState → List (ℕ × AbstractState)
@@ -105,30 +108,59 @@ put w target k v next = put_at w target k v next (filter target w.labels)
 -- ---- one clause per kind of node
 
 abbrev pub transfer_node : Program → View → NodeInfo → Node → Out
-transfer_node p w info (Const dst v) =
+transfer_node p w info (node.Const dst v) =
     record { states = gives true info.next (with_register w.state dst (of_primitive v)); demands = no_demands }
-transfer_node p w info (FindName dst name) =
+transfer_node p w info (node.FindName dst name) =
     let start = (w.state.register scope.0).label in
     record { states = sets w dst (found w start (key.Name name)) info.next; demands = demands_of_search w start (key.Name name) }
-transfer_node p w info (ReadRef dst base name error) =
+transfer_node p w info (node.ReadRef dst base name error) =
     let b = w.state.register base.0 in
     record {
       states = throws w b.flags.null info error reference_error_prototype (unbound_message (name_text p name)) ++ sets w dst (read_value w b.label (key.Name name)) info.next;
       demands = demands_of_read w b.label (key.Name name);
     }
-transfer_node p w info (WriteRef base name src) =
+transfer_node p w info (node.WriteRef base name src) =
     let target = written_labels (w.state.register base.0) in
     record {
       states = put w target (key.Name name) (w.state.register src.0) info.next;
       demands = demands_of_read w target (key.Name name);
     }
-transfer_node p w info (Call dst callee receiver args error) =
+transfer_node p w info (node.Call dst callee receiver args error) =
     record {
       states = throws w (has_part w.labels (w.state.register callee.0)) info error type_error_prototype not_a_function_message;
       demands = no_demands;
     }
--- Return and Escape lead to no node; the other kinds aren't built yet
-transfer_node p w info node = record { states = no_states; demands = no_demands }
+-- the function is left, so no node of it is next
+transfer_node p w info (node.Return src) = nowhere
+transfer_node p w info node.Escape = nowhere
+-- the kinds that aren't built have no step
+transfer_node p w info (node.Move dst src) = nowhere
+transfer_node p w info (node.ReadSoft dst base name) = nowhere
+transfer_node p w info (node.DeleteRef dst base name) = nowhere
+transfer_node p w info (node.ToObject dst src sites error) = nowhere
+transfer_node p w info (node.NeedObject src error) = nowhere
+transfer_node p w info (node.ReadProp dst object key) = nowhere
+transfer_node p w info (node.WriteProp object key src error) = nowhere
+transfer_node p w info (node.DeleteProp dst object key) = nowhere
+transfer_node p w info (node.HasProp dst object key) = nowhere
+transfer_node p w info (node.InstanceOf dst left right not_function not_object) = nowhere
+transfer_node p w info (node.NewObject dst site kind) = nowhere
+transfer_node p w info (node.MakeFunction dst function site proto_site) = nowhere
+transfer_node p w info (node.Enter site arguments) = nowhere
+transfer_node p w info (node.Declare name) = nowhere
+transfer_node p w info (node.Bind name src read_only) = nowhere
+transfer_node p w info (node.PushScope site) = nowhere
+transfer_node p w info (node.Convert dst src hint other) = nowhere
+transfer_node p w info (node.Unary dst op src) = nowhere
+transfer_node p w info (node.Binary dst op a b) = nowhere
+transfer_node p w info (node.Branch src) = nowhere
+transfer_node p w info (node.New dst callee args site error) = nowhere
+transfer_node p w info (node.Names list object) = nowhere
+transfer_node p w info (node.Pick list dst object) = nowhere
+transfer_node p w info (node.Throw src) = nowhere
+transfer_node p w info (node.Intrinsic dst which args) = nowhere
+transfer_node p w info (node.Device dst which) = nowhere
+transfer_node p w info (node.Stop kind) = nowhere
 
 abbrev pub transfer : Program → Entries → AbstractState → NodeInfo → Out
 transfer p entries a info = transfer_node p (view_of p entries a) info info.node

@@ -7,7 +7,7 @@ use Rattle.ja_base.specs.declared.ids.NodeId.{NodeId}
 use Rattle.ja_base.specs.declared.ids.Place.{Place}
 use Rattle.ja_prim.specs.declared.primitive.Primitive.TheVariants as primitive
 use Rattle.ja_graph.specs.declared.node.Node.{Node}
-use Rattle.ja_graph.specs.declared.node.Node.TheVariants.{ReadRef, Call}
+use Rattle.ja_graph.specs.declared.node.Node.TheVariants as node
 use Rattle.ja_graph.specs.declared.node.NodeInfo.{NodeInfo}
 use Rattle.ja_graph.specs.declared.program.Program.{Program}
 use Rattle.ja_graph.specs.Program.{node_at}
@@ -25,20 +25,114 @@ use Rattle.ja_model.specs.Table.{Table}
 
 -- what may go wrong at a node
 abbrev pub kind_of : Node → Option WarningKind
-kind_of (Call dst callee receiver args error) = Some NotAFunction
-kind_of (ReadRef dst base name error) = Some UnboundName
-kind_of node = None
+kind_of (node.Call dst callee receiver args error) = Some NotAFunction
+kind_of (node.ReadRef dst base name error) = Some UnboundName
+kind_of (node.Const dst prim) = None
+kind_of (node.Move dst src) = None
+kind_of (node.FindName dst name) = None
+kind_of (node.ReadSoft dst base name) = None
+kind_of (node.WriteRef base name src) = None
+kind_of (node.DeleteRef dst base name) = None
+kind_of (node.ToObject dst src sites error) = None
+kind_of (node.NeedObject src error) = None
+kind_of (node.ReadProp dst object key) = None
+kind_of (node.WriteProp object key src error) = None
+kind_of (node.DeleteProp dst object key) = None
+kind_of (node.HasProp dst object key) = None
+kind_of (node.InstanceOf dst left right not_function not_object) = None
+kind_of (node.NewObject dst site kind) = None
+kind_of (node.MakeFunction dst function site proto_site) = None
+kind_of (node.Enter site arguments) = None
+kind_of (node.Declare name) = None
+kind_of (node.Bind name src read_only) = None
+kind_of (node.PushScope site) = None
+kind_of (node.Convert dst src hint other) = None
+kind_of (node.Unary dst op src) = None
+kind_of (node.Binary dst op a b) = None
+kind_of (node.Branch src) = None
+kind_of (node.New dst callee args site error) = None
+kind_of (node.Names list object) = None
+kind_of (node.Pick list dst object) = None
+kind_of (node.Throw src) = None
+kind_of (node.Return src) = None
+kind_of node.Escape = None
+kind_of (node.Intrinsic dst which args) = None
+kind_of (node.Device dst which) = None
+kind_of (node.Stop kind) = None
 
 -- the state allows it to go wrong: the callee has a part that can't be called (no part can yet), the base has null
 abbrev pub allows_fault : Program → AbstractState → Node → Bool
-allows_fault p a (Call dst callee receiver args error) = has_part (labels_of p) (a.register callee.0)
-allows_fault p a (ReadRef dst base name error) = (a.register base.0).flags.null
-allows_fault p a node = false
+allows_fault p a (node.Call dst callee receiver args error) = has_part (labels_of p) (a.register callee.0)
+allows_fault p a (node.ReadRef dst base name error) = (a.register base.0).flags.null
+allows_fault p a (node.Const dst prim) = false
+allows_fault p a (node.Move dst src) = false
+allows_fault p a (node.FindName dst name) = false
+allows_fault p a (node.ReadSoft dst base name) = false
+allows_fault p a (node.WriteRef base name src) = false
+allows_fault p a (node.DeleteRef dst base name) = false
+allows_fault p a (node.ToObject dst src sites error) = false
+allows_fault p a (node.NeedObject src error) = false
+allows_fault p a (node.ReadProp dst object key) = false
+allows_fault p a (node.WriteProp object key src error) = false
+allows_fault p a (node.DeleteProp dst object key) = false
+allows_fault p a (node.HasProp dst object key) = false
+allows_fault p a (node.InstanceOf dst left right not_function not_object) = false
+allows_fault p a (node.NewObject dst site kind) = false
+allows_fault p a (node.MakeFunction dst function site proto_site) = false
+allows_fault p a (node.Enter site arguments) = false
+allows_fault p a (node.Declare name) = false
+allows_fault p a (node.Bind name src read_only) = false
+allows_fault p a (node.PushScope site) = false
+allows_fault p a (node.Convert dst src hint other) = false
+allows_fault p a (node.Unary dst op src) = false
+allows_fault p a (node.Binary dst op left right) = false
+allows_fault p a (node.Branch src) = false
+allows_fault p a (node.New dst callee args site error) = false
+allows_fault p a (node.Names list object) = false
+allows_fault p a (node.Pick list dst object) = false
+allows_fault p a (node.Throw src) = false
+allows_fault p a (node.Return src) = false
+allows_fault p a node.Escape = false
+allows_fault p a (node.Intrinsic dst which args) = false
+allows_fault p a (node.Device dst which) = false
+allows_fault p a (node.Stop kind) = false
 
 -- the state allows anything else: the callee has a label that can be called, the base has a label
 abbrev pub allows_more : Program → AbstractState → Node → Bool
-allows_more p a (ReadRef dst base name error) = list_any (a.register base.0).label (labels_of p)
-allows_more p a node = false
+allows_more p a (node.ReadRef dst base name error) = list_any (a.register base.0).label (labels_of p)
+allows_more p a (node.Const dst prim) = false
+allows_more p a (node.Move dst src) = false
+allows_more p a (node.FindName dst name) = false
+allows_more p a (node.ReadSoft dst base name) = false
+allows_more p a (node.WriteRef base name src) = false
+allows_more p a (node.DeleteRef dst base name) = false
+allows_more p a (node.ToObject dst src sites error) = false
+allows_more p a (node.NeedObject src error) = false
+allows_more p a (node.ReadProp dst object key) = false
+allows_more p a (node.WriteProp object key src error) = false
+allows_more p a (node.DeleteProp dst object key) = false
+allows_more p a (node.HasProp dst object key) = false
+allows_more p a (node.InstanceOf dst left right not_function not_object) = false
+allows_more p a (node.NewObject dst site kind) = false
+allows_more p a (node.MakeFunction dst function site proto_site) = false
+allows_more p a (node.Enter site arguments) = false
+allows_more p a (node.Declare name) = false
+allows_more p a (node.Bind name src read_only) = false
+allows_more p a (node.PushScope site) = false
+allows_more p a (node.Convert dst src hint other) = false
+allows_more p a (node.Unary dst op src) = false
+allows_more p a (node.Binary dst op left right) = false
+allows_more p a (node.Branch src) = false
+allows_more p a (node.Call dst callee receiver args error) = false
+allows_more p a (node.New dst callee args site error) = false
+allows_more p a (node.Names list object) = false
+allows_more p a (node.Pick list dst object) = false
+allows_more p a (node.Throw src) = false
+allows_more p a (node.Return src) = false
+allows_more p a node.Escape = false
+allows_more p a (node.Intrinsic dst which args) = false
+allows_more p a (node.Device dst which) = false
+allows_more p a (node.Stop kind) = false
 
 -- the table has a state at a node that is an operation of this kind at this place
 pub record IsReached (p : Program) (t : Table) (kind : WarningKind) (place : Place) (node : Node) (a : AbstractState) : Type 0 where
@@ -86,9 +180,40 @@ is_null (value.Primitive primitive.Null) = true
 is_null v = false
 
 abbrev pub fault_at : Frame → NodeInfo → Node → Option (WarningKind × Place)
-fault_at f info (Call dst callee receiver args error) = Some (NotAFunction, info.place)
-fault_at f info (ReadRef dst base name error) = if is_null (register_of f base) then Some (UnboundName, info.place) else None
-fault_at f info node = None
+fault_at f info (node.Call dst callee receiver args error) = Some (NotAFunction, info.place)
+fault_at f info (node.ReadRef dst base name error) = if is_null (register_of f base) then Some (UnboundName, info.place) else None
+fault_at f info (node.Const dst prim) = None
+fault_at f info (node.Move dst src) = None
+fault_at f info (node.FindName dst name) = None
+fault_at f info (node.ReadSoft dst base name) = None
+fault_at f info (node.WriteRef base name src) = None
+fault_at f info (node.DeleteRef dst base name) = None
+fault_at f info (node.ToObject dst src sites error) = None
+fault_at f info (node.NeedObject src error) = None
+fault_at f info (node.ReadProp dst object key) = None
+fault_at f info (node.WriteProp object key src error) = None
+fault_at f info (node.DeleteProp dst object key) = None
+fault_at f info (node.HasProp dst object key) = None
+fault_at f info (node.InstanceOf dst left right not_function not_object) = None
+fault_at f info (node.NewObject dst site kind) = None
+fault_at f info (node.MakeFunction dst function site proto_site) = None
+fault_at f info (node.Enter site arguments) = None
+fault_at f info (node.Declare name) = None
+fault_at f info (node.Bind name src read_only) = None
+fault_at f info (node.PushScope site) = None
+fault_at f info (node.Convert dst src hint other) = None
+fault_at f info (node.Unary dst op src) = None
+fault_at f info (node.Binary dst op a b) = None
+fault_at f info (node.Branch src) = None
+fault_at f info (node.New dst callee args site error) = None
+fault_at f info (node.Names list object) = None
+fault_at f info (node.Pick list dst object) = None
+fault_at f info (node.Throw src) = None
+fault_at f info (node.Return src) = None
+fault_at f info node.Escape = None
+fault_at f info (node.Intrinsic dst which args) = None
+fault_at f info (node.Device dst which) = None
+fault_at f info (node.Stop kind) = None
 
 abbrev pub fault_of_frames : Program → List Frame → Option (WarningKind × Place)
 fault_of_frames p [] = None

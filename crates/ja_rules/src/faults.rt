@@ -92,7 +92,39 @@ fn operation_of(program: &Program, info: &NodeInfo, state: &AState) -> Option<Op
             let more = base.labels.has_below(sites);
             Some(Operation::new(WarningKind::UnboundName, info.place, base.flags.null, more))
         }
-        _ => None,
+        // Nothing goes wrong at the others.
+        Node::Const { .. }
+        | Node::Move { .. }
+        | Node::FindName { .. }
+        | Node::ReadSoft { .. }
+        | Node::WriteRef { .. }
+        | Node::DeleteRef { .. }
+        | Node::ToObject { .. }
+        | Node::NeedObject { .. }
+        | Node::ReadProp { .. }
+        | Node::WriteProp { .. }
+        | Node::DeleteProp { .. }
+        | Node::HasProp { .. }
+        | Node::InstanceOf { .. }
+        | Node::NewObject { .. }
+        | Node::MakeFunction { .. }
+        | Node::Enter { .. }
+        | Node::Declare { .. }
+        | Node::Bind { .. }
+        | Node::PushScope { .. }
+        | Node::Convert { .. }
+        | Node::Unary { .. }
+        | Node::Binary { .. }
+        | Node::Branch { .. }
+        | Node::New { .. }
+        | Node::Names { .. }
+        | Node::Pick { .. }
+        | Node::Throw { .. }
+        | Node::Return { .. }
+        | Node::Escape
+        | Node::Intrinsic { .. }
+        | Node::Device { .. }
+        | Node::Stop { .. } => None,
     }
 }
 

@@ -8,7 +8,7 @@ ghost use Rattle.ja_model.specs.Machine.{name_text, unbound_message, not_a_funct
 ghost use Rattle.ja_model.specs.AbstractValue.{of_primitive, has_part};
 ghost use Rattle.ja_model.specs.AbstractState.{with_register};
 ghost use Rattle.ja_model.specs.Reading.{found, demands_of_search};
-ghost use Rattle.ja_model.specs.Transfer.{transfer, transfer_node, no_states, gives, sets, throws, put, no_demands, read_value, demands_of_read, written_labels};
+ghost use Rattle.ja_model.specs.Transfer.{transfer, transfer_node, nowhere, gives, sets, throws, put, no_demands, read_value, demands_of_read, written_labels};
 ghost use Rattle.ja_state.specs.declared.state.AState.{AState};
 ghost use Rattle.ja_state.specs.State.{state_of, entries_of};
 ghost use Rattle.ja_value.specs.Value.{labels_in};
@@ -73,7 +73,35 @@ impl Reader<'_> {
             } => self.read_name(program, info, *dst, *base, *name, *error),
             Node::WriteRef { base, name, src } => self.write_name(*base, *name, *src, info.next),
             Node::Call { callee, error, .. } => self.call(info, *callee, *error),
-            _ => self.leaves(),
+            Node::Return { .. } | Node::Escape => self.nowhere(),
+            // The kinds that aren't built.
+            Node::Move { .. }
+            | Node::ReadSoft { .. }
+            | Node::DeleteRef { .. }
+            | Node::ToObject { .. }
+            | Node::NeedObject { .. }
+            | Node::ReadProp { .. }
+            | Node::WriteProp { .. }
+            | Node::DeleteProp { .. }
+            | Node::HasProp { .. }
+            | Node::InstanceOf { .. }
+            | Node::NewObject { .. }
+            | Node::MakeFunction { .. }
+            | Node::Enter { .. }
+            | Node::Declare { .. }
+            | Node::Bind { .. }
+            | Node::PushScope { .. }
+            | Node::Convert { .. }
+            | Node::Unary { .. }
+            | Node::Binary { .. }
+            | Node::Branch { .. }
+            | Node::New { .. }
+            | Node::Names { .. }
+            | Node::Pick { .. }
+            | Node::Throw { .. }
+            | Node::Intrinsic { .. }
+            | Node::Device { .. }
+            | Node::Stop { .. } => self.nowhere(),
         }
     }
 
@@ -173,9 +201,9 @@ impl Reader<'_> {
         Ok(outcome)
     }
 
-    /// The function is left, so no node of it is next; or the kind isn't built yet.
-    fn leaves(&self) -> Result<Outcome, Memory>
-        ensures { IfOk result (IsOutcome (vec_len self.now.state.now.registers) (record { states = no_states; demands = no_demands })) }
+    /// No node is next: the function is left, or the kind isn't built.
+    fn nowhere(&self) -> Result<Outcome, Memory>
+        ensures { IfOk result (IsOutcome (vec_len self.now.state.now.registers) nowhere) }
     {
         let outcome = outcome(self.alloc, None, None, DemandList::new(self.alloc))?;
         Ok(outcome)

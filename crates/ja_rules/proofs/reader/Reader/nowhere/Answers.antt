@@ -1,6 +1,6 @@
 use Rattle.std.proofs.Common.{[], refl, vec_len}
 use Rattle.ja_rules.proofs.StepLemmas.{none_given, outcome_as}
-use Rattle.ja_rules.proofs.reader.Reader.leaves.Goals as goal
+use Rattle.ja_rules.proofs.reader.Reader.nowhere.Goals as goal
 
 pub returns : goal.returns
 returns c =
