@@ -6,7 +6,7 @@ ghost use Rattle.ja_names.specs.TextOrder as spec;
 
 use crate::text_order_parts::Parts;
 use ja_base::Memory;
-use ja_prim::Primitive;
+use ja_prim::{Primitive, Text16};
 use ja_syntax::{
     Case, CatchOf, Declaration, Expression, ForFirst, ForTarget, FunctionTree, Initialiser, Name,
     Operation, Property, PropertyName, Statement, Suffix,
