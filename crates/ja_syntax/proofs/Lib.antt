@@ -7,3 +7,4 @@ mod HoistedLemmas
 mod ReferenceLemmas
 pub mod JumpLemmas
 mod RuleSamples
+mod SpellingLemmas

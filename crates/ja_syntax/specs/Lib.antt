@@ -1,5 +1,6 @@
 pub mod Lookups
 pub mod Symbols
+pub mod Spelling
 pub mod References
 pub mod Jumps
 pub mod Rules
