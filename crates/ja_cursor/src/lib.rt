@@ -4,6 +4,7 @@
 
 mod context;
 mod cursor;
+mod held;
 mod literal;
 mod name;
 mod operator;
@@ -16,6 +17,7 @@ pub use context::{
     switch_context,
 };
 pub use cursor::Cursor;
+pub use held::Held;
 pub use literal::{literal_of, property_name};
 pub use name::{declared, function_name, parameters};
 pub use operator::{
@@ -27,5 +29,5 @@ pub use semicolon::ended;
 pub use target::{break_target, continue_target, enter_label};
 pub use tree::{
     assign, chained, conditional, created, do_of, for_in_of, for_of, if_of, labelled_of, operated,
-    sequence, unary, update, while_of,
+    sequence, taken, unary, update, while_of,
 };

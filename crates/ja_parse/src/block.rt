@@ -16,15 +16,21 @@ ghost use Rattle.ja_parse.specs.Nests.{Nests};
 
 use crate::grammar::Grammar;
 use crate::list::ListEnd;
-use ja_cursor::{Cursor, declared, ended};
+use ja_cursor::{Cursor, Held, declared, ended};
 use ja_grammar::{Context, ExpressionPart, Refusal, StatementPart, Stop};
 use ja_syntax::{Declaration, Expression, Initialiser, Statement, Symbol};
 use sqlite_items::Items;
 use std::alloc::Global;
 
 impl<
-    F: Fn(Global, &mut Cursor<'_>, usize, ExpressionPart) -> Result<Expression, Stop>,
-    G: Fn(Global, &mut Cursor<'_>, usize, &Context<'_>, StatementPart) -> Result<Statement, Stop>,
+    F: Fn(Global, &mut Cursor<'_>, usize, ExpressionPart) -> Result<Held<Expression>, Stop>,
+    G: Fn(
+        Global,
+        &mut Cursor<'_>,
+        usize,
+        &Context<'_>,
+        StatementPart,
+    ) -> Result<Held<Statement>, Stop>,
 > Grammar<F, G> {
     /// Reads a block with its braces (12.1).
     #[tactic(auto, unfolding(ja_grammar::specs::ReadStatement::block))]
@@ -44,7 +50,7 @@ impl<
 
     /// Reads an expression in parentheses, behind the word of a statement.
     #[tactic(auto, unfolding(ja_grammar::specs::ReadStatement::bracketed))]
-    pub fn bracketed(&self, cursor: &mut Cursor<'_>) -> Result<Expression, Stop>
+    pub fn bracketed(&self, cursor: &mut Cursor<'_>) -> Result<Held<Expression>, Stop>
         requires { Nests self.now.depth (F.pre self.now.expression) (F.post self.now.expression) (G.pre self.now.statement) (G.post self.now.statement) }
         ensures { Follows (spec.bracketed self.now.depth (below self.now.depth) cursor.old) result cursor.new }
     {
@@ -55,7 +61,11 @@ impl<
     }
 
     /// Reads the value of a variable that is declared, in the head of a `for` or elsewhere.
-    fn variable_value(&self, cursor: &mut Cursor<'_>, in_head: bool) -> Result<Expression, Stop>
+    fn variable_value(
+        &self,
+        cursor: &mut Cursor<'_>,
+        in_head: bool,
+    ) -> Result<Held<Expression>, Stop>
         requires { Nests self.now.depth (F.pre self.now.expression) (F.post self.now.expression) (G.pre self.now.statement) (G.post self.now.statement) }
         ensures { Follows (variable_value self.now.depth (below self.now.depth) in_head cursor.old) result cursor.new }
     {
@@ -84,7 +94,10 @@ impl<
                 let value = self.variable_value(cursor, in_head)?;
                 Ok(Declaration {
                     name,
-                    initialiser: Some(Initialiser { value, place }),
+                    initialiser: Some(Initialiser {
+                        value: value.into_inner(),
+                        place,
+                    }),
                 })
             }
             _ => Ok(Declaration {
@@ -119,7 +132,7 @@ impl<
 
     /// Reads a `var` statement (12.2).
     #[tactic(auto, unfolding(ja_grammar::specs::ReadStatement::variables))]
-    pub fn variables(&self, cursor: &mut Cursor<'_>) -> Result<Statement, Stop>
+    pub fn variables(&self, cursor: &mut Cursor<'_>) -> Result<Held<Statement>, Stop>
         requires { Nests self.now.depth (F.pre self.now.expression) (F.post self.now.expression) (G.pre self.now.statement) (G.post self.now.statement) }
         ensures { Follows (spec.variables self.now.depth (below self.now.depth) cursor.old) result cursor.new }
     {
@@ -127,21 +140,30 @@ impl<
         cursor.take();
         let declarations = self.declarations(cursor, false)?;
         ended(cursor)?;
-        Ok(Statement::Variables {
-            declarations,
-            place,
-        })
+        Ok(Held::new(
+            self.alloc,
+            Statement::Variables {
+                declarations,
+                place,
+            },
+        )?)
     }
 
     /// Reads an expression statement (12.4).
     #[tactic(auto, unfolding(ja_grammar::specs::ReadStatement::expression_statement))]
-    pub fn expression_statement(&self, cursor: &mut Cursor<'_>) -> Result<Statement, Stop>
+    pub fn expression_statement(&self, cursor: &mut Cursor<'_>) -> Result<Held<Statement>, Stop>
         requires { Nests self.now.depth (F.pre self.now.expression) (F.post self.now.expression) (G.pre self.now.statement) (G.post self.now.statement) }
         ensures { Follows (spec.expression_statement self.now.depth (below self.now.depth) cursor.old) result cursor.new }
     {
         let place = cursor.place();
         let value = self.whole(cursor, false)?;
         ended(cursor)?;
-        Ok(Statement::Expression { value, place })
+        Ok(Held::new(
+            self.alloc,
+            Statement::Expression {
+                value: value.into_inner(),
+                place,
+            },
+        )?)
     }
 }

@@ -17,15 +17,21 @@ ghost use Rattle.ja_parse.specs.Clauses.{clauses_behind, try_behind_catch, try_w
 use crate::grammar::Grammar;
 use crate::list::ListEnd;
 use ja_base::Place;
-use ja_cursor::{Cursor, declared, if_of, switch_context};
+use ja_cursor::{Cursor, Held, declared, if_of, switch_context};
 use ja_grammar::{Context, ExpressionPart, Refusal, StatementPart, Stop};
 use ja_syntax::{Case, CatchOf, Expression, Statement, Symbol};
 use sqlite_items::Items;
 use std::alloc::Global;
 
 impl<
-    F: Fn(Global, &mut Cursor<'_>, usize, ExpressionPart) -> Result<Expression, Stop>,
-    G: Fn(Global, &mut Cursor<'_>, usize, &Context<'_>, StatementPart) -> Result<Statement, Stop>,
+    F: Fn(Global, &mut Cursor<'_>, usize, ExpressionPart) -> Result<Held<Expression>, Stop>,
+    G: Fn(
+        Global,
+        &mut Cursor<'_>,
+        usize,
+        &Context<'_>,
+        StatementPart,
+    ) -> Result<Held<Statement>, Stop>,
 > Grammar<F, G> {
     /// Reads the `:` and the statements of a clause.
     #[tactic(auto, unfolding(ja_grammar::specs::ReadStatement::clause))]
@@ -52,7 +58,7 @@ impl<
         let test = self.expression_below(cursor, ExpressionPart::Whole { no_in: false })?;
         let body = self.clause(cursor, context)?;
         Ok(Case {
-            test: Some(test),
+            test: Some(test.into_inner()),
             body,
             place,
         })
@@ -123,7 +129,7 @@ impl<
         &self,
         cursor: &mut Cursor<'_>,
         context: &Context<'_>,
-    ) -> Result<Statement, Stop>
+    ) -> Result<Held<Statement>, Stop>
         requires { Nests self.now.depth (F.pre self.now.expression) (F.post self.now.expression) (G.pre self.now.statement) (G.post self.now.statement) }
         ensures { Follows (spec.switch self.now.depth (below self.now.depth) (context_of context.now) cursor.old) result cursor.new }
     {
@@ -132,11 +138,14 @@ impl<
         let value = self.bracketed(cursor)?;
         let inner = switch_context(self.alloc, context)?;
         let cases = self.cases(cursor, &inner)?;
-        Ok(Statement::Switch {
-            value,
-            cases,
-            place,
-        })
+        Ok(Held::new(
+            self.alloc,
+            Statement::Switch {
+                value: value.into_inner(),
+                cases,
+                place,
+            },
+        )?)
     }
 
     /// Reads a `catch`.
@@ -145,7 +154,7 @@ impl<
         &self,
         cursor: &mut Cursor<'_>,
         context: &Context<'_>,
-    ) -> Result<CatchOf<Statement>, Stop>
+    ) -> Result<Held<CatchOf<Statement>>, Stop>
         requires { Nests self.now.depth (F.pre self.now.expression) (F.post self.now.expression) (G.pre self.now.statement) (G.post self.now.statement) }
         ensures { Follows (spec.catch self.now.depth (below self.now.depth) (context_of context.now) cursor.old) result cursor.new }
     {
@@ -154,7 +163,7 @@ impl<
         let parameter = declared(self.alloc, cursor)?;
         cursor.expect(Symbol::CloseParenthesis)?;
         let body = self.block(cursor, context)?;
-        Ok(CatchOf { parameter, body })
+        Ok(Held::new(self.alloc, CatchOf { parameter, body })?)
     }
 
     /// Reads a `finally`.
@@ -176,7 +185,7 @@ impl<
         &self,
         cursor: &mut Cursor<'_>,
         context: &Context<'_>,
-    ) -> Result<Statement, Stop>
+    ) -> Result<Held<Statement>, Stop>
         requires { Nests self.now.depth (F.pre self.now.expression) (F.post self.now.expression) (G.pre self.now.statement) (G.post self.now.statement) }
         ensures { Follows (try_whole self.now.depth (below self.now.depth) (context_of context.now) cursor.old) result cursor.new }
     {
@@ -190,12 +199,15 @@ impl<
             }
             Symbol::Finally => {
                 let finally = self.finally(cursor, context)?;
-                Ok(Statement::Try {
-                    block,
-                    catch: None,
-                    finally: Some(finally),
-                    place,
-                })
+                Ok(Held::new(
+                    self.alloc,
+                    Statement::Try {
+                        block,
+                        catch: None,
+                        finally: Some(finally),
+                        place,
+                    },
+                )?)
             }
             _ => Err(Stop::Refused(Refusal::Unexpected)),
         }
@@ -207,28 +219,34 @@ impl<
         cursor: &mut Cursor<'_>,
         context: &Context<'_>,
         block: Items<Statement>,
-        catch: CatchOf<Statement>,
+        catch: Held<CatchOf<Statement>>,
         place: Place,
-    ) -> Result<Statement, Stop>
+    ) -> Result<Held<Statement>, Stop>
         requires { Nests self.now.depth (F.pre self.now.expression) (F.post self.now.expression) (G.pre self.now.statement) (G.post self.now.statement) }
         ensures { Follows (try_behind_catch self.now.depth (below self.now.depth) (context_of context.now) place block catch cursor.old) result cursor.new }
     {
         match cursor.symbol() {
             Symbol::Finally => {
                 let finally = self.finally(cursor, context)?;
-                Ok(Statement::Try {
-                    block,
-                    catch: Some(catch),
-                    finally: Some(finally),
-                    place,
-                })
+                Ok(Held::new(
+                    self.alloc,
+                    Statement::Try {
+                        block,
+                        catch: Some(catch.into_inner()),
+                        finally: Some(finally),
+                        place,
+                    },
+                )?)
             }
-            _ => Ok(Statement::Try {
-                block,
-                catch: Some(catch),
-                finally: None,
-                place,
-            }),
+            _ => Ok(Held::new(
+                self.alloc,
+                Statement::Try {
+                    block,
+                    catch: Some(catch.into_inner()),
+                    finally: None,
+                    place,
+                },
+            )?),
         }
     }
 
@@ -238,9 +256,9 @@ impl<
         cursor: &mut Cursor<'_>,
         context: &Context<'_>,
         place: Place,
-        condition: Expression,
-        then: Statement,
-    ) -> Result<Statement, Stop>
+        condition: Held<Expression>,
+        then: Held<Statement>,
+    ) -> Result<Held<Statement>, Stop>
         requires { Nests self.now.depth (F.pre self.now.expression) (F.post self.now.expression) (G.pre self.now.statement) (G.post self.now.statement) }
         ensures { Follows (spec.else_by self.now.depth (below self.now.depth) (context_of context.now) place condition then k.Else cursor.old) result cursor.new }
     {
@@ -263,7 +281,7 @@ impl<
         cursor: &mut Cursor<'_>,
         context: &Context<'_>,
         place: Place,
-    ) -> Result<Statement, Stop>
+    ) -> Result<Held<Statement>, Stop>
         requires { Nests self.now.depth (F.pre self.now.expression) (F.post self.now.expression) (G.pre self.now.statement) (G.post self.now.statement) }
         ensures { Follows (spec.if_part self.now.depth (below self.now.depth) (context_of context.now) place cursor.old) result cursor.new }
     {

@@ -13,9 +13,9 @@ ghost use Rattle.ja_parse.specs.Nests.{Nests};
 use crate::grammar::Grammar;
 use ja_base::Place;
 use ja_cursor::{
-    Cursor, LEVELS, assign, assignment_operator, begins_property, begins_suffix, binary_operator,
-    chained, conditional, created, is_prefix, operated, postfix_of, prefix_update, sequence, unary,
-    unary_operator, update,
+    Cursor, Held, LEVELS, assign, assignment_operator, begins_property, begins_suffix,
+    binary_operator, chained, conditional, created, is_prefix, operated, postfix_of, prefix_update,
+    sequence, unary, unary_operator, update,
 };
 use ja_grammar::{Context, ExpressionPart, Refusal, StatementPart, Stop};
 use ja_syntax::{
@@ -26,12 +26,18 @@ use sqlite_items::Items;
 use std::alloc::Global;
 
 impl<
-    F: Fn(Global, &mut Cursor<'_>, usize, ExpressionPart) -> Result<Expression, Stop>,
-    G: Fn(Global, &mut Cursor<'_>, usize, &Context<'_>, StatementPart) -> Result<Statement, Stop>,
+    F: Fn(Global, &mut Cursor<'_>, usize, ExpressionPart) -> Result<Held<Expression>, Stop>,
+    G: Fn(
+        Global,
+        &mut Cursor<'_>,
+        usize,
+        &Context<'_>,
+        StatementPart,
+    ) -> Result<Held<Statement>, Stop>,
 > Grammar<F, G> {
     /// Reads a primary expression, or `new` and what stands behind it (11.2).
     #[tactic(auto, unfolding(ja_grammar::specs::ReadExpression::chain_head))]
-    fn chain_head(&self, cursor: &mut Cursor<'_>) -> Result<Expression, Stop>
+    fn chain_head(&self, cursor: &mut Cursor<'_>) -> Result<Held<Expression>, Stop>
         requires { Nests self.now.depth (F.pre self.now.expression) (F.post self.now.expression) (G.pre self.now.statement) (G.post self.now.statement) }
         ensures { Follows (spec.chain_head self.now.depth (below self.now.depth) cursor.old) result cursor.new }
     {
@@ -68,7 +74,10 @@ impl<
         cursor.enter(self.depth)?;
         let key = self.expression_below(cursor, ExpressionPart::Whole { no_in: false })?;
         cursor.expect(Symbol::CloseBracket)?;
-        Ok(Suffix::Index { key, place })
+        Ok(Suffix::Index {
+            key: key.into_inner(),
+            place,
+        })
     }
 
     /// Reads a suffix of a member.
@@ -144,7 +153,7 @@ impl<
 
     /// Reads a member expression (11.2).
     #[tactic(auto, unfolding(ja_grammar::specs::ReadExpression::member))]
-    fn member(&self, cursor: &mut Cursor<'_>) -> Result<Expression, Stop>
+    fn member(&self, cursor: &mut Cursor<'_>) -> Result<Held<Expression>, Stop>
         requires { Nests self.now.depth (F.pre self.now.expression) (F.post self.now.expression) (G.pre self.now.statement) (G.post self.now.statement) }
         ensures { Follows (spec.member self.now.depth (below self.now.depth) cursor.old) result cursor.new }
     {
@@ -155,7 +164,7 @@ impl<
 
     /// Reads what stands behind the `new` at `place` (11.2.2).
     #[tactic(auto, unfolding(ja_grammar::specs::ReadExpression::created))]
-    fn created(&self, cursor: &mut Cursor<'_>, place: Place) -> Result<Expression, Stop>
+    fn created(&self, cursor: &mut Cursor<'_>, place: Place) -> Result<Held<Expression>, Stop>
         requires { Nests self.now.depth (F.pre self.now.expression) (F.post self.now.expression) (G.pre self.now.statement) (G.post self.now.statement) }
         ensures { Follows (spec.created self.now.depth (below self.now.depth) place cursor.old) result cursor.new }
     {
@@ -171,7 +180,7 @@ impl<
 
     /// Reads a member or call expression (11.2).
     #[tactic(auto, unfolding(ja_grammar::specs::ReadExpression::left_hand))]
-    fn left_hand(&self, cursor: &mut Cursor<'_>) -> Result<Expression, Stop>
+    fn left_hand(&self, cursor: &mut Cursor<'_>) -> Result<Held<Expression>, Stop>
         requires { Nests self.now.depth (F.pre self.now.expression) (F.post self.now.expression) (G.pre self.now.statement) (G.post self.now.statement) }
         ensures { Follows (spec.left_hand self.now.depth (below self.now.depth) cursor.old) result cursor.new }
     {
@@ -184,13 +193,13 @@ impl<
     fn updated_behind(
         &self,
         cursor: &mut Cursor<'_>,
-        x: Expression,
+        x: Held<Expression>,
         operator: UpdateOperator,
-    ) -> Result<Expression, Stop>
+    ) -> Result<Held<Expression>, Stop>
         requires { Nests self.now.depth (F.pre self.now.expression) (F.post self.now.expression) (G.pre self.now.statement) (G.post self.now.statement) }
         ensures { Follows (spec.updated_behind self.now.depth (below self.now.depth) x (head cursor.old) operator (references.is_reference x) cursor.old) result cursor.new }
     {
-        if !is_reference(&x) {
+        if !is_reference(x.get()) {
             return Err(Stop::Refused(Refusal::Unexpected));
         }
         let place = cursor.place();
@@ -200,7 +209,7 @@ impl<
 
     /// Reads an operand with the `++` or `--` behind it (11.3).
     #[tactic(auto, unfolding(ja_grammar::specs::ReadExpression::postfix))]
-    fn postfix(&self, cursor: &mut Cursor<'_>) -> Result<Expression, Stop>
+    fn postfix(&self, cursor: &mut Cursor<'_>) -> Result<Held<Expression>, Stop>
         requires { Nests self.now.depth (F.pre self.now.expression) (F.post self.now.expression) (G.pre self.now.statement) (G.post self.now.statement) }
         ensures { Follows (spec.postfix self.now.depth (below self.now.depth) cursor.old) result cursor.new }
     {
@@ -213,7 +222,7 @@ impl<
 
     /// Reads the operand of the `++` or `--` at `place` (11.4.4, 11.4.5).
     #[tactic(auto, unfolding(ja_grammar::specs::ReadExpression::updated, ja_grammar::specs::ReadExpression::operand_close))]
-    fn updated(&self, cursor: &mut Cursor<'_>, place: Place) -> Result<Expression, Stop>
+    fn updated(&self, cursor: &mut Cursor<'_>, place: Place) -> Result<Held<Expression>, Stop>
         requires { Nests self.now.depth (F.pre self.now.expression) (F.post self.now.expression) (G.pre self.now.statement) (G.post self.now.statement) }
         ensures { Follows (spec.updated self.now.depth (below self.now.depth) place cursor.old) result cursor.new }
     {
@@ -221,7 +230,7 @@ impl<
             return Err(Stop::Refused(Refusal::Broken(place)));
         }
         let x = self.left_hand(cursor)?;
-        if is_reference(&x) && postfix_of(cursor).is_none() {
+        if is_reference(x.get()) && postfix_of(cursor).is_none() {
             Ok(x)
         } else {
             Err(Stop::Refused(Refusal::Broken(place)))
@@ -233,7 +242,7 @@ impl<
         &self,
         cursor: &mut Cursor<'_>,
         operator: UnaryOperator,
-    ) -> Result<Expression, Stop>
+    ) -> Result<Held<Expression>, Stop>
         requires { Nests self.now.depth (F.pre self.now.expression) (F.post self.now.expression) (G.pre self.now.statement) (G.post self.now.statement) }
         ensures { Follows (spec.unary_by self.now.depth (below self.now.depth) (head cursor.old) (Some operator) None cursor.old) result cursor.new }
     {
@@ -248,7 +257,7 @@ impl<
         &self,
         cursor: &mut Cursor<'_>,
         operator: UpdateOperator,
-    ) -> Result<Expression, Stop>
+    ) -> Result<Held<Expression>, Stop>
         requires { Nests self.now.depth (F.pre self.now.expression) (F.post self.now.expression) (G.pre self.now.statement) (G.post self.now.statement) }
         ensures { Follows (spec.unary_by self.now.depth (below self.now.depth) (head cursor.old) None (Some operator) cursor.old) result cursor.new }
     {
@@ -260,7 +269,7 @@ impl<
 
     /// Reads an operand with the operators before and behind it (11.4).
     #[tactic(auto, unfolding(ja_grammar::specs::ReadExpression::unary))]
-    fn unary(&self, cursor: &mut Cursor<'_>) -> Result<Expression, Stop>
+    fn unary(&self, cursor: &mut Cursor<'_>) -> Result<Held<Expression>, Stop>
         requires { Nests self.now.depth (F.pre self.now.expression) (F.post self.now.expression) (G.pre self.now.statement) (G.post self.now.statement) }
         ensures { Follows (spec.unary self.now.depth (below self.now.depth) cursor.old) result cursor.new }
     {
@@ -294,7 +303,7 @@ impl<
         let right = self.binary(cursor, no_in, level)?;
         Ok(Operation {
             operator,
-            right,
+            right: right.into_inner(),
             place,
         })
     }
@@ -324,7 +333,12 @@ impl<
 
     #[cycle(levels)]
     /// Reads operands with operators of the levels up to `level` between (11.5 to 11.11).
-    fn binary(&self, cursor: &mut Cursor<'_>, no_in: bool, level: usize) -> Result<Expression, Stop>
+    fn binary(
+        &self,
+        cursor: &mut Cursor<'_>,
+        no_in: bool,
+        level: usize,
+    ) -> Result<Held<Expression>, Stop>
         requires nests { Nests self.now.depth (F.pre self.now.expression) (F.post self.now.expression) (G.pre self.now.statement) (G.post self.now.statement) }
         requires small { level ≤ 10 }
         ensures { Follows (spec.binary self.now.depth (below self.now.depth) no_in level cursor.old) result cursor.new }
@@ -344,8 +358,8 @@ impl<
         cursor: &mut Cursor<'_>,
         no_in: bool,
         place: Place,
-        x: Expression,
-    ) -> Result<Expression, Stop>
+        x: Held<Expression>,
+    ) -> Result<Held<Expression>, Stop>
         requires { Nests self.now.depth (F.pre self.now.expression) (F.post self.now.expression) (G.pre self.now.statement) (G.post self.now.statement) }
         ensures { Follows (spec.conditional_by self.now.depth (below self.now.depth) no_in place x k.Question cursor.old) result cursor.new }
     {
@@ -358,7 +372,7 @@ impl<
 
     /// Reads a conditional expression (11.12).
     #[tactic(auto, unfolding(ja_grammar::specs::ReadExpression::conditional))]
-    fn conditional(&self, cursor: &mut Cursor<'_>, no_in: bool) -> Result<Expression, Stop>
+    fn conditional(&self, cursor: &mut Cursor<'_>, no_in: bool) -> Result<Held<Expression>, Stop>
         requires { Nests self.now.depth (F.pre self.now.expression) (F.post self.now.expression) (G.pre self.now.statement) (G.post self.now.statement) }
         ensures { Follows (spec.conditional self.now.depth (below self.now.depth) no_in cursor.old) result cursor.new }
     {
@@ -375,13 +389,13 @@ impl<
         &self,
         cursor: &mut Cursor<'_>,
         no_in: bool,
-        x: Expression,
+        x: Held<Expression>,
         operator: Option<BinaryOperator>,
-    ) -> Result<Expression, Stop>
+    ) -> Result<Held<Expression>, Stop>
         requires { Nests self.now.depth (F.pre self.now.expression) (F.post self.now.expression) (G.pre self.now.statement) (G.post self.now.statement) }
         ensures { Follows (spec.assigned self.now.depth (below self.now.depth) no_in x (head cursor.old) operator (references.is_reference x) cursor.old) result cursor.new }
     {
-        if !is_reference(&x) {
+        if !is_reference(x.get()) {
             return Err(Stop::Refused(Refusal::Unexpected));
         }
         let place = cursor.place();
@@ -392,7 +406,7 @@ impl<
 
     /// Reads an assignment expression (11.13).
     #[tactic(auto, unfolding(ja_grammar::specs::ReadExpression::assignment))]
-    pub fn assignment(&self, cursor: &mut Cursor<'_>, no_in: bool) -> Result<Expression, Stop>
+    pub fn assignment(&self, cursor: &mut Cursor<'_>, no_in: bool) -> Result<Held<Expression>, Stop>
         requires { Nests self.now.depth (F.pre self.now.expression) (F.post self.now.expression) (G.pre self.now.statement) (G.post self.now.statement) }
         ensures { Follows (spec.assignment self.now.depth (below self.now.depth) no_in cursor.old) result cursor.new }
     {
@@ -410,21 +424,21 @@ impl<
     {
         let mut found = Items::new(self.alloc);
         let first = self.assignment(cursor, no_in)?;
-        found.push(first)?;
+        found.push(first.into_inner())?;
         for _turn in 0..cursor.left() {
             if !cursor.sees(Symbol::Comma) {
                 return Ok(found);
             }
             cursor.take();
             let item = self.assignment(cursor, no_in)?;
-            found.push(item)?;
+            found.push(item.into_inner())?;
         }
         Ok(found)
     }
 
     /// Reads an expression, with commas (11.14).
     #[tactic(auto, unfolding(ja_grammar::specs::ReadExpression::whole))]
-    pub fn whole(&self, cursor: &mut Cursor<'_>, no_in: bool) -> Result<Expression, Stop>
+    pub fn whole(&self, cursor: &mut Cursor<'_>, no_in: bool) -> Result<Held<Expression>, Stop>
         requires { Nests self.now.depth (F.pre self.now.expression) (F.post self.now.expression) (G.pre self.now.statement) (G.post self.now.statement) }
         ensures { Follows (spec.whole self.now.depth (below self.now.depth) no_in cursor.old) result cursor.new }
     {
@@ -439,7 +453,7 @@ impl<
         &self,
         cursor: &mut Cursor<'_>,
         part: ExpressionPart,
-    ) -> Result<Expression, Stop>
+    ) -> Result<Held<Expression>, Stop>
         requires { Nests self.now.depth (F.pre self.now.expression) (F.post self.now.expression) (G.pre self.now.statement) (G.post self.now.statement) }
         ensures { Follows (spec.expression_part self.now.depth (below self.now.depth) part cursor.old) result cursor.new }
     {

@@ -7,7 +7,7 @@ ghost use Rattle.ja_grammar.specs.Input.{Follows};
 ghost use Rattle.ja_grammar.specs.ReadStatement.{below};
 ghost use Rattle.ja_parse.specs.Nests.{Nests};
 
-use ja_cursor::Cursor;
+use ja_cursor::{Cursor, Held};
 use ja_grammar::{Context, ExpressionPart, Refusal, StatementPart, Stop};
 use ja_syntax::{Expression, Statement};
 use std::alloc::Global;
@@ -24,8 +24,14 @@ pub struct Grammar<F, G> {
 }
 
 impl<
-    F: Fn(Global, &mut Cursor<'_>, usize, ExpressionPart) -> Result<Expression, Stop>,
-    G: Fn(Global, &mut Cursor<'_>, usize, &Context<'_>, StatementPart) -> Result<Statement, Stop>,
+    F: Fn(Global, &mut Cursor<'_>, usize, ExpressionPart) -> Result<Held<Expression>, Stop>,
+    G: Fn(
+        Global,
+        &mut Cursor<'_>,
+        usize,
+        &Context<'_>,
+        StatementPart,
+    ) -> Result<Held<Statement>, Stop>,
 > Grammar<F, G> {
     /// Reads a part of an expression one level below.
     #[tactic(auto, using(crate::proofs::Levels::expression_below, crate::proofs::Levels::no_expression_below))]
@@ -33,7 +39,7 @@ impl<
         &self,
         cursor: &mut Cursor<'_>,
         part: ExpressionPart,
-    ) -> Result<Expression, Stop>
+    ) -> Result<Held<Expression>, Stop>
         requires { Nests self.now.depth (F.pre self.now.expression) (F.post self.now.expression) (G.pre self.now.statement) (G.post self.now.statement) }
         ensures { Follows ((below self.now.depth).expression part cursor.old) result cursor.new }
     {
@@ -50,7 +56,7 @@ impl<
         cursor: &mut Cursor<'_>,
         context: &Context<'_>,
         part: StatementPart,
-    ) -> Result<Statement, Stop>
+    ) -> Result<Held<Statement>, Stop>
         requires { Nests self.now.depth (F.pre self.now.expression) (F.post self.now.expression) (G.pre self.now.statement) (G.post self.now.statement) }
         ensures { Follows ((below self.now.depth).statement (context_of context.now) part cursor.old) result cursor.new }
     {

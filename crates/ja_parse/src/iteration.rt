@@ -17,15 +17,21 @@ ghost use Rattle.ja_syntax.specs.declared.tree.ForFirst.TheVariants as first;
 
 use crate::grammar::Grammar;
 use ja_base::Place;
-use ja_cursor::{Cursor, do_of, ended, for_in_of, for_of, loop_context, while_of};
+use ja_cursor::{Cursor, Held, do_of, ended, for_in_of, for_of, loop_context, while_of};
 use ja_grammar::{Context, ExpressionPart, Refusal, StatementPart, Stop};
 use ja_syntax::{Declaration, Expression, ForFirst, ForTarget, Statement, Symbol, is_reference};
-use sqlite_items::{Boxed, Items};
+use sqlite_items::Items;
 use std::alloc::Global;
 
 impl<
-    F: Fn(Global, &mut Cursor<'_>, usize, ExpressionPart) -> Result<Expression, Stop>,
-    G: Fn(Global, &mut Cursor<'_>, usize, &Context<'_>, StatementPart) -> Result<Statement, Stop>,
+    F: Fn(Global, &mut Cursor<'_>, usize, ExpressionPart) -> Result<Held<Expression>, Stop>,
+    G: Fn(
+        Global,
+        &mut Cursor<'_>,
+        usize,
+        &Context<'_>,
+        StatementPart,
+    ) -> Result<Held<Statement>, Stop>,
 > Grammar<F, G> {
     /// Reads the rest of the `do` at `place`, which `labels` labels stand directly before (12.6.1).
     #[tactic(auto, unfolding(ja_grammar::specs::ReadStatement::do_part))]
@@ -35,7 +41,7 @@ impl<
         context: &Context<'_>,
         place: Place,
         labels: usize,
-    ) -> Result<Statement, Stop>
+    ) -> Result<Held<Statement>, Stop>
         requires { Nests self.now.depth (F.pre self.now.expression) (F.post self.now.expression) (G.pre self.now.statement) (G.post self.now.statement) }
         ensures { Follows (spec.do_part self.now.depth (below self.now.depth) (context_of context.now) place labels cursor.old) result cursor.new }
     {
@@ -55,7 +61,7 @@ impl<
         context: &Context<'_>,
         place: Place,
         labels: usize,
-    ) -> Result<Statement, Stop>
+    ) -> Result<Held<Statement>, Stop>
         requires { Nests self.now.depth (F.pre self.now.expression) (F.post self.now.expression) (G.pre self.now.statement) (G.post self.now.statement) }
         ensures { Follows (spec.while_part self.now.depth (below self.now.depth) (context_of context.now) place labels cursor.old) result cursor.new }
     {
@@ -67,7 +73,11 @@ impl<
 
     /// Reads an expression, if any, and a closing token.
     #[tactic(auto, unfolding(ja_grammar::specs::ReadStatement::optional))]
-    fn optional(&self, cursor: &mut Cursor<'_>, close: Symbol) -> Result<Option<Expression>, Stop>
+    fn optional(
+        &self,
+        cursor: &mut Cursor<'_>,
+        close: Symbol,
+    ) -> Result<Option<Held<Expression>>, Stop>
         requires { Nests self.now.depth (F.pre self.now.expression) (F.post self.now.expression) (G.pre self.now.statement) (G.post self.now.statement) }
         ensures { Follows (spec.optional self.now.depth (below self.now.depth) close cursor.old) result cursor.new }
     {
@@ -87,8 +97,8 @@ impl<
         cursor: &mut Cursor<'_>,
         context: &Context<'_>,
         place: Place,
-        first: ForFirst<Expression>,
-    ) -> Result<Statement, Stop>
+        first: Held<ForFirst<Expression>>,
+    ) -> Result<Held<Statement>, Stop>
         requires { Nests self.now.depth (F.pre self.now.expression) (F.post self.now.expression) (G.pre self.now.statement) (G.post self.now.statement) }
         ensures { Follows (spec.for_rest self.now.depth (below self.now.depth) (context_of context.now) place first cursor.old) result cursor.new }
     {
@@ -105,8 +115,8 @@ impl<
         cursor: &mut Cursor<'_>,
         context: &Context<'_>,
         place: Place,
-        target: Boxed<ForTarget<Expression>>,
-    ) -> Result<Statement, Stop>
+        target: Held<ForTarget<Expression>>,
+    ) -> Result<Held<Statement>, Stop>
         requires { Nests self.now.depth (F.pre self.now.expression) (F.post self.now.expression) (G.pre self.now.statement) (G.post self.now.statement) }
         ensures { Follows (spec.in_rest self.now.depth (below self.now.depth) (context_of context.now) place target cursor.old) result cursor.new }
     {
@@ -114,7 +124,7 @@ impl<
         let object = self.expression_below(cursor, ExpressionPart::Whole { no_in: false })?;
         cursor.expect(Symbol::CloseParenthesis)?;
         let body = self.single(cursor, context, 0, false)?;
-        Ok(for_in_of(self.alloc, target.into_inner(), object, body, place)?)
+        Ok(for_in_of(self.alloc, target, object, body, place)?)
     }
 
     /// Reads a `for` from the `;` behind its variables on.
@@ -124,12 +134,13 @@ impl<
         context: &Context<'_>,
         place: Place,
         found: Items<Declaration<Expression>>,
-    ) -> Result<Statement, Stop>
+    ) -> Result<Held<Statement>, Stop>
         requires { Nests self.now.depth (F.pre self.now.expression) (F.post self.now.expression) (G.pre self.now.statement) (G.post self.now.statement) }
         ensures { Follows (for_rest_behind self.now.depth (below self.now.depth) (context_of context.now) place (first.Variables found) cursor.old) result cursor.new }
     {
         cursor.expect(Symbol::Semicolon)?;
-        self.for_rest(cursor, context, place, ForFirst::Variables(found))
+        let first = Held::new(self.alloc, ForFirst::Variables(found))?;
+        self.for_rest(cursor, context, place, first)
     }
 
     /// Reads a `for` from the token behind its variables on.
@@ -140,14 +151,14 @@ impl<
         context: &Context<'_>,
         place: Place,
         mut found: Items<Declaration<Expression>>,
-    ) -> Result<Statement, Stop>
+    ) -> Result<Held<Statement>, Stop>
         requires { Nests self.now.depth (F.pre self.now.expression) (F.post self.now.expression) (G.pre self.now.statement) (G.post self.now.statement) }
         ensures { Follows (variables_behind self.now.depth (below self.now.depth) (context_of context.now) place found cursor.old) result cursor.new }
     {
         if found.len() == 1 {
             return match cursor.symbol() {
                 Symbol::In => {
-                    let target = Boxed::new(self.alloc, ForTarget::Variable(found.remove(0)))?;
+                    let target = Held::new(self.alloc, ForTarget::Variable(found.remove(0)))?;
                     self.in_rest(cursor, context, place, target)
                 }
                 _ => self.for_declared(cursor, context, place, found),
@@ -163,7 +174,7 @@ impl<
         cursor: &mut Cursor<'_>,
         context: &Context<'_>,
         place: Place,
-    ) -> Result<Statement, Stop>
+    ) -> Result<Held<Statement>, Stop>
         requires { Nests self.now.depth (F.pre self.now.expression) (F.post self.now.expression) (G.pre self.now.statement) (G.post self.now.statement) }
         ensures { Follows (spec.for_variables self.now.depth (below self.now.depth) (context_of context.now) place cursor.old) result cursor.new }
     {
@@ -179,22 +190,23 @@ impl<
         cursor: &mut Cursor<'_>,
         context: &Context<'_>,
         place: Place,
-    ) -> Result<Statement, Stop>
+    ) -> Result<Held<Statement>, Stop>
         requires { Nests self.now.depth (F.pre self.now.expression) (F.post self.now.expression) (G.pre self.now.statement) (G.post self.now.statement) }
         ensures { Follows (spec.for_expression self.now.depth (below self.now.depth) (context_of context.now) place cursor.old) result cursor.new }
     {
         let x = self.expression_below(cursor, ExpressionPart::Whole { no_in: true })?;
         match cursor.symbol() {
             Symbol::In => {
-                if !is_reference(&x) {
+                if !is_reference(x.get()) {
                     return Err(Stop::Refused(Refusal::Unexpected));
                 }
-                let target = Boxed::new(self.alloc, ForTarget::Reference(x))?;
+                let target = Held::new(self.alloc, ForTarget::Reference(x.into_inner()))?;
                 self.in_rest(cursor, context, place, target)
             }
             _ => {
                 cursor.expect(Symbol::Semicolon)?;
-                self.for_rest(cursor, context, place, ForFirst::Expression(x))
+                let first = Held::new(self.alloc, ForFirst::Expression(x.into_inner()))?;
+                self.for_rest(cursor, context, place, first)
             }
         }
     }
@@ -205,7 +217,7 @@ impl<
         cursor: &mut Cursor<'_>,
         context: &Context<'_>,
         place: Place,
-    ) -> Result<Statement, Stop>
+    ) -> Result<Held<Statement>, Stop>
         requires { Nests self.now.depth (F.pre self.now.expression) (F.post self.now.expression) (G.pre self.now.statement) (G.post self.now.statement) }
         ensures { Follows (for_behind self.now.depth (below self.now.depth) (context_of context.now) place cursor.old) result cursor.new }
     {
@@ -213,7 +225,8 @@ impl<
             Symbol::Var => self.for_variables(cursor, context, place),
             Symbol::Semicolon => {
                 cursor.take();
-                self.for_rest(cursor, context, place, ForFirst::Nothing)
+                let first = Held::new(self.alloc, ForFirst::Nothing)?;
+                self.for_rest(cursor, context, place, first)
             }
             _ => self.for_expression(cursor, context, place),
         }
@@ -227,7 +240,7 @@ impl<
         context: &Context<'_>,
         place: Place,
         labels: usize,
-    ) -> Result<Statement, Stop>
+    ) -> Result<Held<Statement>, Stop>
         requires { Nests self.now.depth (F.pre self.now.expression) (F.post self.now.expression) (G.pre self.now.statement) (G.post self.now.statement) }
         ensures { Follows (spec.for_part self.now.depth (below self.now.depth) (context_of context.now) place labels cursor.old) result cursor.new }
     {

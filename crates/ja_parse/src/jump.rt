@@ -17,23 +17,29 @@ ghost use Rattle.ja_cursor.specs.Taking.{Takes};
 use crate::grammar::Grammar;
 use ja_base::Place;
 use ja_cursor::{
-    Cursor, break_target, continue_target, ended, ends_return, enter_label, has_label,
-    labelled_context, labelled_of, may_break,
+    Cursor, Held, break_target, continue_target, ended, ends_return, enter_label, has_label,
+    labelled_context, labelled_of, may_break, taken,
 };
 use ja_grammar::{Context, ExpressionPart, Refusal, StatementPart, Stop};
 use ja_syntax::{Expression, Name, Statement};
 use std::alloc::Global;
 
 impl<
-    F: Fn(Global, &mut Cursor<'_>, usize, ExpressionPart) -> Result<Expression, Stop>,
-    G: Fn(Global, &mut Cursor<'_>, usize, &Context<'_>, StatementPart) -> Result<Statement, Stop>,
+    F: Fn(Global, &mut Cursor<'_>, usize, ExpressionPart) -> Result<Held<Expression>, Stop>,
+    G: Fn(
+        Global,
+        &mut Cursor<'_>,
+        usize,
+        &Context<'_>,
+        StatementPart,
+    ) -> Result<Held<Statement>, Stop>,
 > Grammar<F, G> {
     /// Reads a `continue` statement (12.7).
     pub fn continue_statement(
         &self,
         cursor: &mut Cursor<'_>,
         context: &Context<'_>,
-    ) -> Result<Statement, Stop>
+    ) -> Result<Held<Statement>, Stop>
         requires { Nests self.now.depth (F.pre self.now.expression) (F.post self.now.expression) (G.pre self.now.statement) (G.post self.now.statement) }
         ensures { Follows (spec.continue_by self.now.depth (below self.now.depth) (context_of context.now) context.now.in_loop cursor.old) result cursor.new }
     {
@@ -44,7 +50,7 @@ impl<
         cursor.take();
         let label = continue_target(self.alloc, cursor, context, place)?;
         ended(cursor)?;
-        Ok(Statement::Continue { label, place })
+        Ok(Held::new(self.alloc, Statement::Continue { label, place })?)
     }
 
     /// Reads a `break` statement (12.8).
@@ -52,7 +58,7 @@ impl<
         &self,
         cursor: &mut Cursor<'_>,
         context: &Context<'_>,
-    ) -> Result<Statement, Stop>
+    ) -> Result<Held<Statement>, Stop>
         requires { Nests self.now.depth (F.pre self.now.expression) (F.post self.now.expression) (G.pre self.now.statement) (G.post self.now.statement) }
         ensures { Follows (spec.break_by self.now.depth (below self.now.depth) (context_of context.now) (spec.may_break (context_of context.now)) cursor.old) result cursor.new }
     {
@@ -63,12 +69,12 @@ impl<
         cursor.take();
         let label = break_target(self.alloc, cursor, context, place)?;
         ended(cursor)?;
-        Ok(Statement::Break { label, place })
+        Ok(Held::new(self.alloc, Statement::Break { label, place })?)
     }
 
     /// Reads the value of a `return`.
     #[tactic(auto, unfolding(ja_grammar::specs::ReadStatement::returned))]
-    fn returned(&self, cursor: &mut Cursor<'_>) -> Result<Option<Expression>, Stop>
+    fn returned(&self, cursor: &mut Cursor<'_>) -> Result<Option<Held<Expression>>, Stop>
         requires { Nests self.now.depth (F.pre self.now.expression) (F.post self.now.expression) (G.pre self.now.statement) (G.post self.now.statement) }
         ensures { Follows (spec.returned self.now.depth (below self.now.depth) cursor.old) result cursor.new }
     {
@@ -83,7 +89,7 @@ impl<
         &self,
         cursor: &mut Cursor<'_>,
         context: &Context<'_>,
-    ) -> Result<Statement, Stop>
+    ) -> Result<Held<Statement>, Stop>
         requires { Nests self.now.depth (F.pre self.now.expression) (F.post self.now.expression) (G.pre self.now.statement) (G.post self.now.statement) }
         ensures { Follows (spec.return_by self.now.depth (below self.now.depth) context.now.in_function cursor.old) result cursor.new }
     {
@@ -94,12 +100,18 @@ impl<
         cursor.take();
         let value = self.returned(cursor)?;
         ended(cursor)?;
-        Ok(Statement::Return { value, place })
+        Ok(Held::new(
+            self.alloc,
+            Statement::Return {
+                value: taken(value),
+                place,
+            },
+        )?)
     }
 
     /// Reads the value of a `throw`.
     #[tactic(auto, unfolding(ja_grammar::specs::ReadStatement::thrown))]
-    fn thrown(&self, cursor: &mut Cursor<'_>) -> Result<Expression, Stop>
+    fn thrown(&self, cursor: &mut Cursor<'_>) -> Result<Held<Expression>, Stop>
         requires { Nests self.now.depth (F.pre self.now.expression) (F.post self.now.expression) (G.pre self.now.statement) (G.post self.now.statement) }
         ensures { Follows (spec.thrown self.now.depth (below self.now.depth) cursor.old) result cursor.new }
     {
@@ -111,7 +123,7 @@ impl<
 
     /// Reads a `throw` statement (12.13).
     #[tactic(auto, unfolding(ja_grammar::specs::ReadStatement::throw))]
-    pub fn throw_statement(&self, cursor: &mut Cursor<'_>) -> Result<Statement, Stop>
+    pub fn throw_statement(&self, cursor: &mut Cursor<'_>) -> Result<Held<Statement>, Stop>
         requires { Nests self.now.depth (F.pre self.now.expression) (F.post self.now.expression) (G.pre self.now.statement) (G.post self.now.statement) }
         ensures { Follows (spec.throw self.now.depth (below self.now.depth) cursor.old) result cursor.new }
     {
@@ -119,7 +131,13 @@ impl<
         cursor.take();
         let value = self.thrown(cursor)?;
         ended(cursor)?;
-        Ok(Statement::Throw { value, place })
+        Ok(Held::new(
+            self.alloc,
+            Statement::Throw {
+                value: value.into_inner(),
+                place,
+            },
+        )?)
     }
 
     /// Takes a label and its `:`.
@@ -144,7 +162,7 @@ impl<
         cursor: &mut Cursor<'_>,
         context: &Context<'_>,
         labels: usize,
-    ) -> Result<Statement, Stop>
+    ) -> Result<Held<Statement>, Stop>
         requires { Nests self.now.depth (F.pre self.now.expression) (F.post self.now.expression) (G.pre self.now.statement) (G.post self.now.statement) }
         ensures { Follows (spec.labelled self.now.depth (below self.now.depth) (context_of context.now) labels cursor.old) result cursor.new }
     {

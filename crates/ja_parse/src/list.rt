@@ -13,7 +13,7 @@ ghost use Rattle.ja_parse.specs.Ends.{ends};
 ghost use Rattle.ja_parse.specs.Nests.{Nests};
 
 use crate::grammar::Grammar;
-use ja_cursor::{Cursor, ends_clause, is_close_brace, is_close_bracket};
+use ja_cursor::{Cursor, Held, ends_clause, is_close_brace, is_close_bracket};
 use ja_grammar::{Context, ExpressionPart, StatementPart, Stop};
 use ja_syntax::{Expression, Property, Statement, Symbol};
 use sqlite_items::Items;
@@ -39,8 +39,14 @@ fn is_end(end: ListEnd, symbol: Symbol) -> bool
 }
 
 impl<
-    F: Fn(Global, &mut Cursor<'_>, usize, ExpressionPart) -> Result<Expression, Stop>,
-    G: Fn(Global, &mut Cursor<'_>, usize, &Context<'_>, StatementPart) -> Result<Statement, Stop>,
+    F: Fn(Global, &mut Cursor<'_>, usize, ExpressionPart) -> Result<Held<Expression>, Stop>,
+    G: Fn(
+        Global,
+        &mut Cursor<'_>,
+        usize,
+        &Context<'_>,
+        StatementPart,
+    ) -> Result<Held<Statement>, Stop>,
 > Grammar<F, G> {
     /// Reads statements one level below, up to the end of their list.
     pub fn statements_below(
@@ -63,7 +69,7 @@ impl<
                 outermost,
             };
             let item = self.statement_below(cursor, context, part)?;
-            found.push(item)?;
+            found.push(item.into_inner())?;
         }
         Ok(found)
     }
@@ -128,14 +134,14 @@ impl<
     {
         let mut found = Items::new(self.alloc);
         let first = self.expression_below(cursor, ExpressionPart::Assignment { no_in: false })?;
-        found.push(first)?;
+        found.push(first.into_inner())?;
         for _turn in 0..cursor.left() {
             if !cursor.sees(Symbol::Comma) {
                 return Ok(found);
             }
             cursor.take();
             let item = self.expression_below(cursor, ExpressionPart::Assignment { no_in: false })?;
-            found.push(item)?;
+            found.push(item.into_inner())?;
         }
         Ok(found)
     }

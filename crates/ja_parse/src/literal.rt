@@ -13,22 +13,30 @@ ghost use Rattle.ja_parse.specs.Nests.{Nests};
 
 use crate::grammar::Grammar;
 use crate::list::ListEnd;
-use ja_cursor::{Cursor, function_context, function_name, literal_of, parameters, property_name};
+use ja_cursor::{
+    Cursor, Held, function_context, function_name, literal_of, parameters, property_name,
+};
 use ja_grammar::{Context, ExpressionPart, Refusal, StatementPart, Stop};
 use ja_syntax::{Expression, FunctionTree, Name, Property, Statement, Symbol};
 use sqlite_items::Items;
 use std::alloc::Global;
 
 impl<
-    F: Fn(Global, &mut Cursor<'_>, usize, ExpressionPart) -> Result<Expression, Stop>,
-    G: Fn(Global, &mut Cursor<'_>, usize, &Context<'_>, StatementPart) -> Result<Statement, Stop>,
+    F: Fn(Global, &mut Cursor<'_>, usize, ExpressionPart) -> Result<Held<Expression>, Stop>,
+    G: Fn(
+        Global,
+        &mut Cursor<'_>,
+        usize,
+        &Context<'_>,
+        StatementPart,
+    ) -> Result<Held<Statement>, Stop>,
 > Grammar<F, G> {
     /// Reads what stands behind an element of an array literal.
     #[tactic(auto, unfolding(ja_grammar::specs::ReadExpression::element_close))]
     fn element_close(
         &self,
         cursor: &mut Cursor<'_>,
-        x: Expression,
+        x: Held<Expression>,
     ) -> Result<Option<Expression>, Stop>
         requires { Nests self.now.depth (F.pre self.now.expression) (F.post self.now.expression) (G.pre self.now.statement) (G.post self.now.statement) }
         ensures { Follows (spec.element_close self.now.depth (below self.now.depth) x cursor.old) result cursor.new }
@@ -36,9 +44,9 @@ impl<
         match cursor.symbol() {
             Symbol::Comma => {
                 cursor.take();
-                Ok(Some(x))
+                Ok(Some(x.into_inner()))
             }
-            Symbol::CloseBracket => Ok(Some(x)),
+            Symbol::CloseBracket => Ok(Some(x.into_inner())),
             _ => Err(Stop::Refused(Refusal::Unexpected)),
         }
     }
@@ -74,7 +82,11 @@ impl<
         cursor.take();
         cursor.expect(Symbol::Colon)?;
         let value = self.expression_below(cursor, ExpressionPart::Assignment { no_in: false })?;
-        Ok(Property { name, value, place })
+        Ok(Property {
+            name,
+            value: value.into_inner(),
+            place,
+        })
     }
 
     /// Reads the body of a function with its braces.
@@ -121,7 +133,7 @@ impl<
 
     /// Reads an array literal (11.1.4).
     #[tactic(auto, unfolding(ja_grammar::specs::ReadExpression::array))]
-    fn array(&self, cursor: &mut Cursor<'_>) -> Result<Expression, Stop>
+    fn array(&self, cursor: &mut Cursor<'_>) -> Result<Held<Expression>, Stop>
         requires { Nests self.now.depth (F.pre self.now.expression) (F.post self.now.expression) (G.pre self.now.statement) (G.post self.now.statement) }
         ensures { Follows (spec.array self.now.depth (below self.now.depth) cursor.old) result cursor.new }
     {
@@ -129,24 +141,24 @@ impl<
         cursor.enter(self.depth)?;
         let elements = self.elements(cursor)?;
         cursor.expect(Symbol::CloseBracket)?;
-        Ok(Expression::Array { elements, place })
+        Ok(Held::new(self.alloc, Expression::Array { elements, place })?)
     }
 
     /// Reads an object literal (11.1.5).
     #[tactic(auto, unfolding(ja_grammar::specs::ReadExpression::object))]
-    fn object(&self, cursor: &mut Cursor<'_>) -> Result<Expression, Stop>
+    fn object(&self, cursor: &mut Cursor<'_>) -> Result<Held<Expression>, Stop>
         requires { Nests self.now.depth (F.pre self.now.expression) (F.post self.now.expression) (G.pre self.now.statement) (G.post self.now.statement) }
         ensures { Follows (spec.object self.now.depth (below self.now.depth) cursor.old) result cursor.new }
     {
         let place = cursor.place();
         cursor.enter(self.depth)?;
         let properties = self.properties(cursor)?;
-        Ok(Expression::Object { properties, place })
+        Ok(Held::new(self.alloc, Expression::Object { properties, place })?)
     }
 
     /// Reads an expression in parentheses (11.1.6).
     #[tactic(auto, unfolding(ja_grammar::specs::ReadExpression::parenthesized))]
-    fn parenthesized(&self, cursor: &mut Cursor<'_>) -> Result<Expression, Stop>
+    fn parenthesized(&self, cursor: &mut Cursor<'_>) -> Result<Held<Expression>, Stop>
         requires { Nests self.now.depth (F.pre self.now.expression) (F.post self.now.expression) (G.pre self.now.statement) (G.post self.now.statement) }
         ensures { Follows (spec.parenthesized self.now.depth (below self.now.depth) cursor.old) result cursor.new }
     {
@@ -158,7 +170,7 @@ impl<
 
     /// Reads a literal (7.8).
     #[tactic(auto, unfolding(ja_grammar::specs::ReadExpression::literal))]
-    fn literal(&self, cursor: &mut Cursor<'_>) -> Result<Expression, Stop>
+    fn literal(&self, cursor: &mut Cursor<'_>) -> Result<Held<Expression>, Stop>
         requires { Nests self.now.depth (F.pre self.now.expression) (F.post self.now.expression) (G.pre self.now.statement) (G.post self.now.statement) }
         ensures { Follows (spec.literal self.now.depth (below self.now.depth) cursor.old) result cursor.new }
     {
@@ -167,40 +179,43 @@ impl<
             return Err(Stop::Refused(Refusal::Unexpected));
         };
         cursor.take();
-        Ok(Expression::Literal { value, place })
+        Ok(Held::new(self.alloc, Expression::Literal { value, place })?)
     }
 
     /// Reads `this` (11.1.1).
-    fn this(&self, cursor: &mut Cursor<'_>) -> Result<Expression, Stop>
+    fn this(&self, cursor: &mut Cursor<'_>) -> Result<Held<Expression>, Stop>
         requires { Nests self.now.depth (F.pre self.now.expression) (F.post self.now.expression) (G.pre self.now.statement) (G.post self.now.statement) }
         ensures { Follows (spec.primary_by self.now.depth (below self.now.depth) (head cursor.old) k.This cursor.old) result cursor.new }
     {
         let place = cursor.place();
         cursor.take();
-        Ok(Expression::This { place })
+        Ok(Held::new(self.alloc, Expression::This { place })?)
     }
 
     /// Reads a name (11.1.2).
-    fn name(&self, cursor: &mut Cursor<'_>) -> Result<Expression, Stop>
+    fn name(&self, cursor: &mut Cursor<'_>) -> Result<Held<Expression>, Stop>
         requires { Nests self.now.depth (F.pre self.now.expression) (F.post self.now.expression) (G.pre self.now.statement) (G.post self.now.statement) }
         ensures { Follows (spec.primary_by self.now.depth (below self.now.depth) (head cursor.old) k.Name cursor.old) result cursor.new }
     {
         let name = cursor.name(self.alloc)?;
         cursor.take();
-        Ok(Expression::Name(name))
+        Ok(Held::new(self.alloc, Expression::Name(name))?)
     }
 
     /// Reads a function expression (13).
-    fn function_expression(&self, cursor: &mut Cursor<'_>) -> Result<Expression, Stop>
+    fn function_expression(&self, cursor: &mut Cursor<'_>) -> Result<Held<Expression>, Stop>
         requires { Nests self.now.depth (F.pre self.now.expression) (F.post self.now.expression) (G.pre self.now.statement) (G.post self.now.statement) }
         ensures { Follows (spec.primary_by self.now.depth (below self.now.depth) (head cursor.old) k.Function cursor.old) result cursor.new }
     {
-        Ok(Expression::Function(self.function(cursor, false)?))
+        Ok(Held::new(
+            self.alloc,
+            Expression::Function(self.function(cursor, false)?),
+        )?)
     }
 
     /// Reads a primary expression (11.1).
     #[tactic(auto, unfolding(ja_grammar::specs::ReadExpression::primary))]
-    pub fn primary(&self, cursor: &mut Cursor<'_>) -> Result<Expression, Stop>
+    pub fn primary(&self, cursor: &mut Cursor<'_>) -> Result<Held<Expression>, Stop>
         requires { Nests self.now.depth (F.pre self.now.expression) (F.post self.now.expression) (G.pre self.now.statement) (G.post self.now.statement) }
         ensures { Follows (spec.primary self.now.depth (below self.now.depth) cursor.old) result cursor.new }
     {

@@ -7,7 +7,7 @@ ghost use Rattle.ja_grammar.specs.ReadStatement as spec;
 ghost use Rattle.ja_grammar.specs.ReadStatement.{below};
 
 use crate::grammar::Grammar;
-use ja_cursor::{Cursor, program_context};
+use ja_cursor::{Cursor, Held, program_context};
 use ja_grammar::{Context, ExpressionPart, StatementPart, Stop};
 use ja_syntax::{Expression, Statement};
 use sqlite_items::Items;
@@ -23,7 +23,7 @@ fn expression_at(
     cursor: &mut Cursor<'_>,
     depth: usize,
     part: ExpressionPart,
-) -> Result<Expression, Stop>
+) -> Result<Held<Expression>, Stop>
     ensures { Follows (expression_part depth (below depth) part cursor.old) result cursor.new }
 {
     Grammar {
@@ -43,7 +43,7 @@ fn statement_at(
     depth: usize,
     context: &Context<'_>,
     part: StatementPart,
-) -> Result<Statement, Stop>
+) -> Result<Held<Statement>, Stop>
     ensures { Follows (spec.statement_part depth (below depth) (context_of context.now) part cursor.old) result cursor.new }
 {
     Grammar {

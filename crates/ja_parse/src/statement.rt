@@ -14,15 +14,21 @@ ghost use Rattle.ja_grammar.specs.declared.part.StatementPart.TheVariants as par
 ghost use Rattle.ja_parse.specs.Nests.{Nests};
 
 use crate::grammar::Grammar;
-use ja_cursor::{Cursor, is_label};
+use ja_cursor::{Cursor, Held, is_label};
 use ja_grammar::{Context, ExpressionPart, Refusal, StatementPart, Stop};
 use ja_syntax::{Expression, Statement, Symbol};
 use sqlite_items::Items;
 use std::alloc::Global;
 
 impl<
-    F: Fn(Global, &mut Cursor<'_>, usize, ExpressionPart) -> Result<Expression, Stop>,
-    G: Fn(Global, &mut Cursor<'_>, usize, &Context<'_>, StatementPart) -> Result<Statement, Stop>,
+    F: Fn(Global, &mut Cursor<'_>, usize, ExpressionPart) -> Result<Held<Expression>, Stop>,
+    G: Fn(
+        Global,
+        &mut Cursor<'_>,
+        usize,
+        &Context<'_>,
+        StatementPart,
+    ) -> Result<Held<Statement>, Stop>,
 > Grammar<F, G> {
     /// Reads a word that counts, and what stands behind it.
     fn headed(
@@ -30,7 +36,7 @@ impl<
         cursor: &mut Cursor<'_>,
         context: &Context<'_>,
         part: StatementPart,
-    ) -> Result<Statement, Stop>
+    ) -> Result<Held<Statement>, Stop>
         requires { Nests self.now.depth (F.pre self.now.expression) (F.post self.now.expression) (G.pre self.now.statement) (G.post self.now.statement) }
         ensures { Follows (spec.headed self.now.depth (below self.now.depth) (context_of context.now) part cursor.old) result cursor.new }
     {
@@ -43,14 +49,17 @@ impl<
         &self,
         cursor: &mut Cursor<'_>,
         outermost: bool,
-    ) -> Result<Statement, Stop>
+    ) -> Result<Held<Statement>, Stop>
         requires { Nests self.now.depth (F.pre self.now.expression) (F.post self.now.expression) (G.pre self.now.statement) (G.post self.now.statement) }
         ensures { Follows (spec.function_statement self.now.depth (below self.now.depth) outermost cursor.old) result cursor.new }
     {
         if !outermost {
             return Err(Stop::Refused(Refusal::Unexpected));
         }
-        Ok(Statement::Function(self.function(cursor, true)?))
+        Ok(Held::new(
+            self.alloc,
+            Statement::Function(self.function(cursor, true)?),
+        )?)
     }
 
     /// Reads a block statement (12.1).
@@ -58,23 +67,23 @@ impl<
         &self,
         cursor: &mut Cursor<'_>,
         context: &Context<'_>,
-    ) -> Result<Statement, Stop>
+    ) -> Result<Held<Statement>, Stop>
         requires { Nests self.now.depth (F.pre self.now.expression) (F.post self.now.expression) (G.pre self.now.statement) (G.post self.now.statement) }
         ensures { Follows (spec.single_by self.now.depth (below self.now.depth) (context_of context.now) 0 false (head cursor.old) k.OpenBrace cursor.old) result cursor.new }
     {
         let place = cursor.place();
         let body = self.block(cursor, context)?;
-        Ok(Statement::Block { body, place })
+        Ok(Held::new(self.alloc, Statement::Block { body, place })?)
     }
 
     /// Reads an empty statement (12.3).
-    fn empty_statement(&self, cursor: &mut Cursor<'_>) -> Result<Statement, Stop>
+    fn empty_statement(&self, cursor: &mut Cursor<'_>) -> Result<Held<Statement>, Stop>
         requires { Nests self.now.depth (F.pre self.now.expression) (F.post self.now.expression) (G.pre self.now.statement) (G.post self.now.statement) }
         ensures { Follows (spec.single_by self.now.depth (below self.now.depth) contexts.program_context 0 false (head cursor.old) k.Semicolon cursor.old) result cursor.new }
     {
         let place = cursor.place();
         cursor.take();
-        Ok(Statement::Empty { place })
+        Ok(Held::new(self.alloc, Statement::Empty { place })?)
     }
 
     /// Reads a statement, which `labels` labels stand directly before; `outermost`: it stands directly
@@ -86,7 +95,7 @@ impl<
         context: &Context<'_>,
         labels: usize,
         outermost: bool,
-    ) -> Result<Statement, Stop>
+    ) -> Result<Held<Statement>, Stop>
         requires { Nests self.now.depth (F.pre self.now.expression) (F.post self.now.expression) (G.pre self.now.statement) (G.post self.now.statement) }
         ensures { Follows (spec.single self.now.depth (below self.now.depth) (context_of context.now) labels outermost cursor.old) result cursor.new }
     {
@@ -124,7 +133,7 @@ impl<
         cursor: &mut Cursor<'_>,
         context: &Context<'_>,
         part: StatementPart,
-    ) -> Result<Statement, Stop>
+    ) -> Result<Held<Statement>, Stop>
         requires { Nests self.now.depth (F.pre self.now.expression) (F.post self.now.expression) (G.pre self.now.statement) (G.post self.now.statement) }
         ensures { Follows (spec.statement_part self.now.depth (below self.now.depth) (context_of context.now) part cursor.old) result cursor.new }
     {
@@ -156,7 +165,7 @@ impl<
                 return Ok(found);
             }
             let item = self.single(cursor, context, 0, true)?;
-            found.push(item)?;
+            found.push(item.into_inner())?;
         }
         Ok(found)
     }
