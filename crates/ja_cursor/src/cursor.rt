@@ -136,6 +136,17 @@ impl<'a> Cursor<'a> {
         }
     }
 
+    /// At the token behind the next one.
+    #[tactic(auto, unfolding(ja_grammar::specs::Input::behind))]
+    pub fn behind(&self) -> Cursor<'a>
+        ensures { result ≡ spec.behind self.now }
+    {
+        match self.rest.split_first() {
+            Some((_, rest)) => Cursor::new(rest),
+            None => Cursor::new(&[]),
+        }
+    }
+
     /// The place of the next token; that of the end, behind the last token, is line 0, column 0.
     #[tactic(auto, unfolding(ja_grammar::specs::Input::head))]
     pub fn place(&self) -> Place

@@ -26,7 +26,7 @@ pub use operator::{
     unary_operator,
 };
 pub use semicolon::ended;
-pub use target::{break_target, continue_target, enter_label};
+pub use target::{break_target, continue_target, enter_label, without_target};
 pub use tree::{
     assign, chained, conditional, created, do_of, for_in_of, for_of, if_of, labelled_of, operated,
     sequence, taken, unary, update, while_of,

@@ -1,9 +1,9 @@
 //! The labels behind jumps, and the `:` behind a label (ES3 12.7, 12.8, 12.12).
 
-ghost use Rattle.std.specs.Prelude.{true};
+ghost use Rattle.std.specs.Prelude.{◌≡◌, true};
 ghost use Rattle.ja_grammar.specs.Contexts.{context_of};
 ghost use Rattle.ja_grammar.specs.Contexts as contexts;
-ghost use Rattle.ja_grammar.specs.Input.{Follows, head};
+ghost use Rattle.ja_grammar.specs.Input.{Follows, head, behind};
 ghost use Rattle.ja_grammar.specs.ReadStatement as spec;
 ghost use Rattle.ja_cursor.specs.Taking.{Takes};
 
@@ -79,6 +79,20 @@ pub fn break_target(
     }
     let known = has_label(context, cursor.word());
     allowed_label(alloc, cursor, known, known, place)
+}
+
+/// Why the word of a jump is refused where there is nothing to leave (12.7, 12.8): `UnknownLabel` where a
+/// label follows on its line that is none around, at that label's place, and else `Unexpected`.
+#[tactic(auto, unfolding(ja_grammar::specs::ReadStatement::without_target))]
+pub fn without_target(cursor: &Cursor<'_>, context: &Context<'_>) -> Refusal
+    ensures { result ≡ spec.without_target (context_of context.now) (head (behind cursor.now)) }
+{
+    let label = cursor.behind();
+    if is_label_behind(&label) && !has_label(context, label.word()) {
+        Refusal::UnknownLabel(label.place())
+    } else {
+        Refusal::Unexpected
+    }
 }
 
 /// Takes the `:` behind the label at `place`, which counts (12.12). Where no level is left, that is

@@ -60,22 +60,23 @@ place_taken w r {i} e = ap (λ n. take n i) (sym (split_place w r e)) ∙ split_
 pub place_dropped : (w r : Tokens) {i : Tokens} → i ≡ w ++ r → drop (place i r) i ≡ r
 place_dropped w r {i} e = ap (λ n. drop n i) (sym (split_place w r e)) ∙ split_dropped w r e
 
-module _ {A : Type 0} {p q : Parser A} {F : Follow} {W : A → Type 0} {i r : Tokens} {why : Refusal} where
+module _ {A : Type 0} {p q : Parser A} {F : Follow} {W : A → Type 0} {i r : Tokens} {whys : Tokens → Refusal} where
   -- what stands before the place of a refusal can be completed
-  pub refused_before : Stops p q F W i (Refused why) r → Completes q F W [] → (tail : Tokens) → F tail
+  pub refused_before : Stops p q F W i (λ s. Refused (whys s) s) r → Completes q F W [] → (tail : Tokens) → F tail
       → (rest : Tokens) × (a : A) × W a × (q (take (place i r) i ++ rest) ≡ Done a tail)
   refused_before s none tail ends =
       let c = viable_completes q F W none s.before s.viable in
       (c.0 ++ tail, c.1, c.2, ap (λ w. q (w ++ (c.0 ++ tail))) (place_taken s.before r s.split) ∙ c.3 tail ends)
 
   -- no text goes on with the token there
-  pub refused_here : Stops p q F W i (Refused why) r → (x : Tokens) → head r ≡ head x → (a : A) (m : Tokens) → p (take (place i r) i ++ x) ≡ Done a m → ⊥
+  pub refused_here : Stops p q F W i (λ s. Refused (whys s) s) r → (x : Tokens) → head r ≡ head x → (a : A) (m : Tokens) → p (take (place i r) i ++ x) ≡ Done a m → ⊥
   refused_here s x h a m e = done_not_refused (sym e ∙ ap (λ w. p (w ++ x)) (place_taken s.before r s.split) ∙ s.local x h)
 
   -- with more levels neither
-  pub refused_roomy : Stops p q F W i (Refused why) r → (x : Tokens) → head r ≡ head x → (a : A) (m : Tokens) → q (take (place i r) i ++ x) ≡ Done a m → ⊥
+  pub refused_roomy : Stops p q F W i (λ s. Refused (whys s) s) r → (x : Tokens) → head r ≡ head x → (a : A) (m : Tokens) → q (take (place i r) i ++ x) ≡ Done a m → ⊥
   refused_roomy s x h a m e = done_not_refused (sym e ∙ ap (λ w. q (w ++ x)) (place_taken s.before r s.split) ∙ s.roomy x h)
 
+module _ {A : Type 0} {p q : Parser A} {F : Follow} {W : A → Type 0} {i r : Tokens} {why : Refusal} where
   -- with more levels, what stands before the place of a deep refusal can be completed behind the token there
   pub deep_before : Deeps p q F W i why r → (tail : Tokens) → F tail → (rest : Tokens) × (a : A) × W a × (q (take (place i r) i ++ head r ∷ rest) ≡ Done a tail)
   deep_before s tail ends =

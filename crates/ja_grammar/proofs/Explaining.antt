@@ -9,13 +9,13 @@ use Rattle.ja_syntax.specs.Symbols.{is_arguments, fault_of, symbol_of}
 use Rattle.ja_grammar.specs.declared.fault.ParseFault.{ParseFault}
 use Rattle.ja_grammar.specs.declared.fault.ParseFault.TheVariants.{Syntax, Scope, Depth, Memory}
 use Rattle.ja_grammar.specs.declared.fault.Refusal.{Refusal}
-use Rattle.ja_grammar.specs.declared.fault.Refusal.TheVariants.{Unexpected, RegExp, Arguments, Deep, DeepLabel, Broken}
+use Rattle.ja_grammar.specs.declared.fault.Refusal.TheVariants.{Unexpected, RegExp, Arguments, Deep, DeepLabel, Broken, UnknownLabel}
 use Rattle.ja_grammar.specs.Input.{until, many_from, Tokens, symbol, next, head, Outcome, Done, Refused}
-use Rattle.ja_grammar.specs.Language.{max_levels, Spells, IsText, FirstWrong, FirstDeep, IsBrokenAt, IsDeepAt, ExplainsAt, Explains, fault_at, token_fault, Answers}
+use Rattle.ja_grammar.specs.Language.{max_levels, Spells, IsText, FirstWrong, FirstDeep, IsBrokenAt, IsJumpLabelAt, IsDeepAt, ExplainsAt, Explains, fault_at, token_fault, Answers}
 use Rattle.ja_grammar.specs.Productions.{At}
 use Rattle.ja_grammar.specs.ReadStatement.{program}
 use Rattle.ja_grammar.specs.StatementGrammar.{IsProgram}
-use Rattle.ja_grammar.proofs.Good.{Reason, Closed, GoodAt, Stops, Deeps, Viable, Completes, Any, is_deep}
+use Rattle.ja_grammar.proofs.Good.{Reason, Closed, GoodAt, Refuses, Deeps, Viable, Completes, Any, is_deep}
 use Rattle.ja_grammar.proofs.Outcomes.{done_not_refused, same_done}
 
 -- a label stands before the rest
@@ -31,6 +31,7 @@ Justified Arguments before rest = is_arguments (head rest).kind ≡ true
 Justified Deep before rest = Unit {0}
 Justified (DeepLabel place) before rest = IsLabelAt before rest place
 Justified (Broken place) before rest = IsBrokenAt before rest place
+Justified (UnknownLabel place) before rest = IsJumpLabelAt rest place
 
 pub justified_closed : Closed Justified
 justified_closed Unexpected w v r h = tt
@@ -39,6 +40,7 @@ justified_closed Arguments w v r h = h
 justified_closed Deep w v r h = tt
 justified_closed (DeepLabel place) w v r h = (w ++ h.0, h.1, ap (λ x. w ++ x) h.2 ∙ sym (append_assoc w h.0 (h.1 ∷ [])), h.3, h.4, h.5)
 justified_closed (Broken place) w v r h = (w ++ h.0, h.1, h.2, ap (λ x. w ++ x) h.3 ∙ sym (append_assoc w h.0 (h.1 ∷ h.2)), h.4, h.5)
+justified_closed (UnknownLabel place) w v r h = h
 
 -- the program's reading function and the grammar agree, and the place law holds of it
 pub record ProgramLaws : Type 0 where
@@ -79,23 +81,23 @@ module _ (laws : ProgramLaws) where
 
   -- what is refused with some levels, but not for want of them, is refused with more
   refused_roomier : (d d' : ℕ) → d + 2 ≤ d' → (i : Tokens) (why : Refusal) (r : Tokens) → is_deep why ≡ false → program d i ≡ Refused why r
-      → program d' i ≡ Refused why r
+      → (again : Refusal) × (program d' i ≡ Refused again r)
   refused_roomier d d' more i why r shallow e =
-      let s = ((laws.good d d' more i).refused why r shallow e).0 in
-      ap (program d') s.split ∙ s.roomy r refl
+      let s = (laws.good d d' more i).refused why r shallow e in
+      (s.whys r, ap (program d') s.stops.split ∙ s.stops.roomy r refl)
 
   -- what is refused so is no text
   no_text : (d : ℕ) (i : Tokens) (why : Refusal) (r : Tokens) → is_deep why ≡ false → program d i ≡ Refused why r → IsText i → ⊥
   no_text d i why r shallow e text =
       let n = text.levels in
       let done = roomier n (n + (d + 2)) (omega arith) i text.tree text.spelled.0 (laws.all n i text.tree text.spelled.0 text.spelled.1) in
-      done_not_refused (sym done ∙ refused_roomier d (n + (d + 2)) (omega arith) i why r shallow e)
+      done_not_refused (sym done ∙ (refused_roomier d (n + (d + 2)) (omega arith) i why r shallow e).1)
 
-  first_wrong : (i : Tokens) (why : Refusal) (r : Tokens) → is_deep why ≡ false
-      → (s : Stops (program max_levels) (program 202) (At k.End) Any i (Refused why) r) → FirstWrong s.before r
-  first_wrong i why r shallow s = record {
-    goes_on = viable_text 202 s.before s.viable;
-    wrong = λ more same text. no_text max_levels (s.before ++ more) why more shallow (s.local more (sym same)) text;
+  first_wrong : (i : Tokens) (why : Refusal) (r : Tokens)
+      → (s : Refuses Justified (program max_levels) (program 202) (At k.End) Any i why r) → FirstWrong s.stops.before r
+  first_wrong i why r s = record {
+    goes_on = viable_text 202 s.stops.before s.stops.viable;
+    wrong = λ more same text. no_text max_levels (s.stops.before ++ more) (s.whys more) more (s.shallow more) (s.stops.local more (sym same)) text;
   }
 
   first_deep : (i : Tokens) (why : Refusal) (r : Tokens)
@@ -110,30 +112,33 @@ module _ (laws : ProgramLaws) where
     deep = λ more xs same spelled. done_not_refused (sym (laws.all max_levels (s.before ++ more) xs spelled.0 spelled.1) ∙ s.local more (sym same));
   }
 
-  -- a wrong token with its own kind of scope, or else at a place that is explained
-  own : {before : Tokens} (r : Tokens) (place : Place) (kind : Option ScopeKind) → fault_of (head r).kind ≡ kind → FirstWrong before r
-      → (fault_of (head r).kind ≡ None → ((fault_of (head r).kind ≡ None) × ((head r).place ≡ place)) ⊎ IsBrokenAt before r place)
-      → ExplainsAt before r (token_fault (head r).place place kind)
-  own r place None h w at = (w, at h)
-  own r place (Some kind) h w at = (w, inl h, refl)
+  -- a wrong token with its own kind of scope, or else at its own place
+  own : {before : Tokens} (r : Tokens) (kind : Option ScopeKind) → fault_of (head r).kind ≡ kind → FirstWrong before r → ExplainsAt before r (token_fault (head r).place kind)
+  own r None h w = (w, inl (h, refl))
+  own r (Some kind) h w = (w, inl h, refl)
 
   -- a refusal is right where it stands
   explained_at : (i : Tokens) (why : Refusal) (r : Tokens) → program max_levels i ≡ Refused why r
       → (before : Tokens) × (i ≡ before ++ r) × ExplainsAt before r (fault_at why (head r))
   explained_at i Unexpected r e =
-      let s = ((laws.good max_levels 202 (le_refl 202) i).refused Unexpected r refl e).0 in
-      (s.before, s.split, own r (head r).place (fault_of (head r).kind) refl (first_wrong i Unexpected r refl s) (λ none. inl (none, refl)))
+      let s = (laws.good max_levels 202 (le_refl 202) i).refused Unexpected r refl e in
+      (s.stops.before, s.stops.split, own r (fault_of (head r).kind) refl (first_wrong i Unexpected r s))
   explained_at i RegExp r e =
-      let s = (laws.good max_levels 202 (le_refl 202) i).refused RegExp r refl e in (s.0.before, s.0.split, (first_wrong i RegExp r refl s.0, inr (inl (refl, s.1)), refl))
+      let s = (laws.good max_levels 202 (le_refl 202) i).refused RegExp r refl e in
+      (s.stops.before, s.stops.split, (first_wrong i RegExp r s, inr (inl (refl, s.right)), refl))
   explained_at i Arguments r e =
-      let s = (laws.good max_levels 202 (le_refl 202) i).refused Arguments r refl e in (s.0.before, s.0.split, (first_wrong i Arguments r refl s.0, inr (inr (refl, s.1)), refl))
+      let s = (laws.good max_levels 202 (le_refl 202) i).refused Arguments r refl e in
+      (s.stops.before, s.stops.split, (first_wrong i Arguments r s, inr (inr (refl, s.right)), refl))
   explained_at i Deep r e =
       let s = (laws.good max_levels 202 (le_refl 202) i).deep Deep r refl e in (s.0.before, s.0.split, (first_deep i Deep r s.0, inl refl))
   explained_at i (DeepLabel place) r e =
       let s = (laws.good max_levels 202 (le_refl 202) i).deep (DeepLabel place) r refl e in (s.0.before, s.0.split, (first_deep i (DeepLabel place) r s.0, inr s.1))
   explained_at i (Broken place) r e =
       let s = (laws.good max_levels 202 (le_refl 202) i).refused (Broken place) r refl e in
-      (s.0.before, s.0.split, own r place (fault_of (head r).kind) refl (first_wrong i (Broken place) r refl s.0) (λ none. inr s.1))
+      (s.stops.before, s.stops.split, (first_wrong i (Broken place) r s, inr (inl s.right)))
+  explained_at i (UnknownLabel place) r e =
+      let s = (laws.good max_levels 202 (le_refl 202) i).refused (UnknownLabel place) r refl e in
+      (s.stops.before, s.stops.split, (first_wrong i (UnknownLabel place) r s, inr (inr s.right)))
 
   -- ---- what the answer to the program's tokens says
 

@@ -5,7 +5,7 @@ use Rattle.ja_lex.specs.declared.token.Token.{Token}
 use Rattle.ja_syntax.specs.declared.symbol.Symbol.TheVariants.{End}
 use Rattle.ja_grammar.proofs.Outcomes.{same_done, same_refused, done_not_refused, refused_not_done, head_behind, rest_of}
 use Rattle.ja_grammar.specs.declared.fault.Refusal.{Refusal}
-use Rattle.ja_grammar.specs.declared.fault.Refusal.TheVariants.{Unexpected, RegExp, Arguments, Deep, DeepLabel, Broken}
+use Rattle.ja_grammar.specs.declared.fault.Refusal.TheVariants.{Unexpected, RegExp, Arguments, Deep, DeepLabel, Broken, UnknownLabel}
 use Rattle.ja_grammar.specs.Input.{Tokens, head, next, Outcome, Done, Refused, Parser, and_then, ◌>>=◌, pure, refuse, look}
 
 -- ---- what is said
@@ -26,6 +26,7 @@ is_deep Arguments = false
 is_deep Deep = true
 is_deep (DeepLabel place) = true
 is_deep (Broken place) = false
+is_deep (UnknownLabel place) = false
 
 -- more tokens complete these ones
 abbrev pub Completes : {A : Type 0} → Parser A → Follow → (A → Type 0) → Tokens → Type 0
@@ -60,10 +61,17 @@ pub record Deeps {A : Type 0} (p q : Parser A) (F : Follow) (W : A → Type 0) (
   pub there : next r ≢ End
   pub viable : Completes q F W (before ++ head r ∷ [])
 
+-- `p` refuses what stands before r, for a reason that is right; whatever comes behind the next token, it is refused there, if for another reason
+pub record Refuses {A : Type 0} (J : Reason) (p q : Parser A) (F : Follow) (W : A → Type 0) (i : Tokens) (why : Refusal) (r : Tokens) : Type 0 where
+  pub whys : Tokens → Refusal
+  pub shallow : (s : Tokens) → is_deep (whys s) ≡ false
+  pub stops : Stops p q F W i (λ s. Refused (whys s) s) r
+  pub right : J why stops.before r
+
 -- Reading i by `p` stops as it should, however it ends: with a value, refused, or for want of levels.
 pub record GoodAt {A : Type 0} (J : Reason) (p q : Parser A) (F : Follow) (W : A → Type 0) (i : Tokens) : Type 0 where
   pub done : (a : A) (r : Tokens) → p i ≡ Done a r → Stops p q F W i (Done a) r
-  pub refused : (why : Refusal) (r : Tokens) → is_deep why ≡ false → p i ≡ Refused why r → (s : Stops p q F W i (Refused why) r) × J why s.before r
+  pub refused : (why : Refusal) (r : Tokens) → is_deep why ≡ false → p i ≡ Refused why r → Refuses J p q F W i why r
   pub deep : (why : Refusal) (r : Tokens) → is_deep why ≡ true → p i ≡ Refused why r → (s : Deeps p q F W i why r) × J why s.before r
 
 -- any value will do
@@ -89,8 +97,8 @@ pub refuse_good : {A : Type 0} (J : Reason) (F : Follow) (W : A → Type 0) (why
     → GoodAt J (refuse {A = A} why) (refuse why) F W i
 refuse_good J F W why i shallow h = record {
   done = λ b r e. absurd (refused_not_done e);
-  refused = λ v r _ e. same_refused (λ v r. (s : Stops (refuse why) (refuse why) F W i (Refused v) r) × J v s.before r) e
-      (record { before = []; split = refl; local = λ s _. refl; roomy = λ s _. refl; viable = tt }, h);
+  refused = λ v r _ e. same_refused (λ v r. Refuses J (refuse why) (refuse why) F W i v r) e
+      (record { whys = λ _. why; shallow = λ _. shallow; stops = record { before = []; split = refl; local = λ s _. refl; roomy = λ s _. refl; viable = tt }; right = h });
   deep = λ v r d e. absurd (true≢false (sym d ∙ same_refused (λ v r. is_deep v ≡ false) e shallow));
 }
 
@@ -133,8 +141,8 @@ module _ {A B : Type 0} (p q : Parser A) (f g : A → Parser B) (F G : Follow) (
   }
 
   -- the first part refuses
-  first_stops : {i r : Tokens} {why : Refusal} → ((a : A) → V a → Sample (g a) F G W)
-      → Stops p q F V i (Refused why) r → Stops (p >>= f) (q >>= g) G W i (Refused why) r
+  first_stops : {i r : Tokens} {whys : Tokens → Refusal} → ((a : A) → V a → Sample (g a) F G W)
+      → Stops p q F V i (λ s. Refused (whys s) s) r → Stops (p >>= f) (q >>= g) G W i (λ s. Refused (whys s) s) r
   first_stops sample s = record {
     before = s.before;
     split = s.split;
@@ -189,18 +197,18 @@ bind_good_by {A} {B} {p} {q} {f} {g} {F} {G} {V} {W} {J} {K} {L} i first second 
         go (Done a m) h = second_stops p q f g F G V W sample (first.done a m h) ((second a m h).done b r (reads h e))
         go (Refused why m) h = absurd (done_not_refused (sym e ∙ ap (λ o. and_then o f) h))
 
-    at_refused : (why : Refusal) (r : Tokens) → is_deep why ≡ false → (p >>= f) i ≡ Refused why r → (s : Stops (p >>= f) (q >>= g) G W i (Refused why) r) × J why s.before r
+    at_refused : (why : Refusal) (r : Tokens) → is_deep why ≡ false → (p >>= f) i ≡ Refused why r → Refuses J (p >>= f) (q >>= g) G W i why r
     at_refused why r shallow e = go (p i) refl
       where
-        go : (o : Outcome A) → p i ≡ o → (s : Stops (p >>= f) (q >>= g) G W i (Refused why) r) × J why s.before r
+        go : (o : Outcome A) → p i ≡ o → Refuses J (p >>= f) (q >>= g) G W i why r
         go (Done a m) h =
             let s = first.done a m h in
             let t = (second a m h).refused why r shallow (reads h e) in
-            (second_stops p q f g F G V W sample s t.0, step a m s why (t.0).before r (t.0).split t.1)
+            record { whys = t.whys; shallow = t.shallow; stops = second_stops p q f g F G V W sample s t.stops; right = step a m s why t.stops.before r t.stops.split t.right }
         go (Refused v m) h =
             let e' : refuse {A = A} v m ≡ refuse {A = A} why r = same_refused (λ x y. refuse {A = A} v m ≡ refuse {A = A} x y) (sym (ap (λ o. and_then o f) h) ∙ e) refl in
             let s = first.refused why r shallow (h ∙ e') in
-            (first_stops p q f g F G V W sample s.0, weaken why (s.0).before r s.1)
+            record { whys = s.whys; shallow = s.shallow; stops = first_stops p q f g F G V W sample s.stops; right = weaken why s.stops.before r s.right }
 
     at_deep : (why : Refusal) (r : Tokens) → is_deep why ≡ true → (p >>= f) i ≡ Refused why r → (s : Deeps (p >>= f) (q >>= g) G W i why r) × J why s.before r
     at_deep why r deep e = go (p i) refl
@@ -240,7 +248,8 @@ pub weaken_good : {A : Type 0} {p q : Parser A} {F G : Follow} {V W : A → Type
     → GoodAt K p q F V i → GoodAt J p q G W i
 weaken_good {A} {p = p} {q = q} {F} {G} {V} {W} {J} i follow value reason h = record {
   done = λ a r e. stops (h.done a r e);
-  refused = λ why r shallow e. let s = h.refused why r shallow e in (stops s.0, reason why (s.0).before r s.1);
+  refused = λ why r shallow e. let s = h.refused why r shallow e in
+      record { whys = s.whys; shallow = s.shallow; stops = stops s.stops; right = reason why s.stops.before r s.right };
   deep = λ why r d e. let s = h.deep why r d e in (deeps s.0, reason why (s.0).before r s.1);
 }
   where
@@ -300,7 +309,8 @@ module _ {A : Type 0} (J : Reason) (p q : Parser A) (F : Follow) (W : A → Type
   unfolding like_stops like_deeps
   like_good h = record {
     done = λ a r e. like_stops (ap rest_of (sym at ∙ e)) (h.done a r (sym at ∙ e));
-    refused = λ why r shallow e. let s = h.refused why r shallow (sym at ∙ e) in (like_stops (ap rest_of (sym at ∙ e)) s.0, s.1);
+    refused = λ why r shallow e. let s = h.refused why r shallow (sym at ∙ e) in
+        record { whys = s.whys; shallow = s.shallow; stops = like_stops (ap rest_of (sym at ∙ e)) s.stops; right = s.right };
     deep = λ why r d e. let s = h.deep why r d (sym at ∙ e) in (like_deeps (ap rest_of (sym at ∙ e)) s.0, s.1);
   }
 

@@ -40,6 +40,7 @@ reasons_at d = record {
   deep_label = λ t r is at. ([], t, refl, refl, is, at);
   continue = λ t r is at. ([], t, [], refl, refl, Breaks.continue is at);
   break = λ t r is at. ([], t, [], refl, refl, Breaks.break is at);
+  unknown = λ r is at. (is, at, refl);
 }
 
 -- a name is an expression below a level

@@ -1,5 +1,5 @@
 -- The place laws of what ends a statement, of declared variables, jumps and labels (7.9, 12.2, 12.7 to 12.9, 12.12, 12.13).
-use Rattle.std.proofs.Common.{◌≡◌, ◌≢◌, ℕ, suc, ◌<◌, Bool, true, false, not, ◌&&◌, ◌||◌, List, [], ◌∷◌, Option, Some, None, refl, sym, ap, ◌∙◌}
+use Rattle.std.proofs.Common.{◌≡◌, ◌≢◌, ◌⊎◌, inl, inr, ℕ, suc, ◌<◌, if◌then◌else◌, Bool, true, false, not, ◌&&◌, ◌||◌, List, [], ◌∷◌, Option, Some, None, refl, sym, ap, ◌∙◌}
 use Rattle.ja_lex.specs.declared.token.Token.{Token}
 use Rattle.ja_syntax.specs.declared.symbol.Symbol.{Symbol}
 use Rattle.ja_syntax.specs.declared.symbol.Symbol.TheVariants as k
@@ -8,19 +8,19 @@ use Rattle.ja_syntax.specs.declared.tree.Expression.{Expression}
 use Rattle.ja_syntax.specs.declared.tree.Name.{Name}
 use Rattle.ja_syntax.specs.declared.tree.Statement.{Statement}
 use Rattle.ja_syntax.specs.declared.tree.Statement.TheVariants as s
-use Rattle.ja_grammar.specs.declared.fault.Refusal.TheVariants.{DeepLabel, Broken}
+use Rattle.ja_grammar.specs.declared.fault.Refusal.TheVariants.{Unexpected, DeepLabel, Broken, UnknownLabel}
 use Rattle.ja_grammar.specs.declared.part.StatementPart.{StatementPart}
 use Rattle.ja_grammar.specs.declared.part.StatementPart.TheVariants as part
 use Rattle.ja_grammar.specs.Contexts.{Context, labelled_context, has_label, has_loop}
 use Rattle.ja_grammar.specs.Forms.{word, name_of, is_name, is_label_behind, ends_statement, ends_return}
-use Rattle.ja_grammar.specs.Input.{Tokens, head, next, behind, symbol, Done, Refused, Parser, and_then, ◌>>=◌, ◌>>◌, pure, look, take_token}
+use Rattle.ja_grammar.specs.Input.{Tokens, head, next, behind, symbol, Done, Refused, Parser, and_then, ◌>>=◌, ◌>>◌, pure, refuse, look, look_second, take_token}
 use Rattle.ja_grammar.specs.Productions.{At}
 use Rattle.ja_grammar.specs.ReadExpression.{Below}
-use Rattle.ja_grammar.specs.ReadStatement.{ended_by, ended, variable_by, variable, labelled_by, unlabelled_by, target_by, jump_target, may_break, enter_label, continue, continue_by, break, break_by, returned, returned_by, return, return_by, thrown, thrown_by, throw, label, label_by, labelled}
+use Rattle.ja_grammar.specs.ReadStatement.{ended_by, ended, variable_by, variable, labelled_by, unlabelled_by, target_by, jump_target, may_break, without_target, enter_label, continue, continue_by, break, break_by, returned, returned_by, return, return_by, thrown, thrown_by, throw, label, label_by, labelled}
 use Rattle.ja_grammar.proofs.BinaryGood.{whole_good}
 use Rattle.ja_grammar.proofs.Closing.{semicolon_closes}
 use Rattle.ja_grammar.proofs.ExpressionSamples.{named, declared_sample, whole_name}
-use Rattle.ja_grammar.proofs.Good.{Follow, Reason, Sample, GoodAt, Any, pure_good, refuse_good, bind_good, look_good}
+use Rattle.ja_grammar.proofs.Good.{Follow, Reason, Sample, GoodAt, Any, is_deep, pure_good, refuse_good, bind_good, look_good}
 use Rattle.ja_grammar.proofs.LabelNames.{labelled_names, break_label}
 use Rattle.ja_grammar.proofs.Levels.{closes, EndsExpression, EndsStatement, AreNames}
 use Rattle.ja_grammar.proofs.LiteralGood.{declared_good}
@@ -29,7 +29,7 @@ use Rattle.ja_grammar.proofs.Roomier.{Roomier, then_pure, unexpected, takes_pure
 use Rattle.ja_grammar.proofs.SampleTokens.{name, name_line, colon, semicolon, semicolon_is}
 use Rattle.ja_grammar.proofs.Shrinks.{Within, Moves, bind_moves, take_moves}
 use Rattle.ja_grammar.proofs.StatementSamples.{ended_then_sample}
-use Rattle.ja_grammar.proofs.Steps.{pure_sample, bind_sample, end_sample, take_good, level_good, good_within}
+use Rattle.ja_grammar.proofs.Steps.{pure_sample, bind_sample, end_sample, take_good, level_good, refuse_second_good, good_within}
 use Rattle.ja_grammar.proofs.Taken.{Taken, taken, taken_good, token_good, taken_bind}
 use Rattle.ja_grammar.proofs.Walks.{enter_label_done, labelled_entered}
 
@@ -187,6 +187,27 @@ module _ {J : Reason} {d d' : ℕ} {b b' : Below} (h : Roomier J d d' b b') wher
       go true is = labels (allowed (word (head i))) (known (word (head i))) is refl refl
       go false is = alones alone refl is
 
+  -- the word of a jump where there is nothing to leave
+  without_target_good : (c : Context) (i : Tokens) → (next i ≡ k.Continue) ⊎ (next i ≡ k.Break)
+      → GoodAt J (look_second {A = Statement} (λ t u. refuse (without_target c u))) (look_second (λ t u. refuse (without_target c u))) EndsStatement Any i
+  unfolding without_target
+  without_target_good c i is = refuse_second_good J EndsStatement Any (without_target c) i (λ u. shallow u (is_label_behind u && not (has_label c (word u)))) (label (is_label_behind u) refl)
+    where
+      u : Token
+      u = head (behind i)
+
+      shallow : (t : Token) (b : Bool) → is_deep (if b then UnknownLabel t.place else Unexpected) ≡ false
+      shallow t true = refl
+      shallow t false = refl
+
+      unknown : (b : Bool) → is_label_behind u ≡ true → J (if b then UnknownLabel u.place else Unexpected) [] i
+      unknown true at = h.reasons.unknown i is at
+      unknown false at = h.reasons.unexpected i
+
+      label : (b : Bool) → is_label_behind u ≡ b → J (if b && not (has_label c (word u)) then UnknownLabel u.place else Unexpected) [] i
+      label true at = unknown (not (has_label c (word u))) at
+      label false at = h.reasons.unexpected i
+
   pub continue_good : (c : Context) (i : Tokens) → next i ≡ k.Continue → GoodAt J (continue d b c) (continue d' b' c) EndsStatement Any i
   unfolding continue
   continue_good c i is = go c.in_loop
@@ -201,7 +222,7 @@ module _ {J : Reason} {d d' : ℕ} {b b' : Below} (h : Roomier J d d' b b') wher
           (λ x m _. ended_then_good (s.Continue x (head i).place) m)
           (λ x _. ended_then_sample (s.Continue x (head i).place) semicolon_goes))
           (bind_sample (alone_sample (has_loop c) (has_label c) (head i)) (λ x _. ended_then_sample (s.Continue x (head i).place) semicolon_goes))
-      go false = unexpected h EndsStatement Any i
+      go false = without_target_good c i (inl is)
 
   pub break_good : (c : Context) → AreNames c → (i : Tokens) → next i ≡ k.Break → GoodAt J (break d b c) (break d' b' c) EndsStatement Any i
   unfolding break
@@ -217,7 +238,7 @@ module _ {J : Reason} {d d' : ℕ} {b b' : Below} (h : Roomier J d d' b b') wher
           (λ x m _. ended_then_good (s.Break x (head i).place) m)
           (λ x _. ended_then_sample (s.Break x (head i).place) semicolon_goes))
           (bind_sample (break_sample c (head i) names may) (λ x _. ended_then_sample (s.Break x (head i).place) semicolon_goes))
-      go false may = unexpected h EndsStatement Any i
+      go false may = without_target_good c i (inr is)
 
   returned_good : (i : Tokens) → GoodAt J (returned d b) (returned d' b') (At k.Semicolon) Any i
   unfolding returned

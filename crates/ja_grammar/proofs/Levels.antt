@@ -1,6 +1,6 @@
 -- What the place laws of a rule take for granted: of the refusals, and of the parts that are read one level below, with fewer levels
 -- (b) and with more (c).
-use Rattle.std.proofs.Common.{◌≡◌, ℕ, Bool, true, false, ◌&&◌, is_none, is_some, [], ◌∷◌, ◌++◌}
+use Rattle.std.proofs.Common.{◌≡◌, ◌⊎◌, ℕ, Bool, true, false, ◌&&◌, is_none, is_some, [], ◌∷◌, ◌++◌}
 use Rattle.std.specs.List.{list_all}
 use Rattle.ja_base.specs.declared.ids.Place.{Place}
 use Rattle.ja_lex.specs.declared.token.Token.{Token}
@@ -11,13 +11,13 @@ use Rattle.ja_syntax.specs.declared.tree.Expression.{Expression}
 use Rattle.ja_syntax.specs.declared.tree.Statement.{Statement}
 use Rattle.ja_syntax.specs.References.{is_reference}
 use Rattle.ja_syntax.specs.Symbols.{is_arguments, same_symbol, symbol_of}
-use Rattle.ja_grammar.specs.declared.fault.Refusal.TheVariants.{Unexpected, RegExp, Arguments, Deep, DeepLabel, Broken}
+use Rattle.ja_grammar.specs.declared.fault.Refusal.TheVariants.{Unexpected, RegExp, Arguments, Deep, DeepLabel, Broken, UnknownLabel}
 use Rattle.ja_grammar.specs.declared.part.ExpressionPart.{ExpressionPart}
 use Rattle.ja_grammar.specs.declared.part.ExpressionPart.TheVariants as part
 use Rattle.ja_grammar.specs.declared.part.StatementPart.{StatementPart}
 use Rattle.ja_grammar.specs.Contexts.{Context, Label}
 use Rattle.ja_grammar.specs.Forms.{is_prefix, postfix_of, is_label_behind}
-use Rattle.ja_grammar.specs.Input.{Tokens, symbol, next, head, Done}
+use Rattle.ja_grammar.specs.Input.{Tokens, symbol, next, head, behind, Done}
 use Rattle.ja_grammar.specs.Operators.{prefix_update}
 use Rattle.ja_grammar.specs.ReadExpression.{Below, left_hand}
 use Rattle.ja_grammar.proofs.Good.{Reason, Follow, Closed, GoodAt, Any}
@@ -74,6 +74,8 @@ pub record Reasons (J : Reason) (d : ℕ) (b : Below) : Type 0 where
   -- a `continue` with a label that is no loop's, and a `break` without a label and without a target
   pub continue : (t : Token) (r : Tokens) → symbol t ≡ k.Continue → is_label_behind (head r) ≡ true → J (Broken t.place) (t ∷ []) r
   pub break : (t : Token) (r : Tokens) → symbol t ≡ k.Break → is_label_behind (head r) ≡ false → J (Broken t.place) (t ∷ []) r
+  -- the word of a jump, and a label behind it
+  pub unknown : (r : Tokens) → (next r ≡ k.Continue) ⊎ (next r ≡ k.Break) → is_label_behind (head (behind r)) ≡ true → J (UnknownLabel (head (behind r)).place) [] r
 
 -- ---- the parts one level below
 

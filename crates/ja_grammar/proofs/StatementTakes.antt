@@ -24,7 +24,7 @@ use Rattle.ja_grammar.specs.Contexts.{Context, loop_context, switch_context, lab
 use Rattle.ja_grammar.specs.Forms.{word, name_of, is_label, is_label_behind, ends_return, ends_clause}
 use Rattle.ja_grammar.specs.Input.{Tokens, head, next, behind, Parser, ◌>>◌, pure, enter, expect}
 use Rattle.ja_grammar.specs.ReadExpression.{Below, is_close_brace}
-use Rattle.ja_grammar.specs.ReadStatement.{ended_by, ended, variable_by, variable, labelled_by, unlabelled_by, target_by, jump_target, may_break, enter_label, Clauses, inner, block, bracketed, variables, expression_statement, continue, continue_by, break, break_by, returned, returned_by, return, return_by, thrown, thrown_by, throw, label, label_by, labelled, clause, case, default, default_by, clause_by, cases, switch, catch, finally, finally_by, handlers_by, try, labelled_or_expression, function_statement, headed, single_by, single, else_by, if_part, do_part, while_part, optional, optional_by, for_rest, in_rest, for_variables, for_variables_by, in_reference_by, for_expression, for_expression_by, for_by, for_part, statement_part}
+use Rattle.ja_grammar.specs.ReadStatement.{ended_by, ended, variable_by, variable, labelled_by, unlabelled_by, target_by, jump_target, may_break, without_target, enter_label, Clauses, inner, block, bracketed, variables, expression_statement, continue, continue_by, break, break_by, returned, returned_by, return, return_by, thrown, thrown_by, throw, label, label_by, labelled, clause, case, default, default_by, clause_by, cases, switch, catch, finally, finally_by, handlers_by, try, labelled_or_expression, function_statement, headed, single_by, single, else_by, if_part, do_part, while_part, optional, optional_by, for_rest, in_rest, for_variables, for_variables_by, in_reference_by, for_expression, for_expression_by, for_by, for_part, statement_part}
 use Rattle.ja_grammar.proofs.Agree.{BelowTakes}
 use Rattle.ja_grammar.proofs.ExpressionTakes.{declared_takes, function_takes, assignment_takes, whole_takes}
 use Rattle.ja_grammar.proofs.ListLaws.{many_shrinks, until_shrinks, separated_takes}
@@ -121,7 +121,7 @@ module _ (d : ℕ) (b : Below) (h : BelowTakes b) where
     where
       go : (a : Bool) → TakesAt (continue_by d b c a) i
       go true = bind_takes i (take_takes i more) (λ t r _. bind_shrinks r (jump_target_shrinks (has_loop c) (has_label c) true t.place r) (λ x m _. ended_then (s.Continue x t.place) m))
-      go false = refuse_takes Unexpected i
+      go false = same_takes i (refuse_takes (without_target c (head (behind i))) i) refl
 
   pub break_takes : (c : Context) (i : Tokens) → next i ≢ k.End → TakesAt (break d b c) i
   unfolding break
@@ -129,7 +129,7 @@ module _ (d : ℕ) (b : Below) (h : BelowTakes b) where
     where
       go : (a : Bool) → TakesAt (break_by d b c a) i
       go true = bind_takes i (take_takes i more) (λ t r _. bind_shrinks r (jump_target_shrinks (has_label c) (has_label c) c.in_breakable t.place r) (λ x m _. ended_then (s.Break x t.place) m))
-      go false = refuse_takes Unexpected i
+      go false = same_takes i (refuse_takes (without_target c (head (behind i))) i) refl
 
   pub returned_shrinks : Shrinks (returned d b)
   unfolding returned

@@ -11,7 +11,7 @@ use Rattle.ja_grammar.specs.Input.{Tokens, head, next, behind, symbol, Outcome, 
 use Rattle.ja_grammar.specs.Productions.{Is}
 use Rattle.ja_grammar.proofs.Outcomes.{done_rest, same_done, same_refused, done_not_refused, refused_not_done, same_symbol_true, same_symbol_false, cons_of, rest_of, head_behind, expect_done, enter_is, enter_zero, enter_done}
 use Rattle.ja_grammar.proofs.Shrinks.{Within, Moves, split_within}
-use Rattle.ja_grammar.proofs.Good.{Follow, Reason, is_deep, Completes, Viable, Sample, Stops, Deeps, GoodAt, refuse_good, like_good, look_good}
+use Rattle.ja_grammar.proofs.Good.{Follow, Reason, is_deep, Completes, Viable, Sample, Stops, Deeps, Refuses, GoodAt, refuse_good, like_good, look_good}
 
 -- ---- samples
 
@@ -135,6 +135,20 @@ expect_good J F W k i more h w = look_good by by i (go (same_symbol (next i) k) 
 
 -- ---- by the next two tokens
 
+-- the next token is refused, for a reason by the one behind it
+pub refuse_second_good : {A : Type 0} (J : Reason) (F : Follow) (W : A → Type 0) (why : Token → Refusal) (i : Tokens) → ((u : Token) → is_deep (why u) ≡ false)
+    → J (why (head (behind i))) [] i → GoodAt J (look_second {A = A} (λ t u. refuse (why u))) (look_second (λ t u. refuse (why u))) F W i
+refuse_second_good {A} J F W why i shallow h = record {
+  done = λ b r e. absurd (refused_not_done e);
+  refused = λ v r _ e. same_refused {A = A} (λ v r. Refuses J (look_second (λ t u. refuse (why u))) (look_second (λ t u. refuse (why u))) F W i v r) e (record {
+    whys = λ s. why (head (behind s));
+    shallow = λ s. shallow (head (behind s));
+    stops = record { before = []; split = refl; local = λ s _. refl; roomy = λ s _. refl; viable = tt };
+    right = h;
+  });
+  deep = λ v r d e. absurd (true≢false (sym d ∙ same_refused {A = A} (λ v r. is_deep v ≡ false) e (shallow (head (behind i)))));
+}
+
 -- what stops leaves no more tokens than there were
 pub good_within : {A : Type 0} {J : Reason} {p q : Parser A} {F : Follow} {W : A → Type 0} (i : Tokens) → GoodAt J p q F W i → Within p i
 good_within {A} {p = p} i h = record { within = go (p i) refl }
@@ -145,7 +159,7 @@ good_within {A} {p = p} i h = record { within = go (p i) refl }
       where
         by : (b : Bool) → is_deep why ≡ b → length r ≤ length i
         by true d = let s = h.deep why r d e in split_within (s.0).before r (s.0).split
-        by false d = let s = h.refused why r d e in split_within (s.0).before r (s.0).split
+        by false d = let s = (h.refused why r d e).stops in split_within s.before r s.split
 
 -- What stops takes the next token, where it does so in another text with that token.
 pub good_moves : {A : Type 0} {J : Reason} {p q : Parser A} {F : Follow} {W : A → Type 0} (i s : Tokens) (a : A) (m : Tokens) → GoodAt J p q F W i
@@ -159,8 +173,8 @@ good_moves {A} {p = p} {q = q} {F = F} {W = W} i s a m h same reads fewer = reco
     stuck : (o : Tokens → Outcome A) (before r : Tokens) → i ≡ before ++ r → ((x : Tokens) → head r ≡ head x → p (before ++ x) ≡ o x) → before ≡ [] → p s ≡ o s
     stuck o before r split local none = sym (ap (λ w. p (w ++ s)) none) ∙ local s (sym (ap head (split ∙ ap (λ w. w ++ r) none)) ∙ same)
 
-    refused : (why : Refusal) (before r : Tokens) → i ≡ before ++ r → ((x : Tokens) → head r ≡ head x → p (before ++ x) ≡ Refused why x) → suc (length r) ≤ length i
-    refused why before r split local = longer before r split (λ none. done_not_refused (sym reads ∙ stuck (Refused why) before r split local none))
+    refused : (whys : Tokens → Refusal) (before r : Tokens) → i ≡ before ++ r → ((x : Tokens) → head r ≡ head x → p (before ++ x) ≡ Refused (whys x) x) → suc (length r) ≤ length i
+    refused whys before r split local = longer before r split (λ none. done_not_refused (sym reads ∙ stuck (λ x. Refused (whys x) x) before r split local none))
 
     go : (o : Outcome A) → p i ≡ o → suc (length (rest_of o)) ≤ length i
     go (Done b r) e = let t = h.done b r e in longer t.before r t.split (λ none.
@@ -168,8 +182,8 @@ good_moves {A} {p = p} {q = q} {F = F} {W = W} i s a m h same reads fewer = reco
     go (Refused why r) e = by (is_deep why) refl
       where
         by : (b : Bool) → is_deep why ≡ b → suc (length r) ≤ length i
-        by true d = let t = h.deep why r d e in refused why (t.0).before r (t.0).split (t.0).local
-        by false d = let t = h.refused why r d e in refused why (t.0).before r (t.0).split (t.0).local
+        by true d = let t = h.deep why r d e in refused (λ _. why) (t.0).before r (t.0).split (t.0).local
+        by false d = let t = h.refused why r d e in refused t.whys t.stops.before r t.stops.split t.stops.local
 
 -- Goes on by the next two tokens: whatever comes, the first of them is taken, and the first alone can be completed.
 pub look_second_good : {A : Type 0} {J : Reason} {F : Follow} {W : A → Type 0} (f g : Token → Token → Parser A) (i : Tokens)

@@ -5,7 +5,7 @@ use Rattle.ja_syntax.specs.declared.symbol.Symbol.TheVariants.{End}
 use Rattle.ja_grammar.specs.declared.fault.Refusal.{Refusal}
 use Rattle.ja_grammar.specs.Input.{Tokens, head, next, behind, Done, Refused, Parser, ◌>>=◌, take_token}
 use Rattle.ja_grammar.proofs.Ends.{split_one}
-use Rattle.ja_grammar.proofs.Good.{Follow, Reason, Closed, Completes, Sample, Stops, GoodAt, is_deep, bind_good_by, bind_good_with, weaken_good}
+use Rattle.ja_grammar.proofs.Good.{Follow, Reason, Closed, Completes, Sample, Stops, Refuses, GoodAt, is_deep, bind_good_by, bind_good_with, weaken_good}
 use Rattle.ja_grammar.proofs.Outcomes.{same_done, same_refused, refused_not_done, cons_of, take_inverse}
 use Rattle.ja_grammar.proofs.Steps.{take_good}
 
@@ -52,8 +52,12 @@ pub refused_behind : {A : Type 0} (J : Reason) (F : Follow) (W : A → Type 0) (
     → Completes q F W (head i ∷ []) → GoodAt J p q F W i
 refused_behind {A} J F W p q i why shallow more h reads reads' one = record {
   done = λ a r e. absurd (refused_not_done (sym at ∙ e));
-  refused = λ v r _ e. same_refused {A = A} (λ v r. (s : Stops p q F W i (Refused v) r) × J v s.before r) (sym at ∙ e)
-      (record { before = head i ∷ []; split = cons_of i more; local = λ s same. reads s same; roomy = λ s same. reads' s same; viable = one }, h);
+  refused = λ v r _ e. same_refused {A = A} (λ v r. Refuses J p q F W i v r) (sym at ∙ e) (record {
+    whys = λ _. why;
+    shallow = λ _. shallow;
+    stops = record { before = head i ∷ []; split = cons_of i more; local = λ s same. reads s same; roomy = λ s same. reads' s same; viable = one };
+    right = h;
+  });
   deep = λ v r d e. absurd (true≢false (sym d ∙ same_refused {A = A} (λ v r. is_deep v ≡ false) (sym at ∙ e) shallow));
 }
   where

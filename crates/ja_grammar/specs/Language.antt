@@ -16,7 +16,7 @@ use Rattle.ja_grammar.specs.declared.fault.Refusal.{Refusal}
 use Rattle.ja_grammar.specs.declared.fault.Refusal.TheVariants as refusal
 use Rattle.ja_grammar.specs.ExpressionGrammar.{LeftHand}
 use Rattle.ja_grammar.specs.Forms.{is_prefix, postfix_of, is_label_behind}
-use Rattle.ja_grammar.specs.Input.{Tokens, symbol, next, head, Outcome, Done, Refused}
+use Rattle.ja_grammar.specs.Input.{Tokens, symbol, next, head, behind, Outcome, Done, Refused}
 use Rattle.ja_grammar.specs.Operators.{prefix_update}
 use Rattle.ja_grammar.specs.StatementGrammar.{IsProgram, nested}
 
@@ -63,6 +63,11 @@ abbrev pub IsBrokenAt : Tokens → Tokens → Place → Type 0
 IsBrokenAt before rest place =
     (front : Tokens) × (t : Token) × (back : Tokens) × (before ≡ front ++ t ∷ back) × (t.place ≡ place) × Breaks t back rest
 
+-- the wrong token is a `continue` or `break`, and the place is that of the label behind it on its line (12.7, 12.8)
+abbrev pub IsJumpLabelAt : Tokens → Place → Type 0
+IsJumpLabelAt rest place =
+    ((next rest ≡ k.Continue) ⊎ (next rest ≡ k.Break)) × (is_label_behind (head (behind rest)) ≡ true) × ((head (behind rest)).place ≡ place)
+
 -- the kind of scope that a wrong token may have: its own; `/` where an expression begins; `arguments` where a name is declared
 abbrev pub HasKind : Token → ScopeKind → Type 0
 HasKind t kind =
@@ -79,7 +84,7 @@ IsDeepAt before rest place =
 -- what a refusal says, by where the tokens part
 abbrev pub ExplainsAt : Tokens → Tokens → ParseFault → Type 0
 ExplainsAt before rest (Syntax place) =
-    FirstWrong before rest × (((fault_of (head rest).kind ≡ None) × ((head rest).place ≡ place)) ⊎ IsBrokenAt before rest place)
+    FirstWrong before rest × (((fault_of (head rest).kind ≡ None) × ((head rest).place ≡ place)) ⊎ IsBrokenAt before rest place ⊎ IsJumpLabelAt rest place)
 ExplainsAt before rest (Scope kind place) = FirstWrong before rest × HasKind (head rest) kind × ((head rest).place ≡ place)
 ExplainsAt before rest (Depth place) = FirstDeep max_levels before rest × IsDeepAt before rest place
 ExplainsAt before rest Memory = ⊥
@@ -91,19 +96,20 @@ Explains i fault = (before : Tokens) × (rest : Tokens) × (i ≡ before ++ rest
 
 -- ---- the kind and the place of a refusal
 
--- a token that leaves the profile by itself is refused with its kind of scope, at its own place; else a text is wrong at a place
-abbrev pub token_fault : Place → Place → Option ScopeKind → ParseFault
-token_fault own place (Some kind) = Scope kind own
-token_fault own place None = Syntax place
+-- a token that leaves the profile by itself is refused with its kind of scope, and any other one is wrong
+abbrev pub token_fault : Place → Option ScopeKind → ParseFault
+token_fault place (Some kind) = Scope kind place
+token_fault place None = Syntax place
 
--- what is answered to a refusal at the first token of the rest
+-- What is answered to a refusal at the first token of the rest. A rule is broken from an earlier word on, which comes before what the token is by itself.
 abbrev pub fault_at : Refusal → Token → ParseFault
-fault_at refusal.Unexpected t = token_fault t.place t.place (fault_of t.kind)
+fault_at refusal.Unexpected t = token_fault t.place (fault_of t.kind)
 fault_at refusal.RegExp t = Scope scope.RegExp t.place
 fault_at refusal.Arguments t = Scope scope.ArgumentsName t.place
 fault_at refusal.Deep t = Depth t.place
 fault_at (refusal.DeepLabel place) t = Depth place
-fault_at (refusal.Broken place) t = token_fault t.place place (fault_of t.kind)
+fault_at (refusal.Broken place) t = Syntax place
+fault_at (refusal.UnknownLabel place) t = Syntax place
 
 -- the answer to an outcome, unless memory was refused
 abbrev pub Answers : Outcome (List Statement) → Result (List Statement) ParseFault → Type 0

@@ -1,5 +1,5 @@
 -- How a statement is read, token by token: one function a rule of the grammar, at a number of levels that are left.
-use Rattle.std.specs.Prelude.{ℕ, zero, suc, Bool, true, false, not, ◌||◌, ◌==◌, if◌then◌else◌, List, [], ◌∷◌, ◌++◌, length, Option, Some, None}
+use Rattle.std.specs.Prelude.{ℕ, zero, suc, Bool, true, false, not, ◌&&◌, ◌||◌, ◌==◌, if◌then◌else◌, List, [], ◌∷◌, ◌++◌, length, Option, Some, None}
 use Rattle.ja_base.specs.declared.ids.Place.{Place}
 use Rattle.ja_lex.specs.declared.token.Token.{Token}
 use Rattle.ja_syntax.specs.declared.symbol.Symbol.{Symbol}
@@ -17,7 +17,8 @@ use Rattle.ja_syntax.specs.declared.tree.Statement.{Statement}
 use Rattle.ja_syntax.specs.declared.tree.Statement.TheVariants as s
 use Rattle.ja_syntax.specs.References.{is_reference}
 use Rattle.ja_syntax.specs.Symbols.{same_symbol}
-use Rattle.ja_grammar.specs.declared.fault.Refusal.TheVariants.{Unexpected, Deep, DeepLabel, Broken}
+use Rattle.ja_grammar.specs.declared.fault.Refusal.{Refusal}
+use Rattle.ja_grammar.specs.declared.fault.Refusal.TheVariants.{Unexpected, Deep, DeepLabel, Broken, UnknownLabel}
 use Rattle.ja_grammar.specs.declared.part.ExpressionPart.{ExpressionPart}
 use Rattle.ja_grammar.specs.declared.part.ExpressionPart.TheVariants as of_expression
 use Rattle.ja_grammar.specs.declared.part.StatementPart.{StatementPart}
@@ -67,6 +68,10 @@ jump_target allowed known alone place = look (λ t. target_by allowed known alon
 abbrev pub may_break : Context → Bool
 may_break c = c.in_breakable || not (length c.labels == 0)
 
+-- why the word of a jump is refused where there is nothing to leave, by the token behind it: that is an unknown label, or the word is wrong
+unfoldable pub without_target : Context → Token → Refusal
+without_target c t = if is_label_behind t && not (has_label c (word t)) then UnknownLabel t.place else Unexpected
+
 -- takes the `:` of a label at a place, which counts
 unfoldable pub enter_label : ℕ → Place → Parser Token
 enter_label d place = λ i. if d == 0 then Refused (DeepLabel place) i else Done (head i) (behind i)
@@ -107,14 +112,14 @@ module _ (d : ℕ) (b : Below) where
   -- ---- jumps (12.7 to 12.9, 12.13)
 
   abbrev pub continue_by : Context → Bool → Parser Statement
-  continue_by c false = refuse Unexpected
+  continue_by c false = look_second (λ t u. refuse (without_target c u))
   continue_by c true = take_token >>= (λ t. jump_target (has_loop c) (has_label c) true t.place >>= (λ x. ended >> pure (s.Continue x t.place)))
 
   unfoldable pub continue : Context → Parser Statement
   continue c = continue_by c c.in_loop
 
   abbrev pub break_by : Context → Bool → Parser Statement
-  break_by c false = refuse Unexpected
+  break_by c false = look_second (λ t u. refuse (without_target c u))
   break_by c true = take_token >>= (λ t. jump_target (has_label c) (has_label c) c.in_breakable t.place >>= (λ x. ended >> pure (s.Break x t.place)))
 
   unfoldable pub break : Context → Parser Statement

@@ -18,6 +18,9 @@ pub enum Refusal {
     DeepLabel(Place),
     /// A rule is broken by what stands from this place on.
     Broken(Place),
+    /// The token is the word of a jump where there is nothing to leave, and no label around is the
+    /// one behind it, at this place.
+    UnknownLabel(Place),
 }
 
 /// Why a function that reads gives nothing.

@@ -18,7 +18,7 @@ use crate::grammar::Grammar;
 use ja_base::Place;
 use ja_cursor::{
     Cursor, Held, break_target, continue_target, ended, ends_return, enter_label, has_label,
-    labelled_context, labelled_of, may_break, taken,
+    labelled_context, labelled_of, may_break, taken, without_target,
 };
 use ja_grammar::{Context, ExpressionPart, Refusal, StatementPart, Stop};
 use ja_syntax::{Expression, Name, Statement};
@@ -44,7 +44,7 @@ impl<
         ensures { Follows (spec.continue_by self.now.depth (below self.now.depth) (context_of context.now) context.now.in_loop cursor.old) result cursor.new }
     {
         if !context.in_loop {
-            return Err(Stop::Refused(Refusal::Unexpected));
+            return Err(Stop::Refused(without_target(cursor, context)));
         }
         let place = cursor.place();
         cursor.take();
@@ -63,7 +63,7 @@ impl<
         ensures { Follows (spec.break_by self.now.depth (below self.now.depth) (context_of context.now) (spec.may_break (context_of context.now)) cursor.old) result cursor.new }
     {
         if !may_break(context) {
-            return Err(Stop::Refused(Refusal::Unexpected));
+            return Err(Stop::Refused(without_target(cursor, context)));
         }
         let place = cursor.place();
         cursor.take();

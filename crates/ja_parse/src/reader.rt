@@ -19,13 +19,12 @@ use ja_syntax::{Statement, Tree};
 use sqlite_items::Items;
 use std::alloc::Global;
 
-/// A token with a kind of scope of its own is refused with it, where it stands; else a text is wrong at
-/// a place.
-fn token_fault(own: Place, place: Place, scope: Option<ScopeKind>) -> ParseFault
-    ensures { result ≡ spec.token_fault own place scope }
+/// A token with a kind of scope of its own is refused with it, and any other one is wrong.
+fn token_fault(place: Place, scope: Option<ScopeKind>) -> ParseFault
+    ensures { result ≡ spec.token_fault place scope }
 {
     match scope {
-        Some(kind) => ParseFault::Scope { kind, place: own },
+        Some(kind) => ParseFault::Scope { kind, place },
         None => ParseFault::Syntax { place },
     }
 }
@@ -36,7 +35,7 @@ fn fault_at(why: Refusal, cursor: &Cursor<'_>) -> ParseFault
 {
     let own = cursor.place();
     match why {
-        Refusal::Unexpected => token_fault(own, own, cursor.scope()),
+        Refusal::Unexpected => token_fault(own, cursor.scope()),
         Refusal::RegExp => ParseFault::Scope {
             kind: ScopeKind::RegExp,
             place: own,
@@ -47,7 +46,8 @@ fn fault_at(why: Refusal, cursor: &Cursor<'_>) -> ParseFault
         },
         Refusal::Deep => ParseFault::Depth { place: own },
         Refusal::DeepLabel(place) => ParseFault::Depth { place },
-        Refusal::Broken(place) => token_fault(own, place, cursor.scope()),
+        Refusal::Broken(place) => ParseFault::Syntax { place },
+        Refusal::UnknownLabel(place) => ParseFault::Syntax { place },
     }
 }
 
@@ -69,10 +69,11 @@ fn read(alloc: Global, tokens: &[Token]) -> Result<Items<Statement>, ParseFault>
 /// # Errors
 ///
 /// `Syntax`, `Scope` or `Depth` exactly where the text has no tree with at most 200 levels. The text is
-/// refused at the first token with which none goes on, or at its end. `Scope` where that token leaves the
-/// profile, at its place; `Depth` where more levels alone would do, at the place of the token that counts
-/// one too many; else `Syntax`, at the token's place or, where a rule is broken by what stands from an
-/// earlier word on, at that word. `Memory` where memory was refused.
+/// refused at the first token with which none goes on, or at its end. `Syntax` where a rule is broken by
+/// what stands from an earlier word on, at that word; else `Scope` where the token leaves the profile, at
+/// its place; `Depth` where more levels alone would do, at the place of the token that counts one too
+/// many; else `Syntax`, at the token's place or, where that is a jump with nothing to leave and an
+/// unknown label behind it, at that label. `Memory` where memory was refused.
 #[tactic(auto, using(ja_grammar::proofs::Theorem::answered_tree, ja_grammar::proofs::Theorem::answered_only, ja_grammar::proofs::Theorem::answered_fault, ja_grammar::proofs::Theorem::answered_none, ja_grammar::proofs::KeepsPrograms::spelled_keeps))]
 pub fn parse(alloc: Global, text: &str) -> Result<Tree, ParseFault>
     requires { length text.now ≤ 16777216 }
