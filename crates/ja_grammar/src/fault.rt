@@ -1,5 +1,6 @@
 use ja_base::{Place, ScopeKind};
 use std::alloc::{AllocError, AllocFailed};
+use thiserror::Error;
 
 /// Why reading ends at a token: no text of the language has that token, or the text's end, behind
 /// the tokens before it.
@@ -32,11 +33,15 @@ pub enum Stop {
 
 /// Why a text has no tree. `Syntax`: it is not in the language. `Scope`: it leaves the profile.
 /// `Depth`: a token stands under more than 200 levels. `Memory`: memory was refused.
-#[derive(Clone, Copy, Debug, PartialEq, Eq)]
+#[derive(Clone, Copy, Debug, PartialEq, Eq, Error)]
 pub enum ParseFault {
+    #[error("not in the language at {place:?}")]
     Syntax { place: Place },
+    #[error("out of the profile at {place:?}: {kind:?}")]
     Scope { kind: ScopeKind, place: Place },
+    #[error("nested deeper than 200 levels at {place:?}")]
     Depth { place: Place },
+    #[error("memory was refused")]
     Memory,
 }
 
