@@ -1,9 +1,9 @@
 -- AND, OR, XOR and the complement go bit by bit.
-use Rattle.std.proofs.Common.{◌≡◌, ◌≤◌, ◌<◌, ◌⊎◌, inl, inr, ℕ, zero, suc, ◌+◌, ◌-◌, ◌*◌, ◌/◌, ◌%◌, ◌^◌, min, max, Bool, true, false, not, ◌&&◌, ◌||◌, ◌==◌, ℤ, pos, ◌-ℤ◌, bit_and, bit_or, arith, refl, sym, ap, ◌∙◌}
-use Rattle.std.specs.Prelude.{bit_xor, unsigned_abs}
+use Rattle.std.proofs.Common.{◌≡◌, ◌≤◌, ◌<◌, ◌⊎◌, inl, inr, ℕ, zero, suc, ◌+◌, ◌-◌, ◌/◌, ◌%◌, ◌^◌, min, max, not, ◌&&◌, ◌||◌, ◌==◌, pos, ◌-ℤ◌, arith, refl, sym, ap, ◌∙◌}
+use Rattle.std.specs.Prelude.{unsigned_abs}
 use Rattle.std.specs.Int.{bit_at, int_rem_euclid}
 use Rattle.std.specs.Int.Bits.{and_lt}
-use Rattle.std.proofs.lemmas.Bool.{cases_lt, lt-ltb, le-ltb}
+use Rattle.std.proofs.lemmas.Bool.{cases_lt}
 use Rattle.std.proofs.lemmas.Bool.Decides.{nat_tests}
 use Rattle.std.proofs.lemmas.Int.{ints, int_rem_euclid_is}
 use Rattle.std.proofs.lemmas.Nat.{or_lt, xor_lt}
@@ -11,7 +11,7 @@ use Rattle.std.proofs.lemmas.Nat.Bits.{bit_at_and, bit_at_or, bit_at_xor, bit_at
 use Rattle.ja_prim.specs.declared.primitive.Num.{Num}
 use Rattle.ja_prim.specs.declared.primitive.Num.TheVariants.{NaN, Whole}
 use Rattle.ja_prim.specs.Bits as bits
-use Rattle.ja_prim.specs.Laws.{IsInt32, IsBitwise, IsComplement, differ, bit}
+use Rattle.ja_prim.specs.Laws.{IsInt32, IsBitwise, IsComplement, differ}
 use Rattle.ja_prim.proofs.Residues.{residue_below, low, high}
 
 -- ---- a residue as a signed number, and back
