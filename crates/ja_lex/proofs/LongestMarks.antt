@@ -135,8 +135,10 @@ mark_taken text m n h = at (found [] marks text)
   where
     w : List ℕ
     w = longest [] marks text
+
     is : (1 ≤ length w) × (w ≡ m) × (n ≡ length w)
     is = mark_of _ w m n h
+
     longest_one : Contains marks w × (begins_with w text ≡ true) → IsLongestMark text w
     longest_one f = let r = split w text f.1 in record {
       among = f.0;
@@ -144,6 +146,7 @@ mark_taken text m n h = at (found [] marks text)
       begins = r.1;
       longest = λ other behind among e. none_longer [] marks text other among (ap (begins_with other) e ∙ begins other behind);
     }
+
     at : IsFound [] marks text w → IsLongestMark text m × (n ≡ length m)
     at (inl e) = let one = is.0 in absurd (omega (arith, ap length e))
     at (inr f) = (subst (IsLongestMark text) is.1 (longest_one f), is.2 ∙ ap length is.1)
