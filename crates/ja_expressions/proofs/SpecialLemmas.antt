@@ -5,7 +5,9 @@ use Rattle.std.specs.Option.{option_map}
 use Rattle.std.specs.Str.{bytes_eq}
 use Rattle.ja_expressions.specs.declared.special.Special.{Special}
 use Rattle.ja_expressions.specs.declared.special.TheConstants.{SPECIALS}
-use Rattle.ja_expressions.specs.Specials.{special_of}
+use Rattle.ja_draft.specs.Lines.{with_text}
+use Rattle.ja_expressions.specs.Specials.{special_of, list_special}
+use Rattle.ja_expressions.specs.SpecialForms.{AreSpecialForms}
 
 -- the special form of a name in a table
 unfoldable pub form_in : List ℕ → List (Bor (List ℕ) × Special) → Option Special
@@ -34,3 +36,20 @@ unfolding special_of form_in
 of_all name table e =
     sym (found_in_map (λ entry. (record { now = entry.0.now }, entry.1)) (λ entry. bytes_eq entry.0.now name) (λ entry. entry.1) table)
     ∙ ap (λ entries. option_map (λ entry. entry.1) (find (λ entry. bytes_eq entry.0.now name) entries)) e
+
+-- each special form is found by its name, and lists its node
+pub are_special_forms : AreSpecialForms
+unfolding special_of list_special with_text
+are_special_forms = record {
+  get = λ object key scene place l. refl;
+  put = λ object key src scene place l. refl;
+  delete = λ object key scene place l. refl;
+  has = λ object key scene place l. refl;
+  object = λ src scene place l. refl;
+  text = λ src scene place l. refl;
+  call = λ callee receiver arguments scene place l. refl;
+  spread = λ callee receiver array scene place l. refl;
+  tail = λ callee receiver scene place l. refl;
+  make = (λ scene place l. refl, (λ scene place l. refl, (λ scene place l. refl, (λ scene place l. refl, (λ scene place l. refl, (λ scene place l. refl, (λ scene place l. refl, tt)))))));
+  stop = (λ scene place l. refl, (λ scene place l. refl, (λ scene place l. refl, (λ scene place l. refl, (λ scene place l. refl, (λ scene place l. refl, (λ scene place l. refl, (λ scene place l. refl, (λ scene place l. refl, (λ scene place l. refl, (λ scene place l. refl, (λ scene place l. refl, (λ scene place l. refl, (λ scene place l. refl, (λ scene place l. refl, (λ scene place l. refl, (λ scene place l. refl, (λ scene place l. refl, (λ scene place l. refl, (λ scene place l. refl, tt))))))))))))))))))));
+}

@@ -4,3 +4,4 @@ pub mod Operators
 pub mod Literals
 pub mod Calls
 pub mod Expressions
+pub mod SpecialForms

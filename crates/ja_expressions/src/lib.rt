@@ -13,4 +13,4 @@ mod special_call;
 
 pub use expression::{assign, form, value};
 pub use outcome::Outcome;
-pub use special::{SPECIALS, Special, special_of};
+pub use special::{SPECIALS, Special, special_forms_list_their_nodes, special_of};

@@ -1,6 +1,7 @@
 //! The special forms of the texts of built-in functions: calls of names that begin with `$`, which are no variables.
 
 ghost use Rattle.std.specs.Prelude.{◌≡◌};
+ghost use Rattle.ja_expressions.specs.SpecialForms.{AreSpecialForms};
 ghost use Rattle.ja_expressions.specs.Specials as spec;
 
 use ja_base::ScopeKind;
@@ -111,3 +112,8 @@ pub fn special_of(name: &[u16]) -> Option<Special>
     }
     None
 }
+
+/// Each special form is found by its name, and its call lists its node. The function does nothing; its contract is the law.
+pub fn special_forms_list_their_nodes()
+    ensures { AreSpecialForms }
+{}
