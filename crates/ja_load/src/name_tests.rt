@@ -42,8 +42,8 @@ fn functions_and_names_of_a_text(rt: HostRuntime) -> Result<(), Fail> {
     assert_eq!(rt; functions[0].parameters.as_slice().len(), 1);
     let names = names_in(alloc, statements.as_slice())?;
     assert_eq!(rt; names.len(), 3);
-    assert_eq!(rt; names[0], &[102u16] as &[u16]);
-    assert_eq!(rt; names[1], &[97u16] as &[u16]);
-    assert_eq!(rt; names[2], &[115u16] as &[u16]);
+    assert_eq!(rt; names[0].units(), &[102u16] as &[u16]);
+    assert_eq!(rt; names[1].units(), &[97u16] as &[u16]);
+    assert_eq!(rt; names[2].units(), &[115u16] as &[u16]);
     Ok(())
 }
