@@ -1,3 +1,6 @@
+pub mod BuiltForms
+pub mod BuiltNodes
+pub mod BuiltPrograms
 pub mod DistinctLemmas
 pub mod ObjectLemmas
 pub mod TableLemmas

@@ -5,6 +5,7 @@ mod built;
 mod builtins;
 mod excluded;
 mod fault;
+pub mod laws;
 mod loading;
 mod opening;
 

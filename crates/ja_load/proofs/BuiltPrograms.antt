@@ -1,0 +1,182 @@
+-- A text all of whose forms are built comes to nodes of kinds that are built.
+use Rattle.std.proofs.Common.{◌≡◌, ℕ, zero, suc, ◌+◌, false, List, [], ◌∷◌, ◌++◌, map, Option, Some, None, Ok, Err, slice_get, refl, sym, ap, ◌∙◌, subst}
+use Rattle.std.specs.List.{AllByRecursion, flat_map}
+use Rattle.ja_base.specs.declared.ids.Place.{Place}
+use Rattle.ja_prim.specs.declared.primitive.Primitive.TheVariants as primitive
+use Rattle.ja_syntax.specs.Hoisted.{Texts, nothing, variables_step, variables_in_case, variables_of, once, hoisted_variables}
+use Rattle.ja_syntax.specs.declared.tree.Case.{Case}
+use Rattle.ja_syntax.specs.declared.tree.Statement.{Statement, roll-Statement}
+use Rattle.ja_syntax.specs.declared.tree.Statement.TheVariants.{rolls-Empty, rolls-Expression}
+use Rattle.ja_syntax.specs.declared.tree.Expression.{Expression}
+use Rattle.ja_syntax.specs.declared.tree.Expression.TheOpen.{Statement-F}
+use Rattle.ja_syntax.specs.declared.tree.Expression.TheFolds.{fold-roll-Statement, para-roll-Statement, ind-Statement, map-Statement}
+use Rattle.ja_syntax.specs.declared.tree.Expression.TheViews.{out-roll-Statement}
+use Rattle.ja_names.specs.TextOrder.{a_function, a_name, Parts, if_function, expression_step, statement_step, case_step, in_expression, in_statement, in_case, functions_in}
+use Rattle.ja_graph.specs.declared.node.Node.TheVariants.{Return, Escape}
+use Rattle.ja_graph.specs.declared.node.NodeInfo.{NodeInfo}
+use Rattle.ja_graph.specs.declared.program.Function.{Function}
+use Rattle.ja_listing.specs.declared.item.Item.{Item}
+use Rattle.ja_listing.specs.declared.item.Item.TheVariants as item
+use Rattle.ja_listing.specs.Listing.{nodes_from}
+use Rattle.ja_draft.specs.Lines.{Listing, Scene, restarted}
+use Rattle.ja_expressions.specs.Expressions.{form}
+use Rattle.ja_statements.specs.Functions.{first_temporary, nothing_listed, declare_function, declare_function_of, declare_functions, declare_variables, with_body, unhandled, first_place, program_listing}
+use Rattle.ja_statements.specs.Statements.{Around, does, unlabelled, list_all_statements}
+use Rattle.ja_statements.proofs.StatementLemmas.{does_empty, does_expression}
+use Rattle.ja_ranges.proofs.LineRanges.{all_append}
+use Rattle.ja_lower.specs.declared.body.Body.{Body}
+use Rattle.ja_lower.specs.Lowering.{shifting, names_of, scene_of, program_body, function_body, bodies_of, numbered, function_of, functions_of, lowered}
+use Rattle.ja_lower.proofs.FunctionLemmas.{all-at, get-numbered}
+use Rattle.ja_load.specs.Built.{Read, read, fault_of, unbuilt_layer, unbuilt_statement, first_of, unbuilt}
+use Rattle.ja_load.proofs.BuiltNodes.{IsBuilt, AllBuilt, IsBuiltListing, renamed_built, built_restarted, built_with_node, built_with_const, built_value_of}
+use Rattle.ja_load.proofs.BuiltForms.{IsRead, IsName, HasNoFunction, expression_built}
+
+-- ---- statements
+
+-- what a statement all of whose forms are built does, and what it has not
+pub record IsBuiltStatement (x : Statement) : Type 0 where
+  pub nodes : (around : Around) (base : ℕ) (l : Listing) → around.scene.specials ≡ false → IsBuiltListing l → IsBuiltListing (does x around base l)
+  pub parts : HasNoFunction (in_statement x)
+  pub variables : variables_of x ≡ []
+  pub declares : (scene : Scene) (base : ℕ) (l : Listing) → declare_function_of scene x base l ≡ l
+
+no_fault : (r : Read) → fault_of r ≡ None → IsRead r
+no_fault (Ok is_name) is = tt
+no_fault (Err first) is = absurd (cc)
+
+parts_opened : (x : Statement-F Expression Statement Case) → in_statement (roll-Statement x) ≡ statement_step (map-Statement Expression Statement Case (Expression × Parts) (Statement × Parts) (Case × Parts) (λ e. (e, in_expression e)) (λ y. (y, in_statement y)) (λ c. (c, in_case c)) x)
+unfolding in_expression in_statement in_case
+parts_opened x = para-roll-Statement Parts Parts Parts expression_step statement_step case_step x
+
+no_declaration : (x : Statement-F Expression Statement Case) → ((scene : Scene) (base : ℕ) (l : Listing) → declare_function scene x base l ≡ l) → (scene : Scene) (base : ℕ) (l : Listing) → declare_function_of scene (roll-Statement x) base l ≡ l
+no_declaration x none scene base l = ap (λ y. declare_function scene y base l) (out-roll-Statement x) ∙ none scene base l
+
+empty_built : (place : Place) → IsBuiltStatement (roll-Statement (Statement-F.Empty place))
+empty_built place = record {
+  nodes = λ around base l plain built.
+      subst (λ x. IsBuiltListing (does x around base l)) (sym (rolls-Empty place)) (subst (λ (z : Listing). IsBuiltListing z) (sym (does_empty place around base l)) built);
+  parts = subst HasNoFunction (sym (parts_opened (Statement-F.Empty place))) tt;
+  variables = fold-roll-Statement (Unit {0}) Texts Texts nothing variables_step variables_in_case (Statement-F.Empty place);
+  declares = no_declaration (Statement-F.Empty place) (λ scene base l. refl);
+}
+
+expression_statement_built : (value : Expression) (place : Place) → IsRead (read value) → IsBuiltStatement (roll-Statement (Statement-F.Expression value place))
+expression_statement_built value place h =
+    let e = expression_built value h in
+    record {
+      nodes = λ around base l plain built.
+          subst (λ x. IsBuiltListing (does x around base l)) (sym (rolls-Expression value place))
+          (subst (λ (z : Listing). IsBuiltListing z) (sym (does_expression value place around base l)) (built_value_of (form value) e.listed around.scene (restarted base l) plain (built_restarted base built)));
+      parts = subst HasNoFunction (sym (parts_opened (Statement-F.Expression value place))) e.names;
+      variables = fold-roll-Statement (Unit {0}) Texts Texts nothing variables_step variables_in_case (Statement-F.Expression value place);
+      declares = no_declaration (Statement-F.Expression value place) (λ scene base l. refl);
+    }
+
+layer_built : (x : Statement-F Expression Statement Case) → unbuilt_layer x ≡ None → IsBuiltStatement (roll-Statement x)
+layer_built (Statement-F.Empty place) is = empty_built place
+layer_built (Statement-F.Expression value place) is = expression_statement_built value place (no_fault (read value) is)
+layer_built x is = absurd (cc)
+
+statement_built : (x : Statement) → unbuilt_statement x ≡ None → IsBuiltStatement x
+statement_built = ind-Statement (λ (e : Expression). Unit {0}) (λ x. unbuilt_statement x ≡ None → IsBuiltStatement x) (λ (c : Case). Unit {0})
+    (λ x y is. tt)
+    (λ x y is h. layer_built x (ap unbuilt_layer (sym (out-roll-Statement x)) ∙ h))
+    (λ x y is. tt)
+
+-- ---- the statements of a text
+
+first_none : (first later : Option Place) → first_of first later ≡ None → first ≡ None
+first_none None later is = refl
+first_none (Some place) later is = absurd (cc)
+
+later_none : (first later : Option Place) → first_of first later ≡ None → later ≡ None
+later_none None later is = is
+later_none (Some place) later is = absurd (cc)
+
+each_built : (xs : List Statement) → unbuilt xs ≡ None → AllByRecursion IsBuiltStatement xs
+unfolding unbuilt
+each_built [] is = tt
+each_built (x ∷ xs) is =
+    (statement_built x (first_none (unbuilt_statement x) (unbuilt xs) is), each_built xs (later_none (unbuilt_statement x) (unbuilt xs) is))
+
+statements_built : (xs : List Statement) (around : Around) (base : ℕ) (l : Listing) → AllByRecursion IsBuiltStatement xs → around.scene.specials ≡ false → IsBuiltListing l → IsBuiltListing (list_all_statements (map does xs) around base l)
+unfolding list_all_statements
+statements_built [] around base l each plain built = built
+statements_built (x ∷ xs) around base l each plain built =
+    statements_built xs around base _ each.1 plain (each.0.nodes (unlabelled around) base l plain built)
+
+nothing_declared : (scene : Scene) (xs : List Statement) (base : ℕ) (l : Listing) → AllByRecursion IsBuiltStatement xs → declare_functions scene xs base l ≡ l
+unfolding declare_functions
+nothing_declared scene [] base l each = refl
+nothing_declared scene (x ∷ xs) base l each =
+    ap (declare_functions scene xs base) (each.0.declares scene base l) ∙ nothing_declared scene xs base l each.1
+
+no_variables : (xs : List Statement) → AllByRecursion IsBuiltStatement xs → flat_map variables_of xs ≡ []
+no_variables [] each = refl
+no_variables (x ∷ xs) each = ap (λ (vs : Texts). vs ++ flat_map variables_of xs) each.0.variables ∙ no_variables xs each.1
+
+no_variable : (xs : List Statement) → AllByRecursion IsBuiltStatement xs → hoisted_variables xs ≡ []
+unfolding hoisted_variables once
+no_variable xs each = ap once (no_variables xs each)
+
+-- ---- functions
+
+all_parts : (xs : List Statement) → AllByRecursion IsBuiltStatement xs → HasNoFunction (flat_map in_statement xs)
+all_parts [] each = tt
+all_parts (x ∷ xs) each = all_append IsName (in_statement x) (flat_map in_statement xs) each.0.parts (all_parts xs each.1)
+
+names_alone : (parts : Parts) → HasNoFunction parts → flat_map if_function parts ≡ []
+names_alone [] each = refl
+names_alone (a_function f ∷ parts) each = absurd each.0
+names_alone (a_name text ∷ parts) each = names_alone parts each.1
+
+no_functions : (xs : List Statement) → AllByRecursion IsBuiltStatement xs → functions_in xs ≡ []
+unfolding functions_in
+no_functions xs each = names_alone (flat_map in_statement xs) (all_parts xs each)
+
+-- ---- the program's nodes
+
+body_built : (scene : Scene) (place : Place) (xs : List Statement) (base : ℕ) (l : Listing) → AllByRecursion IsBuiltStatement xs → scene.specials ≡ false → IsBuiltListing l → IsBuiltListing (with_body scene place xs base l)
+unfolding declare_variables
+body_built scene place xs base l each plain built =
+    let around : Around = record { scene = scene; ways = []; labels = [] } in
+    let start : declare_variables scene place (hoisted_variables xs) (declare_functions scene xs base l) ≡ l =
+    ap (λ vs. declare_variables scene place vs (declare_functions scene xs base l)) (no_variable xs each) ∙ nothing_declared scene xs base l each in
+    let statements = statements_built xs around base _ each plain (subst (λ (z : Listing). IsBuiltListing z) (sym start) built) in
+    built_with_node scene place Escape refl (built_with_node scene place (Return _) refl (built_with_const scene place primitive.Undefined (built_restarted base statements)))
+
+program_built : (scene : Scene) (xs : List Statement) → AllByRecursion IsBuiltStatement xs → scene.specials ≡ false → AllBuilt (program_listing scene xs)
+unfolding program_listing
+program_built scene xs each plain =
+    (body_built (unhandled scene) first_place xs (first_temporary 0) (nothing_listed (first_temporary 0)) each plain (record { nodes = tt })).nodes
+
+-- assembling keeps the nodes
+assembled_built : (whole items : List Item) → AllBuilt items → AllByRecursion (λ (info : NodeInfo). IsBuilt info.node) (nodes_from whole items)
+unfolding nodes_from
+assembled_built whole [] each = tt
+assembled_built whole (item.Node node other handler place ∷ items) each = (each.0, assembled_built whole items each.1)
+assembled_built whole (item.Spot s ∷ items) each = assembled_built whole items each.1
+assembled_built whole (item.Jump s ∷ items) each = assembled_built whole items each.1
+
+numbered_built : (first : ℕ) (infos : List NodeInfo) (n : ℕ) (info : NodeInfo) → AllByRecursion (λ (i : NodeInfo). IsBuilt i.node) infos → slice_get (numbered first infos) n ≡ Some info → IsBuilt info.node
+numbered_built first infos n info each is =
+    let from = get-numbered first infos n info is in
+    let old = all-at (λ (i : NodeInfo). IsBuilt i.node) infos n from.1 each from.2 in
+    subst (λ (i : NodeInfo). IsBuilt i.node) from.3 (renamed_built (shifting from.0) from.1.node old)
+
+-- the one function of a text without functions
+only_function : (first : ℕ) (body : Body) (f : ℕ) (fn : Function) → slice_get (functions_of first (body ∷ [])) f ≡ Some fn → function_of first body ≡ fn
+unfolding functions_of
+only_function first body zero fn is = cc
+only_function first body (suc f) fn is = absurd (cc)
+
+pub lowered_built : (names : List (List ℕ)) (first : ℕ) (xs : List Statement) (f n : ℕ) (fn : Function) (info : NodeInfo) → unbuilt xs ≡ None → slice_get (lowered names first xs).functions f ≡ Some fn → slice_get fn.nodes n ≡ Some info → IsBuilt info.node
+unfolding lowered bodies_of
+lowered_built names first xs f n fn info is at_f at_n =
+    let each = each_built xs is in
+    let scene = scene_of (names_of false names xs) xs in
+    let body = program_body scene xs in
+    let bodies : bodies_of scene xs ≡ body ∷ [] = ap (λ fs. body ∷ map (function_body scene) fs) (no_functions xs each) in
+    let same = only_function first body f fn (ap (λ (bs : List Body). slice_get (functions_of first bs) f) (sym bodies) ∙ at_f) in
+    let nodes = assembled_built (program_listing scene xs) (program_listing scene xs) (program_built scene xs each refl) in
+    numbered_built first body.nodes n info nodes (ap (λ (g : Function). slice_get g.nodes n) same ∙ at_n)
