@@ -9,22 +9,21 @@ use crate::names::Names;
 use crate::tree::{
     Case, Declaration, Expression, ForFirst, ForTarget, FunctionTree, Name, Statement,
 };
-use ja_base::Memory;
+use ja_base::{Memory, Seq};
 use ja_prim::Text16;
-use sqlite_items::Items;
 use std::alloc::Global;
 
 /// What a function declares before its statements run, in the order of 10.1.3.
 #[derive(Drop)]
 pub struct Hoisted {
     /// The names of the parameters, in order. A name may stand in it twice.
-    pub parameters: Items<Text16>,
+    pub parameters: Seq<Text16>,
     /// The function declarations, in the order of the text, each by its index in the statements of
     /// the body. They stand in no other statement.
-    pub functions: Items<usize>,
+    pub functions: Seq<usize>,
     /// The names of all `var` in the body but in functions inside it, each once, in the order in
     /// which the text has them first.
-    pub variables: Items<Text16>,
+    pub variables: Seq<Text16>,
 }
 
 /// Adds the names of a `var` (12.2).
@@ -151,7 +150,7 @@ fn add_case<'a>(names: &mut Names<'a>, case: &'a Case) -> Result<(), Memory>
 /// The variables of a body or of the program: the names of all `var` in the statements but in
 /// functions inside them, each once, in the order in which the text has them first.
 #[tactic(auto, using(crate::proofs::NamesLemmas::added_once), unfolding(crate::specs::Hoisted::hoisted_variables))]
-pub fn hoisted_variables(alloc: Global, statements: &[Statement]) -> Result<Items<Text16>, Memory>
+pub fn hoisted_variables(alloc: Global, statements: &[Statement]) -> Result<Seq<Text16>, Memory>
     ensures { IfOk result (λ names. names ≡ spec.hoisted_variables statements.now) }
 {
     let mut names = Names::new(alloc);
@@ -170,26 +169,26 @@ pub fn is_function(statement: &Statement) -> bool
 /// The function declarations of a body or of the program, by their indices in the statements, in
 /// order.
 #[tactic(auto, unfolding(crate::specs::Hoisted::hoisted_functions))]
-pub fn hoisted_functions(alloc: Global, statements: &[Statement]) -> Result<Items<usize>, Memory>
+pub fn hoisted_functions(alloc: Global, statements: &[Statement]) -> Result<Seq<usize>, Memory>
     ensures { IfOk result (λ functions. functions ≡ spec.hoisted_functions statements.now) }
 {
-    let mut functions = Items::new(alloc);
+    let mut functions = Vec::new(alloc);
     for (index, statement) in statements.iter().enumerate() {
         if is_function(statement) {
             functions.push(index)?;
         }
     }
-    Ok(functions)
+    Ok(Seq::from_vec(functions))
 }
 
-fn parameter_names(alloc: Global, parameters: &[Name]) -> Result<Items<Text16>, Memory>
+fn parameter_names(alloc: Global, parameters: &[Name]) -> Result<Seq<Text16>, Memory>
     ensures { IfOk result (λ names. names ≡ spec.parameter_names parameters.now) }
 {
-    let mut names = Items::new(alloc);
+    let mut names = Vec::new(alloc);
     for parameter in parameters {
         names.push(parameter.text.copy(alloc)?)?;
     }
-    Ok(names)
+    Ok(Seq::from_vec(names))
 }
 
 /// What a function declares before its statements run (10.1.3). `Err` comes where memory is

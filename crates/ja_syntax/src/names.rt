@@ -3,9 +3,8 @@
 ghost use Rattle.std.specs.Prelude.{◌≡◌, [], map, IfOk, OnOk};
 ghost use Rattle.ja_syntax.specs.Hoisted.{with_name};
 
-use ja_base::Memory;
+use ja_base::{Memory, Seq};
 use ja_prim::Text16;
-use sqlite_items::Items;
 use std::alloc::Global;
 use std::collections::BTreeMap;
 use std::marker::Model;
@@ -58,13 +57,13 @@ impl<'a> Names<'a> {
     }
 
     /// The texts of the names, in memory of their own.
-    pub(crate) fn texts(&self, alloc: Global) -> Result<Items<Text16>, Memory>
+    pub(crate) fn texts(&self, alloc: Global) -> Result<Seq<Text16>, Memory>
         ensures { IfOk result (λ texts. texts ≡ self.now) }
     {
-        let mut texts = Items::new(alloc);
+        let mut texts = Vec::new(alloc);
         for text in &self.texts {
             texts.push(text.copy(alloc)?)?;
         }
-        Ok(texts)
+        Ok(Seq::from_vec(texts))
     }
 }
