@@ -1,6 +1,8 @@
 -- A text all of whose forms are built comes to nodes of kinds that are built.
 use Rattle.std.proofs.Common.{◌≡◌, ℕ, zero, suc, ◌+◌, false, List, [], ◌∷◌, ◌++◌, map, Option, Some, None, Ok, Err, slice_get, refl, sym, ap, ◌∙◌, subst}
 use Rattle.std.specs.List.{AllByRecursion, flat_map}
+use Rattle.std.specs.declared.alloc.Global.{Global}
+use Rattle.std.specs.Prelude.{String}
 use Rattle.ja_base.specs.declared.ids.Place.{Place}
 use Rattle.ja_prim.specs.declared.primitive.Primitive.TheVariants as primitive
 use Rattle.ja_syntax.specs.Hoisted.{Texts, nothing, variables_step, variables_in_case, variables_of, once, hoisted_variables}
@@ -12,9 +14,12 @@ use Rattle.ja_syntax.specs.declared.tree.Expression.TheOpen.{Statement-F}
 use Rattle.ja_syntax.specs.declared.tree.Expression.TheFolds.{fold-roll-Statement, para-roll-Statement, ind-Statement, map-Statement}
 use Rattle.ja_syntax.specs.declared.tree.Expression.TheViews.{out-roll-Statement}
 use Rattle.ja_names.specs.TextOrder.{a_function, a_name, Parts, if_function, expression_step, statement_step, case_step, in_expression, in_statement, in_case, functions_in}
+use Rattle.ja_graph.specs.Kinds.{AreBuilt}
+use Rattle.ja_graph.specs.WellFormed.{builtin_names}
 use Rattle.ja_graph.specs.declared.node.Node.TheVariants.{Return, Escape}
 use Rattle.ja_graph.specs.declared.node.NodeInfo.{NodeInfo}
 use Rattle.ja_graph.specs.declared.program.Function.{Function}
+use Rattle.ja_graph.specs.declared.program.Program.{Program}
 use Rattle.ja_listing.specs.declared.item.Item.{Item}
 use Rattle.ja_listing.specs.declared.item.Item.TheVariants as item
 use Rattle.ja_listing.specs.Listing.{nodes_from}
@@ -28,6 +33,7 @@ use Rattle.ja_lower.specs.declared.body.Body.{Body}
 use Rattle.ja_lower.specs.Lowering.{shifting, names_of, scene_of, program_body, function_body, bodies_of, numbered, function_of, functions_of, lowered}
 use Rattle.ja_lower.proofs.FunctionLemmas.{all-at, get-numbered}
 use Rattle.ja_load.specs.Built.{Read, read, fault_of, unbuilt_layer, unbuilt_statement, first_of, unbuilt}
+use Rattle.ja_load.specs.Loading.{program_of, IsProgramOf}
 use Rattle.ja_load.proofs.BuiltNodes.{IsBuilt, AllBuilt, IsBuiltListing, renamed_built, built_restarted, built_with_node, built_with_const, built_value_of}
 use Rattle.ja_load.proofs.BuiltForms.{IsRead, IsName, HasNoFunction, expression_built}
 
@@ -180,3 +186,10 @@ lowered_built names first xs f n fn info is at_f at_n =
     let same = only_function first body f fn (ap (λ (bs : List Body). slice_get (functions_of first bs) f) (sym bodies) ∙ at_f) in
     let nodes = assembled_built (program_listing scene xs) (program_listing scene xs) (program_built scene xs each refl) in
     numbered_built first body.nodes n info nodes (ap (λ (g : Function). slice_get g.nodes n) same ∙ at_n)
+
+pub program_is_built : (text : String Global) (xs : List Statement) → unbuilt xs ≡ None → AreBuilt (program_of text xs)
+unfolding program_of
+program_is_built text xs is f n fn info at_f at_n = lowered_built builtin_names _ xs f n fn info is at_f at_n
+
+pub programs_are_built : (bytes : List ℕ) (p : Program) → IsProgramOf bytes p → AreBuilt p
+programs_are_built bytes p is = subst AreBuilt (sym is.program) (program_is_built p.text is.statements is.built)
