@@ -1,7 +1,6 @@
 -- A program is well formed exactly where its parts are.
 use Rattle.std.proofs.Common.{◌≡◌, ◌<◌, List, [], ◌∷◌, length, Some, refl, arith}
 use Rattle.std.specs.List.{slice_get}
-use Rattle.std.proofs.lemmas.Option.{slice_get_within}
 use Rattle.ja_graph.specs.declared.program.Program.{Program}
 use Rattle.ja_graph.specs.Parts.{HasFunctions, HasSites, HasOpening, HasNames}
 use Rattle.ja_graph.specs.WellFormed.{IsWellFormed}
@@ -13,10 +12,11 @@ first_of (x ∷ xs) some = (x, refl)
 
 pub whole_from_parts : (p : Program) → HasFunctions p → HasSites p → HasOpening p → HasNames p → IsWellFormed p
 whole_from_parts p functions sites opening names =
-    let first = first_of p.functions functions.some in
+    let first = first_of p.functions (omega (arith, functions.text_among, functions.text_functions)) in
     record {
       text = first.0;
       text_is = first.1;
+      text_among = functions.text_among;
       text_functions = functions.text_functions;
       value_first = functions.value_first;
       text_first = functions.text_first;
@@ -25,6 +25,8 @@ whole_from_parts p functions sites opening names =
       objects = opening.objects;
       all_objects = opening.all_objects;
       builtins = sites.builtins;
+      unowned = sites.unowned;
+      name_functions = sites.name_functions;
       sites = sites.numbered.sites;
       numbered = sites.numbered.numbered;
       told = sites.numbered.told;
@@ -37,7 +39,7 @@ whole_from_parts p functions sites opening names =
 pub parts_of_whole : (p : Program) → IsWellFormed p → HasFunctions p × HasSites p × HasOpening p × HasNames p
 parts_of_whole p well = (
   record {
-    some = slice_get_within p.functions 0 well.text well.text_is;
+    text_among = well.text_among;
     text_functions = well.text_functions;
     value_first = well.value_first;
     text_first = well.text_first;
@@ -47,6 +49,8 @@ parts_of_whole p well = (
   record {
     few_sites = well.few_sites;
     builtins = well.builtins;
+    unowned = well.unowned;
+    name_functions = well.name_functions;
     numbered = record { sites = well.sites; numbered = well.numbered; told = well.told };
   },
   record { objects = well.objects; all_objects = well.all_objects },

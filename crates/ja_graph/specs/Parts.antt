@@ -1,5 +1,5 @@
 -- The parts of a program that is well formed, by name, and what a program's accessors give.
-use Rattle.std.specs.Prelude.{◌≡◌, ◌<◌, ◌≤◌, ◌+◌, ◌-◌, ℕ, List, [], ◌∷◌, Option, Some, IsSome, slice_get, length, map, take, ◌↔◌}
+use Rattle.std.specs.Prelude.{◌≡◌, ◌<◌, ◌≤◌, ◌+◌, ◌-◌, ℕ, List, [], ◌∷◌, Option, Some, None, IsSome, slice_get, length, map, take, ◌↔◌}
 use Rattle.std.specs.Option.{option_map}
 use Rattle.std.specs.List.{AllByRecursion, position_from, range_with_len}
 use Rattle.std.specs.Str.{bytes_eq}
@@ -16,8 +16,9 @@ use Rattle.ja_graph.specs.declared.program.Function.{Function}
 use Rattle.ja_graph.specs.declared.program.ObjectSpec.{ObjectSpec}
 use Rattle.ja_graph.specs.declared.program.PropertySpec.{PropertySpec}
 use Rattle.ja_graph.specs.declared.program.Program.{Program}
+use Rattle.ja_graph.specs.declared.program.SiteInfo.{SiteInfo}
 use Rattle.ja_graph.specs.Program.{object_spec}
-use Rattle.ja_graph.specs.WellFormed.{IsNodeWellFormed, IsFunctionWellFormed, IsObjectWellFormed, IsContent, IsName, IsBuiltin, IsSiteTold, OwnedMaking, StandsBefore, makings_from, node_count, builtin_names}
+use Rattle.ja_graph.specs.WellFormed.{IsNodeWellFormed, IsFunctionWellFormed, IsObjectWellFormed, IsContent, IsName, IsBuiltin, IsSiteTold, NamesFunctions, OwnedMaking, StandsBefore, makings_from, node_count, builtin_names}
 
 -- ---- accessors
 
@@ -52,6 +53,14 @@ AreFunctionsWellFormed p = (f : ℕ) (fn : Function) → slice_get p.functions f
 abbrev pub AreNumbered : Program → ℕ → ℕ → List OwnedMaking → Type 0
 AreNumbered p first last [] = first ≡ last
 AreNumbered p first last (m ∷ ms) = (m.making.site.0 ≡ first) × IsSiteTold p m × AreNumbered p (first + 1) last ms
+
+-- a site has no owner
+abbrev pub IsUnowned : Program → ℕ → Type 0
+IsUnowned p s = (info : SiteInfo) → slice_get p.sites s ≡ Some info → info.owner ≡ None
+
+-- no site without a node has one
+abbrev pub AreUnowned : Program → Type 0
+AreUnowned p = (s : ℕ) → s < length p.opening → IsUnowned p s
 
 -- the objects of the first sites have these classes
 abbrev pub HaveClasses : Program → List Class → Type 0
@@ -117,7 +126,7 @@ pub record AreSitesNumbered (p : Program) : Type 0 where
 
 -- the functions of a program
 pub record HasFunctions (p : Program) : Type 0 where
-  pub some : 0 < length p.functions
+  pub text_among : 0 < p.text_functions
   pub text_functions : p.text_functions ≤ length p.functions
   pub value_first : p.value_first.0 < length p.functions
   pub text_first : p.text_first.0 < length p.functions
@@ -128,6 +137,8 @@ pub record HasFunctions (p : Program) : Type 0 where
 pub record HasSites (p : Program) : Type 0 where
   pub few_sites : length p.sites ≤ 393216
   pub builtins : AreBuiltins p
+  pub unowned : AreUnowned p
+  pub name_functions : AllByRecursion (NamesFunctions p) p.sites
   pub numbered : AreSitesNumbered p
 
 -- the opening heap of a program

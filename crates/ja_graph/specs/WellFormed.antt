@@ -1,5 +1,5 @@
 -- What makes a program well formed.
-use Rattle.std.specs.Prelude.{◌≡◌, ◌<◌, ◌≤◌, ◌⊎◌, ◌+◌, ◌-◌, ℕ, suc, List, [], ◌∷◌, ◌++◌, map, Some, IsSome, slice_get, length, take}
+use Rattle.std.specs.Prelude.{◌≡◌, ◌<◌, ◌≤◌, ◌⊎◌, ◌+◌, ◌-◌, ℕ, suc, List, [], ◌∷◌, ◌++◌, map, Some, None, IsSome, slice_get, length, take}
 use Rattle.std.specs.Option.{option_to_list}
 use Rattle.std.specs.List.{AllByRecursion, flat_map, range_with_len}
 use Rattle.ja_base.specs.declared.ids.FnId.{FnId}
@@ -40,6 +40,10 @@ IsDestination fn r = IsRegister fn r × ((r.0 ≡ 0) ⊎ ((r.0 ≡ 2) ⊎ (fixed
 abbrev pub IsName : Program → NameId → Type 0
 IsName p n = n.0 < length p.names
 
+-- a function of the program
+abbrev pub IsFunction : Program → FnId → Type 0
+IsFunction p f = f.0 < length p.functions
+
 -- what only some kinds of nodes ask for: the caller's arguments from the second on are there where a function has at most
 -- one parameter; no intrinsic is built yet; a device is one of the program's
 abbrev pub IsAllowed : Program → Function → Node → Type 0
@@ -53,7 +57,7 @@ pub record IsNodeWellFormed (p : Program) (fn : Function) (info : NodeInfo) : Ty
   pub sets : AllByRecursion (IsDestination fn) (option_to_list (register_set info.node))
   pub names_registers : AllByRecursion (IsRegister fn) (registers_named info.node)
   pub name : AllByRecursion (IsName p) (option_to_list (name_in info.node))
-  pub function : AllByRecursion (λ (f : FnId). f.0 < length p.functions) (option_to_list (function_in info.node))
+  pub function : AllByRecursion (IsFunction p) (option_to_list (function_in info.node))
   pub allowed : IsAllowed p fn info.node
   pub next : info.next.0 < length fn.nodes
   pub other : info.other.0 < length fn.nodes
@@ -100,6 +104,13 @@ pub record IsSiteTold (p : Program) (m : OwnedMaking) : Type 0 where
   pub class : info.class ≡ m.making.class
   pub owner : info.owner ≡ Some (record { 0 = m.owner })
 
+-- the functions that are told of a site are those of the program: the one whose node has it, and those that are run where one of
+-- its objects is called and where it constructs
+pub record NamesFunctions (p : Program) (info : SiteInfo) : Type 0 where
+  pub owner : AllByRecursion (IsFunction p) (option_to_list info.owner)
+  pub calls : AllByRecursion (IsFunction p) (option_to_list info.calls)
+  pub constructs : AllByRecursion (IsFunction p) (option_to_list info.constructs)
+
 -- ---- the opening heap
 
 -- an object that stands before the i-th has this site
@@ -129,12 +140,13 @@ builtin_names = map (λ name. name.now) BUILTIN_NAMES
 abbrev pub IsBuiltin : Program → ℕ → Class → Type 0
 IsBuiltin p s c = (info : SiteInfo) × (slice_get p.sites s ≡ Some info) × (info.class ≡ c) × (s < length p.opening)
 
--- Each function is well formed, and the first is the program's text. Each site without a node has its object in the
--- opening heap, the built-in objects among them, under their numbers. The sites of nodes stand behind them, numbered by function
+-- Each function is well formed, and the first is the program's text. Each site without a node has no owner and has its object in
+-- the opening heap, the built-in objects among them, under their numbers. The sites of nodes stand behind them, numbered by function
 -- and node. No text is a name twice, and the built-in names come first.
 pub record IsWellFormed (p : Program) : Type 0 where
   pub text : Function
   pub text_is : slice_get p.functions 0 ≡ Some text
+  pub text_among : 0 < p.text_functions
   pub text_functions : p.text_functions ≤ length p.functions
   pub value_first : p.value_first.0 < length p.functions
   pub text_first : p.text_first.0 < length p.functions
@@ -143,6 +155,8 @@ pub record IsWellFormed (p : Program) : Type 0 where
   pub objects : (i : ℕ) (o : ObjectSpec) → slice_get p.opening i ≡ Some o → IsObjectWellFormed p i o
   pub all_objects : (s : ℕ) → s < length p.opening → IsSome (object_spec p s)
   pub builtins : (s : ℕ) (c : Class) → slice_get BUILTIN_CLASSES s ≡ Some c → IsBuiltin p s c
+  pub unowned : (s : ℕ) → s < length p.opening → (info : SiteInfo) → slice_get p.sites s ≡ Some info → info.owner ≡ None
+  pub name_functions : AllByRecursion (NamesFunctions p) p.sites
   pub sites : length p.opening ≤ length p.sites
   pub numbered : map (λ (m : OwnedMaking). m.making.site.0) (makings_from 0 p.functions) ≡ range_with_len (length p.opening) (length p.sites - length p.opening)
   pub told : AllByRecursion (IsSiteTold p) (makings_from 0 p.functions)

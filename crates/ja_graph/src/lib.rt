@@ -11,8 +11,6 @@ mod parts;
 mod program;
 mod registers;
 pub mod renaming;
-#[cfg(test)]
-mod renaming_tests;
 mod sites;
 mod well_formed_functions;
 mod well_formed_names;
@@ -20,8 +18,6 @@ mod well_formed_nodes;
 mod well_formed_opening;
 mod well_formed_programs;
 mod well_formed_sites;
-#[cfg(test)]
-mod well_formed_tests;
 
 pub use attrs::Attrs;
 pub use builtins::{

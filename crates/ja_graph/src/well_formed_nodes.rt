@@ -3,7 +3,6 @@
 ghost use Rattle.std.specs.Prelude.{◌≡◌, ◌↔◌, ◌<◌, ◌≤◌, IsTrue, length};
 ghost use Rattle.std.specs.List.{AllByRecursion};
 ghost use Rattle.std.specs.Option.{option_to_list};
-ghost use Rattle.ja_base.specs.declared.ids.FnId.{FnId};
 ghost use Rattle.ja_base.specs.declared.ids.Reg.{Reg};
 ghost use Rattle.ja_graph.specs.Node.{register_set, registers_named, name_in, function_in};
 ghost use Rattle.ja_graph.specs.WellFormed as graph;
@@ -109,11 +108,11 @@ fn has_name(program: &Program, node: &Node) -> bool
     }
 }
 
-/// Whether a node makes an object of no function or of one of the program.
-fn has_function(program: &Program, node: &Node) -> bool
-    ensures { IsTrue result ↔ AllByRecursion (λ (f : FnId). f.0 < length program.now.functions) (option_to_list (function_in node.now)) }
+/// Whether a function, if there is one, is one of the program.
+pub(crate) fn is_function_if_any(program: &Program, function: Option<FnId>) -> bool
+    ensures { IsTrue result ↔ AllByRecursion (graph.IsFunction program.now) (option_to_list function) }
 {
-    match function_in(node) {
+    match function {
         Some(function) => (function.0 as usize) < program.functions.len(),
         None => true,
     }
@@ -142,7 +141,7 @@ pub fn is_node_well_formed(program: &Program, function: &Function, info: &NodeIn
     sets_destination(function, &info.node)
         && all_registers_below(&info.node, function.registers)
         && has_name(program, &info.node)
-        && has_function(program, &info.node)
+        && is_function_if_any(program, function_in(&info.node))
         && is_allowed(program, function, &info.node)
         && (info.next.0 as usize) < nodes
         && (info.other.0 as usize) < nodes

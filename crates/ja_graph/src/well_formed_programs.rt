@@ -8,7 +8,7 @@ use crate::Program;
 use crate::well_formed_functions::{are_functions_well_formed, have_few_nodes};
 use crate::well_formed_names::{are_distinct, begin_with_builtin_names};
 use crate::well_formed_opening::{are_objects_well_formed, have_objects};
-use crate::well_formed_sites::{are_builtins, are_sites_numbered};
+use crate::well_formed_sites::{are_builtins, are_sites_numbered, are_unowned, name_functions};
 
 /// The most sites that a program may have.
 const MOST_SITES: usize = 393_216;
@@ -21,7 +21,7 @@ fn has_functions(program: &Program) -> bool
     ensures { IsTrue result ↔ spec.HasFunctions program.now }
 {
     let functions = program.functions.len();
-    functions > 0
+    program.text_functions > 0
         && program.text_functions as usize <= functions
         && (program.value_first.0 as usize) < functions
         && (program.text_first.0 as usize) < functions
@@ -29,11 +29,15 @@ fn has_functions(program: &Program) -> bool
         && are_functions_well_formed(program)
 }
 
-/// Whether the sites of a program are numbered and told, and not too many.
+/// Whether the sites of a program are numbered and told, name functions of the program, and aren't too many.
 fn has_sites(program: &Program) -> bool
     ensures { IsTrue result ↔ spec.HasSites program.now }
 {
-    program.sites.len() <= MOST_SITES && are_builtins(program) && are_sites_numbered(program)
+    program.sites.len() <= MOST_SITES
+        && are_builtins(program)
+        && are_unowned(program)
+        && name_functions(program, program.sites.as_slice())
+        && are_sites_numbered(program)
 }
 
 /// Whether the opening heap of a program is well formed.

@@ -1,11 +1,14 @@
 //! Whether the sites of nodes are numbered in order, and told as what they are.
 
 ghost use Rattle.std.specs.Prelude.{◌≡◌, ◌↔◌, ◌<◌, ◌≤◌, ◌∷◌, [], IsTrue, length, map};
+ghost use Rattle.std.specs.List.{AllByRecursion};
+ghost use Rattle.std.specs.Option.{option_to_list};
 ghost use Rattle.ja_graph.specs.Node.{makings};
 ghost use Rattle.ja_graph.specs.Parts as spec;
 ghost use Rattle.ja_graph.specs.WellFormed as graph;
 
-use crate::{BUILTIN_CLASSES, Class, Making, Node, NodeInfo, Program, makings};
+use crate::well_formed_nodes::is_function_if_any;
+use crate::{BUILTIN_CLASSES, Class, Making, Node, NodeInfo, Program, SiteInfo, makings};
 
 /// Whether the program tells that the function makes objects of the class at the site.
 fn is_site_told(program: &Program, owner: usize, making: &Making) -> bool
@@ -79,6 +82,49 @@ pub(crate) fn are_sites_numbered(program: &Program) -> bool
         Some(last) => last == program.sites.len(),
         None => false,
     }
+}
+
+/// Whether the functions that are told of a site are those of the program.
+fn names_functions(program: &Program, info: &SiteInfo) -> bool
+    ensures { IsTrue result ↔ graph.NamesFunctions program.now info.now }
+{
+    is_function_if_any(program, info.owner)
+        && is_function_if_any(program, info.calls)
+        && is_function_if_any(program, info.constructs)
+}
+
+/// Whether the functions that are told of sites are those of the program.
+pub(crate) fn name_functions(program: &Program, sites: &[SiteInfo]) -> bool
+    ensures { IsTrue result ↔ AllByRecursion (graph.NamesFunctions program.now) sites.now }
+{
+    for info in sites {
+        if !names_functions(program, info) {
+            return false;
+        }
+    }
+    true
+}
+
+/// Whether a site has no owner, or isn't there.
+fn is_unowned(program: &Program, site: usize) -> bool
+    ensures { IsTrue result ↔ spec.IsUnowned program.now site }
+{
+    match program.sites.as_slice().get(site) {
+        Some(info) => info.owner.is_none(),
+        None => true,
+    }
+}
+
+/// Whether no site without a node has an owner.
+pub(crate) fn are_unowned(program: &Program) -> bool
+    ensures { IsTrue result ↔ spec.AreUnowned program.now }
+{
+    for site in 0..program.opening.len() {
+        if !is_unowned(program, site) {
+            return false;
+        }
+    }
+    true
 }
 
 /// Whether the program tells the class of a built-in object.

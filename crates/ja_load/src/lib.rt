@@ -24,6 +24,10 @@ mod name_tests;
 #[cfg(test)]
 mod parse_tests;
 #[cfg(test)]
+mod renaming_tests;
+#[cfg(test)]
 mod statement_tests;
 #[cfg(test)]
 mod tests;
+#[cfg(test)]
+mod well_formed_tests;

@@ -68,6 +68,7 @@ fn program_of_tree(alloc: Global, tree: &Tree, text: &str) -> Result<Program, Lo
     laws::functions_are_well_formed();
     laws::sites_are_numbered();
     laws::sites_are_told();
+    laws::sites_name_functions();
     laws::sites_are_few();
     laws::nodes_are_within_the_size();
     Ok(Program {

@@ -14,7 +14,7 @@ use Rattle.ja_graph.specs.declared.program.Program.{Program}
 use Rattle.ja_graph.specs.Node.{register_set, registers_named, registers_in, function_in}
 use Rattle.ja_graph.specs.Parts.{LastIsEscape}
 use Rattle.ja_graph.specs.Renaming.{renamed}
-use Rattle.ja_graph.specs.WellFormed.{IsRegister, IsDestination, IsName, IsAllowed, IsNodeWellFormed, IsFunctionWellFormed}
+use Rattle.ja_graph.specs.WellFormed.{IsRegister, IsDestination, IsName, IsFunction, IsAllowed, IsNodeWellFormed, IsFunctionWellFormed}
 use Rattle.ja_graph.proofs.RegisterLemmas.{first_stay, each_among}
 use Rattle.ja_listing.specs.declared.item.Item.{Item}
 use Rattle.ja_listing.specs.declared.item.Item.TheVariants as item
@@ -27,7 +27,7 @@ use Rattle.ja_ranges.specs.InRange.{IsDestination as IsDestinationWithin}
 use Rattle.ja_lower.specs.declared.body.Body.{Body}
 use Rattle.ja_lower.specs.Lowering.{shifting, site_count, numbered, sites_in, registers_of, function_of, functions_of}
 use Rattle.ja_lower.proofs.NumberingLemmas.{sets_kept, named_kept, name_kept, function_kept, IsSited}
-use Rattle.ja_lower.proofs.SiteLemmas.{length-numbered}
+use Rattle.ja_lower.proofs.SiteLemmas.{MakesFunctions, length-numbered}
 
 pub all-at : {X : Type 0} (P : X → Type 0) (xs : List X) (n : ℕ) (x : X) → AllByRecursion P xs → slice_get xs n ≡ Some x → P x
 all-at P [] n x each is = absurd (cc)
@@ -159,7 +159,7 @@ module _ (p : Program) (functions first : ℕ) (body : Body) (some : functions <
         sets = subst (λ o. AllByRecursion (IsDestination fn) (option_to_list o)) (sym (sets_kept from old.node)) (all-both (IsRegister fn) (IsDestinationWithin limits) (IsDestination fn) (option_to_list (register_set old.node)) (λ r low destination. (low, destination)) set range.sets);
         names_registers = subst (AllByRecursion (IsRegister fn)) (sym (named_kept from old.node)) named;
         name = subst (λ o. AllByRecursion (IsName p) (option_to_list o)) (sym (name_kept from old.node)) range.name;
-        function = subst (λ o. AllByRecursion (λ (f : FnId). f.0 < length p.functions) (option_to_list o)) (sym (function_kept from old.node)) (all-from (λ (f : FnId). f.0 ≤ functions) (λ (f : FnId). f.0 < length p.functions) (option_to_list (function_in old.node)) (λ f low. omega arith) range.function);
+        function = subst (λ o. AllByRecursion (IsFunction p) (option_to_list o)) (sym (function_kept from old.node)) (all-from (λ (f : FnId). f.0 ≤ functions) (IsFunction p) (option_to_list (function_in old.node)) (λ f low. omega arith) range.function);
         allowed = is_allowed p fn from old.node (range.of_texts refl);
         next = omega (arith, inside.next, count);
         other = omega (arith, inside.other, count);
@@ -204,6 +204,12 @@ functions_well_formed p functions first bodies some listed are f fn is few =
     let good = all-at (IsListed false (length p.names) functions) bodies f from.1 listed from.2 in
     let low : registers_of (length from.1.parameters) from.1.nodes ≤ 262144 = subst (λ (g : Function). g.registers ≤ 262144) (sym from.3) few in
     subst (IsFunctionWellFormed p) from.3 (function_well_formed p functions from.0 from.1 some good low)
+
+-- the functions that the nodes of a body make objects of are those of a program with more functions
+pub listed_named : (p : Program) (specials : Bool) (names functions : ℕ) (body : Body) → functions < length p.functions → IsListed specials names functions body → AllByRecursion (MakesFunctions p) body.nodes
+listed_named p specials names functions body some listed =
+    let limits = limits_within specials names functions body in
+    subst (AllByRecursion (MakesFunctions p)) (sym listed.nodes) (all-from (λ (info : NodeInfo). IsInRange limits info.node) (MakesFunctions p) (assembled listed.listing) (λ info range. all-from (λ (f : FnId). f.0 ≤ functions) (IsFunction p) (option_to_list (function_in info.node)) (λ f low. omega arith) range.function) (in_range_from limits listed.listing listed.listing listed.in_range))
 
 -- the sites of the nodes of a body are its own
 pub listed_sited : (specials : Bool) (names functions : ℕ) (body : Body) → IsListed specials names functions body → AllByRecursion IsSited body.nodes

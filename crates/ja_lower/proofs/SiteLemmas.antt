@@ -1,17 +1,21 @@
 -- What a program tells of the sites of nodes, and how many sites and nodes there are.
-use Rattle.std.proofs.Common.{◌≡◌, ℕ, suc, ◌+◌, ◌*◌, ◌≤◌, List, [], ◌∷◌, ◌++◌, length, map, Some, refl, sym, ap, ◌∙◌, subst, append_assoc, arith, length-append}
+use Rattle.std.proofs.Common.{◌≡◌, ℕ, suc, ◌+◌, ◌*◌, ◌<◌, ◌≤◌, List, [], ◌∷◌, ◌++◌, length, map, Some, refl, sym, ap, ◌∙◌, subst, append_assoc, arith, length-append}
 use Rattle.std.specs.List.{AllByRecursion, slice_get, range_with_len, sum_by}
+use Rattle.std.specs.Option.{option_to_list}
 use Rattle.std.proofs.lemmas.List.{length-map}
 use Rattle.std.proofs.lemmas.List.Sums.{sum_by-cons}
+use Rattle.ja_graph.specs.declared.node.Node.{Node}
 use Rattle.ja_graph.specs.declared.node.NodeInfo.{NodeInfo}
+use Rattle.ja_graph.specs.declared.program.Class.{Class}
+use Rattle.ja_graph.specs.declared.program.Class.TheVariants as class
 use Rattle.ja_graph.specs.declared.program.Program.{Program}
 use Rattle.ja_graph.specs.declared.program.SiteInfo.{SiteInfo}
-use Rattle.ja_graph.specs.Node.{Making, makings}
+use Rattle.ja_graph.specs.Node.{Making, function_in, makings}
 use Rattle.ja_graph.specs.Renaming.{renamed}
-use Rattle.ja_graph.specs.WellFormed.{owned, makings_of, makings_from, IsSiteTold, node_count}
+use Rattle.ja_graph.specs.WellFormed.{IsFunction, owned, makings_of, makings_from, IsSiteTold, NamesFunctions, node_count}
 use Rattle.ja_lower.specs.declared.body.Body.{Body}
 use Rattle.ja_lower.specs.Limits.{size_of_body}
-use Rattle.ja_lower.specs.Lowering.{shifting, site_count, numbered, sites_in, functions_of, site_of, sites_of_nodes, sites_of}
+use Rattle.ja_lower.specs.Lowering.{shifting, site_count, numbered, sites_in, functions_of, run_by, site_of, sites_of_nodes, sites_of}
 use Rattle.ja_lower.proofs.NumberingLemmas.{shifted, makings_shifted, few_makings, IsSited, AreSited, sites_in-nil, sites_in-cons, count_of_nodes}
 
 pub all-append : {X : Type 0} (P : X → Type 0) (xs ys : List X) → AllByRecursion P xs → AllByRecursion P ys → AllByRecursion P (xs ++ ys)
@@ -65,6 +69,35 @@ told_bodies p f first (body ∷ bodies) front sites count sited =
     let behind : p.sites ≡ (front ++ here) ++ rest = sites ∙ sym (append_assoc front here rest) in
     let now : length (front ++ here) ≡ first + sites_in body.nodes = omega (arith, length-append front here, count_of_nodes f body.nodes) in
     all-append (IsSiteTold p) (makings_of f (numbered first body.nodes)) (makings_from (suc f) (functions_of (first + sites_in body.nodes) bodies)) (told_nodes p f first body.nodes front rest sites count sited.0) (told_bodies p (suc f) (first + sites_in body.nodes) bodies (front ++ here) behind now sited.1)
+
+-- ---- each function that is told of a site is one of the program
+
+-- the function that a node makes an object of, if there is one, is one of the program
+abbrev pub MakesFunctions : Program → NodeInfo → Type 0
+MakesFunctions p info = AllByRecursion (IsFunction p) (option_to_list (function_in info.node))
+
+run_named : (p : Program) (info : NodeInfo) (c : Class) → MakesFunctions p info → AllByRecursion (IsFunction p) (option_to_list (run_by info.node c))
+run_named p info class.Function named = named
+run_named p info other named = tt
+
+named_makings : (p : Program) (f : ℕ) (info : NodeInfo) (ms : List Making) → f < length p.functions → MakesFunctions p info → AllByRecursion (NamesFunctions p) (map (site_of f info) ms)
+named_makings p f info [] low named = tt
+named_makings p f info (m ∷ ms) low named = (
+  record { owner = (low, tt); calls = run_named p info m.class named; constructs = run_named p info m.class named },
+  named_makings p f info ms low named,
+)
+
+named_nodes : (p : Program) (f : ℕ) (infos : List NodeInfo) → f < length p.functions → AllByRecursion (MakesFunctions p) infos → AllByRecursion (NamesFunctions p) (sites_of_nodes f infos)
+unfolding sites_of_nodes
+named_nodes p f [] low named = tt
+named_nodes p f (info ∷ infos) low named =
+    all-append (NamesFunctions p) (map (site_of f info) (makings info.node)) (sites_of_nodes f infos) (named_makings p f info (makings info.node) low named.0) (named_nodes p f infos low named.1)
+
+pub named_bodies : (p : Program) (f : ℕ) (bodies : List Body) → f + length bodies ≤ length p.functions → AllByRecursion (λ (body : Body). AllByRecursion (MakesFunctions p) body.nodes) bodies → AllByRecursion (NamesFunctions p) (sites_of f bodies)
+unfolding sites_of
+named_bodies p f [] low named = tt
+named_bodies p f (body ∷ bodies) low named =
+    all-append (NamesFunctions p) (sites_of_nodes f body.nodes) (sites_of (suc f) bodies) (named_nodes p f body.nodes (omega (arith, low)) named.0) (named_bodies p (suc f) bodies (omega (arith, low)) named.1)
 
 -- ---- how many
 

@@ -1,12 +1,12 @@
 -- What is lowered is well formed.
-use Rattle.std.proofs.Common.{◌≡◌, ℕ, suc, ◌*◌, ◌<◌, ◌≤◌, max, false, List, [], ◌∷◌, ◌++◌, length, map, Some, refl, sym, ap, subst, arith}
+use Rattle.std.proofs.Common.{◌≡◌, ℕ, suc, ◌*◌, ◌<◌, ◌≤◌, max, false, List, [], ◌∷◌, ◌++◌, length, map, Some, refl, sym, ap, ◌∙◌, subst, arith}
 use Rattle.std.specs.List.{AllByRecursion, slice_get, range_with_len}
 use Rattle.std.proofs.lemmas.List.{length-map}
 use Rattle.ja_base.specs.declared.ids.NameId.{NameId}
 use Rattle.ja_graph.specs.declared.program.Function.{Function}
 use Rattle.ja_graph.specs.declared.program.Program.{Program}
 use Rattle.ja_graph.specs.declared.program.SiteInfo.{SiteInfo}
-use Rattle.ja_graph.specs.WellFormed.{IsFunctionWellFormed, OwnedMaking, makings_from, IsSiteTold, node_count}
+use Rattle.ja_graph.specs.WellFormed.{IsFunctionWellFormed, OwnedMaking, makings_from, IsSiteTold, NamesFunctions, node_count}
 use Rattle.ja_statements.specs.Functions.{program_listing, function_listing}
 use Rattle.ja_draft.specs.Lines.{Scene}
 use Rattle.ja_names.specs.Names.{number}
@@ -21,8 +21,8 @@ use Rattle.ja_lower.specs.declared.body.Body.{Body}
 use Rattle.ja_lower.specs.Limits.{size_of}
 use Rattle.ja_lower.specs.Lowering.{names_of, scene_of, function_body, bodies_of, lowered}
 use Rattle.ja_lower.proofs.NumberingLemmas.{AreSited, numbers_of_bodies}
-use Rattle.ja_lower.proofs.SiteLemmas.{told_bodies, few_sites, few_nodes}
-use Rattle.ja_lower.proofs.FunctionLemmas.{all-from, IsListed, functions_well_formed, length-functions, listed_sited}
+use Rattle.ja_lower.proofs.SiteLemmas.{MakesFunctions, told_bodies, named_bodies, few_sites, few_nodes}
+use Rattle.ja_lower.proofs.FunctionLemmas.{all-from, IsListed, functions_well_formed, length-functions, listed_named, listed_sited}
 
 -- ---- bodies
 
@@ -98,6 +98,16 @@ unfolding lowered
 sites_are_told names front statements p sites =
     let scene = scene_in names statements in
     told_bodies p 0 (length front) (bodies_of scene statements) front sites refl (bodies_sited scene statements)
+
+pub sites_name_functions : (names : List (List ℕ)) (first : ℕ) (statements : List Statement) (p : Program) → p.functions ≡ (lowered names first statements).functions → AllByRecursion (NamesFunctions p) (lowered names first statements).sites
+unfolding lowered
+sites_name_functions names first statements p functions =
+    let scene = scene_in names statements in
+    let bodies = bodies_of scene statements in
+    let count : length p.functions ≡ length bodies = ap length functions ∙ length-functions first bodies in
+    let many : length scene.functions < length p.functions = omega (arith, count, length-bodies scene statements, length-map (functions_in statements) (λ (g : FunctionOf Statement). g.place)) in
+    let named = all-from (IsListedIn scene scene.names) (λ (body : Body). AllByRecursion (MakesFunctions p) body.nodes) bodies (λ body listed. listed_named p scene.specials (max 1 (length scene.names)) (length scene.functions) body many listed) (bodies_listed scene statements) in
+    named_bodies p 0 bodies (omega (arith, count)) named
 
 pub sites_are_few : (names : List (List ℕ)) (first : ℕ) (statements : List Statement) → length (lowered names first statements).sites ≤ 4 * node_count (lowered names first statements).functions
 unfolding lowered

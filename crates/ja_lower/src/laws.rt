@@ -5,7 +5,7 @@ ghost use Rattle.std.specs.List.{AllByRecursion, range_with_len, sum_by};
 ghost use Rattle.ja_graph.specs.declared.program.Function.{Function};
 ghost use Rattle.ja_graph.specs.declared.program.Program.{Program};
 ghost use Rattle.ja_graph.specs.declared.program.SiteInfo.{SiteInfo};
-ghost use Rattle.ja_graph.specs.WellFormed.{IsFunctionWellFormed, OwnedMaking, makings_from, IsSiteTold, node_count};
+ghost use Rattle.ja_graph.specs.WellFormed.{IsFunctionWellFormed, OwnedMaking, makings_from, IsSiteTold, NamesFunctions, node_count};
 ghost use Rattle.ja_lower.specs.Limits.{size_of};
 ghost use Rattle.ja_lower.specs.Lowering.{lowered};
 ghost use Rattle.ja_syntax.specs.declared.tree.Statement.{Statement};
@@ -26,6 +26,11 @@ pub fn sites_are_numbered()
 /// the first one says.
 pub fn sites_are_told()
     ensures { (names : List (List ℕ)) (front : List SiteInfo) (statements : List Statement) (p : Program) → p.sites ≡ front ++ (lowered names (length front) statements).sites → AllByRecursion (IsSiteTold p) (makings_from 0 (lowered names (length front) statements).functions) }
+{}
+
+/// The functions that are told of each site of a node are those of a program that has these functions.
+pub fn sites_name_functions()
+    ensures { (names : List (List ℕ)) (first : ℕ) (statements : List Statement) (p : Program) → p.functions ≡ (lowered names first statements).functions → AllByRecursion (NamesFunctions p) (lowered names first statements).sites }
 {}
 
 /// There are at most four sites for each node.

@@ -20,4 +20,4 @@ returns-clause-well_formed c =
     let count = c.len-text_functions.ensures ∙ ap (λ (l : Lowered). length l.functions) lowered in
     let own = c.into_vec.ensures ∙ ap (λ (l : Lowered). l.sites) lowered in
     let sites = c.from_vec.ensures ∙ c.in_ok-append.ensures.items ∙ ap (λ xs. xs ++ c.into_vec.result.items) c.in_ok-all_sites.ensures ∙ ap (λ xs. builtin_sites ++ xs) own in
-    loaded_is_well_formed c.functions_are_well_formed.ensures c.sites_are_numbered.ensures c.sites_are_told.ensures c.sites_are_few.ensures c.nodes_are_within_the_size.ensures _ c.args.tree.now.statements c.in_ok-functions.ensures.within registers few_names (ap (λ (l : Lowered). l.functions) lowered) count sites (ap (λ (l : Lowered). l.names) lowered) c.in_ok-opening.ensures refl refl
+    loaded_is_well_formed c.functions_are_well_formed.ensures c.sites_are_numbered.ensures c.sites_are_told.ensures c.sites_name_functions.ensures c.sites_are_few.ensures c.nodes_are_within_the_size.ensures _ c.args.tree.now.statements c.in_ok-functions.ensures.within registers few_names (ap (λ (l : Lowered). l.functions) lowered) count sites (ap (λ (l : Lowered). l.names) lowered) c.in_ok-opening.ensures refl refl

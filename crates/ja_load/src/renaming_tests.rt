@@ -1,7 +1,7 @@
 ghost use Rattle.std.specs.Prelude.{◌+◌, ◌-◌, ◌^◌, ltb, min, if◌then◌else◌, slice_index_or};
 
-use crate::{Args, Node, Renames, renamed};
 use ja_base::{FnId, NameId, Reg, Seq, Site};
+use ja_graph::{Node, Renames, renamed};
 use std::test::Fail;
 
 /// Registers from `first` on move up by `by`, and sites by `sites`; a name goes where the list says.

@@ -1,0 +1,6 @@
+use Rattle.std.proofs.Common.{◌<◌, ℕ}
+use Rattle.ja_graph.specs.Parts.{IsUnowned}
+use Rattle.ja_graph.proofs.well_formed_sites.are_unowned.Given as goal
+
+abbrev pub invariant-loop-site : goal.invariant-loop-site
+invariant-loop-site l = (s : ℕ) → s < l.site → IsUnowned l.program s
