@@ -5,6 +5,7 @@
 mod attrs;
 mod builtins;
 mod facts;
+pub mod laws;
 mod node;
 mod node_registers;
 mod parts;

@@ -1,6 +1,6 @@
 -- The built-in objects are well formed, and their names and sites are those that each program begins with.
 use Rattle.std.proofs.Common.{◌≡◌, ℕ, zero, suc, Bool, true, not, ◌&&◌, ◌==◌, nat_eq, nat_lt, List, [], ◌∷◌, ◌++◌, length, map, Option, Some, None, refl}
-use Rattle.std.specs.List.{find, fold, list_any}
+use Rattle.std.specs.List.{find, fold, list_any, slice_get}
 use Rattle.std.specs.Option.{is_some, is_none}
 use Rattle.ja_base.specs.declared.ids.Site.{Site}
 use Rattle.ja_names.specs.Names.{with_name}
@@ -11,7 +11,8 @@ use Rattle.ja_graph.specs.declared.program.SiteInfo.{SiteInfo}
 use Rattle.ja_graph.specs.declared.program.SpecContent.{SpecContent}
 use Rattle.ja_graph.specs.declared.program.SpecContent.TheVariants as content
 use Rattle.ja_graph.specs.WellFormed.{builtin_names}
-use Rattle.ja_load.specs.Builtins.{builtin_number, opening_objects, builtin_sites}
+use Rattle.ja_load.specs.Builtins.{NamedSite, builtin_number, opening_objects, builtin_site, builtin_sites, named_sites}
+use Rattle.ja_load.specs.declared.opening.TheConstants.{OPENING}
 
 -- ---- tests of the table
 
@@ -65,6 +66,18 @@ sites_count = refl
 pub sites-classes : map (λ (s : SiteInfo). s.class) builtin_sites ≡ BUILTIN_CLASSES
 unfolding builtin_sites
 sites-classes = refl
+
+pub properties_are_named : map (λ o. map (λ q. slice_get builtin_names q.name.0) o.properties) opening_objects ≡ map (λ row. map (λ e. Some e.0.now) row.1.now) OPENING
+unfolding opening_objects builtin_number
+properties_are_named = refl
+
+pub sites_are_named : map (λ (o : NamedSite). slice_get builtin_sites o.site.0) named_sites ≡ map (λ (o : NamedSite). Some (builtin_site o.class o.path)) named_sites
+unfolding builtin_sites
+sites_are_named = refl
+
+pub all_sites_are_named : length named_sites ≡ length builtin_sites
+unfolding builtin_sites
+all_sites_are_named = refl
 
 pub names_count : length builtin_names ≡ 96
 names_count = refl

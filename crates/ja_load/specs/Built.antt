@@ -10,10 +10,13 @@
 -- before its operator, or the head and the suffixes before a suffix; so the places of the forms in there come first. All other
 -- parts of a form that is not built (right operands, assigned values, arguments, keys, bodies) stand behind its place, and so do
 -- the places of the forms in them. Statements stand one behind the other, and so do the two parts of a built assignment.
-use Rattle.std.specs.Prelude.{ℕ, Bool, true, false, if◌then◌else◌, ◌&&◌, List, [], ◌∷◌, Option, Some, None, Result, Ok, Err}
+use Rattle.std.specs.Prelude.{ℕ, Bool, true, false, if◌then◌else◌, ◌==◌, ◌&&◌, ◌||◌, List, [], ◌∷◌, Option, Some, None, Result, Ok, Err}
 use Rattle.std.specs.List.{list_any}
 use Rattle.std.specs.Str.{bytes_eq}
+use lib.Chars.{codes}
 use Rattle.ja_base.specs.declared.ids.Place.{Place}
+use Rattle.ja_base.specs.declared.ids.Site.{Site}
+use Rattle.ja_graph.specs.declared.builtins.TheConstants.{GLOBAL, OBJECT_PROTOTYPE}
 use Rattle.ja_prim.specs.declared.primitive.Num.TheVariants.{Whole}
 use Rattle.ja_prim.specs.declared.primitive.Primitive.{Primitive}
 use Rattle.ja_prim.specs.declared.primitive.Primitive.TheVariants as primitive
@@ -30,11 +33,16 @@ use Rattle.ja_syntax.specs.declared.tree.Expression.{Expression}
 use Rattle.ja_syntax.specs.declared.tree.Expression.TheOpen.{Expression-F, Statement-F}
 use Rattle.ja_syntax.specs.declared.tree.Expression.TheFolds.{fold-Expression}
 use Rattle.ja_syntax.specs.declared.tree.Statement.{Statement, out-Statement}
-use Rattle.ja_load.specs.declared.excluded.TheConstants.{EXCLUDED}
+use Rattle.ja_load.specs.declared.opening.TheConstants.{OPENING}
 
--- a name of the table: it has a meaning that is not built
+-- the object of a site has a property of this name, by the table of the built-in objects
+abbrev pub has_property : Site → List ℕ → Bool
+has_property s name = list_any (λ row. (row.0.site.0 == s.0) && list_any (λ e. bytes_eq e.0.now name) row.1.now) OPENING
+
+-- The names with a meaning that is not built: `arguments` (10.1.8), and those of the properties of the global object (15.1) and of its
+-- prototype (15.2.4).
 unfoldable pub is_excluded : List ℕ → Bool
-is_excluded name = list_any (λ entry. bytes_eq entry.now name) EXCLUDED
+is_excluded name = bytes_eq (codes "arguments") name || (has_property GLOBAL name || has_property OBJECT_PROTOTYPE name)
 
 -- What an expression is, where all its forms are built: whether it is a name alone; or else the place of the first one that is
 -- not.

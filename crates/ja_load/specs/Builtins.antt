@@ -1,18 +1,21 @@
 -- The built-in objects that are no functions (ES3 section 15), by the table of them, with their names and sites.
-use Rattle.std.specs.Prelude.{ℕ, pos, false, List, [], map, Some, None}
+use Rattle.std.specs.Prelude.{ℕ, pos, false, List, [], ◌∷◌, map, Some, None}
 use Rattle.std.specs.List.{zip}
 use Rattle.std.specs.Option.{option_map}
 use lib.Chars.{codes}
 use Rattle.ja_base.specs.declared.ids.NameId.{NameId}
+use Rattle.ja_base.specs.declared.ids.Site.{Site}
 use Rattle.ja_names.specs.Names.{number}
 use Rattle.ja_prim.specs.declared.primitive.Num.TheVariants.{NaN, Whole}
 use Rattle.ja_prim.specs.declared.primitive.Primitive.{Primitive}
 use Rattle.ja_prim.specs.declared.primitive.Primitive.TheVariants as primitive
 use Rattle.ja_graph.specs.declared.attrs.Attrs.{Attrs}
 use Rattle.ja_graph.specs.declared.builtins.TheConstants.{BUILTIN_CLASSES}
+use Rattle.ja_graph.specs.declared.builtins.TheConstants as sites
 use Rattle.ja_graph.specs.declared.node.ErrorKind.{ErrorKind}
 use Rattle.ja_graph.specs.declared.node.ErrorKind.TheVariants as kind
 use Rattle.ja_graph.specs.declared.program.Class.{Class}
+use Rattle.ja_graph.specs.declared.program.Class.TheVariants as class
 use Rattle.ja_graph.specs.declared.program.ObjectSpec.{ObjectSpec}
 use Rattle.ja_graph.specs.declared.program.PropertySpec.{PropertySpec}
 use Rattle.ja_graph.specs.declared.program.SpecContent.{SpecContent}
@@ -83,6 +86,34 @@ builtin_site kind path = record {
   constructs = None;
   builtin = Some path;
 }
+
+-- A built-in object by the name of its site: its class, and its path in the standard.
+pub record NamedSite : Type 0 where
+  pub site : Site
+  pub class : Class
+  pub path : List ℕ
+
+abbrev pub named : Site → Class → List ℕ → NamedSite
+named site kind path = record { site = site; class = kind; path = path }
+
+-- the built-in objects that are no functions (15.1, 15.2.4, 15.4.4, 15.5.4, 15.6.4, 15.7.4, 15.11.4, 15.11.7, 15.8)
+abbrev pub named_sites : List NamedSite
+named_sites =
+    named sites.GLOBAL class.Object (codes "global")
+    ∷ named sites.OBJECT_PROTOTYPE class.Object (codes "Object.prototype")
+    ∷ named sites.ARRAY_PROTOTYPE class.Array (codes "Array.prototype")
+    ∷ named sites.STRING_PROTOTYPE class.String (codes "String.prototype")
+    ∷ named sites.BOOLEAN_PROTOTYPE class.Boolean (codes "Boolean.prototype")
+    ∷ named sites.NUMBER_PROTOTYPE class.Number (codes "Number.prototype")
+    ∷ named sites.ERROR_PROTOTYPE class.Error (codes "Error.prototype")
+    ∷ named sites.EVAL_ERROR_PROTOTYPE class.Error (codes "EvalError.prototype")
+    ∷ named sites.RANGE_ERROR_PROTOTYPE class.Error (codes "RangeError.prototype")
+    ∷ named sites.REFERENCE_ERROR_PROTOTYPE class.Error (codes "ReferenceError.prototype")
+    ∷ named sites.SYNTAX_ERROR_PROTOTYPE class.Error (codes "SyntaxError.prototype")
+    ∷ named sites.TYPE_ERROR_PROTOTYPE class.Error (codes "TypeError.prototype")
+    ∷ named sites.URI_ERROR_PROTOTYPE class.Error (codes "URIError.prototype")
+    ∷ named sites.MATH class.Math (codes "Math")
+    ∷ []
 
 -- the sites of the built-in objects, by their numbers
 unfoldable pub builtin_sites : List SiteInfo

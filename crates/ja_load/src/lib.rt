@@ -8,11 +8,14 @@ mod fault;
 pub mod laws;
 mod loading;
 mod opening;
+pub mod table_laws;
 
 pub use built::unbuilt;
 pub use fault::LoadFault;
 pub use loading::load;
 
+#[cfg(test)]
+mod builtin_tests;
 #[cfg(test)]
 mod expression_tests;
 #[cfg(test)]
