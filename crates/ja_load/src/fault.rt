@@ -5,17 +5,22 @@ ghost use Rattle.ja_load.specs.declared.fault.LoadFault.TheVariants.{Parse};
 use ja_base::{Memory, Place};
 use ja_grammar::ParseFault;
 use std::alloc::{AllocError, AllocFailed};
+use thiserror::Error;
 
 /// Why a text has no program.
-#[derive(Clone, Copy, Debug, PartialEq, Eq)]
+#[derive(Clone, Copy, Debug, PartialEq, Eq, Error)]
 pub enum LoadFault {
     /// It is none of the language, or memory was refused.
+    #[error(transparent)]
     Parse(ParseFault),
     /// It has more than 4,096 functions, the program among them.
+    #[error("more than 4,096 functions")]
     Functions,
     /// Its functions have more than 65,536 nodes, each parameter of a function counted as one more.
+    #[error("more than 65,536 nodes")]
     Nodes,
     /// The first form that is not built has this place.
+    #[error("a form that is not built at {place:?}")]
     Unbuilt { place: Place },
 }
 

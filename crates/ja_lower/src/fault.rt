@@ -3,15 +3,19 @@ ghost use Rattle.ja_lower.specs.declared.fault.LowerFault.TheVariants.{Memory as
 
 use ja_base::Memory;
 use std::alloc::{AllocError, AllocFailed};
+use thiserror::Error;
 
 /// Why a tree isn't lowered.
-#[derive(Clone, Copy, Debug, PartialEq, Eq)]
+#[derive(Clone, Copy, Debug, PartialEq, Eq, Error)]
 pub enum LowerFault {
     /// It has more than 4,096 functions, the program among them.
+    #[error("more than 4,096 functions")]
     Functions,
     /// Its functions have more than 65,536 nodes, each parameter of a function counted as one more.
+    #[error("more than 65,536 nodes")]
     Nodes,
     /// Memory was refused.
+    #[error("memory was refused")]
     Memory,
 }
 

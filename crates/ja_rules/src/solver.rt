@@ -11,7 +11,9 @@ use ja_base::{Context, FnId, Label, Memory, NodeId, Seq};
 use ja_graph::{GLOBAL, Program};
 use ja_model::{Item, closed_covers};
 use std::alloc::{AllocFailed, Global};
+use std::fmt::{self, Debug, Formatter};
 use std::mem;
+use thiserror::Error;
 
 /// A closed table, and the visits that built it.
 #[derive(Drop)]
@@ -21,10 +23,21 @@ pub struct Solved {
 }
 
 /// Why there is no table: the budget is spent, after these visits, or memory was refused.
-#[derive(Drop)]
+#[derive(Drop, Error)]
 pub enum SolveFault {
+    #[error("the budget is spent after {} visits", .visits.len())]
     Spent { visits: Seq<Item> },
+    #[error("memory was refused")]
     Memory,
+}
+
+impl Debug for SolveFault {
+    fn fmt<W: fmt::Write>(&self, f: &mut Formatter<W>) -> fmt::Result {
+        match self {
+            SolveFault::Spent { visits } => write!(f, "Spent after {} visits", visits.len()),
+            SolveFault::Memory => f.write_str("Memory"),
+        }
+    }
 }
 
 impl From<Memory> for SolveFault {
