@@ -12,8 +12,6 @@ mod marks;
 mod numbers;
 mod spot;
 mod strings;
-#[cfg(test)]
-mod tests;
 mod token;
 mod words;
 

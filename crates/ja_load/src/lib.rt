@@ -21,16 +21,22 @@ mod expression_tests;
 #[cfg(test)]
 mod graph_tests;
 #[cfg(test)]
+mod hoisting_tests;
+#[cfg(test)]
 mod lower_tests;
 #[cfg(test)]
 mod name_tests;
 #[cfg(test)]
 mod parse_tests;
 #[cfg(test)]
+mod primitive_tests;
+#[cfg(test)]
 mod renaming_tests;
 #[cfg(test)]
 mod statement_tests;
 #[cfg(test)]
 mod tests;
+#[cfg(test)]
+mod token_tests;
 #[cfg(test)]
 mod well_formed_tests;

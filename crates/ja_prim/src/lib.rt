@@ -19,8 +19,6 @@ mod numbers;
 mod primitive;
 mod signature;
 mod stop;
-#[cfg(test)]
-mod tests;
 mod text16;
 mod truth;
 mod values;

@@ -21,6 +21,3 @@ pub use tree::{
     FunctionTree, Initialiser, Name, Operation, Property, PropertyName, Statement, Suffix, Tree,
     UnaryOperator, UpdateOperator,
 };
-
-#[cfg(test)]
-mod tests;

@@ -1,7 +1,9 @@
-use crate::tree::{Declaration, Expression, ForTarget, FunctionOf, FunctionTree, Name, Statement};
-use crate::{hoist, mentions_arguments};
 use ja_base::Place;
 use ja_prim::Text16;
+use ja_syntax::{
+    Declaration, Expression, ForTarget, FunctionOf, FunctionTree, Name, Statement, hoist,
+    mentions_arguments,
+};
 use sqlite_items::{Boxed, Items};
 use std::alloc::{AllocError, Global};
 use std::test::Fail;

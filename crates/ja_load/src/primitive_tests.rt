@@ -1,4 +1,4 @@
-use crate::{
+use ja_prim::{
     Int, Num, Prim, Primitive, Stop, Text16, add, add_numbers, and, array_index, compare, div,
     loose_eq, not, rem, shl, shr, strict_eq, to_bool, to_int32, to_num, to_text, to_uint32, ushr,
 };

@@ -1,5 +1,5 @@
-use crate::{Token, TokenFault, TokenKind, tokens};
 use ja_base::ScopeKind;
+use ja_lex::{Token, TokenFault, TokenKind, tokens};
 use std::alloc::Global;
 use std::fmt::Write;
 use std::test::Fail;
