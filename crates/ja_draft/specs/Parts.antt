@@ -14,7 +14,7 @@ block_of m = record { items = []; temporary = m.temporary; spot = m.spot; spots 
 
 -- a line of a copy
 abbrev pub moved_by : Moves → Item → Item
-moved_by m = moved_item (block_of m) m.by m.to
+moved_by m = moved_item (block_of m) m.above m.by m.to
 
 -- the lines of one part, with the lines of each part of its block in place of it
 abbrev pub part_level : Part-F (List Item) → List Item

@@ -2,12 +2,12 @@
 
 ghost use Rattle.std.specs.Prelude.{◌≡◌, ◌+◌, ◌∷◌, ◌++◌, [], map, OnOk, IfOk, None, Some};
 ghost use Rattle.ja_listing.specs.declared.item.Item.TheVariants as item;
-ghost use Rattle.ja_listing.specs.Listing.{node_count};
+ghost use Rattle.ja_listing.specs.Listing.{node_count, begins_with_jump};
 ghost use Rattle.ja_draft.specs.Lines as lines;
 ghost use Rattle.ja_draft.specs.Parts.{part_items, items_of, moved_by};
 
 use crate::moves::Moves;
-use crate::part::{MOST_LINES, Part, written};
+use crate::part::{MOST_LINES, Part, first_line_jumps, written};
 use ja_base::{Memory, Place, Reg};
 use ja_graph::Node;
 use ja_listing::{Item, Spot};
@@ -48,6 +48,16 @@ fn nodes_of(item: &Item) -> u32
         Item::Node { .. } => 1,
         Item::Spot(_) | Item::Jump(_) => 0,
     }
+}
+
+/// Parts, and further ones behind them.
+fn joined(mut parts: Vec<Part>, behind: Vec<Part>) -> Result<Vec<Part>, Memory>
+    ensures { IfOk result (λ all. all.items ≡ parts.items ++ behind.items) }
+{
+    for part in behind {
+        parts.push(part)?;
+    }
+    Ok(parts)
 }
 
 impl Draft {
@@ -197,13 +207,14 @@ impl Draft {
 
     /// Adds a node.
     pub fn node(&mut self, handler: Option<Spot>, place: Place, node: Node) -> Result<(), Memory>
-        ensures { lines.Adds (lines.with_item self.old (item.Node node None handler place)) result self.new }
+        ensures { lines.Adds (lines.with_item self.old (item.Node node None handler place None)) result self.new }
     {
         self.item(Item::Node {
             node,
             other: None,
             handler,
             place,
+            above: None,
         })
     }
 
@@ -215,13 +226,50 @@ impl Draft {
         node: Node,
         other: Spot,
     ) -> Result<(), Memory>
-        ensures { lines.Adds (lines.with_item self.old (item.Node node (Some other) handler place)) result self.new }
+        ensures { lines.Adds (lines.with_item self.old (item.Node node (Some other) handler place None)) result self.new }
     {
         self.item(Item::Node {
             node,
             other: Some(other),
             handler,
             place,
+            above: None,
+        })
+    }
+
+    /// Whether the first line that is no spot is a jump.
+    pub fn begins_with_jump(&self) -> bool
+        ensures { result ≡ begins_with_jump self.now.items }
+    {
+        first_line_jumps(&self.parts).unwrap_or(false)
+    }
+
+    /// This listing with another one behind it, whose temporaries and spots go on. Past 4,294,967,295
+    /// nodes memory counts as refused.
+    #[tactic(auto, using(crate::proofs::PartLemmas::items_both, crate::proofs::PartLemmas::count_parts))]
+    pub fn then(self, listing: Draft) -> Result<Draft, Memory>
+        ensures { IfOk result (λ whole. whole ≡ record listing { items = self.items ++ listing.items }) }
+    {
+        let Draft {
+            parts,
+            nodes: before,
+            ..
+        } = self;
+        let Draft {
+            parts: behind,
+            nodes,
+            temporary,
+            spot,
+        } = listing;
+        let Some(nodes) = before.checked_add(nodes) else {
+            return Err(Memory);
+        };
+        let parts = joined(parts, behind)?;
+        Ok(Draft {
+            parts,
+            nodes,
+            temporary,
+            spot,
         })
     }
 

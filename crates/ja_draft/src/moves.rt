@@ -6,17 +6,19 @@ ghost use Rattle.ja_draft.specs.Parts as spec;
 ghost use Rattle.ja_draft.specs.Copies as copies;
 
 use crate::moving::moved;
-use ja_base::Memory;
+use ja_base::{Memory, Reg};
 use ja_listing::{Item, Spot};
 use std::alloc::Global;
 
 /// How a copy is moved: where the temporaries and the spots of its block begin and how many spots it
-/// has, by how much its temporaries are moved up, and where its spots begin.
+/// has, the register above which the copy stands, by how much its temporaries are moved up, and where
+/// its spots begin.
 #[derive(Clone, Copy)]
 pub struct Moves {
     pub(crate) temporary: u32,
     pub(crate) spot: u32,
     pub(crate) spots: u32,
+    pub(crate) above: Reg,
     pub(crate) by: u32,
     pub(crate) to: u32,
 }
@@ -52,6 +54,16 @@ impl Moves {
         }
     }
 
+    /// Whether what stands above this register, or in no copy, moves with the block.
+    fn takes(self, inner: Option<Reg>) -> bool
+        ensures { result ≡ copies.moves_with self.temporary inner }
+    {
+        match inner {
+            None => true,
+            Some(inner) => self.temporary <= inner.0,
+        }
+    }
+
     /// A line of the copy.
     pub(crate) fn item(self, alloc: Global, item: &Item) -> Result<Item, Memory>
         ensures { IfOk result (λ i. i ≡ spec.moved_by self item.now) }
@@ -62,16 +74,21 @@ impl Moves {
                 other,
                 handler,
                 place,
+                above,
             } => {
-                let node = moved(alloc, node, self.temporary, self.by)?;
+                let takes = self.takes(*above);
+                let by = if takes { self.by } else { 0 };
+                let node = moved(alloc, node, self.temporary, by)?;
                 let other = self.spot_if_any(*other)?;
                 let handler = self.spot_if_any(*handler)?;
                 let place = *place;
+                let above = if takes { Some(self.above) } else { *above };
                 Ok(Item::Node {
                     node,
                     other,
                     handler,
                     place,
+                    above,
                 })
             }
             Item::Spot(spot) => {

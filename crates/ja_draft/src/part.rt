@@ -1,6 +1,7 @@
 //! The parts of a listing: its lines, and copies of blocks, which are written out when it is read.
 
 ghost use Rattle.std.specs.Prelude.{◌≡◌, ◌∷◌, ◌++◌, [], map, IfOk, OnOk};
+ghost use Rattle.ja_listing.specs.Listing.{first_line_jumps};
 ghost use Rattle.ja_draft.specs.Parts as spec;
 
 use crate::moves::Moves;
@@ -21,6 +22,44 @@ pub enum Part {
         parts: Rc<Items<Part>>,
         moves: Moves,
     },
+}
+
+/// Whether a line is a jump, unless it is a spot.
+#[tactic(auto, unfolding(ja_listing::specs::Listing::first_line_jumps))]
+fn line_jumps(item: &Item) -> Option<bool>
+    ensures { result ≡ first_line_jumps (item.now ∷ []) }
+{
+    match item {
+        Item::Node { .. } => Some(false),
+        Item::Jump(_) => Some(true),
+        Item::Spot(_) => None,
+    }
+}
+
+/// Whether the first line of a part that is no spot is a jump.
+#[cycle(beginnings)]
+#[tactic(auto, using(crate::proofs::PartLemmas::items_of_line, crate::proofs::PartLemmas::first_of_copy))]
+fn part_jumps(part: &Part) -> Option<bool>
+    ensures { result ≡ first_line_jumps (spec.part_items part.now) }
+{
+    match part {
+        Part::Item(item) => line_jumps(item),
+        Part::Copy { parts, .. } => first_line_jumps(parts.as_slice()),
+    }
+}
+
+/// Whether the first line of parts that is no spot is a jump.
+#[cycle(beginnings)]
+#[tactic(auto, unfolding(ja_listing::specs::Listing::first_line_jumps), using(crate::proofs::PartLemmas::first_of_parts))]
+pub(crate) fn first_line_jumps(parts: &[Part]) -> Option<bool>
+    ensures { result ≡ first_line_jumps (spec.items_of parts.now) }
+{
+    for part in parts {
+        if let Some(jumps) = part_jumps(part) {
+            return Some(jumps);
+        }
+    }
+    None
 }
 
 /// Adds a line. Past the most lines that are written out memory counts as refused.

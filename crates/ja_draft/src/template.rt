@@ -9,7 +9,7 @@ ghost use Rattle.ja_draft.specs.Copies as copies;
 use crate::draft::Draft;
 use crate::moves::Moves;
 use crate::part::Part;
-use ja_base::Memory;
+use ja_base::{Memory, Reg};
 use ja_listing::{Item, Spot};
 use sqlite_items::Items;
 use std::alloc::Global;
@@ -122,21 +122,25 @@ impl Template {
 }
 
 impl Draft {
-    /// Adds a copy of a block, whose temporaries begin at a register, unless there are more nodes than
-    /// a program may have.
+    /// Adds a copy of a block, whose temporaries begin behind a register, unless there are more nodes
+    /// than a program may have. Past the last number of a register memory counts as refused.
     #[tactic(auto, unfolding(crate::specs::Copies::with_block, crate::specs::Copies::copied))]
-    pub fn block(&mut self, template: &Template, base: u32) -> Result<(), Memory>
-        ensures { lines.Adds (copies.with_block template.now base self.old) result self.new }
+    pub fn block(&mut self, template: &Template, above: Reg) -> Result<(), Memory>
+        ensures { lines.Adds (copies.with_block template.now above self.old) result self.new }
     {
         if self.nodes() > MOST_NODES {
             return Ok(());
         }
+        let Some(base) = above.0.checked_add(1) else {
+            return Err(Memory);
+        };
         let by = base.saturating_sub(template.temporary);
         let to = self.take_spots(template.spots)?;
         let moves = Moves {
             temporary: template.temporary,
             spot: template.spot,
             spots: template.spots,
+            above,
             by,
             to,
         };

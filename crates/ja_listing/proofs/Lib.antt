@@ -2,3 +2,5 @@ pub mod Parts
 pub mod Links
 pub mod Kept
 pub mod Inside
+pub mod Jumps
+pub mod Followed

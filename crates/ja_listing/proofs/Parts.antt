@@ -11,7 +11,7 @@ items_at items k m x at inside next = rw (next, add-one, drop-cons items k x) (a
 -- the nodes of an item and of those behind it
 pub count_split : (x : Item) (items : List Item) → node_count (x ∷ items) ≡ node_count (x ∷ []) + node_count items
 unfolding node_count
-count_split (item.Node node other handler place) items = omega arith
+count_split (item.Node node other handler place above) items = omega arith
 count_split (item.Spot s) items = omega arith
 count_split (item.Jump s) items = omega arith
 

@@ -1,6 +1,7 @@
 -- What assembling a listing comes to.
 use Rattle.std.specs.Prelude.{◌≡◌, ◌<◌, ℕ, List, [], ◌∷◌, ◌++◌, length, Option, Some, slice_get}
 use Rattle.ja_base.specs.declared.ids.Place.{Place}
+use Rattle.ja_base.specs.declared.ids.Reg.{Reg}
 use Rattle.ja_graph.specs.declared.node.Node.{Node}
 use Rattle.ja_graph.specs.declared.node.Node.TheVariants.{Escape}
 use Rattle.ja_graph.specs.declared.node.NodeInfo.{NodeInfo}
@@ -14,7 +15,8 @@ pub record EndsWithEscape (whole : List Item) : Type 0 where
   pub other : Option Spot
   pub handler : Option Spot
   pub place : Place
-  pub split : whole ≡ front ++ item.Node Escape other handler place ∷ []
+  pub above : Option Reg
+  pub split : whole ≡ front ++ item.Node Escape other handler place above ∷ []
 
 -- the edges of a node lead to nodes of its function, which has so many
 pub record LeadsInside (nodes : ℕ) (info : NodeInfo) : Type 0 where
@@ -29,6 +31,6 @@ EdgesLeadInside nodes = (n : ℕ) (info : NodeInfo) → slice_get nodes n ≡ So
 -- the nodes of a listing with their places, in order
 unfoldable pub placed : List Item → List (Node × Place)
 placed [] = []
-placed (item.Node node other handler place ∷ items) = (node, place) ∷ placed items
+placed (item.Node node other handler place above ∷ items) = (node, place) ∷ placed items
 placed (item.Spot s ∷ items) = placed items
 placed (item.Jump s ∷ items) = placed items

@@ -1,9 +1,10 @@
--- The numbers that the passes over a listing keep for its spots.
+-- Where a run goes on from spots, as the pass over a listing keeps it.
 use Rattle.std.specs.Prelude.{ℕ, Option}
 use Rattle.std.specs.Ordering.{nat_cmp}
 use Rattle.std.specs.BTreeMap.{get}
-use Rattle.ja_listing.specs.declared.spots.Spots.{Spots}
+use Rattle.ja_listing.specs.declared.onward.Onward.{Onward}
+use Rattle.ja_listing.specs.declared.onward.Spots.{Spots}
 
--- the number of a spot, if it has one
-abbrev pub number_of : Spots → ℕ → Option ℕ
-number_of spots q = get nat_cmp spots.numbers q
+-- where a run goes on from a spot, if that is known
+abbrev pub onward_of : Spots → ℕ → Option Onward
+onward_of spots q = get nat_cmp spots.known q

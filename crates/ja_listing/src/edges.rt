@@ -1,50 +1,86 @@
 //! The nodes of a listing with their edges.
 
-ghost use Rattle.std.specs.Prelude.{◌≡◌, ◌<◌, ◌^◌, List, ◌∷◌, length, IfOk};
+ghost use Rattle.std.specs.Prelude.{◌≡◌, ◌<◌, ◌^◌, List, ◌∷◌, length, Option, IfOk};
+ghost use Rattle.ja_base.specs.declared.ids.Reg.{Reg};
 ghost use Rattle.ja_listing.specs.declared.item.Item.{Item};
 ghost use Rattle.ja_listing.specs.declared.item.Item.TheVariants as item;
-ghost use Rattle.ja_listing.specs.Listing.{leads, edge, nodes_from, assembled};
-ghost use Rattle.ja_listing.specs.Passes.{AreEdges, ways_on};
+ghost use Rattle.ja_listing.specs.Listing.{edge, nodes_from, assembled};
+ghost use Rattle.ja_listing.specs.Passes.{AreEdges, IsEnd, further, followed, seen, ways_on};
 
 use crate::facts::goes_on;
+use crate::onward::{Onward, Spots};
 use crate::passes::passed;
-use crate::spots::Spots;
 use crate::{Item, Spot};
 use ja_base::{Memory, NodeId, Place, Seq};
 use ja_graph::{Node, NodeInfo, may_throw};
 use std::alloc::Global;
 
-/// Where the edges of a listing lead: those to its spots, and those without a spot.
+/// Where the edges of a listing lead: those to its spots, and those without a spot. More jumps than
+/// so many turns go round.
 #[derive(Drop)]
 struct Edges {
     escape: u32,
+    turns: usize,
     at: Spots,
 }
 
 impl Edges {
+    /// Where a run goes on, with one spot followed.
+    fn further(&self, onward: Onward) -> Onward
+        ensures { (whole : List Item) → AreEdges self.now whole → result ≡ further whole onward }
+    {
+        match onward {
+            Onward::Node(_) => onward,
+            Onward::Spot(spot) => self.at.get(spot).unwrap_or(Onward::Node(self.escape)),
+        }
+    }
+
+    /// The node at which a run goes on: Escape, if jumps go round.
+    #[tactic(auto, unfolding(crate::specs::Passes::after), using(crate::proofs::Followed::node_stays))]
+    fn landing(&self, onward: Onward) -> u32
+        ensures { (whole : List Item) → AreEdges self.now whole → result ≡ followed whole onward }
+    {
+        let mut onward = onward;
+        for _turn in 0..self.turns {
+            if let Onward::Node(node) = onward {
+                return node;
+            }
+            onward = self.further(onward);
+        }
+        match onward {
+            Onward::Node(node) => node,
+            Onward::Spot(_) => self.escape,
+        }
+    }
+
     /// The node to which an edge leads.
+    #[tactic(auto, using(crate::proofs::Followed::edge_lands))]
     fn edge(&self, spot: Option<Spot>) -> NodeId
         ensures { (whole : List Item) → AreEdges self.now whole → result ≡ edge whole spot }
     {
         let Some(spot) = spot else {
             return NodeId(self.escape);
         };
-        NodeId(self.at.get(spot).unwrap_or(self.escape))
+        NodeId(self.landing(self.further(Onward::Spot(spot))))
     }
 
     /// A node with its edges, where `here` is where a run goes on behind it.
-    #[tactic(auto, unfolding(crate::specs::Listing::nodes_from))]
+    #[tactic(auto, unfolding(crate::specs::Listing::nodes_from), using(crate::proofs::Followed::way_lands))]
     fn info(
         &self,
         node: Node,
         other: Option<Spot>,
         handler: Option<Spot>,
         place: Place,
-        here: u32,
+        here: Onward,
     ) -> NodeInfo
-        ensures { (whole items : List Item) → AreEdges self.now whole → here ≡ (leads whole items).here → nodes_from whole (item.Node node other handler place ∷ items) ≡ result ∷ nodes_from whole items }
+        ensures { (whole items : List Item) (above : Option Reg) → AreEdges self.now whole → IsEnd whole items → here ≡ (seen whole items).here → nodes_from whole (item.Node node other handler place above ∷ items) ≡ result ∷ nodes_from whole items }
     {
-        let next = if goes_on(&node) { here } else { self.escape };
+        let next = if goes_on(&node) {
+            self.landing(here)
+        } else {
+            self.escape
+        };
         let handler = if may_throw(&node) { handler } else { None };
         NodeInfo {
             node,
@@ -62,7 +98,7 @@ fn linked(
     alloc: Global,
     items: Vec<Item>,
     edges: Edges,
-    mut ways: Vec<u32>,
+    mut ways: Vec<Onward>,
 ) -> Result<Seq<NodeInfo>, Memory>
     requires edges { AreEdges edges items.items }
     requires ways { ways.items ≡ ways_on items.items items.items }
@@ -76,8 +112,9 @@ fn linked(
                 other,
                 handler,
                 place,
+                ..
             } => {
-                let here = ways.pop().unwrap_or(edges.escape);
+                let here = ways.pop().unwrap_or(Onward::Node(edges.escape));
                 nodes.push(edges.info(node, other, handler, place, here))?;
             }
             Item::Spot(_) | Item::Jump(_) => {}
@@ -95,6 +132,7 @@ pub fn assembled(alloc: Global, items: Vec<Item>) -> Result<Seq<NodeInfo>, Memor
     let pass = passed(alloc, &items)?;
     let edges = Edges {
         escape: pass.nodes.saturating_sub(1),
+        turns: items.len() + 1,
         at: pass.at,
     };
     linked(alloc, items, edges, pass.ways)

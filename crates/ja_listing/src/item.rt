@@ -1,4 +1,4 @@
-use ja_base::Place;
+use ja_base::{Place, Reg};
 use ja_graph::Node;
 
 /// A spot of a listing, by its number: edges and jumps lead to it.
@@ -10,12 +10,14 @@ pub struct Spot(pub u32);
 pub enum Item {
     /// A node, with the spots of those of its edges that don't lead to what follows: `other` of a
     /// branch or of a list without names left, and its handler. Without a spot such an edge leads
-    /// out of the function.
+    /// out of the function. In a copy of a block it has the register above which the temporaries of
+    /// the copy begin.
     Node {
         node: Node,
         other: Option<Spot>,
         handler: Option<Spot>,
         place: Place,
+        above: Option<Reg>,
     },
     /// The spot of what follows.
     Spot(Spot),

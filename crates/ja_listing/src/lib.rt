@@ -6,8 +6,8 @@ mod edges;
 mod facts;
 mod item;
 pub mod laws;
+mod onward;
 mod passes;
-mod spots;
 #[cfg(test)]
 mod tests;
 

@@ -1,59 +1,15 @@
-//! The passes that find where a run goes on: one from the beginning of a listing and one from its end.
+//! The pass that finds where a run goes on, from the end of a listing.
 
-ghost use Rattle.std.specs.Prelude.{◌≡◌, ◌+◌, ◌-◌, ◌≤◌, ◌<◌, ◌^◌, List, [], ◌∷◌, length, unwrap_or, IfOk, OnOk};
+ghost use Rattle.std.specs.Prelude.{◌≡◌, ◌≤◌, ◌<◌, ◌^◌, List, [], ◌∷◌, length, IfOk, OnOk};
 ghost use Rattle.ja_listing.specs.declared.item.Item.{Item};
-ghost use Rattle.ja_listing.specs.declared.item.Spot.{Spot};
 ghost use Rattle.ja_listing.specs.Listing.{node_count};
-ghost use Rattle.ja_listing.specs.Passes.{AreFirst, HasPassed, place_of};
-ghost use Rattle.ja_listing.specs.Spots.{number_of};
+ghost use Rattle.ja_listing.specs.Passes.{HasPassed};
 
+use crate::Item;
 use crate::facts::node_count;
-use crate::spots::Spots;
-use crate::{Item, Spot};
+use crate::onward::{Onward, Spots};
 use ja_base::Memory;
 use std::alloc::Global;
-
-/// A pass from the beginning of a listing: how many nodes stand before what follows, and before the
-/// first place of each spot that it has passed.
-#[derive(Drop)]
-struct Forward {
-    count: u32,
-    first: Spots,
-}
-
-impl Forward {
-    /// Passes an item.
-    #[tactic(auto, unfolding(crate::specs::Listing::node_count, crate::specs::Listing::nodes_before))]
-    fn pass(&mut self, item: &Item) -> Result<(), Memory>
-        requires { self.old.count + 1 < 2 ^ 32 }
-        ensures few { OnOk result (self.new.count ≤ self.old.count + 1) }
-        ensures first { OnOk result ((s : Spot) (items : List Item) → place_of self.new items s ≡ place_of self.old (item.now ∷ items) s) }
-        ensures count { OnOk result ((items : List Item) → self.new.count + node_count items ≡ self.old.count + node_count (item.now ∷ items)) }
-    {
-        match item {
-            Item::Node { .. } => self.count += 1,
-            Item::Spot(spot) => self.first.put_first(*spot, self.count)?,
-            Item::Jump(_) => {}
-        }
-        Ok(())
-    }
-}
-
-/// How many nodes stand before the first place of each spot of a listing.
-#[tactic(auto, unfolding(crate::specs::Listing::node_count, crate::specs::Listing::nodes_before))]
-fn first_places(alloc: Global, items: &[Item]) -> Result<Spots, Memory>
-    requires { length items.now < 2 ^ 32 }
-    ensures { IfOk result (λ first. AreFirst first items.now) }
-{
-    let mut pass = Forward {
-        count: 0,
-        first: Spots::new(alloc),
-    };
-    for item in items {
-        pass.pass(item)?;
-    }
-    Ok(pass.first)
-}
 
 /// A pass from the end of a listing: how many nodes it has, how many of them stand before the items
 /// passed, where a run goes on from their beginning and from each of their spots, and where it goes
@@ -62,14 +18,14 @@ fn first_places(alloc: Global, items: &[Item]) -> Result<Spots, Memory>
 pub(crate) struct Backward {
     pub nodes: u32,
     pub before: u32,
-    pub here: u32,
+    pub here: Onward,
     pub at: Spots,
-    pub ways: Vec<u32>,
+    pub ways: Vec<Onward>,
 }
 
 impl Backward {
     /// The pass before its first item.
-    #[tactic(auto, unfolding(crate::specs::Listing::node_count, crate::specs::Listing::leads, crate::specs::Passes::ways_on))]
+    #[tactic(auto, unfolding(crate::specs::Listing::node_count, crate::specs::Passes::seen, crate::specs::Passes::ways_on))]
     fn new(alloc: Global, items: &[Item]) -> Self
         requires { length items.now < 2 ^ 32 }
         ensures { HasPassed result items.now [] }
@@ -78,38 +34,28 @@ impl Backward {
         Backward {
             nodes,
             before: nodes,
-            here: nodes.saturating_sub(1),
+            here: Onward::Node(nodes.saturating_sub(1)),
             at: Spots::new(alloc),
             ways: Vec::new(alloc),
         }
     }
 
     /// Passes the item before those that it has passed.
-    #[tactic(auto, unfolding(crate::specs::Listing::node_count, crate::specs::Listing::leads, crate::specs::Passes::ways_on))]
-    fn pass(&mut self, item: &Item, first: &Spots) -> Result<(), Memory>
+    #[tactic(auto, unfolding(crate::specs::Listing::node_count, crate::specs::Passes::seen, crate::specs::Passes::ways_on))]
+    fn pass(&mut self, item: &Item) -> Result<(), Memory>
         requires { node_count (item.now ∷ []) ≤ self.old.before }
-        ensures { OnOk result ((whole items : List Item) → AreFirst first.now whole → HasPassed self.old whole items → HasPassed self.new whole (item.now ∷ items)) }
+        ensures { OnOk result ((whole items : List Item) → HasPassed self.old whole items → HasPassed self.new whole (item.now ∷ items)) }
     {
         match item {
             Item::Node { .. } => {
                 self.ways.push(self.here)?;
                 self.before -= 1;
-                self.here = self.before;
+                self.here = Onward::Node(self.before);
             }
             Item::Spot(spot) => self.at.put(*spot, self.here)?,
-            Item::Jump(spot) => self.here = self.way_from(*spot, first),
+            Item::Jump(spot) => self.here = self.at.get(*spot).unwrap_or(Onward::Spot(*spot)),
         }
         Ok(())
-    }
-
-    /// Where a jump to a spot leads: to the last node, if the spot stands nowhere.
-    fn way_from(&self, spot: Spot, first: &Spots) -> u32
-        ensures { result ≡ unwrap_or (number_of self.now.at spot.0) (unwrap_or (number_of first.now spot.0) (self.now.nodes - 1)) }
-    {
-        match self.at.get(spot) {
-            Some(here) => here,
-            None => first.get(spot).unwrap_or(self.nodes.saturating_sub(1)),
-        }
     }
 }
 
@@ -118,10 +64,9 @@ pub(crate) fn passed(alloc: Global, items: &[Item]) -> Result<Backward, Memory>
     requires { length items.now < 2 ^ 32 }
     ensures { IfOk result (λ pass. HasPassed pass items.now items.now) }
 {
-    let first = first_places(alloc, items)?;
     let mut pass = Backward::new(alloc, items);
     for done in 0..items.len() {
-        pass.pass(&items[items.len() - 1 - done], &first)?;
+        pass.pass(&items[items.len() - 1 - done])?;
     }
     Ok(pass)
 }

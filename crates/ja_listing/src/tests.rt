@@ -24,6 +24,7 @@ fn node(node: Node, other: Option<u32>, handler: Option<u32>) -> Item {
         other: other.map(Spot),
         handler: handler.map(Spot),
         place: Place { line: 1, column: 1 },
+        above: None,
     }
 }
 
@@ -61,7 +62,7 @@ fn edges(alloc: Global, lines: &[Line]) -> Result<Vec<(u32, u32, u32)>, Fail> {
 }
 
 /// Listings, each with the edges of its nodes.
-const CASES: [(&[Line], &[(u32, u32, u32)]); 4] = [
+const CASES: [(&[Line], &[(u32, u32, u32)]); 6] = [
     (&[Line::Escape], &[(0, 0, 0)]),
     // a choice
     (
@@ -105,6 +106,34 @@ const CASES: [(&[Line], &[(u32, u32, u32)]); 4] = [
             Line::Escape,
         ],
         &[(3, 1, 4), (4, 4, 3), (3, 4, 4), (4, 4, 4), (4, 4, 4)],
+    ),
+    // a jump back to a jump
+    (
+        &[
+            Line::Spot(0),
+            Line::Jump(1),
+            Line::Const,
+            Line::Spot(1),
+            Line::Branch(2),
+            Line::Jump(0),
+            Line::Spot(2),
+            Line::Escape,
+        ],
+        &[(1, 2, 2), (1, 2, 2), (2, 2, 2)],
+    ),
+    // jumps that go round, and one to no spot
+    (
+        &[
+            Line::Branch(0),
+            Line::Spot(0),
+            Line::Jump(1),
+            Line::Const,
+            Line::Spot(1),
+            Line::Jump(0),
+            Line::Throw(7),
+            Line::Escape,
+        ],
+        &[(3, 3, 3), (3, 3, 3), (3, 3, 3), (3, 3, 3)],
     ),
 ];
 

@@ -64,3 +64,43 @@ fn a_block_of_finally_has_a_copy_for_each_way_out(rt: HostRuntime) -> Result<(),
     assert_eq!(rt; columns.as_slice(), COLUMNS.as_slice());
     Ok(())
 }
+
+/// Texts, each with the number of a node and that of the next one.
+const NEXTS: [(&str, usize, u32); 3] = [
+    // the edge back leads to the condition, and not to what a jump leaves out
+    ("do { continue; a; } while (b);", 6, 3),
+    ("do { continue; } while (b);", 4, 1),
+    // a node stands before what a jump leaves out at the beginning
+    ("L: { break L; a; } 1;", 0, 3),
+];
+
+#[test]
+fn jumps_make_no_node(rt: HostRuntime) -> Result<(), Fail> {
+    for (text, node, next) in &NEXTS {
+        let functions = functions_of(rt.alloc(), text)?;
+        let info = functions
+            .as_slice()
+            .first()
+            .and_then(|program| program.nodes.as_slice().get(*node));
+        assert_eq!(rt; info.map(|info| info.next.0), Some(*next), "{text}");
+    }
+    Ok(())
+}
+
+// `break L` copies the outer block behind the register of the outer `try`, in each copy of the inner block too. The
+// register that is read into: on the ways of the inner `try`, on the normal way and on that of an error.
+#[test]
+fn a_copy_on_a_jump_stays_where_its_block_is_copied(rt: HostRuntime) -> Result<(), Fail> {
+    let text = "L: try { try {} finally { break L; } } finally { a; }";
+    let functions = functions_of(rt.alloc(), text)?;
+    let mut registers = Vec::new(rt.alloc());
+    if let Some(program) = functions.as_slice().first() {
+        for info in program.nodes.as_slice() {
+            if let Node::ReadRef { dst, .. } = &info.node {
+                registers.push(dst.0)?;
+            }
+        }
+    }
+    assert_eq!(rt; registers.as_slice(), [8, 8, 8, 9].as_slice());
+    Ok(())
+}

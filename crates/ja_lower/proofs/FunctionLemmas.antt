@@ -96,7 +96,7 @@ escape_kept first n is = ap (renamed (shifting first)) is
 in_range_from : (limits : Limits) (whole items : List Item) → AllInRange limits items → AllByRecursion (λ (info : NodeInfo). IsInRange limits info.node) (nodes_from whole items)
 unfolding nodes_from
 in_range_from limits whole [] each = tt
-in_range_from limits whole (item.Node node other handler place ∷ items) each = (each.0, in_range_from limits whole items each.1)
+in_range_from limits whole (item.Node node other handler place above ∷ items) each = (each.0, in_range_from limits whole items each.1)
 in_range_from limits whole (item.Spot s ∷ items) each = in_range_from limits whole items each.1
 in_range_from limits whole (item.Jump s ∷ items) each = in_range_from limits whole items each.1
 

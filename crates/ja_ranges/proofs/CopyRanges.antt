@@ -16,8 +16,8 @@ use Rattle.ja_listing.specs.declared.item.Item.{Item}
 use Rattle.ja_listing.specs.declared.item.Item.TheVariants as item
 use Rattle.ja_listing.specs.Listing.{node_count}
 use Rattle.ja_draft.specs.Lines.{Listing, Scene}
-use Rattle.ja_draft.specs.Copies.{Template, leading, template_of, moved_register, moving, moved_item, copied, with_block}
-use Rattle.ja_statements.specs.Ways.{Way, of_loop, of_switch, of_label, of_catch, of_finally, Leaving, with_scope, copy_base, leave, restored, arrive, arrive_or, jump_to, leave_all}
+use Rattle.ja_draft.specs.Copies.{Template, leading, template_of, moved_register, moving, moves_with, moved_item, copied, with_block}
+use Rattle.ja_statements.specs.Ways.{Way, of_loop, of_switch, of_label, of_catch, of_finally, Leaving, with_scope, copied_above, leave, restored, arrive, arrive_or, jump_to, leave_all}
 use Rattle.ja_ranges.specs.InRange.{Limits, IsTemporary, IsDestination, IsOfTexts, IsInRange, OfNode, AllInRange}
 use Rattle.ja_ranges.proofs.LineRanges.{all_append, sound_with_jump, sound_move_to_scope}
 use Rattle.ja_ranges.proofs.Sound.{IsSound, IsSoundWay}
@@ -96,19 +96,20 @@ module _ (limits : Limits) (first by : ℕ) (temporary : IsTemporary limits firs
 -- ---- a copy
 
 module _ (limits : Limits) (t : Template) (temporary : IsTemporary limits t.temporary) where
-  moved_item_in_range : (by to : ℕ) (i : Item) → OfNode (IsInRange limits) i → OfNode (IsInRange limits) (moved_item t by to i)
-  moved_item_in_range by to (item.Node n other handler place) h = moved_in_range limits t.temporary by temporary n h
-  moved_item_in_range by to (item.Spot s) h = tt
-  moved_item_in_range by to (item.Jump s) h = tt
+  moved_item_in_range : (above : Reg) (by to : ℕ) (i : Item) → OfNode (IsInRange limits) i → OfNode (IsInRange limits) (moved_item t above by to i)
+  moved_item_in_range above by to (item.Node n other handler place inner) h =
+      moved_in_range limits t.temporary (if moves_with t.temporary inner then by else 0) temporary n h
+  moved_item_in_range above by to (item.Spot s) h = tt
+  moved_item_in_range above by to (item.Jump s) h = tt
 
-  moved_items_in_range : (by to : ℕ) (items : List Item) → AllInRange limits items → AllInRange limits (map (moved_item t by to) items)
-  moved_items_in_range by to [] h = h
-  moved_items_in_range by to (i ∷ items) h = (moved_item_in_range by to i h.0, moved_items_in_range by to items h.1)
+  moved_items_in_range : (above : Reg) (by to : ℕ) (items : List Item) → AllInRange limits items → AllInRange limits (map (moved_item t above by to) items)
+  moved_items_in_range above by to [] h = h
+  moved_items_in_range above by to (i ∷ items) h = (moved_item_in_range above by to i h.0, moved_items_in_range above by to items h.1)
 
-  sound_copied : (base : ℕ) (l : Listing) → AllInRange limits t.items → IsSound limits l → IsSound limits (copied t base l)
+  sound_copied : (above : Reg) (l : Listing) → AllInRange limits t.items → IsSound limits l → IsSound limits (copied t above l)
   unfolding copied
-  sound_copied base l h s = record {
-    nodes = all_append (OfNode (IsInRange limits)) l.items (map (moved_item t (base - t.temporary) l.spot) t.items) s.nodes (moved_items_in_range (base - t.temporary) l.spot t.items h);
+  sound_copied above l h s = record {
+    nodes = all_append (OfNode (IsInRange limits)) l.items (map (moved_item t above (above.0 + 1 - t.temporary) l.spot) t.items) s.nodes (moved_items_in_range above (above.0 + 1 - t.temporary) l.spot t.items h);
     next = s.next;
   }
 
@@ -116,9 +117,9 @@ module _ (limits : Limits) (t : Template) (temporary : IsTemporary limits t.temp
   sound_either true l other s o = s
   sound_either false l other s o = o
 
-  pub sound_with_block : (base : ℕ) (l : Listing) → AllInRange limits t.items → IsSound limits l → IsSound limits (with_block t base l)
+  pub sound_with_block : (above : Reg) (l : Listing) → AllInRange limits t.items → IsSound limits l → IsSound limits (with_block t above l)
   unfolding with_block
-  sound_with_block base l h s = sound_either (nat_lt 65536 (node_count l.items)) l (copied t base l) s (sound_copied base l h s)
+  sound_with_block above l h s = sound_either (nat_lt 65536 (node_count l.items)) l (copied t above l) s (sound_copied above l h s)
 
 -- ---- what is copied
 
@@ -153,7 +154,7 @@ module _ (limits : Limits) (scene : Scene) (place : Place) where
   sound_leave value (of_label label end) v h s = s
   sound_leave value (of_catch saved) v h s = s
   sound_leave value (of_finally saved t) v h s =
-      sound_with_block limits t h.1 (copy_base value saved) (with_scope scene place v.kept saved v.listing) h.0 (sound_with_scope v.kept saved v.listing s)
+      sound_with_block limits t h.1 (copied_above value saved) (with_scope scene place v.kept saved v.listing) h.0 (sound_with_scope v.kept saved v.listing s)
 
   sound_restored : (kept : Option Reg) (l : Listing) → IsSound limits l → IsSound limits (restored scene place kept l)
   sound_restored None l s = s

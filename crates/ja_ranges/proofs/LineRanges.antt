@@ -51,10 +51,10 @@ pub sound_with_item : {limits : Limits} {l : Listing} (i : Item) → OfNode (IsI
 sound_with_item {limits = limits} {l = l} i here sound = record { nodes = all_append (OfNode (IsInRange limits)) l.items (i ∷ []) sound.nodes (here, tt); next = sound.next }
 
 pub sound_with_node : {limits : Limits} {l : Listing} (scene : Scene) (place : Place) (node : Node) → IsInRange limits node → IsSound limits l → IsSound limits (with_node scene place node l)
-sound_with_node scene place node here sound = sound_with_item (item.Node node None scene.handler place) here sound
+sound_with_node scene place node here sound = sound_with_item (item.Node node None scene.handler place None) here sound
 
 pub sound_with_branch : {limits : Limits} {l : Listing} (scene : Scene) (place : Place) (node : Node) (other : Spot) → IsInRange limits node → IsSound limits l → IsSound limits (with_branch scene place node other l)
-sound_with_branch scene place node other here sound = sound_with_item (item.Node node (Some other) scene.handler place) here sound
+sound_with_branch scene place node other here sound = sound_with_item (item.Node node (Some other) scene.handler place None) here sound
 
 pub sound_with_spot : {limits : Limits} {l : Listing} (s : Spot) → IsSound limits l → IsSound limits (with_spot s l)
 sound_with_spot s sound = sound_with_item (item.Spot s) tt sound

@@ -146,13 +146,13 @@ module _ (p : ℕ) (scene : Scene) where
   unfolding list_rethrow
   sound_rethrow t place base l items from low s =
       let thrown = sound_with_copy scene place (register 0) (sound_restarted (base + 1) (next_temporary (limits_of p scene) base low) s) in
-      sound_with_node scene place _ (throw_in_range (limits_of p scene) _) (sound_with_block (limits_of p scene) t from (base + 2) _ items thrown.listing)
+      sound_with_node scene place _ (throw_in_range (limits_of p scene) _) (sound_with_block (limits_of p scene) t from _ _ items thrown.listing)
 
   sound_ways_out : (place : Place) (base spot : ℕ) (saved : Reg) (t : Template) (y : Listing) → AllInRange (limits_of p scene) t.items → IsTemporary (limits_of p scene) t.temporary → IsTemporary (limits_of p scene) base → IsSound (limits_of p scene) y → IsSound (limits_of p scene) (list_ways_out place scene base spot saved t y)
   unfolding list_ways_out
   sound_ways_out place base spot saved t y items from low s =
       let back = sound_with_jump (nth_spot spot 2) (sound_move_to_scope scene place saved (sound_with_spot (nth_spot spot 0) (sound_with_jump (nth_spot spot 1) s))) in
-      let way = sound_with_jump (nth_spot spot 3) (sound_with_block (limits_of p scene) t from (base + 1) _ items (sound_with_spot (nth_spot spot 1) back)) in
+      let way = sound_with_jump (nth_spot spot 3) (sound_with_block (limits_of p scene) t from saved _ items (sound_with_spot (nth_spot spot 1) back)) in
       sound_with_spot (nth_spot spot 3) (sound_rethrow t place base _ items from low (sound_with_spot (nth_spot spot 2) way))
 
 -- ---- what has statements inside

@@ -47,7 +47,7 @@ pub record IsInRange (limits : Limits) (node : Node) : Type 0 where
 
 -- what holds of the node of an item, if it is one
 abbrev pub OfNode : (Node → Type 0) → Item → Type 0
-OfNode P (item.Node node other handler place) = P node
+OfNode P (item.Node node other handler place above) = P node
 OfNode P (item.Spot s) = Unit {0}
 OfNode P (item.Jump s) = Unit {0}
 

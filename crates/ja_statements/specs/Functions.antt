@@ -1,8 +1,9 @@
 -- The listing of a whole function (ES3 10.1, 13, 14).
-use Rattle.std.specs.Prelude.{ℕ, ◌+◌, Bool, true, false, List, [], ◌∷◌, map, length, Option, Some, None}
+use Rattle.std.specs.Prelude.{ℕ, ◌+◌, Bool, true, false, if◌then◌else◌, List, [], ◌∷◌, ◌++◌, map, length, Option, Some, None}
 use Rattle.ja_base.specs.declared.ids.Place.{Place}
 use Rattle.ja_prim.specs.declared.primitive.Primitive.TheVariants as primitive
 use Rattle.ja_graph.specs.declared.node.Node.TheVariants.{Enter, Declare, Bind, Return, Escape}
+use Rattle.ja_listing.specs.Listing.{begins_with_jump}
 use Rattle.ja_listing.specs.declared.item.Item.{Item}
 use Rattle.ja_syntax.specs.declared.tree.Name.{Name}
 use Rattle.ja_syntax.specs.declared.tree.FunctionOf.{FunctionOf}
@@ -70,10 +71,17 @@ unhandled scene = record scene { handler = None }
 abbrev pub first_place : Place
 first_place = record { line = 1; column = 1 }
 
+-- a node before the first one, at which a program begins that begins with a jump: what stands behind the jump isn't run
+abbrev pub first_const : Scene → List Item
+first_const scene = (with_const scene first_place primitive.Undefined (nothing_listed (first_temporary 0))).listing.items
+
+unfoldable pub beginning_with_node : Scene → List Item → List Item
+beginning_with_node scene items = if begins_with_jump items then first_const scene ++ items else items
+
 -- the listing of the program: as a function without parameters, but with no activation of its own
 unfoldable pub program_listing : Scene → List Statement → List Item
 program_listing scene statements =
-    (with_body (unhandled scene) first_place statements (first_temporary 0) (nothing_listed (first_temporary 0))).items
+    beginning_with_node (unhandled scene) (with_body (unhandled scene) first_place statements (first_temporary 0) (nothing_listed (first_temporary 0))).items
 
 -- the listing of a function, at the place of its word `function`
 unfoldable pub function_listing : Scene → FunctionOf Statement → List Item

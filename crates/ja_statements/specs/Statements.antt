@@ -316,13 +316,13 @@ keep_block finally place around base l =
 unfoldable pub list_rethrow : Template → Place → Scene → ℕ → Listing → Listing
 list_rethrow t place scene base l =
     let thrown = with_copy scene place (register 0) (restarted (base + 1) l) in
-    with_node scene place (Throw thrown.value) (with_block t (base + 2) thrown.listing)
+    with_node scene place (Throw thrown.value) (with_block t thrown.value thrown.listing)
 
 -- the ways out of a block that are no jumps
 unfoldable pub list_ways_out : Place → Scene → ℕ → ℕ → Reg → Template → Listing → Listing
 list_ways_out place scene base first saved t y =
     let back = with_jump (nth_spot first 2) (with_move scene place scope saved (with_spot (nth_spot first 0) (with_jump (nth_spot first 1) y))) in
-    let way = with_jump (nth_spot first 3) (with_block t (base + 1) (with_spot (nth_spot first 1) back)) in
+    let way = with_jump (nth_spot first 3) (with_block t saved (with_spot (nth_spot first 1) back)) in
     with_spot (nth_spot first 3) (list_rethrow t place scene base (with_spot (nth_spot first 2) way))
 
 -- what is around a block with a `finally`

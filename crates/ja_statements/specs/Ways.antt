@@ -1,5 +1,5 @@
 -- The ways out of a statement (ES3 12.7 to 12.9): what a jump leaves, and the blocks of `finally` that it runs on its way.
-use Rattle.std.specs.Prelude.{ℕ, ◌+◌, if◌then◌else◌, List, [], ◌∷◌, Option, Some, None}
+use Rattle.std.specs.Prelude.{ℕ, if◌then◌else◌, List, [], ◌∷◌, Option, Some, None, unwrap_or}
 use Rattle.std.specs.List.{list_any}
 use Rattle.std.specs.Str.{bytes_eq}
 use Rattle.ja_base.specs.declared.ids.Place.{Place}
@@ -46,15 +46,14 @@ abbrev pub with_scope : Scene → Place → Option Reg → Reg → Listing → L
 with_scope scene place None saved l = l
 with_scope scene place (Some kept) saved l = with_move scene place scope saved l
 
--- where the temporaries of a copy begin: behind the scope chain that the `try` kept, and behind a value that is returned
-abbrev pub copy_base : Option Reg → Reg → ℕ
-copy_base None saved = saved.0 + 1
-copy_base (Some value) saved = value.0 + 1
+-- the register above which a copy stands: that of the scope chain that the `try` kept, or of a value that is returned
+abbrev pub copied_above : Option Reg → Reg → Reg
+copied_above value saved = unwrap_or value saved
 
 abbrev pub leave : Scene → Place → Option Reg → Way → Leaving → Leaving
 leave scene place value (of_catch saved) v = record { listing = v.listing; kept = Some saved }
 leave scene place value (of_finally saved t) v = record {
-  listing = with_block t (copy_base value saved) (with_scope scene place v.kept saved v.listing);
+  listing = with_block t (copied_above value saved) (with_scope scene place v.kept saved v.listing);
   kept = None;
 }
 leave scene place value way v = v

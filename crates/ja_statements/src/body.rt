@@ -172,6 +172,19 @@ fn first_temporary(parameters: usize) -> Result<u32, Memory>
     Ok(FIXED_REGISTERS + parameters as u32)
 }
 
+/// The listing of a program, which begins with a node: with a constant, if its first line is a jump.
+#[tactic(auto, unfolding(crate::specs::Functions::beginning_with_node))]
+fn beginning_with_node(scene: &Scene<'_, '_>, draft: Draft) -> Result<Draft, Memory>
+    ensures { IfOk result (λ whole. whole.items ≡ spec.beginning_with_node scene.now draft.items) }
+{
+    if !draft.begins_with_jump() {
+        return Ok(draft);
+    }
+    let mut first = Draft::new(scene.alloc, FIXED_REGISTERS, 0);
+    constant(scene, FIRST_PLACE, Primitive::Undefined, &mut first)?;
+    first.then(draft)
+}
+
 /// The listing of the program, at the beginning of its text. It fails where memory is refused, or
 /// where the numbers of temporaries, spots or functions are used up.
 #[tactic(auto, unfolding(crate::specs::Functions::program_listing))]
@@ -181,7 +194,7 @@ pub fn program_listing(scene: &Scene<'_, '_>, inside: &[Statement]) -> Result<Dr
     let scene = unhandled(scene);
     let mut draft = Draft::new(scene.alloc, FIXED_REGISTERS, 0);
     body(&scene, FIRST_PLACE, inside, FIXED_REGISTERS, &mut draft)?;
-    Ok(draft)
+    beginning_with_node(&scene, draft)
 }
 
 /// The listing of a function, at the place of its word `function`. It fails as `program_listing` does,

@@ -70,8 +70,7 @@ pub(crate) fn rethrow(
     let inner = later(base, 1)?;
     draft.restart(inner);
     let src = copy(scene, place, THROWN, draft)?;
-    let copied = later(base, 2)?;
-    draft.block(template, copied)?;
+    draft.block(template, src)?;
     draft.node(scene.handler, place, Node::Throw { src })?;
     Ok(())
 }
@@ -96,8 +95,7 @@ pub(crate) fn ways_out(
     set(scene, place, SCOPE, kept.saved, draft)?;
     draft.jump(exceptional)?;
     draft.mark(normal)?;
-    let inner = later(base, 1)?;
-    draft.block(&kept.template, inner)?;
+    draft.block(&kept.template, kept.saved)?;
     draft.jump(end)?;
     draft.mark(exceptional)?;
     rethrow(&kept.template, scene, place, base, draft)?;

@@ -1,6 +1,6 @@
 //! The ways out of a statement (ES3 12.7 to 12.9).
 
-ghost use Rattle.std.specs.Prelude.{◌≡◌, ◌+◌, [], map, IfOk};
+ghost use Rattle.std.specs.Prelude.{◌≡◌, [], map};
 ghost use Rattle.std.specs.List.{list_any};
 ghost use Rattle.std.specs.Str.{bytes_eq};
 ghost use Rattle.ja_draft.specs.Lines as lines;
@@ -163,26 +163,6 @@ fn continue_target(label: &Option<Name>, way: &Way<'_>) -> Option<Spot>
     }
 }
 
-/// The register behind this one. Past the last number memory counts as refused.
-fn behind(reg: Reg) -> Result<u32, Memory>
-    ensures { IfOk result (λ n. n ≡ reg.0 + 1) }
-{
-    match reg.0.checked_add(1) {
-        Some(number) => Ok(number),
-        None => Err(Memory),
-    }
-}
-
-/// Where the temporaries of a copy begin.
-fn copy_base(value: Option<Reg>, saved: Reg) -> Result<u32, Memory>
-    ensures { IfOk result (λ n. n ≡ spec.copy_base value saved) }
-{
-    match value {
-        None => behind(saved),
-        Some(value) => behind(value),
-    }
-}
-
 /// Sets the scope chain to the register, if another one is in force.
 fn set_scope(
     scene: &Scene<'_, '_>,
@@ -212,8 +192,7 @@ fn leave_finally(
     ensures { Leaves (spec.leave scene.now place value (spec.of_finally saved block.now) (record { listing = draft.old; kept = kept })) result draft.new }
 {
     set_scope(scene, place, kept, saved, draft)?;
-    let base = copy_base(value, saved)?;
-    draft.block(block, base)?;
+    draft.block(block, value.unwrap_or(saved))?;
     Ok(None)
 }
 

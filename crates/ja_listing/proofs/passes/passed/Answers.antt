@@ -17,4 +17,4 @@ loop-done-preserved c =
     let m = length items - c.loop-done.done in
     let same : length items - 1 - c.loop-done.done ≡ k = omega arith in
     let at : x ≡ get_or items k x = rw same at c.index-items-items.is in
-    subst (λ xs. HasPassed c.pass.new.self items xs) (sym (items_at items k m x at (omega arith) (omega arith))) (c.in_ok-pass.ensures items (drop m items) c.in_ok-first.ensures c.loop-done.invariant)
+    subst (λ xs. HasPassed c.pass.new.self items xs) (sym (items_at items k m x at (omega arith) (omega arith))) (c.in_ok-pass.ensures items (drop m items) c.loop-done.invariant)
