@@ -1,5 +1,5 @@
 -- A text all of whose forms are built comes to nodes of kinds that are built.
-use Rattle.std.proofs.Common.{◌≡◌, ℕ, zero, suc, ◌+◌, false, List, [], ◌∷◌, ◌++◌, map, Option, Some, None, Ok, Err, slice_get, refl, sym, ap, ◌∙◌, subst}
+use Rattle.std.proofs.Common.{◌≡◌, ℕ, zero, suc, ◌+◌, Bool, true, false, if◌then◌else◌, List, [], ◌∷◌, ◌++◌, map, Option, Some, None, Ok, Err, slice_get, refl, sym, ap, ◌∙◌, subst}
 use Rattle.std.specs.List.{AllByRecursion, flat_map}
 use Rattle.std.specs.declared.alloc.Global.{Global}
 use Rattle.std.specs.Prelude.{String}
@@ -22,12 +22,13 @@ use Rattle.ja_graph.specs.declared.program.Function.{Function}
 use Rattle.ja_graph.specs.declared.program.Program.{Program}
 use Rattle.ja_listing.specs.declared.item.Item.{Item}
 use Rattle.ja_listing.specs.declared.item.Item.TheVariants as item
-use Rattle.ja_listing.specs.Listing.{nodes_from}
-use Rattle.ja_draft.specs.Lines.{Listing, Scene, restarted}
+use Rattle.ja_listing.specs.Listing.{begins_with_jump, nodes_from}
+use Rattle.ja_draft.specs.Lines.{Listing, Scene, restarted, with_const}
 use Rattle.ja_expressions.specs.Expressions.{form}
-use Rattle.ja_statements.specs.Functions.{first_temporary, nothing_listed, declare_function, declare_function_of, declare_functions, declare_variables, with_body, unhandled, first_place, program_listing}
+use Rattle.ja_statements.specs.Functions.{first_temporary, nothing_listed, declare_function, declare_function_of, declare_functions, declare_variables, with_body, unhandled, first_place, first_const, beginning_with_node, program_listing}
 use Rattle.ja_statements.specs.Statements.{Around, does, unlabelled, list_all_statements}
 use Rattle.ja_statements.proofs.StatementLemmas.{does_empty, does_expression}
+use Rattle.ja_ranges.specs.InRange.{OfNode}
 use Rattle.ja_ranges.proofs.LineRanges.{all_append}
 use Rattle.ja_lower.specs.declared.body.Body.{Body}
 use Rattle.ja_lower.specs.Lowering.{shifting, names_of, scene_of, program_body, function_body, bodies_of, numbered, function_of, functions_of, lowered}
@@ -151,16 +152,27 @@ body_built scene place xs base l each plain built =
     let statements = statements_built xs around base _ each plain (subst (λ (z : Listing). IsBuiltListing z) (sym start) built) in
     built_with_node scene place Escape refl (built_with_node scene place (Return _) refl (built_with_const scene place primitive.Undefined (built_restarted base statements)))
 
+beginning_built : (scene : Scene) (items : List Item) → AllBuilt items → AllBuilt (beginning_with_node scene items)
+unfolding beginning_with_node
+beginning_built scene items built = either (begins_with_jump items)
+  where
+    first : IsBuiltListing (with_const scene first_place primitive.Undefined (nothing_listed (first_temporary 0))).listing
+    first = built_with_const scene first_place primitive.Undefined (record { nodes = tt })
+
+    either : (b : Bool) → AllBuilt (if b then first_const scene ++ items else items)
+    either true = all_append (OfNode IsBuilt) (first_const scene) items first.nodes built
+    either false = built
+
 program_built : (scene : Scene) (xs : List Statement) → AllByRecursion IsBuiltStatement xs → scene.specials ≡ false → AllBuilt (program_listing scene xs)
 unfolding program_listing
 program_built scene xs each plain =
-    (body_built (unhandled scene) first_place xs (first_temporary 0) (nothing_listed (first_temporary 0)) each plain (record { nodes = tt })).nodes
+    beginning_built (unhandled scene) _ (body_built (unhandled scene) first_place xs (first_temporary 0) (nothing_listed (first_temporary 0)) each plain (record { nodes = tt })).nodes
 
 -- assembling keeps the nodes
 assembled_built : (whole items : List Item) → AllBuilt items → AllByRecursion (λ (info : NodeInfo). IsBuilt info.node) (nodes_from whole items)
 unfolding nodes_from
 assembled_built whole [] each = tt
-assembled_built whole (item.Node node other handler place ∷ items) each = (each.0, assembled_built whole items each.1)
+assembled_built whole (item.Node node other handler place above ∷ items) each = (each.0, assembled_built whole items each.1)
 assembled_built whole (item.Spot s ∷ items) each = assembled_built whole items each.1
 assembled_built whole (item.Jump s ∷ items) each = assembled_built whole items each.1
 
