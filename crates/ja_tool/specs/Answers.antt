@@ -13,6 +13,7 @@ use Rattle.ja_grammar.specs.declared.fault.ParseFault.TheVariants as fault
 use Rattle.ja_load.specs.Loading.{IsProgramOf, HasManyFunctions, HasManyNodes, IsUnbuiltAt, IsNone}
 use Rattle.ja_model.specs.declared.table.Item.{Item}
 use Rattle.ja_model.specs.declared.table.Warning.{Warning}
+use Rattle.ja_model.specs.Runs.{NeverStuck}
 use Rattle.ja_model.specs.Sound.{CoversRuns, WarnsOfFaults}
 use Rattle.ja_model.specs.Table.{Table, IsBuilt, IsClosed}
 use Rattle.ja_model.specs.Warning.{AreWarnings}
@@ -39,7 +40,7 @@ abbrev pub budget : ℕ
 budget = 1000000
 
 -- What is printed of a program, with these warnings: the table that the printed visits build, which is closed and covers
--- every run; an operation that goes wrong in some run is among the warnings.
+-- every run; an operation that goes wrong in some run is among the warnings. No run of the program is stuck.
 pub record IsAnalysed (p : Program) (text : List ℕ) (warnings : List Warning) : Type 0 where
   pub table : Table
   pub visits : List Item
@@ -50,6 +51,7 @@ pub record IsAnalysed (p : Program) (text : List ℕ) (warnings : List Warning) 
   pub exact : AreWarnings p table warnings
   pub covers : CoversRuns p table
   pub warned : WarnsOfFaults p warnings
+  pub goes_on : NeverStuck p
 
 -- what is written of a program, by the status
 abbrev pub Reports : Program → Status → List ℕ → Type 0

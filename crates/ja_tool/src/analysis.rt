@@ -1,4 +1,5 @@
 ghost use Rattle.std.specs.Prelude.{◌≡◌, ◌≤◌, ℕ, List, IfOk, length};
+ghost use Rattle.ja_graph.specs.Kinds.{AreBuilt};
 ghost use Rattle.ja_graph.specs.WellFormed.{IsWellFormed};
 ghost use Rattle.ja_load.specs.Loading.{HasNone};
 ghost use Rattle.ja_tool.specs.Answers.{Analyses, IsRefusal, IsSolved, Reports, status_of};
@@ -7,8 +8,9 @@ use crate::status::Status;
 use ja_base::Memory;
 use ja_grammar::ParseFault;
 use ja_graph::Program;
+use ja_load::laws::programs_are_built;
 use ja_load::{LoadFault, load};
-use ja_model::Warning;
+use ja_model::{Warning, never_stuck};
 use ja_report::{Refusal, refusal_text, report, spent_text};
 use ja_rules::{SolveFault, Solved, solve, warnings};
 use std::alloc::Global;
@@ -46,6 +48,7 @@ fn judged(warnings: &[Warning]) -> Status
 // The report of a solved program.
 fn report_of(alloc: Global, program: &Program, solved: &Solved) -> Result<Answer, Memory>
     requires program { IsWellFormed program.now }
+    requires built { AreBuilt program.now }
     requires solved { IsSolved program.now solved.now }
     ensures { IfOk result (λ a. Reports program.now a.status a.text.items) }
 {
@@ -58,12 +61,14 @@ fn report_of(alloc: Global, program: &Program, solved: &Solved) -> Result<Answer
         warnings.as_slice(),
     )?;
     let status = judged(warnings.as_slice());
+    never_stuck();
     Ok(Answer { status, text })
 }
 
 // Solves a program, and reports on it.
 fn solve_and_report(alloc: Global, program: &Program) -> Result<Answer, Memory>
-    requires { IsWellFormed program.now }
+    requires program { IsWellFormed program.now }
+    requires built { AreBuilt program.now }
     ensures { IfOk result (λ a. Reports program.now a.status a.text.items) }
 {
     match solve(alloc, program, BUDGET) {
@@ -108,6 +113,7 @@ fn analyse_text(alloc: Global, text: &str) -> Result<Answer, Memory>
 {
     match load(alloc, text) {
         Ok(program) => {
+            programs_are_built();
             let answer = solve_and_report(alloc, &program)?;
             Ok(answer)
         }

@@ -20,6 +20,7 @@ returns c =
       exact = c.in_ok-warnings.ensures.warnings;
       covers = c.requires.solved.covers;
       warned = c.in_ok-warnings.ensures.faults c.requires.solved.closed;
+      goes_on = c.never_stuck.ensures p c.requires.program c.requires.built;
     } in
     let same : status_of ws ≡ c.judged-status.result = cc (c.judged-status.ensures, c.as_slice-3.ensures) in
     let R : Status → Type 0 = λ s. Reports p s text in subst R same (reports p text ws whole)
