@@ -1,5 +1,5 @@
 -- The program of a text, and why a text has none.
-use Rattle.std.specs.Prelude.{◌≡◌, ◌<◌, ◌≤◌, ℕ, String, List, [], ◌++◌, length, Option, Some, None, Err}
+use Rattle.std.specs.Prelude.{◌≡◌, ◌<◌, ◌≤◌, ℕ, false, String, List, [], ◌++◌, length, Option, Some, None, Err}
 use Rattle.std.specs.Str.{IsUtf8}
 use Rattle.std.specs.String.{string_bytes}
 use Rattle.std.specs.declared.alloc.Global.{Global}
@@ -15,7 +15,7 @@ use Rattle.ja_load.specs.Builtins.{builtin_sites, opening_objects}
 use Rattle.ja_load.specs.declared.fault.LoadFault.{LoadFault}
 use Rattle.ja_load.specs.declared.fault.LoadFault.TheVariants as fault
 use Rattle.ja_lower.specs.Limits.{function_count, size_of, IsWithin}
-use Rattle.ja_lower.specs.Lowering.{lowered}
+use Rattle.ja_lower.specs.Lowering.{lowered, names_of}
 use Rattle.ja_syntax.specs.declared.tree.Statement.{Statement}
 
 -- The functions of a text with the built-in objects: their sites stand before those of the nodes, and their names come first. The
@@ -57,6 +57,11 @@ abbrev pub HasManyNodes : List ℕ → Type 0
 HasManyNodes bytes =
     (statements : List Statement) × IsTextOf bytes statements × (function_count statements ≤ 4096) × (65536 < size_of builtin_names statements)
 
+-- it is within both limits, but its program has too many names
+abbrev pub HasManyNames : List ℕ → Type 0
+HasManyNames bytes =
+    (statements : List Statement) × IsTextOf bytes statements × IsWithin builtin_names statements × (1048576 < length (names_of false builtin_names statements))
+
 -- it is within the limits, and a form is not built: the first one has this place
 abbrev pub IsUnbuiltAt : List ℕ → Place → Type 0
 IsUnbuiltAt bytes place =
@@ -71,4 +76,5 @@ abbrev pub HasNone : List ℕ → LoadFault → Type 0
 HasNone bytes (fault.Parse f) = IsNone bytes f
 HasNone bytes fault.Functions = HasManyFunctions bytes
 HasNone bytes fault.Nodes = HasManyNodes bytes
+HasNone bytes fault.Names = HasManyNames bytes
 HasNone bytes (fault.Unbuilt place) = IsUnbuiltAt bytes place

@@ -19,6 +19,9 @@ pub enum LoadFault {
     /// Its functions have more than 65,536 nodes, each parameter of a function counted as one more.
     #[error("more than 65,536 nodes")]
     Nodes,
+    /// It has more than 1,048,576 names.
+    #[error("more than 1,048,576 names")]
+    Names,
     /// The first form that is not built has this place.
     #[error("a form that is not built at {place:?}")]
     Unbuilt { place: Place },

@@ -35,6 +35,7 @@ fn lower_built(alloc: Global, tree: &Tree) -> Result<Lowered, LoadFault>
         Ok(lowered) => lowered,
         Err(LowerFault::Functions) => return Err(LoadFault::Functions),
         Err(LowerFault::Nodes) => return Err(LoadFault::Nodes),
+        Err(LowerFault::Names) => return Err(LoadFault::Names),
         Err(LowerFault::Memory) => return Err(LoadFault::Parse(ParseFault::Memory)),
     };
     match unbuilt(tree) {
@@ -90,8 +91,9 @@ fn program_of_tree(alloc: Global, tree: &Tree, text: &str) -> Result<Program, Lo
 ///
 /// `Parse` exactly where the text isn't in the language, or where memory was refused; else `Functions`
 /// exactly where it has more than 4,096 functions, the program among them; else `Nodes` exactly where
-/// these have more than 65,536 nodes, each parameter of a function counted as one more; else `Unbuilt`
-/// exactly where a form is not built, with the place of the first one.
+/// these have more than 65,536 nodes, each parameter of a function counted as one more; else `Names` exactly
+/// where the program has more than 1,048,576 names; else `Unbuilt` exactly where a form is not built, with the
+/// place of the first one.
 pub fn load(alloc: Global, text: &str) -> Result<Program, LoadFault>
     requires { length text.now ≤ 16777216 }
     ensures program { IfOk result (IsProgramOf text.now) }

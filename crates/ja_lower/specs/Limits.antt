@@ -4,7 +4,7 @@ use Rattle.std.specs.List.{sum_by}
 use Rattle.ja_names.specs.TextOrder.{functions_in}
 use Rattle.ja_lower.specs.declared.body.Body.{Body}
 use Rattle.ja_lower.specs.declared.fault.LowerFault.{LowerFault}
-use Rattle.ja_lower.specs.declared.fault.LowerFault.TheVariants.{Functions, Nodes, Memory}
+use Rattle.ja_lower.specs.declared.fault.LowerFault.TheVariants.{Functions, Nodes, Names, Memory}
 use Rattle.ja_lower.specs.Lowering.{names_of, scene_with, bodies_of}
 use Rattle.ja_syntax.specs.declared.tree.Statement.{Statement}
 
@@ -25,17 +25,18 @@ size_of names statements = size_with false names statements
 unfoldable pub prelude_size_of : List (List ℕ) → List Statement → ℕ
 prelude_size_of names statements = size_with true names statements
 
--- what a fault says of a tree of this size
-abbrev pub ExplainsSize : ℕ → List Statement → LowerFault → Type 0
-ExplainsSize size statements Functions = 4096 < function_count statements
-ExplainsSize size statements Nodes = (function_count statements ≤ 4096) × (65536 < size)
-ExplainsSize size statements Memory = Unit {0}
+-- what a fault says of a tree of this size, whose program has so many names
+abbrev pub ExplainsSize : ℕ → ℕ → List Statement → LowerFault → Type 0
+ExplainsSize size names statements Functions = 4096 < function_count statements
+ExplainsSize size names statements Nodes = (function_count statements ≤ 4096) × (65536 < size)
+ExplainsSize size names statements Names = (function_count statements ≤ 4096) × (size ≤ 65536) × (1048576 < names)
+ExplainsSize size names statements Memory = Unit {0}
 
 abbrev pub Explains : List (List ℕ) → List Statement → LowerFault → Type 0
-Explains names statements fault = ExplainsSize (size_of names statements) statements fault
+Explains names statements fault = ExplainsSize (size_of names statements) (length (names_of false names statements)) statements fault
 
 abbrev pub ExplainsPrelude : List (List ℕ) → List Statement → LowerFault → Type 0
-ExplainsPrelude names statements fault = ExplainsSize (prelude_size_of names statements) statements fault
+ExplainsPrelude names statements fault = ExplainsSize (prelude_size_of names statements) (length (names_of true names statements)) statements fault
 
 -- what holds of a tree of this size that is lowered
 pub record IsWithinSize (size : ℕ) (statements : List Statement) : Type 0 where

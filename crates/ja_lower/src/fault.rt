@@ -14,6 +14,9 @@ pub enum LowerFault {
     /// Its functions have more than 65,536 nodes, each parameter of a function counted as one more.
     #[error("more than 65,536 nodes")]
     Nodes,
+    /// It has more than 1,048,576 names.
+    #[error("more than 1,048,576 names")]
+    Names,
     /// Memory was refused.
     #[error("memory was refused")]
     Memory,

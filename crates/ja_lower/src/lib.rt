@@ -84,7 +84,7 @@ fn lower_with(
     ensures within { IfOk result (λ l. IsWithinSize (size_with specials names.now tree.now.statements) tree.now.statements) }
     ensures registers { IfOk result (λ l. AllByRecursion (λ fn. fn.registers ≤ 262144) l.functions) }
     ensures names { IfOk result (λ l. length l.names ≤ 1048576) }
-    ensures fault { IfErr result (ExplainsSize (size_with specials names.now tree.now.statements) tree.now.statements) }
+    ensures fault { IfErr result (ExplainsSize (size_with specials names.now tree.now.statements) (length (names_of specials names.now tree.now.statements)) tree.now.statements) }
 {
     let statements = tree.statements.as_slice();
     let functions = functions_in(alloc, statements)?;
@@ -94,7 +94,7 @@ fn lower_with(
     let names = names_of(alloc, specials, names, statements)?;
     let bodies = bodies_of(alloc, specials, &names, statements, &functions)?;
     if names.len() > MAX_NAMES {
-        return Err(LowerFault::Memory);
+        return Err(LowerFault::Names);
     }
     let whole = whole_of(alloc, first_site, bodies)?;
     Ok(Lowered {
@@ -110,9 +110,9 @@ fn lower_with(
 /// # Errors
 ///
 /// `Functions` exactly where there are more than 4,096 functions, the program among them; else `Nodes`
-/// exactly where they have more than 65,536 nodes, each parameter of a function counted as one more; else `Memory`,
-/// where memory was refused. More than 262,144 registers in a function, more than 1,048,576 names, or a site whose number
-/// isn't in 32 bits count as refused memory.
+/// exactly where they have more than 65,536 nodes, each parameter of a function counted as one more; else `Names` exactly
+/// where the program has more than 1,048,576 names; else `Memory`, where memory was refused. More than 262,144 registers in a
+/// function, or a site or a name whose number isn't in 32 bits, count as refused memory.
 #[tactic(auto, unfolding(crate::specs::Limits::size_of, crate::specs::Lowering::lowered))]
 pub fn lower(
     alloc: Global,

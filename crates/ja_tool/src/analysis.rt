@@ -101,6 +101,8 @@ fn explain(alloc: Global, fault: LoadFault) -> Result<Answer, Memory>
         LoadFault::Parse(ParseFault::Memory) => Err(Memory),
         LoadFault::Functions => refuse(alloc, Status::Limit, Refusal::Functions),
         LoadFault::Nodes => refuse(alloc, Status::Limit, Refusal::Nodes),
+        // no status has this cause: see docs/DECISIONS.md
+        LoadFault::Names => Err(Memory),
         LoadFault::Unbuilt { place } => refuse(alloc, Status::Unbuilt, Refusal::Unbuilt { place }),
     }
 }
