@@ -14,5 +14,5 @@ returns c =
     let info = c.args.info.now in
     let states = throws w (has_part w.labels (w.state.register c.args.callee.0)) info c.args.error type_error_prototype not_a_function_message in
     let called = c.has_part-is_called.ensures ∙ ap (has_part w.labels) c.register.ensures in
-    let thrown = given_as n _ states c.in_ok-thrown.thrown c.in_ok-thrown.ensures (ap (λ (b : Bool). throws w b info c.args.error type_error_prototype c.in_ok-message.message) called ∙ ap (throws w (has_part w.labels (w.state.register c.args.callee.0)) info c.args.error type_error_prototype) c.in_ok-message.ensures) in
+    let thrown = given_as n _ states c.in_ok-thrown.thrown c.in_ok-thrown.ensures (ap (λ (b : Bool). throws w b info c.args.error type_error_prototype c.in_ok-message.message.items) called ∙ ap (throws w (has_part w.labels (w.state.register c.args.callee.0)) info c.args.error type_error_prototype) c.in_ok-message.ensures) in
     outcome_as n _ states c.new.result _ c.in_ok-outcome.outcome (c.in_ok-outcome.ensures n states [] thrown (none_given n)) (append-nil states) c.new.ensures
