@@ -16,24 +16,36 @@ use Rattle.ja_state.proofs.StateLemmas.{same_label_is}
 -- One label's properties are taken out, changed and put back.
 pub record Exchanged (old between new : BTreeMap ℕ (BTreeMap ℕ AProp)) (mine next : BTreeMap ℕ AProp) (n : ℕ) : Type 0 where
   pub taken : (q : ℕ) → property_in mine q ≡ entry_in old n q
-  pub out : (q : ℕ) → get nat_cmp between q ≡ (if n == q then None else get nat_cmp old q)
+  pub out : (q : ℕ) → (n == q) ≡ false → get nat_cmp between q ≡ get nat_cmp old q
   pub back : (q : ℕ) → get nat_cmp new q ≡ (if n == q then Some next else get nat_cmp between q)
 
 abbrev pub read : Option (BTreeMap ℕ AProp) → ℕ → Option AbstractProperty
 read o q = option_and_then (λ (properties : BTreeMap ℕ AProp). property_in properties q) o
 
 -- at one pair of numbers, b says that the label is the one, and c that the key is
-pub at_pair : (b c : Bool) (F : Option AbstractProperty → Option AbstractProperty) (next : BTreeMap ℕ AProp) (old : Option (BTreeMap ℕ AProp)) (mine was : Option AbstractProperty) (q : ℕ)
-    → property_in next q ≡ (if c then F mine else mine) → (b ≡ true → mine ≡ read old q) → read (if b then Some next else if b then None else old) q ≡ (if b && c then F (read old q) else read old q)
-at_pair true c F next old mine was q step here = step ∙ ap (λ (o : Option AbstractProperty). if c then F o else o) (here refl)
-at_pair false c F next old mine was q step here = refl
+pub at_pair : (b c : Bool) (F : Option AbstractProperty → Option AbstractProperty) (next : BTreeMap ℕ AProp) (between old : Option (BTreeMap ℕ AProp)) (mine : Option AbstractProperty) (q : ℕ)
+    → property_in next q ≡ (if c then F mine else mine) → (b ≡ true → mine ≡ read old q) → (b ≡ false → between ≡ old) → read (if b then Some next else between) q ≡ (if b && c then F (read old q) else read old q)
+at_pair true c F next between old mine q step here there = step ∙ ap (λ (o : Option AbstractProperty). if c then F o else o) (here refl)
+at_pair false c F next between old mine q step here there = ap (λ (o : Option (BTreeMap ℕ AProp)). read o q) (there refl)
 
 pub exchanged : (F : Option AbstractProperty → Option AbstractProperty) (old between new : BTreeMap ℕ (BTreeMap ℕ AProp)) (mine next : BTreeMap ℕ AProp) (n k : ℕ)
     → Exchanged old between new mine next n → ((q : ℕ) → property_in next q ≡ (if k == q then F (property_in mine q) else property_in mine q))
     → (p q : ℕ) → entry_in new p q ≡ (if (n == p) && (k == q) then F (entry_in old p q) else entry_in old p q)
 exchanged F old between new mine next n k h step p q =
-    ap (λ (o : Option (BTreeMap ℕ AProp)). read o q) (h.back p ∙ ap (λ (o : Option (BTreeMap ℕ AProp)). if n == p then Some next else o) (h.out p))
-    ∙ at_pair (n == p) (k == q) F next (get nat_cmp old p) (property_in mine q) (property_in mine q) q (step q) (λ same. h.taken q ∙ ap (λ (m : ℕ). entry_in old m q) (equal_from_test n p same))
+    ap (λ (o : Option (BTreeMap ℕ AProp)). read o q) (h.back p)
+    ∙ at_pair (n == p) (k == q) F next (get nat_cmp between p) (get nat_cmp old p) (property_in mine q) q (step q) (λ same. h.taken q ∙ ap (λ (m : ℕ). entry_in old m q) (equal_from_test n p same)) (h.out p)
+
+at_kept : (b : Bool) (next : BTreeMap ℕ AProp) (between old : Option (BTreeMap ℕ AProp)) (mine : Option AbstractProperty) (q : ℕ)
+    → property_in next q ≡ mine → (b ≡ true → mine ≡ read old q) → (b ≡ false → between ≡ old) → read (if b then Some next else between) q ≡ read old q
+at_kept true next between old mine q same here there = same ∙ here refl
+at_kept false next between old mine q same here there = ap (λ (o : Option (BTreeMap ℕ AProp)). read o q) (there refl)
+
+-- what is put back as it was
+pub exchanged_kept : (old between new : BTreeMap ℕ (BTreeMap ℕ AProp)) (mine next : BTreeMap ℕ AProp) (n : ℕ)
+    → Exchanged old between new mine next n → ((q : ℕ) → property_in next q ≡ property_in mine q) → (p q : ℕ) → entry_in new p q ≡ entry_in old p q
+exchanged_kept old between new mine next n h same p q =
+    ap (λ (o : Option (BTreeMap ℕ AProp)). read o q) (h.back p)
+    ∙ at_kept (n == p) next (get nat_cmp between p) (get nat_cmp old p) (property_in mine q) q (same q) (λ is. h.taken q ∙ ap (λ (m : ℕ). entry_in old m q) (equal_from_test n p is)) (h.out p)
 
 pub exchanged_whole : (F : Option AbstractProperty → Option AbstractProperty) (old between new : BTreeMap ℕ (BTreeMap ℕ AProp)) (mine next : BTreeMap ℕ AProp) (n m : ℕ) (label : Label) (key : Key)
     → Exchanged old between new mine next n → ((q : ℕ) → property_in next q ≡ (if m == q then F (property_in mine q) else property_in mine q)) → n ≡ label_number label → m ≡ key_number key

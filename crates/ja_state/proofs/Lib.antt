@@ -5,5 +5,6 @@ pub mod RegisterLemmas
 pub mod MaskLemmas
 pub mod StateLemmas
 pub mod EntryLemmas
+pub mod ExchangeLemmas
 pub mod ListLemmas
 pub mod NumberLemmas

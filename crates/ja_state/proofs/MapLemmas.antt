@@ -1,5 +1,6 @@
 -- Maps from numbers, as what a look-up finds in the entries that a loop has still to pass.
-use Rattle.std.proofs.Common.{Less, ◌≡◌, ◌≢◌, ◌==◌, ◌||◌, ℕ, ◌<◌, List, [], ◌∷◌, Bool, true, false, Option, Some, None, if◌then◌else◌, refl, ap, sym, ◌∙◌, arith, ⊎_elim, subst}
+use Rattle.std.proofs.Common.{Less, ◌≡◌, ◌≢◌, ◌==◌, ◌||◌, ℕ, ◌<◌, List, [], ◌∷◌, Bool, true, false, Option, Some, None, if◌then◌else◌, refl, ap, sym, ◌∙◌, arith, ⊎_elim, subst, Ok, Err}
+use Rattle.std.specs.Prelude.{Result, IfOk, OnErr}
 use Rattle.std.proofs.lemmas.Grind.{common_steps}
 use Rattle.std.proofs.lemmas.Bool.{cases_eq}
 use Rattle.std.proofs.lemmas.Bool.Decides.{nat_tests}
@@ -10,8 +11,9 @@ use Rattle.std.proofs.lemmas.Map.Entries.{none_past_head, lookup_head, lookup_ta
 use Rattle.std.proofs.lemmas.Map.Iter.{rest_more}
 use Rattle.std.specs.Map.Iter.{deref_pair, TakesFirst}
 use denote.Ref.{Bor}
+use Rattle.std.specs.List.{AllByRecursion}
 use Rattle.std.specs.Cmp.{eq_by_cmp_equiv}
-use Rattle.std.specs.Option.{option_map}
+use Rattle.std.specs.Option.{option_map, option_map_or}
 use Rattle.std.specs.Ordering.{nat_cmp}
 use Rattle.std.specs.Map.{lookup, keys_of}
 use Rattle.std.specs.List.Sorted.{IsStrictlySortedBy}
@@ -141,3 +143,43 @@ joining_turn f j all rest left out next changed more e w is h =
 -- when nothing is left
 pub moved_end : {X Z : Type 0} (f : ℕ → X → Z) (g : X → Z) (all rest : List (ℕ × X)) (out : BTreeMap ℕ X) → rest ≡ [] → Moved f g all rest out → (q : ℕ) → option_map g (get nat_cmp out q) ≡ option_map (f q) (found all q)
 moved_end f g all rest out none h q = sym (ap (λ (es : List (ℕ × _)). over (option_map (f q) (found es q)) (option_map g (get nat_cmp out q))) none) ∙ h.each q
+
+-- what follows from an answer
+pub ok_from : {A E : Type 0} {P Q : A → Type 0} (r : Result A E) → ((a : A) → P a → Q a) → IfOk r P → IfOk r Q
+ok_from (Ok a) from h = from a h
+ok_from (Err e) from h = tt
+
+pub err_from : {A E P Q : Type 0} (r : Result A E) → (P → Q) → OnErr r P → OnErr r Q
+err_from (Ok a) from h = tt
+err_from (Err e) from h = from h
+
+-- ---- what holds of each entry
+
+abbrev pub AtEach : {X : Type 0} → (ℕ → X → Type 0) → List (ℕ × X) → Type 0
+AtEach P es = AllByRecursion (λ e. P e.0 e.1) es
+
+-- one turn of a loop that has seen that it holds of the entry that it passes
+pub each_turn : {X : Type 0} (P : ℕ → X → Type 0) (all s t : List (ℕ × X)) (r : Option (Bor ℕ × Bor X)) (x : Bor ℕ × Bor X)
+    → r ≡ Some x → TakesFirst (deref_pair {K = ℕ} {X = X}) s r t → (AtEach P s → AtEach P all) → P x.0.now x.1.now → AtEach P t → AtEach P all
+each_turn P all s t r x is step h here later = h (subst (AtEach P) (sym (rest_more deref_pair s t r x is step)) (here, later))
+
+-- it holds of what a look-up finds
+pub each_found : {X : Type 0} (P : ℕ → X → Type 0) (es : List (ℕ × X)) → AtEach P es → (q : ℕ) (x : X) → found es q ≡ Some x → P q x
+each_found P [] each q x is = absurd (cc)
+each_found P (e ∷ es) each q x is = pick (each_found P es each.1 q x) (e.0 == q) refl (sym (found_step e es q) ∙ is)
+  where
+    pick : (found es q ≡ Some x → P q x) → (b : Bool) → (e.0 == q) ≡ b → (if b then Some e.1 else found es q) ≡ Some x → P q x
+    pick later true same at = subst (λ (n : ℕ). P n x) (equal_from_test e.0 q same) (subst (P e.0) (some_is e.1 x at) each.0)
+    pick later false same at = later at
+
+-- when nothing is left
+pub each_end : {X : Type 0} (P : ℕ → X → Type 0) (all rest : List (ℕ × X)) → rest ≡ [] → (AtEach P rest → AtEach P all) → (q : ℕ) (x : X) → found all q ≡ Some x → P q x
+each_end P all rest none h = each_found P all (h (subst (AtEach P) (sym none) tt))
+
+-- what holds of what is listed, on either side, and of all else, holds everywhere
+pub held_at : {X Z : Type 0} (f : X → Z) (j : Z → Z → Z) (mine its : Option X) (c d : Z) → j c d ≡ c
+    → ((x : X) → mine ≡ Some x → j (f x) (option_map_or f its d) ≡ f x) → ((x : X) → its ≡ Some x → j (option_map_or f mine c) (f x) ≡ option_map_or f mine c)
+    → j (option_map_or f mine c) (option_map_or f its d) ≡ option_map_or f mine c
+held_at f j (Some x) its c d rest listed others = listed x refl
+held_at f j None (Some x) c d rest listed others = others x refl
+held_at f j None None c d rest listed others = rest

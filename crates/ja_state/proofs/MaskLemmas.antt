@@ -1,5 +1,5 @@
 -- Masks by site.
-use Rattle.std.proofs.Common.{◌≡◌, ◌≢◌, ◌||◌, ℕ, Bool, true, false, is_some, refl, ap, sym, ◌∙◌}
+use Rattle.std.proofs.Common.{◌≡◌, ◌≢◌, ◌||◌, ℕ, Bool, true, false, Option, Some, None, is_some, unwrap_or, refl, ap, sym, ◌∙◌}
 use Rattle.std.specs.Option.{option_map}
 use Rattle.std.specs.Ordering.{nat_cmp}
 use Rattle.std.specs.BTreeMap.{BTreeMap, get}
@@ -29,3 +29,10 @@ mask_join old mid new other listed kept all joined differs same =
       differs = λ said. let there = h.differs said in (there.0, λ e. there.1 (sym (mask_is new there.0) ∙ e ∙ mask_is old there.0));
       same = λ said q. mask_is new q ∙ h.same said q ∙ sym (mask_is old q);
     }
+
+-- masks that hold others where one of the two is kept
+pub masks_held : (mine its : Option Mask) → ((m : Mask) → mine ≡ Some m → join_masks m (unwrap_or its exactly_none) ≡ m) → ((m : Mask) → its ≡ Some m → join_masks (unwrap_or mine exactly_none) m ≡ unwrap_or mine exactly_none)
+    → join_masks (unwrap_or mine exactly_none) (unwrap_or its exactly_none) ≡ unwrap_or mine exactly_none
+masks_held (Some m) its kept others = kept m refl
+masks_held None (Some m) kept others = others m refl
+masks_held None None kept others = refl

@@ -1,5 +1,5 @@
 -- Objects by the numbers of keys.
-use Rattle.std.proofs.Common.{◌≡◌, ◌≢◌, ◌||◌, ℕ, zero, suc, Bool, true, false, is_some, refl, ap, sym, ◌∙◌, arith}
+use Rattle.std.proofs.Common.{◌≡◌, ◌≢◌, ◌||◌, ℕ, zero, suc, Bool, true, false, Some, is_some, refl, ap, sym, ◌∙◌, arith}
 use Rattle.std.specs.Option.{option_map}
 use Rattle.std.specs.Ordering.{nat_cmp}
 use Rattle.std.specs.BTreeMap.{get}
@@ -13,6 +13,7 @@ use Rattle.ja_value.specs.Value.{property_of}
 use Rattle.ja_state.specs.declared.object.AObject.{AObject}
 use Rattle.ja_state.specs.Joined.{IsJoined}
 use Rattle.ja_state.specs.State.{at, object_of}
+use Rattle.ja_state.proofs.MapLemmas.{held_at}
 use Rattle.ja_state.proofs.SpreadLemmas.{spread, spread_join}
 
 -- each number is a key's
@@ -57,3 +58,11 @@ whole_differs a other new changed h said same =
 
 pub whole_same : (a other new : AObject) (changed : Bool) → IsJoined join_properties (at a) (at other) (at new) changed → changed ≡ false → object_of new ≡ object_of a
 whole_same a other new changed h said = λ i k. (h.same said (key_number k)) i
+
+-- an object that holds another at each number that one of them lists, and at all others
+pub whole_covered : (a other : AObject) → join_properties (property_of a.common) (property_of other.common) ≡ property_of a.common
+    → ((q : ℕ) (p : AProp) → get nat_cmp a.listed q ≡ Some p → join_properties (property_of p) (at other q) ≡ property_of p)
+    → ((q : ℕ) (p : AProp) → get nat_cmp other.listed q ≡ Some p → join_properties (at a q) (property_of p) ≡ at a q)
+    → (λ k. join_properties (object_of a k) (object_of other k)) ≡ object_of a
+whole_covered a other common listed others = λ i k.
+    (held_at property_of join_properties (get nat_cmp a.listed (key_number k)) (get nat_cmp other.listed (key_number k)) (property_of a.common) (property_of other.common) common (listed (key_number k)) (others (key_number k))) i

@@ -60,3 +60,13 @@ register_past xs i above = ap (λ (o : Option AValue). option_map_or value_of o 
 pub join_past : (xs ys : List AValue) (n i : ℕ) → length xs ≡ n → length ys ≡ n → n ≤ i → join (register_in xs i) (register_in ys i) ≡ register_in xs i
 join_past xs ys n i a b above =
     ap (λ (v : AbstractValue). join v (register_in ys i)) (register_past xs i (omega arith)) ∙ ap (join undefined_value) (register_past ys i (omega arith)) ∙ sym (register_past xs i (omega arith))
+
+-- values that hold others below a number, one more of them, and all
+pub cover_step : (xs ys : List AValue) (i : ℕ) (x y : AValue) → value_of x ≡ register_in xs i → value_of y ≡ register_in ys i → join (value_of x) (value_of y) ≡ value_of x
+    → ((r : ℕ) → r < i → join (register_in xs r) (register_in ys r) ≡ register_in xs r) → (r : ℕ) → r < i + 1 → join (register_in xs r) (register_in ys r) ≡ register_in xs r
+cover_step xs ys i x y first second held before r below =
+    let here : join (register_in xs i) (register_in ys i) ≡ register_in xs i = sym (λ k. join (first k) (second k)) ∙ (held ∙ first) in
+    ⊎_elim (λ (e : i ≡ r). subst (λ (n : ℕ). join (register_in xs n) (register_in ys n) ≡ register_in xs n) e here) (λ (apart : i ≢ r). before r (omega arith)) (cases_eq i r)
+
+pub cover_end : (xs ys : List AValue) (n : ℕ) → length xs ≡ n → length ys ≡ n → ((r : ℕ) → r < n → join (register_in xs r) (register_in ys r) ≡ register_in xs r) → (r : ℕ) → join (register_in xs r) (register_in ys r) ≡ register_in xs r
+cover_end xs ys n a b before r = ⊎_elim (λ (below : r < n). before r below) (λ (above : n ≤ r). join_past xs ys n r a b above) (cases_lt r n)

@@ -15,7 +15,7 @@ use Rattle.ja_base.specs.declared.ids.Site.{Site}
 use Rattle.ja_model.specs.declared.abstraction.Key.{Key}
 use Rattle.ja_model.specs.declared.abstraction.Mask.{Mask}
 use Rattle.ja_model.specs.AbstractValue.{AbstractProperty, no_labels, join, same_label, undefined_value, absent_property, entry_property}
-use Rattle.ja_model.specs.AbstractState.{AbstractState, label_number, new, old, aged, entry_registers, made_property, join_masks, exactly_none, exactly_some, with_made}
+use Rattle.ja_model.specs.AbstractState.{AbstractState, label_number, new, old, aged, entry_registers, made_property, join_masks, join_states, exactly_none, exactly_some, with_made}
 use Rattle.ja_value.specs.declared.value.AValue.{AValue}
 use Rattle.ja_value.specs.Value.{value_of}
 use Rattle.ja_state.specs.declared.object.AObject.{AObject}
@@ -176,3 +176,9 @@ pub made_state : (a b : AState) (s : Site) → ((r : ℕ) → register_in b.regi
 made_state a b s registers objects masks =
     let property : (l : Label) (k : Key) → object_in b.objects (label_number l) k ≡ made_property (state_of a) s l k = λ l k. ap (λ (o : Keyed). o k) (objects (label_number l)) ∙ made_at a s l k in
     λ i. record { register = λ r. (registers r) i; property = λ l k. (property l k) i; mask = λ q. (masks q) i }
+
+-- ---- states that hold others
+
+pub state_covered : (a b : AState) → ((r : ℕ) → join (register_in a.registers.items r) (register_in b.registers.items r) ≡ register_in a.registers.items r)
+    → ((q : ℕ) → join_keyed (object_in a.objects q) (object_in b.objects q) ≡ object_in a.objects q) → ((q : ℕ) → join_masks (mask_in a.masks q) (mask_in b.masks q) ≡ mask_in a.masks q) → join_states (state_of a) (state_of b) ≡ state_of a
+state_covered a b registers objects masks = λ i. record { register = λ r. (registers r) i; property = λ l k. (objects (label_number l)) i k; mask = λ s. (masks s) i }

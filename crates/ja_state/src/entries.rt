@@ -1,4 +1,4 @@
-ghost use Rattle.std.specs.Prelude.{◌≡◌, ◌≢◌, ◌==◌, ◌&&◌, ◌+◌, ◌-◌, ◌*◌, ℕ, nat_lt, nat_le, List, [], ◌∷◌, ◌++◌, map, filter, IfOk, Option, Some, None, is_some, true, false, if◌then◌else◌, unwrap_or};
+ghost use Rattle.std.specs.Prelude.{◌≡◌, ◌≢◌, ◌==◌, ◌&&◌, ◌+◌, ◌-◌, ◌*◌, ℕ, nat_lt, nat_le, List, [], ◌∷◌, ◌++◌, map, filter, IfOk, OnErr, IsSome, Option, Some, None, is_some, true, false, if◌then◌else◌, unwrap_or};
 ghost use Rattle.std.specs.Ordering.{nat_cmp};
 ghost use Rattle.std.specs.BTreeMap.{get};
 ghost use Rattle.std.specs.Option.{option_map};
@@ -9,7 +9,7 @@ ghost use Rattle.ja_value.specs.Value.{property_of};
 ghost use Rattle.ja_state.specs.Numbers.{property_in, entry_in, is_demanded, keys_in};
 
 use crate::keys::{key_number, label_among};
-use crate::maps::put;
+use crate::maps::{exchange, put};
 use crate::object::copy_properties;
 use ja_base::{Label, Memory, NameId};
 use ja_model::{Key, Slot};
@@ -46,21 +46,22 @@ impl DemandedEntries {
     }
 
     /// Demands a pair, which has no value yet if it wasn't demanded before, and tells whether it wasn't.
-    /// After `Memory` the entries may be anything.
+    /// After `Memory` the entries are as they were.
     pub fn demand(&mut self, alloc: Global, label: Label, key: Key) -> Result<bool, Memory>
         ensures demanded { IfOk result (λ _. entries_of self.new ≡ (λ l k. if same_label label l && same_key key k then Some (unwrap_or (entries_of self.old l k) no_property) else entries_of self.old l k)) }
         ensures changed { IfOk result (λ c. c ≡ true → entries_of self.new ≢ entries_of self.old) }
         ensures same { IfOk result (λ c. c ≡ false → entries_of self.new ≡ entries_of self.old) }
+        ensures kept { OnErr result (entries_of self.new ≡ entries_of self.old) }
     {
         let number = label_number(label);
-        let mut properties = take_out(&mut self.objects, alloc, number);
-        let changed = demand_key(&mut properties, alloc, key_number(key))?;
-        put(&mut self.objects, number, properties)?;
-        Ok(changed)
+        let mut properties = take_out(&mut self.objects, alloc, number)?;
+        let changed = demand_key(&mut properties, alloc, key_number(key));
+        exchange(&mut self.objects, number, properties);
+        changed
     }
 
     /// Joins a property into the value of a pair, if it is demanded, and tells whether the value changed.
-    /// After `Memory` the entries may be anything.
+    /// After `Memory` the entries are as they were.
     pub fn join(
         &mut self,
         alloc: Global,
@@ -71,15 +72,17 @@ impl DemandedEntries {
         ensures joined { IfOk result (λ _. entries_of self.new ≡ (λ l k. if same_label label l && same_key key k then option_map (λ q. join_properties q (property_of property.now)) (entries_of self.old l k) else entries_of self.old l k)) }
         ensures changed { IfOk result (λ c. c ≡ true → entries_of self.new ≢ entries_of self.old) }
         ensures same { IfOk result (λ c. c ≡ false → entries_of self.new ≡ entries_of self.old) }
+        ensures kept { OnErr result (entries_of self.new ≡ entries_of self.old) }
     {
         let number = label_number(label);
-        let mut properties = take_out(&mut self.objects, alloc, number);
-        let changed = join_key(&mut properties, alloc, key_number(key), property)?;
-        put(&mut self.objects, number, properties)?;
-        Ok(changed)
+        let mut properties = take_out(&mut self.objects, alloc, number)?;
+        let changed = join_key(&mut properties, alloc, key_number(key), property);
+        exchange(&mut self.objects, number, properties);
+        changed
     }
 
-    /// Sets the value of a pair, which is demanded then. After `Memory` the entries may be anything.
+    /// Sets the value of a pair, which is demanded then. After `Memory` the
+    /// entries are as they were.
     pub fn set(
         &mut self,
         alloc: Global,
@@ -87,13 +90,14 @@ impl DemandedEntries {
         key: Key,
         property: AProp,
     ) -> Result<(), Memory>
-        ensures { IfOk result (λ _. entries_of self.new ≡ (λ l k. if same_label label l && same_key key k then Some (property_of property) else entries_of self.old l k)) }
+        ensures set { IfOk result (λ _. entries_of self.new ≡ (λ l k. if same_label label l && same_key key k then Some (property_of property) else entries_of self.old l k)) }
+        ensures kept { OnErr result (entries_of self.new ≡ entries_of self.old) }
     {
         let number = label_number(label);
-        let mut properties = take_out(&mut self.objects, alloc, number);
-        set_key(&mut properties, key_number(key), property)?;
-        put(&mut self.objects, number, properties)?;
-        Ok(())
+        let mut properties = take_out(&mut self.objects, alloc, number)?;
+        let set = set_key(&mut properties, key_number(key), property);
+        exchange(&mut self.objects, number, properties);
+        set
     }
 
     /// The same entries once more.
@@ -119,22 +123,27 @@ impl DemandedEntries {
     }
 }
 
-/// Takes out the demanded properties at the number of a label.
+/// Takes out the demanded properties at the number of a label, and leaves some in their place. After
+/// `Memory` the entries are as they were.
 fn take_out(
     objects: &mut BTreeMap<u64, BTreeMap<u64, AProp>>,
     alloc: Global,
     number: u64,
-) -> BTreeMap<u64, AProp>
-    ensures taken { (q : ℕ) → property_in result q ≡ entry_in objects.old number q }
-    ensures others { (q : ℕ) → get nat_cmp objects.new q ≡ (if number == q then None else get nat_cmp objects.old q) }
+) -> Result<BTreeMap<u64, AProp>, Memory>
+    ensures taken { IfOk result (λ m. (q : ℕ) → property_in m q ≡ entry_in objects.old number q) }
+    ensures place { IfOk result (λ _. IsSome (get nat_cmp objects.new number)) }
+    ensures others { IfOk result (λ _. (q : ℕ) → (number == q) ≡ false → get nat_cmp objects.new q ≡ get nat_cmp objects.old q) }
+    ensures kept { OnErr result ((p q : ℕ) → entry_in objects.new p q ≡ entry_in objects.old p q) }
 {
-    match objects.remove(&number) {
-        Some(properties) => properties,
-        None => BTreeMap::new(alloc),
+    if objects.contains_key(&number) {
+        return Ok(exchange(objects, number, BTreeMap::new(alloc)));
     }
+    put(objects, number, BTreeMap::new(alloc))?;
+    Ok(BTreeMap::new(alloc))
 }
 
-/// Demands the number of a key, and tells whether it wasn't demanded.
+/// Demands the number of a key, and tells whether it wasn't demanded. After `Memory` the properties are
+/// as they were.
 fn demand_key(
     properties: &mut BTreeMap<u64, AProp>,
     alloc: Global,
@@ -143,6 +152,7 @@ fn demand_key(
     ensures demanded { IfOk result (λ _. (q : ℕ) → property_in properties.new q ≡ (if number == q then Some (unwrap_or (property_in properties.old q) no_property) else property_in properties.old q)) }
     ensures changed { IfOk result (λ c. c ≡ true → property_in properties.new number ≢ property_in properties.old number) }
     ensures same { IfOk result (λ c. c ≡ false → property_in properties.new number ≡ property_in properties.old number) }
+    ensures kept { OnErr result ((q : ℕ) → property_in properties.new q ≡ property_in properties.old q) }
 {
     if properties.contains_key(&number) {
         return Ok(false);
@@ -155,19 +165,21 @@ fn demand_key(
     Ok(true)
 }
 
-/// Sets the property at the number of a key.
+/// Sets the property at the number of a key. After `Memory` the properties are as they were.
 fn set_key(
     properties: &mut BTreeMap<u64, AProp>,
     number: u64,
     property: AProp,
 ) -> Result<(), Memory>
-    ensures { IfOk result (λ _. (q : ℕ) → property_in properties.new q ≡ (if number == q then Some (property_of property) else property_in properties.old q)) }
+    ensures set { IfOk result (λ _. (q : ℕ) → property_in properties.new q ≡ (if number == q then Some (property_of property) else property_in properties.old q)) }
+    ensures kept { OnErr result ((q : ℕ) → property_in properties.new q ≡ property_in properties.old q) }
 {
     put(properties, number, property)?;
     Ok(())
 }
 
 /// Joins a property into the one at the number of a key, if it is demanded, and tells whether it changed.
+/// After `Memory` the properties are as they were.
 fn join_key(
     properties: &mut BTreeMap<u64, AProp>,
     alloc: Global,
@@ -177,15 +189,15 @@ fn join_key(
     ensures joined { IfOk result (λ _. (q : ℕ) → property_in properties.new q ≡ (if number == q then option_map (λ p. join_properties p (property_of property.now)) (property_in properties.old q) else property_in properties.old q)) }
     ensures changed { IfOk result (λ c. c ≡ true → property_in properties.new number ≢ property_in properties.old number) }
     ensures same { IfOk result (λ c. c ≡ false → property_in properties.new number ≡ property_in properties.old number) }
+    ensures kept { OnErr result ((q : ℕ) → property_in properties.new q ≡ property_in properties.old q) }
 {
-    match properties.remove(&number) {
-        Some(mut mine) => {
-            let changed = mine.join(alloc, property)?;
-            put(properties, number, mine)?;
-            Ok(changed)
-        }
-        None => Ok(false),
+    if !properties.contains_key(&number) {
+        return Ok(false);
     }
+    let mut mine = exchange(properties, number, AProp::absent(alloc));
+    let changed = mine.join(alloc, property);
+    exchange(properties, number, mine);
+    changed
 }
 
 /// Adds the demanded pairs of the label of a number, if it is of the first sites.

@@ -1,7 +1,8 @@
-ghost use Rattle.std.specs.Prelude.{◌≡◌, ◌≢◌, ◌==◌, ◌||◌, ℕ, IfOk, true, false, is_some};
+ghost use Rattle.std.specs.Prelude.{◌≡◌, ◌≢◌, ◌==◌, ◌||◌, ℕ, IfOk, true, false, Some, is_some};
 ghost use Rattle.std.specs.Option.{option_map};
 ghost use Rattle.std.specs.Ordering.{nat_cmp};
 ghost use Rattle.std.specs.BTreeMap.{get};
+ghost use Rattle.ja_model.specs.declared.abstraction.Mask.{Mask};
 ghost use Rattle.ja_model.specs.AbstractState.{join_masks, exactly_none};
 ghost use Rattle.ja_value.specs.Labels.{mask_in};
 ghost use Rattle.ja_state.specs.Joined.{IsJoined};
@@ -24,6 +25,44 @@ fn join_mask(mask: &mut Mask, other: Mask) -> bool
     mask.none = old.none | other.none;
     mask.some = old.some | other.some;
     (other.none & !old.none) | (other.some & !old.some)
+}
+
+/// Whether a mask holds another.
+fn covers(mask: Mask, other: Mask) -> bool
+    ensures { result ≡ true → join_masks mask other ≡ mask }
+{
+    (mask.none | !other.none) & (mask.some | !other.some)
+}
+
+/// Whether each mask that is kept holds the one of its site among others.
+fn covers_at_kept(masks: &BTreeMap<u64, Mask>, others: &BTreeMap<u64, Mask>) -> bool
+    ensures { result ≡ true → (q : ℕ) (m : Mask) → get nat_cmp masks.now q ≡ Some m → join_masks m (mask_in others.now q) ≡ m }
+{
+    for (site, mask) in masks {
+        if !covers(*mask, mask_at(others, *site)) {
+            return false;
+        }
+    }
+    true
+}
+
+/// Whether each mask that others keep is held.
+fn covers_kept_of(masks: &BTreeMap<u64, Mask>, others: &BTreeMap<u64, Mask>) -> bool
+    ensures { result ≡ true → (q : ℕ) (m : Mask) → get nat_cmp others.now q ≡ Some m → join_masks (mask_in masks.now q) m ≡ mask_in masks.now q }
+{
+    for (site, mask) in others {
+        if !covers(mask_at(masks, *site), *mask) {
+            return false;
+        }
+    }
+    true
+}
+
+/// Whether masks hold others, so that a join changes nothing.
+pub fn masks_cover(masks: &BTreeMap<u64, Mask>, others: &BTreeMap<u64, Mask>) -> bool
+    ensures { result ≡ true → (q : ℕ) → join_masks (mask_in masks.now q) (mask_in others.now q) ≡ mask_in masks.now q }
+{
+    covers_at_kept(masks, others) && covers_kept_of(masks, others)
 }
 
 /// Keeps the mask of a site, as it is.

@@ -1,9 +1,10 @@
-ghost use Rattle.std.specs.Prelude.{◌≡◌, ◌≢◌, ◌==◌, ◌||◌, ℕ, IfOk, true, false, if◌then◌else◌, is_some};
+ghost use Rattle.std.specs.Prelude.{◌≡◌, ◌≢◌, ◌==◌, ◌||◌, ℕ, IfOk, OnErr, true, false, if◌then◌else◌, is_some, Some};
 ghost use Rattle.std.specs.Option.{option_map};
 ghost use Rattle.std.specs.Ordering.{nat_cmp};
 ghost use Rattle.std.specs.BTreeMap.{get};
 ghost use Rattle.ja_model.specs.AbstractValue.{absent_property, entry_property, join_properties};
 ghost use Rattle.ja_model.specs.AbstractState.{same_key, aged_property};
+ghost use Rattle.ja_value.specs.declared.property.AProp.{AProp};
 ghost use Rattle.ja_value.specs.Value.{property_of};
 
 use crate::keys::key_number;
@@ -62,11 +63,12 @@ impl AObject {
         }
     }
 
-    /// Replaces the property at a key. After `Memory` the object may be anything.
+    /// Replaces the property at a key. After `Memory` the object is as it was.
     pub fn write(&mut self, key: Key, property: AProp) -> Result<(), Memory>
-        ensures { IfOk result (λ _. object_of self.new ≡ (λ k. if same_key key k then property_of property else object_of self.old k)) }
+        ensures kept { OnErr result (object_of self.new ≡ object_of self.old) }
+        ensures written { IfOk result (λ _. object_of self.new ≡ (λ k. if same_key key k then property_of property else object_of self.old k)) }
     {
-        self.listed.insert(key_number(key), property)?;
+        put(&mut self.listed, key_number(key), property)?;
         Ok(())
     }
 
@@ -80,8 +82,43 @@ impl AObject {
         })
     }
 
-    /// Joins another object in, key by key, and tells whether a property changed. After `Memory` it may be anything.
-    pub fn join(&mut self, alloc: Global, other: &AObject) -> Result<bool, Memory>
+    /// Whether each property that is listed holds that of another object.
+    fn covers_at_listed(&self, other: &AObject) -> bool
+        ensures { result ≡ true → (q : ℕ) (p : AProp) → get nat_cmp self.now.listed q ≡ Some p → join_properties (property_of p) (at other.now q) ≡ property_of p }
+    {
+        for (number, property) in &self.listed {
+            if !property.covers(other.at(*number)) {
+                return false;
+            }
+        }
+        true
+    }
+
+    /// Whether each property that another object lists is held.
+    fn covers_listed_of(&self, other: &AObject) -> bool
+        ensures { result ≡ true → (q : ℕ) (p : AProp) → get nat_cmp other.now.listed q ≡ Some p → join_properties (at self.now q) (property_of p) ≡ at self.now q }
+    {
+        for (number, property) in &other.listed {
+            if !self.at(*number).covers(property) {
+                return false;
+            }
+        }
+        true
+    }
+
+    /// Whether this object holds another, so that a join changes nothing.
+    pub fn covers(&self, other: &AObject) -> bool
+        ensures { result ≡ true → (λ k. join_properties (object_of self.now k) (object_of other.now k)) ≡ object_of self.now }
+    {
+        if !self.common.covers(&other.common) {
+            return false;
+        }
+        self.covers_at_listed(other) && self.covers_listed_of(other)
+    }
+
+    /// Joins another object in, key by key, and tells whether a property changed. After `Memory` some
+    /// properties may have been joined.
+    fn join_all(&mut self, alloc: Global, other: &AObject) -> Result<bool, Memory>
         ensures joined { IfOk result (λ _. object_of self.new ≡ (λ k. join_properties (object_of self.old k) (object_of other.now k))) }
         ensures changed { IfOk result (λ c. c ≡ true → object_of self.new ≢ object_of self.old) }
         ensures same { IfOk result (λ c. c ≡ false → object_of self.new ≡ object_of self.old) }
@@ -90,6 +127,23 @@ impl AObject {
         let listed = self.join_listed(alloc, other)?;
         let common = self.common.join(alloc, &other.common)?;
         Ok(listed | common)
+    }
+
+    /// Joins another object in, key by key, and tells whether a property changed. After `Memory` the
+    /// object is as it was.
+    pub fn join(&mut self, alloc: Global, other: &AObject) -> Result<bool, Memory>
+        ensures joined { IfOk result (λ _. object_of self.new ≡ (λ k. join_properties (object_of self.old k) (object_of other.now k))) }
+        ensures changed { IfOk result (λ c. c ≡ true → object_of self.new ≢ object_of self.old) }
+        ensures same { IfOk result (λ c. c ≡ false → object_of self.new ≡ object_of self.old) }
+        ensures kept { OnErr result (object_of self.new ≡ object_of self.old) }
+    {
+        if self.covers(other) {
+            return Ok(false);
+        }
+        let mut joined = self.copy(alloc)?;
+        let changed = joined.join_all(alloc, other)?;
+        *self = joined;
+        Ok(changed)
     }
 
     /// Lists a key by its number, with the property that it has.

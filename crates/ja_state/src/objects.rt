@@ -1,4 +1,4 @@
-ghost use Rattle.std.specs.Prelude.{◌≡◌, ◌≢◌, ◌==◌, ◌||◌, ℕ, IfOk, true, false, None, is_some, if◌then◌else◌};
+ghost use Rattle.std.specs.Prelude.{◌≡◌, ◌≢◌, ◌==◌, ◌||◌, ℕ, IfOk, OnErr, true, false, None, Some, is_some, if◌then◌else◌};
 ghost use Rattle.std.specs.Option.{option_map};
 ghost use Rattle.std.specs.Ordering.{nat_cmp};
 ghost use Rattle.std.specs.BTreeMap.{get};
@@ -6,9 +6,10 @@ ghost use Rattle.ja_model.specs.AbstractState.{same_key};
 ghost use Rattle.ja_value.specs.Value.{property_of};
 ghost use Rattle.ja_state.specs.State.{object_of, object_in, entry_keyed, join_keyed, aged_keyed, made_keyed};
 ghost use Rattle.ja_state.specs.Joined.{IsJoined};
+ghost use Rattle.ja_state.specs.declared.object.AObject.{AObject};
 
 use crate::AObject;
-use crate::maps::put;
+use crate::maps::{exchange, put};
 use ja_base::{Label, Memory, Site};
 use ja_model::Key;
 use ja_value::{AProp, label_number};
@@ -31,10 +32,56 @@ fn object_at<'a>(
     }
 }
 
-/// Keeps the object at a number, as it is.
+/// Whether each object that is kept holds the one at its number among others.
+fn covers_at_kept(
+    objects: &BTreeMap<u64, AObject>,
+    alloc: Global,
+    others: &BTreeMap<u64, AObject>,
+) -> bool
+    ensures { result ≡ true → (q : ℕ) (o : AObject) → get nat_cmp objects.now q ≡ Some o → join_keyed (object_of o) (object_in others.now q) ≡ object_of o }
+{
+    let entry = AObject::entry(alloc);
+    for (number, object) in objects {
+        if !object.covers(object_at(others, *number, &entry)) {
+            return false;
+        }
+    }
+    true
+}
+
+/// Whether each object that others keep is held.
+fn covers_kept_of(
+    objects: &BTreeMap<u64, AObject>,
+    alloc: Global,
+    others: &BTreeMap<u64, AObject>,
+) -> bool
+    ensures { result ≡ true → (q : ℕ) (o : AObject) → get nat_cmp others.now q ≡ Some o → join_keyed (object_in objects.now q) (object_of o) ≡ object_in objects.now q }
+{
+    let entry = AObject::entry(alloc);
+    for (number, object) in others {
+        if !object_at(objects, *number, &entry).covers(object) {
+            return false;
+        }
+    }
+    true
+}
+
+/// Whether objects hold others, so that a join changes nothing.
+pub fn objects_cover(
+    objects: &BTreeMap<u64, AObject>,
+    alloc: Global,
+    others: &BTreeMap<u64, AObject>,
+) -> bool
+    ensures { result ≡ true → (q : ℕ) → join_keyed (object_in objects.now q) (object_in others.now q) ≡ object_in objects.now q }
+{
+    covers_at_kept(objects, alloc, others) && covers_kept_of(objects, alloc, others)
+}
+
+/// Keeps the object at a number, as it is. After `Memory` the objects are as they were.
 fn keep(objects: &mut BTreeMap<u64, AObject>, alloc: Global, number: u64) -> Result<(), Memory>
     ensures same { IfOk result (λ _. (q : ℕ) → object_in objects.new q ≡ object_in objects.old q) }
     ensures kept { IfOk result (λ _. (q : ℕ) → is_some (get nat_cmp objects.new q) ≡ (number == q || is_some (get nat_cmp objects.old q))) }
+    ensures unchanged { OnErr result ((q : ℕ) → object_in objects.new q ≡ object_in objects.old q) }
 {
     if !objects.contains_key(&number) {
         put(objects, number, AObject::entry(alloc))?;
@@ -130,7 +177,7 @@ fn take_out(objects: &mut BTreeMap<u64, AObject>, alloc: Global, number: u64) ->
     }
 }
 
-/// Replaces a property of the object at a number.
+/// Replaces a property of the object at a number. After `Memory` the objects are as they were.
 pub fn write_at(
     objects: &mut BTreeMap<u64, AObject>,
     alloc: Global,
@@ -138,12 +185,14 @@ pub fn write_at(
     key: Key,
     property: AProp,
 ) -> Result<(), Memory>
-    ensures { IfOk result (λ _. (q : ℕ) → object_in objects.new q ≡ (if number == q then (λ k. if same_key key k then property_of property else object_in objects.old number k) else object_in objects.old q)) }
+    ensures written { IfOk result (λ _. (q : ℕ) → object_in objects.new q ≡ (if number == q then (λ k. if same_key key k then property_of property else object_in objects.old number k) else object_in objects.old q)) }
+    ensures kept { OnErr result ((q : ℕ) → object_in objects.new q ≡ object_in objects.old q) }
 {
-    let mut object = take_out(objects, alloc, number);
-    object.write(key, property)?;
-    put(objects, number, object)?;
-    Ok(())
+    keep(objects, alloc, number)?;
+    let mut object = exchange(objects, number, AObject::entry(alloc));
+    let written = object.write(key, property);
+    exchange(objects, number, object);
+    written
 }
 
 /// The objects after an object more was made at a site.

@@ -78,6 +78,19 @@ pub fn aged_values(alloc: Global, values: &[AValue], site: Site) -> Result<Vec<A
     Ok(aged)
 }
 
+/// Whether each value holds that of the same register among others.
+pub fn values_cover(values: &[AValue], others: &[AValue]) -> bool
+    requires { length values.now ≡ length others.now }
+    ensures { result ≡ true → (r : ℕ) → join (register_in values.now r) (register_in others.now r) ≡ register_in values.now r }
+{
+    for (register, value) in values.iter().enumerate() {
+        if !value.covers(&others[register]) {
+            return false;
+        }
+    }
+    true
+}
+
 /// Joins a value into a register, and tells whether it changed.
 fn join_value(
     values: &mut Vec<AValue>,

@@ -1,4 +1,4 @@
-ghost use Rattle.std.specs.Prelude.{◌≡◌, ◌≢◌, ◌<◌, ◌≤◌, ◌*◌, ℕ, nat_lt, [], ◌∷◌, ◌++◌, IfOk, true, false, if◌then◌else◌, vec_len, filter};
+ghost use Rattle.std.specs.Prelude.{◌≡◌, ◌≢◌, ◌<◌, ◌≤◌, ◌*◌, ℕ, nat_lt, [], ◌∷◌, ◌++◌, IfOk, OnErr, true, false, if◌then◌else◌, vec_len, filter};
 ghost use Rattle.ja_base.specs.declared.ids.Label.{Label};
 ghost use Rattle.ja_model.specs.declared.abstraction.Key.{Key};
 ghost use Rattle.ja_model.specs.AbstractValue.{Labels, entry_property};
@@ -10,9 +10,9 @@ ghost use Rattle.ja_value.specs.Value.{value_of, property_of};
 use crate::AObject;
 use crate::keys::label_among;
 use crate::maps::put;
-use crate::masks::{copy_masks, join_masks};
-use crate::objects::{copy_objects, join_objects, made_objects, write_at};
-use crate::registers::{aged_values, copy_values, entry_values, join_values};
+use crate::masks::{copy_masks, join_masks, masks_cover};
+use crate::objects::{copy_objects, join_objects, made_objects, objects_cover, write_at};
+use crate::registers::{aged_values, copy_values, entry_values, join_values, values_cover};
 use ja_base::{Label, Memory, Reg, Site};
 use ja_model::{Key, Mask};
 use ja_value::{AProp, AValue, copy_text_part, label_number, mask_at};
@@ -74,7 +74,7 @@ impl AState {
         mask_at(&self.masks, u64::from(site.0))
     }
 
-    /// Replaces a property. After `Memory` the state may be anything.
+    /// Replaces a property. After `Memory` the state is as it was.
     pub fn write(
         &mut self,
         alloc: Global,
@@ -84,6 +84,7 @@ impl AState {
     ) -> Result<(), Memory>
         ensures state { IfOk result (λ _. state_of self.new ≡ with_property (state_of self.old) label key (property_of property)) }
         ensures registers { vec_len self.new.registers ≡ vec_len self.old.registers }
+        ensures kept { OnErr result (state_of self.new ≡ state_of self.old) }
     {
         write_at(&mut self.objects, alloc, label_number(label), key, property)?;
         Ok(())
@@ -101,8 +102,40 @@ impl AState {
         })
     }
 
-    /// Joins another state in, and tells whether the state changed. After `Memory` it may be anything.
+    /// Whether this state holds another, so that a join changes nothing.
+    pub fn covers(&self, alloc: Global, other: &AState) -> bool
+        requires { vec_len self.now.registers ≡ vec_len other.now.registers }
+        ensures { result ≡ true → join_states (state_of self.now) (state_of other.now) ≡ state_of self.now }
+    {
+        if !values_cover(&self.registers, &other.registers) {
+            return false;
+        }
+        objects_cover(&self.objects, alloc, &other.objects)
+            && masks_cover(&self.masks, &other.masks)
+    }
+
+    /// Joins another state in, and tells whether the state changed. After `Memory` it is as it was.
     pub fn join(&mut self, alloc: Global, other: &AState) -> Result<bool, Memory>
+        requires { vec_len self.old.registers ≡ vec_len other.now.registers }
+        ensures joined { IfOk result (λ _. state_of self.new ≡ join_states (state_of self.old) (state_of other.now)) }
+        ensures changed { IfOk result (λ c. c ≡ true → state_of self.new ≢ state_of self.old) }
+        ensures same { IfOk result (λ c. c ≡ false → state_of self.new ≡ state_of self.old) }
+        ensures registers { IfOk result (λ _. vec_len self.new.registers ≡ vec_len self.old.registers) }
+        ensures kept { OnErr result (state_of self.new ≡ state_of self.old) }
+    {
+        if self.covers(alloc, other) {
+            return Ok(false);
+        }
+        // a state that grows is stepped again, and a step copies its state once more
+        let mut joined = self.copy(alloc)?;
+        let changed = joined.join_all(alloc, other)?;
+        *self = joined;
+        Ok(changed)
+    }
+
+    /// Joins another state in, and tells whether the state changed. After `Memory` some parts may have
+    /// been joined.
+    fn join_all(&mut self, alloc: Global, other: &AState) -> Result<bool, Memory>
         requires { vec_len self.old.registers ≡ vec_len other.now.registers }
         ensures joined { IfOk result (λ _. state_of self.new ≡ join_states (state_of self.old) (state_of other.now)) }
         ensures changed { IfOk result (λ c. c ≡ true → state_of self.new ≢ state_of self.old) }

@@ -1,5 +1,6 @@
 -- Labels and their numbers, and sets of labels by sets of numbers.
 use Rattle.std.proofs.Common.{◌≡◌, ◌≢◌, ℕ, ◌+◌, ◌*◌, ◌<◌, ◌≤◌, ◌/◌, ◌%◌, Bool, true, false, ◌||◌, cond, nat_lt, List, [], ◌∷◌, ◌++◌, map, filter, refl, ap, sym, ◌∙◌, subst, arith, length, ⊎_elim, append-nil, ◌↔◌, suc, zero}
+use Rattle.std.specs.Prelude.{IsTrue}
 use Rattle.std.specs.List.{list_any, range_with_len, flat_map, AllByRecursion}
 use Rattle.std.specs.List.Sorted.{IsStrictlySortedBy}
 use Rattle.std.specs.Ordering.{nat_cmp}
@@ -168,6 +169,17 @@ pub no_labels_is : (ks : List ℕ) → (length ks ≡ 0) ↔ (in_numbers ks ≡ 
 no_labels_is [] = ((λ _. refl), (λ _. refl))
 no_labels_is (k ∷ ks) =
     ((λ e. absurd (omega arith)), (λ e. absurd (labels_apart [] (k ∷ ks) k refl (rw (equal k k refl) refl) e)))
+
+-- ---- sets within others
+
+within : (a b : Bool) → (IsTrue b → IsTrue a) → (a || b) ≡ a
+within true b h = refl
+within false true h = sym (h refl)
+within false false h = refl
+
+-- the labels of a set within another are among those of the other
+pub union_within : (mine other : List ℕ) → ((q : ℕ) → IsTrue (has other q) → IsTrue (has mine q)) → (λ l. in_numbers mine l || in_numbers other l) ≡ in_numbers mine
+union_within mine other h = λ i l. (within (has mine (label_number l)) (has other (label_number l)) (h (label_number l))) i
 
 -- numbers `more` are still to be added to `now`, which began as `first`
 pub record Joining (first other now more : List ℕ) (changed : Bool) : Type 0 where

@@ -1,4 +1,4 @@
-ghost use Rattle.std.specs.Prelude.{◌≡◌, ◌≢◌, ◌||◌, ◌&&◌, ◌<◌, ◌↔◌, ◌==◌, ◌^◌, ◌/◌, ◌%◌, ℕ, if◌then◌else◌, filter, IfOk, IsTrue, true, false};
+ghost use Rattle.std.specs.Prelude.{◌≡◌, ◌≢◌, ◌||◌, ◌&&◌, ◌<◌, ◌↔◌, ◌==◌, ◌^◌, ◌/◌, ◌%◌, ℕ, if◌then◌else◌, filter, IfOk, OnErr, IsTrue, true, false};
 ghost use Rattle.std.specs.List.{list_any};
 ghost use Rattle.std.specs.Ordering.{nat_cmp};
 ghost use Rattle.std.specs.BTreeSet.{contains};
@@ -101,9 +101,10 @@ impl LabelSet {
         Ok(LabelSet { numbers })
     }
 
-    /// Adds a label.
+    /// Adds a label. After `Memory` the set is as it was.
     pub fn insert(&mut self, label: Label) -> Result<(), Memory>
-        ensures { IfOk result (λ _. labels_in self.new ≡ (λ l. labels_in self.old l || same_label label l)) }
+        ensures inserted { IfOk result (λ _. labels_in self.new ≡ (λ l. labels_in self.old l || same_label label l)) }
+        ensures kept { OnErr result (labels_in self.new ≡ labels_in self.old) }
     {
         let number = label_number(label);
         self.numbers.insert(number)?;
@@ -149,9 +150,16 @@ impl LabelSet {
         Ok(labels)
     }
 
-    /// Adds the labels of another set, and tells whether one of them is new. After `Memory` some of
-    /// them may have been added.
-    pub fn join(&mut self, other: &LabelSet) -> Result<bool, Memory>
+    /// Whether each label of another set is in this one.
+    pub fn covers(&self, other: &LabelSet) -> bool
+        ensures { result ≡ true → (λ l. labels_in self.now l || labels_in other.now l) ≡ labels_in self.now }
+    {
+        other.numbers.is_subset(&self.numbers)
+    }
+
+    /// Adds the labels of another set one by one, and tells whether one of them is new. After `Memory`
+    /// some of them may have been added.
+    fn add_all(&mut self, other: &LabelSet) -> Result<bool, Memory>
         ensures joined { IfOk result (λ _. labels_in self.new ≡ (λ l. labels_in self.old l || labels_in other.now l)) }
         ensures changed { IfOk result (λ c. c ≡ true → labels_in self.new ≢ labels_in self.old) }
         ensures same { IfOk result (λ c. c ≡ false → labels_in self.new ≡ labels_in self.old) }
@@ -164,15 +172,34 @@ impl LabelSet {
         Ok(changed)
     }
 
-    /// An object more was made at a site: its new label becomes its old one. After `Memory` the set
-    /// may have lost the label.
+    /// Adds the labels of another set, and tells whether one of them is new. After `Memory` the set is
+    /// as it was.
+    pub fn join(&mut self, other: &LabelSet) -> Result<bool, Memory>
+        ensures joined { IfOk result (λ _. labels_in self.new ≡ (λ l. labels_in self.old l || labels_in other.now l)) }
+        ensures changed { IfOk result (λ c. c ≡ true → labels_in self.new ≢ labels_in self.old) }
+        ensures same { IfOk result (λ c. c ≡ false → labels_in self.new ≡ labels_in self.old) }
+        ensures kept { OnErr result (labels_in self.new ≡ labels_in self.old) }
+    {
+        if self.covers(other) {
+            return Ok(false);
+        }
+        let mut joined = self.copy()?;
+        let changed = joined.add_all(other)?;
+        *self = joined;
+        Ok(changed)
+    }
+
+    /// An object more was made at a site: its new label becomes its old one. After `Memory` the set is
+    /// as it was.
     pub fn age(&mut self, site: Site) -> Result<(), Memory>
-        ensures { IfOk result (λ _. labels_in self.new ≡ aged_labels site (labels_in self.old)) }
+        ensures aged { IfOk result (λ _. labels_in self.new ≡ aged_labels site (labels_in self.old)) }
+        ensures kept { OnErr result (labels_in self.new ≡ labels_in self.old) }
     {
         let new = label_number(Label { site, old: false });
-        if self.numbers.remove(&new) {
+        if self.numbers.contains(&new) {
             let old = label_number(Label { site, old: true });
             self.numbers.insert(old)?;
+            self.numbers.remove(&new);
         }
         Ok(())
     }

@@ -1,4 +1,4 @@
-ghost use Rattle.std.specs.Prelude.{◌≡◌, ◌≢◌, ◌↔◌, IsTrue, IfOk, true, false};
+ghost use Rattle.std.specs.Prelude.{◌≡◌, ◌≢◌, ◌↔◌, IsTrue, IfOk, IfSome, is_some, unwrap_or, true, false};
 ghost use Rattle.ja_prim.specs.Index.{is_index_text};
 ghost use Rattle.ja_model.specs.AbstractValue.{text_class, join_text_classes, join_texts};
 ghost use Rattle.ja_model.specs.declared.abstraction.TextPart.TheVariants as text_part;
@@ -132,17 +132,48 @@ pub fn same_texts(a: &TextPart, b: &TextPart) -> bool
     }
 }
 
-/// Joins a text part in, and tells whether the part changed. After `Memory` the part is as it was.
-pub fn widen_text(alloc: Global, part: &mut TextPart, other: &TextPart) -> Result<bool, Memory>
-    ensures joined { IfOk result (λ _. part.new ≡ join_texts part.old other.now) }
-    ensures changed { IfOk result (λ c. c ≡ true → part.new ≢ part.old) }
-    ensures same { IfOk result (λ c. c ≡ false → part.new ≡ part.old) }
+/// Whether a text part holds another.
+pub fn covers_text(part: &TextPart, other: &TextPart) -> bool
+    ensures { result ≡ true → join_texts part.now other.now ≡ part.now }
 {
     if same_texts(part, other) || matches!(other, TextPart::Nothing) {
-        return Ok(false);
+        return true;
+    }
+    match part {
+        TextPart::Nothing | TextPart::One(_) => false,
+        _ => same_texts(&join_text_classes(part, &text_class(other)), part),
+    }
+}
+
+/// The least text part that holds two, where it isn't the first.
+pub fn changed_text(
+    alloc: Global,
+    part: &TextPart,
+    other: &TextPart,
+) -> Result<Option<TextPart>, Memory>
+    ensures joined { IfOk result (λ o. unwrap_or o part.now ≡ join_texts part.now other.now) }
+    ensures changed { IfOk result (λ o. IfSome o (λ t. t ≢ part.now)) }
+{
+    if covers_text(part, other) {
+        return Ok(None);
     }
     let joined = join_texts(alloc, part, other)?;
-    let same = same_texts(&joined, part);
-    *part = joined;
-    Ok(!same)
+    if same_texts(&joined, part) {
+        return Ok(None);
+    }
+    Ok(Some(joined))
+}
+
+/// Puts a text part in the place of another, if there is one, and tells whether there is.
+pub fn replace_text(part: &mut TextPart, new: Option<TextPart>) -> bool
+    ensures replaced { part.new ≡ unwrap_or new part.old }
+    ensures told { result ≡ is_some new }
+{
+    match new {
+        Some(new) => {
+            *part = new;
+            true
+        }
+        None => false,
+    }
 }

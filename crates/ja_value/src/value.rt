@@ -1,12 +1,12 @@
-ghost use Rattle.std.specs.Prelude.{◌≡◌, ◌≢◌, ◌↔◌, IfOk, IsTrue, true, false};
+ghost use Rattle.std.specs.Prelude.{◌≡◌, ◌≢◌, ◌↔◌, IfOk, OnErr, IsTrue, true, false};
 ghost use Rattle.ja_prim.specs.declared.primitive.Num.TheVariants as num;
 ghost use Rattle.ja_prim.specs.declared.primitive.Primitive.TheVariants as primitive;
 ghost use Rattle.ja_model.specs.AbstractValue.{no_value, join, join_flags, has_present_flag, has_number, has_text, of_flags, row_value, of_primitive, of_label, is_present, has_part};
 ghost use Rattle.ja_model.specs.AbstractState.{labels_below, aged};
 
 use crate::LabelSet;
-use crate::numbers::widen_number;
-use crate::texts::{copy_text_part, widen_text};
+use crate::numbers::{join_numbers, same_numbers, widen_number};
+use crate::texts::{changed_text, copy_text_part, covers_text, replace_text};
 use ja_base::{Label, Memory, Site};
 use ja_model::{Flags, NumberPart, TextPart};
 use ja_prim::{Int, Num, Primitive, Text16};
@@ -226,16 +226,33 @@ impl AValue {
         })
     }
 
-    /// Joins another value in, and tells whether the value changed. After `Memory` it may be anything.
+    /// Whether this value holds another, so that a join changes nothing.
+    pub fn covers(&self, other: &AValue) -> bool
+        ensures { result ≡ true → join (value_of self.now) (value_of other.now) ≡ value_of self.now }
+    {
+        let flags = join_flags(self.flags, other.flags);
+        if !same_flags(flags, self.flags) {
+            return false;
+        }
+        let number = join_numbers(self.number, other.number);
+        if !same_numbers(&number, &self.number) {
+            return false;
+        }
+        covers_text(&self.text, &other.text) && self.labels.covers(&other.labels)
+    }
+
+    /// Joins another value in, and tells whether the value changed. After `Memory` it is as it was.
     pub fn join(&mut self, alloc: Global, other: &AValue) -> Result<bool, Memory>
         ensures joined { IfOk result (λ _. value_of self.new ≡ join (value_of self.old) (value_of other.now)) }
         ensures changed { IfOk result (λ c. c ≡ true → value_of self.new ≢ value_of self.old) }
         ensures same { IfOk result (λ c. c ≡ false → value_of self.new ≡ value_of self.old) }
+        ensures kept { OnErr result (value_of self.new ≡ value_of self.old) }
     {
+        let text = changed_text(alloc, &self.text, &other.text)?;
+        let labels = self.labels.join(&other.labels)?;
         let flags = widen_flags(&mut self.flags, other.flags);
         let number = widen_number(&mut self.number, other.number);
-        let text = widen_text(alloc, &mut self.text, &other.text)?;
-        let labels = self.labels.join(&other.labels)?;
+        let text = replace_text(&mut self.text, text);
         Ok(flags | number | text | labels)
     }
 

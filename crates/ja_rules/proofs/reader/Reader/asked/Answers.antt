@@ -9,7 +9,7 @@ use Rattle.ja_rules.proofs.WalkLemmas.{settled_at, all_rounds, length-labels_bel
 use Rattle.ja_rules.proofs.reader.Reader.asked.Goals as goal
 
 pub rounds-init : goal.rounds-init
-rounds-init c = c.in_ok-insert.ensures ∙ ap {B = Labels} (λ (s : Labels) (m : Label). s m || same_label c.args.label m) c.new-set.ensures
+rounds-init c = c.in_ok-insert.ensures.inserted ∙ ap {B = Labels} (λ (s : Labels) (m : Label). s m || same_label c.args.label m) c.new-set.ensures
 
 pub returns-then-not-changed : goal.returns-then-not-changed
 returns-then-not-changed c =

@@ -10,7 +10,7 @@ use Rattle.ja_state.proofs.entries.DemandedEntries.copy.Goals as goal
 
 pub loop-number-preserved : goal.loop-number-preserved
 loop-number-preserved c =
-    moved_turn (λ q. property_in) property_in _ _ _ _ (c.in-Some.number, c.in-Some.properties) _ _ c.in_ok-copy_properties.field-0 c.in-Some.is c.next.ensures.steps c.loop-number.invariant c.in_ok-put.ensures (λ i q. (c.in_ok-copy_properties.ensures q) i)
+    moved_turn (λ q. property_in) property_in _ _ _ _ (c.in-Some.number, c.in-Some.properties) _ _ c.in_ok-copy_properties.field-0 c.in-Some.is c.next.ensures.steps c.loop-number.invariant c.in_ok-put.ensures.placed (λ i q. (c.in_ok-copy_properties.ensures q) i)
 
 pub returns : goal.returns
 returns c =

@@ -1,14 +1,17 @@
-use Rattle.std.proofs.Common.{List, subst}
-use Rattle.ja_model.specs.AbstractValue.{join}
-use Rattle.ja_value.specs.declared.value.AValue.{AValue}
-use Rattle.ja_state.specs.Joined.{IsJoined}
-use Rattle.ja_state.specs.State.{register_in}
-use Rattle.ja_state.proofs.StateLemmas.{states_differ}
+use Rattle.std.proofs.Common.{ap, sym, ◌∙◌}
+use Rattle.ja_model.specs.AbstractState.{AbstractState, join_states}
+use Rattle.ja_state.specs.State.{state_of}
 use Rattle.ja_state.proofs.state.AState.join.Goals as goal
 
+pub returns-then-covers-clause-joined : goal.returns-then-covers-clause-joined
+returns-then-covers-clause-joined c = sym (c.covers.ensures c.if-covers.true)
+
+pub returns-clause-joined : goal.returns-clause-joined
+returns-clause-joined c =
+    c.in_ok-changed.ensures.joined ∙ ap (λ (a : AbstractState). join_states a (state_of c.args.other.now)) c.in_ok-joined.ensures.state
+
 pub returns-clause-changed : goal.returns-clause-changed
-returns-clause-changed c =
-    states_differ c.args.self.now (record { registers = c.join_values.new.values; objects = c.join_objects.new.objects; masks = c.join_masks.new.masks }) c.args.other.now
-    c.in_ok-registers.registers c.in_ok-objects.objects c.in_ok-masks.masks
-    (subst (λ (xs : List AValue). IsJoined join (register_in c.args.self.now.registers.items) (register_in xs) (register_in c.join_values.new.values.items) c.in_ok-registers.registers) c.deref.ensures.value c.in_ok-registers.ensures.joined)
-    c.in_ok-objects.ensures c.in_ok-masks.ensures
+returns-clause-changed c = λ said same. c.in_ok-changed.ensures.changed said (same ∙ sym c.in_ok-joined.ensures.state)
+
+pub returns-clause-same : goal.returns-clause-same
+returns-clause-same c = λ said. c.in_ok-changed.ensures.same said ∙ c.in_ok-joined.ensures.state

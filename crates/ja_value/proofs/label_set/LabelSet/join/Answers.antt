@@ -1,5 +1,17 @@
-use Rattle.ja_value.proofs.LabelLemmas.{labels_apart}
+use Rattle.std.proofs.Common.{◌||◌, ap, sym, ◌∙◌}
+use Rattle.ja_model.specs.AbstractValue.{Labels}
+use Rattle.ja_value.specs.Value.{labels_in}
 use Rattle.ja_value.proofs.label_set.LabelSet.join.Goals as goal
 
+pub returns-then-covers-clause-joined : goal.returns-then-covers-clause-joined
+returns-then-covers-clause-joined c = sym (c.covers.ensures c.if-covers.true)
+
+pub returns-clause-joined : goal.returns-clause-joined
+returns-clause-joined c =
+    c.in_ok-changed.ensures.joined ∙ ap (λ (f : Labels). let g : Labels = λ l. f l || labels_in c.args.other.now l in g) c.in_ok-joined.ensures
+
 pub returns-clause-changed : goal.returns-clause-changed
-returns-clause-changed c = λ told same. let h = c.loop-number.invariant.one_more told in labels_apart _ _ h.0 h.1.0 h.1.1 same
+returns-clause-changed c = λ said same. c.in_ok-changed.ensures.changed said (same ∙ sym c.in_ok-joined.ensures)
+
+pub returns-clause-same : goal.returns-clause-same
+returns-clause-same c = λ said. c.in_ok-changed.ensures.same said ∙ c.in_ok-joined.ensures
