@@ -14,7 +14,7 @@ returns-then-is_empty-2 c = c.in_ok-first.ensures ∙ sequence_one _ _ _ _ c.rem
 pub returns : goal.returns
 returns c =
     IfOk-weaker c.new-3.result _ _
-      (λ x made. made
-        ∙ ap (λ first. e.Sequence first c.remove.new.self c.args.place) (c.into_boxed.ensures ∙ c.in_ok-first.ensures)
-        ∙ sequence_more _ _ _ _ c.remove.ensures.item c.remove.ensures.rest (λ none. cc (c.is_empty-2.ensures.1 none, c.if-is_empty-2.false)))
-      c.new-3.ensures
+    (λ x made. made
+    ∙ ap (λ first. e.Sequence first c.remove.new.self c.args.place) (c.into_boxed.ensures ∙ c.in_ok-first.ensures)
+    ∙ sequence_more _ _ _ _ c.remove.ensures.item c.remove.ensures.rest (λ none. cc (c.is_empty-2.ensures.1 none, c.if-is_empty-2.false)))
+    c.new-3.ensures
