@@ -157,7 +157,7 @@ unfolding beginning_with_node
 beginning_built scene items built = either (begins_with_jump items)
   where
     first : IsBuiltListing (with_const scene first_place primitive.Undefined (nothing_listed (first_temporary 0))).listing
-    first = built_with_const scene first_place primitive.Undefined (record { nodes = tt })
+    first = built_with_const {l = nothing_listed (first_temporary 0)} scene first_place primitive.Undefined (record { nodes = tt })
 
     either : (b : Bool) → AllBuilt (if b then first_const scene ++ items else items)
     either true = all_append (OfNode IsBuilt) (first_const scene) items first.nodes built

@@ -75,7 +75,7 @@ unfolding beginning_with_node
 sound_beginning scene l s = either (begins_with_jump l.items)
   where
     first : IsSound (limits_of 0 scene) (with_const scene first_place primitive.Undefined (nothing_listed (first_temporary 0))).listing
-    first = (sound_with_const scene first_place primitive.Undefined (record { nodes = tt; next = omega arith })).listing
+    first = (sound_with_const {l = nothing_listed (first_temporary 0)} scene first_place primitive.Undefined (record { nodes = tt; next = omega arith })).listing
 
     either : (b : Bool) → AllInRange (limits_of 0 scene) (if b then first_const scene ++ l.items else l.items)
     either true = all_append (OfNode (IsInRange (limits_of 0 scene))) (first_const scene) l.items first.nodes s.nodes

@@ -10,7 +10,7 @@ returns-in_err-first g c =
 
 pub loop-turn-init : goal.loop-turn-init
 loop-turn-init g c =
-    rw (c.in_ok-push.ensures.ok, c.new-found.ensures) (commas_start ((below c.args.self.now.depth).expression (of_expression.Assignment false)) _ _ _ _ c.in_ok-first.ensures c.left-turn-end.ensures)
+    rw (c.in_ok-push.ensures.ok, c.into_inner.ensures, c.new-found.ensures) (commas_start ((below c.args.self.now.depth).expression (of_expression.Assignment false)) _ _ _ _ c.in_ok-first.ensures c.left-turn-end.ensures)
 
 pub returns-then-not-sees : goal.returns-then-not-sees
 returns-then-not-sees g c = commas_stop ((below c.args.self.now.depth).expression (of_expression.Assignment false)) _ _ _ _ c.loop-turn.invariant (cc (c.sees.ensures, c.if-not-sees.true))
@@ -22,7 +22,7 @@ returns-in_err-item g c =
 
 pub loop-turn-preserved : goal.loop-turn-preserved
 loop-turn-preserved g c =
-    rw c.in_ok-push-2.ensures.ok
+    rw (c.in_ok-push-2.ensures.ok, c.into_inner-in-loop-turn.ensures)
     (commas_more ((below c.args.self.now.depth).expression (of_expression.Assignment false)) _ _ _ _ _ c.take.new.self _ _ c.loop-turn.invariant c.loop-turn-test.true (cc (c.sees.ensures, c.if-not-sees.false)) c.take.ensures c.in_ok-item.ensures)
 
 pub returns : goal.returns

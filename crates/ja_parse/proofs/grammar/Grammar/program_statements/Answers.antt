@@ -18,7 +18,7 @@ returns-in_err-item g c =
 
 pub loop-turn-preserved : goal.loop-turn-preserved
 loop-turn-preserved g c =
-    rw c.in_ok-push.ensures.ok (until_more statements.is_end (statements.single c.args.self.now.depth (below c.args.self.now.depth) (context_of c.args.context.now) 0 true) _ _ _ _ _ _ _ c.loop-turn.invariant c.loop-turn-test.true (cc (c.sees.ensures, c.if-sees.false)) c.in_ok-item.ensures)
+    rw (c.in_ok-push.ensures.ok, c.into_inner.ensures) (until_more statements.is_end (statements.single c.args.self.now.depth (below c.args.self.now.depth) (context_of c.args.context.now) 0 true) _ _ _ _ _ _ _ c.loop-turn.invariant c.loop-turn-test.true (cc (c.sees.ensures, c.if-sees.false)) c.in_ok-item.ensures)
 
 pub returns : goal.returns
 returns g c = until_none statements.is_end (statements.single c.args.self.now.depth (below c.args.self.now.depth) (context_of c.args.context.now) 0 true) _ _ _ _ _ c.loop-turn.invariant c.loop-turn-test.false

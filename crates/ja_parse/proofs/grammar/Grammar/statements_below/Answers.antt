@@ -19,7 +19,7 @@ returns-in_err-item g c =
 
 pub loop-turn-preserved : goal.loop-turn-preserved
 loop-turn-preserved g c =
-    rw c.in_ok-push.ensures.ok (until_more (ends c.args.end) ((below c.args.self.now.depth).statement (context_of c.args.context.now) (of_statement.Whole 0 c.args.outermost)) _ _ _ _ _ _ _ c.loop-turn.invariant c.loop-turn-test.true (sym (ap (ends c.args.end) c.symbol.ensures) ∙ sym c.is_end.ensures ∙ c.if-is_end.false) c.in_ok-item.ensures)
+    rw (c.in_ok-push.ensures.ok, c.into_inner.ensures) (until_more (ends c.args.end) ((below c.args.self.now.depth).statement (context_of c.args.context.now) (of_statement.Whole 0 c.args.outermost)) _ _ _ _ _ _ _ c.loop-turn.invariant c.loop-turn-test.true (sym (ap (ends c.args.end) c.symbol.ensures) ∙ sym c.is_end.ensures ∙ c.if-is_end.false) c.in_ok-item.ensures)
 
 pub returns : goal.returns
 returns g c = until_none (ends c.args.end) ((below c.args.self.now.depth).statement (context_of c.args.context.now) (of_statement.Whole 0 c.args.outermost)) _ _ _ _ _ c.loop-turn.invariant c.loop-turn-test.false
