@@ -1,10 +1,11 @@
--- The kinds of nodes that are built: the machine steps them, and the analysis goes through them.
-use Rattle.std.specs.Prelude.{◌≡◌, ℕ, Bool, true, false, Some, slice_get}
+-- What is built: the kinds of nodes that the analysis goes through, and no functions that could be called.
+use Rattle.std.specs.Prelude.{◌≡◌, ℕ, Bool, true, false, None, Some, slice_get}
 use Rattle.ja_graph.specs.declared.node.Node.{Node}
 use Rattle.ja_graph.specs.declared.node.Node.TheVariants.{Const, FindName, ReadRef, WriteRef, Call, Return, Escape}
 use Rattle.ja_graph.specs.declared.node.NodeInfo.{NodeInfo}
 use Rattle.ja_graph.specs.declared.program.Function.{Function}
 use Rattle.ja_graph.specs.declared.program.Program.{Program}
+use Rattle.ja_graph.specs.declared.program.SiteInfo.{SiteInfo}
 
 -- a node of a kind that is built
 abbrev pub is_built : Node → Bool
@@ -17,6 +18,7 @@ is_built (Return src) = true
 is_built Escape = true
 is_built node = false
 
--- each node of each function is of a kind that is built
-abbrev pub AreBuilt : Program → Type 0
-AreBuilt p = (f n : ℕ) (fn : Function) (info : NodeInfo) → slice_get p.functions f ≡ Some fn → slice_get fn.nodes n ≡ Some info → is_built info.node ≡ true
+-- What is built: each node of each function is of a kind that is, and no object of the program can be called or constructs.
+pub record AreBuilt (p : Program) : Type 0 where
+  pub nodes : (f n : ℕ) (fn : Function) (info : NodeInfo) → slice_get p.functions f ≡ Some fn → slice_get fn.nodes n ≡ Some info → is_built info.node ≡ true
+  pub uncalled : (s : ℕ) (info : SiteInfo) → slice_get p.sites s ≡ Some info → (info.calls ≡ None) × (info.constructs ≡ None)

@@ -4,19 +4,20 @@ use Rattle.std.proofs.Common.{refl, sym, subst, ap, arith, ◌∙◌}
 use Rattle.std.proofs.lemmas.Bool.{cond-true, eqb-true, not-false}
 use Rattle.ja_base.specs.declared.ids.Label.{Label}
 use Rattle.ja_graph.specs.declared.program.Program.{Program}
-use Rattle.ja_model.specs.declared.machine.Addr.{Addr}
-use Rattle.ja_model.specs.declared.machine.Property.{Property}
-use Rattle.ja_model.specs.declared.machine.Heap.{Heap}
+use Rattle.ja_machine.specs.declared.machine.Addr.{Addr}
+use Rattle.ja_machine.specs.declared.machine.Property.{Property}
+use Rattle.ja_machine.specs.declared.machine.Heap.{Heap}
+use Rattle.ja_machine.specs.Heap.{count, no_attrs}
+use Rattle.ja_machine.specs.Heap as heap
+use Rattle.ja_machine.specs.State.{IsObjectOf}
 use Rattle.ja_model.specs.declared.abstraction.AAttrs.{AAttrs}
 use Rattle.ja_model.specs.declared.abstraction.Key.{Key}
-use Rattle.ja_model.specs.Heap.{count, no_attrs}
-use Rattle.ja_model.specs.Heap as heap
 use Rattle.ja_model.specs.AbstractValue.{unknown_attrs, of_attrs}
 use Rattle.ja_model.specs.AbstractState.{same_key}
 use Rattle.ja_model.specs.Meaning.{label_of, named, key_of, allows_attrs}
 use Rattle.ja_model.specs.Reading.{View, demands_of, own, may_be_absent, may_be_present}
 use Rattle.ja_model.specs.Transfer.{written_attrs}
-use Rattle.ja_model.proofs.Interface.{IsObjectOf, IsFilled, IsRead}
+use Rattle.ja_model.proofs.Interface.{IsFilled, IsRead}
 use Rattle.ja_model.proofs.Parts.{allows_attrs-known}
 use Rattle.ja_model.proofs.Values.{allows_attrs-join_left, allows_attrs-join_right}
 use Rattle.ja_model.proofs.Walks.{may_be_absent-own, may_be_present-own, knows-own}

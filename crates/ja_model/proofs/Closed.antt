@@ -11,18 +11,19 @@ use Rattle.ja_graph.specs.declared.node.NodeInfo.{NodeInfo}
 use Rattle.ja_graph.specs.declared.node.Node.{Node}
 use Rattle.ja_graph.specs.declared.program.Program.{Program}
 use Rattle.ja_graph.specs.Program.{node_at}
+use Rattle.ja_machine.specs.declared.machine.Value.TheVariants as value
+use Rattle.ja_machine.specs.declared.machine.Value.{Value}
+use Rattle.ja_machine.specs.declared.machine.Heap.{Heap}
+use Rattle.ja_machine.specs.declared.machine.Frame.{Frame}
+use Rattle.ja_machine.specs.Machine.{program_function}
+use Rattle.ja_machine.proofs.Lists.{is_some_from}
 use Rattle.ja_model.specs.declared.abstraction.Key.{Key}
 use Rattle.ja_model.specs.declared.abstraction.Flags.{Flags}
 use Rattle.ja_model.specs.declared.abstraction.Mask.{Mask}
 use Rattle.ja_prim.specs.declared.primitive.Num.TheVariants.{NaN, Whole}
 use Rattle.ja_prim.specs.declared.primitive.Primitive.{Primitive}
 use Rattle.ja_prim.specs.declared.primitive.Primitive.TheVariants as primitive
-use Rattle.ja_model.specs.declared.machine.Value.TheVariants as value
-use Rattle.ja_model.specs.declared.machine.Value.{Value}
-use Rattle.ja_model.specs.declared.machine.Heap.{Heap}
-use Rattle.ja_model.specs.declared.machine.Frame.{Frame}
 use Rattle.ja_model.specs.declared.table.Item.TheVariants.{Open, Step}
-use Rattle.ja_model.specs.Machine.{program_function}
 use Rattle.ja_model.specs.AbstractValue.{AbstractValue, AbstractProperty, join_properties}
 use Rattle.ja_model.specs.AbstractState.{AbstractState, join_states}
 use Rattle.ja_model.specs.Reading.{Entries}
@@ -30,7 +31,7 @@ use Rattle.ja_model.specs.Transfer.{Out, transfer, transfer_node, view_of}
 use Rattle.ja_model.specs.Meaning.{SpotContent, missing, held, present, present_row, has_primitive, has_value, allows_attrs, LeqValue, LeqProperty, Holds, content, knows, label_of, key_of, LeqState, opened}
 use Rattle.ja_model.specs.Table.{Table, root, with_demands, joined_state, with_state, with_states, with_out, visit_step, IsClosed}
 use Rattle.ja_model.proofs.Interface.{IsFilled}
-use Rattle.ja_model.proofs.Lists.{Member, is_some_from}
+use Rattle.ja_model.proofs.Lists.{Member}
 use Rattle.ja_model.proofs.Values.{allows_attrs-join_left, has_value-join_left, has_value-join_right, knows-join_left, knows-join_right}
 
 -- whatever the first state holds of, the second does

@@ -15,24 +15,27 @@ use Rattle.ja_graph.specs.declared.attrs.Attrs.{Attrs}
 use Rattle.ja_graph.specs.declared.program.PropertySpec.{PropertySpec}
 use Rattle.ja_graph.specs.declared.program.Program.{Program}
 use Rattle.ja_graph.specs.WellFormed.{IsWellFormed, IsName}
+use Rattle.ja_machine.specs.declared.machine.Addr.{Addr}
+use Rattle.ja_machine.specs.declared.machine.Value.{Value}
+use Rattle.ja_machine.specs.declared.machine.Value.TheVariants as value
+use Rattle.ja_machine.specs.declared.machine.Property.{Property}
+use Rattle.ja_machine.specs.declared.machine.Object.{Object}
+use Rattle.ja_machine.specs.declared.machine.Heap.{Heap}
+use Rattle.ja_machine.specs.Heap.{count, same_text}
+use Rattle.ja_machine.specs.Objects.{first_of}
+use Rattle.ja_machine.specs.Nodes.{name_text}
+use Rattle.ja_machine.specs.Machine.{opening_property, opening_object, opening_heap}
+use Rattle.ja_machine.specs.State.{IsObjectOf}
+use Rattle.ja_machine.proofs.Heaps
+use Rattle.ja_machine.proofs.Opening.{IsOpened, opened_at_address, count-opening}
 use Rattle.ja_model.specs.declared.abstraction.Slot.{Slot}
 use Rattle.ja_model.specs.declared.abstraction.Key.{Key}
 use Rattle.ja_model.specs.declared.abstraction.Key.TheVariants as key
-use Rattle.ja_model.specs.declared.machine.Addr.{Addr}
-use Rattle.ja_model.specs.declared.machine.Value.{Value}
-use Rattle.ja_model.specs.declared.machine.Value.TheVariants as value
-use Rattle.ja_model.specs.declared.machine.Property.{Property}
-use Rattle.ja_model.specs.declared.machine.Object.{Object}
-use Rattle.ja_model.specs.declared.machine.Heap.{Heap}
-use Rattle.ja_model.specs.Heap.{count, same_text}
-use Rattle.ja_model.specs.Machine.{name_text, first_of, opening_property, opening_object, opening_heap}
 use Rattle.ja_model.specs.AbstractValue.{AbstractProperty, join_properties, no_property, of_primitive, of_attrs}
 use Rattle.ja_model.specs.AbstractState.{name_key}
 use Rattle.ja_model.specs.Reading.{Entries}
 use Rattle.ja_model.specs.Meaning.{SpotContent, missing, held, present, present_row, Spot, named, internal, content, property_content, label_of, name_of, key_of, has_primitive, has_value, allows, allows_attrs, knows, of_value, of_content, key_content, opened_at, opened, EntriesHold}
-use Rattle.ja_model.proofs.Interface.{IsObjectOf}
-use Rattle.ja_model.proofs.Heaps
-use Rattle.ja_model.proofs.Opening.{IsOpened, opened_at_address, count-opening}
+use Rattle.ja_model.proofs.Contents
 use Rattle.ja_model.proofs.Keys.{same_key-true, key_of-name}
 use Rattle.ja_model.proofs.Labels.{same_label-true, same_label-self}
 use Rattle.ja_model.proofs.Values.{and_three, knows-join_right}
@@ -47,7 +50,7 @@ of_primitive_has (primitive.Bool true) = refl
 of_primitive_has (primitive.Bool false) = refl
 of_primitive_has (primitive.Number NaN) = refl
 of_primitive_has (primitive.Number (Whole n)) = int_eq_equiv.refl n
-of_primitive_has (primitive.Text t) = Heaps.same_text_refl t
+of_primitive_has (primitive.Text t) = Contents.same_text_refl t
 
 of_value_has : (h : Heap) (v : Value) → IsTrue (has_value h (of_value h v) v)
 of_value_has h (value.Primitive q) = of_primitive_has q
@@ -84,7 +87,7 @@ no_slot_key (Some m) b s e = cc
 pub text_of_key : (p : Program) (t : List ℕ) (n : NameId) → key_of p (named t) ≡ key.Name n → name_text p n ≡ t
 text_of_key p t n e =
     let at : (n.0 < length p.names) × (same_text (get_or p.names n.0 []) t ≡ true) × ((k : ℕ) → k < n.0 → same_text (get_or p.names k []) t ≡ false) = position-Some (λ name. same_text name t) p.names n.0 [] (named_key (name_of p t) _ n e) in
-    unwrap_or-slice_get p.names n.0 [] ∙ Heaps.text_same _ t at.1
+    unwrap_or-slice_get p.names n.0 [] ∙ Contents.text_same _ t at.1
 
 -- .. in a program
 pub no_slot_of_text : (p : Program) (t : List ℕ) (s : Slot) → key_of p (named t) ≡ key.Slot s → ⊥
@@ -96,7 +99,7 @@ module _ (p : Program) (good : IsWellFormed p) where
   none_named [] t names other = refl
   none_named (q ∷ qs) t names other =
       elim (cases_Bool (same_text (name_text p q.name) t)) [
-        | inl e ↦ absurd (other q.name (subst (λ u. key_of p (named u) ≡ key.Name q.name) (Heaps.text_same _ t e) (key_of-name p good q.name (names 0 q refl))))
+        | inl e ↦ absurd (other q.name (subst (λ u. key_of p (named u) ≡ key.Name q.name) (Contents.text_same _ t e) (key_of-name p good q.name (names 0 q refl))))
         | inr e ↦ ap property_content (cond-false _ _ _ e) ∙ none_named qs t (λ j r k. names (suc j) r k) other
       ]
 
@@ -106,7 +109,7 @@ module _ (p : Program) (good : IsWellFormed p) where
   unnamed_missing : (a : Addr) (t : List ℕ) → IsObjectOf (opening_heap p) a → ((n : NameId) → key_of p (named t) ≡ key.Name n → ⊥) → content (opening_heap p) a (named t) ≡ missing
   unnamed_missing a t there other =
       let k : IsOpened p a = opened_at_address p good a there in
-      Heaps.content-at (opening_heap p) a (opening_object p k.spec) (named t) k.object_is ∙ none_named k.spec.properties t (good.objects _ k.spec k.spec_is).names other
+      Contents.content-at (opening_heap p) a (opening_object p k.spec) (named t) k.object_is ∙ none_named k.spec.properties t (good.objects _ k.spec k.spec_is).names other
 
   -- what the objects of a label have at a key is what they have at each text or slot of the key
   key_content_is : (a : Addr) (x : Spot) (k : Key) → IsObjectOf (opening_heap p) a → key_of p x ≡ k → key_content p a k ≡ content (opening_heap p) a x
@@ -124,7 +127,7 @@ module _ (p : Program) (good : IsWellFormed p) where
       let o : IsOpened p a = opened_at_address p good a there in
       let one : count (opening_heap p) a.site ≡ 1 = count-opening p good a.site o.site_fits in
       let zero_is : a.ordinal ≡ 0 = o.ordinal in
-      let is_new : (label_of (opening_heap p) a).old ≡ false = Heaps.label_is_new (opening_heap p) a (omega arith) in
+      let is_new : (label_of (opening_heap p) a).old ≡ false = Contents.label_is_new (opening_heap p) a (omega arith) in
       let first : first_of a.site ≡ a = Heaps.same_address (first_of a.site) a refl (sym zero_is) in
       let opened_is : opened p (label_of (opening_heap p) a) k ≡ of_content (opening_heap p) (content (opening_heap p) a x) =
       cond-false _ no_property (opened_at p k (first_of a.site)) is_new ∙ (ap (opened_at p k) first ∙ (ap (λ r. option_map_or (λ (q : Object). of_content (opening_heap p) (key_content p a k)) r no_property) o.object_is ∙ ap (of_content (opening_heap p)) (key_content_is a x k there e))) in

@@ -1,57 +1,48 @@
--- The frame of a run: what its registers hold, and that its result is kept by the state with a register set.
-use Rattle.std.proofs.Common.{◌≡◌, ◌≢◌, ◌⊎◌, ℕ, ◌<◌, List, [], ◌∷◌, length, Some, None, Option, inl, inr, refl, sym, ap, ◌∙◌, subst, length-set}
+-- The frame of the program: what its registers hold, and that its result is kept by the state with a register set.
+use Rattle.std.proofs.Common.{◌≡◌, ◌≢◌, ◌⊎◌, ℕ, ◌<◌, List, [], ◌∷◌, length, Some, None, Option, inl, inr, refl, sym, ap, ◌∙◌, subst}
 use Rattle.std.specs.Prelude.{IsTrue, slice_get, slice_set, unwrap_or, ◌==◌}
 use Rattle.std.proofs.lemmas.Option.{same_Some}
 use Rattle.std.proofs.lemmas.Bool.{cases_eq, eq-eqb, ne_eqb, cond-true, cond-false}
+use Rattle.ja_base.specs.declared.ids.FnId.{FnId}
 use Rattle.ja_base.specs.declared.ids.Reg.{Reg}
 use Rattle.ja_base.specs.declared.ids.NodeId.{NodeId}
 use Rattle.ja_graph.specs.declared.program.Function.{Function}
 use Rattle.ja_graph.specs.declared.program.Program.{Program}
 use Rattle.ja_graph.specs.Program.{global}
-use Rattle.ja_model.specs.declared.machine.Value.{Value}
-use Rattle.ja_model.specs.declared.machine.Heap.{Heap}
-use Rattle.ja_model.specs.declared.machine.Frame.{Frame}
-use Rattle.ja_model.specs.declared.machine.Conf.{Conf}
-use Rattle.ja_model.specs.declared.machine.Event.{Event}
-use Rattle.ja_model.specs.declared.machine.Event.TheVariants as event
-use Rattle.ja_model.specs.Machine.{first_of, program_function, opening_heap, register_of, undefined, with_result, moved_to}
+use Rattle.ja_graph.specs.WellFormed.{IsWellFormed}
+use Rattle.ja_machine.specs.declared.machine.Value.{Value}
+use Rattle.ja_machine.specs.declared.machine.Heap.{Heap}
+use Rattle.ja_machine.specs.declared.machine.Frame.{Frame}
+use Rattle.ja_machine.specs.declared.machine.Conf.{Conf}
+use Rattle.ja_machine.specs.declared.machine.Event.{Event}
+use Rattle.ja_machine.specs.declared.machine.Event.TheVariants as event
+use Rattle.ja_machine.specs.Frames.{register_of, undefined, with_result}
+use Rattle.ja_machine.specs.Objects.{first_of}
+use Rattle.ja_machine.specs.Machine.{program_function, opening_heap}
+use Rattle.ja_machine.specs.State.{IsValueOf, IsFrame, AreFrames, IsState}
+use Rattle.ja_machine.proofs.Lists.{slice_get-set_same, slice_get-set_other, slice_get_some}
 use Rattle.ja_model.specs.AbstractValue.{AbstractValue}
 use Rattle.ja_model.specs.AbstractState.{AbstractState, with_register}
 use Rattle.ja_model.specs.Meaning.{Holds, has_value}
 use Rattle.ja_model.specs.Table.{Table, root}
-use Rattle.ja_model.proofs.Interface.{IsValueOf}
-use Rattle.ja_model.proofs.Lists.{slice_get-set_same, slice_get-set_other, slice_get_some}
-use Rattle.ja_model.proofs.Growing.{IsRunHeap}
 use Rattle.ja_model.proofs.Closed.{HasWithin}
 
--- the program's frame: where it came from and stands, its registers, and that they hold values of the heap
-pub record IsRunFrame (p : Program) (text : Function) (h : Heap) (f : Frame) : Type 0 where
-  pub function_is : f.function ≡ program_function
-  pub node_fits : f.node.0 < length text.nodes
-  pub born_is : f.born ≡ 0
-  pub receiver_is : f.receiver ≡ first_of global
-  pub registers_are : length f.registers ≡ text.registers
-  pub values : (r : ℕ) (v : Value) → slice_get f.registers r ≡ Some v → IsValueOf h v
+-- the frame is the one with which a run begins, at some node
+abbrev pub IsProgramFrame : Frame → Type 0
+IsProgramFrame f = (f.function ≡ program_function) × (f.born ≡ 0) × (f.receiver ≡ first_of global)
 
--- a state of a run: its heap and its frame are as they should be
-pub record IsRun (p : Program) (text : Function) (c : Conf) : Type 0 where
-  pub frame : Frame
-  pub frames_are : c.frames ≡ frame ∷ []
-  pub run_heap : IsRunHeap p c.heap
-  pub run_frame : IsRunFrame p text c.heap frame
-
--- the table's state at its node holds
+-- the state has no other frame, and the table's state at its node holds
 pub record IsHeld (p : Program) (t : Table) (c : Conf) : Type 0 where
   pub frame : Frame
   pub frames_are : c.frames ≡ frame ∷ []
+  pub program_frame : IsProgramFrame frame
   pub state : AbstractState
   pub state_is : t.state root frame.node.0 ≡ Some state
   pub holds : Holds p (opening_heap p) c.heap frame state
 
--- the frame of the state is one of a run
-pub run_frame_of : (p : Program) (text : Function) (c : Conf) → IsRun p text c → (f : Frame) → c.frames ≡ f ∷ [] → IsRunFrame p text c.heap f
-run_frame_of p text c run f e =
-    subst (λ g. IsRunFrame p text c.heap g) (same_Some run.frame f (ap (λ (fs : List Frame). slice_get fs 0) (sym run.frames_are ∙ e))) run.run_frame
+-- the only frame of a state
+pub frame_of : (p : Program) (c : Conf) (f : Frame) → IsState p c → c.frames ≡ f ∷ [] → IsFrame p c.heap f
+frame_of p c f known e = let frames : AreFrames p c.heap (f ∷ []) = subst (λ fs. AreFrames p c.heap fs) e known.frames in frames.0
 
 -- of the state that an event leads to
 abbrev pub OnNext : (Conf → Type 0) → Event → Type 0
@@ -64,10 +55,11 @@ OnStep P None = Unit {0}
 OnStep P (Some e) = OnNext P e
 
 -- a state that is held from its parts
-pub held_next : (p : Program) (t : Table) (h : Heap) (f : Frame) (steps : ℕ) (b : AbstractState) → HasWithin p t f.node.0 b → Holds p (opening_heap p) h f b → IsHeld p t (record { heap = h; frames = f ∷ []; steps = steps })
-held_next p t h f steps b has holds = record {
+pub held_next : (p : Program) (t : Table) (h : Heap) (f : Frame) (steps : ℕ) (b : AbstractState) → IsProgramFrame f → HasWithin p t f.node.0 b → Holds p (opening_heap p) h f b → IsHeld p t (record { heap = h; frames = f ∷ []; steps = steps })
+held_next p t h f steps b program_frame has holds = record {
   frame = f;
   frames_are = refl;
+  program_frame = program_frame;
   state = has.state;
   state_is = has.state_is;
   holds = has.within.holds (opening_heap p) h f holds;
@@ -84,8 +76,14 @@ pub register_has : (p : Program) (e h : Heap) (f : Frame) (a : AbstractState) (r
 register_has p e h f a r holds l = holds.registers r.0 (register_of f r) (register_held f r l)
 
 -- .. and which is one of the heap
-pub register_of_heap : (p : Program) (text : Function) (h : Heap) (f : Frame) (r : Reg) → IsRunFrame p text h f → r.0 < length f.registers → IsValueOf h (register_of f r)
-register_of_heap p text h f r k l = k.values r.0 (register_of f r) (register_held f r l)
+pub register_of_heap : (p : Program) (h : Heap) (f : Frame) (r : Reg) → IsFrame p h f → r.0 < length f.registers → IsValueOf h (register_of f r)
+register_of_heap p h f r k l = k.values r.0 (register_of f r) (register_held f r l)
+
+-- the frame of the program has the registers of the program's text
+pub registers_are : (p : Program) (good : IsWellFormed p) (h : Heap) (f : Frame) → IsFrame p h f → f.function ≡ program_function → length f.registers ≡ good.text.registers
+registers_are p good h f k function_is =
+    let same : k.function ≡ good.text = same_Some _ _ (sym k.function_is ∙ (ap (λ (g : FnId). slice_get p.functions g.0) function_is ∙ good.text_is)) in
+    k.registers ∙ ap (λ (fn : Function). fn.registers) same
 
 -- what a register holds after a write
 pub written_cases : (registers : List Value) (d r : ℕ) (v u : Value) → d < length registers → slice_get (slice_set registers d v) r ≡ Some u → ((r ≡ d) × (v ≡ u)) ⊎ ((r ≢ d) × (slice_get registers r ≡ Some u))
@@ -94,29 +92,6 @@ written_cases registers d r v u l e =
       | inl f ↦ inl (f, same_Some v u (sym (slice_get-set_same registers d v l) ∙ (ap (slice_get (slice_set registers d v)) (sym f) ∙ e)))
       | inr f ↦ inr (f, sym (slice_get-set_other registers d r v f) ∙ e)
     ]
-
-module _ (p : Program) (text : Function) (h now : Heap) (f : Frame) (stays : (v : Value) → IsValueOf h v → IsValueOf now v) (k : IsRunFrame p text h f) where
-  -- the frame goes on with a result
-  pub IsRunFrame-with_result : (dst : Reg) (v : Value) (next : NodeId) → next.0 < length text.nodes → dst.0 < length f.registers → IsValueOf now v → IsRunFrame p text now (with_result f dst v next)
-  IsRunFrame-with_result dst v next fits l o = record {
-    function_is = k.function_is;
-    node_fits = fits;
-    born_is = k.born_is;
-    receiver_is = k.receiver_is;
-    registers_are = length-set f.registers dst.0 v ∙ k.registers_are;
-    values = λ r u e. elim (written_cases f.registers dst.0 r v u l e) [ inl g ↦ subst (λ w. IsValueOf now w) g.1 o | inr g ↦ stays u (k.values r u g.1) ];
-  }
-
-  -- .. or without one
-  pub IsRunFrame-moved : (next : NodeId) → next.0 < length text.nodes → IsRunFrame p text now (moved_to f next)
-  IsRunFrame-moved next fits = record {
-    function_is = k.function_is;
-    node_fits = fits;
-    born_is = k.born_is;
-    receiver_is = k.receiver_is;
-    registers_are = k.registers_are;
-    values = λ r u e. stays u (k.values r u e);
-  }
 
 -- the register has its value in the state with that register set, and the others theirs
 pub registers_with_result : (h : Heap) (f : Frame) (a : AbstractState) (dst : Reg) (v : Value) (u : AbstractValue) → dst.0 < length f.registers → IsTrue (has_value h u v) → ((r : ℕ) (w : Value) → slice_get f.registers r ≡ Some w → IsTrue (has_value h (a.register r) w)) → (r : ℕ) (w : Value) → slice_get (slice_set f.registers dst.0 v) r ≡ Some w → IsTrue (has_value h ((with_register a dst u).register r) w)

@@ -1,44 +1,23 @@
--- What is known of the heaps of a run, and of an abstract state at a moment of it.
-use Rattle.std.specs.Prelude.{◌≡◌, ◌⊎◌, ◌<◌, ◌≤◌, ℕ, length, IsTrue, Some, IsSome}
+-- What is known of an abstract state at a moment of a run.
+use Rattle.std.specs.Prelude.{◌≡◌, ◌⊎◌, ◌<◌, ◌≤◌, IsTrue, IsSome}
 use Rattle.ja_base.specs.declared.ids.Label.{Label}
 use Rattle.ja_base.specs.declared.ids.Site.{Site}
 use Rattle.ja_graph.specs.declared.program.Program.{Program}
+use Rattle.ja_machine.specs.declared.machine.Addr.{Addr}
+use Rattle.ja_machine.specs.declared.machine.Heap.{Heap}
+use Rattle.ja_machine.specs.Heap.{count}
+use Rattle.ja_machine.specs.State.{IsHeap, IsObjectOf, IsValueOf}
 use Rattle.ja_model.specs.declared.abstraction.Key.{Key}
-use Rattle.ja_model.specs.declared.machine.Addr.{Addr}
-use Rattle.ja_model.specs.declared.machine.Value.{Value}
-use Rattle.ja_model.specs.declared.machine.Value.TheVariants as value
-use Rattle.ja_model.specs.declared.machine.Object.{Object}
-use Rattle.ja_model.specs.declared.machine.Heap.{Heap}
-use Rattle.ja_model.specs.Heap.{count, size, object_at, prototype_of, outer_of}
 use Rattle.ja_model.specs.Meaning.{SpotContent, missing, held, present, present_row, Spot, content, label_of, key_of, knows, IsAsAtEntry, EntriesHold}
 use Rattle.ja_model.specs.AbstractState.{labels_of}
 use Rattle.ja_model.specs.Reading.{View, Demands, Entries}
 
--- an object of the heap
-abbrev pub IsObjectOf : Heap → Addr → Type 0
-IsObjectOf h a = IsSome (object_at h a)
-
--- a value is a primitive or an object of the heap
-abbrev pub IsValueOf : Heap → Value → Type 0
-IsValueOf h (value.Primitive q) = Unit {0}
-IsValueOf h (value.Object a) = IsObjectOf h a
-
--- a content's value is one of the heap
-abbrev pub IsContentOf : Heap → SpotContent → Type 0
-IsContentOf h missing = Unit {0}
-IsContentOf h (held v) = IsValueOf h v
-IsContentOf h (present v attrs) = IsValueOf h v
-IsContentOf h (present_row attrs) = Unit {0}
-
--- Each object holds values of the heap. The prototype and the outer object of an object were made before it; its rank is
--- how many objects were.
-pub record IsHeap (p : Program) (h : Heap) : Type 0 where
-  pub sites : (a : Addr) → IsObjectOf h a → a.site.0 < length p.sites
-  pub inside : (a : Addr) (x : Spot) → IsContentOf h (content h a x)
-  pub rank : Addr → ℕ
-  pub ranked : (a : Addr) → IsObjectOf h a → rank a < size h
-  pub prototype_before : (a b : Addr) (o : Object) → object_at h a ≡ Some o → prototype_of o ≡ Some b → IsObjectOf h b × (rank b < rank a)
-  pub outer_before : (a b : Addr) (o : Object) → object_at h a ≡ Some o → outer_of o ≡ Some b → IsObjectOf h b × (rank b < rank a)
+-- what a spot has is of the heap
+abbrev pub IsOfHeap : Heap → SpotContent → Type 0
+IsOfHeap h missing = Unit {0}
+IsOfHeap h (held v) = IsValueOf h v
+IsOfHeap h (present v attrs) = IsValueOf h v
+IsOfHeap h (present_row attrs) = Unit {0}
 
 -- no object goes: each object of the first heap is one of the second
 abbrev pub Grows : Heap → Heap → Type 0

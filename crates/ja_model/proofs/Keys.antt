@@ -10,10 +10,10 @@ use lib.Pointwise.{pointwise, bytes_decides}
 use Rattle.ja_base.specs.declared.ids.NameId.{NameId}
 use Rattle.ja_graph.specs.declared.program.Program.{Program}
 use Rattle.ja_graph.specs.WellFormed.{IsWellFormed}
+use Rattle.ja_machine.specs.Nodes.{name_text}
 use Rattle.ja_model.specs.declared.abstraction.Slot.TheVariants as slot
 use Rattle.ja_model.specs.declared.abstraction.Key.{Key}
 use Rattle.ja_model.specs.declared.abstraction.Key.TheVariants as key
-use Rattle.ja_model.specs.Machine.{name_text}
 use Rattle.ja_model.specs.AbstractState.{key_number, same_key, name_key}
 use Rattle.ja_model.specs.Meaning.{named, name_of, rest_key, key_of}
 

@@ -13,39 +13,42 @@ use Rattle.ja_prim.specs.declared.primitive.Primitive.TheVariants as primitive
 use Rattle.ja_graph.specs.declared.program.Program.{Program}
 use Rattle.ja_graph.specs.Program.{message}
 use Rattle.ja_graph.specs.WellFormed.{IsWellFormed}
+use Rattle.ja_machine.specs.declared.machine.Addr.{Addr}
+use Rattle.ja_machine.specs.declared.machine.Value.{Value}
+use Rattle.ja_machine.specs.declared.machine.Value.TheVariants as value
+use Rattle.ja_machine.specs.declared.machine.Object.{Object}
+use Rattle.ja_machine.specs.declared.machine.Heap.{Heap}
+use Rattle.ja_machine.specs.declared.machine.Frame.{Frame}
+use Rattle.ja_machine.specs.Heap.{count, with_new, new_address, same_text, no_attrs}
+use Rattle.ja_machine.specs.Frames.{thrown, with_result}
+use Rattle.ja_machine.specs.Objects.{first_of, property_with, error_object}
+use Rattle.ja_machine.specs.Nodes.{name_text}
+use Rattle.ja_machine.specs.State.{IsHeap, IsObjectOf, IsValueOf}
+use Rattle.ja_machine.proofs.Heaps
 use Rattle.ja_model.specs.declared.abstraction.Mask.{Mask}
 use Rattle.ja_model.specs.declared.abstraction.Slot.TheVariants as slot
 use Rattle.ja_model.specs.declared.abstraction.Key.{Key}
 use Rattle.ja_model.specs.declared.abstraction.Key.TheVariants as key
-use Rattle.ja_model.specs.declared.machine.Addr.{Addr}
-use Rattle.ja_model.specs.declared.machine.Value.{Value}
-use Rattle.ja_model.specs.declared.machine.Value.TheVariants as value
-use Rattle.ja_model.specs.declared.machine.Content.TheVariants as contents
-use Rattle.ja_model.specs.declared.machine.Object.{Object}
-use Rattle.ja_model.specs.declared.machine.Heap.{Heap}
-use Rattle.ja_model.specs.declared.machine.Frame.{Frame}
-use Rattle.ja_model.specs.Heap.{count, with_new, new_address, same_text, no_attrs}
 use Rattle.std.proofs.lemmas.Option.{slice_get_within}
-use Rattle.ja_model.specs.Machine.{name_text, first_of, error_object, thrown, with_result}
 use Rattle.ja_model.specs.AbstractValue.{AbstractValue, AbstractProperty, join_properties, same_label, of_label, bare, absent_property}
 use Rattle.ja_model.specs.AbstractState.{AbstractState, new, old, same_key, with_property, aged, aged_property, made_property, with_made, exactly_some}
 use Rattle.ja_model.specs.Reading.{prototype}
 use Rattle.ja_model.specs.Transfer.{message_property, with_error}
 use Rattle.ja_model.specs.Meaning.{property_content, SpotContent, missing, held, present, present_row, Spot, named, internal, content, object_content, label_of, key_of, has_primitive, has_value, knows, allows_attrs, Holds, IsAsAtEntry}
-use Rattle.ja_model.proofs.Interface.{IsObjectOf, IsValueOf, IsContentOf, Grows}
-use Rattle.ja_model.proofs.Heaps
+use Rattle.ja_model.proofs.Inside.{inside}
+use Rattle.ja_model.proofs.Interface.{IsOfHeap, Grows}
+use Rattle.ja_model.proofs.Contents
 use Rattle.ja_model.proofs.Nodes.{message_is}
 use Rattle.ja_model.proofs.Keys.{same_key-true, key_of-name}
 use Rattle.ja_model.proofs.Labels.{same_label-self, same_label_from}
 use Rattle.ja_model.proofs.Values.{knows-join_left, knows-join_right}
 use Rattle.ja_model.proofs.Entered.{of_primitive_has, of_attrs_allows, text_of_key, no_slot_of_text}
-use Rattle.ja_model.proofs.Growing.{IsRunHeap}
 use Rattle.ja_model.proofs.Frames.{registers_with_result}
 
 -- a label of a site is the new one or the old one
 label_parts : (l : Label) (s : Site) → l.site.0 ≡ s.0 → (l ≡ old s) ⊎ (l ≡ new s)
 label_parts l s e =
-    elim (cases_Bool l.old) [ inl o ↦ inl (Heaps.same_parts l (old s) e o) | inr o ↦ inr (Heaps.same_parts l (new s) e o) ]
+    elim (cases_Bool l.old) [ inl o ↦ inl (Contents.same_parts l (old s) e o) | inr o ↦ inr (Contents.same_parts l (new s) e o) ]
 
 -- labels of other sites are not the same
 other_site : (l m : Label) → l.site.0 ≢ m.site.0 → same_label l m ≡ false
@@ -74,12 +77,12 @@ module _ (h : Heap) (s : Site) (o : Object) (row : s.0 < length h.objects) where
   aged_has_object v b there e =
       elim (cases_eq b.site.0 s.0) [
         | inl f ↦
-            subst (λ l. IsTrue ((aged s v).label l)) (sym (Heaps.label-with_new_aged h s o row b there f)) (aged_at s v ∙ elim (label_parts (label_of h b) s f) [
+            subst (λ l. IsTrue ((aged s v).label l)) (sym (Contents.label-with_new_aged h s o row b there f)) (aged_at s v ∙ elim (label_parts (label_of h b) s f) [
               | inl g ↦ or_left _ _ (subst (λ l. IsTrue (v.label l)) g e)
               | inr g ↦ or_right _ _ (subst (λ l. IsTrue (v.label l)) g e)
             ])
         | inr ne ↦
-            subst (λ l. IsTrue ((aged s v).label l)) (sym (Heaps.label-with_new_other h s o row b ne)) (aged_other s v (label_of h b) ne ∙ e)
+            subst (λ l. IsTrue ((aged s v).label l)) (sym (Contents.label-with_new_other h s o row b ne)) (aged_other s v (label_of h b) ne ∙ e)
       ]
 
   -- a value's parts are kept, with the labels that they have now
@@ -87,7 +90,7 @@ module _ (h : Heap) (s : Site) (o : Object) (row : s.0 < length h.objects) where
   aged_has v (value.Primitive q) there e = aged_has_primitive v q e
   aged_has v (value.Object b) there e = aged_has_object v b there e
 
-  aged_knows : (q : AbstractProperty) (c : SpotContent) → IsContentOf h c → IsTrue (knows h q c) → IsTrue (knows (with_new h s o) (aged_property s q) c)
+  aged_knows : (q : AbstractProperty) (c : SpotContent) → IsOfHeap h c → IsTrue (knows h q c) → IsTrue (knows (with_new h s o) (aged_property s q) c)
   aged_knows q missing there e = e
   aged_knows q (held v) there e = aged_has q.value v there e
   aged_knows q (present v attrs) there e =
@@ -109,11 +112,11 @@ pub join_tells_right : (e c : Heap) (b : Addr) (x : Spot) (q r : AbstractPropert
 join_tells_right e c b x q r (inl k) = inl (knows-join_right c q r (content c b x) k)
 join_tells_right e c b x q r (inr k) = inr (or_right _ _ k.0, k.1)
 
-module _ (p : Program) (e h : Heap) (s : Site) (o : Object) (row : s.0 < length h.objects) (a : AbstractState) (f : Frame) (grown : Grows e h) (inside : (b : Addr) (x : Spot) → IsContentOf h (content h b x)) (holds : Holds p e h f a) where
+module _ (p : Program) (e h : Heap) (s : Site) (o : Object) (row : s.0 < length h.objects) (a : AbstractState) (f : Frame) (grown : Grows e h) (of_heap : (b : Addr) (x : Spot) → IsOfHeap h (content h b x)) (holds : Holds p e h f a) where
   -- from what is told before to what is told after
   aged_tells : (b : Addr) (x : Spot) (q : AbstractProperty) → IsObjectOf h b → Tells e h b x q → Tells e (with_new h s o) b x (aged_property s q)
-  aged_tells b x q there (inl k) = inl (subst (λ c. IsTrue (knows (with_new h s o) (aged_property s q) c)) (sym (Heaps.content-with_new_old h s o row b x there)) (aged_knows h s o row q (content h b x) (inside b x) k))
-  aged_tells b x q there (inr k) = inr (k.0, record { there = k.1.there; same = Heaps.content-with_new_old h s o row b x there ∙ k.1.same })
+  aged_tells b x q there (inl k) = inl (subst (λ c. IsTrue (knows (with_new h s o) (aged_property s q) c)) (sym (Contents.content-with_new_old h s o row b x there)) (aged_knows h s o row q (content h b x) (of_heap b x) k))
+  aged_tells b x q there (inr k) = inr (k.0, record { there = k.1.there; same = Contents.content-with_new_old h s o row b x there ∙ k.1.same })
 
   made_at_old : (k : Key) → made_property a s (old s) k ≡ join_properties (aged_property s (a.property (old s) k)) (aged_property s (a.property (new s) k))
   made_at_old k = cond-false _ _ _ (new_not_old s s) ∙ cond-true _ _ _ (same_label-self (old s))
@@ -127,12 +130,12 @@ module _ (p : Program) (e h : Heap) (s : Site) (o : Object) (row : s.0 < length 
       let before : Tells e h b x (a.property (label_of h b) (key_of p x)) = holds.objects b x there in
       elim (cases_eq b.site.0 s.0) [
         | inl g ↦
-            subst (λ l. Tells e (with_new h s o) b x (made_property a s l (key_of p x))) (sym (Heaps.label-with_new_aged h s o row b there g)) (subst (λ q. Tells e (with_new h s o) b x q) (sym (made_at_old (key_of p x))) (elim (label_parts (label_of h b) s g) [
+            subst (λ l. Tells e (with_new h s o) b x (made_property a s l (key_of p x))) (sym (Contents.label-with_new_aged h s o row b there g)) (subst (λ q. Tells e (with_new h s o) b x q) (sym (made_at_old (key_of p x))) (elim (label_parts (label_of h b) s g) [
               | inl i ↦ join_tells_left e (with_new h s o) b x (aged_property s (a.property (old s) (key_of p x))) (aged_property s (a.property (new s) (key_of p x))) (aged_tells b x (a.property (old s) (key_of p x)) there (subst (λ l. Tells e h b x (a.property l (key_of p x))) i before))
               | inr i ↦ join_tells_right e (with_new h s o) b x (aged_property s (a.property (old s) (key_of p x))) (aged_property s (a.property (new s) (key_of p x))) (aged_tells b x (a.property (new s) (key_of p x)) there (subst (λ l. Tells e h b x (a.property l (key_of p x))) i before))
             ]))
         | inr ne ↦
-            subst (λ l. Tells e (with_new h s o) b x (made_property a s l (key_of p x))) (sym (Heaps.label-with_new_other h s o row b ne)) (subst (λ q. Tells e (with_new h s o) b x q) (sym (made_at_other (label_of h b) (key_of p x) ne)) (aged_tells b x (a.property (label_of h b) (key_of p x)) there before))
+            subst (λ l. Tells e (with_new h s o) b x (made_property a s l (key_of p x))) (sym (Contents.label-with_new_other h s o row b ne)) (subst (λ q. Tells e (with_new h s o) b x q) (sym (made_at_other (label_of h b) (key_of p x) ne)) (aged_tells b x (a.property (label_of h b) (key_of p x)) there before))
       ]
 
   -- the masks after it
@@ -163,13 +166,13 @@ module _ (p : Program) (e h : Heap) (s : Site) (o : Object) (row : s.0 < length 
   pub old_not_new : (b : Addr) → IsObjectOf h b → same_label (new s) (label_of (with_new h s o) b) ≡ false
   old_not_new b there =
       elim (cases_eq b.site.0 s.0) [
-        | inl g ↦ ap (same_label (new s)) (Heaps.label-with_new_aged h s o row b there g) ∙ new_not_old s s
+        | inl g ↦ ap (same_label (new s)) (Contents.label-with_new_aged h s o row b there g) ∙ new_not_old s s
         | inr ne ↦ other_site (new s) (label_of (with_new h s o) b) (λ g. ne (sym g))
       ]
 
 -- ---- an error that is made and thrown
 
-module _ (p : Program) (good : IsWellFormed p) (e h : Heap) (s proto : Site) (text : List ℕ) (a : AbstractState) (f : Frame) (known : IsRunHeap p h) (node_site : length p.opening ≤ s.0) (in_range : s.0 < length p.sites) (first : proto.0 < length p.opening) where
+module _ (p : Program) (good : IsWellFormed p) (e h : Heap) (s proto : Site) (text : List ℕ) (a : AbstractState) (f : Frame) (known : IsHeap p h) (node_site : length p.opening ≤ s.0) (in_range : s.0 < length p.sites) (first : proto.0 < length p.opening) where
   error_state : AbstractState
   error_state = with_property (with_property (with_made a s) (new s) prototype (bare (of_label (new proto)))) (new s) (key.Name message) (message_property text)
 
@@ -207,9 +210,9 @@ module _ (p : Program) (good : IsWellFormed p) (e h : Heap) (s proto : Site) (te
   -- the prototype's label is as it was
   proto_label : new proto ≡ label_of now (first_of proto)
   proto_label =
-      let one : count h proto ≡ 1 = known.single proto first in
-      let is_new : (label_of h (first_of proto)).old ≡ false = Heaps.label_is_new h (first_of proto) (omega arith) in
-      sym (Heaps.label-with_new_other h s (error_object proto text) row (first_of proto) (λ g. let k : proto.0 ≡ s.0 = g in omega arith) ∙ Heaps.same_parts (label_of h (first_of proto)) (new proto) refl is_new)
+      let one : count h proto ≡ 1 = known.opening proto first in
+      let is_new : (label_of h (first_of proto)).old ≡ false = Contents.label_is_new h (first_of proto) (omega arith) in
+      sym (Contents.label-with_new_other h s (error_object proto text) row (first_of proto) (λ g. let k : proto.0 ≡ s.0 = g in omega arith) ∙ Contents.same_parts (label_of h (first_of proto)) (new proto) refl is_new)
 
   message_told : (u : List ℕ) → codes "message" ≡ u → IsTrue (knows now (error_state.property (new s) (key_of p (named u))) (object_content (error_object proto text) (named u)))
   message_told u e =
@@ -217,12 +220,12 @@ module _ (p : Program) (good : IsWellFormed p) (e h : Heap) (s proto : Site) (te
 
   other_told : (u : List ℕ) → same_text (codes "message") u ≡ false → IsTrue (knows now (error_state.property (new s) (key_of p (named u))) (object_content (error_object proto text) (named u)))
   other_told u ne =
-      subst (λ c. IsTrue (knows now (error_state.property (new s) (key_of p (named u))) (property_content c))) (sym (cond-false (same_text (codes "message") u) (Some (record { name = codes "message"; content = contents.Value (value.Primitive (primitive.Text text)); attrs = no_attrs })) None ne))
-      (none_told (key_of p (named u)) (false_from_ne_true _ (λ k. let t : codes "message" ≡ u = sym message_text ∙ text_of_key p u message (sym (same_key-true (key.Name message) _ k)) in false≢true (sym ne ∙ (ap (same_text (codes "message")) (sym t) ∙ Heaps.same_text_refl (codes "message"))))) (false_from_ne_true _ (λ k. no_slot_of_text p u slot.Prototype (sym (same_key-true prototype _ k)))))
+      subst (λ c. IsTrue (knows now (error_state.property (new s) (key_of p (named u))) (property_content c))) (sym (cond-false (same_text (codes "message") u) (Some (property_with (codes "message") (value.Primitive (primitive.Text text)) no_attrs)) None ne))
+      (none_told (key_of p (named u)) (false_from_ne_true _ (λ k. let t : codes "message" ≡ u = sym message_text ∙ text_of_key p u message (sym (same_key-true (key.Name message) _ k)) in false≢true (sym ne ∙ (ap (same_text (codes "message")) (sym t) ∙ Contents.same_text_refl (codes "message"))))) (false_from_ne_true _ (λ k. no_slot_of_text p u slot.Prototype (sym (same_key-true prototype _ k)))))
 
   -- what the new object has is told
   error_knows : (x : Spot) → IsTrue (knows now (error_state.property (new s) (key_of p x)) (object_content (error_object proto text) x))
-  error_knows (named u) = elim (cases_Bool (same_text (codes "message") u)) [ inl k ↦ message_told u (Heaps.text_same (codes "message") u k) | inr k ↦ other_told u k ]
+  error_knows (named u) = elim (cases_Bool (same_text (codes "message") u)) [ inl k ↦ message_told u (Contents.text_same (codes "message") u k) | inr k ↦ other_told u k ]
   error_knows (internal slot.Prototype) = subst (λ q. IsTrue (knows now q (held (value.Object (first_of proto))))) (sym property_prototype) (same_label_from (new proto) (label_of now (first_of proto)) proto_label)
   error_knows (internal slot.Outer) = none_told (key.Slot slot.Outer) refl refl
   error_knows (internal slot.Scope) = none_told (key.Slot slot.Scope) refl refl
@@ -232,16 +235,16 @@ module _ (p : Program) (good : IsWellFormed p) (e h : Heap) (s proto : Site) (te
     error_tells : (b : Addr) (x : Spot) → IsObjectOf now b → Tells e now b x (error_state.property (label_of now b) (key_of p x))
     error_tells b x there =
         elim (Heaps.old_or_new h s (error_object proto text) row b there) [
-          | inl k ↦ subst (λ q. Tells e now b x q) (sym (property_elsewhere (label_of now b) (key_of p x) (old_not_new p e h s (error_object proto text) row a f grown known.heap.inside holds b k))) (made_tells p e h s (error_object proto text) row a f grown known.heap.inside holds b x k)
-          | inr k ↦ subst (λ c. Tells e now c x (error_state.property (label_of now c) (key_of p x))) (sym k) (inl (subst (λ l. IsTrue (knows now (error_state.property l (key_of p x)) (content now (new_address h s) x))) (sym (Heaps.label-with_new_new h s (error_object proto text) row)) (subst (λ c. IsTrue (knows now (error_state.property (new s) (key_of p x)) c)) (sym (Heaps.content-with_new_new h s (error_object proto text) row x)) (error_knows x))))
+          | inl k ↦ subst (λ q. Tells e now b x q) (sym (property_elsewhere (label_of now b) (key_of p x) (old_not_new p e h s (error_object proto text) row a f grown (inside p h known) holds b k))) (made_tells p e h s (error_object proto text) row a f grown (inside p h known) holds b x k)
+          | inr k ↦ subst (λ c. Tells e now c x (error_state.property (label_of now c) (key_of p x))) (sym k) (inl (subst (λ l. IsTrue (knows now (error_state.property l (key_of p x)) (content now (new_address h s) x))) (sym (Contents.label-with_new_new h s (error_object proto text) row)) (subst (λ c. IsTrue (knows now (error_state.property (new s) (key_of p x)) c)) (sym (Contents.content-with_new_new h s (error_object proto text) row x)) (error_knows x))))
         ]
 
     -- the state with the error holds of the heap and the frame after the throw
     pub holds_with_error : (values : (r : ℕ) (v : Value) → slice_get f.registers r ≡ Some v → IsValueOf h v) (next : NodeId) → 0 < length f.registers → Holds p e now (with_result f thrown (value.Object (new_address h s)) next) (with_error a s proto text)
     unfolding error_state
     holds_with_error values next l = record {
-      registers = registers_with_result now f (with_made a s) thrown (value.Object (new_address h s)) (of_label (new s)) l (same_label_from (new s) _ (sym (Heaps.label-with_new_new h s (error_object proto text) row))) (λ r v k. aged_has h s (error_object proto text) row (a.register r) v (values r v k) (holds.registers r v k));
+      registers = registers_with_result now f (with_made a s) thrown (value.Object (new_address h s)) (of_label (new s)) l (same_label_from (new s) _ (sym (Contents.label-with_new_new h s (error_object proto text) row))) (λ r v k. aged_has h s (error_object proto text) row (a.register r) v (values r v k) (holds.registers r v k));
       objects = error_tells;
-      some = made_some p e h s (error_object proto text) row a f grown known.heap.inside holds;
-      none = made_none p e h s (error_object proto text) row a f grown known.heap.inside holds;
+      some = made_some p e h s (error_object proto text) row a f grown (inside p h known) holds;
+      none = made_none p e h s (error_object proto text) row a f grown (inside p h known) holds;
     }

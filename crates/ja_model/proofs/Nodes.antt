@@ -1,12 +1,13 @@
 -- The numbers of the nodes of a program are in range, and its built-in objects and names are there.
-use Rattle.std.proofs.Common.{◌≡◌, ℕ, zero, suc, ◌+◌, ◌-◌, ◌<◌, ◌≤◌, List, [], ◌∷◌, length, map, Some, inl, inr, refl, sym, ap, ◌∙◌, subst, arith}
+use Rattle.std.proofs.Common.{◌≡◌, ℕ, zero, suc, ◌<◌, List, [], ◌∷◌, length, Some, None, Option, true, refl, sym, ap, ◌∙◌, arith}
 use Rattle.std.specs.Prelude.{slice_get, take}
-use Rattle.std.specs.Option.{is_some, option_to_list}
-use Rattle.std.specs.List.{AllByRecursion, flat_map, range_with_len}
+use Rattle.std.specs.Option.{is_some, option_to_list, option_and_then, option_map_or}
+use Rattle.std.specs.List.{AllByRecursion}
 use Rattle.std.proofs.lemmas.Bool.{false≢true}
-use Rattle.std.proofs.lemmas.Option.{same_Some}
 use lib.Chars.{codes}
 use Rattle.ja_base.specs.declared.ids.NameId.{NameId}
+use Rattle.ja_base.specs.declared.ids.FnId.{FnId}
+use Rattle.ja_base.specs.declared.ids.NodeId.{NodeId}
 use Rattle.ja_base.specs.declared.ids.Reg.{Reg}
 use Rattle.ja_base.specs.declared.ids.Site.{Site}
 use Rattle.ja_graph.specs.declared.node.Args.{Args}
@@ -16,10 +17,17 @@ use Rattle.ja_graph.specs.declared.node.NodeInfo.{NodeInfo}
 use Rattle.ja_graph.specs.declared.program.Class.TheVariants as class
 use Rattle.ja_graph.specs.declared.program.Function.{Function}
 use Rattle.ja_graph.specs.declared.program.Program.{Program}
-use Rattle.ja_graph.specs.Node.{Making, register_set, registers_named, name_in, makings}
-use Rattle.ja_graph.specs.Program.{global, reference_error_prototype, type_error_prototype, message}
-use Rattle.ja_graph.specs.WellFormed.{IsWellFormed, IsNodeWellFormed, IsDestination, IsRegister, IsName, OwnedMaking, owned, makings_of, makings_from, builtin_names}
-use Rattle.ja_model.proofs.Lists.{Member, member-append_left, member-append_right}
+use Rattle.ja_graph.specs.declared.program.SiteInfo.{SiteInfo}
+use Rattle.ja_graph.specs.Kinds.{is_built, AreBuilt}
+use Rattle.ja_graph.specs.Node.{register_set, registers_named, name_in, makings}
+use Rattle.ja_graph.specs.Program.{node_at, global, reference_error_prototype, type_error_prototype, message}
+use Rattle.ja_graph.specs.WellFormed.{IsWellFormed, IsNodeWellFormed, IsDestination, IsRegister, IsName, StandsBefore, builtin_names}
+use Rattle.ja_machine.specs.declared.machine.Value.{Value}
+use Rattle.ja_machine.specs.declared.machine.Value.TheVariants as value
+use Rattle.ja_machine.specs.Calls.{function_called}
+use Rattle.ja_machine.specs.Machine.{program_function, class_of_site}
+use Rattle.ja_machine.proofs.Growing.{IsNodeSite}
+use Rattle.ja_machine.proofs.Nodes.{IsMade, node_makings}
 
 -- ---- the built-in objects and names
 
@@ -35,7 +43,13 @@ module _ (p : Program) (good : IsWellFormed p) where
   pub global_fits : global.0 < length p.opening
   global_fits = let (info, info_is, class_is, fits) = good.builtins global.0 class.Object refl in fits
 
-  -- .. and the prototypes of the errors that the machine makes
+  -- .. of class Object
+  pub global_class : class_of_site p global.0 ≡ class.Object
+  global_class =
+      let (info, info_is, class_is, fits) = good.builtins global.0 class.Object refl in
+      ap (λ o. option_map_or (λ (i : SiteInfo). i.class) o class.Object) info_is ∙ class_is
+
+  -- .. and so are the prototypes of the errors that the machine makes
   pub reference_error_fits : reference_error_prototype.0 < length p.opening
   reference_error_fits = let (info, info_is, class_is, fits) = good.builtins reference_error_prototype.0 class.Error refl in fits
 
@@ -47,58 +61,25 @@ module _ (p : Program) (good : IsWellFormed p) where
   pub message_is : slice_get p.names message.0 ≡ Some (codes "message")
   message_is = from_take (length builtin_names) p.names message.0 (codes "message") (ap (λ (xs : List (List ℕ)). slice_get xs message.0) good.names ∙ refl)
 
+-- a site that a link leads to has its object in the opening heap
+pub site_before : (p : Program) → IsWellFormed p → (i : ℕ) (s : Site) → StandsBefore p i s → s.0 < length p.opening
+site_before p good i s (j, q, before, at, site_is) = let fits : q.site.0 < length p.opening = (good.objects j q at).site in omega arith
+
 -- ---- the sites of nodes
 
--- a site of a node, behind those of the objects that are there when a run begins
-abbrev pub IsNodeSite : Program → Site → Type 0
-IsNodeSite p s = (length p.opening ≤ s.0) × (s.0 < length p.sites)
-
-member_range : (a n x : ℕ) → Member x (range_with_len a n) → (a ≤ x) × (x < a + n)
-member_range a zero x m = elim m [ ]
-member_range a (suc n) x (inl e) = (omega arith, omega arith)
-member_range a (suc n) x (inr m) = let (low, high) = member_range (a + 1) n x m in (omega arith, omega arith)
-
-member_map : {X Y : Type 0} (f : X → Y) (x : X) (xs : List X) → Member x xs → Member (f x) (map f xs)
-member_map f x [] m = elim m [ ]
-member_map f x (y ∷ ys) (inl e) = inl (ap f e)
-member_map f x (y ∷ ys) (inr m) = inr (member_map f x ys m)
-
-member_flat_map : {X Y : Type 0} (f : X → List Y) (xs : List X) (i : ℕ) (x : X) (y : Y) → slice_get xs i ≡ Some x → Member y (f x) → Member y (flat_map f xs)
-member_flat_map f [] i x y e m = absurd (false≢true (ap is_some e))
-member_flat_map f (z ∷ zs) zero x y e m = member-append_left y (f z) (flat_map f zs) (subst (λ u. Member y (f u)) (sym (same_Some z x e)) m)
-member_flat_map f (z ∷ zs) (suc i) x y e m = member-append_right y (f z) (flat_map f zs) (member_flat_map f zs i x y e m)
-
--- what a function's nodes make is among what all make, under the function's number
-member_makings : (f : ℕ) (fns : List Function) (i : ℕ) (fn : Function) (m : Making) → slice_get fns i ≡ Some fn → ((g : ℕ) → Member (owned g m) (makings_of g fn.nodes)) → (g : ℕ) × Member (owned g m) (makings_from f fns)
-member_makings f [] i fn m e h = absurd (false≢true (ap is_some e))
-member_makings f (x ∷ fns) zero fn m e h =
-    (f, member-append_left (owned f m) (makings_of f x.nodes) (makings_from (suc f) fns) (subst (λ (u : Function). Member (owned f m) (makings_of f u.nodes)) (sym (same_Some x fn e)) (h f)))
-member_makings f (x ∷ fns) (suc i) fn m e h =
-    let (g, among) = member_makings (suc f) fns i fn m e h in
-    (g, member-append_right (owned g m) (makings_of f x.nodes) (makings_from (suc f) fns) among)
-
--- each site of the node stands behind those of the objects that are there when a run begins
+-- the sites of a node stand behind those of the objects that are there when a run begins
 abbrev pub HasNodeSites : Program → Node → Type 0
-HasNodeSites p node = (m : Making) → Member m (makings node) → IsNodeSite p m.site
-
--- the sites of a program's node do
-pub node_sites : (p : Program) → IsWellFormed p → (f : ℕ) (fn : Function) (n : ℕ) (info : NodeInfo) → slice_get p.functions f ≡ Some fn → slice_get fn.nodes n ≡ Some info → HasNodeSites p info.node
-node_sites p good f fn n info fn_is info_is m among =
-    let (g, here) = member_makings 0 p.functions f fn m fn_is (λ g. member_flat_map (λ (i : NodeInfo). map (owned g) (makings i.node)) fn.nodes n info (owned g m) info_is (member_map (owned g) m (makings info.node) among)) in
-    let numbered : Member m.site.0 (range_with_len (length p.opening) (length p.sites - length p.opening)) = subst (λ xs. Member m.site.0 xs) good.numbered (member_map (λ (o : OwnedMaking). o.making.site.0) (owned g m) (makings_from 0 p.functions) here) in
-    let (low, high) = member_range (length p.opening) (length p.sites - length p.opening) m.site.0 numbered in
-    let all : length p.opening ≤ length p.sites = good.sites in
-    (low, omega arith)
+HasNodeSites p node = AllByRecursion (IsMade p) (makings node)
 
 -- the site of the error that a read throws
 pub read_site : (p : Program) (dst base : Reg) (name : NameId) (error : Site) → HasNodeSites p (ReadRef dst base name error) → IsNodeSite p error
 unfolding makings
-read_site p dst base name error sites = sites _ (inl refl)
+read_site p dst base name error sites = sites.0.site
 
 -- .. and of that of a call
 pub call_site : (p : Program) (dst callee receiver : Reg) (args : Args) (error : Site) → HasNodeSites p (Call dst callee receiver args error) → IsNodeSite p error
 unfolding makings
-call_site p dst callee receiver args error sites = sites _ (inl refl)
+call_site p dst callee receiver args error sites = sites.0.site
 
 -- ---- the other numbers of a node
 
@@ -125,3 +106,43 @@ by_kind p fn node sets named name = tt
 -- a well-formed node has its registers and its name in range
 pub node_in_range : (p : Program) (fn : Function) (info : NodeInfo) → IsNodeWellFormed p fn info → IsNodeInRange p fn info.node
 node_in_range p fn info known = by_kind p fn info.node known.sets known.names_registers known.name
+
+-- ---- the nodes of the program's text
+
+module _ (p : Program) (good : IsWellFormed p) (n : NodeId) (info : NodeInfo) (at : node_at p program_function n ≡ Some info) where
+  -- a node of the program's text
+  pub node_of_text : slice_get good.text.nodes n.0 ≡ Some info
+  node_of_text = sym (ap (λ o. slice_get (option_map_or (λ (fn : Function). fn.nodes) o []) n.0) good.text_is) ∙ at
+
+  -- .. has its numbers in range
+  pub in_range_at : IsNodeInRange p good.text info.node
+  in_range_at = node_in_range p good.text info ((good.each 0 good.text good.text_is).each n.0 info node_of_text)
+
+  -- .. and its sites behind those of the objects that are there when a run begins
+  pub sites_at : HasNodeSites p info.node
+  sites_at = (node_makings p good 0 good.text n.0 info good.text_is node_of_text).each
+
+  -- .. and is of a kind that is built, where all are
+  pub built_at : AreBuilt p → is_built info.node ≡ true
+  built_at built = built.nodes 0 n.0 good.text info good.text_is node_of_text
+
+-- ---- the nodes of a function
+
+node_of : (o : Option Function) (n : ℕ) (info : NodeInfo) → slice_get (option_map_or (λ (fn : Function). fn.nodes) o []) n ≡ Some info → (fn : Function) × (o ≡ Some fn) × (slice_get fn.nodes n ≡ Some info)
+node_of None n info e = absurd (false≢true (ap is_some e))
+node_of (Some fn) n info e = (fn, refl, e)
+
+-- a node of a program is one of a function of it
+pub function_of_node : (p : Program) (f : FnId) (n : NodeId) (info : NodeInfo) → node_at p f n ≡ Some info → (fn : Function) × (slice_get p.functions f.0 ≡ Some fn) × (slice_get fn.nodes n.0 ≡ Some info)
+function_of_node p f n info e = node_of (slice_get p.functions f.0) n.0 info e
+
+-- ---- nothing is called
+
+no_site_called : (o : Option SiteInfo) → ((info : SiteInfo) → o ≡ Some info → info.calls ≡ None) → option_and_then (λ (i : SiteInfo). i.calls) o ≡ None
+no_site_called None none = refl
+no_site_called (Some info) none = none info refl
+
+-- no value of a program that is built is a function
+pub none_called : (p : Program) → AreBuilt p → (v : Value) → function_called p v ≡ None
+none_called p built (value.Primitive q) = refl
+none_called p built (value.Object a) = no_site_called (slice_get p.sites a.site.0) (λ info at. (built.uncalled a.site.0 info at).0)

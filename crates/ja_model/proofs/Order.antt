@@ -399,16 +399,6 @@ table_both t u v h k = record {
   entry = λ x. entries_both (t.entry x) (u.entry x) (v.entry x) (h.entry x) (k.entry x);
 }
 
-pub table_equal : (t u : Table) → LeqTable t u → LeqTable u t → t ≡ u
-table_equal t u h k = λ i. record {
-  state = λ x n. option_state_equal (t.state x n) (u.state x n) (h.state x n) (k.state x n) i;
-  entry = λ x. entries_equal (t.entry x) (u.entry x) (h.entry x) (k.entry x) i;
-}
-
--- a table that rose doesn't come back
-pub no_way_back : (t u v : Table) → LeqTable t u → LeqTable u v → (u ≡ t → ⊥) → v ≡ t → ⊥
-no_way_back t u v h k apart back = apart (table_equal u t (subst (λ (w : Table). LeqTable u w) back k) h)
-
 pub no_entries_back : (t u v : Entries) → LeqEntries t u → LeqEntries u v → (u ≡ t → ⊥) → v ≡ t → ⊥
 no_entries_back t u v h k apart back = apart (entries_equal u t (subst (λ (w : Entries). LeqEntries u w) back k) h)
 

@@ -9,12 +9,13 @@ use Rattle.ja_prim.specs.declared.primitive.Primitive.{Primitive}
 use Rattle.ja_prim.specs.declared.primitive.Primitive.TheVariants as primitive
 use Rattle.ja_graph.specs.declared.attrs.Attrs.{Attrs}
 use Rattle.ja_graph.specs.declared.program.Program.{Program}
-use Rattle.ja_model.specs.declared.machine.Addr.{Addr}
-use Rattle.ja_model.specs.declared.machine.Value.{Value}
-use Rattle.ja_model.specs.declared.machine.Value.TheVariants as value
-use Rattle.ja_model.specs.declared.machine.Content as property
-use Rattle.ja_model.specs.declared.machine.Content.TheVariants as contents
-use Rattle.ja_model.specs.declared.machine.Heap.{Heap}
+use Rattle.ja_machine.specs.declared.machine.Addr.{Addr}
+use Rattle.ja_machine.specs.declared.machine.Value.{Value}
+use Rattle.ja_machine.specs.declared.machine.Value.TheVariants as value
+use Rattle.ja_machine.specs.declared.machine.Content as property
+use Rattle.ja_machine.specs.declared.machine.Content.TheVariants as contents
+use Rattle.ja_machine.specs.declared.machine.Heap.{Heap}
+use Rattle.ja_machine.specs.State.{IsObjectOf, IsValueOf, IsHeap}
 use Rattle.ja_model.specs.declared.abstraction.NumberPart.{NumberPart}
 use Rattle.ja_model.specs.declared.abstraction.NumberPart.TheVariants as number_part
 use Rattle.ja_model.specs.declared.abstraction.TextPart.{TextPart}
@@ -24,7 +25,8 @@ use Rattle.ja_model.specs.AbstractState.{labels_of}
 use Rattle.ja_model.specs.Meaning.{label_of, number_has, text_has, has_primitive, has_value, SpotContent, missing, held, present, present_row, content_of, allows_attrs, knows}
 use Rattle.ja_model.specs.Reading.{known_part, join_all, join_values}
 use Rattle.ja_model.specs.Transfer.{as_read}
-use Rattle.ja_model.proofs.Interface.{IsObjectOf, IsValueOf, IsContentOf, IsHeap}
+use Rattle.ja_model.proofs.Inside.{site_in_range}
+use Rattle.ja_model.proofs.Interface.{IsOfHeap}
 use Rattle.ja_model.proofs.Labels.{IsAmong, same_label-true, some_among, labels_of-has}
 use Rattle.ja_model.proofs.Values.{has_value-join_left, has_value-join_right, knows-join_left, knows-join_right}
 
@@ -158,7 +160,7 @@ is_present_from_label labels v e = grind (arith, e, or_left, or_right)
 
 -- an object of the heap has a label of the program
 pub label_of-among : (p : Program) (h : Heap) → IsHeap p h → (a : Addr) → IsObjectOf h a → IsAmong (label_of h a) (labels_of p)
-label_of-among p h heap a o = labels_of-has p (label_of h a) (heap.sites a o)
+label_of-among p h heap a o = labels_of-has p (label_of h a) (site_in_range p h heap a o)
 
 -- a set of labels that has the label of an object of the heap has one of the program
 pub list_any-label_of : (p : Program) (h : Heap) → IsHeap p h → (a : Addr) → IsObjectOf h a → (set : Labels) → IsTrue (set (label_of h a)) → IsTrue (list_any set (labels_of p))
@@ -181,7 +183,7 @@ allows_attrs-known h q (contents.Value v) attrs e = (and_parts (has_value h q.va
 allows_attrs-known h q contents.Row attrs e = (and_parts q.value.flags.row (allows_attrs q.attrs attrs) e).1
 
 -- .. and a present part
-pub is_present-known : (p : Program) (h : Heap) → IsHeap p h → (q : AbstractProperty) (x : property.Content) (attrs : Attrs) → IsContentOf h (content_of x attrs) → IsTrue (knows h q (content_of x attrs)) → IsTrue (is_present (labels_of p) q.value)
+pub is_present-known : (p : Program) (h : Heap) → IsHeap p h → (q : AbstractProperty) (x : property.Content) (attrs : Attrs) → IsOfHeap h (content_of x attrs) → IsTrue (knows h q (content_of x attrs)) → IsTrue (is_present (labels_of p) q.value)
 is_present-known p h heap q (contents.Value v) attrs o e = is_present-has_value p h heap q.value v o (and_parts (has_value h q.value v) (allows_attrs q.attrs attrs) e).0
 is_present-known p h heap q contents.Row attrs o e =
     let row : IsTrue q.value.flags.row = (and_parts q.value.flags.row (allows_attrs q.attrs attrs) e).0 in

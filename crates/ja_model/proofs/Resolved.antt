@@ -1,56 +1,33 @@
 -- The resolved reading of an abstract state knows what each object has now.
-use Rattle.std.specs.Prelude.{◌≡◌, ◌⊎◌, ◌<◌, ◌≤◌, ◌+◌, ◌&&◌, ◌==◌, ℕ, Bool, true, false, not, if◌then◌else◌, length, IsTrue, List, [], ◌∷◌, Option, Some, None, IsSome, slice_get}
+use Rattle.std.specs.Prelude.{◌≡◌, ◌⊎◌, ◌<◌, ◌≤◌, ◌+◌, ◌&&◌, ◌==◌, ℕ, Bool, true, false, not, if◌then◌else◌, IsTrue, [], ◌∷◌, Option, Some, None, IsSome}
 use Rattle.std.specs.Option.{option_map_or}
 use Rattle.std.proofs.Common.{refl, sym, subst, ap, arith, inl, inr, ◌∙◌}
 use Rattle.std.proofs.lemmas.Bool.{or_left, or_right, and_parts, and_from, false≢true, cond_both, cases_order}
 use Rattle.std.proofs.lemmas.Bool.Decides.{nat_tests}
-use Rattle.std.proofs.lemmas.Option.{slice_get_within, slice_get-get_or}
 use Rattle.ja_base.specs.declared.ids.Label.{Label}
 use Rattle.ja_base.specs.declared.ids.Site.{Site}
 use Rattle.ja_graph.specs.declared.program.Program.{Program}
-use Rattle.ja_model.specs.declared.machine.Addr.{Addr}
-use Rattle.ja_model.specs.declared.machine.Value.{Value}
-use Rattle.ja_model.specs.declared.machine.Value.TheVariants as value
-use Rattle.ja_model.specs.declared.machine.Heap.{Heap}
+use Rattle.ja_machine.specs.declared.machine.Addr.{Addr}
+use Rattle.ja_machine.specs.declared.machine.Value.{Value}
+use Rattle.ja_machine.specs.declared.machine.Value.TheVariants as value
+use Rattle.ja_machine.specs.declared.machine.Heap.{Heap}
+use Rattle.ja_machine.specs.Heap.{count}
+use Rattle.ja_machine.specs.State.{IsObjectOf, IsValueOf}
+use Rattle.ja_machine.proofs.Heaps.{ordinal-below}
 use Rattle.ja_model.specs.declared.abstraction.Mask.{Mask}
 use Rattle.ja_model.specs.declared.abstraction.Key.{Key}
-use Rattle.ja_model.specs.Heap.{count, objects_of, object_at}
 use Rattle.ja_model.specs.AbstractValue.{Labels, AbstractValue, AbstractProperty, same_label, join_properties, no_property}
 use Rattle.ja_model.specs.AbstractState.{new, old, same_key}
 use Rattle.ja_model.specs.Meaning.{label_of, has_value, Spot, SpotContent, missing, held, present, present_row, content, key_of, knows, IsAsAtEntry}
 use Rattle.ja_model.specs.Reading.{View, origins, renamed_labels, renamed, known_part, from_entry, demands_of, own}
-use Rattle.ja_model.proofs.Interface.{IsObjectOf, IsValueOf, IsContentOf, Grows, IsFilled, IsRead}
+use Rattle.ja_model.proofs.Inside.{inside}
+use Rattle.ja_model.proofs.Interface.{IsOfHeap, Grows, IsFilled, IsRead}
 use Rattle.ja_model.proofs.Keys.{same_key-true, same_key-self}
 use Rattle.ja_model.proofs.Labels.{IsAmong, same_label-self, some_among}
 use Rattle.ja_model.proofs.Parts.{has_primitive-labels, knows-known_part, knows-join_all}
 use Rattle.ja_model.proofs.Values.{and_three, knows-join_left, knows-join_right}
 
 -- ---- objects and how many there are
-
--- a place with an element is below the length
-some_within : {X : Type 0} (xs : List X) (i : ℕ) (o : Option X) → slice_get xs i ≡ o → IsSome o → i < length xs
-some_within xs i None e h = absurd (false≢true h)
-some_within xs i (Some x) e h = slice_get_within xs i x e
-
--- the ordinal of an object is below the count of its site
-pub ordinal-below : (h : Heap) (a : Addr) → IsObjectOf h a → a.ordinal < count h a.site
-ordinal-below h a o = some_within (objects_of h a.site) a.ordinal (object_at h a) refl o
-
--- a place below the length has an element
-some_at : {X : Type 0} (xs : List X) (i : ℕ) → i < length xs → IsSome (slice_get xs i)
-some_at [] i h = absurd (omega arith)
-some_at (x ∷ xs) i h = subst IsSome (sym (slice_get-get_or (x ∷ xs) i x h)) refl
-
--- .. and each ordinal below it is an object's
-pub object_from_ordinal : (h : Heap) (a : Addr) → a.ordinal < count h a.site → IsObjectOf h a
-object_from_ordinal h a l = some_at (objects_of h a.site) a.ordinal l
-
--- an object of the heap stays one where no object goes
-pub object-grows : (e c : Heap) → Grows e c → (a : Addr) → IsObjectOf e a → IsObjectOf c a
-object-grows e c grows a o =
-    let below : a.ordinal < count e a.site = ordinal-below e a o in
-    let more : count e a.site ≤ count c a.site = grows a.site in
-    object_from_ordinal c a (omega arith)
 
 -- ---- labels at the entry and now
 
@@ -130,7 +107,7 @@ has_value-renamed e c mask aged v (value.Primitive q) o h = has_primitive-labels
 has_value-renamed e c mask aged v (value.Object a) o h = renamed_labels-has e c mask aged a o v.label h
 
 -- a content of the entry's heap that was known there is known now to the renamed property
-pub knows-renamed : (e c : Heap) (mask : ℕ → Mask) → IsAged e c mask → (q : AbstractProperty) (x : SpotContent) → IsContentOf e x → IsTrue (knows e q x) → IsTrue (knows c (renamed mask q) x)
+pub knows-renamed : (e c : Heap) (mask : ℕ → Mask) → IsAged e c mask → (q : AbstractProperty) (x : SpotContent) → IsOfHeap e x → IsTrue (knows e q x) → IsTrue (knows c (renamed mask q) x)
 knows-renamed e c mask aged q missing o h = h
 knows-renamed e c mask aged q (held u) o h = has_value-renamed e c mask aged q.value u o h
 knows-renamed e c mask aged q (present u attrs) o h =
@@ -157,7 +134,7 @@ module _ (p : Program) (e c : Heap) (w : View) (read : IsRead p e c w) where
       let demanded : IsTrue (demands_of w.state l k m k) = and_three _ _ _ entry (same_key-self k) (some_among (λ (n : Label). same_label n m) (origins mask l) m origin (same_label-self m)) in
       knows-join_all c (λ (n : Label). option_map_or (renamed mask) (w.entries n k) no_property) (origins mask l) m (content e a x) origin
       (entry_known c mask (content e a x) (w.entries m k) (filled m k demanded) (λ q found.
-      knows-renamed e c mask aged q (content e a x) (read.heap_at_entry.inside a x) (read.entries m k q found a x o (same_label-self m) same)))
+      knows-renamed e c mask aged q (content e a x) (inside p e read.heap_at_entry a x) (read.entries m k q found a x o (same_label-self m) same)))
 
   -- either way that the state holds of an object
   own-at : (a : Addr) (x : Spot) (k : Key) → IsTrue (same_key (key_of p x) k) → IsFilled w.entries (demands_of w.state (label_of c a) k) → (let q = w.state.property (label_of c a) k in IsTrue (knows c q (content c a x)) ⊎ (IsTrue q.value.flags.entry × IsAsAtEntry e c a x)) → IsTrue (knows c (own w (label_of c a) k) (content c a x))

@@ -99,26 +99,10 @@ module _ (next : Label → Labels) (labels : List Label) where
   one_more-adds : (set : Labels) (l m : Label) → IsAmong l labels → IsTrue (set l) → IsTrue (next l m) → IsTrue (one_more next labels set m)
   one_more-adds set l m a e n = or_right (set m) (list_any (λ (k : Label). set k && next k m) labels) (some_among (λ (k : Label). set k && next k m) labels l a (and_from (set l) (next l m) e n))
 
-  -- .. and nothing that a greater closed set lacks
-  one_more-from : (set all : Labels) → ((l : Label) → IsTrue (set l) → IsTrue (all l)) → ((l m : Label) → IsAmong l labels → IsTrue (all l) → IsTrue (next l m) → IsTrue (all m)) → (m : Label) → IsTrue (one_more next labels set m) → IsTrue (all m)
-  one_more-from set all f g m e =
-      elim (or_cases (set m) (list_any (λ (k : Label). set k && next k m) labels) e) [
-        | inl x ↦ f m x
-        | inr r ↦
-            let (l, a, t) = among_some (λ (k : Label). set k && next k m) labels r in
-            let (s, n) = and_parts (set l) (next l m) t in
-            g l m a (f l s) n
-      ]
-
   -- rounds keep what they start with
   rounds-keep : (start : Labels) (n : ℕ) (l : Label) → IsTrue (start l) → IsTrue (rounds next labels start n l)
   rounds-keep start zero l e = e
   rounds-keep start (suc n) l e = one_more-keeps (rounds next labels start n) l (rounds-keep start n l e)
-
-  -- .. and add nothing that a greater closed set lacks
-  rounds-least : (start all : Labels) → ((l : Label) → IsTrue (start l) → IsTrue (all l)) → ((l m : Label) → IsAmong l labels → IsTrue (all l) → IsTrue (next l m) → IsTrue (all m)) → (n : ℕ) (l : Label) → IsTrue (rounds next labels start n l) → IsTrue (all l)
-  rounds-least start all f g zero l e = f l e
-  rounds-least start all f g (suc n) l e = one_more-from (rounds next labels start n) all (rounds-least start all f g n) g l e
 
   -- a round that adds none of the labels leaves the set closed
   closed_where_same : (set : Labels) → IsIn (one_more next labels set) set labels → IsClosed set
@@ -162,7 +146,3 @@ module _ (next : Label → Labels) (labels : List Label) where
         | inl c ↦ c l m a b e n
         | inr all ↦ among_all (reached next labels start) labels (omega (arith, all, among-le (reached next labels start) labels)) m b
       ]
-
-  -- each set that has the start and is closed under the step from the labels has what is reached
-  pub reached-least : (start all : Labels) → ((l : Label) → IsTrue (start l) → IsTrue (all l)) → ((l m : Label) → IsAmong l labels → IsTrue (all l) → IsTrue (next l m) → IsTrue (all m)) → (l : Label) → IsTrue (reached next labels start l) → IsTrue (all l)
-  reached-least start all f g l e = rounds-least start all f g (length labels) l e

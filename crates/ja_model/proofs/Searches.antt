@@ -1,26 +1,28 @@
 -- Reading a name and searching a scope chain: what the heap gives is in what the abstract state gives.
-use Rattle.std.specs.Prelude.{◌≡◌, ℕ, ◌&&◌, ◌||◌, if◌then◌else◌, IsTrue, List, map, Option, Some, None, find}
-use Rattle.std.specs.Option.{option_map_or}
+use Rattle.std.specs.Prelude.{◌≡◌, ℕ, ◌&&◌, ◌||◌, if◌then◌else◌, IsTrue, List, map, Option, Some, None, unwrap_or, find}
+use Rattle.std.specs.Option.{option_map}
 use Rattle.std.proofs.Common.{refl, sym, ap, subst}
 use Rattle.std.proofs.lemmas.Bool.{or_left, or_right, and_from, cond-true}
 use Rattle.ja_base.specs.declared.ids.Label.{Label}
 use Rattle.ja_graph.specs.declared.program.Program.{Program}
-use Rattle.ja_model.specs.declared.machine.Addr.{Addr}
-use Rattle.ja_model.specs.declared.machine.Value.{Value}
-use Rattle.ja_model.specs.declared.machine.Content.{Content}
-use Rattle.ja_model.specs.declared.machine.Content.TheVariants as contents
-use Rattle.ja_model.specs.declared.machine.Property.{Property}
-use Rattle.ja_model.specs.declared.machine.Heap.{Heap}
+use Rattle.ja_machine.specs.declared.machine.Addr.{Addr}
+use Rattle.ja_machine.specs.declared.machine.Value.{Value}
+use Rattle.ja_machine.specs.declared.machine.Content.{Content}
+use Rattle.ja_machine.specs.declared.machine.Content.TheVariants as contents
+use Rattle.ja_machine.specs.declared.machine.Property.{Property}
+use Rattle.ja_machine.specs.declared.machine.Heap.{Heap}
+use Rattle.ja_machine.specs.Heap as heap
+use Rattle.ja_machine.specs.Frames.{undefined}
+use Rattle.ja_machine.specs.Nodes.{object_or_null, find_name, read}
+use Rattle.ja_machine.specs.State.{IsObjectOf}
 use Rattle.ja_model.specs.declared.abstraction.Slot.TheVariants as slot
 use Rattle.ja_model.specs.declared.abstraction.Key.{Key}
-use Rattle.ja_model.specs.Heap as heap
-use Rattle.ja_model.specs.Machine.{undefined, name_base, find_name, read}
 use Rattle.ja_model.specs.AbstractValue.{Labels, AbstractValue, no_value, null_value, of_labels}
 use Rattle.ja_model.specs.AbstractState.{same_key}
 use Rattle.ja_model.specs.Meaning.{label_of, has_value, named, internal, key_of}
 use Rattle.ja_model.specs.Reading.{View, demands_of, outer, own, may_be_absent, some_label, may_lack, may_have, join_values, got, demands_of_walk, next_scope, searched, found, demands_of_search}
 use Rattle.ja_model.specs.Transfer.{read_value, demands_of_read}
-use Rattle.ja_model.proofs.Interface.{IsObjectOf, IsFilled, IsRead}
+use Rattle.ja_model.proofs.Interface.{IsFilled, IsRead}
 use Rattle.ja_model.proofs.Keys.{same_key-self}
 use Rattle.ja_model.proofs.Parts.{has_value-join_values, absent-join_values, has_value-as_read}
 use Rattle.ja_model.proofs.Rounds.{reached-start, reached-next}
@@ -49,7 +51,7 @@ module _ (p : Program) (e c : Heap) (w : View) (r : IsRead p e c w) (t : List �
     of_base_here = cond-true (base (label_of c a)) (got w (label_of c a) k) no_value b
 
     -- by what [[Get]] finds
-    read_by : (g : Option Property) → heap.get c a t ≡ g → (v : Value) → option_map_or (λ (q : Property). q.content) g (contents.Value undefined) ≡ contents.Value v → IsTrue (has_value c (read_value w base k) v)
+    read_by : (g : Option Property) → heap.get c a t ≡ g → (v : Value) → unwrap_or (option_map (λ (q : Property). q.content) g) (contents.Value undefined) ≡ contents.Value v → IsTrue (has_value c (read_value w base k) v)
     read_by (Some q) is v holds =
         let gets = got-Some p e c w r t k same a o (filled_walk base filled a o b) q is in
         has_value-as_read c (join_values (map of_base w.labels)) v (has_value-join_values c of_base w.labels (label_of c a) v (label-among p e c w r a o) (subst (λ u. IsTrue (has_value c u v)) (sym of_base_here) (gets.found v holds)))
@@ -90,14 +92,14 @@ module _ (p : Program) (e c : Heap) (w : View) (r : IsRead p e c w) (t : List �
     at_end = if some_label w (λ l. searched w start k l && may_lack w l k && may_be_absent w l outer) then null_value else no_value
 
     -- by how the search in the heap ends
-    found_by : (d : Option Addr) → Searched c (searched w start k) t d → IsTrue (has_value c (found w start k) (name_base d))
+    found_by : (d : Option Addr) → Searched c (searched w start k) t d → IsTrue (has_value c (found w start k) (object_or_null d))
     found_by (Some d) here =
-        has_value-join_left c (of_labels with_name) at_end (name_base (Some d)) (and_from _ _ here.is_reached (may_have-has p e c w r t k same d here.is_object (filled_scope d here.is_object here.is_reached) here.has_one))
+        has_value-join_left c (of_labels with_name) at_end (object_or_null (Some d)) (and_from _ _ here.is_reached (may_have-has p e c w r t k same d here.is_object (filled_scope d here.is_object here.is_reached) here.has_one))
     found_by None (d, last) =
         let lack : IsTrue (may_lack w (label_of c d) k) = may_lack-has p e c w r t k same d last.is_object (filled_scope d last.is_object last.is_reached) last.has_none in
         let ends : IsTrue (may_be_absent w (label_of c d) outer) = no_link_absent p e c w r heap.outer_of (internal slot.Outer) outer d (content-outer c d) (same_key-self outer) last.is_object (filled_outer d last.is_object last.is_reached lack) last.ends in
         let there : IsTrue (some_label w (λ l. searched w start k l && may_lack w l k && may_be_absent w l outer)) = some_label-object p e c w r (λ l. searched w start k l && may_lack w l k && may_be_absent w l outer) d last.is_object (and_three _ _ _ last.is_reached lack ends) in
-        has_value-join_right c (of_labels with_name) at_end (name_base None) (subst (λ v. IsTrue (has_value c v (name_base None))) (sym (cond-true (some_label w (λ l. searched w start k l && may_lack w l k && may_be_absent w l outer)) null_value no_value there)) refl)
+        has_value-join_right c (of_labels with_name) at_end (object_or_null None) (subst (λ v. IsTrue (has_value c v (object_or_null None))) (sym (cond-true (some_label w (λ l. searched w start k l && may_lack w l k && may_be_absent w l outer)) null_value no_value there)) refl)
 
     module _ (a : Addr) (o : IsObjectOf c a) (s : IsTrue (start (label_of c a))) where
       -- how the search from it ends

@@ -1,10 +1,9 @@
 -- What goes wrong at a node is what its step throws.
 use Rattle.std.proofs.Common.{◌≡◌, ◌⊎◌, ℕ, zero, suc, ◌<◌, ◌≤◌, Bool, true, false, List, [], ◌∷◌, length, Some, None, Option, inl, inr, refl, sym, ap, ◌∙◌, subst, arith}
-use Rattle.std.specs.Prelude.{Contains, slice_get, if◌then◌else◌, ◌↔◌}
+use Rattle.std.specs.Prelude.{IsTrue, Contains, if◌then◌else◌}
 use Rattle.std.specs.Option.{is_some, option_and_then}
 use Rattle.std.proofs.lemmas.Bool.{false≢true, cases_Bool, cond-true, cond-false, leb-true, leb-false}
 use Rattle.std.proofs.lemmas.Option.{same_Some, option_and_then_some, cond_some, some_pair_parts}
-use Rattle.ja_base.specs.declared.ids.FnId.{FnId}
 use Rattle.ja_base.specs.declared.ids.NameId.{NameId}
 use Rattle.ja_base.specs.declared.ids.Place.{Place}
 use Rattle.ja_base.specs.declared.ids.Reg.{Reg}
@@ -18,34 +17,39 @@ use Rattle.ja_graph.specs.declared.node.Node.TheVariants.{Const, FindName, ReadR
 use Rattle.ja_graph.specs.declared.node.NodeInfo.{NodeInfo}
 use Rattle.ja_graph.specs.declared.program.Class.TheVariants as class
 use Rattle.ja_graph.specs.declared.program.Program.{Program}
+use Rattle.ja_graph.specs.Kinds.{is_built, AreBuilt}
 use Rattle.ja_graph.specs.Node.{Making, making, makings, name_in}
 use Rattle.ja_graph.specs.Program.{node_at, reference_error_prototype, type_error_prototype}
 use Rattle.ja_graph.specs.WellFormed.{IsWellFormed}
-use Rattle.ja_model.specs.declared.machine.Addr.{Addr}
-use Rattle.ja_model.specs.declared.machine.Value.{Value}
-use Rattle.ja_model.specs.declared.machine.Value.TheVariants as value
-use Rattle.ja_model.specs.declared.machine.Content.{Content}
-use Rattle.ja_model.specs.declared.machine.Content.TheVariants as contents
-use Rattle.ja_model.specs.declared.machine.Object.{Object}
-use Rattle.ja_model.specs.declared.machine.Heap.{Heap}
-use Rattle.ja_model.specs.declared.machine.Frame.{Frame}
-use Rattle.ja_model.specs.declared.machine.Conf.{Conf}
-use Rattle.ja_model.specs.declared.machine.End.{End}
-use Rattle.ja_model.specs.declared.machine.End.TheVariants as ending
-use Rattle.ja_model.specs.declared.machine.Event.{Event}
-use Rattle.ja_model.specs.declared.machine.Event.TheVariants as event
-use Rattle.ja_model.specs.declared.machine.Answer.{Answer}
-use Rattle.ja_model.specs.declared.machine.Answer.TheVariants.{Tick}
+use Rattle.ja_machine.specs.declared.machine.Addr.{Addr}
+use Rattle.ja_machine.specs.declared.machine.Value.{Value}
+use Rattle.ja_machine.specs.declared.machine.Value.TheVariants as value
+use Rattle.ja_machine.specs.declared.machine.Content.{Content}
+use Rattle.ja_machine.specs.declared.machine.Content.TheVariants as contents
+use Rattle.ja_machine.specs.declared.machine.Object.{Object}
+use Rattle.ja_machine.specs.declared.machine.Heap.{Heap}
+use Rattle.ja_machine.specs.declared.machine.Frame.{Frame}
+use Rattle.ja_machine.specs.declared.machine.Conf.{Conf}
+use Rattle.ja_machine.specs.declared.machine.End.{End}
+use Rattle.ja_machine.specs.declared.machine.End.TheVariants as ending
+use Rattle.ja_machine.specs.declared.machine.Event.{Event}
+use Rattle.ja_machine.specs.declared.machine.Event.TheVariants as event
+use Rattle.ja_machine.specs.declared.machine.Answer.{Answer}
+use Rattle.ja_machine.specs.Heap.{size, object_at, with_new, new_address}
+use Rattle.ja_machine.specs.Frames.{register_of}
+use Rattle.ja_machine.specs.Objects.{first_of, error_object}
+use Rattle.ja_machine.specs.Events.{Standing, is_text_length, throws, throws_value, sets_content, unbound_message, not_a_function_message}
+use Rattle.ja_machine.specs.Calls.{receiver_of, calls, call_step}
+use Rattle.ja_machine.specs.Nodes.{name_text, read, read_ref_step, node_step}
+use Rattle.ja_machine.specs.Machine.{fits, wants, frames_step, step}
+use Rattle.ja_machine.specs.Runs.{AreStates}
+use Rattle.ja_machine.proofs.Heaps
+use Rattle.ja_machine.proofs.Nodes.{node_makings}
 use Rattle.ja_model.specs.declared.table.WarningKind.{WarningKind}
 use Rattle.ja_model.specs.declared.table.WarningKind.TheVariants.{NotAFunction, UnboundName}
-use Rattle.ja_model.specs.Heap.{size, object_at, with_new, new_address}
-use Rattle.ja_model.specs.Machine.{first_of, name_text, program_function, register_of, thrown, with_result, next_state, error_object, is_text_length, throws, unbound_message, not_a_function_message, read, after_read, read_step, node_step, frames_step, step}
 use Rattle.ja_model.specs.Warning.{is_null, fault_at, fault_of_frames, fault_of}
-use Rattle.ja_model.specs.Runs.{error_prototype, error_message, IsThrow, Throws, FaultsThrow}
-use Rattle.ja_model.proofs.Nodes.{HasNodeSites, read_site, call_site}
-use Rattle.ja_model.proofs.Heaps
-use Rattle.ja_model.proofs.Frames.{IsRun}
-use Rattle.ja_model.proofs.Running.{run, sites_at}
+use Rattle.ja_model.specs.Faults.{error_prototype, error_message, IsThrow, Throws, FaultsThrow}
+use Rattle.ja_model.proofs.Nodes.{HasNodeSites, read_site, call_site, function_of_node, none_called}
 
 -- ---- what tells events apart
 
@@ -95,18 +99,16 @@ no_site : (m : Making) → Contains [] m → ⊥
 no_site m (k, l, e) = omega arith
 
 module _ (c : Conf) (f : Frame) (below : List Frame) (info : NodeInfo) where
+  abbrev s : Standing
+  s = record { conf = c; top = f; below = below; info = info }
+
   -- a throw is one
-  throws_so : (error proto : Site) (text : List ℕ) → IsThrow c f below info error proto text (Some (throws c f below info error proto text))
+  throws_so : (error proto : Site) (text : List ℕ) → IsThrow c f below info error proto text (Some (throws s error proto text))
   throws_so error proto text =
       elim (cases_Bool (is_text_length text)) [
         | inl e ↦ inl (fits_length text e, ap Some (cond-true _ _ _ e))
         | inr e ↦ inr (too_long text e, ap Some (cond-false _ _ _ e))
       ]
-
-  -- no step is none
-  no_step : (error proto : Site) (text : List ℕ) → IsThrow c f below info error proto text None → ⊥
-  no_step error proto text (inl x) = false≢true (ap is_some x.1)
-  no_step error proto text (inr x) = false≢true (ap is_some x.1)
 
   -- the end of a run is none, unless a text is too long
   no_end : (error proto : Site) (text : List ℕ) (e : Event) → next_event e ≡ false → long_text e ≡ false → IsThrow c f below info error proto text (Some e) → ⊥
@@ -131,14 +133,14 @@ module _ (c : Conf) (f : Frame) (below : List Frame) (info : NodeInfo) where
         ap (λ (a : Addr). a.site.0) (same_Some _ _ linked)
 
     -- a throw is of one prototype, or its texts are too long
-    one_throw : (proto other : Site) (text more : List ℕ) → IsThrow c f below info error other more (Some (throws c f below info error proto text)) → (proto.0 ≡ other.0) ⊎ ((max_units < length text) × (max_units < length more))
+    one_throw : (proto other : Site) (text more : List ℕ) → IsThrow c f below info error other more (Some (throws s error proto text)) → (proto.0 ≡ other.0) ⊎ ((max_units < length text) × (max_units < length more))
     one_throw proto other text more throw =
         elim (cases_Bool (is_text_length text)) [
           | inl e ↦ short_one proto other text more (subst (λ x. IsThrow c f below info error other more (Some x)) (cond-true _ _ _ e) throw)
           | inr e ↦ inr (too_long text e, long_one other more _ refl (subst (λ x. IsThrow c f below info error other more (Some x)) (cond-false _ _ _ e) throw))
         ]
       where
-        short_one : (proto other : Site) (text more : List ℕ) → IsThrow c f below info error other more (Some (next_state c (with_new c.heap error (error_object proto text)) (with_result f thrown (value.Object (new_address c.heap error)) info.handler) below)) → (proto.0 ≡ other.0) ⊎ ((max_units < length text) × (max_units < length more))
+        short_one : (proto other : Site) (text more : List ℕ) → IsThrow c f below info error other more (Some (throws_value s (with_new c.heap error (error_object proto text)) (value.Object (new_address c.heap error)))) → (proto.0 ≡ other.0) ⊎ ((max_units < length text) × (max_units < length more))
         short_one proto other text more (inl x) = inl (one_prototype proto other text more (ap heap_after (same_Some _ _ x.1)))
         short_one proto other text more (inr x) = absurd (false≢true (sym (ap next_event (same_Some _ _ x.1))))
 
@@ -160,41 +162,47 @@ call_makes : (dst callee receiver : Reg) (args : Args) (error : Site) → making
 unfolding makings
 call_makes dst callee receiver args error = refl
 
-makes_nothing : (m : Making) (node : Node) → makings node ≡ [] → Contains (makings node) m → ⊥
-makes_nothing m node e among = no_site m (subst (λ ms. Contains ms m) e among)
+module _ (p : Program) (built : AreBuilt p) (c : Conf) (f : Frame) (below : List Frame) (info : NodeInfo) where
+  abbrev at_node : Standing
+  at_node = record { conf = c; top = f; below = below; info = info }
 
-module _ (p : Program) (c : Conf) (f : Frame) (below : List Frame) (info : NodeInfo) where
+  -- a call throws
+  call_throws : (callee receiver : Value) (args : Args) (error : Site) → call_step p at_node callee receiver args error ≡ throws at_node error type_error_prototype not_a_function_message
+  call_throws callee receiver args error = ap (calls p at_node callee (receiver_of c.heap receiver) args error) (none_called p built callee)
+
   module _ (frames_are : c.frames ≡ f ∷ below) (info_is : node_at p f.function f.node ≡ Some info) where
     -- the step is that of the node
-    step_is : step p c Tick ≡ node_step p c f below info info.node
-    step_is = ap (frames_step p c) frames_are ∙ ap (option_and_then (λ (i : NodeInfo). node_step p c f below i i.node)) info_is
+    step_is : (answer : Answer) → IsTrue (fits p (wants p c) answer) → step p c answer ≡ node_step p at_node answer info.node
+    step_is answer fit =
+        cond-true (fits p (wants p c) answer) (frames_step p c answer c.frames) None fit ∙ (ap (frames_step p c answer) frames_are ∙ ap (option_and_then (λ (i : NodeInfo). node_step p (record { conf = c; top = f; below = below; info = i }) answer i.node)) info_is)
 
     -- .. and so is what goes wrong
     fault_is : fault_of p c ≡ fault_at f info info.node
     fault_is = ap (fault_of_frames p) frames_are ∙ ap (option_and_then (λ (i : NodeInfo). fault_at f i i.node)) info_is
 
-    thrown_by : (kind : WarningKind) (place : Place) (node : Node) (error : Site) → info.node ≡ node → info.place ≡ place → makings node ≡ making error class.Error ∷ [] → node_step p c f below info node ≡ Some (throws c f below info error (error_prototype kind) (error_message p node kind)) → Throws p c Tick kind place
-    thrown_by kind place node error is place_is makes steps = record {
-      top = f;
-      below = below;
-      frames_are = frames_are;
-      info = info;
-      info_is = info_is;
-      place_is = place_is;
-      error = error;
-      site = subst (λ ms. Contains ms (making error class.Error)) (sym (ap makings is ∙ makes)) (0, omega arith, refl);
-      throws = subst (λ n. IsThrow c f below info error (error_prototype kind) (error_message p n kind) (step p c Tick)) (sym is) (subst (λ s. IsThrow c f below info error (error_prototype kind) (error_message p node kind) s) (sym (step_is ∙ (ap (node_step p c f below info) is ∙ steps))) (throws_so c f below info error (error_prototype kind) (error_message p node kind)));
-    }
+    module _ (answer : Answer) (fit : IsTrue (fits p (wants p c) answer)) where
+      thrown_by : (kind : WarningKind) (place : Place) (node : Node) (error : Site) → info.node ≡ node → info.place ≡ place → makings node ≡ making error class.Error ∷ [] → node_step p at_node answer node ≡ Some (throws at_node error (error_prototype kind) (error_message p node kind)) → Throws p c answer kind place
+      thrown_by kind place node error is place_is makes steps = record {
+        top = f;
+        below = below;
+        frames_are = frames_are;
+        info = info;
+        info_is = info_is;
+        place_is = place_is;
+        error = error;
+        site = subst (λ ms. Contains ms (making error class.Error)) (sym (ap makings is ∙ makes)) (0, omega arith, refl);
+        throws = subst (λ n. IsThrow c f below info error (error_prototype kind) (error_message p n kind) (step p c answer)) (sym is) (subst (λ s. IsThrow c f below info error (error_prototype kind) (error_message p node kind) s) (sym (step_is answer fit ∙ (ap (node_step p at_node answer) is ∙ steps))) (throws_so c f below info error (error_prototype kind) (error_message p node kind)));
+      }
 
-    fault_throws : (kind : WarningKind) (place : Place) (node : Node) → info.node ≡ node → fault_at f info node ≡ Some (kind, place) → Throws p c Tick kind place
-    fault_throws kind place (Call dst callee receiver args error) is e =
-        let parts : (NotAFunction ≡ kind) × (info.place ≡ place) = some_pair_parts _ _ _ _ e in
-        subst (λ k. Throws p c Tick k place) parts.0 (thrown_by NotAFunction place (Call dst callee receiver args error) error is parts.1 (call_makes dst callee receiver args error) refl)
-    fault_throws kind place (ReadRef dst base name error) is e =
-        let parts : (is_null (register_of f base) ≡ true) × ((UnboundName, info.place) ≡ (kind, place)) = cond_some _ _ _ e in
-        let message_is : unbound_message (name_text p name) ≡ error_message p (ReadRef dst base name error) UnboundName = sym (read_message p dst base name error) in
-        subst (λ k. Throws p c Tick k place) (ap (λ (u : WarningKind × Place). u.0) parts.1) (thrown_by UnboundName place (ReadRef dst base name error) error is (ap (λ (u : WarningKind × Place). u.1) parts.1) (read_makes dst base name error) (ap (λ v. Some (read_step p c f below info dst name error v)) (null_value (register_of f base) parts.0) ∙ ap (λ m. Some (throws c f below info error reference_error_prototype m)) message_is))
-    fault_throws kind place node is e = absurd (false≢true (ap is_some e))
+      fault_throws : (kind : WarningKind) (place : Place) (node : Node) → info.node ≡ node → fault_at f info node ≡ Some (kind, place) → Throws p c answer kind place
+      fault_throws kind place (Call dst callee receiver args error) is e =
+          let parts : (NotAFunction ≡ kind) × (info.place ≡ place) = some_pair_parts _ _ _ _ e in
+          subst (λ k. Throws p c answer k place) parts.0 (thrown_by NotAFunction place (Call dst callee receiver args error) error is parts.1 (call_makes dst callee receiver args error) (ap Some (call_throws (register_of f callee) (register_of f receiver) args error)))
+      fault_throws kind place (ReadRef dst base name error) is e =
+          let parts : (is_null (register_of f base) ≡ true) × ((UnboundName, info.place) ≡ (kind, place)) = cond_some _ _ _ e in
+          let message_is : unbound_message (name_text p name) ≡ error_message p (ReadRef dst base name error) UnboundName = sym (read_message p dst base name error) in
+          subst (λ k. Throws p c answer k place) (ap (λ (u : WarningKind × Place). u.0) parts.1) (thrown_by UnboundName place (ReadRef dst base name error) error is (ap (λ (u : WarningKind × Place). u.1) parts.1) (read_makes dst base name error) (ap (λ v. Some (read_ref_step p at_node dst name error v)) (null_value (register_of f base) parts.0) ∙ ap (λ m. Some (throws at_node error reference_error_prototype m)) message_is))
+      fault_throws kind place node is e = absurd (false≢true (ap is_some e))
 
   -- ---- back
 
@@ -205,7 +213,7 @@ module _ (p : Program) (c : Conf) (f : Frame) (below : List Frame) (info : NodeI
   abbrev said : WarningKind → Option (WarningKind × Place)
   said kind = Some (kind, info.place)
 
-  call_back : (kind : WarningKind) (node : Node) (error : Site) → error.0 < length c.heap.objects → ThrowsAt node error kind (Some (throws c f below info error type_error_prototype not_a_function_message)) → said NotAFunction ≡ said kind
+  call_back : (kind : WarningKind) (node : Node) (error : Site) → error.0 < length c.heap.objects → ThrowsAt node error kind (Some (throws at_node error type_error_prototype not_a_function_message)) → said NotAFunction ≡ said kind
   call_back NotAFunction node error row throw = refl
   call_back UnboundName node error row throw =
       elim (one_throw c f below info error row type_error_prototype reference_error_prototype not_a_function_message _ throw) [ inl e ↦ absurd (other_prototype e) | inr l ↦ absurd (short_message l.0) ]
@@ -213,16 +221,16 @@ module _ (p : Program) (c : Conf) (f : Frame) (below : List Frame) (info : NodeI
   abbrev read_fault : Value → Option (WarningKind × Place)
   read_fault v = if is_null v then Some (UnboundName, info.place) else None
 
-  null_back : (kind : WarningKind) (node : Node) (error : Site) (text : List ℕ) → error.0 < length c.heap.objects → ThrowsAt node error kind (Some (throws c f below info error reference_error_prototype text)) → said UnboundName ≡ said kind
+  null_back : (kind : WarningKind) (node : Node) (error : Site) (text : List ℕ) → error.0 < length c.heap.objects → ThrowsAt node error kind (Some (throws at_node error reference_error_prototype text)) → said UnboundName ≡ said kind
   null_back UnboundName node error text row throw = refl
   null_back NotAFunction node error text row throw =
       elim (one_throw c f below info error row reference_error_prototype type_error_prototype text not_a_function_message throw) [ inl e ↦ absurd (other_prototype (sym e)) | inr l ↦ absurd (short_message l.1) ]
 
-  no_read : (kind : WarningKind) (node : Node) (error : Site) → error.0 < length c.heap.objects → (dst : Reg) (x : Content) → ThrowsAt node error kind (Some (after_read c f below info dst x)) → ⊥
+  no_read : (kind : WarningKind) (node : Node) (error : Site) → error.0 < length c.heap.objects → (dst : Reg) (x : Content) → ThrowsAt node error kind (Some (sets_content at_node dst x)) → ⊥
   no_read kind node error row dst (contents.Value v) throw = no_result c f below info error row (error_prototype kind) (error_message p node kind) _ refl throw
   no_read kind node error row dst contents.Row throw = no_end c f below info error (error_prototype kind) (error_message p node kind) _ refl refl throw
 
-  read_back : (kind : WarningKind) (node : Node) (error : Site) → error.0 < length c.heap.objects → (dst : Reg) (name : NameId) (v : Value) → ThrowsAt node error kind (Some (read_step p c f below info dst name error v)) → read_fault v ≡ Some (kind, info.place)
+  read_back : (kind : WarningKind) (node : Node) (error : Site) → error.0 < length c.heap.objects → (dst : Reg) (name : NameId) (v : Value) → ThrowsAt node error kind (Some (read_ref_step p at_node dst name error v)) → read_fault v ≡ Some (kind, info.place)
   read_back kind node error row dst name (value.Object a) throw = absurd (no_read kind node error row dst (read c.heap a (name_text p name)) throw)
   read_back kind node error row dst name (value.Primitive primitive.Null) throw = null_back kind node error (unbound_message (name_text p name)) row throw
   read_back kind node error row dst name (value.Primitive primitive.Undefined) throw = absurd (no_end c f below info error (error_prototype kind) (error_message p node kind) _ refl refl throw)
@@ -231,44 +239,41 @@ module _ (p : Program) (c : Conf) (f : Frame) (below : List Frame) (info : NodeI
   read_back kind node error row dst name (value.Primitive (primitive.Text q)) throw = absurd (no_end c f below info error (error_prototype kind) (error_message p node kind) _ refl refl throw)
 
   module _ (rows : length c.heap.objects ≡ length p.sites) where
-    throw_faults : (kind : WarningKind) (node : Node) (error : Site) → HasNodeSites p node → Contains (makings node) (making error class.Error) → ThrowsAt node error kind (node_step p c f below info node) → fault_at f info node ≡ Some (kind, info.place)
+    throw_faults : (kind : WarningKind) (answer : Answer) (node : Node) (error : Site) → is_built node ≡ true → HasNodeSites p node → Contains (makings node) (making error class.Error) → ThrowsAt node error kind (node_step p at_node answer node) → fault_at f info node ≡ Some (kind, info.place)
     unfolding makings
-    throw_faults kind (Call dst callee receiver args site) error sites among throw =
+    throw_faults kind answer (Call dst callee receiver args site) error is sites among throw =
         let same : site ≡ error = one_site site error among in
         let in_range : site.0 < length p.sites = (call_site p dst callee receiver args site sites).1 in
         let row : site.0 < length c.heap.objects = omega arith in
-        call_back kind (Call dst callee receiver args site) site row (subst (λ s. ThrowsAt (Call dst callee receiver args site) s kind (Some (throws c f below info site type_error_prototype not_a_function_message))) (sym same) throw)
-    throw_faults kind (ReadRef dst base name site) error sites among throw =
+        call_back kind (Call dst callee receiver args site) site row (subst (λ e. ThrowsAt (Call dst callee receiver args site) site kind (Some e)) (call_throws (register_of f callee) (register_of f receiver) args site) (subst (λ s. ThrowsAt (Call dst callee receiver args site) s kind (Some (call_step p at_node (register_of f callee) (register_of f receiver) args site))) (sym same) throw))
+    throw_faults kind answer (ReadRef dst base name site) error is sites among throw =
         let same : site ≡ error = one_site site error among in
         let in_range : site.0 < length p.sites = (read_site p dst base name site sites).1 in
         let row : site.0 < length c.heap.objects = omega arith in
-        read_back kind (ReadRef dst base name site) site row dst name (register_of f base) (subst (λ s. ThrowsAt (ReadRef dst base name site) s kind (Some (read_step p c f below info dst name site (register_of f base)))) (sym same) throw)
-    throw_faults kind (Const dst v) error sites among throw = absurd (no_site _ among)
-    throw_faults kind (FindName dst name) error sites among throw = absurd (no_site _ among)
-    throw_faults kind (WriteRef base name src) error sites among throw = absurd (no_site _ among)
-    throw_faults kind (Return src) error sites among throw = absurd (no_site _ among)
-    throw_faults kind Escape error sites among throw = absurd (no_site _ among)
-    throw_faults kind node error sites among throw = absurd (no_step c f below info error _ _ throw)
+        read_back kind (ReadRef dst base name site) site row dst name (register_of f base) (subst (λ s. ThrowsAt (ReadRef dst base name site) s kind (Some (read_ref_step p at_node dst name site (register_of f base)))) (sym same) throw)
+    throw_faults kind answer (Const dst v) error is sites among throw = absurd (no_site _ among)
+    throw_faults kind answer (FindName dst name) error is sites among throw = absurd (no_site _ among)
+    throw_faults kind answer (WriteRef base name src) error is sites among throw = absurd (no_site _ among)
+    throw_faults kind answer (Return src) error is sites among throw = absurd (no_site _ among)
+    throw_faults kind answer Escape error is sites among throw = absurd (no_site _ among)
+    throw_faults kind answer node error is sites among throw = absurd (false≢true is)
 
 -- ---- in each state of a run
 
-faulted_by_frames : (p : Program) (c : Conf) (kind : WarningKind) (place : Place) (fs : List Frame) → c.frames ≡ fs → fault_of_frames p fs ≡ Some (kind, place) → Throws p c Tick kind place
-faulted_by_frames p c kind place [] frames_are e = absurd (false≢true (ap is_some e))
-faulted_by_frames p c kind place (f ∷ below) frames_are e =
-    option_and_then_some (λ (info : NodeInfo). fault_at f info info.node) (node_at p f.function f.node) (kind, place) e (λ info info_is fault. fault_throws p c f below info frames_are info_is kind place info.node refl fault)
+module _ (p : Program) (good : IsWellFormed p) (built : AreBuilt p) (c : Conf) (rows : length c.heap.objects ≡ length p.sites) (answer : Answer) (fit : IsTrue (fits p (wants p c) answer)) (kind : WarningKind) (place : Place) where
+  faulted : (fs : List Frame) → c.frames ≡ fs → fault_of_frames p fs ≡ Some (kind, place) → Throws p c answer kind place
+  faulted [] frames_are e = absurd (false≢true (ap is_some e))
+  faulted (f ∷ below) frames_are e =
+      option_and_then_some (λ (info : NodeInfo). fault_at f info info.node) (node_at p f.function f.node) (kind, place) e (λ info info_is fault. fault_throws p built c f below info frames_are info_is answer fit kind place info.node refl fault)
 
-module _ (p : Program) (good : IsWellFormed p) (c : Conf) (known : IsRun p good.text c) where
-  thrown_faults : (kind : WarningKind) (place : Place) → Throws p c Tick kind place → fault_of p c ≡ Some (kind, place)
-  thrown_faults kind place r =
-      let same : r.top ≡ known.frame = same_Some _ _ (ap (λ (fs : List Frame). slice_get fs 0) (sym r.frames_are ∙ known.frames_are)) in
-      let function_is : r.top.function ≡ program_function = ap (λ (g : Frame). g.function) same ∙ known.run_frame.function_is in
-      let at : node_at p program_function r.top.node ≡ Some r.info = ap (λ (g : FnId). node_at p g r.top.node) (sym function_is) ∙ r.info_is in
-      let step_here : step p c Tick ≡ node_step p c r.top r.below r.info r.info.node = step_is p c r.top r.below r.info r.frames_are r.info_is in
-      let throw : IsThrow c r.top r.below r.info r.error (error_prototype kind) (error_message p r.info.node kind) (node_step p c r.top r.below r.info r.info.node) = subst (λ s. IsThrow c r.top r.below r.info r.error (error_prototype kind) (error_message p r.info.node kind) s) step_here r.throws in
-      fault_is p c r.top r.below r.info r.frames_are r.info_is ∙ (throw_faults p c r.top r.below r.info known.run_heap.rows kind r.info.node r.error (sites_at p good r.top.node r.info at) r.site throw ∙ ap (λ q. Some (kind, q)) r.place_is)
+  thrown_faults : Throws p c answer kind place → fault_of p c ≡ Some (kind, place)
+  thrown_faults r =
+      let (fn, fn_is, at) = function_of_node p r.top.function r.top.node r.info r.info_is in
+      let step_here : step p c answer ≡ node_step p (record { conf = c; top = r.top; below = r.below; info = r.info }) answer r.info.node = step_is p built c r.top r.below r.info r.frames_are r.info_is answer fit in
+      let throw : IsThrow c r.top r.below r.info r.error (error_prototype kind) (error_message p r.info.node kind) (node_step p (record { conf = c; top = r.top; below = r.below; info = r.info }) answer r.info.node) = subst (λ s. IsThrow c r.top r.below r.info r.error (error_prototype kind) (error_message p r.info.node kind) s) step_here r.throws in
+      fault_is p built c r.top r.below r.info r.frames_are r.info_is ∙ (throw_faults p built c r.top r.below r.info rows kind answer r.info.node r.error (built.nodes r.top.function.0 r.top.node.0 fn r.info fn_is at) (node_makings p good r.top.function.0 fn r.top.node.0 r.info fn_is at).each r.site throw ∙ ap (λ q. Some (kind, q)) r.place_is)
 
-  both : (answer : Answer) (kind : WarningKind) (place : Place) → (fault_of p c ≡ Some (kind, place)) ↔ Throws p c answer kind place
-  both Tick kind place = (faulted_by_frames p c kind place c.frames refl, thrown_faults kind place)
-
-pub faults_throw : (p : Program) → IsWellFormed p → FaultsThrow p
-faults_throw p good answers c answer kind place reached = both p good c (run p good answers c reached) answer kind place
+pub faults_throw : (p : Program) → IsWellFormed p → AreBuilt p → AreStates p → FaultsThrow p
+faults_throw p good built states answers c answer kind place reached fit =
+    let rows : length c.heap.objects ≡ length p.sites = (states answers c reached).heap.rows in
+    (faulted p good built c rows answer fit kind place c.frames refl, thrown_faults p good built c rows answer fit kind place)

@@ -1,25 +1,27 @@
 -- What walks along prototypes and scopes find in the heap is in what the abstract walks give.
-use Rattle.std.specs.Prelude.{◌≡◌, ◌<◌, ◌&&◌, ◌||◌, ℕ, zero, suc, Bool, true, false, cond, not, if◌then◌else◌, IsTrue, List, [], map, slice_get, Option, Some, None, IsSome, is_some, find}
+use Rattle.std.specs.Prelude.{◌≡◌, ◌<◌, ◌&&◌, ◌||◌, ℕ, zero, suc, Bool, true, false, cond, not, if◌then◌else◌, IsTrue, List, map, Option, Some, None, IsSome, is_some, find}
 use Rattle.std.specs.Option.{option_map_or, option_and_then}
 use Rattle.std.proofs.Common.{refl, sym, subst, ap, arith, ◌∙◌}
 use Rattle.std.proofs.lemmas.Bool.{not-true, not-false, or_left, or_right, and_parts, and_from, false≢true, true≢false, cond-true}
-use Rattle.std.proofs.lemmas.Option.{none-some, same_Some}
+use Rattle.std.proofs.lemmas.Option.{none-some}
 use Rattle.ja_base.specs.declared.ids.Label.{Label}
 use Rattle.ja_graph.specs.declared.program.Program.{Program}
-use Rattle.ja_model.specs.declared.machine.Addr.{Addr}
-use Rattle.ja_model.specs.declared.machine.Value.{Value}
-use Rattle.ja_model.specs.declared.machine.Content.TheVariants as contents
-use Rattle.ja_model.specs.declared.machine.Property.{Property}
-use Rattle.ja_model.specs.declared.machine.Object.{Object}
-use Rattle.ja_model.specs.declared.machine.Heap.{Heap}
+use Rattle.ja_machine.specs.declared.machine.Addr.{Addr}
+use Rattle.ja_machine.specs.declared.machine.Value.{Value}
+use Rattle.ja_machine.specs.declared.machine.Content.TheVariants as contents
+use Rattle.ja_machine.specs.declared.machine.Property.{Property}
+use Rattle.ja_machine.specs.declared.machine.Object.{Object}
+use Rattle.ja_machine.specs.declared.machine.Heap.{Heap}
+use Rattle.ja_machine.specs.Heap as heap
+use Rattle.ja_machine.specs.State.{IsObjectOf, IsHeap}
 use Rattle.ja_model.specs.declared.abstraction.Slot.TheVariants as slot
 use Rattle.ja_model.specs.declared.abstraction.Key.{Key}
-use Rattle.ja_model.specs.Heap as heap
 use Rattle.ja_model.specs.AbstractValue.{Labels, AbstractValue, same_label, is_present, present_part, no_value, absent_value}
 use Rattle.ja_model.specs.AbstractState.{same_key}
 use Rattle.ja_model.specs.Meaning.{label_of, has_value, Spot, named, internal, missing, content, content_of, held_address, property_content, key_of, knows, allows, allows_attrs}
 use Rattle.ja_model.specs.Reading.{View, demands_of, prototype, own, may_be_absent, may_be_present, some_label, next_prototype, asked, ends_at, may_lack, may_have, join_values, got, may_refuse, may_accept, demands_of_walk}
-use Rattle.ja_model.proofs.Interface.{IsObjectOf, IsContentOf, IsHeap, IsFilled, IsRead}
+use Rattle.ja_model.proofs.Inside.{inside}
+use Rattle.ja_model.proofs.Interface.{IsOfHeap, IsFilled, IsRead}
 use Rattle.ja_model.proofs.Keys.{same_key-self}
 use Rattle.ja_model.proofs.Labels.{IsAmong, same_label-self, some_among}
 use Rattle.ja_model.proofs.Rounds.{reached-start, reached-next}
@@ -70,11 +72,6 @@ linked : (link : Object → Option Addr) (o : Option Object) (b : Addr) → opti
 linked link None b e = absurd (none-some b e)
 linked link (Some x) b e = (x, refl, e)
 
--- a chain from nowhere is empty
-chain_none : (link : Object → Option Addr) (h : Heap) (n : ℕ) → heap.chain link h n None ≡ []
-chain_none link h zero = refl
-chain_none link h (suc n) = refl
-
 -- the prototype of an object is an object of lower rank
 pub prototype_before : (p : Program) (h : Heap) (good : IsHeap p h) (a b : Addr) → link_of heap.prototype_of h a ≡ Some b → IsObjectOf h b × (good.rank b < good.rank a)
 prototype_before p h good a b e =
@@ -88,8 +85,8 @@ outer_before p h good a b e =
     good.outer_before a b o at is
 
 -- what an own property holds is of the heap
-pub own-content : (p : Program) (h : Heap) → IsHeap p h → (a : Addr) (t : List ℕ) (q : Property) → heap.own h a t ≡ Some q → IsContentOf h (content_of q.content q.attrs)
-own-content p h good a t q e = subst (IsContentOf h) (content-named h a t ∙ ap property_content e) (good.inside a (named t))
+pub own-content : (p : Program) (h : Heap) → IsHeap p h → (a : Addr) (t : List ℕ) (q : Property) → heap.own h a t ≡ Some q → IsOfHeap h (content_of q.content q.attrs)
+own-content p h good a t q e = subst (IsOfHeap h) (content-named h a t ∙ ap property_content e) (inside p h good a (named t))
 
 -- ---- what the walk along prototypes ends with
 
@@ -145,22 +142,6 @@ module _ (p : Program) (h : Heap) (good : IsHeap p h) (set : Labels) (t : List �
   -- the walk from an object that is reached ends with a property, or behind an object that has neither
   pub get_walked : (a : Addr) → IsObjectOf h a → IsTrue (set (label_of h a)) → Walked h set t (heap.get h a t)
   get_walked a o s = walk (heap.size h) a o s (good.ranked a o)
-
-  -- the objects of the chain are reached as long as those before them lack the name
-  abbrev Reaches : ℕ → Type 0
-  Reaches n = (i : ℕ) (a b : Addr) → IsObjectOf h a → IsTrue (set (label_of h a)) → slice_get (heap.chain heap.prototype_of h n (Some a)) i ≡ Some b → ((j : ℕ) (d : Addr) → j < i → slice_get (heap.chain heap.prototype_of h n (Some a)) j ≡ Some d → heap.own h d t ≡ None) → IsObjectOf h b × IsTrue (set (label_of h b))
-
-  -- .. from the prototype on
-  reaches_on : (n : ℕ) → Reaches n → (i : ℕ) (a b : Addr) → IsObjectOf h a → IsTrue (set (label_of h a)) → heap.own h a t ≡ None → (r : Option Addr) → link_of heap.prototype_of h a ≡ r → slice_get (heap.chain heap.prototype_of h n r) i ≡ Some b → ((j : ℕ) (d : Addr) → j < i → slice_get (heap.chain heap.prototype_of h n r) j ≡ Some d → heap.own h d t ≡ None) → IsObjectOf h b × IsTrue (set (label_of h b))
-  reaches_on n further i a b o s none None e at lack = absurd (none-some b (subst (λ xs. slice_get xs i ≡ Some b) (chain_none heap.prototype_of h n) at))
-  reaches_on n further i a b o s none (Some d) e at lack = further i d b (prototype_before p h good a d e).0 (leads a d o s none e) at lack
-
-  -- at each fuel
-  reaches : (n : ℕ) → Reaches n
-  reaches zero i a b o s at lack = absurd (none-some b at)
-  reaches (suc n) zero a b o s at lack = subst (λ d. IsObjectOf h d × IsTrue (set (label_of h d))) (same_Some a b at) (o, s)
-  reaches (suc n) (suc i) a b o s at lack =
-      reaches_on n (reaches n) i a b o s (lack 0 a (omega arith) refl) (link_of heap.prototype_of h a) refl at (λ j d below. lack (suc j) d (omega arith))
 
 -- ---- what the walk along scopes ends with
 
@@ -327,10 +308,6 @@ module _ (p : Program) (e c : Heap) (w : View) (r : IsRead p e c w) (t : List �
     -- the walk from an object demands what its own reading does
     pub filled_here : IsFilled w.entries (demands_of w.state (label_of c a) k)
     filled_here = filled_own (label_of c a) filled a o start_asked
-
-    -- an object of the chain is asked as long as those before it lack the name
-    pub asked-prototypes : (i : ℕ) (b : Addr) → slice_get (heap.prototypes c a) i ≡ Some b → ((j : ℕ) (d : Addr) → j < i → slice_get (heap.prototypes c a) j ≡ Some d → heap.own c d t ≡ None) → IsObjectOf c b × IsTrue (asked w (label_of c a) k (label_of c b))
-    asked-prototypes i b at lack = reaches p c r.heap_now (asked w (label_of c a) k) t (asked-leads (label_of c a) filled) (heap.size c) i a b o start_asked at lack
 
     -- how the walk from it ends
     got_walked : Walked c (asked w (label_of c a) k) t (heap.get c a t)

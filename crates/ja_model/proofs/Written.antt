@@ -8,26 +8,29 @@ use Rattle.ja_base.specs.declared.ids.Label.{Label}
 use Rattle.ja_base.specs.declared.ids.NodeId.{NodeId}
 use Rattle.ja_base.specs.declared.ids.Site.{Site}
 use Rattle.ja_graph.specs.declared.program.Program.{Program}
+use Rattle.ja_machine.specs.declared.machine.Addr.{Addr}
+use Rattle.ja_machine.specs.declared.machine.Value.{Value}
+use Rattle.ja_machine.specs.declared.machine.Value.TheVariants as value
+use Rattle.ja_machine.specs.declared.machine.Property.{Property}
+use Rattle.ja_machine.specs.declared.machine.Object.{Object}
+use Rattle.ja_machine.specs.declared.machine.Heap.{Heap}
+use Rattle.ja_machine.specs.declared.machine.Frame.{Frame}
+use Rattle.ja_machine.specs.Heap.{count, object_at, with_object, property_of, can_put}
+use Rattle.ja_machine.specs.Heap as heap
+use Rattle.ja_machine.specs.Writes.{object_with_value}
+use Rattle.ja_machine.specs.Frames.{moved_to}
+use Rattle.ja_machine.specs.State.{IsObjectOf}
+use Rattle.ja_machine.proofs.Heaps
 use Rattle.ja_model.specs.declared.abstraction.Key.{Key}
-use Rattle.ja_model.specs.declared.machine.Addr.{Addr}
-use Rattle.ja_model.specs.declared.machine.Value.{Value}
-use Rattle.ja_model.specs.declared.machine.Value.TheVariants as value
-use Rattle.ja_model.specs.declared.machine.Property.{Property}
-use Rattle.ja_model.specs.declared.machine.Object.{Object}
-use Rattle.ja_model.specs.declared.machine.Heap.{Heap}
-use Rattle.ja_model.specs.declared.machine.Frame.{Frame}
-use Rattle.ja_model.specs.Heap.{count, object_at, with_object, object_with_value, property_of, with_own, can_put}
-use Rattle.ja_model.specs.Heap as heap
-use Rattle.ja_model.specs.Machine.{moved_to}
 use Rattle.ja_model.specs.AbstractValue.{Labels, AbstractValue, AbstractProperty, same_label, join_properties}
 use Rattle.ja_model.specs.AbstractState.{AbstractState, labels_of, same_key, with_property}
 use Rattle.ja_model.specs.Reading.{View, Entries, demands_of, demands_of_walk, next_prototype, asked, may_be_absent, may_accept, may_refuse, prototype}
 use Rattle.ja_model.specs.Transfer.{view_of, gives, written_attrs, written, strong_put, weakly_written, weak_put, put_at, put}
 use Rattle.ja_model.specs.Meaning.{SpotContent, missing, held, present, present_row, Spot, named, content, label_of, key_of, has_value, knows, allows_attrs, Holds}
-use Rattle.ja_model.proofs.Interface.{IsObjectOf, IsFilled, IsRead}
-use Rattle.ja_model.proofs.Lists.{Member, member-append_left, member-append_right, list_any-filter, some_value}
-use Rattle.ja_model.proofs.Heaps
-use Rattle.ja_model.proofs.Heaps.{attrs_after}
+use Rattle.ja_model.proofs.Interface.{IsFilled, IsRead}
+use Rattle.ja_model.proofs.Lists.{Member, member-append_left, member-append_right, list_any-filter}
+use Rattle.ja_model.proofs.Contents
+use Rattle.ja_model.proofs.Contents.{attrs_after}
 use Rattle.ja_model.proofs.Keys.{same_key-true, same_key_from}
 use Rattle.ja_model.proofs.Labels.{same_label-true, same_label-self, same_label_from}
 use Rattle.ja_model.proofs.Values.{and_three, knows-join_right}
@@ -112,7 +115,7 @@ module _ (p : Program) (e h : Heap) (entries : Entries) (a : AbstractState) (f :
     now = with_object h b (object_with_value o t v)
 
     label_now : (d : Addr) → label_of (with_object h b (object_with_value o t v)) d ≡ label_of h d
-    label_now d = Heaps.label-with_object h b o (object_with_value o t v) object_is d
+    label_now d = Contents.label-with_object h b o (object_with_value o t v) object_is d
 
     own_is : heap.own h b t ≡ property_of o t
     own_is = ap (λ r. Rattle.std.specs.Option.option_and_then (λ (q : Object). property_of q t) r) object_is
@@ -123,12 +126,12 @@ module _ (p : Program) (e h : Heap) (entries : Entries) (a : AbstractState) (f :
 
     written_told : IsTrue (knows now (written w (label_of h b) k u) (content now b (named t)))
     written_told =
-        subst (λ c. IsTrue (knows (with_object h b (object_with_value o t v)) (written (view_of p entries a) (label_of h b) k u) c)) (sym (Heaps.content-with_object_written h b o object_is t v)) (and_from _ _ (same_has h (with_object h b (object_with_value o t v)) u v label_now has) (attrs_told (property_of o t) own_is))
+        subst (λ c. IsTrue (knows (with_object h b (object_with_value o t v)) (written (view_of p entries a) (label_of h b) k u) c)) (sym (Contents.content-with_object_written h b o object_is t v)) (and_from _ _ (same_has h (with_object h b (object_with_value o t v)) u v label_now has) (attrs_told (property_of o t) own_is))
 
     -- what is told of all else stays so
     else_told : (d : Addr) (x : Spot) (q : AbstractProperty) → ((d ≡ b) × (x ≡ named t) → ⊥) → Tells e h d x q → Tells e now d x q
-    else_told d x q ne (inl g) = inl (subst (λ c. IsTrue (knows (with_object h b (object_with_value o t v)) q c)) (sym (Heaps.content-with_object_other h b o object_is t v d x ne)) (same_knows h (with_object h b (object_with_value o t v)) q (content h d x) label_now g))
-    else_told d x q ne (inr g) = inr (g.0, record { there = g.1.there; same = Heaps.content-with_object_other h b o object_is t v d x ne ∙ g.1.same })
+    else_told d x q ne (inl g) = inl (subst (λ c. IsTrue (knows (with_object h b (object_with_value o t v)) q c)) (sym (Contents.content-with_object_other h b o object_is t v d x ne)) (same_knows h (with_object h b (object_with_value o t v)) q (content h d x) label_now g))
+    else_told d x q ne (inr g) = inr (g.0, record { there = g.1.there; same = Contents.content-with_object_other h b o object_is t v d x ne ∙ g.1.same })
 
     some_now : (s : Site) → count e s < count now s → IsTrue (a.mask s.0).some
     some_now s l = holds.some s (let c : count (with_object h b (object_with_value o t v)) s ≡ count h s = Heaps.count-with_object h b o (object_with_value o t v) object_is s in omega arith)
@@ -152,11 +155,11 @@ module _ (p : Program) (e h : Heap) (entries : Entries) (a : AbstractState) (f :
     -- a property of a state, at the label that an object has now
     at_label_now : (d : Addr) (x : Spot) → IsObjectOf now d → ((d ≡ b) × (x ≡ named t) → ⊥) → Tells e now d x (a.property (label_of now d) (key_of p x))
     at_label_now d x there_now ne =
-        subst (λ l. Tells e (with_object h b (object_with_value o t v)) d x (a.property l (key_of p x))) (sym (label_now d)) (else_told d x (a.property (label_of h d) (key_of p x)) ne (holds.objects d x (Heaps.object_unwritten h b o object_is t v d there_now)))
+        subst (λ l. Tells e (with_object h b (object_with_value o t v)) d x (a.property l (key_of p x))) (sym (label_now d)) (else_told d x (a.property (label_of h d) (key_of p x)) ne (holds.objects d x (Heaps.object_unwritten h b o (object_with_value o t v) object_is d there_now)))
 
     weak_objects : (target : Labels) → IsTrue (target (label_of h b)) → IsTrue (may_accept w (label_of h b) k) → (d : Addr) (x : Spot) → IsObjectOf now d → Tells e now d x ((weakly_written w target k u).property (label_of now d) (key_of p x))
     weak_objects target i accepts d x there_now =
-        elim (Heaps.spot_cases b d t x) [
+        elim (Contents.spot_cases b d t x) [
           | inl g ↦
               subst (λ l. Tells e (with_object h b (object_with_value o t v)) d x ((weakly_written w target k u).property l (key_of p x))) (sym (label_there d g.0)) (subst (λ q. Tells e (with_object h b (object_with_value o t v)) d x q) (sym (cond-true _ (join_properties (a.property (label_of h b) (key_of p x)) (written w (label_of h b) k u)) (a.property (label_of h b) (key_of p x)) (and_three _ _ _ i (same_key_from k (key_of p x) (key_there x g.1)) accepts))) (there_told d x (join_properties (a.property (label_of h b) (key_of p x)) (written w (label_of h b) k u)) (knows-join_right (with_object h b (object_with_value o t v)) (a.property (label_of h b) (key_of p x)) (written w (label_of h b) k u) (content (with_object h b (object_with_value o t v)) b (named t)) written_told) g.0 g.1))
           | inr ne ↦ weak_tells target (with_object h b (object_with_value o t v)) d x (label_of (with_object h b (object_with_value o t v)) d) (key_of p x) (at_label_now d x there_now ne)
@@ -210,13 +213,12 @@ module _ (p : Program) (e h : Heap) (entries : Entries) (a : AbstractState) (f :
             subst (λ xs. IsPut p e after f next xs) (sym (cond-false l.old (weak_put w target k u next) (strong_put w l k u next) o)) (subst (λ m. IsPut p e after f next (strong_put w m k u next)) l_is (strongly (ap (λ (m : Label). m.old) l_is ∙ o)))
       ]
 
-  -- the states of a put hold of the heap after it
-  pub put_holds : (target : Labels) (v : Value) → IsTrue (target (label_of h b)) → IsTrue (has_value h u v) → IsPut p e (heap.put h b t v) f next (put w target k u next)
-  put_holds target v i has =
-      let (o, object_is) = some_value (object_at h b) there in
-      elim (cases_Bool (can_put h b t)) [
-        | inl c ↦
-            subst (λ n. IsPut p e n f next (put w target k u next)) (sym (cond-true (can_put h b t) (with_own h b t v) h c ∙ Heaps.with_own_is h b o object_is t v)) (by_labels target (with_object h b (object_with_value o t v)) (filter target (labels_of p)) (λ l g. only_label target l i g) (weak_accepted o object_is v has target i c) (λ new. strong_accepted o object_is v has new c))
-        | inr c ↦
-            subst (λ n. IsPut p e n f next (put w target k u next)) (sym (cond-false (can_put h b t) (with_own h b t v) h c)) (by_labels target h (filter target (labels_of p)) (λ l g. only_label target l i g) (weak_refused target i c) (λ new. strong_refused c))
-      ]
+  -- the states of a put hold of the heap after it: of a put that is refused ..
+  pub refused_holds : (target : Labels) → IsTrue (target (label_of h b)) → can_put h b t ≡ false → IsPut p e h f next (put w target k u next)
+  refused_holds target i c =
+      by_labels target h (filter target (labels_of p)) (λ l g. only_label target l i g) (weak_refused target i c) (λ new. strong_refused c)
+
+  -- .. and of one that is not
+  pub put_holds : (target : Labels) (o : Object) (v : Value) → object_at h b ≡ Some o → IsTrue (target (label_of h b)) → IsTrue (has_value h u v) → can_put h b t ≡ true → IsPut p e (with_object h b (object_with_value o t v)) f next (put w target k u next)
+  put_holds target o v object_is i has c =
+      by_labels target (with_object h b (object_with_value o t v)) (filter target (labels_of p)) (λ l g. only_label target l i g) (weak_accepted o object_is v has target i c) (λ new. strong_accepted o object_is v has new c)

@@ -1,10 +1,8 @@
 pub mod AbstractState
 pub mod AbstractValue
-pub mod Heap
-pub mod Machine
+pub mod Faults
 pub mod Meaning
 pub mod Reading
-pub mod Runs
 pub mod Sound
 pub mod Table
 pub mod Transfer

@@ -13,15 +13,19 @@ use Rattle.ja_prim.specs.declared.primitive.Primitive.TheVariants as primitive
 use Rattle.ja_prim.specs.Index.{is_index, is_index_text}
 use Rattle.ja_graph.specs.declared.attrs.Attrs.{Attrs}
 use Rattle.ja_graph.specs.declared.program.Program.{Program}
-use Rattle.ja_model.specs.declared.machine.Addr.{Addr}
-use Rattle.ja_model.specs.declared.machine.Value.{Value}
-use Rattle.ja_model.specs.declared.machine.Value.TheVariants as value
-use Rattle.ja_model.specs.declared.machine.Content as property
-use Rattle.ja_model.specs.declared.machine.Content.TheVariants as contents
-use Rattle.ja_model.specs.declared.machine.Property.{Property}
-use Rattle.ja_model.specs.declared.machine.Object.{Object}
-use Rattle.ja_model.specs.declared.machine.Heap.{Heap}
-use Rattle.ja_model.specs.declared.machine.Frame.{Frame}
+use Rattle.ja_machine.specs.declared.machine.Addr.{Addr}
+use Rattle.ja_machine.specs.declared.machine.Value.{Value}
+use Rattle.ja_machine.specs.declared.machine.Value.TheVariants as value
+use Rattle.ja_machine.specs.declared.machine.Content as property
+use Rattle.ja_machine.specs.declared.machine.Content.TheVariants as contents
+use Rattle.ja_machine.specs.declared.machine.Property.{Property}
+use Rattle.ja_machine.specs.declared.machine.Object.{Object}
+use Rattle.ja_machine.specs.declared.machine.Heap.{Heap}
+use Rattle.ja_machine.specs.declared.machine.Frame.{Frame}
+use Rattle.ja_machine.specs.Heap.{count, object_at, property_of}
+use Rattle.ja_machine.specs.Objects.{first_of}
+use Rattle.ja_machine.specs.Nodes.{name_text}
+use Rattle.ja_machine.specs.Machine.{opening_heap}
 use Rattle.ja_model.specs.declared.abstraction.NumberPart.{NumberPart}
 use Rattle.ja_model.specs.declared.abstraction.NumberPart.TheVariants as number_part
 use Rattle.ja_model.specs.declared.abstraction.TextPart.{TextPart}
@@ -32,8 +36,6 @@ use Rattle.ja_model.specs.declared.abstraction.Slot.{Slot}
 use Rattle.ja_model.specs.declared.abstraction.Slot.TheVariants as slot
 use Rattle.ja_model.specs.declared.abstraction.Key.{Key}
 use Rattle.ja_model.specs.declared.abstraction.Key.TheVariants as key
-use Rattle.ja_model.specs.Heap.{count, object_at, property_of}
-use Rattle.ja_model.specs.Machine.{name_text, opening_heap, first_of}
 use Rattle.ja_model.specs.AbstractValue.{AbstractValue, AbstractProperty, same_label, of_label, of_primitive, of_attrs, row_value, absent_property, no_property, bare, join_flags, join_attrs}
 use Rattle.ja_model.specs.AbstractState.{AbstractState, same_key, name_key, join_masks}
 use Rattle.ja_model.specs.Reading.{Entries}

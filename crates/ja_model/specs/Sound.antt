@@ -2,12 +2,12 @@
 use Rattle.std.specs.Prelude.{◌≡◌, ◌≤◌, List, ◌∷◌, length, Some, Any}
 use Rattle.ja_base.specs.declared.ids.Place.{Place}
 use Rattle.ja_graph.specs.declared.program.Program.{Program}
-use Rattle.ja_model.specs.declared.machine.Answer.{Answer}
-use Rattle.ja_model.specs.declared.machine.Frame.{Frame}
-use Rattle.ja_model.specs.declared.machine.Conf.{Conf}
+use Rattle.ja_machine.specs.declared.machine.Answer.{Answer}
+use Rattle.ja_machine.specs.declared.machine.Frame.{Frame}
+use Rattle.ja_machine.specs.declared.machine.Conf.{Conf}
+use Rattle.ja_machine.specs.Machine.{state_of, earlier_state}
 use Rattle.ja_model.specs.declared.table.Warning.{Warning}
 use Rattle.ja_model.specs.declared.table.WarningKind.{WarningKind}
-use Rattle.ja_model.specs.Machine.{state_of, earlier_state}
 use Rattle.ja_model.specs.AbstractState.{AbstractState}
 use Rattle.ja_model.specs.Meaning.{Holds, EntriesHold, context_of}
 use Rattle.ja_model.specs.Table.{Table}

@@ -6,9 +6,9 @@ use Rattle.ja_base.specs.declared.ids.Context.{Context}
 use Rattle.ja_graph.specs.declared.node.NodeInfo.{NodeInfo}
 use Rattle.ja_graph.specs.declared.program.Program.{Program}
 use Rattle.ja_graph.specs.Program.{node_at, global}
+use Rattle.ja_machine.specs.Machine.{program_function}
 use Rattle.ja_model.specs.declared.table.Item.{Item}
 use Rattle.ja_model.specs.declared.table.Item.TheVariants.{Open, Step}
-use Rattle.ja_model.specs.Machine.{program_function}
 use Rattle.ja_model.specs.AbstractValue.{AbstractProperty, same_label, no_property, join_properties}
 use Rattle.ja_model.specs.AbstractState.{AbstractState, new, entry_state, join_states}
 use Rattle.ja_model.specs.Reading.{Entries, Demands}

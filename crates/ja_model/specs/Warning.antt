@@ -11,14 +11,14 @@ use Rattle.ja_graph.specs.declared.node.Node.TheVariants as node
 use Rattle.ja_graph.specs.declared.node.NodeInfo.{NodeInfo}
 use Rattle.ja_graph.specs.declared.program.Program.{Program}
 use Rattle.ja_graph.specs.Program.{node_at}
-use Rattle.ja_model.specs.declared.machine.Value.{Value}
-use Rattle.ja_model.specs.declared.machine.Value.TheVariants as value
-use Rattle.ja_model.specs.declared.machine.Frame.{Frame}
-use Rattle.ja_model.specs.declared.machine.Conf.{Conf}
+use Rattle.ja_machine.specs.declared.machine.Value.{Value}
+use Rattle.ja_machine.specs.declared.machine.Value.TheVariants as value
+use Rattle.ja_machine.specs.declared.machine.Frame.{Frame}
+use Rattle.ja_machine.specs.declared.machine.Conf.{Conf}
+use Rattle.ja_machine.specs.Frames.{register_of}
 use Rattle.ja_model.specs.declared.table.WarningKind.{WarningKind}
 use Rattle.ja_model.specs.declared.table.WarningKind.TheVariants.{NotAFunction, UnboundName}
 use Rattle.ja_model.specs.declared.table.Warning.{Warning}
-use Rattle.ja_model.specs.Machine.{register_of}
 use Rattle.ja_model.specs.AbstractValue.{has_part}
 use Rattle.ja_model.specs.AbstractState.{AbstractState, labels_of}
 use Rattle.ja_model.specs.Table.{Table}

@@ -8,9 +8,10 @@ use Rattle.std.proofs.lemmas.List.{take_all}
 use Rattle.ja_base.specs.declared.ids.Label.{Label}
 use Rattle.ja_base.specs.declared.ids.Site.{Site}
 use Rattle.ja_graph.specs.declared.program.Program.{Program}
+use Rattle.ja_machine.specs.Frames.{registers_of}
+use Rattle.ja_machine.specs.Machine.{program_function}
 use Rattle.ja_model.specs.declared.abstraction.Key.{Key}
 use Rattle.ja_model.specs.declared.abstraction.Mask.{Mask}
-use Rattle.ja_model.specs.Machine.{program_function, registers_of}
 use Rattle.ja_model.specs.AbstractValue.{AbstractValue, AbstractProperty, entry_property, no_labels}
 use Rattle.ja_model.specs.AbstractState.{labels_of, labels_below, keys_of, sites_below, label_number}
 use Rattle.ja_state.specs.declared.object.AObject.{AObject}

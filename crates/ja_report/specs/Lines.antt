@@ -9,11 +9,12 @@ use Rattle.ja_base.specs.declared.ids.Label.{Label}
 use Rattle.ja_base.specs.declared.ids.Site.{Site}
 use Rattle.ja_graph.specs.declared.program.Program.{Program}
 use Rattle.ja_graph.specs.Program.{nodes_of}
+use Rattle.ja_machine.specs.Frames.{registers_of}
+use Rattle.ja_machine.specs.Machine.{program_function}
 use Rattle.ja_model.specs.declared.abstraction.May.{May}
 use Rattle.ja_model.specs.declared.abstraction.AAttrs.{AAttrs}
 use Rattle.ja_model.specs.declared.abstraction.Mask.{Mask}
 use Rattle.ja_model.specs.declared.abstraction.Key.{Key}
-use Rattle.ja_model.specs.Machine.{program_function, registers_of}
 use Rattle.ja_model.specs.AbstractValue.{AbstractValue, AbstractProperty, has_part}
 use Rattle.ja_model.specs.AbstractState.{AbstractState, sites_below, labels_of, keys_of}
 use Rattle.ja_model.specs.Reading.{Entries}

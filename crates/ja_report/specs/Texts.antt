@@ -10,6 +10,7 @@ use Rattle.ja_base.specs.declared.ids.Site.{Site}
 use Rattle.ja_prim.specs.Characters.{is_digit}
 use Rattle.ja_graph.specs.declared.program.Program.{Program}
 use Rattle.ja_graph.specs.declared.program.SiteInfo.{SiteInfo}
+use Rattle.ja_machine.specs.Nodes as machine
 use Rattle.ja_model.specs.declared.abstraction.Flags.{Flags}
 use Rattle.ja_model.specs.declared.abstraction.NumberPart.{NumberPart}
 use Rattle.ja_model.specs.declared.abstraction.NumberPart.TheVariants as number_part
@@ -23,7 +24,6 @@ use Rattle.ja_model.specs.declared.abstraction.Key.{Key}
 use Rattle.ja_model.specs.declared.abstraction.Key.TheVariants as key
 use Rattle.ja_model.specs.AbstractValue.{AbstractValue}
 use Rattle.ja_model.specs.AbstractState.{labels_of}
-use Rattle.ja_model.specs.Machine as machine
 
 -- a place is its line and its column
 unfoldable pub place_text : Place → List ℕ

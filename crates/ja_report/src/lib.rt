@@ -12,6 +12,3 @@ mod whole;
 
 pub use refusals::{Refusal, refusal_text};
 pub use whole::{report, spent_text};
-
-#[cfg(test)]
-mod tests;

@@ -3,7 +3,8 @@
 ghost use Rattle.std.specs.Prelude.{◌≡◌, ◌<◌, ◌++◌, [], ◌∷◌, false, OnOk, IfOk, length, map, vec_len};
 ghost use Rattle.std.specs.List.{range_with_len};
 ghost use Rattle.ja_graph.specs.WellFormed.{IsWellFormed};
-ghost use Rattle.ja_model.specs.Machine.{program_function, registers_of};
+ghost use Rattle.ja_machine.specs.Frames.{registers_of};
+ghost use Rattle.ja_machine.specs.Machine.{program_function};
 ghost use Rattle.ja_model.specs.AbstractValue.{has_part};
 ghost use Rattle.ja_model.specs.AbstractState.{keys_of, labels_below};
 ghost use Rattle.ja_value.specs.Value.{value_of, property_of};

@@ -15,7 +15,7 @@ use Rattle.ja_graph.specs.Program.{nodes_of, node_at}
 use Rattle.ja_graph.specs.WellFormed.{IsWellFormed, node_count}
 use Rattle.ja_model.specs.declared.table.Item.{Item}
 use Rattle.ja_model.specs.declared.table.Item.TheVariants.{Open, Step}
-use Rattle.ja_model.specs.Machine.{program_function}
+use Rattle.ja_machine.specs.Machine.{program_function}
 use Rattle.ja_model.specs.AbstractState.{AbstractState, entry_state}
 use Rattle.ja_model.specs.Meaning.{LeqState}
 use Rattle.ja_model.specs.Transfer.{Out, transfer}

@@ -16,21 +16,24 @@ use Rattle.ja_graph.specs.declared.program.SpecContent.TheVariants as spec_conte
 use Rattle.ja_graph.specs.declared.program.Program.{Program}
 use Rattle.ja_graph.specs.Program.{object_spec}
 use Rattle.ja_graph.specs.WellFormed.{IsWellFormed, IsObjectWellFormed, IsName, IsContent}
+use Rattle.ja_machine.specs.declared.machine.Addr.{Addr}
+use Rattle.ja_machine.specs.declared.machine.Property.{Property}
+use Rattle.ja_machine.specs.declared.machine.Object.{Object}
+use Rattle.ja_machine.specs.Heap.{object_at, count, same_text}
+use Rattle.ja_machine.specs.Objects.{first_of}
+use Rattle.ja_machine.specs.Nodes.{name_text}
+use Rattle.ja_machine.specs.Machine.{opening_content, opening_property, opening_object, opening_heap}
+use Rattle.ja_machine.proofs.Lists.{slice_get_some, some_value}
+use Rattle.ja_machine.proofs.Opening.{IsOpened, objects-opening, opened_at_address, count-opening}
 use Rattle.ja_model.specs.declared.abstraction.Slot.{Slot}
 use Rattle.ja_model.specs.declared.abstraction.Slot.TheVariants as slot
 use Rattle.ja_model.specs.declared.abstraction.Key.{Key}
 use Rattle.ja_model.specs.declared.abstraction.Key.TheVariants as key
-use Rattle.ja_model.specs.declared.machine.Addr.{Addr}
-use Rattle.ja_model.specs.declared.machine.Property.{Property}
-use Rattle.ja_model.specs.declared.machine.Object.{Object}
-use Rattle.ja_model.specs.Heap.{object_at, count, same_text}
-use Rattle.ja_model.specs.Machine.{name_text, first_of, opening_content, opening_property, opening_object, opening_heap}
 use Rattle.ja_model.specs.AbstractValue.{AbstractProperty, no_value, unknown_attrs, no_property, bare, of_label, of_attrs}
 use Rattle.ja_model.specs.AbstractState.{new, is_key}
 use Rattle.ja_model.specs.Meaning.{missing, named, internal, object_content, content_of, property_content, held_address, held_primitive, label_of, of_content, key_content, opened_at, opened}
-use Rattle.ja_model.proofs.Heaps
-use Rattle.ja_model.proofs.Lists.{slice_get_some, some_value}
-use Rattle.ja_model.proofs.Opening.{IsOpened, site_before, objects-opening, opened_at_address, count-opening}
+use Rattle.ja_model.proofs.Contents
+use Rattle.ja_model.proofs.Nodes.{site_before}
 use Rattle.ja_value.specs.declared.property.AProp.{AProp}
 use Rattle.ja_value.specs.Value.{value_of, property_of}
 use Rattle.ja_rules.specs.Readings.{value_given, property_given, object_given, primitive_given, slot_property, opened_property}
@@ -68,7 +71,7 @@ module _ (p : Program) (good : IsWellFormed p) where
   label_of-first : (s : Site) → s.0 < length p.opening → label_of (opening_heap p) (first_of s) ≡ new s
   label_of-first s h =
       let one : count (opening_heap p) s ≡ 1 = count-opening p good s h in
-      let is_new : (label_of (opening_heap p) (first_of s)).old ≡ false = Heaps.label_is_new (opening_heap p) (first_of s) (omega arith) in
+      let is_new : (label_of (opening_heap p) (first_of s)).old ≡ false = Contents.label_is_new (opening_heap p) (first_of s) (omega arith) in
       λ i. record { site = s; old = is_new i }
 
   -- what a property has when a run begins
@@ -86,8 +89,8 @@ module _ (p : Program) (good : IsWellFormed p) where
   same_name : (m n : NameId) → IsName p m → IsName p n → same_text (name_text p m) (name_text p n) ≡ (m.0 == n.0)
   same_name m n g h =
       elim (cases_Bool (m.0 == n.0)) [
-        | inl t ↦ subst (λ u. same_text (name_text p m) u ≡ true) (ap (λ i. unwrap_or (slice_get p.names i) []) (eqb-true m.0 n.0 t)) (Heaps.same_text_refl (name_text p m)) ∙ sym t
-        | inr f ↦ false_from_ne_true _ (λ e. let same : m.0 ≡ n.0 = good.distinct m.0 n.0 (name_text p n) (named_at m g ∙ ap Some (Heaps.text_same _ _ e)) (named_at n h) in true≢false (sym (grind (arith, same)) ∙ f)) ∙ sym f
+        | inl t ↦ subst (λ u. same_text (name_text p m) u ≡ true) (ap (λ i. unwrap_or (slice_get p.names i) []) (eqb-true m.0 n.0 t)) (Contents.same_text_refl (name_text p m)) ∙ sym t
+        | inr f ↦ false_from_ne_true _ (λ e. let same : m.0 ≡ n.0 = good.distinct m.0 n.0 (name_text p n) (named_at m g ∙ ap Some (Contents.text_same _ _ e)) (named_at n h) in true≢false (sym (grind (arith, same)) ∙ f)) ∙ sym f
       ]
 
   -- the first property of a name's text is the first one of the name

@@ -17,9 +17,12 @@ use Rattle.ja_graph.specs.declared.program.Function.{Function}
 use Rattle.ja_graph.specs.declared.program.Program.{Program}
 use Rattle.ja_graph.specs.Program.{node_at, nodes_of, reference_error_prototype, type_error_prototype}
 use Rattle.ja_graph.specs.WellFormed.{IsWellFormed, IsNodeWellFormed, IsName}
+use Rattle.ja_machine.specs.Frames.{registers_of, scope}
+use Rattle.ja_machine.specs.Events.{is_text_length, unbound_message, not_a_function_message}
+use Rattle.ja_machine.specs.Nodes.{name_text}
+use Rattle.ja_machine.specs.Machine.{program_function}
 use Rattle.ja_model.specs.declared.abstraction.Key.{Key}
 use Rattle.ja_model.specs.declared.abstraction.Key.TheVariants as key
-use Rattle.ja_model.specs.Machine.{program_function, registers_of, scope, name_text, is_text_length, unbound_message, not_a_function_message}
 use Rattle.ja_model.specs.AbstractValue.{Labels, AbstractValue, AbstractProperty, of_primitive, has_part}
 use Rattle.ja_model.specs.AbstractState.{AbstractState, same_key, is_key, with_register, with_property}
 use Rattle.ja_model.specs.Reading.{Demands, Entries, View, some_label, found, may_refuse, may_accept, demands_of, prototype, outer, asked, searched, may_lack, may_be_absent, demands_of_walk, demands_of_search}

@@ -5,9 +5,9 @@ use Rattle.ja_base.specs.declared.ids.Label.{Label}
 use Rattle.ja_base.specs.declared.ids.NodeId.{NodeId}
 use Rattle.ja_base.specs.declared.ids.Site.{Site}
 use Rattle.ja_graph.specs.Program.{global, message}
+use Rattle.ja_machine.specs.Frames.{thrown}
 use Rattle.ja_model.specs.declared.abstraction.Key.{Key}
 use Rattle.ja_model.specs.declared.abstraction.Key.TheVariants as key
-use Rattle.ja_model.specs.Machine.{thrown}
 use Rattle.ja_model.specs.AbstractValue.{Labels, AbstractValue, AbstractProperty, same_label, of_label, bare}
 use Rattle.ja_model.specs.AbstractState.{AbstractState, new, with_register, with_property, with_made}
 use Rattle.ja_model.specs.Reading.{View, Demands, prototype, may_refuse}

@@ -9,9 +9,9 @@ use Rattle.ja_base.specs.declared.ids.Context.{Context}
 use Rattle.ja_graph.specs.declared.node.NodeInfo.{NodeInfo}
 use Rattle.ja_graph.specs.declared.program.Program.{Program}
 use Rattle.ja_graph.specs.Program.{node_at}
+use Rattle.ja_machine.specs.Machine.{program_function}
 use Rattle.ja_model.specs.declared.table.Item.{Item}
 use Rattle.ja_model.specs.declared.table.Item.TheVariants.{Step}
-use Rattle.ja_model.specs.Machine.{program_function}
 use Rattle.ja_model.specs.AbstractState.{AbstractState, entry_state}
 use Rattle.ja_model.specs.Reading.{Demands, Entries}
 use Rattle.ja_model.specs.Transfer.{Out, transfer}

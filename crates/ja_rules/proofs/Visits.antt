@@ -9,6 +9,7 @@ use Rattle.std.proofs.lemmas.Bool.{cases_Bool, cases_eq, cases_lt, false≢true,
 use Rattle.ja_base.specs.declared.ids.Label.{Label}
 use Rattle.ja_graph.specs.declared.program.Program.{Program}
 use Rattle.ja_graph.specs.WellFormed.{IsWellFormed}
+use Rattle.ja_machine.proofs.Lists.{some_value}
 use Rattle.ja_model.specs.declared.abstraction.Flags.{Flags}
 use Rattle.ja_model.specs.declared.abstraction.NumberPart.{NumberPart}
 use Rattle.ja_model.specs.declared.abstraction.NumberPart.TheVariants as number_part
@@ -26,7 +27,6 @@ use Rattle.ja_model.specs.Meaning.{opened}
 use Rattle.ja_model.specs.Table.{opened_entries}
 use Rattle.ja_model.proofs.Keys.{same_key-true, same_key-self}
 use Rattle.ja_model.proofs.Labels.{IsAmong, labels_of-has, same_label-true, same_label-self}
-use Rattle.ja_model.proofs.Lists.{some_value}
 use Rattle.ja_model.proofs.Order.{LeqEntries, LeqOptionProperty, no_entries_back, opened_entries-leq, option_property_same}
 use Rattle.ja_state.specs.State.{pairs_of}
 use Rattle.ja_rules.specs.Readings.{is_pair, opened_pair}

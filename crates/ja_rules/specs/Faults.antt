@@ -5,9 +5,9 @@ use Rattle.std.specs.List.{AllByRecursion}
 use Rattle.ja_graph.specs.declared.node.NodeInfo.{NodeInfo}
 use Rattle.ja_graph.specs.declared.program.Program.{Program}
 use Rattle.ja_graph.specs.Program.{nodes_of}
+use Rattle.ja_machine.specs.Machine.{program_function}
 use Rattle.ja_model.specs.declared.table.Warning.{Warning}
 use Rattle.ja_model.specs.declared.table.WarningKind.{WarningKind}
-use Rattle.ja_model.specs.Machine.{program_function}
 use Rattle.ja_model.specs.AbstractState.{AbstractState}
 use Rattle.ja_model.specs.Table.{Table, root}
 use Rattle.ja_model.specs.Warning.{kind_of, kind_number, allows_fault, allows_more}

@@ -1,5 +1,6 @@
 ghost use Rattle.std.specs.Prelude.{◌≡◌, ◌<◌, ◌++◌, ℕ, List, IfOk, length, vec_len};
-ghost use Rattle.ja_model.specs.Machine.{name_text, is_text_length, unbound_message, not_a_function_message};
+ghost use Rattle.ja_machine.specs.Events.{is_text_length, unbound_message, not_a_function_message};
+ghost use Rattle.ja_machine.specs.Nodes.{name_text};
 ghost use Rattle.ja_model.specs.AbstractValue.{of_label, bare};
 ghost use Rattle.ja_model.specs.AbstractState.{AbstractState, new};
 ghost use Rattle.ja_model.specs.Transfer.{sets, gives, throws, with_error, message_property};

@@ -1,9 +1,10 @@
 ghost use Rattle.std.specs.Prelude.{◌≡◌, ◌≤◌, ◌<◌, ◌+◌, ◌^◌, ℕ, Some, true, false, not, IfOk, OnOk, length, slice_get, vec_len};
 ghost use Rattle.std.specs.Option.{option_and_then};
 ghost use Rattle.ja_graph.specs.declared.program.Function.{Function};
+ghost use Rattle.ja_graph.specs.Kinds.{AreBuilt};
 ghost use Rattle.ja_graph.specs.Program.{nodes_of};
 ghost use Rattle.ja_graph.specs.WellFormed.{IsWellFormed, IsNodeWellFormed};
-ghost use Rattle.ja_model.specs.Machine.{program_function};
+ghost use Rattle.ja_machine.specs.Machine.{program_function};
 ghost use Rattle.ja_model.specs.Table.{IsClosed};
 ghost use Rattle.ja_model.specs.Sound.{WarnsOfFaults};
 ghost use Rattle.ja_model.specs.Warning.{AreWarnings, kind_number};
@@ -220,7 +221,7 @@ pub fn warnings(alloc: Global, program: &Program, table: &ATable) -> Result<Seq<
     requires program { IsWellFormed program.now }
     requires fits { Fits program.now table.now }
     ensures warnings { IfOk result (AreWarnings program.now (table_of table.now)) }
-    ensures faults { IfOk result (λ ws. IsClosed program.now (table_of table.now) → WarnsOfFaults program.now ws) }
+    ensures faults { IfOk result (λ ws. AreBuilt program.now → IsClosed program.now (table_of table.now) → WarnsOfFaults program.now ws) }
 {
     let found = operations(alloc, program, table)?;
     let warnings = warnings_of(alloc, &found)?;

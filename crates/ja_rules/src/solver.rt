@@ -1,4 +1,5 @@
 ghost use Rattle.std.specs.Prelude.{◌≡◌, ◌≤◌, ◌+◌, true, false, length, IfOk, IfErr, OnOk, vec_len};
+ghost use Rattle.ja_graph.specs.Kinds.{AreBuilt};
 ghost use Rattle.ja_graph.specs.WellFormed.{IsWellFormed};
 ghost use Rattle.ja_model.specs.Table.{IsBuilt, IsClosed, IsItem, root, visited};
 ghost use Rattle.ja_model.specs.Sound.{CoversRuns};
@@ -162,7 +163,7 @@ pub fn solve(alloc: Global, program: &Program, budget: u128) -> Result<Solved, S
     ensures built { IfOk result (λ s. IsBuilt program.now s.visits (table_of s.table)) }
     ensures closed { IfOk result (λ s. IsClosed program.now (table_of s.table)) }
     ensures few { IfOk result (λ s. length s.visits ≤ budget) }
-    ensures covers { IfOk result (λ s. CoversRuns program.now (table_of s.table)) }
+    ensures covers { IfOk result (λ s. AreBuilt program.now → CoversRuns program.now (table_of s.table)) }
     ensures spent { IfErr result (Explains program.now budget) }
 {
     let mut work = Work {

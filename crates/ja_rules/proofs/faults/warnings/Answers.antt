@@ -1,7 +1,7 @@
 -- The warnings are those of the operations of all nodes.
 use Rattle.std.proofs.Common.{◌≡◌, length, sym, ◌∙◌, ap, subst}
 use Rattle.ja_graph.specs.Program.{nodes_of}
-use Rattle.ja_model.specs.Machine.{program_function}
+use Rattle.ja_machine.specs.Machine.{program_function}
 use Rattle.ja_model.specs.Warning.{AreWarnings}
 use Rattle.ja_rules.specs.Readings.{table_of}
 use Rattle.ja_rules.specs.Faults.{operations_below, warnings_of}
@@ -18,4 +18,4 @@ returns-clause-warnings c = warned c
 
 pub returns-clause-faults : goal.returns-clause-faults
 returns-clause-faults c =
-    λ closed. c.warned_of_faults.ensures c.args.program.now (table_of c.args.table.now) c.from_vec.result c.requires.program closed (warned c)
+    λ built closed. c.warned_of_faults.ensures c.args.program.now (table_of c.args.table.now) c.from_vec.result c.requires.program built closed (warned c)

@@ -15,4 +15,4 @@ pub returns-clause-closed : goal.returns-clause-closed
 returns-clause-closed c = closed c
 
 pub returns-clause-covers : goal.returns-clause-covers
-returns-clause-covers c = c.closed_covers.ensures c.args.program.now (table_of c.round.new.self.table) c.requires (closed c)
+returns-clause-covers c = λ built. c.closed_covers.ensures c.args.program.now (table_of c.round.new.self.table) c.requires built (closed c)

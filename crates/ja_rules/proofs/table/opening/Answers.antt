@@ -6,7 +6,8 @@ use Rattle.std.specs.Option.{is_some}
 use Rattle.ja_graph.specs.declared.program.Function.{Function}
 use Rattle.ja_graph.specs.Program.{nodes_of}
 use Rattle.ja_graph.specs.WellFormed.{IsFunctionWellFormed, fixed_registers}
-use Rattle.ja_model.specs.Machine.{program_function, registers_of}
+use Rattle.ja_machine.specs.Frames.{registers_of}
+use Rattle.ja_machine.specs.Machine.{program_function}
 use Rattle.ja_model.specs.Reading.{Entries}
 use Rattle.ja_state.specs.State.{entries_of}
 use Rattle.ja_rules.proofs.States.{first_is}

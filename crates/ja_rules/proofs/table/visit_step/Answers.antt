@@ -1,9 +1,10 @@
 use Rattle.std.proofs.Common.{rules, ◌≡◌, sym, ap, subst, ◌∙◌, Some, length, vec_len}
 use Rattle.std.specs.Prelude.{slice_get, Option}
 use Rattle.std.specs.Option.{option_and_then, option_map}
+use Rattle.ja_machine.specs.Frames.{registers_of}
+use Rattle.ja_machine.specs.Machine.{program_function}
 use Rattle.ja_state.specs.declared.state.AState.{AState}
 use Rattle.ja_graph.specs.Program.{nodes_of}
-use Rattle.ja_model.specs.Machine.{program_function, registers_of}
 use Rattle.ja_state.specs.State.{state_of, entries_of}
 use Rattle.ja_rules.specs.Readings.{states_in, HaveSameRegisters}
 use Rattle.std.proofs.lemmas.List.Elements.{recursion_from_All}

@@ -1,6 +1,6 @@
 use Rattle.std.proofs.Common.{Bool, [], ap, append-nil, ◌∙◌, vec_len}
 use Rattle.ja_graph.specs.Program.{type_error_prototype}
-use Rattle.ja_model.specs.Machine.{not_a_function_message}
+use Rattle.ja_machine.specs.Events.{not_a_function_message}
 use Rattle.ja_model.specs.AbstractValue.{has_part}
 use Rattle.ja_model.specs.Transfer.{throws}
 use Rattle.ja_rules.specs.Readings.{view_of}

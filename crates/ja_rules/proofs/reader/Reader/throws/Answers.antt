@@ -1,5 +1,5 @@
 use Rattle.std.proofs.Common.{ap, sym, ◌∙◌, Bool, ◌&&◌, vec_len}
-use Rattle.ja_model.specs.Machine.{is_text_length}
+use Rattle.ja_machine.specs.Events.{is_text_length}
 use Rattle.ja_model.specs.Transfer.{with_error}
 use Rattle.ja_rules.specs.Readings.{view_of}
 use Rattle.ja_rules.proofs.StepLemmas.{given_at}

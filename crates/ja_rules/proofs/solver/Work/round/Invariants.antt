@@ -1,7 +1,7 @@
 -- Where no visit was added, each node below this one is settled.
 use Rattle.std.proofs.Common.{◌≡◌, length, vec_len}
 use Rattle.ja_graph.specs.Program.{nodes_of}
-use Rattle.ja_model.specs.Machine.{program_function}
+use Rattle.ja_machine.specs.Machine.{program_function}
 use Rattle.ja_rules.specs.Readings.{table_of}
 use Rattle.ja_rules.specs.Solving.{AreSettledBelow, GoesOn, HasBuilt}
 use Rattle.ja_rules.proofs.solver.Work.round.Given as goal

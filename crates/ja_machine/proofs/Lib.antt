@@ -1,0 +1,15 @@
+pub mod Heaps
+pub mod Lists
+pub mod Staying
+pub mod Writing
+pub mod Edges
+pub mod Growing
+pub mod Chains
+pub mod Opening
+pub mod Nodes
+pub mod Frames
+pub mod Reading
+pub mod Standing
+pub mod Made
+pub mod Keeping
+pub mod States

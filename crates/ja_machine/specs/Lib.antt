@@ -1,0 +1,13 @@
+pub mod Heap
+pub mod Writes
+pub mod Enumeration
+pub mod Values
+pub mod Frames
+pub mod Objects
+pub mod Events
+pub mod Intrinsics
+pub mod Calls
+pub mod Nodes
+pub mod Machine
+pub mod State
+pub mod Runs

@@ -1,0 +1,37 @@
+//! What holds of every run of a program. The functions do nothing; their contracts are the laws.
+
+ghost use Rattle.ja_graph.specs.declared.program.Program.{Program};
+ghost use Rattle.ja_graph.specs.WellFormed.{IsWellFormed};
+ghost use Rattle.ja_machine.specs.Runs.{AreStates, NeverStuck, AreSteps, ObjectsStay, ChainsEnd};
+
+/// After each list of answers a state has a frame, its frames and its heap are as they should be, each
+/// object has the class of its site, each site without a node has one object, and no other site has
+/// more than steps were made.
+pub fn states_are_kept()
+    ensures { (p : Program) → IsWellFormed p → AreStates p }
+{}
+
+/// No run is stuck: each state that is reached has a step with each answer that it wants, and with no
+/// other.
+pub fn never_stuck()
+    ensures { (p : Program) → IsWellFormed p → NeverStuck p }
+{}
+
+/// Each step counts one more. Where the run goes on, the top frame stands at `next`, at `other` or, of
+/// a node that may throw, at `handler` of the node at which it stood; or a function is entered above it;
+/// or it is left, and its caller stands at `next` or `handler` of its node. Where the run ends, the heap
+/// and the frames stay.
+pub fn steps_go_along_edges()
+    ensures { (p : Program) → AreSteps p }
+{}
+
+/// No object is ever removed, and each keeps its class and its internal properties.
+pub fn objects_stay()
+    ensures { (p : Program) → ObjectsStay p }
+{}
+
+/// A chain of prototypes, and one of scopes, meets no object twice, and ends: so following as many
+/// links as the heap has objects follows all of them.
+pub fn chains_end()
+    ensures { (p : Program) → IsWellFormed p → ChainsEnd p }
+{}

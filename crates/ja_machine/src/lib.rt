@@ -1,0 +1,11 @@
+//! What a program's run is: definitions alone, over these types, and the laws of every run.
+#![tactic(auto)]
+
+mod laws;
+mod machine;
+
+pub use laws::{chains_end, never_stuck, objects_stay, states_are_kept, steps_go_along_edges};
+pub use machine::{
+    Addr, Answer, Conf, Content, End, Event, Frame, Heap, Object, Property, Put, Remaining, Slots,
+    Value, Wants,
+};

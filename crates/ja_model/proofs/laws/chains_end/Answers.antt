@@ -1,6 +1,0 @@
--- A link leads to an object of lower rank.
-use Rattle.ja_model.proofs.laws.chains_end.Goals as goal
-use Rattle.ja_model.proofs.Running.{chains_end}
-
-pub returns : goal.returns
-returns c = λ p good. chains_end p good
