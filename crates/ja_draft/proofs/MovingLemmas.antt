@@ -38,42 +38,42 @@ module _ (f g : Reg → Reg) where
   arguments_alike (args.Elements array) h = ap (λ (r : Reg). args.Elements r) h.0
   arguments_alike args.Tail h = refl
 
-  node_alike : (n : Node) → AllByRecursion Alike (registers_in n) → renamed (by_register f) n ≡ renamed (by_register g) n
+  pub same_registers : (n : Node) → AllByRecursion Alike (registers_in n) → renamed (by_register f) n ≡ renamed (by_register g) n
   unfolding renamed register_set registers_named
-  node_alike (node.Const dst prim) h = cc h.0
-  node_alike (node.Move dst src) h = cc (h.0, h.1.0)
-  node_alike (node.FindName dst name) h = cc h.0
-  node_alike (node.ReadRef dst base name error) h = cc (h.0, h.1.0)
-  node_alike (node.ReadSoft dst base name) h = cc (h.0, h.1.0)
-  node_alike (node.WriteRef base name src) h = cc (h.0, h.1.0)
-  node_alike (node.DeleteRef dst base name) h = cc (h.0, h.1.0)
-  node_alike (node.ToObject dst src sites error) h = cc (h.0, h.1.0)
-  node_alike (node.NeedObject src error) h = cc h.0
-  node_alike (node.ReadProp dst object key) h = cc (h.0, h.1.0, h.1.1.0)
-  node_alike (node.WriteProp object key src error) h = cc (h.0, h.1.0, h.1.1.0)
-  node_alike (node.DeleteProp dst object key) h = cc (h.0, h.1.0, h.1.1.0)
-  node_alike (node.HasProp dst object key) h = cc (h.0, h.1.0, h.1.1.0)
-  node_alike (node.InstanceOf dst left right not_function not_object) h = cc (h.0, h.1.0, h.1.1.0)
-  node_alike (node.NewObject dst site kind) h = cc h.0
-  node_alike (node.MakeFunction dst function site proto_site) h = cc h.0
-  node_alike (node.Enter site arguments) h = refl
-  node_alike (node.Declare name) h = refl
-  node_alike (node.Bind name src read_only) h = cc h.0
-  node_alike (node.PushScope site) h = refl
-  node_alike (node.Convert dst src hint other) h = cc (h.0, h.1.0, option_alike other h.1.1)
-  node_alike (node.Unary dst op src) h = cc (h.0, h.1.0)
-  node_alike (node.Binary dst op a b) h = cc (h.0, h.1.0, h.1.1.0)
-  node_alike (node.Branch src) h = cc h.0
-  node_alike (node.Call dst callee receiver args error) h = cc (h.0, h.1.0, h.1.1.0, arguments_alike args h.1.1.1)
-  node_alike (node.New dst callee args site error) h = cc (h.0, h.1.0, list_alike args h.1.1)
-  node_alike (node.Names list object) h = cc (h.0, h.1.0)
-  node_alike (node.Pick list dst object) h = cc (h.0, h.1.0, h.1.1.0)
-  node_alike (node.Throw src) h = cc h.0
-  node_alike (node.Return src) h = cc h.0
-  node_alike node.Escape h = refl
-  node_alike (node.Intrinsic dst which args) h = cc (h.0, list_alike args h.1)
-  node_alike (node.Device dst which) h = cc h.0
-  node_alike (node.Stop kind) h = refl
+  same_registers (node.Const dst prim) h = cc h.0
+  same_registers (node.Move dst src) h = cc (h.0, h.1.0)
+  same_registers (node.FindName dst name) h = cc h.0
+  same_registers (node.ReadRef dst base name error) h = cc (h.0, h.1.0)
+  same_registers (node.ReadSoft dst base name) h = cc (h.0, h.1.0)
+  same_registers (node.WriteRef base name src) h = cc (h.0, h.1.0)
+  same_registers (node.DeleteRef dst base name) h = cc (h.0, h.1.0)
+  same_registers (node.ToObject dst src sites error) h = cc (h.0, h.1.0)
+  same_registers (node.NeedObject src error) h = cc h.0
+  same_registers (node.ReadProp dst object key) h = cc (h.0, h.1.0, h.1.1.0)
+  same_registers (node.WriteProp object key src error) h = cc (h.0, h.1.0, h.1.1.0)
+  same_registers (node.DeleteProp dst object key) h = cc (h.0, h.1.0, h.1.1.0)
+  same_registers (node.HasProp dst object key) h = cc (h.0, h.1.0, h.1.1.0)
+  same_registers (node.InstanceOf dst left right not_function not_object) h = cc (h.0, h.1.0, h.1.1.0)
+  same_registers (node.NewObject dst site kind) h = cc h.0
+  same_registers (node.MakeFunction dst function site proto_site) h = cc h.0
+  same_registers (node.Enter site arguments) h = refl
+  same_registers (node.Declare name) h = refl
+  same_registers (node.Bind name src read_only) h = cc h.0
+  same_registers (node.PushScope site) h = refl
+  same_registers (node.Convert dst src hint other) h = cc (h.0, h.1.0, option_alike other h.1.1)
+  same_registers (node.Unary dst op src) h = cc (h.0, h.1.0)
+  same_registers (node.Binary dst op a b) h = cc (h.0, h.1.0, h.1.1.0)
+  same_registers (node.Branch src) h = cc h.0
+  same_registers (node.Call dst callee receiver args error) h = cc (h.0, h.1.0, h.1.1.0, arguments_alike args h.1.1.1)
+  same_registers (node.New dst callee args site error) h = cc (h.0, h.1.0, list_alike args h.1.1)
+  same_registers (node.Names list object) h = cc (h.0, h.1.0)
+  same_registers (node.Pick list dst object) h = cc (h.0, h.1.0, h.1.1.0)
+  same_registers (node.Throw src) h = cc h.0
+  same_registers (node.Return src) h = cc h.0
+  same_registers node.Escape h = refl
+  same_registers (node.Intrinsic dst which args) h = cc (h.0, list_alike args h.1)
+  same_registers (node.Device dst which) h = cc h.0
+  same_registers (node.Stop kind) h = refl
 
 -- a register that is low enough is moved
 moved_is : (first by : ℕ) (r : Reg) → r.0 < 2 ^ 32 - by → moved_within first by r ≡ moved_register first by r
@@ -91,4 +91,4 @@ all_moved first by (r ∷ rs) low = (moved_is first by r low.0, all_moved first 
 
 pub moved_alike : (first by : ℕ) (n : Node) → registers_with 0 (registers_in n) ≤ 2 ^ 32 - by → renamed (moving_within first by) n ≡ renamed (moving first by) n
 moved_alike first by n few =
-    node_alike (moved_within first by) (moved_register first by) n (all_moved first by (registers_in n) (each_among 0 (2 ^ 32 - by) (registers_in n) few))
+    same_registers (moved_within first by) (moved_register first by) n (all_moved first by (registers_in n) (each_among 0 (2 ^ 32 - by) (registers_in n) few))

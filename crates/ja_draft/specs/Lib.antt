@@ -2,3 +2,5 @@ pub mod Lines
 pub mod Registers
 pub mod Copies
 pub mod Parts
+pub mod Sources
+pub mod Laws

@@ -54,11 +54,11 @@ with_item l i = record l { items = l.items ++ i ∷ [] }
 
 -- a node, which may throw to the handler
 abbrev pub with_node : Scene → Place → Node → Listing → Listing
-with_node scene place node l = with_item l (item.Node node None scene.handler place None)
+with_node scene place node l = with_item l (item.Node node None scene.handler place)
 
 -- a node that leads to a spot by its edge `other`
 abbrev pub with_branch : Scene → Place → Node → Spot → Listing → Listing
-with_branch scene place node other l = with_item l (item.Node node (Some other) scene.handler place None)
+with_branch scene place node other l = with_item l (item.Node node (Some other) scene.handler place)
 
 -- a node that sets the next temporary
 abbrev pub with_result : Scene → Place → (Reg → Node) → Listing → Valued

@@ -2,19 +2,19 @@
 
 ghost use Rattle.std.specs.Prelude.{◌≡◌, ◌+◌, ◌∷◌, ◌++◌, [], map, OnOk, IfOk, None, Some};
 ghost use Rattle.ja_listing.specs.declared.item.Item.TheVariants as item;
-ghost use Rattle.ja_listing.specs.Listing.{node_count, begins_with_jump};
+ghost use Rattle.ja_listing.specs.Listing.{node_count, begins_with_node};
 ghost use Rattle.ja_draft.specs.Lines as lines;
-ghost use Rattle.ja_draft.specs.Parts.{part_items, items_of, moved_by};
+ghost use Rattle.ja_draft.specs.Parts.{line_of, lines_of, counted};
 
-use crate::moves::Moves;
-use crate::part::{MOST_LINES, Part, first_line_jumps, written};
+use crate::part::{Part, begins_with_node, lines};
 use ja_base::{Memory, Place, Reg};
 use ja_graph::Node;
 use ja_listing::{Item, Spot};
-use sqlite_items::Items;
 use std::alloc::Global;
 use std::marker::Model;
-use std::rc::Rc;
+
+/// The most lines behind which a copy is added.
+const MOST_LINES: usize = 16_777_216;
 
 /// A listing so far, with how many nodes it has and the numbers of its next temporary and its next
 /// spot. Copies of blocks aren't written out.
@@ -29,25 +29,15 @@ pub struct Draft {
 impl Model for Draft {
     ghost use Rattle.std.specs.Prelude.{◌≡◌};
     ghost use Rattle.ja_draft.specs.Lines as lines;
-    ghost use Rattle.ja_draft.specs.Parts.{items_of};
+    ghost use Rattle.ja_draft.specs.Parts.{lines_of};
     ghost use Rattle.ja_listing.specs.Listing.{node_count};
+    ghost use Rattle.ja_draft.specs.Parts.{counted};
 
     ghost Value = { lines.Listing };
 
-    ghost view = { λ d. record { items = items_of d.parts.items; temporary = d.temporary; spot = d.spot } };
+    ghost view = { λ d. record { items = lines_of d.parts.items; temporary = d.temporary; spot = d.spot } };
 
-    ghost invariant = { λ d. d.nodes ≡ node_count (items_of d.parts.items) };
-}
-
-/// How many nodes a line is: one or none.
-#[tactic(auto, unfolding(ja_listing::specs::Listing::node_count))]
-fn nodes_of(item: &Item) -> u32
-    ensures { result ≡ node_count (item.now ∷ []) }
-{
-    match item {
-        Item::Node { .. } => 1,
-        Item::Spot(_) | Item::Jump(_) => 0,
-    }
+    ghost invariant = { λ d. d.nodes ≡ counted (lines_of d.parts.items) };
 }
 
 /// Parts, and further ones behind them.
@@ -81,59 +71,33 @@ impl Draft {
         self.temporary
     }
 
-    /// How many nodes there are.
+    /// How many nodes there are, or 4,294,967,295 where there are more.
     pub fn nodes(&self) -> u32
-        ensures { result ≡ node_count self.now.items }
+        ensures { result ≡ counted self.now.items }
     {
         self.nodes
     }
 
-    /// Adds a part, which has so many nodes. Past 4,294,967,295 nodes memory counts as refused.
-    #[tactic(auto, using(crate::proofs::PartLemmas::count_push))]
+    /// Adds a part, which has so many nodes.
+    #[tactic(auto, using(crate::proofs::PartLemmas::count_more))]
     fn part(&mut self, part: Part, nodes: u32) -> Result<(), Memory>
-        requires { nodes ≡ node_count (part_items part) }
-        ensures { lines.Adds (record self.old { items = self.old.items ++ part_items part }) result self.new }
+        requires { nodes ≡ counted (line_of part ∷ []) }
+        ensures { lines.Adds (lines.with_item self.old (line_of part)) result self.new }
     {
-        match self.nodes.checked_add(nodes) {
-            Some(all) => {
-                self.parts.push(part)?;
-                self.nodes = all;
-                Ok(())
-            }
-            None => Err(Memory),
-        }
-    }
-
-    /// Adds a line.
-    #[tactic(auto, using(crate::proofs::PartLemmas::items_of_line))]
-    pub fn item(&mut self, item: Item) -> Result<(), Memory>
-        ensures { lines.Adds (lines.with_item self.old item) result self.new }
-    {
-        let nodes = nodes_of(&item);
-        self.part(Part::Item(item), nodes)?;
+        self.parts.push(part)?;
+        self.nodes = self.nodes.saturating_add(nodes);
         Ok(())
     }
 
-    /// Adds a copy of a block, which has so many nodes. Behind 16,777,216 lines and copies memory counts
-    /// as refused.
-    #[tactic(auto, using(crate::proofs::PartLemmas::items_of_copy, crate::proofs::PartLemmas::count_copy))]
-    pub(crate) fn copy(
-        &mut self,
-        parts: Rc<Items<Part>>,
-        moves: Moves,
-        nodes: u32,
-    ) -> Result<(), Memory>
-        requires { nodes ≡ node_count (items_of parts.value) }
-        ensures { lines.Adds (record self.old { items = self.old.items ++ map (moved_by moves) (items_of parts.value) }) result self.new }
+    /// Adds a copy of a block, which has so many nodes. Behind 16,777,216 lines memory counts as refused.
+    pub(crate) fn copy(&mut self, copy: Part, nodes: u32) -> Result<(), Memory>
+        requires { nodes ≡ counted (line_of copy ∷ []) }
+        ensures { lines.Adds (lines.with_item self.old (line_of copy)) result self.new }
     {
-        if parts.as_slice().is_empty() {
-            return Ok(());
-        }
         if self.parts.len() >= MOST_LINES {
             return Err(Memory);
         }
-        self.part(Part::Copy { parts, moves }, nodes)?;
-        Ok(())
+        self.part(copy, nodes)
     }
 
     /// Takes the next temporary. Past the last number that a register may have memory counts as refused.
@@ -192,30 +156,46 @@ impl Draft {
     }
 
     /// Adds the spot of what follows.
+    #[tactic(auto, unfolding(ja_listing::specs::Listing::node_count), using(crate::proofs::PartLemmas::of_spot))]
     pub fn mark(&mut self, spot: Spot) -> Result<(), Memory>
         ensures { lines.Adds (lines.with_spot spot self.old) result self.new }
     {
-        self.item(Item::Spot(spot))
+        self.part(Part::Spot(spot), 0)
     }
 
     /// Adds a jump.
+    #[tactic(auto, unfolding(ja_listing::specs::Listing::node_count), using(crate::proofs::PartLemmas::of_jump))]
     pub fn jump(&mut self, spot: Spot) -> Result<(), Memory>
         ensures { lines.Adds (lines.with_jump spot self.old) result self.new }
     {
-        self.item(Item::Jump(spot))
+        self.part(Part::Jump(spot), 0)
+    }
+
+    /// Adds a node, with the spots of its edges.
+    #[tactic(auto, unfolding(ja_listing::specs::Listing::node_count), using(crate::proofs::PartLemmas::of_node))]
+    fn with_edges(
+        &mut self,
+        node: Node,
+        other: Option<Spot>,
+        handler: Option<Spot>,
+        place: Place,
+    ) -> Result<(), Memory>
+        ensures { lines.Adds (lines.with_item self.old (item.Node node other handler place)) result self.new }
+    {
+        let part = Part::Node {
+            node,
+            other,
+            handler,
+            place,
+        };
+        self.part(part, 1)
     }
 
     /// Adds a node.
     pub fn node(&mut self, handler: Option<Spot>, place: Place, node: Node) -> Result<(), Memory>
-        ensures { lines.Adds (lines.with_item self.old (item.Node node None handler place None)) result self.new }
+        ensures { lines.Adds (lines.with_item self.old (item.Node node None handler place)) result self.new }
     {
-        self.item(Item::Node {
-            node,
-            other: None,
-            handler,
-            place,
-            above: None,
-        })
+        self.with_edges(node, None, handler, place)
     }
 
     /// Adds a node that leads to a spot by its edge `other`.
@@ -226,27 +206,20 @@ impl Draft {
         node: Node,
         other: Spot,
     ) -> Result<(), Memory>
-        ensures { lines.Adds (lines.with_item self.old (item.Node node (Some other) handler place None)) result self.new }
+        ensures { lines.Adds (lines.with_item self.old (item.Node node (Some other) handler place)) result self.new }
     {
-        self.item(Item::Node {
-            node,
-            other: Some(other),
-            handler,
-            place,
-            above: None,
-        })
+        self.with_edges(node, Some(other), handler, place)
     }
 
-    /// Whether the first line that is no spot is a jump.
-    pub fn begins_with_jump(&self) -> bool
-        ensures { result ≡ begins_with_jump self.now.items }
+    /// Whether the first line that is no spot is a node.
+    pub fn begins_with_node(&self) -> bool
+        ensures { result ≡ begins_with_node self.now.items }
     {
-        first_line_jumps(&self.parts).unwrap_or(false)
+        begins_with_node(&self.parts)
     }
 
-    /// This listing with another one behind it, whose temporaries and spots go on. Past 4,294,967,295
-    /// nodes memory counts as refused.
-    #[tactic(auto, using(crate::proofs::PartLemmas::items_both, crate::proofs::PartLemmas::count_parts))]
+    /// This listing with another one behind it, whose temporaries and spots go on.
+    #[tactic(auto, using(crate::proofs::PartLemmas::count_parts))]
     pub fn then(self, listing: Draft) -> Result<Draft, Memory>
         ensures { IfOk result (λ whole. whole ≡ record listing { items = self.items ++ listing.items }) }
     {
@@ -261,34 +234,28 @@ impl Draft {
             temporary,
             spot,
         } = listing;
-        let Some(nodes) = before.checked_add(nodes) else {
-            return Err(Memory);
-        };
         let parts = joined(parts, behind)?;
         Ok(Draft {
             parts,
-            nodes,
+            nodes: before.saturating_add(nodes),
             temporary,
             spot,
         })
     }
 
-    /// The parts, and how many nodes they have.
+    /// The parts, and how many nodes they have, or 4,294,967,295 where they have more.
     pub(crate) fn into_parts(self) -> (Vec<Part>, u32)
-        ensures items { items_of result.0.items ≡ self.items }
-        ensures nodes { result.1 ≡ node_count self.items }
+        ensures items { lines_of result.0.items ≡ self.items }
+        ensures nodes { result.1 ≡ counted self.items }
     {
         let Draft { parts, nodes, .. } = self;
         (parts, nodes)
     }
 
-    /// The lines, with the copies of blocks written out. Memory counts as refused where there are more
-    /// than 16,777,216.
+    /// The lines, with the nodes of the copies written out.
     pub fn into_items(self, alloc: Global) -> Result<Vec<Item>, Memory>
         ensures { IfOk result (λ items. items.items ≡ self.items) }
     {
-        let Draft { parts, .. } = self;
-        let items = written(alloc, parts)?;
-        Ok(items)
+        lines(alloc, &self.parts)
     }
 }

@@ -1,59 +1,24 @@
-//! Lines whose temporaries and spots are moved.
+//! Blocks whose temporaries are moved.
 
-ghost use Rattle.std.specs.Prelude.{◌≡◌, ◌+◌, ◌-◌, IfOk};
-ghost use Rattle.std.specs.Option.{option_map};
+ghost use Rattle.std.specs.Prelude.{◌≡◌, ◌++◌, map, IfOk};
 ghost use Rattle.ja_draft.specs.Parts as spec;
 ghost use Rattle.ja_draft.specs.Copies as copies;
 
 use crate::moving::moved;
-use ja_base::{Memory, Reg};
-use ja_listing::{Item, Spot};
+use ja_base::{Memory, Reg, Seq};
+use ja_listing::{Block, BlockNode};
 use std::alloc::Global;
 
-/// How a copy is moved: where the temporaries and the spots of its block begin and how many spots it
-/// has, the register above which the copy stands, by how much its temporaries are moved up, and where
-/// its spots begin.
+/// How a copy is moved: where the temporaries of its block begin, the register above which the copy
+/// stands, and by how much its temporaries are moved up.
 #[derive(Clone, Copy)]
 pub struct Moves {
     pub(crate) temporary: u32,
-    pub(crate) spot: u32,
-    pub(crate) spots: u32,
     pub(crate) above: Reg,
     pub(crate) by: u32,
-    pub(crate) to: u32,
 }
 
 impl Moves {
-    /// Where a spot is in the copy. Past the last number that a spot may have memory counts as
-    /// refused.
-    fn spot(self, spot: Spot) -> Result<Spot, Memory>
-        ensures { IfOk result (λ s. s ≡ copies.moved_spot (spec.block_of self) self.to spot) }
-    {
-        if spot.0 < self.spot {
-            return Ok(spot);
-        }
-        let after = spot.0 - self.spot;
-        if after >= self.spots {
-            return Ok(spot);
-        }
-        match self.to.checked_add(after) {
-            Some(number) => Ok(Spot(number)),
-            None => Err(Memory),
-        }
-    }
-
-    fn spot_if_any(self, spot: Option<Spot>) -> Result<Option<Spot>, Memory>
-        ensures { IfOk result (λ s. s ≡ option_map (copies.moved_spot (spec.block_of self) self.to) spot) }
-    {
-        match spot {
-            None => Ok(None),
-            Some(spot) => {
-                let spot = self.spot(spot)?;
-                Ok(Some(spot))
-            }
-        }
-    }
-
     /// Whether what stands above this register, or in no copy, moves with the block.
     fn takes(self, inner: Option<Reg>) -> bool
         ensures { result ≡ copies.moves_with self.temporary inner }
@@ -64,41 +29,33 @@ impl Moves {
         }
     }
 
-    /// A line of the copy.
-    pub(crate) fn item(self, alloc: Global, item: &Item) -> Result<Item, Memory>
-        ensures { IfOk result (λ i. i ≡ spec.moved_by self item.now) }
+    /// A node of the copy.
+    fn node(self, alloc: Global, node: &BlockNode) -> Result<BlockNode, Memory>
+        ensures { IfOk result (λ n. n ≡ copies.moved_node self.temporary self.above self.by node.now) }
     {
-        match item {
-            Item::Node {
-                node,
-                other,
-                handler,
-                place,
-                above,
-            } => {
-                let takes = self.takes(*above);
-                let by = if takes { self.by } else { 0 };
-                let node = moved(alloc, node, self.temporary, by)?;
-                let other = self.spot_if_any(*other)?;
-                let handler = self.spot_if_any(*handler)?;
-                let place = *place;
-                let above = if takes { Some(self.above) } else { *above };
-                Ok(Item::Node {
-                    node,
-                    other,
-                    handler,
-                    place,
-                    above,
-                })
-            }
-            Item::Spot(spot) => {
-                let spot = self.spot(*spot)?;
-                Ok(Item::Spot(spot))
-            }
-            Item::Jump(spot) => {
-                let spot = self.spot(*spot)?;
-                Ok(Item::Jump(spot))
-            }
+        let takes = self.takes(node.above);
+        let by = if takes { self.by } else { 0 };
+        Ok(BlockNode {
+            node: moved(alloc, &node.node, self.temporary, by)?,
+            next: node.next,
+            other: node.other,
+            handler: node.handler,
+            place: node.place,
+            above: if takes { Some(self.above) } else { node.above },
+        })
+    }
+
+    /// The copy of a block.
+    pub(crate) fn block(self, alloc: Global, block: &Block) -> Result<Block, Memory>
+        ensures { IfOk result (λ b. b ≡ spec.moved_by self block.now) }
+    {
+        let mut nodes = Vec::with_capacity(alloc, block.nodes.len())?;
+        for node in block.nodes.as_slice() {
+            nodes.push(self.node(alloc, node)?)?;
         }
+        Ok(Block {
+            entry: block.entry,
+            nodes: Seq::from_vec(nodes),
+        })
     }
 }

@@ -1,158 +1,140 @@
-//! The parts of a listing: its lines, and copies of blocks, which are written out when it is read.
+//! The parts of a listing: its lines, where those of copies refer to their blocks and are written out
+//! when the listing is read.
 
-ghost use Rattle.std.specs.Prelude.{◌≡◌, ◌∷◌, ◌++◌, [], map, IfOk, OnOk};
-ghost use Rattle.ja_listing.specs.Listing.{first_line_jumps};
+ghost use Rattle.std.specs.Prelude.{◌≡◌, List, ◌∷◌, unwrap_or, IfOk};
+ghost use Rattle.ja_graph.specs.Renaming.{identity};
+ghost use Rattle.ja_listing.specs.declared.item.Item.{Item};
+ghost use Rattle.ja_listing.specs.Listing.{begins_with_node};
 ghost use Rattle.ja_draft.specs.Parts as spec;
 
 use crate::moves::Moves;
-use ja_base::Memory;
-use ja_listing::Item;
+use ja_base::{FnId, Memory, NameId, Place, Reg, Site};
+use ja_graph::{Node, Renames, renamed};
+use ja_listing::{Block, Item, Spot, block_of};
 use sqlite_items::Items;
 use std::alloc::Global;
 use std::rc::Rc;
 
-/// The most lines that are written out.
-pub(crate) const MOST_LINES: usize = 16_777_216;
-
-/// A line, or a copy of a block.
+/// A line. A copy has its block, or the parts that come to it.
 #[derive(Drop)]
 pub enum Part {
-    Item(Item),
+    Node {
+        node: Node,
+        other: Option<Spot>,
+        handler: Option<Spot>,
+        place: Place,
+    },
+    Spot(Spot),
+    Jump(Spot),
+    Written {
+        block: Rc<Block>,
+        moves: Moves,
+    },
     Copy {
         parts: Rc<Items<Part>>,
         moves: Moves,
     },
 }
 
-/// Whether a line is a jump, unless it is a spot.
-#[tactic(auto, unfolding(ja_listing::specs::Listing::first_line_jumps))]
-fn line_jumps(item: &Item) -> Option<bool>
-    ensures { result ≡ first_line_jumps (item.now ∷ []) }
-{
-    match item {
-        Item::Node { .. } => Some(false),
-        Item::Jump(_) => Some(true),
-        Item::Spot(_) => None,
+/// Each number stays.
+#[derive(Drop)]
+struct Staying {}
+
+impl Renames for Staying {
+    ghost renaming = { λ s. identity };
+
+    fn register(&self, register: Reg) -> Reg {
+        register
+    }
+
+    fn name(&self, name: NameId) -> NameId {
+        name
+    }
+
+    fn function(&self, function: FnId) -> FnId {
+        function
+    }
+
+    fn site(&self, site: Site) -> Site {
+        site
     }
 }
 
-/// Whether the first line of a part that is no spot is a jump.
-#[cycle(beginnings)]
-#[tactic(auto, using(crate::proofs::PartLemmas::items_of_line, crate::proofs::PartLemmas::first_of_copy))]
-fn part_jumps(part: &Part) -> Option<bool>
-    ensures { result ≡ first_line_jumps (spec.part_items part.now) }
+/// A copy of a node.
+#[tactic(auto, using(ja_graph::proofs::RenamingLemmas::identity_keeps))]
+fn copy_of(alloc: Global, node: &Node) -> Result<Node, Memory>
+    ensures { IfOk result (λ copy. copy ≡ node.now) }
+{
+    let copy = renamed(alloc, node, &Staying {})?;
+    Ok(copy)
+}
+
+/// The line of a part.
+#[cycle(lines)]
+#[tactic(auto, using(crate::proofs::PartLemmas::of_node, crate::proofs::PartLemmas::of_spot, crate::proofs::PartLemmas::of_jump, crate::proofs::PartLemmas::of_written, crate::proofs::PartLemmas::of_copy))]
+fn line(alloc: Global, part: &Part) -> Result<Item, Memory>
+    ensures { IfOk result (λ item. item ≡ spec.line_of part.now) }
 {
     match part {
-        Part::Item(item) => line_jumps(item),
-        Part::Copy { parts, .. } => first_line_jumps(parts.as_slice()),
-    }
-}
-
-/// Whether the first line of parts that is no spot is a jump.
-#[cycle(beginnings)]
-#[tactic(auto, unfolding(ja_listing::specs::Listing::first_line_jumps), using(crate::proofs::PartLemmas::first_of_parts))]
-pub(crate) fn first_line_jumps(parts: &[Part]) -> Option<bool>
-    ensures { result ≡ first_line_jumps (spec.items_of parts.now) }
-{
-    for part in parts {
-        if let Some(jumps) = part_jumps(part) {
-            return Some(jumps);
-        }
-    }
-    None
-}
-
-/// Adds a line. Past the most lines that are written out memory counts as refused.
-fn add(item: Item, items: &mut Vec<Item>) -> Result<(), Memory>
-    ensures { OnOk result (items.new.items ≡ items.old.items ++ item ∷ []) }
-{
-    if items.len() >= MOST_LINES {
-        return Err(Memory);
-    }
-    items.push(item)?;
-    Ok(())
-}
-
-/// Adds lines, moved.
-fn add_moved(
-    alloc: Global,
-    lines: &[Item],
-    moves: Moves,
-    items: &mut Vec<Item>,
-) -> Result<(), Memory>
-    ensures { OnOk result (items.new.items ≡ items.old.items ++ map (spec.moved_by moves) lines.now) }
-{
-    for line in lines {
-        let line = moves.item(alloc, line)?;
-        add(line, items)?;
-    }
-    Ok(())
-}
-
-/// Adds what a part comes to, moved.
-#[cycle(copies)]
-#[tactic(auto, using(crate::proofs::PartLemmas::items_of_line, crate::proofs::PartLemmas::items_of_copy))]
-fn add_part(alloc: Global, part: &Part, moves: Moves, items: &mut Vec<Item>) -> Result<(), Memory>
-    ensures { OnOk result (items.new.items ≡ items.old.items ++ map (spec.moved_by moves) (spec.part_items part.now)) }
-{
-    match part {
-        Part::Item(item) => {
-            let item = moves.item(alloc, item)?;
-            add(item, items)?;
-            Ok(())
-        }
-        Part::Copy {
-            parts,
-            moves: inner,
-        } => {
-            let mut block = Vec::new(alloc);
-            add_copy(alloc, parts.as_slice(), *inner, &mut block)?;
-            add_moved(alloc, block.as_slice(), moves, items)?;
-            Ok(())
-        }
-    }
-}
-
-/// Adds a copy of a block.
-#[cycle(copies)]
-fn add_copy(
-    alloc: Global,
-    parts: &[Part],
-    moves: Moves,
-    items: &mut Vec<Item>,
-) -> Result<(), Memory>
-    ensures { OnOk result (items.new.items ≡ items.old.items ++ map (spec.moved_by moves) (spec.items_of parts.now)) }
-{
-    for part in parts {
-        add_part(alloc, part, moves, items)?;
-    }
-    Ok(())
-}
-
-/// Adds what a part comes to.
-#[tactic(auto, using(crate::proofs::PartLemmas::items_of_line, crate::proofs::PartLemmas::items_of_copy))]
-fn write(alloc: Global, part: Part, items: &mut Vec<Item>) -> Result<(), Memory>
-    ensures { OnOk result (items.new.items ≡ items.old.items ++ spec.part_items part) }
-{
-    match part {
-        Part::Item(item) => {
-            add(item, items)?;
-            Ok(())
+        Part::Node {
+            node,
+            other,
+            handler,
+            place,
+        } => Ok(Item::Node {
+            node: copy_of(alloc, node)?,
+            other: *other,
+            handler: *handler,
+            place: *place,
+        }),
+        Part::Spot(spot) => Ok(Item::Spot(*spot)),
+        Part::Jump(spot) => Ok(Item::Jump(*spot)),
+        Part::Written { block, moves } => {
+            let copy = moves.block(alloc, block)?;
+            Ok(Item::Copy(copy))
         }
         Part::Copy { parts, moves } => {
-            add_copy(alloc, parts.as_slice(), moves, items)?;
-            Ok(())
+            let lines = lines(alloc, parts.as_slice())?;
+            let block = block_of(alloc, lines)?;
+            let copy = moves.block(alloc, &block)?;
+            Ok(Item::Copy(copy))
         }
     }
 }
 
-/// The lines to which parts come. Memory counts as refused where there are more than 16,777,216.
-pub(crate) fn written(alloc: Global, parts: Vec<Part>) -> Result<Vec<Item>, Memory>
-    ensures { IfOk result (λ items. items.items ≡ spec.items_of parts.items) }
+/// The lines of parts.
+#[cycle(lines)]
+pub(crate) fn lines(alloc: Global, parts: &[Part]) -> Result<Vec<Item>, Memory>
+    ensures { IfOk result (λ items. items.items ≡ spec.lines_of parts.now) }
 {
-    let mut items = Vec::new(alloc);
+    let mut items = Vec::with_capacity(alloc, parts.len())?;
     for part in parts {
-        write(alloc, part, &mut items)?;
+        items.push(line(alloc, part)?)?;
     }
     Ok(items)
+}
+
+/// Whether a line is a node, unless it is a spot.
+#[tactic(auto, unfolding(ja_listing::specs::Listing::begins_with_node), using(crate::proofs::PartLemmas::of_node, crate::proofs::PartLemmas::of_spot, crate::proofs::PartLemmas::of_jump, crate::proofs::PartLemmas::of_written, crate::proofs::PartLemmas::of_copy))]
+fn is_node(part: &Part) -> Option<bool>
+    ensures { (items : List Item) → begins_with_node (spec.line_of part.now ∷ items) ≡ unwrap_or result (begins_with_node items) }
+{
+    match part {
+        Part::Node { .. } => Some(true),
+        Part::Spot(_) => None,
+        Part::Jump(_) | Part::Written { .. } | Part::Copy { .. } => Some(false),
+    }
+}
+
+/// Whether the first line of parts that is no spot is a node.
+#[tactic(auto, unfolding(ja_listing::specs::Listing::begins_with_node))]
+pub(crate) fn begins_with_node(parts: &[Part]) -> bool
+    ensures { result ≡ begins_with_node (spec.lines_of parts.now) }
+{
+    for part in parts {
+        if let Some(is_node) = is_node(part) {
+            return is_node;
+        }
+    }
+    false
 }

@@ -30,7 +30,7 @@ impl<'a, 't> Model for Scene<'a, 't> {
 }
 
 impl<'a, 't> Scene<'a, 't> {
-    /// The number of a name.
+    /// The number of a name, or the one behind the last where the program doesn't have it.
     pub fn name(&self, text: &[u16]) -> NameId
         ensures { result ≡ lines.name_id self.now text.now }
     {

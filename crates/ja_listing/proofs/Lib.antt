@@ -4,3 +4,4 @@ pub mod Kept
 pub mod Inside
 pub mod Jumps
 pub mod Followed
+pub mod Copied

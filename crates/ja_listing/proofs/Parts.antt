@@ -1,5 +1,5 @@
 -- The items at the end of a listing, one more at a time.
-use Rattle.std.proofs.Common.{◌≡◌, ℕ, ◌+◌, ◌<◌, ◌≤◌, List, [], ◌∷◌, length, get_or, drop, zero, suc, ap, sym, arith, drop-cons, add-one}
+use Rattle.std.proofs.Common.{◌≡◌, ℕ, ◌+◌, ◌-◌, ◌<◌, ◌≤◌, List, [], ◌∷◌, ◌++◌, length, get_or, drop, zero, suc, ap, sym, arith, drop-cons, add-one}
 use Rattle.ja_listing.specs.declared.item.Item.{Item}
 use Rattle.ja_listing.specs.declared.item.Item.TheVariants as item
 use Rattle.ja_listing.specs.Listing.{node_count}
@@ -11,9 +11,16 @@ items_at items k m x at inside next = rw (next, add-one, drop-cons items k x) (a
 -- the nodes of an item and of those behind it
 pub count_split : (x : Item) (items : List Item) → node_count (x ∷ items) ≡ node_count (x ∷ []) + node_count items
 unfolding node_count
-count_split (item.Node node other handler place above) items = omega arith
+count_split (item.Node node other handler place) items = omega arith
 count_split (item.Spot s) items = omega arith
 count_split (item.Jump s) items = omega arith
+count_split (item.Copy block) items = omega arith
+
+-- the nodes of items and of those behind them
+pub count_both : (xs ys : List Item) → node_count (xs ++ ys) ≡ node_count xs + node_count ys
+unfolding node_count
+count_both [] ys = omega arith
+count_both (x ∷ xs) ys = omega (arith, count_split x (xs ++ ys), count_split x xs, count_both xs ys)
 
 -- the items from one on have no more nodes
 pub count_drop : (k : ℕ) (items : List Item) → node_count (drop k items) ≤ node_count items

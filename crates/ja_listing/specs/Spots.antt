@@ -2,9 +2,9 @@
 use Rattle.std.specs.Prelude.{ℕ, Option}
 use Rattle.std.specs.Ordering.{nat_cmp}
 use Rattle.std.specs.BTreeMap.{get}
-use Rattle.ja_listing.specs.declared.onward.Onward.{Onward}
-use Rattle.ja_listing.specs.declared.onward.Spots.{Spots}
+use Rattle.ja_listing.specs.declared.item.Target.{Target}
+use Rattle.ja_listing.specs.declared.spots.Spots.{Spots}
 
 -- where a run goes on from a spot, if that is known
-abbrev pub onward_of : Spots → ℕ → Option Onward
-onward_of spots q = get nat_cmp spots.known q
+abbrev pub target_of : Spots → ℕ → Option Target
+target_of spots q = get nat_cmp spots.known q

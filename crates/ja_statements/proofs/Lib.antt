@@ -1,2 +1,1 @@
-pub mod WayLemmas
 pub mod StatementLemmas

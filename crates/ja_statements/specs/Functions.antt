@@ -3,7 +3,7 @@ use Rattle.std.specs.Prelude.{ℕ, ◌+◌, Bool, true, false, if◌then◌else�
 use Rattle.ja_base.specs.declared.ids.Place.{Place}
 use Rattle.ja_prim.specs.declared.primitive.Primitive.TheVariants as primitive
 use Rattle.ja_graph.specs.declared.node.Node.TheVariants.{Enter, Declare, Bind, Return, Escape}
-use Rattle.ja_listing.specs.Listing.{begins_with_jump}
+use Rattle.ja_listing.specs.Listing.{begins_with_node}
 use Rattle.ja_listing.specs.declared.item.Item.{Item}
 use Rattle.ja_syntax.specs.declared.tree.Name.{Name}
 use Rattle.ja_syntax.specs.declared.tree.FunctionOf.{FunctionOf}
@@ -71,12 +71,12 @@ unhandled scene = record scene { handler = None }
 abbrev pub first_place : Place
 first_place = record { line = 1; column = 1 }
 
--- a node before the first one, at which a program begins that begins with a jump: what stands behind the jump isn't run
+-- a node before the first one, at which a program begins whose first line is a jump: what stands behind the jump isn't run
 abbrev pub first_const : Scene → List Item
 first_const scene = (with_const scene first_place primitive.Undefined (nothing_listed (first_temporary 0))).listing.items
 
 unfoldable pub beginning_with_node : Scene → List Item → List Item
-beginning_with_node scene items = if begins_with_jump items then first_const scene ++ items else items
+beginning_with_node scene items = if begins_with_node items then items else first_const scene ++ items
 
 -- the listing of the program: as a function without parameters, but with no activation of its own
 unfoldable pub program_listing : Scene → List Statement → List Item

@@ -1,5 +1,5 @@
 -- What the ways that the code has, and what is around a statement there, stand for.
-use Rattle.std.specs.Prelude.{◌≡◌, ℕ, List, [], map, Option, unwrap_or, Result, Ok, Err}
+use Rattle.std.specs.Prelude.{◌≡◌, ℕ, List, map, Option, Some, None, Result, Ok, Err}
 use Rattle.std.specs.Option.{option_map}
 use Rattle.ja_base.specs.declared.ids.Memory.{Memory}
 use Rattle.ja_base.specs.declared.ids.Reg.{Reg}
@@ -14,19 +14,18 @@ use Rattle.ja_statements.specs.Statements as statements
 use Rattle.ja_statements.specs.Ways as ways
 use Rattle.ja_draft.specs.Copies.{Template}
 
-abbrev pub nothing : Template
-nothing = record { items = []; temporary = 0; spot = 0; spots = 0 }
-
-abbrev pub step_of : Step → List (List ℕ) → List ℕ → Template → ways.Way
+abbrev pub step_of : Step → List (List ℕ) → List ℕ → Option Template → ways.Way
 step_of (step.Loop end turn) labels text block = ways.of_loop labels end turn
 step_of (step.Switch end) labels text block = ways.of_switch end
 step_of (step.Label end) labels text block = ways.of_label text end
 step_of (step.Catch saved) labels text block = ways.of_catch saved
-step_of (step.Finally saved) labels text block = ways.of_finally saved block
+step_of (step.Finally saved) labels text (Some block) = ways.of_finally saved block
+-- there is none without a block
+step_of (step.Finally saved) labels text None = ways.of_catch saved
 
 -- a way has the labels of a loop, the text of a label, and the block of a `finally`
 abbrev pub way_of : Way → ways.Way
-way_of way = step_of way.step (map (λ t. t.now) way.labels.now) way.text.now (unwrap_or (option_map (λ t. t.now) way.block) nothing)
+way_of way = step_of way.step (map (λ t. t.now) way.labels.now) way.text.now (option_map (λ t. t.now) way.block)
 
 abbrev pub around_of : Around → statements.Around
 around_of a = record { scene = a.scene.now; ways = map way_of a.ways.now; labels = map (λ t. t.now) a.labels.now }

@@ -7,6 +7,7 @@ use Rattle.ja_base.specs.declared.ids.Reg.{Reg}
 use Rattle.ja_prim.specs.declared.primitive.Primitive.TheVariants as primitive
 use Rattle.ja_graph.specs.declared.node.BinaryOp.TheVariants.{StrictEq}
 use Rattle.ja_graph.specs.declared.node.Node.TheVariants.{Branch, Binary, Names, Pick, PushScope, Bind, Throw, Return}
+use Rattle.ja_listing.specs.Listing.{block_of}
 use Rattle.ja_listing.specs.declared.item.Spot.{Spot}
 use Rattle.ja_syntax.specs.declared.tree.Name.{Name}
 use Rattle.ja_syntax.specs.declared.tree.CatchOf.{CatchOf}
@@ -26,7 +27,7 @@ use Rattle.ja_expressions.specs.References.{Form, value_of, with_name, with_obje
 use Rattle.ja_expressions.specs.Operators.{assign}
 use Rattle.ja_expressions.specs.Literals.{scope}
 use Rattle.ja_expressions.specs.Expressions.{form}
-use Rattle.ja_draft.specs.Copies.{Template, template_of, with_block}
+use Rattle.ja_draft.specs.Copies.{Template, with_block}
 use Rattle.ja_statements.specs.Ways.{Way, of_loop, of_switch, of_label, of_catch, of_finally, break_target, continue_target, jump_to, leave_all, leaving}
 
 -- What is around a statement: the scene, what its jumps leave, the innermost first, and the labels right before it.
@@ -309,7 +310,7 @@ keep_block finally place around base l =
       listing = saved.listing;
       first = l.spot;
       saved = saved.value;
-      template = template_of listed.items (base + 1) saved.listing.spot (listed.spot - saved.listing.spot);
+      template = record { block = block_of listed.items; temporary = base + 1 };
     }
 
 -- the way of an error: the block, and the error is thrown again

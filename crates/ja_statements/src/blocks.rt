@@ -96,8 +96,7 @@ pub(crate) fn keep(
     let mut apart = Draft::new(scene.alloc, inner, spot);
     let unlabelled = around.unlabelled();
     statements(&unlabelled, inner, block, &mut apart)?;
-    let spots = apart.spot().saturating_sub(spot);
-    let template = Template::new(scene.alloc, apart, inner, spot, spots)?;
+    let template = Template::new(scene.alloc, apart, inner, draft.nodes())?;
     Ok(Kept {
         first,
         saved,

@@ -172,12 +172,12 @@ fn first_temporary(parameters: usize) -> Result<u32, Memory>
     Ok(FIXED_REGISTERS + parameters as u32)
 }
 
-/// The listing of a program, which begins with a node: with a constant, if its first line is a jump.
+/// The listing of a program, which begins with a node: with a constant, if its first line is none.
 #[tactic(auto, unfolding(crate::specs::Functions::beginning_with_node))]
 fn beginning_with_node(scene: &Scene<'_, '_>, draft: Draft) -> Result<Draft, Memory>
     ensures { IfOk result (λ whole. whole.items ≡ spec.beginning_with_node scene.now draft.items) }
 {
-    if !draft.begins_with_jump() {
+    if draft.begins_with_node() {
         return Ok(draft);
     }
     let mut first = Draft::new(scene.alloc, FIXED_REGISTERS, 0);

@@ -1,11 +1,11 @@
 //! The ways out of a statement (ES3 12.7 to 12.9).
 
-ghost use Rattle.std.specs.Prelude.{◌≡◌, [], map};
+ghost use Rattle.std.specs.Prelude.{◌≡◌, [], None, map};
 ghost use Rattle.std.specs.List.{list_any};
 ghost use Rattle.std.specs.Str.{bytes_eq};
 ghost use Rattle.ja_draft.specs.Lines as lines;
 ghost use Rattle.ja_statements.specs.Ways as spec;
-ghost use Rattle.ja_statements.specs.Standing.{step_of, nothing, way_of, Leaves};
+ghost use Rattle.ja_statements.specs.Standing.{step_of, way_of, Leaves};
 ghost use Rattle.ja_statements.specs.Statements.{label_text};
 
 use ja_base::{Memory, Place, Reg};
@@ -42,7 +42,7 @@ pub struct Way<'a> {
 
 impl<'a> Way<'a> {
     fn plain(step: Step) -> Way<'a>
-        ensures { way_of result ≡ step_of step [] [] nothing }
+        ensures { way_of result ≡ step_of step [] [] None }
     {
         Way {
             step,
@@ -198,7 +198,6 @@ fn leave_finally(
 
 /// Leaves a way, with a value that is returned if there is one: the block of a `finally` is copied.
 /// Tells which register keeps the scope chain that is to be in force, if another one is.
-#[tactic(auto, using(crate::proofs::WayLemmas::nothing_listed))]
 fn leave(
     scene: &Scene<'_, '_>,
     place: Place,
@@ -216,10 +215,7 @@ fn leave(
                 let kept = leave_finally(scene, place, value, saved, block, kept, draft)?;
                 Ok(kept)
             }
-            None => {
-                set_scope(scene, place, kept, saved, draft)?;
-                Ok(None)
-            }
+            None => Ok(Some(saved)),
         },
         Step::Loop { .. } | Step::Switch { .. } | Step::Label { .. } => Ok(kept),
     }

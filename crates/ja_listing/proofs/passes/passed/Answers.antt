@@ -7,7 +7,7 @@ pub pass-requires : goal.pass-requires
 pass-requires c =
     let items = c.args.items.now in
     let k = length items - 1 - c.loop-done.done in
-    count_before items _ k c.loop-done.pass.before _ (items_at items k (length items - c.loop-done.done) c.index-items-items.result c.index-items-items.is (omega arith) (omega arith)) c.loop-done.invariant.before
+    count_before items _ k c.loop-done.backward.before _ (items_at items k (length items - c.loop-done.done) c.index-items-items.result c.index-items-items.is (omega arith) (omega arith)) c.loop-done.invariant.before
 
 pub loop-done-preserved : goal.loop-done-preserved
 loop-done-preserved c =

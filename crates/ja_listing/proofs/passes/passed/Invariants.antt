@@ -3,4 +3,4 @@ use Rattle.ja_listing.specs.Passes.{HasPassed}
 use Rattle.ja_listing.proofs.passes.passed.Given as goal
 
 abbrev pub invariant-loop-done : goal.invariant-loop-done
-invariant-loop-done l = HasPassed l.pass l.items (drop (length l.items - l.done) l.items)
+invariant-loop-done l = HasPassed l.backward l.items (drop (length l.items - l.done) l.items)
