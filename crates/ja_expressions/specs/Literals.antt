@@ -1,8 +1,8 @@
 -- Array and object literals, and functions as expressions (ES3 11.1.4, 11.1.5, 13).
-use Rattle.std.specs.Prelude.{ℕ, ◌+◌, pos, Bool, true, ◌&&◌, ◌==◌, List, [], ◌∷◌, length, Option, Some, None, unwrap_or}
+use Rattle.std.specs.Prelude.{ℕ, ◌+◌, pos, Bool, true, ◌&&◌, ◌==◌, List, [], ◌∷◌, length, Option, Some, None}
 use Rattle.std.specs.Fmt.{decimal, signed_decimal}
 use lib.Chars.{codes}
-use Rattle.std.specs.List.{position_from}
+use Rattle.std.specs.List.{position_or_len}
 use Rattle.ja_base.specs.declared.ids.FnId.{FnId}
 use Rattle.ja_base.specs.declared.ids.Place.{Place}
 use Rattle.ja_base.specs.declared.ids.Reg.{Reg}
@@ -88,9 +88,10 @@ list_object members place scene l =
 abbrev pub same_place : Place → Place → Bool
 same_place a b = (a.line == b.line) && (a.column == b.column)
 
--- the number of a function: the program is 0, then those of the text by the places of their words `function`
+-- the number of a function: the program is 0, then those of the text by the places of their words `function`; where no function of the
+-- text has the place, the number is behind the last one
 abbrev pub function_id : Scene → Place → FnId
-function_id scene place = record { 0 = unwrap_or (position_from (same_place place) 1 scene.functions) 0 }
+function_id scene place = record { 0 = 1 + position_or_len (same_place place) scene.functions }
 
 abbrev pub make_function : Scene → Place → Listing → Valued
 make_function scene place l =

@@ -1,5 +1,5 @@
 -- The special forms of the texts of built-in functions: calls of names that begin with `$`, which are no variables.
-use Rattle.std.specs.Prelude.{ℕ, List, [], ◌∷◌, Option}
+use Rattle.std.specs.Prelude.{ℕ, Bool, not, ◌&&◌, List, [], ◌∷◌, Option, is_some}
 use Rattle.std.specs.List.{find}
 use Rattle.std.specs.Option.{option_map}
 use Rattle.std.specs.Str.{bytes_eq}
@@ -9,6 +9,7 @@ use Rattle.ja_prim.specs.declared.primitive.Primitive.TheVariants as primitive
 use Rattle.ja_graph.specs.declared.node.Args.TheVariants.{Registers, Elements, Tail}
 use Rattle.ja_graph.specs.declared.node.Made.TheVariants.{Error}
 use Rattle.ja_graph.specs.declared.node.Node.TheVariants as node
+use Rattle.ja_names.specs.TextOrder.{Named}
 use Rattle.ja_expressions.specs.declared.special.Special.{Special}
 use Rattle.ja_expressions.specs.declared.special.Special.TheVariants as special
 use Rattle.ja_expressions.specs.declared.special.TheConstants.{SPECIALS}
@@ -17,6 +18,10 @@ use Rattle.ja_draft.specs.Lines.{Listing, Valued, Scene, register, site, with_no
 -- the special form of a name, by the table
 unfoldable pub special_of : List ℕ → Option Special
 special_of name = option_map (λ entry. entry.1) (find (λ entry. bytes_eq entry.0.now name) SPECIALS)
+
+-- whether a name of a text is one of its program: a variable that is a special form is none, where names may be special forms
+abbrev pub is_name : Bool → Named → Bool
+is_name specials n = not (n.variable && (specials && is_some (special_of n.text)))
 
 -- The call of a special form behind its arguments, at its bracket. With other arguments than it takes it is undefined, which no text
 -- of a built-in function has.

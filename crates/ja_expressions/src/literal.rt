@@ -236,7 +236,8 @@ fn same_place(a: Place, b: Place) -> bool
     a.line == b.line && a.column == b.column
 }
 
-/// The number of a function. Past the last number that a function may have memory counts as refused.
+/// The number of a function, or the one behind the last where no function of the text has the place. Past the last number
+/// that a function may have memory counts as refused.
 fn function_id(scene: &Scene<'_, '_>, place: Place) -> Result<FnId, Memory>
     ensures { IfOk result (λ id. id ≡ spec.function_id scene.now place) }
 {
@@ -250,7 +251,7 @@ fn function_id(scene: &Scene<'_, '_>, place: Place) -> Result<FnId, Memory>
         }
         number += 1;
     }
-    Ok(FnId(0))
+    Ok(FnId(number))
 }
 
 /// Adds the object of a function.

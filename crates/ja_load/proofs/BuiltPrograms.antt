@@ -1,5 +1,5 @@
--- A text all of whose forms are built comes to nodes of kinds that are built.
-use Rattle.std.proofs.Common.{◌≡◌, ℕ, zero, suc, ◌+◌, Bool, true, false, if◌then◌else◌, List, [], ◌∷◌, ◌++◌, map, Option, Some, None, Ok, Err, slice_get, refl, sym, ap, ◌∙◌, subst}
+-- A text all of whose forms are built comes to nodes of kinds that are built, and to no function that could be called.
+use Rattle.std.proofs.Common.{◌≡◌, ℕ, zero, suc, Bool, true, false, if◌then◌else◌, List, [], ◌∷◌, ◌++◌, map, length, Option, Some, None, Ok, Err, slice_get, refl, sym, ap, ◌∙◌, subst}
 use Rattle.std.specs.List.{AllByRecursion, flat_map}
 use Rattle.std.specs.declared.alloc.Global.{Global}
 use Rattle.std.specs.Prelude.{String}
@@ -15,27 +15,33 @@ use Rattle.ja_syntax.specs.declared.tree.Expression.TheFolds.{fold-roll-Statemen
 use Rattle.ja_syntax.specs.declared.tree.Expression.TheViews.{out-roll-Statement}
 use Rattle.ja_names.specs.TextOrder.{a_function, a_name, Parts, if_function, expression_step, statement_step, case_step, in_expression, in_statement, in_case, functions_in}
 use Rattle.ja_graph.specs.Kinds.{AreBuilt}
+use Rattle.ja_graph.specs.Node.{makings}
 use Rattle.ja_graph.specs.WellFormed.{builtin_names}
+use Rattle.ja_graph.specs.declared.node.Node.{Node}
 use Rattle.ja_graph.specs.declared.node.Node.TheVariants.{Return, Escape}
+use Rattle.ja_graph.specs.declared.node.Node.TheVariants as node
 use Rattle.ja_graph.specs.declared.node.NodeInfo.{NodeInfo}
 use Rattle.ja_graph.specs.declared.program.Function.{Function}
 use Rattle.ja_graph.specs.declared.program.Program.{Program}
+use Rattle.ja_graph.specs.declared.program.SiteInfo.{SiteInfo}
 use Rattle.ja_listing.specs.declared.item.Item.{Item}
-use Rattle.ja_listing.specs.declared.item.Item.TheVariants as item
-use Rattle.ja_listing.specs.Listing.{begins_with_jump, nodes_from}
+use Rattle.ja_listing.specs.Listing.{begins_with_node}
 use Rattle.ja_draft.specs.Lines.{Listing, Scene, restarted, with_const}
 use Rattle.ja_expressions.specs.Expressions.{form}
 use Rattle.ja_statements.specs.Functions.{first_temporary, nothing_listed, declare_function, declare_function_of, declare_functions, declare_variables, with_body, unhandled, first_place, first_const, beginning_with_node, program_listing}
 use Rattle.ja_statements.specs.Statements.{Around, does, unlabelled, list_all_statements}
 use Rattle.ja_statements.proofs.StatementLemmas.{does_empty, does_expression}
 use Rattle.ja_ranges.specs.InRange.{OfNode}
+use Rattle.ja_ranges.proofs.CopyRanges.{assembled_keeps}
 use Rattle.ja_ranges.proofs.LineRanges.{all_append}
 use Rattle.ja_lower.specs.declared.body.Body.{Body}
-use Rattle.ja_lower.specs.Lowering.{shifting, names_of, scene_of, program_body, function_body, bodies_of, numbered, function_of, functions_of, lowered}
-use Rattle.ja_lower.proofs.FunctionLemmas.{all-at, get-numbered}
+use Rattle.ja_lower.specs.Lowering.{shifting, names_of, scene_of, program_body, function_body, bodies_of, numbered, function_of, functions_of, site_of, sites_of_nodes, sites_of, lowered}
+use Rattle.ja_lower.proofs.FunctionLemmas.{all-at, all-from, get-numbered}
 use Rattle.ja_load.specs.Built.{Read, read, fault_of, unbuilt_layer, unbuilt_statement, first_of, unbuilt}
+use Rattle.ja_load.specs.Builtins.{builtin_sites}
 use Rattle.ja_load.specs.Loading.{program_of, IsProgramOf}
 use Rattle.ja_load.proofs.BuiltNodes.{IsBuilt, AllBuilt, IsBuiltListing, renamed_built, built_restarted, built_with_node, built_with_const, built_value_of}
+use Rattle.ja_load.proofs.WellFormedLemmas.{HasNone, builtins_have_none}
 use Rattle.ja_load.proofs.BuiltForms.{IsRead, IsName, HasNoFunction, expression_built}
 
 -- ---- statements
@@ -154,27 +160,19 @@ body_built scene place xs base l each plain built =
 
 beginning_built : (scene : Scene) (items : List Item) → AllBuilt items → AllBuilt (beginning_with_node scene items)
 unfolding beginning_with_node
-beginning_built scene items built = either (begins_with_jump items)
+beginning_built scene items built = either (begins_with_node items)
   where
     first : IsBuiltListing (with_const scene first_place primitive.Undefined (nothing_listed (first_temporary 0))).listing
     first = built_with_const {l = nothing_listed (first_temporary 0)} scene first_place primitive.Undefined (record { nodes = tt })
 
-    either : (b : Bool) → AllBuilt (if b then first_const scene ++ items else items)
-    either true = all_append (OfNode IsBuilt) (first_const scene) items first.nodes built
-    either false = built
+    either : (b : Bool) → AllBuilt (if b then items else first_const scene ++ items)
+    either true = built
+    either false = all_append (OfNode IsBuilt) (first_const scene) items first.nodes built
 
 program_built : (scene : Scene) (xs : List Statement) → AllByRecursion IsBuiltStatement xs → scene.specials ≡ false → AllBuilt (program_listing scene xs)
 unfolding program_listing
 program_built scene xs each plain =
     beginning_built (unhandled scene) _ (body_built (unhandled scene) first_place xs (first_temporary 0) (nothing_listed (first_temporary 0)) each plain (record { nodes = tt })).nodes
-
--- assembling keeps the nodes
-assembled_built : (whole items : List Item) → AllBuilt items → AllByRecursion (λ (info : NodeInfo). IsBuilt info.node) (nodes_from whole items)
-unfolding nodes_from
-assembled_built whole [] each = tt
-assembled_built whole (item.Node node other handler place above ∷ items) each = (each.0, assembled_built whole items each.1)
-assembled_built whole (item.Spot s ∷ items) each = assembled_built whole items each.1
-assembled_built whole (item.Jump s ∷ items) each = assembled_built whole items each.1
 
 numbered_built : (first : ℕ) (infos : List NodeInfo) (n : ℕ) (info : NodeInfo) → AllByRecursion (λ (i : NodeInfo). IsBuilt i.node) infos → slice_get (numbered first infos) n ≡ Some info → IsBuilt info.node
 numbered_built first infos n info each is =
@@ -196,12 +194,49 @@ lowered_built names first xs f n fn info is at_f at_n =
     let body = program_body scene xs in
     let bodies : bodies_of scene xs ≡ body ∷ [] = ap (λ fs. body ∷ map (function_body scene) fs) (no_functions xs each) in
     let same = only_function first body f fn (ap (λ (bs : List Body). slice_get (functions_of first bs) f) (sym bodies) ∙ at_f) in
-    let nodes = assembled_built (program_listing scene xs) (program_listing scene xs) (program_built scene xs each refl) in
+    let nodes = assembled_keeps IsBuilt (program_listing scene xs) (program_built scene xs each refl) in
     numbered_built first body.nodes n info nodes (ap (λ (g : Function). slice_get g.nodes n) same ∙ at_n)
+
+-- ---- the program's sites
+
+-- none of the site's objects can be called or constructs
+abbrev IsUncalled : SiteInfo → Type 0
+IsUncalled info = (info.calls ≡ None) × (info.constructs ≡ None)
+
+-- what a node of a kind that is built makes is no function
+makings_uncalled : (f : ℕ) (info : NodeInfo) (n : Node) → IsBuilt n → AllByRecursion IsUncalled (map (site_of f info) (makings n))
+unfolding makings
+makings_uncalled f info (node.ReadRef dst base name error) built = ((refl, refl), tt)
+makings_uncalled f info (node.Call dst callee receiver args error) built = ((refl, refl), tt)
+makings_uncalled f info (node.Const dst prim) built = tt
+makings_uncalled f info (node.FindName dst name) built = tt
+makings_uncalled f info (node.WriteRef base name src) built = tt
+makings_uncalled f info (Return src) built = tt
+makings_uncalled f info Escape built = tt
+makings_uncalled f info n built = absurd (cc)
+
+nodes_uncalled : (f : ℕ) (infos : List NodeInfo) → AllByRecursion (λ (info : NodeInfo). IsBuilt info.node) infos → AllByRecursion IsUncalled (sites_of_nodes f infos)
+unfolding sites_of_nodes
+nodes_uncalled f [] each = tt
+nodes_uncalled f (info ∷ infos) each =
+    all_append IsUncalled (map (site_of f info) (makings info.node)) (sites_of_nodes f infos) (makings_uncalled f info info.node each.0) (nodes_uncalled f infos each.1)
+
+lowered_uncalled : (names : List (List ℕ)) (first : ℕ) (xs : List Statement) → unbuilt xs ≡ None → AllByRecursion IsUncalled (lowered names first xs).sites
+unfolding lowered bodies_of sites_of
+lowered_uncalled names first xs is =
+    let each = each_built xs is in
+    let scene = scene_of (names_of false names xs) xs in
+    let body = program_body scene xs in
+    let bodies : bodies_of scene xs ≡ body ∷ [] = ap (λ fs. body ∷ map (function_body scene) fs) (no_functions xs each) in
+    let nodes = assembled_keeps IsBuilt (program_listing scene xs) (program_built scene xs each refl) in
+    subst (λ (bs : List Body). AllByRecursion IsUncalled (sites_of 0 bs)) (sym bodies) (all_append IsUncalled (sites_of_nodes 0 body.nodes) [] (nodes_uncalled 0 body.nodes nodes) tt)
 
 pub program_is_built : (text : String Global) (xs : List Statement) → unbuilt xs ≡ None → AreBuilt (program_of text xs)
 unfolding program_of
-program_is_built text xs is f n fn info at_f at_n = lowered_built builtin_names _ xs f n fn info is at_f at_n
+program_is_built text xs is = record {
+  nodes = λ f n fn info at_f at_n. lowered_built builtin_names _ xs f n fn info is at_f at_n;
+  uncalled = λ s info at. all-at IsUncalled (builtin_sites ++ (lowered builtin_names (length builtin_sites) xs).sites) s info (all_append IsUncalled builtin_sites (lowered builtin_names (length builtin_sites) xs).sites (all-from HasNone IsUncalled builtin_sites (λ i none. (none.1, none.2)) builtins_have_none) (lowered_uncalled builtin_names (length builtin_sites) xs is)) at;
+}
 
 pub programs_are_built : (bytes : List ℕ) (p : Program) → IsProgramOf bytes p → AreBuilt p
 programs_are_built bytes p is = subst AreBuilt (sym is.program) (program_is_built p.text is.statements is.built)

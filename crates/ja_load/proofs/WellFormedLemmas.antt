@@ -7,7 +7,7 @@ use Rattle.std.proofs.lemmas.List.{length-map}
 use Rattle.std.proofs.lemmas.Option.{slice_get_within}
 use Rattle.ja_base.specs.declared.ids.FnId.{FnId}
 use Rattle.ja_names.specs.Names.{with_name}
-use Rattle.ja_names.specs.TextOrder.{functions_in, names_in}
+use Rattle.ja_names.specs.TextOrder.{Named, functions_in, names_in}
 use Rattle.ja_graph.specs.declared.builtins.TheConstants.{BUILTIN_CLASSES}
 use Rattle.ja_graph.specs.declared.program.Class.{Class}
 use Rattle.ja_graph.specs.declared.program.Function.{Function}
@@ -22,14 +22,15 @@ use Rattle.ja_load.proofs.ObjectLemmas.{below-at, object-well_formed, class-at, 
 use Rattle.ja_load.proofs.TableLemmas.{are_objects, table-objects, table-sites, table-count, sites_count, sites-classes}
 use Rattle.ja_lower.specs.declared.body.Body.{Body}
 use Rattle.ja_lower.specs.Limits.{function_count, size_of, IsWithin}
-use Rattle.ja_lower.specs.Lowering.{is_name, names_of, scene_of, bodies_of, function_body, sites_in, functions_of, lowered}
+use Rattle.ja_expressions.specs.Specials.{is_name}
+use Rattle.ja_lower.specs.Lowering.{names_of, scene_of, bodies_of, function_body, sites_in, functions_of, lowered}
 use Rattle.ja_syntax.specs.declared.tree.Statement.{Statement}
 
 -- ---- the laws of lowering
 
 abbrev pub FunctionsAreWellFormed : Type 0
 FunctionsAreWellFormed =
-    (names : List (List ℕ)) (first : ℕ) (statements : List Statement) (p : Program) (f : ℕ) (fn : Function) → p.functions ≡ (lowered names first statements).functions → p.names ≡ (lowered names first statements).names → 0 < length p.names → slice_get p.functions f ≡ Some fn → fn.registers ≤ 262144 → IsFunctionWellFormed p fn
+    (names : List (List ℕ)) (first : ℕ) (statements : List Statement) (p : Program) (f : ℕ) (fn : Function) → p.functions ≡ (lowered names first statements).functions → p.names ≡ (lowered names first statements).names → slice_get p.functions f ≡ Some fn → fn.registers ≤ 262144 → IsFunctionWellFormed p fn
 
 abbrev pub SitesAreNumbered : Type 0
 SitesAreNumbered =
@@ -65,7 +66,7 @@ lowered-count names first statements =
     let scene = scene_of (names_of false names statements) statements in
     omega (arith, length-functions_of first (bodies_of scene statements), length-map (functions_in statements) (function_body scene))
 
-lowered-names : (names : List (List ℕ)) (first : ℕ) (statements : List Statement) → (lowered names first statements).names ≡ fold with_name (fold with_name [] names) (filter (is_name false) (names_in statements))
+lowered-names : (names : List (List ℕ)) (first : ℕ) (statements : List Statement) → (lowered names first statements).names ≡ fold with_name (fold with_name [] names) (map (λ (n : Named). n.text) (filter (is_name false) (names_in statements)))
 unfolding lowered names_of
 lowered-names names first statements = refl
 
@@ -97,14 +98,14 @@ all-append P (x ∷ xs) ys left right = (left.0, all-append P xs ys left.1 right
 -- ---- the sites of the built-in objects: none has a function
 
 -- nothing is told of functions
-abbrev HasNone : SiteInfo → Type 0
+abbrev pub HasNone : SiteInfo → Type 0
 HasNone info = (info.owner ≡ None) × (info.calls ≡ None) × (info.constructs ≡ None)
 
 rows_have_none : {A : Type 0} (path : A → List ℕ) (rows : List (Class × A)) → AllByRecursion HasNone (map (λ row. builtin_site row.0 (path row.1)) rows)
 rows_have_none path [] = tt
 rows_have_none path (row ∷ rows) = ((refl, refl, refl), rows_have_none path rows)
 
-builtins_have_none : AllByRecursion HasNone builtin_sites
+pub builtins_have_none : AllByRecursion HasNone builtin_sites
 unfolding builtin_sites
 builtins_have_none = rows_have_none (λ path. path.now) (zip BUILTIN_CLASSES BUILTIN_PATHS)
 
@@ -118,7 +119,7 @@ none_is_named p info none =
 pub loaded_is_well_formed : FunctionsAreWellFormed → SitesAreNumbered → SitesAreTold → SitesNameFunctions → SitesAreFew → NodesAreWithinTheSize → (p : Program) (statements : List Statement) → IsWithin builtin_names statements → AllByRecursion (λ (fn : Function). fn.registers ≤ 262144) (lowered builtin_names (length builtin_sites) statements).functions → length (lowered builtin_names (length builtin_sites) statements).names ≤ 1048576 → p.functions ≡ (lowered builtin_names (length builtin_sites) statements).functions → p.text_functions ≡ length (lowered builtin_names (length builtin_sites) statements).functions → p.sites ≡ builtin_sites ++ (lowered builtin_names (length builtin_sites) statements).sites → p.names ≡ (lowered builtin_names (length builtin_sites) statements).names → p.opening ≡ opening_objects → p.value_first.0 ≡ 0 → p.text_first.0 ≡ 0 → IsWellFormed p
 loaded_is_well_formed well_formed are_numbered are_told name_functions are_few in_size p statements within registers few_names functions text_functions sites names opening value_first text_first =
     let l = lowered builtin_names (length builtin_sites) statements in
-    let own = filter (is_name false) (names_in statements) in
+    let own = map (λ (n : Named). n.text) (filter (is_name false) (names_in statements)) in
     let count : 0 < length l.functions = omega (arith, lowered-count builtin_names (length builtin_sites) statements) in
     let same_count : length p.functions ≡ length l.functions = ap length functions in
     let text = first_element l.functions count in
@@ -137,7 +138,7 @@ loaded_is_well_formed well_formed are_numbered are_told name_functions are_few i
       text_functions = omega (arith, text_functions, same_count);
       value_first = omega (arith, value_first, same_count, count);
       text_first = omega (arith, text_first, same_count, count);
-      each = λ f fn is. well_formed builtin_names (length builtin_sites) statements p f fn functions names (omega (arith, many)) is (all-at (λ (fn : Function). fn.registers ≤ 262144) l.functions f fn registers (sym (ap (λ fns. slice_get fns f) functions) ∙ is));
+      each = λ f fn is. well_formed builtin_names (length builtin_sites) statements p f fn functions names is (all-at (λ (fn : Function). fn.registers ≤ 262144) l.functions f fn registers (sym (ap (λ fns. slice_get fns f) functions) ∙ is));
       few_nodes = omega (arith, nodes, ap node_count functions);
       objects = λ i o is. object-well_formed p i o objects many all_objects is;
       all_objects = λ s before. subst (λ os. IsSome (find (λ (o : ObjectSpec). o.site.0 == s) os)) (sym opening) (below-at (λ n. is_some (find (λ (o : ObjectSpec). o.site.0 == n) opening_objects)) 14 s table-sites (omega (arith, before, objects)));

@@ -39,7 +39,7 @@ pub(crate) fn builtin_names(alloc: Global) -> Result<Vec<Text16>, Memory>
     texts_of(alloc, &BUILTIN_NAMES)
 }
 
-/// The place of a name among names, or 0 where it isn't one of them.
+/// The place of a name among names, or the one behind the last where it isn't one of them.
 fn place_among(names: &[&[u8]], name: &[u8]) -> NameId
     requires { length names.now < 2 ^ 31 }
     ensures { result ≡ number (map (λ n. n.now) names.now) name.now }
@@ -53,10 +53,10 @@ fn place_among(names: &[&[u8]], name: &[u8]) -> NameId
         left = rest;
         number += 1;
     }
-    NameId(0)
+    NameId(number)
 }
 
-/// The number of a built-in name: its place among them, or 0 where it isn't one of them.
+/// The number of a built-in name: its place among them, or the one behind the last where it isn't one of them.
 #[tactic(auto, unfolding(crate::specs::Builtins::builtin_number))]
 fn builtin_number(name: &[u8]) -> NameId
     ensures { result ≡ builtin_number name.now }

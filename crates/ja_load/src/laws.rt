@@ -1,4 +1,4 @@
-//! What is built is what the machine steps. The functions do nothing; their contracts are the laws.
+//! What is built is what the analysis goes through. The functions do nothing; their contracts are the laws.
 
 ghost use Rattle.std.specs.Prelude.{◌≡◌, List, ℕ, None, Some, true, slice_get};
 ghost use Rattle.ja_graph.specs.Kinds.{AreBuilt, is_built};
@@ -16,7 +16,7 @@ pub fn built_forms_have_built_nodes()
     ensures { (names : List (List ℕ)) (first : ℕ) (statements : List Statement) (f n : ℕ) (fn : Function) (info : NodeInfo) → unbuilt statements ≡ None → slice_get (lowered names first statements).functions f ≡ Some fn → slice_get fn.nodes n ≡ Some info → is_built info.node ≡ true }
 {}
 
-/// Each node of the program of some bytes is of a kind that is built.
+/// Each node of the program of some bytes is of a kind that is built, and none of its objects can be called or constructs.
 pub fn programs_are_built()
     ensures { (bytes : List ℕ) (p : Program) → IsProgramOf bytes p → AreBuilt p }
 {}

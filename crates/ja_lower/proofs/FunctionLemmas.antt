@@ -18,11 +18,12 @@ use Rattle.ja_graph.specs.WellFormed.{IsRegister, IsDestination, IsName, IsFunct
 use Rattle.ja_graph.proofs.RegisterLemmas.{first_stay, each_among}
 use Rattle.ja_listing.specs.declared.item.Item.{Item}
 use Rattle.ja_listing.specs.declared.item.Item.TheVariants as item
-use Rattle.ja_listing.specs.Listing.{nodes_from, assembled}
-use Rattle.ja_listing.specs.Laws.{EndsWithEscape, EdgesLeadInside}
+use Rattle.ja_listing.specs.Listing.{assembled}
+use Rattle.ja_listing.specs.Laws.{EndsWithEscape, CopiesAreWhole, EdgesLeadInside}
 use Rattle.ja_listing.proofs.Kept.{assembled_ends}
 use Rattle.ja_listing.proofs.Inside.{assembled_inside}
 use Rattle.ja_ranges.specs.InRange.{Limits, IsInRange, IsOfTexts, AllInRange}
+use Rattle.ja_ranges.proofs.CopyRanges.{assembled_keeps}
 use Rattle.ja_ranges.specs.InRange.{IsDestination as IsDestinationWithin}
 use Rattle.ja_lower.specs.declared.body.Body.{Body}
 use Rattle.ja_lower.specs.Lowering.{shifting, site_count, numbered, sites_in, registers_of, function_of, functions_of}
@@ -92,14 +93,6 @@ escape_kept : (first : ℕ) (n : Node) → n ≡ node.Escape → renamed (shifti
 unfolding renamed
 escape_kept first n is = ap (renamed (shifting first)) is
 
--- the nodes of a listing are in range
-in_range_from : (limits : Limits) (whole items : List Item) → AllInRange limits items → AllByRecursion (λ (info : NodeInfo). IsInRange limits info.node) (nodes_from whole items)
-unfolding nodes_from
-in_range_from limits whole [] each = tt
-in_range_from limits whole (item.Node node other handler place above ∷ items) each = (each.0, in_range_from limits whole items each.1)
-in_range_from limits whole (item.Spot s ∷ items) each = in_range_from limits whole items each.1
-in_range_from limits whole (item.Jump s ∷ items) each = in_range_from limits whole items each.1
-
 -- a node whose sites are numbered
 abbrev pub renumbered : ℕ → NodeInfo → NodeInfo
 renumbered first info = record info { node = renamed (shifting first) info.node }
@@ -129,6 +122,7 @@ pub record IsListed (specials : Bool) (names functions : ℕ) (body : Body) : Ty
   pub listing : List Item
   pub nodes : body.nodes ≡ assembled listing
   pub in_range : AllInRange (limits_within specials names functions body) listing
+  pub copies : CopiesAreWhole listing
   pub ends : EndsWithEscape listing
   pub parameters : AllByRecursion (λ (n : NameId). n.0 < names) body.parameters
 
@@ -138,10 +132,10 @@ module _ (p : Program) (functions first : ℕ) (body : Body) (some : functions <
 
   nodes_in_range : AllByRecursion (λ (info : NodeInfo). IsInRange limits info.node) body.nodes
   nodes_in_range =
-      subst (AllByRecursion (λ (info : NodeInfo). IsInRange limits info.node)) (sym listed.nodes) (in_range_from limits listed.listing listed.listing listed.in_range)
+      subst (AllByRecursion (λ (info : NodeInfo). IsInRange limits info.node)) (sym listed.nodes) (assembled_keeps (IsInRange limits) listed.listing listed.in_range)
 
   edges : EdgesLeadInside body.nodes
-  edges = subst EdgesLeadInside (sym listed.nodes) (assembled_inside listed.listing listed.ends)
+  edges = subst EdgesLeadInside (sym listed.nodes) (assembled_inside listed.listing listed.ends listed.copies)
 
   last_is_escape : LastIsEscape body.nodes
   last_is_escape = subst LastIsEscape (sym listed.nodes) (assembled_ends listed.listing listed.ends)
@@ -209,10 +203,10 @@ functions_well_formed p functions first bodies some listed are f fn is few =
 pub listed_named : (p : Program) (specials : Bool) (names functions : ℕ) (body : Body) → functions < length p.functions → IsListed specials names functions body → AllByRecursion (MakesFunctions p) body.nodes
 listed_named p specials names functions body some listed =
     let limits = limits_within specials names functions body in
-    subst (AllByRecursion (MakesFunctions p)) (sym listed.nodes) (all-from (λ (info : NodeInfo). IsInRange limits info.node) (MakesFunctions p) (assembled listed.listing) (λ info range. all-from (λ (f : FnId). f.0 ≤ functions) (IsFunction p) (option_to_list (function_in info.node)) (λ f low. omega arith) range.function) (in_range_from limits listed.listing listed.listing listed.in_range))
+    subst (AllByRecursion (MakesFunctions p)) (sym listed.nodes) (all-from (λ (info : NodeInfo). IsInRange limits info.node) (MakesFunctions p) (assembled listed.listing) (λ info range. all-from (λ (f : FnId). f.0 ≤ functions) (IsFunction p) (option_to_list (function_in info.node)) (λ f low. omega arith) range.function) (assembled_keeps (IsInRange limits) listed.listing listed.in_range))
 
 -- the sites of the nodes of a body are its own
 pub listed_sited : (specials : Bool) (names functions : ℕ) (body : Body) → IsListed specials names functions body → AllByRecursion IsSited body.nodes
 listed_sited specials names functions body listed =
     let limits = limits_within specials names functions body in
-    subst (AllByRecursion IsSited) (sym listed.nodes) (all-from (λ (info : NodeInfo). IsInRange limits info.node) IsSited (assembled listed.listing) (λ info range. range.sites) (in_range_from limits listed.listing listed.listing listed.in_range))
+    subst (AllByRecursion IsSited) (sym listed.nodes) (all-from (λ (info : NodeInfo). IsInRange limits info.node) IsSited (assembled listed.listing) (λ info range. range.sites) (assembled_keeps (IsInRange limits) listed.listing listed.in_range))

@@ -1,5 +1,5 @@
 -- What a tree is lowered to: the functions of its text with their nodes, the sites of these nodes, and the names.
-use Rattle.std.specs.Prelude.{ℕ, Bool, true, false, not, ◌&&◌, suc, ◌+◌, List, [], ◌∷◌, ◌++◌, map, filter, length, Option, Some, None, is_some}
+use Rattle.std.specs.Prelude.{ℕ, Bool, true, false, suc, ◌+◌, List, [], ◌∷◌, ◌++◌, map, filter, length, Option, Some, None}
 use Rattle.std.specs.List.{fold, flat_map, sum_by}
 use Rattle.std.specs.Option.{option_map_or}
 use Rattle.ja_base.specs.declared.ids.FnId.{FnId}
@@ -14,22 +14,19 @@ use Rattle.ja_graph.specs.Renaming.{Renaming, identity, renamed}
 use Rattle.ja_listing.specs.Listing.{assembled}
 use Rattle.ja_statements.specs.Functions.{program_listing, function_listing}
 use Rattle.ja_draft.specs.Lines.{Scene}
-use Rattle.ja_expressions.specs.Specials.{special_of}
+use Rattle.ja_expressions.specs.Specials.{is_name}
 use Rattle.ja_names.specs.Names.{number, with_name}
-use Rattle.ja_names.specs.TextOrder.{functions_in, names_in}
+use Rattle.ja_names.specs.TextOrder.{Named, functions_in, names_in}
 use Rattle.ja_lower.specs.declared.body.Body.{Body}
 use Rattle.ja_lower.specs.declared.lowered.Lowered.{Lowered}
 use Rattle.ja_syntax.specs.declared.tree.FunctionOf.{FunctionOf}
 use Rattle.ja_syntax.specs.declared.tree.Name.{Name}
 use Rattle.ja_syntax.specs.declared.tree.Statement.{Statement}
 
--- whether a name of a text is one of its program: that of a special form is none, where the text has special forms
-abbrev pub is_name : Bool → List ℕ → Bool
-is_name specials t = not (specials && is_some (special_of t))
-
 -- the names of a program: some come first, then those of the text, each once
 unfoldable pub names_of : Bool → List (List ℕ) → List Statement → List (List ℕ)
-names_of specials first statements = fold with_name (fold with_name [] first) (filter (is_name specials) (names_in statements))
+names_of specials first statements =
+    fold with_name (fold with_name [] first) (map (λ (n : Named). n.text) (filter (is_name specials) (names_in statements)))
 
 -- what the forms of a text need of the program: the texts of built-in functions have special forms, others have none
 abbrev pub scene_with : Bool → List (List ℕ) → List Statement → Scene

@@ -24,8 +24,7 @@ use std::alloc::Global;
 /// The most nodes that the functions may have, each parameter of a function counted as one more.
 const MAX_NODES: usize = 65_536;
 
-/// The nodes of a listing, if there is room for them. So many items that their number isn't in 32 bits count as
-/// refused memory.
+/// The nodes of a listing, if there is room for them.
 #[tactic(auto, using(ja_listing::proofs::Kept::assembled_counted))]
 fn nodes_of(alloc: Global, listing: Draft, room: usize) -> Result<Seq<NodeInfo>, LowerFault>
     requires { room ≤ 65536 }
@@ -37,9 +36,6 @@ fn nodes_of(alloc: Global, listing: Draft, room: usize) -> Result<Seq<NodeInfo>,
         return Err(LowerFault::Nodes);
     }
     let items = listing.into_items(alloc)?;
-    if items.len() > u32::MAX as usize {
-        return Err(LowerFault::Memory);
-    }
     let nodes = assembled(alloc, items)?;
     Ok(nodes)
 }

@@ -1,19 +1,25 @@
 //! What lowered functions are in a program that has them. The functions do nothing; their contracts are the laws.
 
-ghost use Rattle.std.specs.Prelude.{◌≡◌, ◌<◌, ◌≤◌, ◌-◌, ◌*◌, ◌++◌, ℕ, List, Some, length, map, slice_get};
+ghost use Rattle.std.specs.Prelude.{◌≡◌, ◌≤◌, ◌-◌, ◌*◌, ◌++◌, ℕ, Bool, List, Some, length, map, slice_get};
 ghost use Rattle.std.specs.List.{AllByRecursion, range_with_len, sum_by};
 ghost use Rattle.ja_graph.specs.declared.program.Function.{Function};
 ghost use Rattle.ja_graph.specs.declared.program.Program.{Program};
 ghost use Rattle.ja_graph.specs.declared.program.SiteInfo.{SiteInfo};
 ghost use Rattle.ja_graph.specs.WellFormed.{IsFunctionWellFormed, OwnedMaking, makings_from, IsSiteTold, NamesFunctions, node_count};
 ghost use Rattle.ja_lower.specs.Limits.{size_of};
-ghost use Rattle.ja_lower.specs.Lowering.{lowered};
+ghost use Rattle.ja_lower.specs.Lowering.{names_of, scene_with, lowered};
+ghost use Rattle.ja_ranges.specs.Found.{HasText};
 ghost use Rattle.ja_syntax.specs.declared.tree.Statement.{Statement};
+
+/// Each name and each function that a text looks up is found among those that it is lowered with, with or without special forms.
+pub fn scenes_have_their_texts()
+    ensures { (specials : Bool) (names : List (List ℕ)) (statements : List Statement) → HasText (scene_with specials (names_of specials names statements) statements) statements }
+{}
 
 /// Each function is well formed in a program that has these functions and names, and at most 262,144 registers in each.
 #[tactic(auto, using(crate::proofs::WellFormedLemmas::functions_are_well_formed))]
 pub fn functions_are_well_formed()
-    ensures { (names : List (List ℕ)) (first : ℕ) (statements : List Statement) (p : Program) (f : ℕ) (fn : Function) → p.functions ≡ (lowered names first statements).functions → p.names ≡ (lowered names first statements).names → 0 < length p.names → slice_get p.functions f ≡ Some fn → fn.registers ≤ 262144 → IsFunctionWellFormed p fn }
+    ensures { (names : List (List ℕ)) (first : ℕ) (statements : List Statement) (p : Program) (f : ℕ) (fn : Function) → p.functions ≡ (lowered names first statements).functions → p.names ≡ (lowered names first statements).names → slice_get p.functions f ≡ Some fn → fn.registers ≤ 262144 → IsFunctionWellFormed p fn }
 {}
 
 /// The sites of the nodes are numbered by function and node, without a gap.

@@ -3,9 +3,11 @@
 
 ghost use Rattle.std.specs.Prelude.{◌≡◌, ◌<◌, ◌≤◌, ◌^◌, length, map, filter, IfOk, IfErr, OnOk};
 ghost use Rattle.std.specs.List.{AllByRecursion, fold};
+ghost use Rattle.ja_expressions.specs.Specials.{is_name};
 ghost use Rattle.ja_names.specs.Names.{with_name};
+ghost use Rattle.ja_names.specs.TextParts.{named_of};
 ghost use Rattle.ja_lower.specs.Limits.{size_with, Explains, ExplainsPrelude, ExplainsSize, IsWithin, IsPreludeWithin, IsWithinSize};
-ghost use Rattle.ja_lower.specs.Lowering.{lowered, lowered_prelude, lowered_with, is_name, names_of};
+ghost use Rattle.ja_lower.specs.Lowering.{lowered, lowered_prelude, lowered_with, names_of};
 
 mod bodies;
 mod body;
@@ -23,7 +25,7 @@ pub use body::Body;
 pub use fault::LowerFault;
 use ja_base::{Memory, Seq};
 use ja_expressions::special_of;
-use ja_names::{Names, functions_in, names_in};
+use ja_names::{Named, Names, functions_in, names_in};
 use ja_prim::Text16;
 use ja_syntax::{Statement, Tree};
 pub use lowered::Lowered;
@@ -35,18 +37,18 @@ const MAX_FUNCTIONS: usize = 4_095;
 /// The most names that a program may have.
 const MAX_NAMES: usize = 1_048_576;
 
-/// Adds the names of a text, each once; where the text has special forms, their names are none.
-fn add_names<'a>(names: &mut Names<'a>, specials: bool, texts: &[&'a Text16]) -> Result<(), Memory>
-    ensures { OnOk result (names.new ≡ fold with_name names.old (filter (is_name specials) (map (λ t. t.now) texts.now))) }
+/// Adds the names of a text, each once; where the text has special forms, a variable that is one is no name.
+fn add_names<'a>(names: &mut Names<'a>, specials: bool, texts: &[Named<'a>]) -> Result<(), Memory>
+    ensures { OnOk result (names.new ≡ fold with_name names.old (map (λ n. n.text) (filter (is_name specials) (map named_of texts.now)))) }
 {
-    for text in texts {
-        if specials && special_of(text.units()).is_some() {
+    for named in texts {
+        if named.variable && specials && special_of(named.text.units()).is_some() {
             continue;
         }
-        if names.len() >= 1 << 32 {
+        if names.len() >= u32::MAX as usize {
             return Err(Memory);
         }
-        names.add(text)?;
+        names.add(named.text)?;
     }
     Ok(())
 }
@@ -131,8 +133,8 @@ pub fn lower(
 }
 
 /// Lowers the tree of a text of built-in functions: as `lower`, but the names of the table of special forms
-/// (`ja_expressions::SPECIALS`) stand for these, and are no names of the program. The call of a special form that doesn't
-/// have its arguments, or such a name that isn't called, is undefined.
+/// (`ja_expressions::SPECIALS`) stand for these where they are variables, which then are no names of the program. The call of a
+/// special form that doesn't have its arguments, or such a variable that isn't called, is undefined.
 ///
 /// # Errors
 ///

@@ -26,36 +26,36 @@ use Rattle.ja_syntax.specs.declared.tree.Expression.{Expression, roll-Expression
 use Rattle.ja_syntax.specs.declared.tree.Expression.TheVariants as e
 use Rattle.ja_syntax.specs.declared.tree.Expression.TheOpen.{Expression-F, Statement-F, Case-F}
 use Rattle.ja_syntax.specs.declared.tree.Expression.TheFolds.{para-roll-Expression, para-roll-Statement, para-roll-Case, map-Expression, map-Statement, map-Case}
-use Rattle.ja_names.specs.TextOrder.{Parts, a_function, if_any, in_literal, in_name, in_suffix, in_property, in_operation, in_declaration, in_first, in_target, in_catch, expression_step, statement_step, case_step, in_expression, in_statement, in_case, function_parts}
+use Rattle.ja_names.specs.TextOrder.{Parts, a_function, one_variable, if_any, in_literal, in_name, in_suffix, in_property, in_operation, in_declaration, in_first, in_target, in_catch, expression_step, statement_step, case_step, in_expression, in_statement, in_case, function_parts}
 
 after : {A B : Type 0} (f : B → Parts) (g : A → B) (h : A → Parts) → ((x : A) → f (g x) ≡ h x) → (xs : List A) → flat_map f (map g xs) ≡ flat_map h xs
 after f g h e [] = refl
 after f g h e (x ∷ xs) = ap (λ y. y ++ flat_map f (map g xs)) (e x) ∙ ap (λ y. h x ++ y) (after f g h e xs)
 
 -- each tree, beside its parts
-abbrev Expressions : Type 0
+abbrev pub Expressions : Type 0
 Expressions = Expression × Parts
 
-abbrev Statements : Type 0
+abbrev pub Statements : Type 0
 Statements = Statement × Parts
 
-abbrev Cases : Type 0
+abbrev pub Cases : Type 0
 Cases = Case × Parts
 
-abbrev expression_layer : Expression-F Expression Statement Case → Expression-F Expressions Statements Cases
+abbrev pub expression_layer : Expression-F Expression Statement Case → Expression-F Expressions Statements Cases
 expression_layer = map-Expression Expression Statement Case Expressions Statements Cases (λ x. (x, in_expression x)) (λ x. (x, in_statement x)) (λ x. (x, in_case x))
 
-abbrev statement_layer : Statement-F Expression Statement Case → Statement-F Expressions Statements Cases
+abbrev pub statement_layer : Statement-F Expression Statement Case → Statement-F Expressions Statements Cases
 statement_layer = map-Statement Expression Statement Case Expressions Statements Cases (λ x. (x, in_expression x)) (λ x. (x, in_statement x)) (λ x. (x, in_case x))
 
-abbrev case_layer : Case-F Expression Statement Case → Case-F Expressions Statements Cases
+abbrev pub case_layer : Case-F Expression Statement Case → Case-F Expressions Statements Cases
 case_layer = map-Case Expression Statement Case Expressions Statements Cases (λ x. (x, in_expression x)) (λ x. (x, in_statement x)) (λ x. (x, in_case x))
 
-expression_opened : (x : Expression-F Expression Statement Case) → in_expression (roll-Expression x) ≡ expression_step (expression_layer x)
+pub expression_opened : (x : Expression-F Expression Statement Case) → in_expression (roll-Expression x) ≡ expression_step (expression_layer x)
 unfolding in_expression in_statement in_case
 expression_opened x = para-roll-Expression Parts Parts Parts expression_step statement_step case_step x
 
-statement_opened : (x : Statement-F Expression Statement Case) → in_statement (roll-Statement x) ≡ statement_step (statement_layer x)
+pub statement_opened : (x : Statement-F Expression Statement Case) → in_statement (roll-Statement x) ≡ statement_step (statement_layer x)
 unfolding in_expression in_statement in_case
 statement_opened x = para-roll-Statement Parts Parts Parts expression_step statement_step case_step x
 
@@ -92,13 +92,13 @@ module _ (g : Declaration Expression → Parts) (empty : (n : Name) → g (recor
   declaration_is : (d : Declaration Expression) → g d ≡ in_declaration in_expression d
   declaration_is d = declaration_at d.name d.initialiser
 
-function_layer : (f : FunctionOf Statement) → expression_step (expression_layer (Expression-F.Expression::Function f)) ≡ function_parts f
+pub function_layer : (f : FunctionOf Statement) → expression_step (expression_layer (Expression-F.Expression::Function f)) ≡ function_parts f
 function_layer f = ap (λ (body : List Statement). a_function (record { name = f.name; parameters = f.parameters; body = body; place = f.place }) ∷ (if_any in_name f.name ++ (flat_map in_name f.parameters ++ flat_map (λ (p : Statements). p.1) (map (λ x. (x, in_statement x)) f.body)))) (back f.body) ∙ ap (λ (ps : Parts). a_function f ∷ (if_any in_name f.name ++ (flat_map in_name f.parameters ++ ps))) (statements f.body)
 
 pub of_this : (parts : Parts) (place : Place) → parts ++ in_expression (e.This place) ≡ parts
 of_this parts place = ap (λ ps. parts ++ ps) (ap in_expression (sym (e.rolls-This place)) ∙ expression_opened (Expression-F.This place)) ∙ append-nil parts
 
-pub of_name : (parts : Parts) (name : Name) → parts ++ in_expression (e.Name name) ≡ parts ++ in_name name
+pub of_name : (parts : Parts) (name : Name) → parts ++ in_expression (e.Name name) ≡ parts ++ one_variable name.text
 of_name parts name = ap (λ ps. parts ++ ps) (ap in_expression (sym (e.rolls-Name name)) ∙ expression_opened (Expression-F.Name name))
 
 pub of_literal : (parts : Parts) (value : Primitive) (place : Place) → parts ++ in_expression (e.Literal value place) ≡ parts ++ in_literal value

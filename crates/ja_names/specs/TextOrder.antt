@@ -1,5 +1,5 @@
 -- The functions of a text and its names, in the order of the text.
-use Rattle.std.specs.Prelude.{ℕ, List, [], ◌∷◌, ◌++◌, map, Option, Some, None}
+use Rattle.std.specs.Prelude.{ℕ, Bool, true, false, List, [], ◌∷◌, ◌++◌, map, Option, Some, None}
 use Rattle.std.specs.List.{flat_map}
 use Rattle.ja_prim.specs.declared.primitive.Primitive.{Primitive}
 use Rattle.ja_prim.specs.declared.primitive.Primitive.TheVariants as primitive
@@ -24,16 +24,24 @@ use Rattle.ja_syntax.specs.declared.tree.Expression.{Expression}
 use Rattle.ja_syntax.specs.declared.tree.Expression.TheOpen.{Expression-F, Statement-F, Case-F}
 use Rattle.ja_syntax.specs.declared.tree.Expression.TheFolds.{para-Expression, para-Statement, para-Case}
 
+-- A name where it stands in a text, and whether it is an expression there, that is, a variable (ES3 11.1.2).
+pub record Named : Type 0 where
+  pub text : List ℕ
+  pub variable : Bool
+
 -- What a text has in its order: functions, and names.
 pub data Part : Type 0 where
   a_function : FunctionOf Statement → Part
-  a_name : List ℕ → Part
+  a_name : Named → Part
 
 abbrev pub Parts : Type 0
 Parts = List Part
 
 abbrev pub one_name : List ℕ → Parts
-one_name text = a_name text ∷ []
+one_name text = a_name (record { text = text; variable = false }) ∷ []
+
+abbrev pub one_variable : List ℕ → Parts
+one_variable text = a_name (record { text = text; variable = true }) ∷ []
 
 -- the parts of what may be missing
 abbrev pub if_any : {A : Type 0} → (A → Parts) → Option A → Parts
@@ -103,7 +111,7 @@ in_function tree statement f =
 -- one level of an expression (11)
 abbrev pub expression_step : Expression-F (Expression × Parts) (Statement × Parts) (Case × Parts) → Parts
 expression_step (Expression-F.This place) = []
-expression_step (Expression-F.Name name) = in_name name
+expression_step (Expression-F.Name name) = one_variable name.text
 expression_step (Expression-F.Literal value place) = in_literal value
 expression_step (Expression-F.Array elements place) = flat_map (if_any (λ e. e.1)) elements
 expression_step (Expression-F.Object properties place) = flat_map (in_property (λ e. e.1)) properties
@@ -161,15 +169,15 @@ function_parts f =
 -- the functions among parts, and the names
 abbrev pub if_function : Part → List (FunctionOf Statement)
 if_function (a_function f) = f ∷ []
-if_function (a_name text) = []
+if_function (a_name n) = []
 
-abbrev pub if_name : Part → List (List ℕ)
+abbrev pub if_name : Part → List Named
 if_name (a_function f) = []
-if_name (a_name text) = text ∷ []
+if_name (a_name n) = n ∷ []
 
 -- the functions of statements, functions in functions among them, and the names, each as often as it stands there
 unfoldable pub functions_in : List Statement → List (FunctionOf Statement)
 functions_in statements = flat_map if_function (flat_map in_statement statements)
 
-unfoldable pub names_in : List Statement → List (List ℕ)
+unfoldable pub names_in : List Statement → List Named
 names_in statements = flat_map if_name (flat_map in_statement statements)

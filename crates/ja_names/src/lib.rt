@@ -7,3 +7,4 @@ mod text_order_parts;
 
 pub use names::Names;
 pub use text_order::{functions_in, names_in};
+pub use text_order_parts::Named;

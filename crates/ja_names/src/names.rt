@@ -3,33 +3,29 @@
 ghost use Rattle.std.specs.Prelude.{◌≡◌, ◌+◌, ◌<◌, ◌≤◌, ◌^◌, ◌++◌, [], length, IfOk, OnOk};
 ghost use Rattle.ja_names.specs.Names as spec;
 
+use indexmap::IndexSet;
 use ja_base::{Memory, NameId, Seq};
 use ja_prim::Text16;
 use std::alloc::Global;
-use std::collections::BTreeMap;
 use std::marker::Model;
 
-/// Names, each once, in the order in which they were added, and the number of each. Contracts see
+/// Names, each once, in the order in which they were added, and the number of each. They are fewer than 2^32. Contracts see
 /// the list of texts.
 #[derive(Drop)]
 pub struct Names<'a> {
-    texts: Vec<&'a Text16>,
-    numbers: BTreeMap<&'a [u16], u32>,
+    texts: IndexSet<&'a [u16]>,
 }
 
 impl<'a> Model for Names<'a> {
-    ghost use Rattle.std.specs.Prelude.{◌≡◌, ℕ, List, map};
-    ghost use Rattle.std.specs.List.{position_from};
-    ghost use Rattle.std.specs.Ordering.{nat_cmp};
-    ghost use Rattle.std.specs.Cmp.Lexicographic.{slice_cmp};
-    ghost use Rattle.std.specs.BTreeMap.{get_by};
-    ghost use Rattle.std.specs.Str.{bytes_eq};
+    ghost use Rattle.std.specs.Prelude.{◌<◌, ◌≤◌, ◌^◌, ℕ, List, length, map};
+    ghost use Rattle.std.specs.List.{All};
+    ghost use Rattle.ja_prim.specs.Texts.{max_units};
 
     ghost Value = { List (List ℕ) };
 
-    ghost view = { λ n. map (λ t. t.now) n.texts.items };
+    ghost view = { λ n. map (λ t. t.now) n.texts.keys };
 
-    ghost invariant = { λ n. (t : List ℕ) → get_by (λ k. slice_cmp nat_cmp t k.now) n.numbers ≡ position_from (bytes_eq t) 0 (map (λ u. u.now) n.texts.items) };
+    ghost invariant = { λ n. (length n.texts.keys < 2 ^ 32) × All (λ t. length t.now ≤ max_units) n.texts.keys };
 }
 
 impl<'a> Names<'a> {
@@ -38,8 +34,7 @@ impl<'a> Names<'a> {
         ensures { result ≡ [] }
     {
         Names {
-            texts: Vec::new(alloc),
-            numbers: BTreeMap::new(alloc),
+            texts: IndexSet::new(alloc),
         }
     }
 
@@ -50,27 +45,23 @@ impl<'a> Names<'a> {
         self.texts.len()
     }
 
-    /// The number of a name: its place among the names, or 0 where it isn't one of them.
+    /// The number of a name: its place among the names, or the number behind the last one where it isn't one of them.
     pub fn number(&self, text: &[u16]) -> NameId
         ensures { result ≡ spec.number self.now text.now }
     {
-        NameId(self.numbers.get(text).copied().unwrap_or(0))
+        match self.texts.get_index_of(text) {
+            Some(place) => NameId(place as u32),
+            None => NameId(self.texts.len() as u32),
+        }
     }
 
     /// Adds a name, if it isn't one yet.
     pub fn add(&mut self, text: &'a Text16) -> Result<(), Memory>
-        requires { length self.old < 2 ^ 32 }
+        requires { length self.old + 1 < 2 ^ 32 }
         ensures names { OnOk result (self.new ≡ spec.with_name self.old text.now) }
         ensures few { OnOk result (length self.new ≤ length self.old + 1) }
     {
-        let units = text.units();
-        if self.numbers.contains_key(units) {
-            return Ok(());
-        }
-        let number = self.texts.len() as u32;
-        self.texts.reserve(1)?;
-        self.numbers.insert(units, number)?;
-        self.texts.push(text)?;
+        self.texts.insert(text.units())?;
         Ok(())
     }
 
@@ -79,8 +70,8 @@ impl<'a> Names<'a> {
         ensures { IfOk result (λ texts. texts ≡ self.now) }
     {
         let mut texts = Vec::new(alloc);
-        for text in &self.texts {
-            texts.push(text.copy(alloc)?)?;
+        for text in self.texts.as_slice() {
+            texts.push(Text16::from_slice(alloc, text)?)?;
         }
         Ok(Seq::from_vec(texts))
     }

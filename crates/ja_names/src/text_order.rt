@@ -3,8 +3,9 @@
 ghost use Rattle.std.specs.Prelude.{◌≡◌, ◌++◌, map, IfOk, OnOk};
 ghost use Rattle.std.specs.List.{flat_map};
 ghost use Rattle.ja_names.specs.TextOrder as spec;
+ghost use Rattle.ja_names.specs.TextParts.{named_of};
 
-use crate::text_order_parts::Parts;
+use crate::text_order_parts::{Named, Parts};
 use ja_base::Memory;
 use ja_prim::{Primitive, Text16};
 use ja_syntax::{
@@ -61,7 +62,7 @@ fn add_expression<'a>(parts: &mut Parts<'a>, expression: &'a Expression) -> Resu
 {
     match expression {
         Expression::This { .. } => Ok(()),
-        Expression::Name(name) => parts.add_name(&name.text),
+        Expression::Name(name) => parts.add_variable(&name.text),
         Expression::Literal { value, .. } => add_literal(parts, value),
         Expression::Array { elements, .. } => add_elements(parts, elements.as_slice()),
         Expression::Object { properties, .. } => add_properties(parts, properties.as_slice()),
@@ -430,10 +431,10 @@ pub fn functions_in<'a>(
 }
 
 /// The names of a text, in its order, each as often as it stands there: identifiers but labels, strings, and the names
-/// of properties. `Err` comes where memory is refused, and only then.
+/// of properties; with each whether it is a variable there. `Err` comes where memory is refused, and only then.
 #[tactic(auto, unfolding(crate::specs::TextOrder::names_in))]
-pub fn names_in<'a>(alloc: Global, statements: &'a [Statement]) -> Result<Vec<&'a Text16>, Memory>
-    ensures { IfOk result (λ names. map (λ t. t.now) names.items ≡ spec.names_in statements.now) }
+pub fn names_in<'a>(alloc: Global, statements: &'a [Statement]) -> Result<Vec<Named<'a>>, Memory>
+    ensures { IfOk result (λ names. map named_of names.items ≡ spec.names_in statements.now) }
 {
     let mut parts = Parts::new(alloc);
     add_statements(&mut parts, statements)?;

@@ -3,6 +3,7 @@
 ghost use Rattle.std.specs.Prelude.{◌≡◌, ◌++◌, ◌∷◌, [], map, IfOk, OnOk};
 ghost use Rattle.std.specs.List.{flat_map};
 ghost use Rattle.ja_names.specs.TextOrder as spec;
+ghost use Rattle.ja_names.specs.TextParts.{named_of};
 
 use ja_base::Memory;
 use ja_prim::Text16;
@@ -10,11 +11,18 @@ use ja_syntax::FunctionTree;
 use std::alloc::Global;
 use std::marker::Model;
 
+/// A name where it stands in a text, and whether it is an expression there, that is, a variable.
+#[derive(Clone, Copy)]
+pub struct Named<'a> {
+    pub text: &'a Text16,
+    pub variable: bool,
+}
+
 /// A function of a text, or a name.
 #[derive(Drop)]
 enum Part<'a> {
     Function(&'a FunctionTree),
-    Name(&'a Text16),
+    Name(Named<'a>),
 }
 
 /// Parts of a text, in their order. Contracts see their list.
@@ -56,11 +64,25 @@ impl<'a> Parts<'a> {
         Ok(())
     }
 
-    /// Adds a name.
+    /// Adds a name that is no variable.
     pub(crate) fn add_name(&mut self, text: &'a Text16) -> Result<(), Memory>
-        ensures { OnOk result (self.new ≡ self.old ++ spec.a_name text.now ∷ []) }
+        ensures { OnOk result (self.new ≡ self.old ++ spec.one_name text.now) }
     {
-        self.row.push(Part::Name(text))?;
+        self.row.push(Part::Name(Named {
+            text,
+            variable: false,
+        }))?;
+        Ok(())
+    }
+
+    /// Adds the name of a variable.
+    pub(crate) fn add_variable(&mut self, text: &'a Text16) -> Result<(), Memory>
+        ensures { OnOk result (self.new ≡ self.old ++ spec.one_variable text.now) }
+    {
+        self.row.push(Part::Name(Named {
+            text,
+            variable: true,
+        }))?;
         Ok(())
     }
 
@@ -78,13 +100,13 @@ impl<'a> Parts<'a> {
     }
 
     /// The names among them.
-    pub(crate) fn names(&self, alloc: Global) -> Result<Vec<&'a Text16>, Memory>
-        ensures { IfOk result (λ names. map (λ t. t.now) names.items ≡ flat_map spec.if_name self.now) }
+    pub(crate) fn names(&self, alloc: Global) -> Result<Vec<Named<'a>>, Memory>
+        ensures { IfOk result (λ names. map named_of names.items ≡ flat_map spec.if_name self.now) }
     {
         let mut names = Vec::new(alloc);
         for part in &self.row {
-            if let Part::Name(text) = part {
-                names.push(*text)?;
+            if let Part::Name(named) = part {
+                names.push(*named)?;
             }
         }
         Ok(names)

@@ -1,5 +1,5 @@
 -- What literals, functions as expressions, calls and `new` list is in range.
-use Rattle.std.proofs.Common.{◌≡◌, ℕ, ◌+◌, List, [], ◌∷◌, ◌++◌, length, Option, Some, None, true}
+use Rattle.std.proofs.Common.{◌≡◌, ℕ, ◌+◌, List, [], ◌∷◌, ◌++◌, length, Option, Some, None, true, refl}
 use Rattle.std.specs.Fmt.{decimal}
 use lib.Chars.{codes}
 use Rattle.std.specs.List.{AllByRecursion}
@@ -20,6 +20,8 @@ use Rattle.ja_expressions.specs.References.{Form, value_of}
 use Rattle.ja_expressions.specs.Literals.{Member, scope, write_known, new_object, write_element, write_elements, write_length, list_array, property_text, write_member, write_members, list_object, function_id, make_function, list_named_function, list_function}
 use Rattle.ja_expressions.specs.Specials.{list_special}
 use Rattle.ja_expressions.specs.Calls.{Arguments, list_arguments, with_call, call_outcome, list_call, new_of, list_new}
+use Rattle.ja_names.specs.TextOrder.{Parts, if_any, in_name}
+use Rattle.ja_ranges.specs.Found.{HasName, HasFunctionAt, HasParts}
 use Rattle.ja_ranges.specs.InRange.{Limits, IsTemporary, limits_of}
 use Rattle.ja_ranges.proofs.LineRanges.{all_append, name_in_range, function_in_range, sound_with_node, sound_with_result, sound_with_const, sound_with_copy, sound_with_text, sound_move_to_scope}
 use Rattle.ja_ranges.proofs.NodeRanges.{read_prop_in_range, write_prop_in_range, delete_prop_in_range, has_prop_in_range, new_object_in_range, make_function_in_range, push_scope_in_range, bind_in_range, call_in_range, new_in_range, spread_in_range, stop_in_range, tail_in_range, intrinsic_in_range}
@@ -92,30 +94,51 @@ pub record AreSoundArguments (limits : Limits) (a : Arguments) : Type 0 where
   pub listing : IsSound limits a.listing
   pub values : AreTemporary limits a.values
 
+-- ---- functions
+
+module _ (parameters : ℕ) (scene : Scene) where
+  pub sound_make_function : {l : Listing} (place : Place) → HasFunctionAt scene place → IsSound (limits_of parameters scene) l → IsSoundValued (limits_of parameters scene) (make_function scene place l)
+  sound_make_function place here sound =
+      sound_with_result scene place (λ dst. MakeFunction dst (function_id scene place) (site 0) (site 1))
+      (λ dst set. make_function_in_range (limits_of parameters scene) dst (function_id scene place) set (function_in_range scene place here)) sound
+
+  pub sound_list_named_function : {l : Listing} (name : Name) (place : Place) → HasFunctionAt scene place → HasName scene name.text → IsSound (limits_of parameters scene) l → IsSoundValued (limits_of parameters scene) (list_named_function name place scene l)
+  unfolding list_named_function
+  sound_list_named_function name place here named sound =
+      let saved = sound_with_copy scene place scope sound in
+      let function = sound_make_function place here (sound_with_node scene place (PushScope (site 0)) (push_scope_in_range (limits_of parameters scene)) saved.listing) in
+      let low = name_in_range scene name.text named in
+      let bound = sound_with_node scene place (Bind (name_id scene name.text) _ true) (bind_in_range (limits_of parameters scene) (name_id scene name.text) _ true low) function.listing in
+      record { listing = sound_move_to_scope scene place _ bound; value = function.value }
+
+  pub sound_list_function : {l : Listing} (name : Option Name) (place : Place) → HasFunctionAt scene place → HasParts scene (if_any in_name name) → IsSound (limits_of parameters scene) l → IsSoundValued (limits_of parameters scene) (list_function name place scene l)
+  sound_list_function None place here named sound = sound_make_function place here sound
+  sound_list_function (Some name) place here named sound = sound_list_named_function name place here (named.0 refl) sound
+
 -- ---- forms inside, in a function with so many parameters
 
 -- an element of an array that is no hole
-abbrev pub IsSoundElement : Option Form → Type 0
-IsSoundElement None = Unit {0}
-IsSoundElement (Some element) = IsSoundForm element
+abbrev pub IsSoundElement : Parts → Option Form → Type 0
+IsSoundElement parts None = Unit {0}
+IsSoundElement parts (Some element) = IsSoundForm parts element
 
-abbrev pub IsSoundMember : Member → Type 0
-IsSoundMember m = IsSoundForm m.value
+abbrev pub IsSoundMember : Parts → Member → Type 0
+IsSoundMember parts m = IsSoundForm parts m.value
 
-module _ (parameters : ℕ) (scene : Scene) where
-  pub sound_write_element : {l : Listing} (place : Place) (array : Reg) (i : ℕ) (element : Option Form) → IsSoundElement element → IsSound (limits_of parameters scene) l → IsSound (limits_of parameters scene) (write_element scene place array i element l)
+module _ (parts : Parts) (parameters : ℕ) (scene : Scene) (has : HasParts scene parts) where
+  pub sound_write_element : {l : Listing} (place : Place) (array : Reg) (i : ℕ) (element : Option Form) → IsSoundElement parts element → IsSound (limits_of parameters scene) l → IsSound (limits_of parameters scene) (write_element scene place array i element l)
   unfolding write_element
   sound_write_element place array i None fine sound = sound
   sound_write_element place array i (Some element) fine sound =
-      let v = sound_value_of parameters scene element fine sound in sound_write_known scene place array (decimal i) _ v.listing
+      let v = sound_value_of parts parameters scene has element fine sound in sound_write_known scene place array (decimal i) _ v.listing
 
-  pub sound_write_elements : (place : Place) (array : Reg) (i : ℕ) (elements : List (Option Form)) {l : Listing} → AllByRecursion IsSoundElement elements → IsSound (limits_of parameters scene) l → IsSound (limits_of parameters scene) (write_elements scene place array i elements l)
+  pub sound_write_elements : (place : Place) (array : Reg) (i : ℕ) (elements : List (Option Form)) {l : Listing} → AllByRecursion (IsSoundElement parts) elements → IsSound (limits_of parameters scene) l → IsSound (limits_of parameters scene) (write_elements scene place array i elements l)
   unfolding write_elements
   sound_write_elements place array i [] fine sound = sound
   sound_write_elements place array i (element ∷ elements) fine sound =
       sound_write_elements place array (i + 1) elements fine.1 (sound_write_element place array i element fine.0 sound)
 
-  pub sound_list_array : {l : Listing} (elements : List (Option Form)) (place : Place) → AllByRecursion IsSoundElement elements → IsSound (limits_of parameters scene) l → IsSoundValued (limits_of parameters scene) (list_array elements place scene l)
+  pub sound_list_array : {l : Listing} (elements : List (Option Form)) (place : Place) → AllByRecursion (IsSoundElement parts) elements → IsSound (limits_of parameters scene) l → IsSoundValued (limits_of parameters scene) (list_array elements place scene l)
   unfolding list_array
   sound_list_array elements place fine sound =
       let array = sound_new_object scene place made.Array sound in
@@ -124,67 +147,47 @@ module _ (parameters : ℕ) (scene : Scene) where
         value = array.value;
       }
 
-  pub sound_write_member : {l : Listing} (place : Place) (object : Reg) (m : Member) → IsSoundMember m → IsSound (limits_of parameters scene) l → IsSound (limits_of parameters scene) (write_member scene place object m l)
+  pub sound_write_member : {l : Listing} (place : Place) (object : Reg) (m : Member) → IsSoundMember parts m → IsSound (limits_of parameters scene) l → IsSound (limits_of parameters scene) (write_member scene place object m l)
   unfolding write_member
   sound_write_member place object m fine sound =
-      let v = sound_value_of parameters scene m.value fine sound in sound_write_known scene place object (property_text m.name) _ v.listing
+      let v = sound_value_of parts parameters scene has m.value fine sound in sound_write_known scene place object (property_text m.name) _ v.listing
 
-  pub sound_write_members : (place : Place) (object : Reg) (members : List Member) {l : Listing} → AllByRecursion IsSoundMember members → IsSound (limits_of parameters scene) l → IsSound (limits_of parameters scene) (write_members scene place object members l)
+  pub sound_write_members : (place : Place) (object : Reg) (members : List Member) {l : Listing} → AllByRecursion (IsSoundMember parts) members → IsSound (limits_of parameters scene) l → IsSound (limits_of parameters scene) (write_members scene place object members l)
   unfolding write_members
   sound_write_members place object [] fine sound = sound
   sound_write_members place object (m ∷ members) fine sound =
       sound_write_members place object members fine.1 (sound_write_member place object m fine.0 sound)
 
-  pub sound_list_object : {l : Listing} (members : List Member) (place : Place) → AllByRecursion IsSoundMember members → IsSound (limits_of parameters scene) l → IsSoundValued (limits_of parameters scene) (list_object members place scene l)
+  pub sound_list_object : {l : Listing} (members : List Member) (place : Place) → AllByRecursion (IsSoundMember parts) members → IsSound (limits_of parameters scene) l → IsSoundValued (limits_of parameters scene) (list_object members place scene l)
   unfolding list_object
   sound_list_object members place fine sound =
       let object = sound_new_object scene place made.Object sound in
       record { listing = sound_write_members place _ members fine object.listing; value = object.value }
 
-  -- ---- functions
-
-  pub sound_make_function : {l : Listing} (place : Place) → IsSound (limits_of parameters scene) l → IsSoundValued (limits_of parameters scene) (make_function scene place l)
-  sound_make_function place sound =
-      sound_with_result scene place (λ dst. MakeFunction dst (function_id scene place) (site 0) (site 1))
-      (λ dst set. make_function_in_range (limits_of parameters scene) dst (function_id scene place) set (function_in_range scene place)) sound
-
-  pub sound_list_named_function : {l : Listing} (name : Name) (place : Place) → IsSound (limits_of parameters scene) l → IsSoundValued (limits_of parameters scene) (list_named_function name place scene l)
-  unfolding list_named_function
-  sound_list_named_function name place sound =
-      let saved = sound_with_copy scene place scope sound in
-      let function = sound_make_function place (sound_with_node scene place (PushScope (site 0)) (push_scope_in_range (limits_of parameters scene)) saved.listing) in
-      let low = name_in_range scene name.text in
-      let bound = sound_with_node scene place (Bind (name_id scene name.text) _ true) (bind_in_range (limits_of parameters scene) (name_id scene name.text) _ true low) function.listing in
-      record { listing = sound_move_to_scope scene place _ bound; value = function.value }
-
-  pub sound_list_function : {l : Listing} (name : Option Name) (place : Place) → IsSound (limits_of parameters scene) l → IsSoundValued (limits_of parameters scene) (list_function name place scene l)
-  sound_list_function None place sound = sound_make_function place sound
-  sound_list_function (Some name) place sound = sound_list_named_function name place sound
-
   -- ---- arguments
 
-  pub sound_list_arguments : (arguments : List Form) (values : List Reg) {l : Listing} → AllByRecursion IsSoundForm arguments → AreTemporary (limits_of parameters scene) values → IsSound (limits_of parameters scene) l → AreSoundArguments (limits_of parameters scene) (list_arguments arguments scene l values)
+  pub sound_list_arguments : (arguments : List Form) (values : List Reg) {l : Listing} → AllByRecursion (IsSoundForm parts) arguments → AreTemporary (limits_of parameters scene) values → IsSound (limits_of parameters scene) l → AreSoundArguments (limits_of parameters scene) (list_arguments arguments scene l values)
   unfolding list_arguments
   sound_list_arguments [] values fine each sound = record { listing = sound; values = each }
   sound_list_arguments (argument ∷ arguments) values {l = l} fine each sound =
-      let v = sound_value_of parameters scene argument fine.0 sound in
+      let v = sound_value_of parts parameters scene has argument fine.0 sound in
       let more = all_append (λ (r : Reg). IsTemporary (limits_of parameters scene) r.0) values ((value_of argument scene l).value ∷ []) each (v.value, tt) in
       sound_list_arguments arguments (values ++ (value_of argument scene l).value ∷ []) fine.1 more v.listing
 
-  pub sound_list_call : {l : Listing} (arguments : List Form) (place : Place) (callee : Outcome) → AllByRecursion IsSoundForm arguments → IsSoundOutcome (limits_of parameters scene) callee → IsSound (limits_of parameters scene) l → IsSoundValued (limits_of parameters scene) (list_call arguments place scene callee l)
+  pub sound_list_call : {l : Listing} (arguments : List Form) (place : Place) (callee : Outcome) → AllByRecursion (IsSoundForm parts) arguments → IsSoundOutcome (limits_of parameters scene) callee → IsSound (limits_of parameters scene) l → IsSoundValued (limits_of parameters scene) (list_call arguments place scene callee l)
   unfolding list_call
   sound_list_call {l = l} arguments place callee fine known sound =
       let a = sound_list_arguments arguments [] fine tt sound in
       sound_call_outcome callee scene place (list_arguments arguments scene l []).values known a.values a.listing
 
-  pub sound_new_of : {l : Listing} (arguments : List Form) (place : Place) (callee : Reg) → AllByRecursion IsSoundForm arguments → IsSound (limits_of parameters scene) l → IsSoundValued (limits_of parameters scene) (new_of arguments place scene callee l)
+  pub sound_new_of : {l : Listing} (arguments : List Form) (place : Place) (callee : Reg) → AllByRecursion (IsSoundForm parts) arguments → IsSound (limits_of parameters scene) l → IsSoundValued (limits_of parameters scene) (new_of arguments place scene callee l)
   unfolding new_of
   sound_new_of {l = l} arguments place callee fine sound =
       let a = list_arguments arguments scene l [] in
       sound_with_result scene place (λ dst. New dst callee a.values (site 0) (site 1))
       (λ dst set. new_in_range (limits_of parameters scene) dst callee a.values set) (sound_list_arguments arguments [] fine tt sound).listing
 
-  pub sound_list_new : {l : Listing} (callee : Form) (arguments : List Form) (place : Place) → IsSoundForm callee → AllByRecursion IsSoundForm arguments → IsSound (limits_of parameters scene) l → IsSoundValued (limits_of parameters scene) (list_new callee arguments place scene l)
+  pub sound_list_new : {l : Listing} (callee : Form) (arguments : List Form) (place : Place) → IsSoundForm parts callee → AllByRecursion (IsSoundForm parts) arguments → IsSound (limits_of parameters scene) l → IsSoundValued (limits_of parameters scene) (list_new callee arguments place scene l)
   unfolding list_new
   sound_list_new callee arguments place fine all sound =
-      let f = sound_value_of parameters scene callee fine sound in sound_new_of arguments place _ all f.listing
+      let f = sound_value_of parts parameters scene has callee fine sound in sound_new_of arguments place _ all f.listing

@@ -1,26 +1,33 @@
 -- A copy of a block is in range, and so is what a jump lists on its way.
-use Rattle.std.proofs.Common.{◌≡◌, ◌+◌, ◌-◌, ◌==◌, ℕ, Bool, true, false, nat_le, nat_lt, if◌then◌else◌, List, [], ◌∷◌, map, Option, Some, None, inr, refl, arith}
+use Rattle.std.proofs.Common.{◌≡◌, ◌+◌, ◌-◌, ℕ, Bool, true, false, nat_le, if◌then◌else◌, List, [], ◌∷◌, length, map, Option, Some, None, inr, refl, sym, subst, arith}
 use Rattle.std.specs.List.{AllByRecursion}
 use Rattle.std.specs.Option.{option_map, option_to_list}
 use Rattle.std.proofs.lemmas.Bool.{leb-true}
+use Rattle.std.proofs.lemmas.List.{length-map}
 use Rattle.ja_base.specs.declared.ids.Place.{Place}
 use Rattle.ja_base.specs.declared.ids.Reg.{Reg}
 use Rattle.ja_graph.specs.declared.node.Args.TheVariants as args
 use Rattle.ja_graph.specs.declared.node.Node.{Node}
 use Rattle.ja_graph.specs.declared.node.Node.TheVariants as node
+use Rattle.ja_graph.specs.declared.node.NodeInfo.{NodeInfo}
 use Rattle.ja_graph.specs.Node.{register_set, name_in, function_in, makings}
 use Rattle.ja_graph.specs.Renaming.{renamed}
 use Rattle.ja_graph.proofs.RenamingLemmas.{sets_renamed}
+use Rattle.ja_listing.specs.declared.item.Block.{Block}
+use Rattle.ja_listing.specs.declared.item.BlockNode.{BlockNode}
 use Rattle.ja_listing.specs.declared.item.Spot.{Spot}
+use Rattle.ja_listing.specs.declared.item.Target.{Target}
 use Rattle.ja_listing.specs.declared.item.Item.{Item}
 use Rattle.ja_listing.specs.declared.item.Item.TheVariants as item
-use Rattle.ja_listing.specs.Listing.{node_count}
+use Rattle.ja_listing.specs.Laws.{IsWithin, EdgesAreWithin, IsWhole, CopiesAreWhole}
+use Rattle.ja_listing.specs.Listing.{with_edges, nodes_from, block_of, info_of, assembled}
+use Rattle.ja_listing.proofs.Inside.{block_whole}
 use Rattle.ja_draft.specs.Lines.{Listing, Scene}
-use Rattle.ja_draft.specs.Copies.{Template, leading, template_of, moved_register, moving, moves_with, moved_item, copied, with_block}
+use Rattle.ja_draft.specs.Copies.{Template, moved_register, moving, moves_with, moved_node, moved_block, with_block}
 use Rattle.ja_statements.specs.Ways.{Way, of_loop, of_switch, of_label, of_catch, of_finally, Leaving, with_scope, copied_above, leave, restored, arrive, arrive_or, jump_to, leave_all}
 use Rattle.ja_ranges.specs.InRange.{Limits, IsTemporary, IsDestination, IsOfTexts, IsInRange, OfNode, AllInRange}
-use Rattle.ja_ranges.proofs.LineRanges.{all_append, sound_with_jump, sound_move_to_scope}
-use Rattle.ja_ranges.proofs.Sound.{IsSound, IsSoundWay}
+use Rattle.ja_ranges.proofs.LineRanges.{all_append, sound_with_item, sound_with_jump, sound_move_to_scope}
+use Rattle.ja_ranges.proofs.Sound.{IsSound, IsSoundBlock, AreSoundLines, IsSoundWay}
 
 -- ---- a moved node
 
@@ -95,51 +102,77 @@ module _ (limits : Limits) (first by : ℕ) (temporary : IsTemporary limits firs
 
 -- ---- a copy
 
-module _ (limits : Limits) (t : Template) (temporary : IsTemporary limits t.temporary) where
-  moved_item_in_range : (above : Reg) (by to : ℕ) (i : Item) → OfNode (IsInRange limits) i → OfNode (IsInRange limits) (moved_item t above by to i)
-  moved_item_in_range above by to (item.Node n other handler place inner) h =
-      moved_in_range limits t.temporary (if moves_with t.temporary inner then by else 0) temporary n h
-  moved_item_in_range above by to (item.Spot s) h = tt
-  moved_item_in_range above by to (item.Jump s) h = tt
+module _ (limits : Limits) where
+  -- a copy of a block is in range where the block is
+  moved_nodes_in_range : (first : ℕ) (above : Reg) (by : ℕ) → IsTemporary limits first → (ns : List BlockNode) → AllByRecursion (λ (n : BlockNode). IsInRange limits n.node) ns → AllByRecursion (λ (n : BlockNode). IsInRange limits n.node) (map (moved_node first above by) ns)
+  moved_nodes_in_range first above by t [] h = h
+  moved_nodes_in_range first above by t (n ∷ ns) h =
+      (moved_in_range limits first (if moves_with first n.above then by else 0) t n.node h.0, moved_nodes_in_range first above by t ns h.1)
 
-  moved_items_in_range : (above : Reg) (by to : ℕ) (items : List Item) → AllInRange limits items → AllInRange limits (map (moved_item t above by to) items)
-  moved_items_in_range above by to [] h = h
-  moved_items_in_range above by to (i ∷ items) h = (moved_item_in_range above by to i h.0, moved_items_in_range above by to items h.1)
+  moved_edges_within : (first : ℕ) (above : Reg) (by nodes : ℕ) (ns : List BlockNode) → AllByRecursion (EdgesAreWithin nodes) ns → AllByRecursion (EdgesAreWithin nodes) (map (moved_node first above by) ns)
+  moved_edges_within first above by nodes [] h = h
+  moved_edges_within first above by nodes (n ∷ ns) h = (h.0, moved_edges_within first above by nodes ns h.1)
 
-  sound_copied : (above : Reg) (l : Listing) → AllInRange limits t.items → IsSound limits l → IsSound limits (copied t above l)
-  unfolding copied
-  sound_copied above l h s = record {
-    nodes = all_append (OfNode (IsInRange limits)) l.items (map (moved_item t above (above.0 + 1 - t.temporary) l.spot) t.items) s.nodes (moved_items_in_range above (above.0 + 1 - t.temporary) l.spot t.items h);
-    next = s.next;
-  }
+  moved_whole : (first : ℕ) (above : Reg) (by : ℕ) (block : Block) → IsWhole block → IsWhole (moved_block first above by block)
+  moved_whole first above by block h =
+      let count = length-map block.nodes (moved_node first above by) in
+      record {
+        entry = subst (λ n. IsWithin n block.entry) (sym count) h.entry;
+        nodes = subst (λ n. AllByRecursion (EdgesAreWithin n) (map (moved_node first above by) block.nodes)) (sym count) (moved_edges_within first above by (length block.nodes) block.nodes h.nodes);
+      }
 
-  sound_either : (b : Bool) (l other : Listing) → IsSound limits l → IsSound limits other → IsSound limits (if b then l else other)
-  sound_either true l other s o = s
-  sound_either false l other s o = o
-
-  pub sound_with_block : (above : Reg) (l : Listing) → AllInRange limits t.items → IsSound limits l → IsSound limits (with_block t above l)
+  pub sound_with_block : (t : Template) → IsTemporary limits t.temporary → (above : Reg) (l : Listing) → IsSoundBlock limits t.block → IsSound limits l → IsSound limits (with_block t above l)
   unfolding with_block
-  sound_with_block above l h s = sound_either (nat_lt 65536 (node_count l.items)) l (copied t above l) s (sound_copied above l h s)
+  sound_with_block t temporary above l h s =
+      let by = above.0 + 1 - t.temporary in
+      sound_with_item (item.Copy (moved_block t.temporary above by t.block)) (moved_nodes_in_range t.temporary above by temporary t.block.nodes h.0, moved_whole t.temporary above by t.block h.1) s
 
--- ---- what is copied
+-- ---- the nodes that lines come to
+
+-- what holds of each node of lines holds of each node that they come to
+module _ (P : Node → Type 0) where
+  abbrev OfEach : List BlockNode → Type 0
+  OfEach ns = AllByRecursion (λ (n : BlockNode). P n.node) ns
+
+  edged_keep : (f : Target → Target) (ns : List BlockNode) → OfEach ns → OfEach (map (with_edges f) ns)
+  edged_keep f [] h = h
+  edged_keep f (n ∷ ns) h = (h.0, edged_keep f ns h.1)
+
+  pub nodes_keep : (whole items : List Item) → AllByRecursion (OfNode P) items → OfEach (nodes_from whole items)
+  unfolding nodes_from
+  nodes_keep whole [] h = tt
+  nodes_keep whole (item.Node node other handler place ∷ items) h = (h.0, nodes_keep whole items h.1)
+  nodes_keep whole (item.Spot s ∷ items) h = nodes_keep whole items h.1
+  nodes_keep whole (item.Jump s ∷ items) h = nodes_keep whole items h.1
+  nodes_keep whole (item.Copy block ∷ items) h = all_append (λ (n : BlockNode). P n.node) _ (nodes_from whole items) (edged_keep _ block.nodes h.0) (nodes_keep whole items h.1)
+
+  infos_keep : (escape : ℕ) (ns : List BlockNode) → OfEach ns → AllByRecursion (λ (info : NodeInfo). P info.node) (map (info_of escape) ns)
+  infos_keep escape [] h = h
+  infos_keep escape (n ∷ ns) h = (h.0, infos_keep escape ns h.1)
+
+  pub assembled_keeps : (whole : List Item) → AllByRecursion (OfNode P) whole → AllByRecursion (λ (info : NodeInfo). P info.node) (assembled whole)
+  assembled_keeps whole h = infos_keep _ (nodes_from whole whole) (nodes_keep whole whole h)
+
+-- ---- the block that lines come to
 
 module _ (limits : Limits) where
-  jump_in_range : (way : Option Spot) → AllInRange limits (map item.Jump (option_to_list way))
-  jump_in_range None = tt
-  jump_in_range (Some s) = (tt, tt)
+  -- what lines are
+  pub lines_in_range : (items : List Item) → AreSoundLines limits items → AllInRange limits items
+  lines_in_range [] h = tt
+  lines_in_range (item.Node node other handler place ∷ items) h = (h.0, lines_in_range items h.1)
+  lines_in_range (item.Spot s ∷ items) h = (tt, lines_in_range items h.1)
+  lines_in_range (item.Jump s ∷ items) h = (tt, lines_in_range items h.1)
+  lines_in_range (item.Copy block ∷ items) h = (h.0.0, lines_in_range items h.1)
 
-  abbrev pub IsTemplate : Template → Type 0
-  IsTemplate t = AllInRange limits t.items × IsTemporary limits t.temporary
+  pub copies_whole : (items : List Item) → AreSoundLines limits items → CopiesAreWhole items
+  copies_whole [] h = tt
+  copies_whole (item.Node node other handler place ∷ items) h = (tt, copies_whole items h.1)
+  copies_whole (item.Spot s ∷ items) h = (tt, copies_whole items h.1)
+  copies_whole (item.Jump s ∷ items) h = (tt, copies_whole items h.1)
+  copies_whole (item.Copy block ∷ items) h = (h.0.1, copies_whole items h.1)
 
-  either_in_range : (b : Bool) (t other : Template) → IsTemplate t → IsTemplate other → IsTemplate (if b then t else other)
-  either_in_range true t other h o = h
-  either_in_range false t other h o = o
-
-  -- what is copied of a block is in range
-  pub template_in_range : (items : List Item) (temporary spot spots : ℕ) → AllInRange limits items → IsTemporary limits temporary → IsTemplate (template_of items temporary spot spots)
-  unfolding template_of
-  template_in_range items temporary spot spots h t =
-      either_in_range (node_count items == 0) _ _ (jump_in_range (leading items), t) (h, t)
+  pub block_sound : (items : List Item) → AreSoundLines limits items → IsSoundBlock limits (block_of items)
+  block_sound items h = (nodes_keep (IsInRange limits) items items (lines_in_range items h), block_whole items (copies_whole items h))
 
 -- ---- the ways out
 

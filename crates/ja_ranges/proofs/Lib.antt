@@ -1,4 +1,5 @@
 pub mod Sound
+pub mod Inclusions
 pub mod NodeRanges
 pub mod LineRanges
 pub mod OperandRanges
@@ -7,4 +8,14 @@ pub mod ExpressionRanges
 pub mod CopyRanges
 pub mod StatementRanges
 pub mod DoesRanges
+pub mod HoistedRanges
+pub mod FunctionParts
 pub mod FunctionRanges
+pub mod ScopeLaws
+pub mod SpotCounts
+pub mod SpotLines
+pub mod SpotForms
+pub mod SpotCopies
+pub mod SpotStatements
+pub mod SpotDoes
+pub mod SpotFunctions

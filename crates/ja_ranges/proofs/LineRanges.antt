@@ -1,6 +1,6 @@
 -- Each line that is added to a listing keeps its numbers in range.
-use Rattle.std.proofs.Common.{ℕ, max, ◌+◌, ◌<◌, ◌≤◌, Bool, true, false, cond, List, [], ◌∷◌, ◌++◌, length, Some, None, unwrap_or, suc, arith, inl, inr, refl}
-use Rattle.std.specs.List.{AllByRecursion, position_from}
+use Rattle.std.proofs.Common.{◌≡◌, ℕ, ◌+◌, ◌<◌, ◌≤◌, Bool, true, false, not, ◌||◌, cond, List, [], ◌∷◌, ◌++◌, length, Some, None, suc, arith, inl, inr, refl}
+use Rattle.std.specs.List.{AllByRecursion, list_any, position_or_len}
 use Rattle.std.specs.Str.{bytes_eq}
 use Rattle.ja_base.specs.declared.ids.Place.{Place}
 use Rattle.ja_base.specs.declared.ids.Reg.{Reg}
@@ -14,9 +14,10 @@ use Rattle.ja_listing.specs.declared.item.Item.{Item}
 use Rattle.ja_listing.specs.declared.item.Item.TheVariants as item
 use Rattle.ja_draft.specs.Lines.{Listing, Scene, register, name_id, with_item, with_node, with_branch, with_result, with_spot, with_jump, behind_spots, restarted, with_default, with_unary, with_number, with_text, with_truth, with_const, with_copy, with_move}
 use Rattle.ja_expressions.specs.Literals.{scope, same_place, function_id}
-use Rattle.ja_ranges.specs.InRange.{Limits, IsTemporary, IsDestination, IsInRange, OfNode}
+use Rattle.ja_ranges.specs.Found.{HasName, HasFunctionAt}
+use Rattle.ja_ranges.specs.InRange.{Limits, IsTemporary, IsDestination, IsInRange}
 use Rattle.ja_ranges.proofs.NodeRanges.{const_in_range, convert_in_range, move_in_range, unary_in_range}
-use Rattle.ja_ranges.proofs.Sound.{IsSound, IsSoundValued}
+use Rattle.ja_ranges.proofs.Sound.{IsSound, IsSoundLine, IsSoundValued}
 
 -- ---- lists
 
@@ -24,37 +25,33 @@ pub all_append : {X : Type 0} (P : X → Type 0) (xs ys : List X) → AllByRecur
 all_append P [] ys first second = second
 all_append P (x ∷ xs) ys first second = (first.0, all_append P xs ys first.1 second)
 
--- a place from a number on, or another number
-pub position_below : {X : Type 0} (p : X → Bool) (xs : List X) (from other : ℕ) → other < from + length xs → unwrap_or (position_from p from xs) other < from + length xs
-position_below p [] from other low = low
-position_below p (x ∷ xs) from other low = at_head (p x) (position_below p xs (from + 1) other (omega arith))
+-- an element that passes has a place
+found_below : {X : Type 0} (p : X → Bool) (xs : List X) → list_any p xs ≡ true → position_or_len p xs < length xs
+found_below p [] found = absurd (cc)
+found_below p (x ∷ xs) found = at_head (p x) found (found_below p xs)
   where
-    at_head : (b : Bool) → unwrap_or (position_from p (from + 1) xs) other < from + 1 + length xs → unwrap_or (cond b (Some from) (position_from p (from + 1) xs)) other < from + suc (length xs)
-    at_head true later = omega arith
-    at_head false later = omega (arith, later)
+    at_head : (b : Bool) → (b || list_any p xs) ≡ true → (list_any p xs ≡ true → position_or_len p xs < length xs) → cond (not b) (1 + position_or_len p xs) 0 < suc (length xs)
+    at_head true here later = omega arith
+    at_head false here later = omega (arith, later here)
 
 -- ---- names and functions
 
-pub name_in_range : (scene : Scene) (name : List ℕ) → (name_id scene name).0 < max 1 (length scene.names)
-name_in_range scene name = among scene.names
-  where
-    among : (names : List (List ℕ)) → unwrap_or (position_from (bytes_eq name) 0 names) 0 < max 1 (length names)
-    among [] = omega arith
-    among (t ∷ names) = omega (arith, position_below (bytes_eq name) (t ∷ names) 0 0 (omega arith))
+pub name_in_range : (scene : Scene) (name : List ℕ) → HasName scene name → (name_id scene name).0 < length scene.names
+name_in_range scene name has = found_below (bytes_eq name) scene.names has
 
-pub function_in_range : (scene : Scene) (place : Place) → (function_id scene place).0 ≤ length scene.functions
-function_in_range scene place = omega (arith, position_below (same_place place) scene.functions 1 0 (omega arith))
+pub function_in_range : (scene : Scene) (place : Place) → HasFunctionAt scene place → (function_id scene place).0 ≤ length scene.functions
+function_in_range scene place has = omega (arith, found_below (same_place place) scene.functions has)
 
 -- ---- lines
 
-pub sound_with_item : {limits : Limits} {l : Listing} (i : Item) → OfNode (IsInRange limits) i → IsSound limits l → IsSound limits (with_item l i)
-sound_with_item {limits = limits} {l = l} i here sound = record { nodes = all_append (OfNode (IsInRange limits)) l.items (i ∷ []) sound.nodes (here, tt); next = sound.next }
+pub sound_with_item : {limits : Limits} {l : Listing} (i : Item) → IsSoundLine limits i → IsSound limits l → IsSound limits (with_item l i)
+sound_with_item {limits = limits} {l = l} i here sound = record { nodes = all_append (IsSoundLine limits) l.items (i ∷ []) sound.nodes (here, tt); next = sound.next }
 
 pub sound_with_node : {limits : Limits} {l : Listing} (scene : Scene) (place : Place) (node : Node) → IsInRange limits node → IsSound limits l → IsSound limits (with_node scene place node l)
-sound_with_node scene place node here sound = sound_with_item (item.Node node None scene.handler place None) here sound
+sound_with_node scene place node here sound = sound_with_item (item.Node node None scene.handler place) here sound
 
 pub sound_with_branch : {limits : Limits} {l : Listing} (scene : Scene) (place : Place) (node : Node) (other : Spot) → IsInRange limits node → IsSound limits l → IsSound limits (with_branch scene place node other l)
-sound_with_branch scene place node other here sound = sound_with_item (item.Node node (Some other) scene.handler place None) here sound
+sound_with_branch scene place node other here sound = sound_with_item (item.Node node (Some other) scene.handler place) here sound
 
 pub sound_with_spot : {limits : Limits} {l : Listing} (s : Spot) → IsSound limits l → IsSound limits (with_spot s l)
 sound_with_spot s sound = sound_with_item (item.Spot s) tt sound

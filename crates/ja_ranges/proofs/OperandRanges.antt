@@ -1,5 +1,5 @@
 -- What references and operators list is in range.
-use Rattle.std.proofs.Common.{◌≡◌, ℕ, Bool, true, false, if◌then◌else◌, List, Option, Some, None, refl}
+use Rattle.std.proofs.Common.{◌≡◌, ℕ, Bool, true, false, not, ◌&&◌, if◌then◌else◌, List, Option, Some, None, is_some, refl}
 use Rattle.ja_base.specs.declared.ids.Place.{Place}
 use Rattle.ja_base.specs.declared.ids.Reg.{Reg}
 use Rattle.ja_prim.specs.declared.primitive.Primitive.TheVariants as primitive
@@ -21,6 +21,8 @@ use Rattle.ja_draft.specs.Lines.{Listing, Valued, Scene, site, name_id, with_nod
 use Rattle.ja_expressions.specs.References.{Form, valued, get_value, put_value, value_of, wrappers, with_object, with_variable, special_in, with_special_or_variable, with_name, with_member, with_element}
 use Rattle.ja_expressions.specs.Specials.{special_of}
 use Rattle.ja_expressions.specs.Operators.{with_delete, get_softly, with_type, apply_unary, on_value, on_outcome, list_unary, update_op, update_value, update_outcome, list_update, binary_op, with_binary, on_defaults, on_defaults_backwards, on_numbers, beside, on_loose, on_in, on_instance, apply_binary, and_then, or_else, Choice, consequence, alternative, list_conditional, apply_operation, assign_to, assign_to_by, assign, assign_by}
+use Rattle.ja_names.specs.TextOrder.{Parts, one_variable}
+use Rattle.ja_ranges.specs.Found.{HasName, HasParts}
 use Rattle.ja_ranges.specs.InRange.{Limits, IsTemporary, limits_of}
 use Rattle.ja_ranges.proofs.LineRanges.{name_in_range, sound_with_node, sound_with_branch, sound_with_spot, sound_with_jump, sound_behind_spots, sound_with_result, sound_with_const, sound_with_copy, sound_with_default, sound_with_unary, sound_with_truth, sound_with_number, sound_with_text, sound_move_to_temporary}
 use Rattle.ja_ranges.proofs.NodeRanges.{find_name_in_range, read_ref_in_range, read_soft_in_range, write_ref_in_range, delete_ref_in_range, to_object_in_range, need_object_in_range, read_prop_in_range, write_prop_in_range, delete_prop_in_range, has_prop_in_range, instance_of_in_range, convert_in_range, binary_in_range, branch_in_range}
@@ -51,9 +53,9 @@ pub sound_with_object : {limits : Limits} {l : Listing} (scene : Scene) (place :
 sound_with_object {limits = limits} scene place src sound =
     sound_with_result scene place (λ dst. ToObject dst src wrappers (site 3)) (λ dst set. to_object_in_range limits dst src set) sound
 
-sound_with_variable : (name : List ℕ) (place : Place) → IsSoundForm (with_variable name place)
-sound_with_variable name place parameters scene l sound =
-    let low = name_in_range scene name in
+sound_with_variable : (parameters : ℕ) (scene : Scene) (name : List ℕ) (place : Place) {l : Listing} → HasName scene name → IsSound (limits_of parameters scene) l → IsSoundListed (limits_of parameters scene) (with_variable name place scene l)
+sound_with_variable parameters scene name place has sound =
+    let low = name_in_range scene name has in
     let v = sound_with_result scene place (λ dst. FindName dst (name_id scene name)) (λ dst set. find_name_in_range (limits_of parameters scene) dst (name_id scene name) set low) sound in
     record { listing = v.listing; outcome = low }
 
@@ -62,13 +64,19 @@ special_if : (b : Bool) (name : List ℕ) (form : Special) → (if b then specia
 special_if true name form is = refl
 special_if false name form is = absurd (cc)
 
-sound_with_special_or_variable : (o : Option Special) (name : List ℕ) (place : Place) (parameters : ℕ) (scene : Scene) (l : Listing) → special_in scene name ≡ o → IsSound (limits_of parameters scene) l → IsSoundListed (limits_of parameters scene) (with_special_or_variable o name place scene l)
-sound_with_special_or_variable (Some form) name place parameters scene l is sound = record { listing = sound; outcome = special_if scene.specials name form is }
-sound_with_special_or_variable None name place parameters scene l is sound = sound_with_variable name place parameters scene l sound
+-- a variable that is no special form is a name of the program
+name_unless_special : (b : Bool) (name : List ℕ) → (if b then special_of name else None) ≡ None → not (b && is_some (special_of name)) ≡ true
+name_unless_special true name is = rw is refl
+name_unless_special false name is = refl
 
-pub sound_with_name : (name : List ℕ) (place : Place) → IsSoundForm (with_name name place)
+sound_with_special_or_variable : (o : Option Special) (name : List ℕ) (place : Place) (parameters : ℕ) (scene : Scene) (l : Listing) → special_in scene name ≡ o → HasParts scene (one_variable name) → IsSound (limits_of parameters scene) l → IsSoundListed (limits_of parameters scene) (with_special_or_variable o name place scene l)
+sound_with_special_or_variable (Some form) name place parameters scene l is has sound = record { listing = sound; outcome = special_if scene.specials name form is }
+sound_with_special_or_variable None name place parameters scene l is has sound =
+    sound_with_variable parameters scene name place (has.0 (name_unless_special scene.specials name is)) sound
+
+pub sound_with_name : (name : List ℕ) (place : Place) → IsSoundForm (one_variable name) (with_name name place)
 unfolding with_name
-sound_with_name name place parameters scene l sound = sound_with_special_or_variable (special_in scene name) name place parameters scene l refl sound
+sound_with_name name place parameters scene l has sound = sound_with_special_or_variable (special_in scene name) name place parameters scene l refl has sound
 
 pub sound_with_member : {limits : Limits} {l : Listing} (name : List ℕ) (place : Place) (scene : Scene) (object : Reg) → IsSound limits l → IsSoundListed limits (with_member name place scene object l)
 unfolding with_member
@@ -206,25 +214,25 @@ pub record IsSoundChoice (limits : Limits) (c : Choice) : Type 0 where
   pub listing : IsSound limits c.listing
   pub value : IsTemporary limits c.value.0
 
-module _ (parameters : ℕ) (scene : Scene) where
-  pub sound_value_of : {l : Listing} (x : Form) → IsSoundForm x → IsSound (limits_of parameters scene) l → IsSoundValued (limits_of parameters scene) (value_of x scene l)
+module _ (parts : Parts) (parameters : ℕ) (scene : Scene) (has : HasParts scene parts) where
+  pub sound_value_of : {l : Listing} (x : Form) → IsSoundForm parts x → IsSound (limits_of parameters scene) l → IsSoundValued (limits_of parameters scene) (value_of x scene l)
   unfolding value_of
   sound_value_of {l = l} x fine sound =
-      let r = fine parameters scene l sound in sound_get_value scene (x scene l).outcome r.outcome r.listing
+      let r = fine parameters scene l has sound in sound_get_value scene (x scene l).outcome r.outcome r.listing
 
-  pub sound_list_unary : {l : Listing} (operator : UnaryOperator) (operand : Form) (place : Place) → IsSoundForm operand → IsSound (limits_of parameters scene) l → IsSoundValued (limits_of parameters scene) (list_unary operator operand place scene l)
+  pub sound_list_unary : {l : Listing} (operator : UnaryOperator) (operand : Form) (place : Place) → IsSoundForm parts operand → IsSound (limits_of parameters scene) l → IsSoundValued (limits_of parameters scene) (list_unary operator operand place scene l)
   unfolding list_unary
   sound_list_unary {l = l} operator operand place fine sound =
-      let r = fine parameters scene l sound in sound_on_outcome operator scene place (operand scene l).outcome r.outcome r.listing
+      let r = fine parameters scene l has sound in sound_on_outcome operator scene place (operand scene l).outcome r.outcome r.listing
 
-  pub sound_list_update : {l : Listing} (operator : UpdateOperator) (operand : Form) (place : Place) → IsSoundForm operand → IsSound (limits_of parameters scene) l → IsSoundValued (limits_of parameters scene) (list_update operator operand place scene l)
+  pub sound_list_update : {l : Listing} (operator : UpdateOperator) (operand : Form) (place : Place) → IsSoundForm parts operand → IsSound (limits_of parameters scene) l → IsSoundValued (limits_of parameters scene) (list_update operator operand place scene l)
   unfolding list_update
   sound_list_update {l = l} operator operand place fine sound =
-      let r = fine parameters scene l sound in sound_update_outcome operator scene place (operand scene l).outcome r.outcome r.listing
+      let r = fine parameters scene l has sound in sound_update_outcome operator scene place (operand scene l).outcome r.outcome r.listing
 
   -- ---- `&&`, `||` and `?`
 
-  pub sound_and_then : {l : Listing} (right : Form) (place : Place) (a : Reg) → IsSoundForm right → IsSound (limits_of parameters scene) l → IsSoundValued (limits_of parameters scene) (and_then right place scene a l)
+  pub sound_and_then : {l : Listing} (right : Form) (place : Place) (a : Reg) → IsSoundForm parts right → IsSound (limits_of parameters scene) l → IsSoundValued (limits_of parameters scene) (and_then right place scene a l)
   unfolding and_then
   sound_and_then right place a fine sound =
       let value = sound_with_copy scene place a (sound_behind_spots 1 sound) in
@@ -232,7 +240,7 @@ module _ (parameters : ℕ) (scene : Scene) where
       let y = sound_value_of right fine (sound_with_branch scene place (Branch _) _ (branch_in_range _ _) b.listing) in
       record { listing = sound_with_spot _ (sound_move_to_temporary scene place _ _ value.value y.listing); value = value.value }
 
-  pub sound_or_else : {l : Listing} (right : Form) (place : Place) (a : Reg) → IsSoundForm right → IsSound (limits_of parameters scene) l → IsSoundValued (limits_of parameters scene) (or_else right place scene a l)
+  pub sound_or_else : {l : Listing} (right : Form) (place : Place) (a : Reg) → IsSoundForm parts right → IsSound (limits_of parameters scene) l → IsSoundValued (limits_of parameters scene) (or_else right place scene a l)
   unfolding or_else
   sound_or_else right place a fine sound =
       let value = sound_with_copy scene place a (sound_behind_spots 2 sound) in
@@ -241,7 +249,7 @@ module _ (parameters : ℕ) (scene : Scene) where
       let y = sound_value_of right fine (sound_with_spot _ (sound_with_jump _ branch)) in
       record { listing = sound_with_spot _ (sound_move_to_temporary scene place _ _ value.value y.listing); value = value.value }
 
-  pub sound_consequence : {l : Listing} (consequent : Form) (place : Place) (condition : Reg) → IsSoundForm consequent → IsSound (limits_of parameters scene) l → IsSoundChoice (limits_of parameters scene) (consequence consequent place scene condition l)
+  pub sound_consequence : {l : Listing} (consequent : Form) (place : Place) (condition : Reg) → IsSoundForm parts consequent → IsSound (limits_of parameters scene) l → IsSoundChoice (limits_of parameters scene) (consequence consequent place scene condition l)
   unfolding consequence
   sound_consequence consequent place condition fine sound =
       let b = sound_with_truth scene place condition sound in
@@ -249,13 +257,13 @@ module _ (parameters : ℕ) (scene : Scene) where
       let value = sound_with_copy scene place _ y.listing in
       record { listing = value.listing; value = value.value }
 
-  pub sound_alternative : {choice : Choice} (otherwise : Form) (place : Place) → IsSoundForm otherwise → IsSoundChoice (limits_of parameters scene) choice → IsSoundValued (limits_of parameters scene) (alternative otherwise place scene choice)
+  pub sound_alternative : {choice : Choice} (otherwise : Form) (place : Place) → IsSoundForm parts otherwise → IsSoundChoice (limits_of parameters scene) choice → IsSoundValued (limits_of parameters scene) (alternative otherwise place scene choice)
   unfolding alternative
   sound_alternative {choice = choice} otherwise place fine sound =
       let z = sound_value_of otherwise fine (sound_with_spot choice.other (sound_with_jump choice.end sound.listing)) in
       record { listing = sound_with_spot choice.end (sound_move_to_temporary scene place choice.value _ sound.value z.listing); value = sound.value }
 
-  pub sound_list_conditional : {l : Listing} (condition consequent otherwise : Form) (place : Place) → IsSoundForm condition → IsSoundForm consequent → IsSoundForm otherwise → IsSound (limits_of parameters scene) l → IsSoundValued (limits_of parameters scene) (list_conditional condition consequent otherwise place scene l)
+  pub sound_list_conditional : {l : Listing} (condition consequent otherwise : Form) (place : Place) → IsSoundForm parts condition → IsSoundForm parts consequent → IsSoundForm parts otherwise → IsSound (limits_of parameters scene) l → IsSoundValued (limits_of parameters scene) (list_conditional condition consequent otherwise place scene l)
   unfolding list_conditional
   sound_list_conditional condition consequent otherwise place first second third sound =
       let c = sound_value_of condition first sound in
@@ -263,20 +271,20 @@ module _ (parameters : ℕ) (scene : Scene) where
 
   -- ---- operations and assignments
 
-  pub sound_apply_operation : {v : Valued} (operator : BinaryOperator) (right : Form) (first place : Place) → IsSoundForm right → IsSoundValued (limits_of parameters scene) v → IsSoundValued (limits_of parameters scene) (apply_operation operator right first place scene v)
+  pub sound_apply_operation : {v : Valued} (operator : BinaryOperator) (right : Form) (first place : Place) → IsSoundForm parts right → IsSoundValued (limits_of parameters scene) v → IsSoundValued (limits_of parameters scene) (apply_operation operator right first place scene v)
   unfolding apply_operation
   sound_apply_operation operator.And right first place fine sound = sound_and_then right first _ fine sound.listing
   sound_apply_operation operator.Or right first place fine sound = sound_or_else right first _ fine sound.listing
   sound_apply_operation operator right first place fine sound =
       let y = sound_value_of right fine sound.listing in sound_apply_binary operator scene place _ _ y.listing
 
-  pub sound_assign_to : {l : Listing} (value : Form) (place : Place) (target : Outcome) → IsSoundForm value → IsSoundOutcome (limits_of parameters scene) target → IsSound (limits_of parameters scene) l → IsSoundValued (limits_of parameters scene) (assign_to value place scene target l)
+  pub sound_assign_to : {l : Listing} (value : Form) (place : Place) (target : Outcome) → IsSoundForm parts value → IsSoundOutcome (limits_of parameters scene) target → IsSound (limits_of parameters scene) l → IsSoundValued (limits_of parameters scene) (assign_to value place scene target l)
   unfolding assign_to
   sound_assign_to value place target fine known sound =
       let v = sound_value_of value fine sound in
       record { listing = sound_put_value scene place target _ known v.listing; value = v.value }
 
-  pub sound_assign_to_by : {l : Listing} (operator : BinaryOperator) (value : Form) (place : Place) (target : Outcome) → IsSoundForm value → IsSoundOutcome (limits_of parameters scene) target → IsSound (limits_of parameters scene) l → IsSoundValued (limits_of parameters scene) (assign_to_by operator value place scene target l)
+  pub sound_assign_to_by : {l : Listing} (operator : BinaryOperator) (value : Form) (place : Place) (target : Outcome) → IsSoundForm parts value → IsSoundOutcome (limits_of parameters scene) target → IsSound (limits_of parameters scene) l → IsSoundValued (limits_of parameters scene) (assign_to_by operator value place scene target l)
   unfolding assign_to_by
   sound_assign_to_by operator value place target fine known sound =
       let old = sound_get_value scene target known sound in
@@ -284,12 +292,12 @@ module _ (parameters : ℕ) (scene : Scene) where
       let new = sound_apply_binary operator scene place _ _ v.listing in
       record { listing = sound_put_value scene place target _ known new.listing; value = new.value }
 
-  pub sound_assign : {l : Listing} (target value : Form) (place : Place) → IsSoundForm target → IsSoundForm value → IsSound (limits_of parameters scene) l → IsSoundValued (limits_of parameters scene) (assign target value place scene l)
+  pub sound_assign : {l : Listing} (target value : Form) (place : Place) → IsSoundForm parts target → IsSoundForm parts value → IsSound (limits_of parameters scene) l → IsSoundValued (limits_of parameters scene) (assign target value place scene l)
   unfolding assign
   sound_assign {l = l} target value place first second sound =
-      let r = first parameters scene l sound in sound_assign_to value place (target scene l).outcome second r.outcome r.listing
+      let r = first parameters scene l has sound in sound_assign_to value place (target scene l).outcome second r.outcome r.listing
 
-  pub sound_assign_by : {l : Listing} (operator : BinaryOperator) (target value : Form) (place : Place) → IsSoundForm target → IsSoundForm value → IsSound (limits_of parameters scene) l → IsSoundValued (limits_of parameters scene) (assign_by operator target value place scene l)
+  pub sound_assign_by : {l : Listing} (operator : BinaryOperator) (target value : Form) (place : Place) → IsSoundForm parts target → IsSoundForm parts value → IsSound (limits_of parameters scene) l → IsSoundValued (limits_of parameters scene) (assign_by operator target value place scene l)
   unfolding assign_by
   sound_assign_by {l = l} operator target value place first second sound =
-      let r = first parameters scene l sound in sound_assign_to_by operator value place (target scene l).outcome second r.outcome r.listing
+      let r = first parameters scene l has sound in sound_assign_to_by operator value place (target scene l).outcome second r.outcome r.listing

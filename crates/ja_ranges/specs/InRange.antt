@@ -1,5 +1,5 @@
 -- The numbers in what is listed of a function are in range: registers that are set, names, functions and sites.
-use Rattle.std.specs.Prelude.{◌≡◌, ◌<◌, ◌≤◌, ◌⊎◌, ◌+◌, ℕ, Bool, false, max, List, length, map}
+use Rattle.std.specs.Prelude.{◌≡◌, ◌<◌, ◌≤◌, ◌⊎◌, ◌+◌, ℕ, Bool, false, List, length, map}
 use Rattle.std.specs.List.{AllByRecursion, range_with_len}
 use Rattle.std.specs.Option.{option_to_list}
 use Rattle.ja_base.specs.declared.ids.FnId.{FnId}
@@ -9,6 +9,8 @@ use Rattle.ja_graph.specs.Node.{Making, register_set, name_in, function_in, maki
 use Rattle.ja_graph.specs.declared.node.Args.TheVariants.{Tail}
 use Rattle.ja_graph.specs.declared.node.Node.{Node}
 use Rattle.ja_graph.specs.declared.node.Node.TheVariants.{Call, Intrinsic, Device}
+use Rattle.ja_listing.specs.declared.item.Block.{Block}
+use Rattle.ja_listing.specs.declared.item.BlockNode.{BlockNode}
 use Rattle.ja_listing.specs.declared.item.Item.{Item}
 use Rattle.ja_listing.specs.declared.item.Item.TheVariants as item
 use Rattle.ja_draft.specs.Lines.{Scene}
@@ -45,21 +47,25 @@ pub record IsInRange (limits : Limits) (node : Node) : Type 0 where
   pub of_texts : limits.specials ≡ false → IsOfTexts node
   pub sites : map (λ (m : Making). m.site.0) (makings node) ≡ range_with_len 0 (length (makings node))
 
--- what holds of the node of an item, if it is one
+-- what holds of each node of a block, and of a line
+abbrev pub OfNodes : (Node → Type 0) → Block → Type 0
+OfNodes P block = AllByRecursion (λ (n : BlockNode). P n.node) block.nodes
+
 abbrev pub OfNode : (Node → Type 0) → Item → Type 0
-OfNode P (item.Node node other handler place above) = P node
+OfNode P (item.Node node other handler place) = P node
 OfNode P (item.Spot s) = Unit {0}
 OfNode P (item.Jump s) = Unit {0}
+OfNode P (item.Copy block) = OfNodes P block
 
 -- the numbers of each node of a listing are in range
 abbrev pub AllInRange : Limits → List Item → Type 0
 AllInRange limits items = AllByRecursion (OfNode (IsInRange limits)) items
 
--- the limits of a scene, for a function with so many parameters; where there is no name, the number of each is 0
+-- the limits of a scene, for a function with so many parameters
 abbrev pub limits_of : ℕ → Scene → Limits
 limits_of parameters scene = record {
   parameters = parameters;
-  names = max 1 (length scene.names);
+  names = length scene.names;
   functions = length scene.functions;
   specials = scene.specials;
 }

@@ -1,1 +1,4 @@
 pub mod InRange
+pub mod Found
+pub mod Scope
+pub mod Spots
