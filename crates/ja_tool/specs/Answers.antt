@@ -9,11 +9,12 @@ use Rattle.ja_base.specs.declared.ids.Place.{Place}
 use Rattle.ja_base.specs.declared.ids.ScopeKind.{ScopeKind}
 use Rattle.ja_base.specs.Streams.{Rose, Keeps, Took, IsAtEnd, IsLonger, TakesCount, Appends, AppendsFront, TurnsTo}
 use Rattle.ja_graph.specs.declared.program.Program.{Program}
+use Rattle.ja_graph.specs.Kinds.{AreBuilt}
 use Rattle.ja_grammar.specs.declared.fault.ParseFault.TheVariants as fault
 use Rattle.ja_load.specs.Loading.{IsProgramOf, HasManyFunctions, HasManyNodes, IsUnbuiltAt, IsNone}
+use Rattle.ja_machine.specs.Runs.{NeverStuck}
 use Rattle.ja_model.specs.declared.table.Item.{Item}
 use Rattle.ja_model.specs.declared.table.Warning.{Warning}
-use Rattle.ja_model.specs.Runs.{NeverStuck}
 use Rattle.ja_model.specs.Sound.{CoversRuns, WarnsOfFaults}
 use Rattle.ja_model.specs.Table.{Table, IsBuilt, IsClosed}
 use Rattle.ja_model.specs.Warning.{AreWarnings}
@@ -150,4 +151,4 @@ pub record IsSolved (p : Program) (s : Solved) : Type 0 where
   pub built : IsBuilt p s.visits (table_of s.table)
   pub closed : IsClosed p (table_of s.table)
   pub few : length s.visits ≤ budget
-  pub covers : CoversRuns p (table_of s.table)
+  pub covers : AreBuilt p → CoversRuns p (table_of s.table)

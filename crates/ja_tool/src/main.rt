@@ -2,16 +2,10 @@
 #![tactic(auto)]
 
 mod analysis;
-#[cfg(test)]
-mod state_tests;
 mod status;
-#[cfg(test)]
-mod stream_tests;
 #[cfg(test)]
 mod tests;
 mod top;
-#[cfg(test)]
-mod value_tests;
 
 use ja_base::{StdSink, StdSource};
 use status::Status;

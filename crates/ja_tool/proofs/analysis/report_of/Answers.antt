@@ -18,9 +18,9 @@ returns c =
       few = c.requires.solved.few;
       closed = c.requires.solved.closed;
       exact = c.in_ok-warnings.ensures.warnings;
-      covers = c.requires.solved.covers;
-      warned = c.in_ok-warnings.ensures.faults c.requires.solved.closed;
-      goes_on = c.never_stuck.ensures p c.requires.program c.requires.built;
+      covers = c.requires.solved.covers c.requires.built;
+      warned = c.in_ok-warnings.ensures.faults c.requires.built c.requires.solved.closed;
+      goes_on = c.never_stuck.ensures p c.requires.program;
     } in
     let same : status_of ws ≡ c.judged-status.result = cc (c.judged-status.ensures, c.as_slice-3.ensures) in
     let R : Status → Type 0 = λ s. Reports p s text in subst R same (reports p text ws whole)

@@ -1,0 +1,129 @@
+//! Listings of nodes, and the graphs that they come to.
+
+use crate::out::Out;
+use crate::trees::parsed;
+use ja_base::{Place, Reg, Seq};
+use ja_draft::{Draft, Scene};
+use ja_graph::Node;
+use ja_listing::{Block, BlockNode, Item, Spot, Target, assembled};
+use ja_names::Names;
+use ja_prim::Primitive;
+use ja_statements::program_listing;
+use std::alloc::Global;
+use std::fmt::Write;
+
+const PLACE: Place = Place { line: 1, column: 1 };
+
+/// The item of a node.
+fn node(node: Node, other: Option<u32>, handler: Option<u32>) -> Item {
+    Item::Node {
+        node,
+        other: other.map(Spot),
+        handler: handler.map(Spot),
+        place: PLACE,
+    }
+}
+
+/// A node of a block.
+fn block_node(node: Node, next: Target, other: Target) -> BlockNode {
+    BlockNode {
+        node,
+        next,
+        other,
+        handler: Target::Out,
+        place: PLACE,
+        above: None,
+    }
+}
+
+/// A block that begins at its last node, a branch to the first one or to a spot.
+fn block(alloc: Global, spot: u32) -> Block {
+    let register = Reg(6);
+    let first = Node::Move {
+        dst: register,
+        src: register,
+    };
+    let last = Node::Branch { src: register };
+    let mut nodes = Vec::new(alloc);
+    let _ = nodes.push(block_node(first, Target::Behind, Target::Out));
+    let _ = nodes.push(block_node(last, Target::Node(0), Target::Spot(Spot(spot))));
+    Block {
+        entry: Target::Node(1),
+        nodes: Seq::from_vec(nodes),
+    }
+}
+
+/// The item of a word, with the spot of `other`, of its handler, of itself or of its block behind it.
+fn item(alloc: Global, word: &str, spot: u32) -> Item {
+    let register = Reg(6);
+    match word {
+        "branch" => node(Node::Branch { src: register }, Some(spot), None),
+        "throw" => node(Node::Throw { src: register }, None, Some(spot)),
+        "return" => node(Node::Return { src: register }, None, None),
+        "escape" => node(Node::Escape, None, None),
+        "spot" => Item::Spot(Spot(spot)),
+        "jump" => Item::Jump(Spot(spot)),
+        "copy" => Item::Copy(block(alloc, spot)),
+        _ => {
+            let prim = Primitive::Null;
+            let dst = register;
+            node(Node::Const { dst, prim }, None, None)
+        }
+    }
+}
+
+/// The items of words, as `branch 1, const, spot 1, escape`.
+fn items(out: &Out, text: &str) -> Vec<Item> {
+    let mut items = Vec::new(out.alloc);
+    for line in text.split(", ") {
+        let (word, spot) = line.split_once(' ').unwrap_or((line, "0"));
+        let _ = items.push(item(out.alloc, word, spot.parse::<u32>().unwrap_or(0)));
+    }
+    items
+}
+
+/// The edges of the nodes of a listing: `next`, `other` and the handler of each.
+pub fn edges(out: &mut Out, text: &str) {
+    let items = items(out, text);
+    if items.len() > 100 {
+        return;
+    }
+    if let Ok(nodes) = assembled(out.alloc, items) {
+        for info in nodes.as_slice() {
+            let (next, other, handler) = (info.next.0, info.other.0, info.handler.0);
+            let _ = write!(out.text, "{next}/{other}/{handler} ");
+        }
+    }
+}
+
+/// How many nodes a draft has, counted as they came and in its graph.
+fn put_draft(out: &mut Out, draft: Draft) {
+    if draft.nodes() > 65_536 {
+        out.put("more than 65536");
+        return;
+    }
+    out.put_number(u64::from(draft.nodes()));
+    if let Ok(items) = draft.into_items(out.alloc) {
+        if let Ok(nodes) = assembled(out.alloc, items) {
+            out.put(" ");
+            out.put_number(nodes.len() as u64);
+        }
+    }
+}
+
+/// The listing of a text without names and functions.
+pub fn listing(out: &mut Out, text: &str) {
+    if let Ok(tree) = parsed(out, text) {
+        let names = Names::new(out.alloc);
+        let scene = Scene {
+            alloc: out.alloc,
+            names: &names,
+            functions: &[],
+            handler: None,
+            specials: false,
+        };
+        if let Ok(draft) = program_listing(&scene, tree.statements.as_slice()) {
+            put_draft(out, draft);
+        }
+    }
+}

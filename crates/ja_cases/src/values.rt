@@ -1,0 +1,156 @@
+//! Abstract values.
+
+use crate::out::Out;
+use ja_base::{Label, Site};
+use ja_graph::Attrs;
+use ja_model::{Mask, NumberPart, TextPart};
+use ja_prim::{Int, Num, Primitive, Text16};
+use ja_value::{AProp, AValue, LabelSet, exact_attrs, is_index_text};
+use std::collections::BTreeMap;
+
+/// A label, whose letter is `n` where the object is new, and `o` where it is old.
+pub fn put_label(out: &mut Out, label: Label) {
+    out.put(if label.old { " o" } else { " n" });
+    out.put_number(u64::from(label.site.0));
+}
+
+/// Labels.
+pub fn put_labels(out: &mut Out, labels: &[Label]) {
+    for label in labels {
+        put_label(out, *label);
+    }
+}
+
+/// The labels of a set below a site.
+fn line_of_labels(out: &mut Out, label: &str, labels: &LabelSet, sites: u32) {
+    out.line(label, "");
+    if let Ok(labels) = labels.list(out.alloc, sites) {
+        put_labels(out, labels.as_slice());
+    }
+}
+
+fn label(site: u32, old: bool) -> Label {
+    Label {
+        site: Site(site),
+        old,
+    }
+}
+
+/// Joins a value in, and tells whether that changed it.
+fn line_of_join(out: &mut Out, label: &str, value: &mut AValue, other: &AValue) {
+    if let Ok(is_changed) = value.join(out.alloc, other) {
+        out.line(label, if is_changed { "changes" } else { "no change" });
+    }
+    out.put(match value.number {
+        NumberPart::Nothing => ", no number",
+        NumberPart::One(_) => ", one number",
+        NumberPart::Index => ", indices",
+        NumberPart::OtherWhole => ", other numbers",
+        NumberPart::Whole => ", all numbers",
+    });
+    if let TextPart::OtherText = value.text {
+        out.put(", other texts");
+    }
+}
+
+/// Joins a text in.
+fn line_of_text(out: &mut Out, label: &str, value: &mut AValue, text: &str) {
+    if let Ok(text) = Text16::from_str(out.alloc, text) {
+        let other = AValue::of_text(out.alloc, text);
+        line_of_join(out, label, value, &other);
+    }
+}
+
+/// Whether a text is that of an array index.
+fn line_of_index(out: &mut Out, text: &str) {
+    if let Ok(units) = Text16::from_str(out.alloc, text) {
+        out.line_of_bool(text, is_index_text(&units));
+    }
+}
+
+fn joins(out: &mut Out, number: Int, minus_one: Int) {
+    let five_again = AValue::of_number(out.alloc, number);
+    let minus_one = AValue::of_number(out.alloc, minus_one);
+    let five = Primitive::Number(Num::Whole(number));
+    if let Ok(mut value) = AValue::of_primitive(out.alloc, &five) {
+        line_of_join(out, "5 and 5", &mut value, &five_again);
+        let is_five = value.number == NumberPart::One(number);
+        out.line_of_bool("which is 5", is_five);
+        line_of_join(out, "and -1", &mut value, &minus_one);
+        line_of_text(out, "and 'x'", &mut value, "x");
+        line_of_text(out, "and '01'", &mut value, "01");
+    }
+    line_of_index(out, "4294967294");
+    line_of_index(out, "4294967295");
+}
+
+/// Labels that age.
+fn ages(out: &mut Out, value: &AValue) {
+    out.line_of_bool("n3 is present among 3 sites", value.is_present(3));
+    out.line_of_bool("n3 is a part among 4 sites", value.has_part(4));
+    if let Ok(aged) = value.aged(out.alloc, Site(3)) {
+        line_of_labels(out, "n3, aged at 3", &aged.labels, 4);
+        joins_labels(out, &aged.labels, &value.labels);
+    }
+    let is_empty = LabelSet::new(out.alloc).is_empty();
+    out.line_of_bool("no label is empty", is_empty);
+}
+
+/// Labels of two sets, and one more.
+fn joins_labels(out: &mut Out, labels: &LabelSet, others: &LabelSet) {
+    if let Ok(mut both) = labels.copy() {
+        if let Ok(is_changed) = both.join(others) {
+            out.line_of_bool("o3 and n3 is more", is_changed);
+        }
+        let _ = both.insert(label(0, true));
+        line_of_labels(out, "and o0", &both, 4);
+        line_of_labels(out, "of 3 sites", &both, 3);
+    }
+}
+
+/// A property that is joined with itself and with what is absent.
+fn property_joins(out: &mut Out, property: &mut AProp) {
+    if let Ok(copy) = property.copy(out.alloc) {
+        if let Ok(is_changed) = property.join(out.alloc, &copy) {
+            out.line_of_bool("a property and itself is more", is_changed);
+        }
+    }
+    if let Ok(is_changed) = property.join(out.alloc, &AProp::absent(out.alloc)) {
+        out.line_of_bool("a property that may be absent is more", is_changed);
+    }
+    if let Ok(aged) = property.aged(out.alloc, Site(3)) {
+        out.line_of_bool("it may be absent", aged.value.flags.absent);
+    }
+}
+
+/// Labels that are renamed, where site 1 may and sites 2 and 3 must have made an object.
+fn renames(out: &mut Out) {
+    let mask = |none: bool| Mask { none, some: true };
+    let mut masks = BTreeMap::new(out.alloc);
+    let _ = masks.insert(1, mask(true));
+    let _ = masks.insert(2, mask(false));
+    let _ = masks.insert(3, mask(false));
+    let mut labels = LabelSet::new(out.alloc);
+    for (site, old) in [(0, false), (1, false), (2, false), (3, true)] {
+        let _ = labels.insert(label(site, old));
+    }
+    if let Ok(renamed) = labels.renamed(out.alloc, &masks) {
+        line_of_labels(out, "n0 n1 n2 o3 with objects made", &renamed, 4);
+    }
+}
+
+pub fn values(out: &mut Out) {
+    if let (Some(five), Some(minus_one)) = (Int::new(5), Int::new(-1)) {
+        joins(out, five, minus_one);
+    }
+    if let Ok(value) = AValue::of_label(out.alloc, label(3, false)) {
+        ages(out, &value);
+        let attrs = exact_attrs(Attrs {
+            read_only: true,
+            dont_enum: false,
+            dont_delete: false,
+        });
+        property_joins(out, &mut AProp { value, attrs });
+    }
+    renames(out);
+}

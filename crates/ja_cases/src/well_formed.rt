@@ -1,0 +1,114 @@
+//! Which programs are well formed: the program of the empty text, and that program with a number changed.
+
+use crate::out::Out;
+use crate::programs::loaded;
+use ja_base::{FnId, NodeId, Reg, Seq, Site};
+use ja_graph::{
+    Hint, Node, Program, SiteInfo, all_registers_below, is_function_well_formed, well_formed,
+};
+use ja_prim::Text16;
+use std::mem;
+
+/// Whether the program of the empty text is well formed where these functions are told of the site of `Math`, the last one.
+fn line_of_math(
+    out: &mut Out,
+    label: &str,
+    owner: Option<FnId>,
+    calls: Option<FnId>,
+    constructs: Option<FnId>,
+) {
+    if let Ok(mut program) = loaded(out.alloc, "") {
+        let mut sites = mem::replace(&mut program.sites, Seq::new(out.alloc)).into_vec();
+        if let Some(math) = sites.pop() {
+            let _ = sites.push(SiteInfo {
+                owner,
+                calls,
+                constructs,
+                ..math
+            });
+        }
+        program.sites = Seq::from_vec(sites);
+        out.line_of_bool(label, well_formed(&program));
+    }
+}
+
+/// Functions of sites are those of the program, and a site without a node has no owner.
+fn sites(out: &mut Out) {
+    let (here, none) = (Some(FnId(0)), Some(FnId(99)));
+    line_of_math(out, "Math is as it was", None, None, None);
+    line_of_math(
+        out,
+        "Math calls and constructs by function 0",
+        None,
+        here,
+        here,
+    );
+    line_of_math(out, "Math calls by function 99", None, none, None);
+    line_of_math(out, "Math constructs by function 99", None, None, none);
+    line_of_math(out, "Math is made by function 0", here, None, None);
+    line_of_math(out, "Math is made by function 99", none, None, None);
+}
+
+/// The first functions come from the text.
+fn text_functions(out: &mut Out, program: &mut Program) {
+    program.text_functions = 0;
+    out.line_of_bool("no function is of the text", well_formed(program));
+    program.text_functions = 2;
+    out.line_of_bool("two functions are of the text", well_formed(program));
+    program.text_functions = 1;
+    out.line_of_bool("one function is of the text", well_formed(program));
+}
+
+/// Handlers are nodes.
+fn handlers(out: &mut Out, program: &mut Program) {
+    let functions = mem::replace(&mut program.functions, Seq::new(out.alloc));
+    let mut functions = functions.into_vec();
+    if let Some(mut text) = functions.pop() {
+        out.line_of_bool("the function", is_function_well_formed(program, &text));
+        let mut nodes = mem::replace(&mut text.nodes, Seq::new(out.alloc)).into_vec();
+        if let Some(mut escape) = nodes.pop() {
+            escape.handler = NodeId(99);
+            let _ = nodes.push(escape);
+        }
+        text.nodes = Seq::from_vec(nodes);
+        let is_well_formed = is_function_well_formed(program, &text);
+        out.line_of_bool("Escape has the handler 99", is_well_formed);
+    }
+}
+
+/// Registers are below the number of them.
+fn registers(out: &mut Out) {
+    let node = Node::WriteProp {
+        object: Reg(6),
+        key: Reg(7),
+        src: Reg(8),
+        error: Site(0),
+    };
+    out.line_of_bool("6, 7 and 8 of 9 registers", all_registers_below(&node, 9));
+    out.line_of_bool("6, 7 and 8 of 8 registers", all_registers_below(&node, 8));
+}
+
+/// A program has the names of its opening objects.
+fn names(out: &mut Out, program: &mut Program) {
+    let default = program.default_value(Hint::Text);
+    out.line_of_number("the default value of a text", u64::from(default.0));
+    out.line_of_bool("there are no signatures", program.signatures().is_empty());
+    program.names = Seq::new(out.alloc);
+    out.line_of_bool("there are no names", well_formed(program));
+    let name = Text16::from_units(Vec::new(out.alloc));
+    out.line_of_bool(
+        "the empty name has a number",
+        program.name_id(&name).is_some(),
+    );
+}
+
+pub fn well_formed_programs(out: &mut Out) {
+    sites(out);
+    registers(out);
+    if let Ok(mut program) = loaded(out.alloc, "") {
+        out.line_of_bool("the program", well_formed(&program));
+        text_functions(out, &mut program);
+        names(out, &mut program);
+        handlers(out, &mut program);
+    }
+}
