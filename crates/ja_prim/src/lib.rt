@@ -11,6 +11,7 @@ mod comparison;
 mod equality;
 mod index;
 mod int;
+mod keys;
 mod laws;
 mod laws_of_texts;
 mod literals;
