@@ -46,8 +46,7 @@ fn add_call(
     ensures { lines.Gives (spec.with_call scene.now place callee receiver values.items draft.old) result draft.new }
 {
     let args = Args::Registers(Seq::from_vec(values));
-    let dst = call_with(scene, place, callee, receiver, args, draft)?;
-    Ok(dst)
+    call_with(scene, place, callee, receiver, args, draft)
 }
 
 /// Calls what an expression comes to: a reference is read, and its object is the receiver. A special
@@ -64,23 +63,17 @@ fn call_outcome(
     match callee {
         Outcome::Value(function) => {
             let receiver = constant(scene, place, Primitive::Null, draft)?;
-            let dst = add_call(scene, place, function, receiver, values, draft)?;
-            Ok(dst)
+            add_call(scene, place, function, receiver, values, draft)
         }
         Outcome::Name { base, .. } => {
             let function = get_value(scene, callee, draft)?;
-            let dst = add_call(scene, place, function, base, values, draft)?;
-            Ok(dst)
+            add_call(scene, place, function, base, values, draft)
         }
         Outcome::Member { object, .. } => {
             let function = get_value(scene, callee, draft)?;
-            let dst = add_call(scene, place, function, object, values, draft)?;
-            Ok(dst)
+            add_call(scene, place, function, object, values, draft)
         }
-        Outcome::Special { form, .. } => {
-            let dst = list_special(form, scene, place, values, draft)?;
-            Ok(dst)
-        }
+        Outcome::Special { form, .. } => list_special(form, scene, place, values, draft),
     }
 }
 
@@ -97,8 +90,7 @@ pub(crate) fn call(
     ensures { lines.Gives (spec.list_call (map expressions.form arguments.now) place scene.now callee draft.old) result draft.new }
 {
     let values = list_arguments(scene, arguments, draft)?;
-    let dst = call_outcome(callee, scene, place, values, draft)?;
-    Ok(dst)
+    call_outcome(callee, scene, place, values, draft)
 }
 
 /// `new` behind its callee's value.

@@ -3,6 +3,7 @@
 ghost use Rattle.std.specs.Prelude.{◌≡◌, map};
 ghost use Rattle.std.specs.List.{fold};
 ghost use Rattle.ja_draft.specs.Lines as lines;
+ghost use Rattle.ja_draft.specs.Lines.{Listing, Valued};
 ghost use Rattle.ja_expressions.specs.References as references;
 ghost use Rattle.ja_expressions.specs.Operators as operators;
 ghost use Rattle.ja_expressions.specs.Expressions as spec;
@@ -21,6 +22,16 @@ use ja_syntax::{BinaryOperator, Expression, Name, Operation, Suffix};
 /// The register of `this`.
 const THIS: Reg = Reg(1);
 
+/// What comes to a value, unless memory was refused.
+fn valued(value: Result<Reg, Memory>) -> Result<Outcome, Memory>
+    ensures { (v : Valued) (new : Listing) → lines.Gives v value new → references.Comes (references.valued v) result new }
+{
+    match value {
+        Ok(value) => Ok(Outcome::Value(value)),
+        Err(memory) => Err(memory),
+    }
+}
+
 /// A suffix behind what stands before it (11.2).
 #[cycle(forms)]
 fn suffix(
@@ -34,18 +45,15 @@ fn suffix(
     match suffix {
         Suffix::Member { name, place } => {
             let object = get_value(scene, before, draft)?;
-            let outcome = member(scene, &name.text, *place, object, draft)?;
-            Ok(outcome)
+            member(scene, &name.text, *place, object, draft)
         }
         Suffix::Index { key, place } => {
             let object = get_value(scene, before, draft)?;
             let key = value(scene, key, draft)?;
-            let outcome = element(scene, *place, object, key, draft)?;
-            Ok(outcome)
+            element(scene, *place, object, key, draft)
         }
         Suffix::Call { arguments, place } => {
-            let value = call(scene, arguments.as_slice(), *place, before, draft)?;
-            Ok(Outcome::Value(value))
+            valued(call(scene, arguments.as_slice(), *place, before, draft))
         }
     }
 }
@@ -80,18 +88,11 @@ fn operation(
     ensures { lines.Gives (operators.apply_operation operation.now.operator (spec.form operation.now.right) first operation.now.place scene.now (record { listing = draft.old; value = left })) result draft.new }
 {
     match operation.operator {
-        BinaryOperator::And => {
-            let value = and_then(scene, &operation.right, first, left, draft)?;
-            Ok(value)
-        }
-        BinaryOperator::Or => {
-            let value = or_else(scene, &operation.right, first, left, draft)?;
-            Ok(value)
-        }
+        BinaryOperator::And => and_then(scene, &operation.right, first, left, draft),
+        BinaryOperator::Or => or_else(scene, &operation.right, first, left, draft),
         operator => {
             let right = value(scene, &operation.right, draft)?;
-            let value = apply_binary(operator, scene, operation.place, left, right, draft)?;
-            Ok(value)
+            apply_binary(operator, scene, operation.place, left, right, draft)
         }
     }
 }
@@ -182,37 +183,22 @@ pub fn form(
     ensures { references.Comes (spec.form expression.now scene.now draft.old) result draft.new }
 {
     match expression {
-        Expression::This { place } => {
-            let value = copy(scene, *place, THIS, draft)?;
-            Ok(Outcome::Value(value))
-        }
-        Expression::Name(at) => {
-            let outcome = name(scene, &at.text, at.place, draft)?;
-            Ok(outcome)
-        }
-        Expression::Literal { value, place } => {
-            let value = literal(scene, *place, value, draft)?;
-            Ok(Outcome::Value(value))
-        }
+        Expression::This { place } => valued(copy(scene, *place, THIS, draft)),
+        Expression::Name(at) => name(scene, &at.text, at.place, draft),
+        Expression::Literal { value, place } => valued(literal(scene, *place, value, draft)),
         Expression::Array { elements, place } => {
-            let value = array(scene, elements.as_slice(), *place, draft)?;
-            Ok(Outcome::Value(value))
+            valued(array(scene, elements.as_slice(), *place, draft))
         }
         Expression::Object { properties, place } => {
-            let value = object(scene, properties.as_slice(), *place, draft)?;
-            Ok(Outcome::Value(value))
+            valued(object(scene, properties.as_slice(), *place, draft))
         }
-        Expression::Function(tree) => {
-            let value = function(scene, &tree.name, tree.place, draft)?;
-            Ok(Outcome::Value(value))
-        }
+        Expression::Function(tree) => valued(function(scene, &tree.name, tree.place, draft)),
         Expression::Chain {
             head,
             suffixes: behind,
         } => {
             let head = form(scene, head.get(), draft)?;
-            let outcome = suffixes(scene, behind.as_slice(), head, draft)?;
-            Ok(outcome)
+            suffixes(scene, behind.as_slice(), head, draft)
         }
         Expression::New {
             callee,
@@ -220,8 +206,7 @@ pub fn form(
             place,
         } => {
             let callee = value(scene, callee.get(), draft)?;
-            let value = new_of(scene, arguments.as_slice(), *place, callee, draft)?;
-            Ok(Outcome::Value(value))
+            valued(new_of(scene, arguments.as_slice(), *place, callee, draft))
         }
         Expression::Unary {
             operator,
@@ -229,8 +214,7 @@ pub fn form(
             place,
         } => {
             let outcome = form(scene, operand.get(), draft)?;
-            let value = on_outcome(*operator, scene, *place, outcome, draft)?;
-            Ok(Outcome::Value(value))
+            valued(on_outcome(*operator, scene, *place, outcome, draft))
         }
         Expression::Update {
             operator,
@@ -238,8 +222,7 @@ pub fn form(
             place,
         } => {
             let outcome = form(scene, operand.get(), draft)?;
-            let value = update_outcome(*operator, scene, *place, outcome, draft)?;
-            Ok(Outcome::Value(value))
+            valued(update_outcome(*operator, scene, *place, outcome, draft))
         }
         Expression::Binary {
             first,
@@ -247,8 +230,7 @@ pub fn form(
             place,
         } => {
             let first = value(scene, first.get(), draft)?;
-            let value = operations(scene, behind.as_slice(), *place, first, draft)?;
-            Ok(Outcome::Value(value))
+            valued(operations(scene, behind.as_slice(), *place, first, draft))
         }
         Expression::Conditional {
             condition,
@@ -258,8 +240,7 @@ pub fn form(
         } => {
             let condition = value(scene, condition.get(), draft)?;
             let choice = consequence(scene, then.get(), *place, condition, draft)?;
-            let value = alternative(scene, otherwise.get(), *place, choice, draft)?;
-            Ok(Outcome::Value(value))
+            valued(alternative(scene, otherwise.get(), *place, choice, draft))
         }
         Expression::Assign {
             target,
@@ -269,14 +250,10 @@ pub fn form(
         } => {
             let target = form(scene, target.get(), draft)?;
             match operator {
-                None => {
-                    let value = assign_to(scene, source.get(), *place, target, draft)?;
-                    Ok(Outcome::Value(value))
-                }
+                None => valued(assign_to(scene, source.get(), *place, target, draft)),
                 Some(operator) => {
                     let operator = *operator;
-                    let value = assign_to_by(operator, scene, source.get(), *place, target, draft)?;
-                    Ok(Outcome::Value(value))
+                    valued(assign_to_by(operator, scene, source.get(), *place, target, draft))
                 }
             }
         }
@@ -286,8 +263,7 @@ pub fn form(
             ..
         } => {
             let first = value(scene, first.get(), draft)?;
-            let value = others(scene, behind.as_slice(), first, draft)?;
-            Ok(Outcome::Value(value))
+            valued(others(scene, behind.as_slice(), first, draft))
         }
     }
 }
@@ -304,8 +280,7 @@ pub fn value(
     ensures { lines.Gives (references.value_of (spec.form expression.now) scene.now draft.old) result draft.new }
 {
     let outcome = form(scene, expression, draft)?;
-    let value = get_value(scene, outcome, draft)?;
-    Ok(value)
+    get_value(scene, outcome, draft)
 }
 
 /// Lists the assignment of an expression's value to a name, and gives the value's register. It
@@ -321,6 +296,5 @@ pub fn assign(
     ensures { lines.Gives (operators.assign (references.with_name target.now.text target.now.place) (spec.form source.now) place scene.now draft.old) result draft.new }
 {
     let outcome = name(scene, &target.text, target.place, draft)?;
-    let value = assign_to(scene, source, place, outcome, draft)?;
-    Ok(value)
+    assign_to(scene, source, place, outcome, draft)
 }

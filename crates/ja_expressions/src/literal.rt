@@ -40,8 +40,7 @@ fn index_text(alloc: Global, index: usize) -> Result<Text16, Memory>
     ensures { IfOk result (λ text. text ≡ decimal index) }
 {
     let n = whole(index)?;
-    let text = number_text(alloc, n)?;
-    Ok(text)
+    number_text(alloc, n)
 }
 
 /// The text of a property's name.
@@ -49,19 +48,11 @@ fn property_text(alloc: Global, name: &PropertyName) -> Result<Text16, Memory>
     ensures { IfOk result (λ text. text ≡ spec.property_text name.now) }
 {
     match name {
-        PropertyName::Word(text) => {
+        PropertyName::Word(text) | PropertyName::Text(text) => {
             let text = text.copy(alloc)?;
             Ok(text)
         }
-        PropertyName::Text(text) => {
-            let text = text.copy(alloc)?;
-            Ok(text)
-        }
-        PropertyName::Number(n) => {
-            let n = *n;
-            let text = number_text(alloc, n)?;
-            Ok(text)
-        }
+        PropertyName::Number(n) => number_text(alloc, *n),
     }
 }
 
@@ -84,8 +75,7 @@ fn write_known(
         src,
         error: Site(0),
     };
-    draft.node(scene.handler, place, node)?;
-    Ok(())
+    draft.node(scene.handler, place, node)
 }
 
 /// The text `length`.
@@ -128,8 +118,7 @@ fn write_length(
     let count = whole(count)?;
     let src = constant(scene, place, Primitive::Number(Num::Whole(count)), draft)?;
     let key = length_text(scene.alloc)?;
-    write_known(scene, place, array, key, src, draft)?;
-    Ok(())
+    write_known(scene, place, array, key, src, draft)
 }
 
 /// Writes an element under the text of its index. A hole writes nothing.
@@ -150,8 +139,7 @@ fn write_element(
         Some(element) => {
             let src = value(scene, element, draft)?;
             let key = index_text(scene.alloc, index)?;
-            write_known(scene, place, array, key, src, draft)?;
-            Ok(())
+            write_known(scene, place, array, key, src, draft)
         }
     }
 }
@@ -207,8 +195,7 @@ fn write_member(
 {
     let src = value(scene, &property.value, draft)?;
     let key = property_text(scene.alloc, &property.name)?;
-    write_known(scene, place, object, key, src, draft)?;
-    Ok(())
+    write_known(scene, place, object, key, src, draft)
 }
 
 /// An object literal.
@@ -303,13 +290,7 @@ pub(crate) fn function(
     ensures { lines.Gives (spec.list_function name.now place scene.now draft.old) result draft.new }
 {
     match name {
-        None => {
-            let function = make_function(scene, place, draft)?;
-            Ok(function)
-        }
-        Some(name) => {
-            let function = named_function(scene, name, place, draft)?;
-            Ok(function)
-        }
+        None => make_function(scene, place, draft),
+        Some(name) => named_function(scene, name, place, draft),
     }
 }

@@ -24,8 +24,7 @@ fn delete(
 {
     match outcome {
         Outcome::Value(_) | Outcome::Special { .. } => {
-            let dst = constant(scene, place, Primitive::Bool(true), draft)?;
-            Ok(dst)
+            constant(scene, place, Primitive::Bool(true), draft)
         }
         Outcome::Name { base, name, .. } => {
             let dst = draft.fresh()?;
@@ -51,8 +50,7 @@ fn get_softly(scene: &Scene<'_, '_>, outcome: Outcome, draft: &mut Draft) -> Res
             Ok(dst)
         }
         Outcome::Value(_) | Outcome::Member { .. } | Outcome::Special { .. } => {
-            let value = get_value(scene, outcome, draft)?;
-            Ok(value)
+            get_value(scene, outcome, draft)
         }
     }
 }
@@ -67,8 +65,7 @@ fn type_of(
     ensures { lines.Gives (spec.with_type scene.now place outcome draft.old) result draft.new }
 {
     let value = get_softly(scene, outcome, draft)?;
-    let dst = unary(scene, place, UnaryOp::TypeOf, value, draft)?;
-    Ok(dst)
+    unary(scene, place, UnaryOp::TypeOf, value, draft)
 }
 
 /// A unary operator on a value.
@@ -82,28 +79,19 @@ fn apply_unary(
     ensures { lines.Gives (spec.apply_unary operator scene.now place value draft.old) result draft.new }
 {
     match operator {
-        UnaryOperator::Void => {
-            let dst = constant(scene, place, Primitive::Undefined, draft)?;
-            Ok(dst)
-        }
-        UnaryOperator::Plus => {
-            let dst = number(scene, place, value, draft)?;
-            Ok(dst)
-        }
+        UnaryOperator::Void => constant(scene, place, Primitive::Undefined, draft),
+        UnaryOperator::Plus => number(scene, place, value, draft),
         UnaryOperator::Minus => {
             let src = number(scene, place, value, draft)?;
-            let dst = unary(scene, place, UnaryOp::Neg, src, draft)?;
-            Ok(dst)
+            unary(scene, place, UnaryOp::Neg, src, draft)
         }
         UnaryOperator::Complement => {
             let src = number(scene, place, value, draft)?;
-            let dst = unary(scene, place, UnaryOp::BitNot, src, draft)?;
-            Ok(dst)
+            unary(scene, place, UnaryOp::BitNot, src, draft)
         }
         UnaryOperator::Not => {
             let src = truth(scene, place, value, draft)?;
-            let dst = unary(scene, place, UnaryOp::Not, src, draft)?;
-            Ok(dst)
+            unary(scene, place, UnaryOp::Not, src, draft)
         }
         UnaryOperator::Delete | UnaryOperator::Typeof => Ok(value),
     }
@@ -120,22 +108,15 @@ pub(crate) fn on_outcome(
     ensures { lines.Gives (spec.on_outcome operator scene.now place outcome draft.old) result draft.new }
 {
     match operator {
-        UnaryOperator::Delete => {
-            let dst = delete(scene, place, outcome, draft)?;
-            Ok(dst)
-        }
-        UnaryOperator::Typeof => {
-            let dst = type_of(scene, place, outcome, draft)?;
-            Ok(dst)
-        }
+        UnaryOperator::Delete => delete(scene, place, outcome, draft),
+        UnaryOperator::Typeof => type_of(scene, place, outcome, draft),
         UnaryOperator::Void
         | UnaryOperator::Plus
         | UnaryOperator::Minus
         | UnaryOperator::Complement
         | UnaryOperator::Not => {
             let value = get_value(scene, outcome, draft)?;
-            let dst = apply_unary(operator, scene, place, value, draft)?;
-            Ok(dst)
+            apply_unary(operator, scene, place, value, draft)
         }
     }
 }
@@ -146,10 +127,7 @@ fn one(scene: &Scene<'_, '_>, place: Place, draft: &mut Draft) -> Result<Reg, Me
 {
     match Int::new(1) {
         None => Err(Memory),
-        Some(int) => {
-            let dst = constant(scene, place, Primitive::Number(Num::Whole(int)), draft)?;
-            Ok(dst)
-        }
+        Some(int) => constant(scene, place, Primitive::Number(Num::Whole(int)), draft),
     }
 }
 
@@ -203,8 +181,7 @@ fn on_defaults(
 {
     let x = default_value(scene, place, Hint::Number, a, draft)?;
     let y = default_value(scene, place, Hint::Number, b, draft)?;
-    let dst = binary(scene, place, op, x, y, draft)?;
-    Ok(dst)
+    binary(scene, place, op, x, y, draft)
 }
 
 /// An operation on the default values of two registers, the second one first.
@@ -221,8 +198,7 @@ fn on_defaults_backwards(
 {
     let y = default_value(scene, place, Hint::Number, b, draft)?;
     let x = default_value(scene, place, Hint::Number, a, draft)?;
-    let dst = binary(scene, place, op, x, y, draft)?;
-    Ok(dst)
+    binary(scene, place, op, x, y, draft)
 }
 
 /// An operation on two registers as numbers.
@@ -239,8 +215,7 @@ fn on_numbers(
 {
     let x = number(scene, place, a, draft)?;
     let y = number(scene, place, b, draft)?;
-    let dst = binary(scene, place, op, x, y, draft)?;
-    Ok(dst)
+    binary(scene, place, op, x, y, draft)
 }
 
 /// One operand of `==` or `!=`, beside the other.
@@ -278,8 +253,7 @@ fn on_loose(
 {
     let x = beside(scene, place, a, b, draft)?;
     let y = beside(scene, place, b, a, draft)?;
-    let dst = binary(scene, place, op, x, y, draft)?;
-    Ok(dst)
+    binary(scene, place, op, x, y, draft)
 }
 
 /// `in` of two registers.
@@ -364,23 +338,20 @@ pub(crate) fn apply_binary(
 ) -> Result<Reg, Memory>
     ensures { lines.Gives (spec.apply_binary operator scene.now place a b draft.old) result draft.new }
 {
-    let dst = match operator {
-        BinaryOperator::Plus => on_defaults(BinaryOp::Add, scene, place, a, b, draft)?,
-        BinaryOperator::Less => on_defaults(BinaryOp::Lt, scene, place, a, b, draft)?,
-        BinaryOperator::GreaterEqual => on_defaults(BinaryOp::Ge, scene, place, a, b, draft)?,
-        BinaryOperator::Greater => on_defaults_backwards(BinaryOp::Gt, scene, place, a, b, draft)?,
-        BinaryOperator::LessEqual => {
-            on_defaults_backwards(BinaryOp::Le, scene, place, a, b, draft)?
-        }
-        BinaryOperator::Equal => on_loose(BinaryOp::LooseEq, scene, place, a, b, draft)?,
-        BinaryOperator::NotEqual => on_loose(BinaryOp::LooseNe, scene, place, a, b, draft)?,
-        BinaryOperator::StrictEqual => binary(scene, place, BinaryOp::StrictEq, a, b, draft)?,
-        BinaryOperator::StrictNotEqual => binary(scene, place, BinaryOp::StrictNe, a, b, draft)?,
-        BinaryOperator::In => on_in(scene, place, a, b, draft)?,
-        BinaryOperator::Instanceof => on_instance(scene, place, a, b, draft)?,
-        _ => on_numbers(binary_op(operator), scene, place, a, b, draft)?,
-    };
-    Ok(dst)
+    match operator {
+        BinaryOperator::Plus => on_defaults(BinaryOp::Add, scene, place, a, b, draft),
+        BinaryOperator::Less => on_defaults(BinaryOp::Lt, scene, place, a, b, draft),
+        BinaryOperator::GreaterEqual => on_defaults(BinaryOp::Ge, scene, place, a, b, draft),
+        BinaryOperator::Greater => on_defaults_backwards(BinaryOp::Gt, scene, place, a, b, draft),
+        BinaryOperator::LessEqual => on_defaults_backwards(BinaryOp::Le, scene, place, a, b, draft),
+        BinaryOperator::Equal => on_loose(BinaryOp::LooseEq, scene, place, a, b, draft),
+        BinaryOperator::NotEqual => on_loose(BinaryOp::LooseNe, scene, place, a, b, draft),
+        BinaryOperator::StrictEqual => binary(scene, place, BinaryOp::StrictEq, a, b, draft),
+        BinaryOperator::StrictNotEqual => binary(scene, place, BinaryOp::StrictNe, a, b, draft),
+        BinaryOperator::In => on_in(scene, place, a, b, draft),
+        BinaryOperator::Instanceof => on_instance(scene, place, a, b, draft),
+        _ => on_numbers(binary_op(operator), scene, place, a, b, draft),
+    }
 }
 
 /// `++` or `--` at what its operand comes to (11.3, 11.4.4, 11.4.5).

@@ -38,10 +38,7 @@ pub(crate) fn get_value(
             draft.node(scene.handler, place, Node::ReadProp { dst, object, key })?;
             Ok(dst)
         }
-        Outcome::Special { place, .. } => {
-            let dst = constant(scene, place, Primitive::Undefined, draft)?;
-            Ok(dst)
-        }
+        Outcome::Special { place, .. } => constant(scene, place, Primitive::Undefined, draft),
     }
 }
 
@@ -58,8 +55,7 @@ pub fn put_value(
     match outcome {
         Outcome::Value(_) | Outcome::Special { .. } => Ok(()),
         Outcome::Name { base, name, .. } => {
-            draft.node(scene.handler, place, Node::WriteRef { base, name, src })?;
-            Ok(())
+            draft.node(scene.handler, place, Node::WriteRef { base, name, src })
         }
         Outcome::Member { object, key, .. } => {
             let node = Node::WriteProp {
@@ -68,8 +64,7 @@ pub fn put_value(
                 src,
                 error: Site(0),
             };
-            draft.node(scene.handler, place, node)?;
-            Ok(())
+            draft.node(scene.handler, place, node)
         }
     }
 }
@@ -137,10 +132,7 @@ pub fn name(
 {
     match special_in(scene, text.units()) {
         Some(form) => Ok(Outcome::Special { form, place }),
-        None => {
-            let outcome = variable(scene, text, place, draft)?;
-            Ok(outcome)
-        }
+        None => variable(scene, text, place, draft),
     }
 }
 

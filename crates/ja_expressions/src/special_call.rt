@@ -16,8 +16,7 @@ use ja_prim::Primitive;
 fn undefined(scene: &Scene<'_, '_>, place: Place, draft: &mut Draft) -> Result<Reg, Memory>
     ensures { lines.Gives (lines.with_const scene.now place Primitive.Undefined draft.old) result draft.new }
 {
-    let dst = constant(scene, place, Primitive::Undefined, draft)?;
-    Ok(dst)
+    constant(scene, place, Primitive::Undefined, draft)
 }
 
 /// `$get`
@@ -120,10 +119,7 @@ fn to_object(
     ensures { lines.Gives (spec.list_special Special.Object scene.now place values.now draft.old) result draft.new }
 {
     match values {
-        [src] => {
-            let dst = object(scene, place, *src, draft)?;
-            Ok(dst)
-        }
+        [src] => object(scene, place, *src, draft),
         _ => undefined(scene, place, draft),
     }
 }
@@ -139,10 +135,7 @@ fn to_text(
     ensures { lines.Gives (spec.list_special Special.Text scene.now place values.now draft.old) result draft.new }
 {
     match values {
-        [src] => {
-            let dst = text(scene, place, *src, draft)?;
-            Ok(dst)
-        }
+        [src] => text(scene, place, *src, draft),
         _ => undefined(scene, place, draft),
     }
 }
@@ -210,8 +203,7 @@ fn call(
         [callee, receiver, arguments @ ..] => {
             let arguments = Vec::from_slice(scene.alloc, arguments)?;
             let args = Args::Registers(Seq::from_vec(arguments));
-            let dst = call_with(scene, place, *callee, *receiver, args, draft)?;
-            Ok(dst)
+            call_with(scene, place, *callee, *receiver, args, draft)
         }
         _ => undefined(scene, place, draft),
     }
@@ -230,8 +222,7 @@ fn spread(
     match values {
         [callee, receiver, array] => {
             let args = Args::Elements(*array);
-            let dst = call_with(scene, place, *callee, *receiver, args, draft)?;
-            Ok(dst)
+            call_with(scene, place, *callee, *receiver, args, draft)
         }
         _ => undefined(scene, place, draft),
     }
@@ -248,10 +239,7 @@ fn tail(
     ensures { lines.Gives (spec.list_special Special.Tail scene.now place values.now draft.old) result draft.new }
 {
     match values {
-        [callee, receiver] => {
-            let dst = call_with(scene, place, *callee, *receiver, Args::Tail, draft)?;
-            Ok(dst)
-        }
+        [callee, receiver] => call_with(scene, place, *callee, *receiver, Args::Tail, draft),
         _ => undefined(scene, place, draft),
     }
 }
@@ -305,19 +293,18 @@ pub(crate) fn list_special(
     ensures { lines.Gives (spec.list_special special scene.now place values.items draft.old) result draft.new }
 {
     let given = values.as_slice();
-    let dst = match special {
-        Special::Get => get(scene, place, given, draft)?,
-        Special::Put => put(scene, place, given, draft)?,
-        Special::Delete => delete(scene, place, given, draft)?,
-        Special::Has => has(scene, place, given, draft)?,
-        Special::Object => to_object(scene, place, given, draft)?,
-        Special::Text => to_text(scene, place, given, draft)?,
-        Special::Make(kind) => make(kind, scene, place, given, draft)?,
-        Special::Call => call(scene, place, given, draft)?,
-        Special::Spread => spread(scene, place, given, draft)?,
-        Special::Tail => tail(scene, place, given, draft)?,
-        Special::Stop(kind) => stop(kind, scene, place, given, draft)?,
-        Special::Intrinsic(which) => intrinsic(which, scene, place, values, draft)?,
-    };
-    Ok(dst)
+    match special {
+        Special::Get => get(scene, place, given, draft),
+        Special::Put => put(scene, place, given, draft),
+        Special::Delete => delete(scene, place, given, draft),
+        Special::Has => has(scene, place, given, draft),
+        Special::Object => to_object(scene, place, given, draft),
+        Special::Text => to_text(scene, place, given, draft),
+        Special::Make(kind) => make(kind, scene, place, given, draft),
+        Special::Call => call(scene, place, given, draft),
+        Special::Spread => spread(scene, place, given, draft),
+        Special::Tail => tail(scene, place, given, draft),
+        Special::Stop(kind) => stop(kind, scene, place, given, draft),
+        Special::Intrinsic(which) => intrinsic(which, scene, place, values, draft),
+    }
 }

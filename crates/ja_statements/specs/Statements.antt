@@ -19,7 +19,7 @@ use Rattle.ja_syntax.specs.declared.tree.ForTarget.{ForTarget}
 use Rattle.ja_syntax.specs.declared.tree.ForTarget.TheVariants as target
 use Rattle.ja_syntax.specs.declared.tree.Case.{Case, out-Case}
 use Rattle.ja_syntax.specs.declared.tree.Expression.{Expression}
-use Rattle.ja_syntax.specs.declared.tree.Statement.{Statement}
+use Rattle.ja_syntax.specs.declared.tree.Statement.{Statement, out-Statement}
 use Rattle.ja_syntax.specs.declared.tree.Expression.TheOpen.{Statement-F, Case-F}
 use Rattle.ja_syntax.specs.declared.tree.Expression.TheFolds.{para-Statement, map-Statement, map-Case}
 use Rattle.ja_draft.specs.Lines.{Listing, Valued, Scene, register, site, spot_of, behind_spots, restarted, name_id, with_node, with_branch, with_result, with_spot, with_jump, with_truth, with_const, with_copy, with_move}
@@ -382,6 +382,14 @@ clause_level x = clause_step (map-Case Expressions (Statement × Does) (Case × 
 -- how a statement is listed
 unfoldable pub does : Statement → Does
 does = para-Statement (Unit {0}) Does Clause (λ x. tt) statement_level clause_level
+
+-- a statement, if it is a `try`
+abbrev pub trial_at : Statement-F Expression Statement Case → Does → Does
+trial_at (Statement-F.Try block caught finally place) listed around base l = listed around base l
+trial_at _ listed around base l = l
+
+abbrev pub does_trial : Statement → Does
+does_trial s around base l = trial_at (out-Statement s) (does s) around base l
 
 -- ---- the parts of a statement, with what each form inside is in its place
 

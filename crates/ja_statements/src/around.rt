@@ -40,11 +40,9 @@ pub(crate) fn with_way<'a>(
 ) -> Result<Vec<Way<'a>>, Memory>
     ensures { IfOk result (λ all. map way_of all.items ≡ way_of way.entry ∷ map way_of ways.now) }
 {
-    let mut all = Vec::with_capacity(alloc, 1)?;
+    let mut all = Vec::new(alloc);
     all.push(way)?;
-    for outer in ways {
-        all.push(*outer)?;
-    }
+    all.extend_from_slice(ways)?;
     Ok(all)
 }
 
@@ -56,11 +54,9 @@ pub(crate) fn with_label<'a>(
 ) -> Result<Vec<&'a [u16]>, Memory>
     ensures { IfOk result (λ all. map (λ t. t.now) all.items ≡ label.now ∷ map (λ t. t.now) labels.now) }
 {
-    let mut all = Vec::with_capacity(alloc, 1)?;
+    let mut all = Vec::new(alloc);
     all.push(label)?;
-    for outer in labels {
-        all.push(*outer)?;
-    }
+    all.extend_from_slice(labels)?;
     Ok(all)
 }
 

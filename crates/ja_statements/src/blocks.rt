@@ -1,15 +1,13 @@
 //! The blocks of a `try` (ES3 12.14).
 
-ghost use Rattle.std.specs.Prelude.{◌≡◌, None, map};
-ghost use Rattle.std.specs.Option.{option_map};
-ghost use Rattle.ja_expressions.specs.Expressions.{form};
+ghost use Rattle.std.specs.Prelude.{◌≡◌, map};
 ghost use Rattle.ja_draft.specs.Lines as lines;
 ghost use Rattle.ja_statements.specs.Standing.{Guards, Keeps, around_of, guarded_at};
 ghost use Rattle.ja_statements.specs.Statements as spec;
 
 use crate::around::{Around, handled_at, later, nth_spot, with_way};
 use crate::statement_list::statements;
-use crate::trials::{Guarded, Kept, handler};
+use crate::trials::{Guarded, Kept, handler, ways_out};
 use crate::way::Way;
 use ja_base::{Memory, Place};
 use ja_draft::conversion::{copy, set};
@@ -20,7 +18,7 @@ use ja_syntax::{Name, Statement};
 /// A block whose errors are caught.
 #[cycle(statements)]
 #[tactic(auto, unfolding(crate::specs::Statements::list_guarded))]
-pub(crate) fn guarded(
+fn guarded(
     block: &[Statement],
     around: &Around<'_, '_, '_>,
     base: u32,
@@ -48,7 +46,7 @@ pub(crate) fn guarded(
 /// The handler and the block of a `catch`.
 #[cycle(statements)]
 #[tactic(auto, unfolding(crate::specs::Statements::list_caught))]
-pub(crate) fn caught(
+fn caught(
     body: &[Statement],
     parameter: &Name,
     around: &Around<'_, '_, '_>,
@@ -71,14 +69,13 @@ pub(crate) fn caught(
     statements(&inner, behind, body, draft)?;
     set(scene, place, SCOPE, guarded.saved, draft)?;
     let end = nth_spot(guarded.first, 1)?;
-    draft.mark(end)?;
-    Ok(())
+    draft.mark(end)
 }
 
 /// Lists the block of a `finally` apart, and takes the spots of its `try`.
 #[cycle(statements)]
 #[tactic(auto, unfolding(crate::specs::Statements::keep_block))]
-pub(crate) fn keep(
+fn keep(
     block: &[Statement],
     around: &Around<'_, '_, '_>,
     base: u32,
@@ -102,4 +99,75 @@ pub(crate) fn keep(
         saved,
         template,
     })
+}
+
+/// A statement, if it is a `try`.
+#[cycle(statements)]
+#[tactic(auto, using(crate::proofs::StatementLemmas::does_try), unfolding(crate::specs::Statements::list_finally, crate::specs::Statements::list_catch))]
+pub(crate) fn trial(
+    statement: &Statement,
+    around: &Around<'_, '_, '_>,
+    base: u32,
+    draft: &mut Draft,
+) -> Result<(), Memory>
+    ensures { lines.Adds (spec.does_trial statement.now (around_of around.now) base draft.old) result draft.new }
+{
+    let scene = around.scene;
+    match statement {
+        Statement::Try {
+            block,
+            catch,
+            finally,
+            place,
+        } => match finally {
+            None => match catch {
+                None => statements(around, base, block.as_slice(), draft),
+                Some(catch) => {
+                    let guarded = guarded(block.as_slice(), around, base, *place, draft)?;
+                    caught(
+                        catch.body.as_slice(),
+                        &catch.parameter,
+                        around,
+                        base,
+                        *place,
+                        guarded,
+                        draft,
+                    )
+                }
+            },
+            Some(finally) => {
+                let kept = keep(finally.as_slice(), around, base, *place, draft)?;
+                let handler = nth_spot(kept.first, 0)?;
+                let behind = later(base, 1)?;
+                let inside = handled_at(scene, handler);
+                let way = Way::of_finally(kept.saved, &kept.template);
+                let ways = with_way(scene.alloc, way, around.ways)?;
+                let inner = Around {
+                    scene: &inside,
+                    ways: ways.as_slice(),
+                    labels: &[],
+                };
+                match catch {
+                    None => {
+                        statements(&inner, behind, block.as_slice(), draft)?;
+                        ways_out(&kept, scene, *place, base, draft)
+                    }
+                    Some(catch) => {
+                        let guarded = guarded(block.as_slice(), &inner, behind, *place, draft)?;
+                        caught(
+                            catch.body.as_slice(),
+                            &catch.parameter,
+                            &inner,
+                            behind,
+                            *place,
+                            guarded,
+                            draft,
+                        )?;
+                        ways_out(&kept, scene, *place, base, draft)
+                    }
+                }
+            }
+        },
+        _ => Ok(()),
+    }
 }

@@ -47,8 +47,7 @@ fn enter(
         site: Site(0),
         arguments,
     };
-    draft.node(scene.handler, place, node)?;
-    Ok(())
+    draft.node(scene.handler, place, node)
 }
 
 /// Makes the object of a function declaration, and binds it to its name.
@@ -71,8 +70,7 @@ fn bind_function(
                 src,
                 read_only: false,
             };
-            draft.node(scene.handler, place, node)?;
-            Ok(())
+            draft.node(scene.handler, place, node)
         }
     }
 }
@@ -134,8 +132,7 @@ fn end(scene: &Scene<'_, '_>, place: Place, base: u32, draft: &mut Draft) -> Res
     draft.restart(base);
     let src = constant(scene, place, Primitive::Undefined, draft)?;
     draft.node(scene.handler, place, Node::Return { src })?;
-    draft.node(scene.handler, place, Node::Escape)?;
-    Ok(())
+    draft.node(scene.handler, place, Node::Escape)
 }
 
 /// What a body does: its function declarations, its variables, its statements, and its end.
@@ -157,8 +154,7 @@ fn body(
         labels: &[],
     };
     statements(&around, base, inside, draft)?;
-    end(scene, place, base, draft)?;
-    Ok(())
+    end(scene, place, base, draft)
 }
 
 /// The first temporary of a function with that many parameters. Past the last number that a register

@@ -1,10 +1,9 @@
 //! `if`, labels and `switch` (ES3 12.5, 12.11, 12.12).
 
-ghost use Rattle.std.specs.Prelude.{◌≡◌, None, map};
-ghost use Rattle.std.specs.Option.{option_map};
+ghost use Rattle.std.specs.Prelude.{◌≡◌, map};
 ghost use Rattle.ja_expressions.specs.Expressions.{form};
 ghost use Rattle.ja_draft.specs.Lines as lines;
-ghost use Rattle.ja_statements.specs.Standing.{Guards, Keeps, around_of, guarded_at};
+ghost use Rattle.ja_statements.specs.Standing.{around_of};
 ghost use Rattle.ja_statements.specs.Statements as spec;
 
 use crate::around::{Around, later, nth_spot, with_label, with_way};
@@ -36,8 +35,7 @@ pub(crate) fn if_alone(
     let first = branch_on(condition, 1, around.scene, place, draft)?;
     statement(&inner, base, then, draft)?;
     let end = nth_spot(first, 0)?;
-    draft.mark(end)?;
-    Ok(())
+    draft.mark(end)
 }
 
 /// `if` up to its `else` (12.5). Gives the first of its spots.
@@ -78,8 +76,7 @@ pub(crate) fn if_else(
     draft.jump(end)?;
     draft.mark(other)?;
     statement(&inner, base, otherwise, draft)?;
-    draft.mark(end)?;
-    Ok(())
+    draft.mark(end)
 }
 
 /// A statement of a label (12.12).
@@ -106,8 +103,7 @@ pub(crate) fn labelled(
         labels: labels.as_slice(),
     };
     statement(&inner, base, body, draft)?;
-    draft.mark(end)?;
-    Ok(())
+    draft.mark(end)
 }
 
 /// The bodies of clauses, whose spots are numbered from `first` on.
@@ -162,6 +158,5 @@ pub(crate) fn switch(
     };
     let behind = later(switched.0, 1)?;
     bodies(cases, &inner, behind, first, draft)?;
-    draft.mark(end)?;
-    Ok(())
+    draft.mark(end)
 }

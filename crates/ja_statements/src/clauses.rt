@@ -51,8 +51,7 @@ pub(crate) fn test(
             let next = nth_spot(first, 0)?;
             branch(scene, place, Node::Branch { src: dst }, next, draft)?;
             draft.jump(body)?;
-            draft.mark(next)?;
-            Ok(())
+            draft.mark(next)
         }
     }
 }

@@ -1,10 +1,10 @@
 //! Loops (ES3 12.6).
 
-ghost use Rattle.std.specs.Prelude.{◌≡◌, None, map};
+ghost use Rattle.std.specs.Prelude.{◌≡◌};
 ghost use Rattle.std.specs.Option.{option_map};
 ghost use Rattle.ja_expressions.specs.Expressions.{form};
 ghost use Rattle.ja_draft.specs.Lines as lines;
-ghost use Rattle.ja_statements.specs.Standing.{Guards, Keeps, around_of, guarded_at};
+ghost use Rattle.ja_statements.specs.Standing.{around_of};
 ghost use Rattle.ja_statements.specs.Statements as spec;
 
 use crate::around::{Around, later, nth_spot, with_way};
@@ -44,8 +44,7 @@ fn turn_body(
         ways: ways.as_slice(),
         labels: &[],
     };
-    statement(&inner, base, body, draft)?;
-    Ok(())
+    statement(&inner, base, body, draft)
 }
 
 /// `do` (12.6.1): the body first, then the condition.
@@ -73,8 +72,7 @@ pub(crate) fn do_loop(
     let src = condition(test, scene, place, draft)?;
     branch(scene, place, Node::Branch { src }, end, draft)?;
     draft.jump(top)?;
-    draft.mark(end)?;
-    Ok(())
+    draft.mark(end)
 }
 
 /// `while` (12.6.2).
@@ -100,8 +98,7 @@ pub(crate) fn while_loop(
     branch(scene, place, Node::Branch { src }, end, draft)?;
     turn_body(body, around, base, end, turn, draft)?;
     draft.jump(turn)?;
-    draft.mark(end)?;
-    Ok(())
+    draft.mark(end)
 }
 
 /// `for` (12.6.3): the temporaries of the update go on from those of the condition.
@@ -135,8 +132,7 @@ pub(crate) fn for_loop(
     draft.restart(behind);
     for_update(update, scene, draft)?;
     draft.jump(top)?;
-    draft.mark(end)?;
-    Ok(())
+    draft.mark(end)
 }
 
 /// `for`-`in` (12.6.4): the object and the list are kept while the loop runs.
@@ -171,6 +167,5 @@ pub(crate) fn for_in_loop(
     let inner = later(list.0, 1)?;
     turn_body(body, around, inner, end, turn, draft)?;
     draft.jump(turn)?;
-    draft.mark(end)?;
-    Ok(())
+    draft.mark(end)
 }

@@ -5,13 +5,12 @@ ghost use Rattle.ja_draft.specs.Lines as lines;
 ghost use Rattle.ja_statements.specs.Standing.{around_of};
 ghost use Rattle.ja_statements.specs.Statements as spec;
 
-use crate::around::{Around, handled_at, later, nth_spot, with_way};
-use crate::blocks::{caught, guarded, keep};
+use crate::around::Around;
+use crate::blocks::trial;
 use crate::choices::{if_alone, if_else, if_then, labelled, switch};
 use crate::loops::{do_loop, for_in_loop, for_loop, while_loop};
 use crate::statement_parts::{declare_all, evaluate, return_from, throw};
-use crate::trials::ways_out;
-use crate::way::{Way, break_out, continue_out};
+use crate::way::{break_out, continue_out};
 use ja_base::Memory;
 use ja_draft::Draft;
 use ja_syntax::Statement;
@@ -37,7 +36,7 @@ pub fn statements(
 /// Lists a statement, with temporaries from a register on. It fails where memory is refused, or where
 /// the numbers of temporaries, spots or functions are used up.
 #[cycle(statements)]
-#[tactic(auto, using(crate::proofs::StatementLemmas::does_block, crate::proofs::StatementLemmas::does_variables, crate::proofs::StatementLemmas::does_empty, crate::proofs::StatementLemmas::does_expression, crate::proofs::StatementLemmas::does_if_alone, crate::proofs::StatementLemmas::does_if_else, crate::proofs::StatementLemmas::does_do, crate::proofs::StatementLemmas::does_while, crate::proofs::StatementLemmas::does_for, crate::proofs::StatementLemmas::does_for_in, crate::proofs::StatementLemmas::does_continue, crate::proofs::StatementLemmas::does_break, crate::proofs::StatementLemmas::does_return, crate::proofs::StatementLemmas::does_labelled, crate::proofs::StatementLemmas::does_switch, crate::proofs::StatementLemmas::does_throw, crate::proofs::StatementLemmas::does_try, crate::proofs::StatementLemmas::does_function), unfolding(crate::specs::Statements::list_finally, crate::specs::Statements::list_catch))]
+#[tactic(auto, using(crate::proofs::StatementLemmas::does_block, crate::proofs::StatementLemmas::does_variables, crate::proofs::StatementLemmas::does_empty, crate::proofs::StatementLemmas::does_expression, crate::proofs::StatementLemmas::does_if_alone, crate::proofs::StatementLemmas::does_if_else, crate::proofs::StatementLemmas::does_do, crate::proofs::StatementLemmas::does_while, crate::proofs::StatementLemmas::does_for, crate::proofs::StatementLemmas::does_for_in, crate::proofs::StatementLemmas::does_continue, crate::proofs::StatementLemmas::does_break, crate::proofs::StatementLemmas::does_return, crate::proofs::StatementLemmas::does_labelled, crate::proofs::StatementLemmas::does_switch, crate::proofs::StatementLemmas::does_throw, crate::proofs::StatementLemmas::does_function))]
 pub fn statement(
     around: &Around<'_, '_, '_>,
     base: u32,
@@ -110,60 +109,7 @@ pub fn statement(
             place,
         } => switch(cases.as_slice(), value, around, base, *place, draft),
         Statement::Throw { value, place } => throw(value, scene, base, *place, draft),
-        Statement::Try {
-            block,
-            catch,
-            finally,
-            place,
-        } => match finally {
-            None => match catch {
-                None => statements(around, base, block.as_slice(), draft),
-                Some(catch) => {
-                    let guarded = guarded(block.as_slice(), around, base, *place, draft)?;
-                    caught(
-                        catch.body.as_slice(),
-                        &catch.parameter,
-                        around,
-                        base,
-                        *place,
-                        guarded,
-                        draft,
-                    )
-                }
-            },
-            Some(finally) => {
-                let kept = keep(finally.as_slice(), around, base, *place, draft)?;
-                let handler = nth_spot(kept.first, 0)?;
-                let behind = later(base, 1)?;
-                let inside = handled_at(scene, handler);
-                let way = Way::of_finally(kept.saved, &kept.template);
-                let ways = with_way(scene.alloc, way, around.ways)?;
-                let inner = Around {
-                    scene: &inside,
-                    ways: ways.as_slice(),
-                    labels: &[],
-                };
-                match catch {
-                    None => {
-                        statements(&inner, behind, block.as_slice(), draft)?;
-                        ways_out(&kept, scene, *place, base, draft)
-                    }
-                    Some(catch) => {
-                        let guarded = guarded(block.as_slice(), &inner, behind, *place, draft)?;
-                        caught(
-                            catch.body.as_slice(),
-                            &catch.parameter,
-                            &inner,
-                            behind,
-                            *place,
-                            guarded,
-                            draft,
-                        )?;
-                        ways_out(&kept, scene, *place, base, draft)
-                    }
-                }
-            }
-        },
+        Statement::Try { .. } => trial(statement, around, base, draft),
         Statement::Function(_) => Ok(()),
     }
 }

@@ -30,8 +30,7 @@ pub(crate) fn branch(
 ) -> Result<(), Memory>
     ensures { lines.Adds (lines.with_branch scene.now place node other draft.old) result draft.new }
 {
-    draft.branch(scene.handler, place, node, other)?;
-    Ok(())
+    draft.branch(scene.handler, place, node, other)
 }
 
 /// A variable of a `var` (12.2).
@@ -79,8 +78,7 @@ pub(crate) fn condition(
     ensures { lines.Gives (spec.with_condition (form condition.now) scene.now place draft.old) result draft.new }
 {
     let value = value(scene, condition, draft)?;
-    let truth = truth(scene, place, value, draft)?;
-    Ok(truth)
+    truth(scene, place, value, draft)
 }
 
 /// A condition, and a branch to the first of some new spots.
@@ -113,13 +111,9 @@ pub(crate) fn for_condition(
     match test {
         None => {
             let value = constant(scene, place, Primitive::Bool(true), draft)?;
-            let truth = truth(scene, place, value, draft)?;
-            Ok(truth)
+            truth(scene, place, value, draft)
         }
-        Some(test) => {
-            let truth = condition(test, scene, place, draft)?;
-            Ok(truth)
-        }
+        Some(test) => condition(test, scene, place, draft),
     }
 }
 
@@ -156,8 +150,7 @@ pub(crate) fn for_first(
             Ok(())
         }
         ForFirst::Variables(declarations) => {
-            declare_all(declarations.as_slice(), scene, base, draft)?;
-            Ok(())
+            declare_all(declarations.as_slice(), scene, base, draft)
         }
     }
 }
@@ -173,13 +166,9 @@ pub(crate) fn for_in_reference(
     match target {
         ForTarget::Variable(declaration) => {
             let place = declaration.name.place;
-            let outcome = name(scene, &declaration.name.text, place, draft)?;
-            Ok(outcome)
+            name(scene, &declaration.name.text, place, draft)
         }
-        ForTarget::Reference(expression) => {
-            let outcome = form(scene, expression, draft)?;
-            Ok(outcome)
-        }
+        ForTarget::Reference(expression) => form(scene, expression, draft),
     }
 }
 
@@ -192,10 +181,7 @@ pub(crate) fn for_in_first(
     ensures { lines.Adds (spec.for_in_first (spec.target_of target.now) scene.now draft.old) result draft.new }
 {
     match target {
-        ForTarget::Variable(declaration) => {
-            declare(declaration, scene, draft)?;
-            Ok(())
-        }
+        ForTarget::Variable(declaration) => declare(declaration, scene, draft),
         ForTarget::Reference(_) => Ok(()),
     }
 }
@@ -210,14 +196,8 @@ fn returned(
     ensures { lines.Gives (spec.returned (option_map form value.now) scene.now place draft.old) result draft.new }
 {
     match value {
-        None => {
-            let value = constant(scene, place, Primitive::Undefined, draft)?;
-            Ok(value)
-        }
-        Some(expression) => {
-            let value = ja_expressions::value(scene, expression, draft)?;
-            Ok(value)
-        }
+        None => constant(scene, place, Primitive::Undefined, draft),
+        Some(expression) => ja_expressions::value(scene, expression, draft),
     }
 }
 
@@ -235,8 +215,7 @@ pub(crate) fn return_from(
     draft.restart(base);
     let src = returned(value, scene, place, draft)?;
     leave_all(scene, place, src, around.ways, draft)?;
-    draft.node(scene.handler, place, Node::Return { src })?;
-    Ok(())
+    draft.node(scene.handler, place, Node::Return { src })
 }
 
 /// `throw` (12.13).
@@ -251,8 +230,7 @@ pub(crate) fn throw(
 {
     draft.restart(base);
     let src = value(scene, expression, draft)?;
-    draft.node(scene.handler, place, Node::Throw { src })?;
-    Ok(())
+    draft.node(scene.handler, place, Node::Throw { src })
 }
 
 /// An expression as a statement (12.4).

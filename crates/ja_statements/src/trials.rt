@@ -22,11 +22,20 @@ pub(crate) struct Guarded {
 
 /// The first of the spots of a block with a `finally`, the register that keeps the scope chain, and
 /// what was listed of the block of the `finally`.
-#[derive(Drop)]
 pub(crate) struct Kept {
     pub(crate) first: u32,
     pub(crate) saved: Reg,
     pub(crate) template: Template,
+}
+
+impl Drop for Kept {
+    fn drop(self) {
+        let Kept {
+            first: _,
+            saved: _,
+            template: _,
+        } = self;
+    }
 }
 
 /// The beginning of a handler: the scope chain is set again, and an object before it binds the
@@ -52,8 +61,7 @@ pub(crate) fn handler(
         src: THROWN,
         read_only: false,
     };
-    draft.node(scene.handler, place, node)?;
-    Ok(())
+    draft.node(scene.handler, place, node)
 }
 
 /// The way of an error: the block, and the error is thrown again.
@@ -71,8 +79,7 @@ pub(crate) fn rethrow(
     draft.restart(inner);
     let src = copy(scene, place, THROWN, draft)?;
     draft.block(template, src)?;
-    draft.node(scene.handler, place, Node::Throw { src })?;
-    Ok(())
+    draft.node(scene.handler, place, Node::Throw { src })
 }
 
 /// The ways out of a block with a `finally` that are no jumps.
@@ -99,6 +106,5 @@ pub(crate) fn ways_out(
     draft.jump(end)?;
     draft.mark(exceptional)?;
     rethrow(&kept.template, scene, place, base, draft)?;
-    draft.mark(end)?;
-    Ok(())
+    draft.mark(end)
 }

@@ -211,10 +211,7 @@ fn leave(
     match way.step {
         Step::Catch { saved } => Ok(Some(saved)),
         Step::Finally { saved } => match way.block {
-            Some(block) => {
-                let kept = leave_finally(scene, place, value, saved, block, kept, draft)?;
-                Ok(kept)
-            }
+            Some(block) => leave_finally(scene, place, value, saved, block, kept, draft),
             None => Ok(Some(saved)),
         },
         Step::Loop { .. } | Step::Switch { .. } | Step::Label { .. } => Ok(kept),
@@ -234,8 +231,7 @@ fn arrive(
     if let Some(kept) = kept {
         set(scene, place, SCOPE, kept, draft)?;
     }
-    draft.jump(target)?;
-    Ok(())
+    draft.jump(target)
 }
 
 /// Lists a `break` out of these ways, the innermost first (12.8).

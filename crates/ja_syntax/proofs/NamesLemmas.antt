@@ -1,43 +1,30 @@
 -- Names, each once: what one more does.
-use Rattle.std.proofs.Common.{◌≡◌, ℕ, Bool, true, false, cond, not, ◌||◌, List, [], ◌∷◌, ◌++◌, Option, Some, is_some, refl, sym, ap, ◌∙◌, append_assoc, append-nil}
+use Rattle.std.proofs.Common.{◌≡◌, ℕ, Bool, true, false, cond, not, ◌||◌, if◌then◌else◌, List, [], ◌∷◌, ◌++◌, map, Bor, refl, sym, ap, ◌∙◌, append_assoc, append-nil}
 use Rattle.std.specs.List.{filter, fold, list_any}
 use Rattle.std.specs.Str.{bytes_eq}
 use Rattle.std.specs.Cmp.Lexicographic.{bytes_decides, nat_list_eq_equiv}
+use Rattle.std.proofs.lemmas.List.{map_push}
+use Rattle.indexmap.specs.IndexSet.{insert_key}
 use Rattle.ja_syntax.specs.Hoisted.{once, with_name}
 
-any-push : {X : Type 0} (p : X → Bool) (xs : List X) (x : X) → list_any p (xs ++ x ∷ []) ≡ (list_any p xs || p x)
-any-push p [] x = at (p x)
-  where
-    at : (b : Bool) → (b || false) ≡ b
-    at true = refl
-    at false = refl
-any-push p (y ∷ ys) x = at (p y) (any-push p ys x)
-  where
-    at : (b : Bool) → list_any p (ys ++ x ∷ []) ≡ (list_any p ys || p x) → (b || list_any p (ys ++ x ∷ [])) ≡ ((b || list_any p ys) || p x)
-    at true h = refl
-    at false h = h
+abbrev Texts : Type 0
+Texts = List (Bor (List ℕ))
 
--- a table that knows the names still does with one more behind them
-pub known_push : (names : List (List ℕ)) (t q : List ℕ) (old new : Option (Unit {0})) → is_some old ≡ list_any (bytes_eq q) names → new ≡ cond (bytes_eq t q) (Some tt) old → is_some new ≡ list_any (bytes_eq q) (names ++ t ∷ [])
-known_push names t q old new was is = ap is_some is ∙ at (bytes_eq t q) refl ∙ sym (any-push (bytes_eq q) names t)
+-- the texts that references lead to
+abbrev pub nows : Texts → List (List ℕ)
+nows ts = map (λ t. t.now) ts
+
+any_now : (t : List ℕ) (ks : Texts) → list_any (λ k. bytes_eq t k.now) ks ≡ list_any (bytes_eq t) (nows ks)
+any_now t [] = refl
+any_now t (k ∷ ks) = ap (λ b. bytes_eq t k.now || b) (any_now t ks)
+
+-- a text that is put into the set is a name that is added
+pub inserted_now : (ks : Texts) (k : Bor (List ℕ)) → nows (insert_key (λ a b. bytes_eq a.now b.now) ks k) ≡ with_name (nows ks) k.now
+inserted_now ks k = either (list_any (λ t. bytes_eq k.now t.now) ks) (any_now k.now ks)
   where
-    at : (b : Bool) → bytes_eq t q ≡ b → is_some (cond b (Some tt) old) ≡ (list_any (bytes_eq q) names || bytes_eq q t)
-    at true e = rw (nat_list_eq_equiv.symm q t ∙ e) (full (list_any (bytes_eq q) names))
-      where
-        full : (b : Bool) → true ≡ (b || true)
-        full true = refl
-        full false = refl
-    at false e = rw (nat_list_eq_equiv.symm q t ∙ e) (was ∙ empty (list_any (bytes_eq q) names))
-      where
-        empty : (b : Bool) → b ≡ (b || false)
-        empty true = refl
-        empty false = refl
-
-pub with_name-known : (names : List (List ℕ)) (t : List ℕ) → list_any (bytes_eq t) names ≡ true → names ≡ with_name names t
-with_name-known names t known = rw known refl
-
-pub with_name-new : (names : List (List ℕ)) (t : List ℕ) → list_any (bytes_eq t) names ≡ false → names ++ t ∷ [] ≡ with_name names t
-with_name-new names t fresh = rw fresh refl
+    either : (b : Bool) → b ≡ list_any (bytes_eq k.now) (nows ks) → nows (if b then ks else ks ++ k ∷ []) ≡ with_name (nows ks) k.now
+    either true is = rw (← is) refl
+    either false is = rw (← is) (map_push (λ t. t.now) ks k)
 
 -- a text is among those that aren't another where it is among all
 any-filter : (t x : List ℕ) (ys : List (List ℕ)) → bytes_eq x t ≡ false → list_any (bytes_eq t) (filter (λ u. not (bytes_eq x u)) ys) ≡ list_any (bytes_eq t) ys

@@ -3,32 +3,28 @@
 ghost use Rattle.std.specs.Prelude.{◌≡◌, [], map, IfOk, OnOk};
 ghost use Rattle.ja_syntax.specs.Hoisted.{with_name};
 
+use indexmap::IndexSet;
 use ja_base::{Memory, Seq};
 use ja_prim::Text16;
 use std::alloc::Global;
-use std::collections::BTreeMap;
 use std::marker::Model;
 
 /// Names, each once, in the order in which they were added. Contracts see the list of texts.
 #[derive(Drop)]
 pub(crate) struct Names<'a> {
-    texts: Vec<&'a Text16>,
-    known: BTreeMap<&'a [u16], ()>,
+    texts: IndexSet<&'a [u16]>,
 }
 
 impl<'a> Model for Names<'a> {
-    ghost use Rattle.std.specs.Prelude.{◌≡◌, ℕ, List, map, is_some};
-    ghost use Rattle.std.specs.List.{list_any};
-    ghost use Rattle.std.specs.Ordering.{nat_cmp};
-    ghost use Rattle.std.specs.Cmp.Lexicographic.{slice_cmp};
-    ghost use Rattle.std.specs.BTreeMap.{get_by};
-    ghost use Rattle.std.specs.Str.{bytes_eq};
+    ghost use Rattle.std.specs.Prelude.{◌≤◌, ℕ, List, length, map};
+    ghost use Rattle.std.specs.List.{All};
+    ghost use Rattle.ja_prim.specs.Texts.{max_units};
 
     ghost Value = { List (List ℕ) };
 
-    ghost view = { λ n. map (λ t. t.now) n.texts.items };
+    ghost view = { λ n. map (λ t. t.now) n.texts.keys };
 
-    ghost invariant = { λ n. (t : List ℕ) → is_some (get_by (λ k. slice_cmp nat_cmp t k.now) n.known) ≡ list_any (bytes_eq t) (map (λ u. u.now) n.texts.items) };
+    ghost invariant = { λ n. All (λ t. length t.now ≤ max_units) n.texts.keys };
 }
 
 impl<'a> Names<'a> {
@@ -37,8 +33,7 @@ impl<'a> Names<'a> {
         ensures { result ≡ [] }
     {
         Names {
-            texts: Vec::new(alloc),
-            known: BTreeMap::new(alloc),
+            texts: IndexSet::new(alloc),
         }
     }
 
@@ -46,13 +41,7 @@ impl<'a> Names<'a> {
     pub(crate) fn add(&mut self, text: &'a Text16) -> Result<(), Memory>
         ensures { OnOk result (self.new ≡ with_name self.old text.now) }
     {
-        let units = text.units();
-        if self.known.contains_key(units) {
-            return Ok(());
-        }
-        self.texts.reserve(1)?;
-        self.known.insert(units, ())?;
-        self.texts.push(text)?;
+        self.texts.insert(text.units())?;
         Ok(())
     }
 
@@ -61,8 +50,8 @@ impl<'a> Names<'a> {
         ensures { IfOk result (λ texts. texts ≡ self.now) }
     {
         let mut texts = Vec::new(alloc);
-        for text in &self.texts {
-            texts.push(text.copy(alloc)?)?;
+        for text in self.texts.as_slice() {
+            texts.push(Text16::from_slice(alloc, text)?)?;
         }
         Ok(Seq::from_vec(texts))
     }

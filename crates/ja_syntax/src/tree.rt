@@ -110,7 +110,6 @@ pub type FunctionTree = FunctionOf<Statement>;
 /// An expression (11). The place of an operator that is a field stands beside it; any other place
 /// is that of the expression's first token, an opening parenthesis among them.
 #[cycle(tree)]
-#[derive(Drop)]
 pub enum Expression {
     This {
         place: Place,
@@ -212,7 +211,6 @@ pub enum ForTarget<E> {
 
 /// A clause of a `switch` (12.11); without a test it is `default`. `place` is that of its word.
 #[cycle(tree)]
-#[derive(Drop)]
 pub struct Case {
     pub test: Option<Expression>,
     pub body: Items<Statement>,
@@ -228,7 +226,6 @@ pub struct CatchOf<S> {
 
 /// A statement (12), or a function declaration (13). `place` is that of its first token.
 #[cycle(tree)]
-#[derive(Drop)]
 pub enum Statement {
     Block {
         body: Items<Statement>,
@@ -313,4 +310,164 @@ pub enum Statement {
 #[derive(Drop)]
 pub struct Tree {
     pub statements: Items<Statement>,
+}
+
+// The types of the cycle are let go by a function of their own, so that each crate that lets a tree go calls
+// it, and proves no drop of its own. A list or box is let go as a whole: the proof of a cycle doesn't follow
+// it into its fields.
+
+impl Drop for Expression {
+    #[cycle(tree)]
+    fn drop(self) {
+        match self {
+            Expression::This { place: _ } | Expression::Name(_) => {}
+            Expression::Literal { value: _, place: _ } => {}
+            Expression::Array { elements, place: _ } => drop(elements),
+            Expression::Object {
+                properties,
+                place: _,
+            } => drop(properties),
+            Expression::Function(function) => drop(function),
+            Expression::Chain { head, suffixes } => {
+                drop(head);
+                drop(suffixes);
+            }
+            Expression::New {
+                callee,
+                arguments,
+                place: _,
+            } => {
+                drop(callee);
+                drop(arguments);
+            }
+            Expression::Unary {
+                operator: _,
+                operand,
+                place: _,
+            } => drop(operand),
+            Expression::Update {
+                operator: _,
+                operand,
+                place: _,
+            } => drop(operand),
+            Expression::Binary {
+                first,
+                operations,
+                place: _,
+            } => {
+                drop(first);
+                drop(operations);
+            }
+            Expression::Conditional {
+                condition,
+                then,
+                otherwise,
+                place: _,
+            } => {
+                drop(condition);
+                drop(then);
+                drop(otherwise);
+            }
+            Expression::Assign {
+                target,
+                operator: _,
+                value,
+                place: _,
+            } => {
+                drop(target);
+                drop(value);
+            }
+            Expression::Sequence {
+                first,
+                others,
+                place: _,
+            } => {
+                drop(first);
+                drop(others);
+            }
+        }
+    }
+}
+
+impl Drop for Case {
+    #[cycle(tree)]
+    fn drop(self) {
+        let Case {
+            test: _,
+            body,
+            place: _,
+        } = self;
+        drop(body);
+    }
+}
+
+impl Drop for Statement {
+    #[cycle(tree)]
+    fn drop(self) {
+        match self {
+            Statement::Block { body, place: _ } => drop(body),
+            Statement::Variables {
+                declarations,
+                place: _,
+            } => drop(declarations),
+            Statement::Empty { place: _ } => {}
+            Statement::Expression { value: _, place: _ } => {}
+            Statement::If {
+                condition: _,
+                then,
+                otherwise,
+                place: _,
+            } => {
+                drop(then);
+                drop(otherwise);
+            }
+            Statement::Do {
+                body,
+                condition: _,
+                place: _,
+            } => drop(body),
+            Statement::While {
+                condition: _,
+                body,
+                place: _,
+            } => drop(body),
+            Statement::For {
+                first,
+                condition: _,
+                update: _,
+                body,
+                place: _,
+            } => {
+                drop(first);
+                drop(body);
+            }
+            Statement::ForIn {
+                target: _,
+                object: _,
+                body,
+                place: _,
+            } => drop(body),
+            Statement::Continue { label: _, place: _ } => {}
+            Statement::Break { label: _, place: _ } => {}
+            Statement::Return { value: _, place: _ } => {}
+            Statement::Labelled { label: _, body } => drop(body),
+            Statement::Switch {
+                value: _,
+                cases,
+                place: _,
+            } => drop(cases),
+            Statement::Throw { value: _, place: _ } => {}
+            Statement::Try {
+                block,
+                catch,
+                finally,
+                place: _,
+            } => {
+                drop(block);
+                drop(catch);
+                drop(finally);
+            }
+            Statement::Function(function) => drop(function),
+        }
+    }
 }

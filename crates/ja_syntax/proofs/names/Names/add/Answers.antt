@@ -1,30 +1,9 @@
-use Rattle.std.proofs.Common.{◌≡◌, ℕ, List, [], ◌∷◌, ◌++◌, map, Bor, ap, sym, ◌∙◌, subst}
-use Rattle.std.proofs.lemmas.List.{map_push}
-use Rattle.std.proofs.lemmas.Map.Text.{btree_map_updates_str}
+use Rattle.std.proofs.Common.{ap, ◌∙◌}
 use Rattle.ja_syntax.specs.Hoisted.{with_name}
-use Rattle.ja_syntax.proofs.NamesLemmas.{known_push, with_name-known, with_name-new}
+use Rattle.ja_syntax.proofs.NamesLemmas.{nows, inserted_now}
 use Rattle.ja_syntax.proofs.names.Names.add.Goals as goal
-
--- the texts that references lead to
-abbrev nows : List (Bor (List ℕ)) → List (List ℕ)
-nows ts = map (λ t. t.now) ts
-
-pub returns-then-contains_key : goal.returns-then-contains_key
-returns-then-contains_key c =
-    let any = sym (c.self.invariant c.units-units.result.now) ∙ sym c.contains_key.ensures ∙ c.if-contains_key.true in
-    let known = with_name-known (nows c.self.inside.texts.items) c.units-units.result.now any in
-    rw (← c.units-units.ensures.value) (subst (λ names. names ≡ with_name names c.units-units.result.now) c.self.view_is known)
-
-pub invariant_of-self-2 : goal.invariant_of-self-2
-invariant_of-self-2 c = λ q.
-    let items : c.push.new.self.items ≡ c.self.inside.texts.items ++ c.args.text ∷ [] = c.in_ok-push.ensures.items ∙ ap (λ xs. xs ++ c.args.text ∷ []) c.in_ok-reserve.ensures.items in
-    let updated = btree_map_updates_str c.units-units.result.now c.self.inside.known c.insert.new.self _ c.in_ok-insert.ensures.updates q in
-    rw (items, map_push, ← c.units-units.ensures.value) (known_push (nows c.self.inside.texts.items) c.units-units.result.now q _ _ (c.self.invariant q) updated)
 
 pub returns : goal.returns
 returns c =
-    let any = sym (c.self.invariant c.units-units.result.now) ∙ sym c.contains_key.ensures ∙ c.if-contains_key.false in
-    let items : c.push.new.self.items ≡ c.self.inside.texts.items ++ c.args.text ∷ [] = c.in_ok-push.ensures.items ∙ ap (λ xs. xs ++ c.args.text ∷ []) c.in_ok-reserve.ensures.items in
-    let fresh = with_name-new (nows c.self.inside.texts.items) c.units-units.result.now any in
-    let named : nows c.push.new.self.items ≡ c.args.self.now ++ c.args.text.now ∷ [] = ap nows items ∙ map_push _ _ _ ∙ ap (λ names. names ++ c.args.text.now ∷ []) c.self.view_is in
-    named ∙ rw (← c.units-units.ensures.value) (subst (λ names. names ++ c.units-units.result.now ∷ [] ≡ with_name names c.units-units.result.now) c.self.view_is fresh)
+    ap nows c.in_ok-insert.ensures.keys ∙ inserted_now c.self.inside.texts.keys c.units.result
+    ∙ ap (λ names. with_name names c.units.result.now) c.self.view_is ∙ ap (λ t. with_name c.args.self.now t) c.units.ensures.value
