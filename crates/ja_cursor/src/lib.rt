@@ -5,6 +5,8 @@
 mod context;
 mod cursor;
 mod held;
+mod jump;
+mod leaf;
 mod literal;
 mod name;
 mod operator;
@@ -13,12 +15,13 @@ mod target;
 mod tree;
 
 pub use context::{
-    function_context, has_label, labelled_context, loop_context, may_break, program_context,
-    switch_context,
+    function_context, labelled_context, loop_context, program_context, switch_context,
 };
 pub use cursor::Cursor;
 pub use held::Held;
-pub use literal::{literal_of, property_name};
+pub use jump::{break_statement, continue_statement, empty_statement};
+pub use leaf::{dotted, element_close, literal_expression, name_expression, this_expression};
+pub use literal::property_name;
 pub use name::{declared, function_name, parameters};
 pub use operator::{
     LEVELS, assignment_operator, begins_property, begins_suffix, binary_operator, ends_clause,
@@ -26,7 +29,7 @@ pub use operator::{
     unary_operator,
 };
 pub use semicolon::ended;
-pub use target::{break_target, continue_target, enter_label, without_target};
+pub use target::label;
 pub use tree::{
     assign, chained, conditional, created, do_of, for_in_of, for_of, if_of, labelled_of, operated,
     sequence, taken, unary, update, while_of,

@@ -3,6 +3,7 @@
 ghost use Rattle.ja_syntax.specs.declared.symbol.Symbol.TheVariants as k;
 ghost use Rattle.ja_grammar.specs.Input.{Follows, listed, separated};
 ghost use Rattle.ja_grammar.specs.ReadExpression as spec;
+ghost use Rattle.ja_grammar.specs.ReadStatement.{below};
 
 use crate::cursor::Cursor;
 use ja_grammar::{Refusal, Stop};
@@ -69,9 +70,9 @@ fn names(alloc: Global, cursor: &mut Cursor<'_>) -> Result<Items<Name>, Stop>
     Ok(found)
 }
 
-/// Reads the parameters of a function and their `)` (13).
+/// Reads the parameters of a function and their `)`.
 #[tactic(auto, unfolding(ja_grammar::specs::Input::listed))]
-pub fn parameters(alloc: Global, cursor: &mut Cursor<'_>) -> Result<Items<Name>, Stop>
+fn parameters_list(alloc: Global, cursor: &mut Cursor<'_>) -> Result<Items<Name>, Stop>
     ensures { Follows (listed k.CloseParenthesis spec.declared cursor.old) result cursor.new }
 {
     if cursor.sees(Symbol::CloseParenthesis) {
@@ -81,4 +82,14 @@ pub fn parameters(alloc: Global, cursor: &mut Cursor<'_>) -> Result<Items<Name>,
     let found = names(alloc, cursor)?;
     cursor.expect(Symbol::CloseParenthesis)?;
     Ok(found)
+}
+
+/// Reads the parameters of a function with their parentheses (13), which count, where `depth` levels are
+/// left.
+#[tactic(auto, unfolding(ja_grammar::specs::ReadExpression::parameters))]
+pub fn parameters(alloc: Global, cursor: &mut Cursor<'_>, depth: usize) -> Result<Items<Name>, Stop>
+    ensures { Follows (spec.parameters depth (below depth) cursor.old) result cursor.new }
+{
+    cursor.opening(depth, Symbol::OpenParenthesis)?;
+    parameters_list(alloc, cursor)
 }

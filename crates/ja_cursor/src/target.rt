@@ -5,6 +5,7 @@ ghost use Rattle.ja_grammar.specs.Contexts.{context_of};
 ghost use Rattle.ja_grammar.specs.Contexts as contexts;
 ghost use Rattle.ja_grammar.specs.Input.{Follows, head, behind};
 ghost use Rattle.ja_grammar.specs.ReadStatement as spec;
+ghost use Rattle.ja_grammar.specs.ReadStatement.{below};
 ghost use Rattle.ja_cursor.specs.Taking.{Takes};
 
 use crate::context::{has_label, has_loop};
@@ -95,10 +96,10 @@ pub fn without_target(cursor: &Cursor<'_>, context: &Context<'_>) -> Refusal
     }
 }
 
-/// Takes the `:` behind the label at `place`, which counts (12.12). Where no level is left, that is
-/// refused as `DeepLabel` at `place`.
+/// Takes the `:` behind the label at `place`, which counts. Where no level is left, that is refused as
+/// `DeepLabel` at `place`.
 #[tactic(auto, unfolding(ja_grammar::specs::ReadStatement::enter_label))]
-pub fn enter_label(cursor: &mut Cursor<'_>, depth: usize, place: Place) -> Result<(), Stop>
+fn enter_label(cursor: &mut Cursor<'_>, depth: usize, place: Place) -> Result<(), Stop>
     ensures { Takes (spec.enter_label depth place cursor.old) cursor.old result cursor.new }
 {
     if depth == 0 {
@@ -106,4 +107,19 @@ pub fn enter_label(cursor: &mut Cursor<'_>, depth: usize, place: Place) -> Resul
     }
     cursor.take();
     Ok(())
+}
+
+/// Takes a label and its `:` (12.12), which counts, where `depth` levels are left. A label that is around
+/// already is refused as `Broken` at its place; where no level is left, it is `DeepLabel` there.
+#[tactic(auto, unfolding(ja_grammar::specs::ReadStatement::label))]
+pub fn label(cursor: &mut Cursor<'_>, depth: usize, context: &Context<'_>) -> Result<(), Stop>
+    ensures { Takes (spec.label depth (below depth) (context_of context.now) cursor.old) cursor.old result cursor.new }
+{
+    let place = cursor.place();
+    let word = cursor.word();
+    cursor.take();
+    if has_label(context, word) {
+        return Err(Stop::Refused(Refusal::Broken(place)));
+    }
+    enter_label(cursor, depth, place)
 }

@@ -1,3 +1,1 @@
 pub mod Clauses
-pub mod Ends
-pub mod Nests

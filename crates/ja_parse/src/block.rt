@@ -12,18 +12,17 @@ ghost use Rattle.ja_grammar.specs.ReadStatement.{below};
 ghost use Rattle.ja_grammar.specs.declared.part.ExpressionPart.TheVariants as of_expression;
 ghost use Rattle.ja_grammar.specs.declared.part.StatementPart.TheVariants as part;
 ghost use Rattle.ja_parse.specs.Clauses.{variable_value};
-ghost use Rattle.ja_parse.specs.Nests.{Nests};
+ghost use Rattle.ja_parse_expressions.specs.Nests.{Nests};
 
 use crate::grammar::Grammar;
-use crate::list::ListEnd;
 use ja_cursor::{Cursor, Held, declared, ended};
 use ja_grammar::{Context, ExpressionPart, Refusal, StatementPart, Stop};
+use ja_parse_expressions::ListEnd;
 use ja_syntax::{Declaration, Expression, Initialiser, Statement, Symbol};
 use sqlite_items::Items;
 use std::alloc::Global;
 
 impl<
-    F: Fn(Global, &mut Cursor<'_>, usize, ExpressionPart) -> Result<Held<Expression>, Stop>,
     G: Fn(
         Global,
         &mut Cursor<'_>,
@@ -31,7 +30,7 @@ impl<
         &Context<'_>,
         StatementPart,
     ) -> Result<Held<Statement>, Stop>,
-> Grammar<F, G> {
+> Grammar<G> {
     /// Reads a block with its braces (12.1).
     #[tactic(auto, unfolding(ja_grammar::specs::ReadStatement::block))]
     pub fn block(
@@ -39,11 +38,11 @@ impl<
         cursor: &mut Cursor<'_>,
         context: &Context<'_>,
     ) -> Result<Items<Statement>, Stop>
-        requires { Nests self.now.depth (F.pre self.now.expression) (F.post self.now.expression) (G.pre self.now.statement) (G.post self.now.statement) }
+        requires { Nests self.now.depth (G.pre self.now.statement) (G.post self.now.statement) }
         ensures { Follows (spec.block self.now.depth (below self.now.depth) (context_of context.now) cursor.old) result cursor.new }
     {
         cursor.opening(self.depth, Symbol::OpenBrace)?;
-        let found = self.statements_below(cursor, context, ListEnd::Brace, false)?;
+        let found = self.list_below(cursor, context, ListEnd::Brace)?;
         cursor.expect(Symbol::CloseBrace)?;
         Ok(found)
     }
@@ -51,7 +50,7 @@ impl<
     /// Reads an expression in parentheses, behind the word of a statement.
     #[tactic(auto, unfolding(ja_grammar::specs::ReadStatement::bracketed))]
     pub fn bracketed(&self, cursor: &mut Cursor<'_>) -> Result<Held<Expression>, Stop>
-        requires { Nests self.now.depth (F.pre self.now.expression) (F.post self.now.expression) (G.pre self.now.statement) (G.post self.now.statement) }
+        requires { Nests self.now.depth (G.pre self.now.statement) (G.post self.now.statement) }
         ensures { Follows (spec.bracketed self.now.depth (below self.now.depth) cursor.old) result cursor.new }
     {
         cursor.opening(self.depth, Symbol::OpenParenthesis)?;
@@ -66,13 +65,13 @@ impl<
         cursor: &mut Cursor<'_>,
         in_head: bool,
     ) -> Result<Held<Expression>, Stop>
-        requires { Nests self.now.depth (F.pre self.now.expression) (F.post self.now.expression) (G.pre self.now.statement) (G.post self.now.statement) }
+        requires { Nests self.now.depth (G.pre self.now.statement) (G.post self.now.statement) }
         ensures { Follows (variable_value self.now.depth (below self.now.depth) in_head cursor.old) result cursor.new }
     {
         if in_head {
             self.expression_below(cursor, ExpressionPart::Assignment { no_in: true })
         } else {
-            self.assignment(cursor, false)
+            self.assignment(cursor)
         }
     }
 
@@ -83,7 +82,7 @@ impl<
         cursor: &mut Cursor<'_>,
         in_head: bool,
     ) -> Result<Declaration<Expression>, Stop>
-        requires { Nests self.now.depth (F.pre self.now.expression) (F.post self.now.expression) (G.pre self.now.statement) (G.post self.now.statement) }
+        requires { Nests self.now.depth (G.pre self.now.statement) (G.post self.now.statement) }
         ensures { Follows (spec.variable (variable_value self.now.depth (below self.now.depth) in_head) cursor.old) result cursor.new }
     {
         let name = declared(self.alloc, cursor)?;
@@ -113,7 +112,7 @@ impl<
         cursor: &mut Cursor<'_>,
         in_head: bool,
     ) -> Result<Items<Declaration<Expression>>, Stop>
-        requires { Nests self.now.depth (F.pre self.now.expression) (F.post self.now.expression) (G.pre self.now.statement) (G.post self.now.statement) }
+        requires { Nests self.now.depth (G.pre self.now.statement) (G.post self.now.statement) }
         ensures { Follows (separated (spec.variable (variable_value self.now.depth (below self.now.depth) in_head)) cursor.old) result cursor.new }
     {
         let mut found = Items::new(self.alloc);
@@ -133,7 +132,7 @@ impl<
     /// Reads a `var` statement (12.2).
     #[tactic(auto, unfolding(ja_grammar::specs::ReadStatement::variables))]
     pub fn variables(&self, cursor: &mut Cursor<'_>) -> Result<Held<Statement>, Stop>
-        requires { Nests self.now.depth (F.pre self.now.expression) (F.post self.now.expression) (G.pre self.now.statement) (G.post self.now.statement) }
+        requires { Nests self.now.depth (G.pre self.now.statement) (G.post self.now.statement) }
         ensures { Follows (spec.variables self.now.depth (below self.now.depth) cursor.old) result cursor.new }
     {
         let place = cursor.place();
@@ -152,11 +151,11 @@ impl<
     /// Reads an expression statement (12.4).
     #[tactic(auto, unfolding(ja_grammar::specs::ReadStatement::expression_statement))]
     pub fn expression_statement(&self, cursor: &mut Cursor<'_>) -> Result<Held<Statement>, Stop>
-        requires { Nests self.now.depth (F.pre self.now.expression) (F.post self.now.expression) (G.pre self.now.statement) (G.post self.now.statement) }
+        requires { Nests self.now.depth (G.pre self.now.statement) (G.post self.now.statement) }
         ensures { Follows (spec.expression_statement self.now.depth (below self.now.depth) cursor.old) result cursor.new }
     {
         let place = cursor.place();
-        let value = self.whole(cursor, false)?;
+        let value = self.whole(cursor)?;
         ended(cursor)?;
         Ok(Held::new(
             self.alloc,

@@ -11,20 +11,19 @@ ghost use Rattle.ja_grammar.specs.ReadStatement as spec;
 ghost use Rattle.ja_grammar.specs.ReadStatement.{below};
 ghost use Rattle.ja_grammar.specs.declared.part.ExpressionPart.TheVariants as of_expression;
 ghost use Rattle.ja_grammar.specs.declared.part.StatementPart.TheVariants as part;
-ghost use Rattle.ja_parse.specs.Nests.{Nests};
+ghost use Rattle.ja_parse_expressions.specs.Nests.{Nests};
 ghost use Rattle.ja_parse.specs.Clauses.{clauses_behind, try_behind_catch, try_whole};
 
 use crate::grammar::Grammar;
-use crate::list::ListEnd;
 use ja_base::Place;
 use ja_cursor::{Cursor, Held, declared, if_of, switch_context};
 use ja_grammar::{Context, ExpressionPart, Refusal, StatementPart, Stop};
+use ja_parse_expressions::ListEnd;
 use ja_syntax::{Case, CatchOf, Expression, Statement, Symbol};
 use sqlite_items::Items;
 use std::alloc::Global;
 
 impl<
-    F: Fn(Global, &mut Cursor<'_>, usize, ExpressionPart) -> Result<Held<Expression>, Stop>,
     G: Fn(
         Global,
         &mut Cursor<'_>,
@@ -32,7 +31,7 @@ impl<
         &Context<'_>,
         StatementPart,
     ) -> Result<Held<Statement>, Stop>,
-> Grammar<F, G> {
+> Grammar<G> {
     /// Reads the `:` and the statements of a clause.
     #[tactic(auto, unfolding(ja_grammar::specs::ReadStatement::clause))]
     fn clause(
@@ -40,17 +39,17 @@ impl<
         cursor: &mut Cursor<'_>,
         context: &Context<'_>,
     ) -> Result<Items<Statement>, Stop>
-        requires { Nests self.now.depth (F.pre self.now.expression) (F.post self.now.expression) (G.pre self.now.statement) (G.post self.now.statement) }
+        requires { Nests self.now.depth (G.pre self.now.statement) (G.post self.now.statement) }
         ensures { Follows (spec.clause self.now.depth (below self.now.depth) (context_of context.now) cursor.old) result cursor.new }
     {
         cursor.expect(Symbol::Colon)?;
-        self.statements_below(cursor, context, ListEnd::Clause, false)
+        self.list_below(cursor, context, ListEnd::Clause)
     }
 
     /// Reads a clause with a test.
     #[tactic(auto, unfolding(ja_grammar::specs::ReadStatement::case))]
     fn case(&self, cursor: &mut Cursor<'_>, context: &Context<'_>) -> Result<Case, Stop>
-        requires { Nests self.now.depth (F.pre self.now.expression) (F.post self.now.expression) (G.pre self.now.statement) (G.post self.now.statement) }
+        requires { Nests self.now.depth (G.pre self.now.statement) (G.post self.now.statement) }
         ensures { Follows (spec.case self.now.depth (below self.now.depth) (context_of context.now) cursor.old) result cursor.new }
     {
         let place = cursor.place();
@@ -67,7 +66,7 @@ impl<
     /// Reads a `default` clause.
     #[tactic(auto, unfolding(ja_grammar::specs::ReadStatement::default))]
     fn default_case(&self, cursor: &mut Cursor<'_>, context: &Context<'_>) -> Result<Case, Stop>
-        requires { Nests self.now.depth (F.pre self.now.expression) (F.post self.now.expression) (G.pre self.now.statement) (G.post self.now.statement) }
+        requires { Nests self.now.depth (G.pre self.now.statement) (G.post self.now.statement) }
         ensures { Follows (spec.default self.now.depth (below self.now.depth) (context_of context.now) cursor.old) result cursor.new }
     {
         let place = cursor.place();
@@ -82,7 +81,7 @@ impl<
 
     /// Reads the clauses of a `switch` and its `}`.
     fn clauses(&self, cursor: &mut Cursor<'_>, context: &Context<'_>) -> Result<Items<Case>, Stop>
-        requires { Nests self.now.depth (F.pre self.now.expression) (F.post self.now.expression) (G.pre self.now.statement) (G.post self.now.statement) }
+        requires { Nests self.now.depth (G.pre self.now.statement) (G.post self.now.statement) }
         ensures { Follows (clauses_behind self.now.depth (below self.now.depth) (context_of context.now) cursor.old) result cursor.new }
     {
         let mut found = Items::new(self.alloc);
@@ -116,7 +115,7 @@ impl<
     /// Reads the clauses of a `switch` with their braces.
     #[tactic(auto, unfolding(ja_grammar::specs::ReadStatement::cases, crate::specs::Clauses::clauses_behind))]
     fn cases(&self, cursor: &mut Cursor<'_>, context: &Context<'_>) -> Result<Items<Case>, Stop>
-        requires { Nests self.now.depth (F.pre self.now.expression) (F.post self.now.expression) (G.pre self.now.statement) (G.post self.now.statement) }
+        requires { Nests self.now.depth (G.pre self.now.statement) (G.post self.now.statement) }
         ensures { Follows (spec.cases self.now.depth (below self.now.depth) (context_of context.now) cursor.old) result cursor.new }
     {
         cursor.opening(self.depth, Symbol::OpenBrace)?;
@@ -130,7 +129,7 @@ impl<
         cursor: &mut Cursor<'_>,
         context: &Context<'_>,
     ) -> Result<Held<Statement>, Stop>
-        requires { Nests self.now.depth (F.pre self.now.expression) (F.post self.now.expression) (G.pre self.now.statement) (G.post self.now.statement) }
+        requires { Nests self.now.depth (G.pre self.now.statement) (G.post self.now.statement) }
         ensures { Follows (spec.switch self.now.depth (below self.now.depth) (context_of context.now) cursor.old) result cursor.new }
     {
         let place = cursor.place();
@@ -155,7 +154,7 @@ impl<
         cursor: &mut Cursor<'_>,
         context: &Context<'_>,
     ) -> Result<Held<CatchOf<Statement>>, Stop>
-        requires { Nests self.now.depth (F.pre self.now.expression) (F.post self.now.expression) (G.pre self.now.statement) (G.post self.now.statement) }
+        requires { Nests self.now.depth (G.pre self.now.statement) (G.post self.now.statement) }
         ensures { Follows (spec.catch self.now.depth (below self.now.depth) (context_of context.now) cursor.old) result cursor.new }
     {
         cursor.take();
@@ -173,7 +172,7 @@ impl<
         cursor: &mut Cursor<'_>,
         context: &Context<'_>,
     ) -> Result<Items<Statement>, Stop>
-        requires { Nests self.now.depth (F.pre self.now.expression) (F.post self.now.expression) (G.pre self.now.statement) (G.post self.now.statement) }
+        requires { Nests self.now.depth (G.pre self.now.statement) (G.post self.now.statement) }
         ensures { Follows (spec.finally self.now.depth (below self.now.depth) (context_of context.now) cursor.old) result cursor.new }
     {
         cursor.take();
@@ -186,7 +185,7 @@ impl<
         cursor: &mut Cursor<'_>,
         context: &Context<'_>,
     ) -> Result<Held<Statement>, Stop>
-        requires { Nests self.now.depth (F.pre self.now.expression) (F.post self.now.expression) (G.pre self.now.statement) (G.post self.now.statement) }
+        requires { Nests self.now.depth (G.pre self.now.statement) (G.post self.now.statement) }
         ensures { Follows (try_whole self.now.depth (below self.now.depth) (context_of context.now) cursor.old) result cursor.new }
     {
         let place = cursor.place();
@@ -222,7 +221,7 @@ impl<
         catch: Held<CatchOf<Statement>>,
         place: Place,
     ) -> Result<Held<Statement>, Stop>
-        requires { Nests self.now.depth (F.pre self.now.expression) (F.post self.now.expression) (G.pre self.now.statement) (G.post self.now.statement) }
+        requires { Nests self.now.depth (G.pre self.now.statement) (G.post self.now.statement) }
         ensures { Follows (try_behind_catch self.now.depth (below self.now.depth) (context_of context.now) place block catch cursor.old) result cursor.new }
     {
         match cursor.symbol() {
@@ -259,7 +258,7 @@ impl<
         condition: Held<Expression>,
         then: Held<Statement>,
     ) -> Result<Held<Statement>, Stop>
-        requires { Nests self.now.depth (F.pre self.now.expression) (F.post self.now.expression) (G.pre self.now.statement) (G.post self.now.statement) }
+        requires { Nests self.now.depth (G.pre self.now.statement) (G.post self.now.statement) }
         ensures { Follows (spec.else_by self.now.depth (below self.now.depth) (context_of context.now) place condition then k.Else cursor.old) result cursor.new }
     {
         cursor.enter(self.depth)?;
@@ -282,7 +281,7 @@ impl<
         context: &Context<'_>,
         place: Place,
     ) -> Result<Held<Statement>, Stop>
-        requires { Nests self.now.depth (F.pre self.now.expression) (F.post self.now.expression) (G.pre self.now.statement) (G.post self.now.statement) }
+        requires { Nests self.now.depth (G.pre self.now.statement) (G.post self.now.statement) }
         ensures { Follows (spec.if_part self.now.depth (below self.now.depth) (context_of context.now) place cursor.old) result cursor.new }
     {
         let condition = self.bracketed(cursor)?;

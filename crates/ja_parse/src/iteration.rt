@@ -11,7 +11,7 @@ ghost use Rattle.ja_grammar.specs.ReadStatement as spec;
 ghost use Rattle.ja_grammar.specs.ReadStatement.{below};
 ghost use Rattle.ja_grammar.specs.declared.part.ExpressionPart.TheVariants as of_expression;
 ghost use Rattle.ja_grammar.specs.declared.part.StatementPart.TheVariants as part;
-ghost use Rattle.ja_parse.specs.Nests.{Nests};
+ghost use Rattle.ja_parse_expressions.specs.Nests.{Nests};
 ghost use Rattle.ja_parse.specs.Clauses.{for_behind, for_rest_behind, variables_behind};
 ghost use Rattle.ja_syntax.specs.declared.tree.ForFirst.TheVariants as first;
 
@@ -24,7 +24,6 @@ use sqlite_items::Items;
 use std::alloc::Global;
 
 impl<
-    F: Fn(Global, &mut Cursor<'_>, usize, ExpressionPart) -> Result<Held<Expression>, Stop>,
     G: Fn(
         Global,
         &mut Cursor<'_>,
@@ -32,7 +31,7 @@ impl<
         &Context<'_>,
         StatementPart,
     ) -> Result<Held<Statement>, Stop>,
-> Grammar<F, G> {
+> Grammar<G> {
     /// Reads the rest of the `do` at `place`, which `labels` labels stand directly before (12.6.1).
     #[tactic(auto, unfolding(ja_grammar::specs::ReadStatement::do_part))]
     pub fn do_part(
@@ -42,7 +41,7 @@ impl<
         place: Place,
         labels: usize,
     ) -> Result<Held<Statement>, Stop>
-        requires { Nests self.now.depth (F.pre self.now.expression) (F.post self.now.expression) (G.pre self.now.statement) (G.post self.now.statement) }
+        requires { Nests self.now.depth (G.pre self.now.statement) (G.post self.now.statement) }
         ensures { Follows (spec.do_part self.now.depth (below self.now.depth) (context_of context.now) place labels cursor.old) result cursor.new }
     {
         let inner = loop_context(self.alloc, context, labels)?;
@@ -62,7 +61,7 @@ impl<
         place: Place,
         labels: usize,
     ) -> Result<Held<Statement>, Stop>
-        requires { Nests self.now.depth (F.pre self.now.expression) (F.post self.now.expression) (G.pre self.now.statement) (G.post self.now.statement) }
+        requires { Nests self.now.depth (G.pre self.now.statement) (G.post self.now.statement) }
         ensures { Follows (spec.while_part self.now.depth (below self.now.depth) (context_of context.now) place labels cursor.old) result cursor.new }
     {
         let condition = self.bracketed(cursor)?;
@@ -78,7 +77,7 @@ impl<
         cursor: &mut Cursor<'_>,
         close: Symbol,
     ) -> Result<Option<Held<Expression>>, Stop>
-        requires { Nests self.now.depth (F.pre self.now.expression) (F.post self.now.expression) (G.pre self.now.statement) (G.post self.now.statement) }
+        requires { Nests self.now.depth (G.pre self.now.statement) (G.post self.now.statement) }
         ensures { Follows (spec.optional self.now.depth (below self.now.depth) close cursor.old) result cursor.new }
     {
         if cursor.sees(close) {
@@ -99,7 +98,7 @@ impl<
         place: Place,
         first: Held<ForFirst<Expression>>,
     ) -> Result<Held<Statement>, Stop>
-        requires { Nests self.now.depth (F.pre self.now.expression) (F.post self.now.expression) (G.pre self.now.statement) (G.post self.now.statement) }
+        requires { Nests self.now.depth (G.pre self.now.statement) (G.post self.now.statement) }
         ensures { Follows (spec.for_rest self.now.depth (below self.now.depth) (context_of context.now) place first cursor.old) result cursor.new }
     {
         let condition = self.optional(cursor, Symbol::Semicolon)?;
@@ -117,7 +116,7 @@ impl<
         place: Place,
         target: Held<ForTarget<Expression>>,
     ) -> Result<Held<Statement>, Stop>
-        requires { Nests self.now.depth (F.pre self.now.expression) (F.post self.now.expression) (G.pre self.now.statement) (G.post self.now.statement) }
+        requires { Nests self.now.depth (G.pre self.now.statement) (G.post self.now.statement) }
         ensures { Follows (spec.in_rest self.now.depth (below self.now.depth) (context_of context.now) place target cursor.old) result cursor.new }
     {
         cursor.take();
@@ -135,7 +134,7 @@ impl<
         place: Place,
         found: Items<Declaration<Expression>>,
     ) -> Result<Held<Statement>, Stop>
-        requires { Nests self.now.depth (F.pre self.now.expression) (F.post self.now.expression) (G.pre self.now.statement) (G.post self.now.statement) }
+        requires { Nests self.now.depth (G.pre self.now.statement) (G.post self.now.statement) }
         ensures { Follows (for_rest_behind self.now.depth (below self.now.depth) (context_of context.now) place (first.Variables found) cursor.old) result cursor.new }
     {
         cursor.expect(Symbol::Semicolon)?;
@@ -152,7 +151,7 @@ impl<
         place: Place,
         mut found: Items<Declaration<Expression>>,
     ) -> Result<Held<Statement>, Stop>
-        requires { Nests self.now.depth (F.pre self.now.expression) (F.post self.now.expression) (G.pre self.now.statement) (G.post self.now.statement) }
+        requires { Nests self.now.depth (G.pre self.now.statement) (G.post self.now.statement) }
         ensures { Follows (variables_behind self.now.depth (below self.now.depth) (context_of context.now) place found cursor.old) result cursor.new }
     {
         if found.len() == 1 {
@@ -175,7 +174,7 @@ impl<
         context: &Context<'_>,
         place: Place,
     ) -> Result<Held<Statement>, Stop>
-        requires { Nests self.now.depth (F.pre self.now.expression) (F.post self.now.expression) (G.pre self.now.statement) (G.post self.now.statement) }
+        requires { Nests self.now.depth (G.pre self.now.statement) (G.post self.now.statement) }
         ensures { Follows (spec.for_variables self.now.depth (below self.now.depth) (context_of context.now) place cursor.old) result cursor.new }
     {
         cursor.take();
@@ -191,7 +190,7 @@ impl<
         context: &Context<'_>,
         place: Place,
     ) -> Result<Held<Statement>, Stop>
-        requires { Nests self.now.depth (F.pre self.now.expression) (F.post self.now.expression) (G.pre self.now.statement) (G.post self.now.statement) }
+        requires { Nests self.now.depth (G.pre self.now.statement) (G.post self.now.statement) }
         ensures { Follows (spec.for_expression self.now.depth (below self.now.depth) (context_of context.now) place cursor.old) result cursor.new }
     {
         let x = self.expression_below(cursor, ExpressionPart::Whole { no_in: true })?;
@@ -218,7 +217,7 @@ impl<
         context: &Context<'_>,
         place: Place,
     ) -> Result<Held<Statement>, Stop>
-        requires { Nests self.now.depth (F.pre self.now.expression) (F.post self.now.expression) (G.pre self.now.statement) (G.post self.now.statement) }
+        requires { Nests self.now.depth (G.pre self.now.statement) (G.post self.now.statement) }
         ensures { Follows (for_behind self.now.depth (below self.now.depth) (context_of context.now) place cursor.old) result cursor.new }
     {
         match cursor.symbol() {
@@ -241,7 +240,7 @@ impl<
         place: Place,
         labels: usize,
     ) -> Result<Held<Statement>, Stop>
-        requires { Nests self.now.depth (F.pre self.now.expression) (F.post self.now.expression) (G.pre self.now.statement) (G.post self.now.statement) }
+        requires { Nests self.now.depth (G.pre self.now.statement) (G.post self.now.statement) }
         ensures { Follows (spec.for_part self.now.depth (below self.now.depth) (context_of context.now) place labels cursor.old) result cursor.new }
     {
         cursor.opening(self.depth, Symbol::OpenParenthesis)?;

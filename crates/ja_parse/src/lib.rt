@@ -3,12 +3,9 @@
 
 mod block;
 mod choice;
-mod expression;
 mod grammar;
 mod iteration;
 mod jump;
-mod list;
-mod literal;
 mod program;
 mod reader;
 mod statement;

@@ -1,39 +1,19 @@
-//! The program (ES3 14), and how the parts of expressions and statements read one another.
+//! The program (ES3 14), and how the parts of statements read one another.
 
 ghost use Rattle.ja_grammar.specs.Contexts.{context_of};
 ghost use Rattle.ja_grammar.specs.Input.{Follows};
-ghost use Rattle.ja_grammar.specs.ReadExpression.{expression_part};
 ghost use Rattle.ja_grammar.specs.ReadStatement as spec;
 ghost use Rattle.ja_grammar.specs.ReadStatement.{below};
 
 use crate::grammar::Grammar;
 use ja_cursor::{Cursor, Held, program_context};
-use ja_grammar::{Context, ExpressionPart, StatementPart, Stop};
-use ja_syntax::{Expression, Statement};
+use ja_grammar::{Context, StatementPart, Stop};
+use ja_syntax::Statement;
 use sqlite_items::Items;
 use std::alloc::Global;
 
 /// How many levels a program has.
 const MAX_LEVELS: usize = 200;
-
-/// Reads a part of an expression where `depth` levels are left.
-#[cycle(parser)]
-fn expression_at(
-    alloc: Global,
-    cursor: &mut Cursor<'_>,
-    depth: usize,
-    part: ExpressionPart,
-) -> Result<Held<Expression>, Stop>
-    ensures { Follows (expression_part depth (below depth) part cursor.old) result cursor.new }
-{
-    Grammar {
-        alloc,
-        depth,
-        expression: expression_at,
-        statement: statement_at,
-    }
-    .expression_part(cursor, part)
-}
 
 /// Reads a part of a statement where `depth` levels are left.
 #[cycle(parser)]
@@ -49,7 +29,6 @@ fn statement_at(
     Grammar {
         alloc,
         depth,
-        expression: expression_at,
         statement: statement_at,
     }
     .statement_part(cursor, context, part)
@@ -66,7 +45,6 @@ pub fn read_program(alloc: Global, cursor: &mut Cursor<'_>) -> Result<Items<Stat
     Grammar {
         alloc,
         depth: MAX_LEVELS,
-        expression: expression_at,
         statement: statement_at,
     }
     .program_statements(cursor, &context)

@@ -11,17 +11,17 @@ ghost use Rattle.ja_grammar.specs.ReadStatement as spec;
 ghost use Rattle.ja_grammar.specs.ReadStatement.{below};
 ghost use Rattle.ja_grammar.specs.declared.part.ExpressionPart.TheVariants as of_expression;
 ghost use Rattle.ja_grammar.specs.declared.part.StatementPart.TheVariants as part;
-ghost use Rattle.ja_parse.specs.Nests.{Nests};
+ghost use Rattle.ja_parse_expressions.specs.Nests.{Nests};
 
 use crate::grammar::Grammar;
-use ja_cursor::{Cursor, Held, is_label};
+use ja_cursor::{Cursor, Held, break_statement, continue_statement, empty_statement, is_label};
 use ja_grammar::{Context, ExpressionPart, Refusal, StatementPart, Stop};
+use ja_parse_expressions::function;
 use ja_syntax::{Expression, Statement, Symbol};
 use sqlite_items::Items;
 use std::alloc::Global;
 
 impl<
-    F: Fn(Global, &mut Cursor<'_>, usize, ExpressionPart) -> Result<Held<Expression>, Stop>,
     G: Fn(
         Global,
         &mut Cursor<'_>,
@@ -29,7 +29,7 @@ impl<
         &Context<'_>,
         StatementPart,
     ) -> Result<Held<Statement>, Stop>,
-> Grammar<F, G> {
+> Grammar<G> {
     /// Reads a word that counts, and what stands behind it.
     fn headed(
         &self,
@@ -37,7 +37,7 @@ impl<
         context: &Context<'_>,
         part: StatementPart,
     ) -> Result<Held<Statement>, Stop>
-        requires { Nests self.now.depth (F.pre self.now.expression) (F.post self.now.expression) (G.pre self.now.statement) (G.post self.now.statement) }
+        requires { Nests self.now.depth (G.pre self.now.statement) (G.post self.now.statement) }
         ensures { Follows (spec.headed self.now.depth (below self.now.depth) (context_of context.now) part cursor.old) result cursor.new }
     {
         cursor.enter(self.depth)?;
@@ -50,16 +50,14 @@ impl<
         cursor: &mut Cursor<'_>,
         outermost: bool,
     ) -> Result<Held<Statement>, Stop>
-        requires { Nests self.now.depth (F.pre self.now.expression) (F.post self.now.expression) (G.pre self.now.statement) (G.post self.now.statement) }
+        requires { Nests self.now.depth (G.pre self.now.statement) (G.post self.now.statement) }
         ensures { Follows (spec.function_statement self.now.depth (below self.now.depth) outermost cursor.old) result cursor.new }
     {
         if !outermost {
             return Err(Stop::Refused(Refusal::Unexpected));
         }
-        Ok(Held::new(
-            self.alloc,
-            Statement::Function(self.function(cursor, true)?),
-        )?)
+        let found = function(self.alloc, cursor, self.depth, &self.statement, true)?;
+        Ok(Held::new(self.alloc, Statement::Function(found))?)
     }
 
     /// Reads a block statement (12.1).
@@ -68,22 +66,12 @@ impl<
         cursor: &mut Cursor<'_>,
         context: &Context<'_>,
     ) -> Result<Held<Statement>, Stop>
-        requires { Nests self.now.depth (F.pre self.now.expression) (F.post self.now.expression) (G.pre self.now.statement) (G.post self.now.statement) }
+        requires { Nests self.now.depth (G.pre self.now.statement) (G.post self.now.statement) }
         ensures { Follows (spec.single_by self.now.depth (below self.now.depth) (context_of context.now) 0 false (head cursor.old) k.OpenBrace cursor.old) result cursor.new }
     {
         let place = cursor.place();
         let body = self.block(cursor, context)?;
         Ok(Held::new(self.alloc, Statement::Block { body, place })?)
-    }
-
-    /// Reads an empty statement (12.3).
-    fn empty_statement(&self, cursor: &mut Cursor<'_>) -> Result<Held<Statement>, Stop>
-        requires { Nests self.now.depth (F.pre self.now.expression) (F.post self.now.expression) (G.pre self.now.statement) (G.post self.now.statement) }
-        ensures { Follows (spec.single_by self.now.depth (below self.now.depth) contexts.program_context 0 false (head cursor.old) k.Semicolon cursor.old) result cursor.new }
-    {
-        let place = cursor.place();
-        cursor.take();
-        Ok(Held::new(self.alloc, Statement::Empty { place })?)
     }
 
     /// Reads a statement, which `labels` labels stand directly before; `outermost`: it stands directly
@@ -96,20 +84,20 @@ impl<
         labels: usize,
         outermost: bool,
     ) -> Result<Held<Statement>, Stop>
-        requires { Nests self.now.depth (F.pre self.now.expression) (F.post self.now.expression) (G.pre self.now.statement) (G.post self.now.statement) }
+        requires { Nests self.now.depth (G.pre self.now.statement) (G.post self.now.statement) }
         ensures { Follows (spec.single self.now.depth (below self.now.depth) (context_of context.now) labels outermost cursor.old) result cursor.new }
     {
         let place = cursor.place();
         match cursor.symbol() {
             Symbol::OpenBrace => self.block_statement(cursor, context),
             Symbol::Var => self.variables(cursor),
-            Symbol::Semicolon => self.empty_statement(cursor),
+            Symbol::Semicolon => empty_statement(self.alloc, cursor),
             Symbol::If => self.headed(cursor, context, StatementPart::If { place }),
             Symbol::Do => self.headed(cursor, context, StatementPart::Do { place, labels }),
             Symbol::While => self.headed(cursor, context, StatementPart::While { place, labels }),
             Symbol::For => self.headed(cursor, context, StatementPart::For { place, labels }),
-            Symbol::Continue => self.continue_statement(cursor, context),
-            Symbol::Break => self.break_statement(cursor, context),
+            Symbol::Continue => continue_statement(self.alloc, cursor, context),
+            Symbol::Break => break_statement(self.alloc, cursor, context),
             Symbol::Return => self.return_statement(cursor, context),
             Symbol::Switch => self.switch_statement(cursor, context),
             Symbol::Throw => self.throw_statement(cursor),
@@ -134,7 +122,7 @@ impl<
         context: &Context<'_>,
         part: StatementPart,
     ) -> Result<Held<Statement>, Stop>
-        requires { Nests self.now.depth (F.pre self.now.expression) (F.post self.now.expression) (G.pre self.now.statement) (G.post self.now.statement) }
+        requires { Nests self.now.depth (G.pre self.now.statement) (G.post self.now.statement) }
         ensures { Follows (spec.statement_part self.now.depth (below self.now.depth) (context_of context.now) part cursor.old) result cursor.new }
     {
         match part {
@@ -156,7 +144,7 @@ impl<
         cursor: &mut Cursor<'_>,
         context: &Context<'_>,
     ) -> Result<Items<Statement>, Stop>
-        requires { Nests self.now.depth (F.pre self.now.expression) (F.post self.now.expression) (G.pre self.now.statement) (G.post self.now.statement) }
+        requires { Nests self.now.depth (G.pre self.now.statement) (G.post self.now.statement) }
         ensures { Follows (until spec.is_end (spec.single self.now.depth (below self.now.depth) (context_of context.now) 0 true) cursor.old) result cursor.new }
     {
         let mut found = Items::new(self.alloc);

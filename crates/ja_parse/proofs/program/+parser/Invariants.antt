@@ -1,7 +1,4 @@
 use Rattle.ja_parse.proofs.program.+parser.Given as goal
 
-abbrev pub decreases-expression_at : goal.decreases-expression_at
-decreases-expression_at l = l.depth
-
 abbrev pub decreases-statement_at : goal.decreases-statement_at
 decreases-statement_at l = l.depth

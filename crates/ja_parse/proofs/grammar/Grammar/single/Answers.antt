@@ -7,11 +7,11 @@ use Rattle.ja_parse.proofs.grammar.Grammar.single.Goals as goal
 
 pub returns-in-Continue : goal.returns-in-Continue
 returns-in-Continue g c =
-    subst (λ o. Follows o c.continue_statement.result c.continue_statement.new.cursor) (sym (continue_is c.args.self.now.depth (below c.args.self.now.depth) (context_of c.args.context.now) c.args.labels c.args.outermost c.args.cursor.now (sym c.symbol.ensures ∙ c.in-Continue.is))) c.continue_statement.ensures
+    subst (λ o. Follows o c.continue_statement.result c.continue_statement.new.cursor) (sym (continue_is c.args.self.now.depth (below c.args.self.now.depth) (context_of c.args.context.now) c.args.labels c.args.outermost c.args.cursor.now (sym c.symbol.ensures ∙ c.in-Continue.is))) (c.continue_statement.ensures c.args.self.now.depth (below c.args.self.now.depth))
 
 pub returns-in-Break : goal.returns-in-Break
 returns-in-Break g c =
-    subst (λ o. Follows o c.break_statement.result c.break_statement.new.cursor) (sym (break_is c.args.self.now.depth (below c.args.self.now.depth) (context_of c.args.context.now) c.args.labels c.args.outermost c.args.cursor.now (sym c.symbol.ensures ∙ c.in-Break.is))) c.break_statement.ensures
+    subst (λ o. Follows o c.break_statement.result c.break_statement.new.cursor) (sym (break_is c.args.self.now.depth (below c.args.self.now.depth) (context_of c.args.context.now) c.args.labels c.args.outermost c.args.cursor.now (sym c.symbol.ensures ∙ c.in-Break.is))) (c.break_statement.ensures c.args.self.now.depth (below c.args.self.now.depth))
 
 pub returns-in-Return : goal.returns-in-Return
 returns-in-Return g c =
