@@ -1,3 +1,5 @@
 pub mod MovingLemmas
 pub mod CopyLemmas
 pub mod PartLemmas
+pub mod KeptLemmas
+pub mod Walks

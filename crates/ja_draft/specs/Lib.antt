@@ -4,3 +4,5 @@ pub mod Copies
 pub mod Parts
 pub mod Sources
 pub mod Laws
+pub mod Listed
+pub mod Kept

@@ -1,43 +1,51 @@
 //! The listing of a function, as it is written.
 
-ghost use Rattle.std.specs.Prelude.{◌≡◌, ◌+◌, ◌∷◌, ◌++◌, [], map, OnOk, IfOk, None, Some};
+ghost use Rattle.std.specs.Prelude.{◌≡◌, ◌≤◌, ◌<◌, ◌+◌, ◌∷◌, ◌++◌, [], length, min, map, OnOk, OnErr, IfOk, None, Some};
 ghost use Rattle.ja_listing.specs.declared.item.Item.TheVariants as item;
-ghost use Rattle.ja_listing.specs.Listing.{node_count, begins_with_node};
+ghost use Rattle.ja_listing.specs.Listing.{node_count, begins_with_node, block_of};
 ghost use Rattle.ja_draft.specs.Lines as lines;
-ghost use Rattle.ja_draft.specs.Parts.{line_of, lines_of, counted};
+ghost use Rattle.ja_draft.specs.Parts.{line_of, lines_of, moved_by, counted};
 
-use crate::part::{Part, begins_with_node, lines};
+use crate::listed::{Growth, Listed};
+use crate::moves::Moves;
+use crate::part::{Part, is_node, lines};
 use ja_base::{Memory, Place, Reg};
 use ja_graph::Node;
 use ja_listing::{Item, Spot};
 use std::alloc::Global;
 use std::marker::Model;
 
-/// The most lines behind which a copy is added.
+/// The most lines that are kept behind which a copy is added.
 const MOST_LINES: usize = 16_777_216;
 
+/// The most nodes of a listing whose lines are kept. A longer one is in no graph.
+pub(crate) const MOST_NODES: u32 = 65_536;
+
 /// A listing so far, with how many nodes it has and the numbers of its next temporary and its next
-/// spot. Copies of blocks aren't written out.
+/// spot. Copies of blocks aren't written out. Of a listing with more than 65,536 nodes only these
+/// numbers are known, and whether it begins with a node.
 #[derive(Drop)]
 pub struct Draft {
+    /// All lines, which only contracts see.
+    listed: Listed,
+    /// The part of each line, unless there are more than 65,536 nodes.
     parts: Vec<Part>,
+    /// Whether the first line that is no spot is a node, if there is one.
+    begins: Option<bool>,
     nodes: u32,
     temporary: u32,
     spot: u32,
 }
 
 impl Model for Draft {
-    ghost use Rattle.std.specs.Prelude.{◌≡◌};
     ghost use Rattle.ja_draft.specs.Lines as lines;
-    ghost use Rattle.ja_draft.specs.Parts.{lines_of};
-    ghost use Rattle.ja_listing.specs.Listing.{node_count};
-    ghost use Rattle.ja_draft.specs.Parts.{counted};
+    ghost use Rattle.ja_draft.specs.Kept.{IsKept};
 
     ghost Value = { lines.Listing };
 
-    ghost view = { λ d. record { items = lines_of d.parts.items; temporary = d.temporary; spot = d.spot } };
+    ghost view = { λ d. record { items = d.listed.lines; temporary = d.temporary; spot = d.spot } };
 
-    ghost invariant = { λ d. d.nodes ≡ counted (lines_of d.parts.items) };
+    ghost invariant = { λ d. IsKept d.listed.lines d.nodes d.begins d.parts.items };
 }
 
 /// Parts, and further ones behind them.
@@ -50,6 +58,18 @@ fn joined(mut parts: Vec<Part>, behind: Vec<Part>) -> Result<Vec<Part>, Memory>
     Ok(parts)
 }
 
+/// Puts a part behind others, unless there are more nodes with it than in a listing that is kept.
+fn keep(parts: &mut Vec<Part>, part: Part, nodes: u32) -> Result<(), Memory>
+    ensures kept { OnOk result (nodes ≤ 65536 → parts.new.items ≡ parts.old.items ++ part ∷ []) }
+    ensures stays { OnErr result (parts.new.items ≡ parts.old.items) }
+{
+    if nodes > MOST_NODES {
+        return Ok(());
+    }
+    parts.push(part)?;
+    Ok(())
+}
+
 impl Draft {
     /// An empty listing, whose temporaries and spots begin at these numbers.
     #[tactic(auto, unfolding(ja_listing::specs::Listing::node_count))]
@@ -57,7 +77,9 @@ impl Draft {
         ensures { result ≡ record { items = []; temporary = temporary; spot = spot } }
     {
         Draft {
+            listed: Listed::grown(&Growth::Nothing),
             parts: Vec::new(alloc),
+            begins: None,
             nodes: 0,
             temporary,
             spot,
@@ -79,17 +101,22 @@ impl Draft {
     }
 
     /// Adds a part, which has so many nodes.
-    #[tactic(auto, using(crate::proofs::PartLemmas::count_more))]
     fn part(&mut self, part: Part, nodes: u32) -> Result<(), Memory>
         requires { nodes ≡ counted (line_of part ∷ []) }
         ensures { lines.Adds (lines.with_item self.old (line_of part)) result self.new }
     {
-        self.parts.push(part)?;
-        self.nodes = self.nodes.saturating_add(nodes);
+        let nodes = self.nodes.saturating_add(nodes);
+        let begins = self.begins.or(is_node(&part));
+        let listed = Listed::grown(&Growth::With(&self.listed, &part));
+        keep(&mut self.parts, part, nodes)?;
+        self.listed = listed;
+        self.begins = begins;
+        self.nodes = nodes;
         Ok(())
     }
 
-    /// Adds a copy of a block, which has so many nodes. Behind 16,777,216 lines memory counts as refused.
+    /// Adds a copy of a block, which has so many nodes. Behind 16,777,216 lines that are kept memory counts
+    /// as refused.
     pub(crate) fn copy(&mut self, copy: Part, nodes: u32) -> Result<(), Memory>
         requires { nodes ≡ counted (line_of copy ∷ []) }
         ensures { lines.Adds (lines.with_item self.old (line_of copy)) result self.new }
@@ -98,6 +125,17 @@ impl Draft {
             return Err(Memory);
         }
         self.part(copy, nodes)
+    }
+
+    /// Adds a copy of a block with more nodes than a listing may have whose lines are kept.
+    pub(crate) fn long_copy(&mut self, block: &Listed, moves: Moves, nodes: u32)
+        requires long { 65536 < nodes }
+        requires counted { nodes ≡ min (length (block_of block.now.lines).nodes) 4294967295 }
+        ensures { self.new ≡ lines.with_item self.old (item.Copy (moved_by moves (block_of block.now.lines))) }
+    {
+        self.nodes = self.nodes.saturating_add(nodes);
+        self.begins = self.begins.or(Some(false));
+        self.listed = Listed::grown(&Growth::WithCopy(&self.listed, block, moves));
     }
 
     /// Takes the next temporary. Past the last number that a register may have memory counts as refused.
@@ -215,45 +253,44 @@ impl Draft {
     pub fn begins_with_node(&self) -> bool
         ensures { result ≡ begins_with_node self.now.items }
     {
-        begins_with_node(&self.parts)
+        self.begins.unwrap_or(false)
     }
 
     /// This listing with another one behind it, whose temporaries and spots go on.
-    #[tactic(auto, using(crate::proofs::PartLemmas::count_parts))]
     pub fn then(self, listing: Draft) -> Result<Draft, Memory>
         ensures { IfOk result (λ whole. whole ≡ record listing { items = self.items ++ listing.items }) }
     {
-        let Draft {
-            parts,
-            nodes: before,
-            ..
-        } = self;
-        let Draft {
-            parts: behind,
-            nodes,
-            temporary,
-            spot,
-        } = listing;
-        let parts = joined(parts, behind)?;
+        let listed = Listed::grown(&Growth::Both(&self.listed, &listing.listed));
+        let parts = joined(self.parts, listing.parts)?;
         Ok(Draft {
+            listed,
             parts,
-            nodes: before.saturating_add(nodes),
-            temporary,
-            spot,
+            begins: self.begins.or(listing.begins),
+            nodes: self.nodes.saturating_add(listing.nodes),
+            temporary: listing.temporary,
+            spot: listing.spot,
         })
     }
 
-    /// The parts, and how many nodes they have, or 4,294,967,295 where they have more.
-    pub(crate) fn into_parts(self) -> (Vec<Part>, u32)
-        ensures items { lines_of result.0.items ≡ self.items }
-        ensures nodes { result.1 ≡ counted self.items }
+    /// The lines, their parts, which are kept of at most 65,536 nodes, and how many nodes there are, or
+    /// 4,294,967,295 where there are more.
+    pub(crate) fn into_parts(self) -> (Listed, Vec<Part>, u32)
+        ensures lines { result.0.lines ≡ self.items }
+        ensures parts { result.2 ≤ 65536 → lines_of result.1.items ≡ self.items }
+        ensures nodes { result.2 ≡ counted self.items }
     {
-        let Draft { parts, nodes, .. } = self;
-        (parts, nodes)
+        let Draft {
+            listed,
+            parts,
+            nodes,
+            ..
+        } = self;
+        (listed, parts, nodes)
     }
 
-    /// The lines, with the nodes of the copies written out.
+    /// The lines of a listing with at most 65,536 nodes, with the nodes of the copies written out.
     pub fn into_items(self, alloc: Global) -> Result<Vec<Item>, Memory>
+        requires { node_count self.items ≤ 65536 }
         ensures { IfOk result (λ items. items.items ≡ self.items) }
     {
         lines(alloc, &self.parts)

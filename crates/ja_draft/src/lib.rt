@@ -4,6 +4,7 @@
 pub mod conversion;
 mod draft;
 pub mod laws;
+mod listed;
 mod moves;
 mod moving;
 mod part;

@@ -116,7 +116,7 @@ pub(crate) fn lines(alloc: Global, parts: &[Part]) -> Result<Vec<Item>, Memory>
 
 /// Whether a line is a node, unless it is a spot.
 #[tactic(auto, unfolding(ja_listing::specs::Listing::begins_with_node), using(crate::proofs::PartLemmas::of_node, crate::proofs::PartLemmas::of_spot, crate::proofs::PartLemmas::of_jump, crate::proofs::PartLemmas::of_written, crate::proofs::PartLemmas::of_copy))]
-fn is_node(part: &Part) -> Option<bool>
+pub(crate) fn is_node(part: &Part) -> Option<bool>
     ensures { (items : List Item) → begins_with_node (spec.line_of part.now ∷ items) ≡ unwrap_or result (begins_with_node items) }
 {
     match part {
@@ -124,17 +124,4 @@ fn is_node(part: &Part) -> Option<bool>
         Part::Spot(_) => None,
         Part::Jump(_) | Part::Written { .. } | Part::Copy { .. } => Some(false),
     }
-}
-
-/// Whether the first line of parts that is no spot is a node.
-#[tactic(auto, unfolding(ja_listing::specs::Listing::begins_with_node))]
-pub(crate) fn begins_with_node(parts: &[Part]) -> bool
-    ensures { result ≡ begins_with_node (spec.lines_of parts.now) }
-{
-    for part in parts {
-        if let Some(is_node) = is_node(part) {
-            return is_node;
-        }
-    }
-    false
 }

@@ -1,14 +1,12 @@
 //! The block of a `finally`, and its copies.
 
-ghost use Rattle.std.specs.Prelude.{◌≡◌, length, IfOk};
-ghost use Rattle.ja_listing.specs.declared.item.Item.TheVariants as item;
+ghost use Rattle.std.specs.Prelude.{◌≡◌, IfOk};
 ghost use Rattle.ja_listing.specs.Listing.{block_of};
 ghost use Rattle.ja_draft.specs.Lines as lines;
 ghost use Rattle.ja_draft.specs.Copies as copies;
-ghost use Rattle.ja_draft.specs.Parts.{line_of, moved_by};
-ghost use Rattle.ja_draft.specs.Sources.{source_block};
 
-use crate::draft::Draft;
+use crate::draft::{Draft, MOST_NODES};
+use crate::listed::Listed;
 use crate::moves::Moves;
 use crate::part::{Part, lines};
 use ja_base::{Memory, Reg};
@@ -18,30 +16,13 @@ use std::alloc::Global;
 use std::marker::Model;
 use std::rc::Rc;
 
-/// A block, or the parts that come to it. The copies share it.
+/// A block, or the parts that come to it, which the copies share. Of a block with more than 65,536
+/// nodes nothing is kept.
 #[derive(Drop)]
 pub enum Source {
     Written(Rc<Block>),
     Parts(Rc<Items<Part>>),
-}
-
-impl Source {
-    /// A copy of the block.
-    #[tactic(auto, using(crate::proofs::PartLemmas::of_written, crate::proofs::PartLemmas::of_copy))]
-    fn copy(&self, moves: Moves) -> Result<Part, Memory>
-        ensures { IfOk result (λ part. line_of part ≡ item.Copy (moved_by moves (source_block self.now))) }
-    {
-        match self {
-            Source::Written(block) => Ok(Part::Written {
-                block: block.clone()?,
-                moves,
-            }),
-            Source::Parts(parts) => Ok(Part::Copy {
-                parts: parts.clone()?,
-                moves,
-            }),
-        }
-    }
+    TooLong(Listed),
 }
 
 /// The block of a `finally`, how many nodes it has, or 4,294,967,295 where it has more, and where its
@@ -54,23 +35,19 @@ pub struct Template {
 }
 
 impl Model for Template {
-    ghost use Rattle.std.specs.Prelude.{◌≡◌, length, min};
-    ghost use Rattle.ja_draft.specs.Sources.{source_block};
+    ghost use Rattle.ja_draft.specs.Sources.{source_block, IsSource};
     ghost use Rattle.ja_draft.specs.Copies as copies;
 
     ghost Value = { copies.Template };
 
     ghost view = { λ t. record { block = source_block t.source; temporary = t.temporary } };
 
-    ghost invariant = { λ t. t.nodes ≡ min (length (source_block t.source).nodes) 4294967295 };
+    ghost invariant = { λ t. IsSource t.source t.nodes };
 }
 
 /// The most nodes of a block that is written out once for all its copies. A larger one stays in its
 /// parts, since it may have any number of nodes; few copies of it are ever written out.
 const MOST_WRITTEN: u32 = 4_096;
-
-/// The most nodes of a listing whose blocks are written out. A longer one is in no graph.
-const MOST_AROUND: u32 = 65_536;
 
 impl Template {
     /// The block that was listed, whose temporaries begin at this one, with so many nodes listed around it.
@@ -78,8 +55,10 @@ impl Template {
     pub fn new(alloc: Global, draft: Draft, temporary: u32, around: u32) -> Result<Template, Memory>
         ensures { IfOk result (λ t. t ≡ record { block = block_of draft.items; temporary = temporary }) }
     {
-        let (parts, nodes) = draft.into_parts();
-        let source = if nodes <= MOST_WRITTEN && around <= MOST_AROUND {
+        let (listed, parts, nodes) = draft.into_parts();
+        let source = if nodes > MOST_NODES {
+            Source::TooLong(listed)
+        } else if nodes <= MOST_WRITTEN && around <= MOST_NODES {
             let items = lines(alloc, &parts)?;
             let block = block_of(alloc, items)?;
             Source::Written(Rc::new(alloc, block)?)
@@ -96,8 +75,8 @@ impl Template {
 
 impl Draft {
     /// Adds a copy of a block, whose temporaries begin behind a register. Past the last number of a
-    /// register, and behind 16,777,216 lines, memory counts as refused.
-    #[tactic(auto, unfolding(crate::specs::Copies::with_block), using(crate::proofs::PartLemmas::count_copy))]
+    /// register, and behind 16,777,216 lines that are kept, memory counts as refused.
+    #[tactic(auto, unfolding(crate::specs::Copies::with_block), using(crate::proofs::PartLemmas::of_written, crate::proofs::PartLemmas::of_copy, crate::proofs::PartLemmas::count_written, crate::proofs::PartLemmas::count_copy))]
     pub fn block(&mut self, template: &Template, above: Reg) -> Result<(), Memory>
         ensures { lines.Adds (copies.with_block template.now above self.old) result self.new }
     {
@@ -109,7 +88,20 @@ impl Draft {
             above,
             by: base.saturating_sub(template.temporary),
         };
-        let copy = template.source.copy(moves)?;
-        self.copy(copy, template.nodes)
+        let nodes = template.nodes;
+        match &template.source {
+            Source::Written(block) => {
+                let block = block.clone()?;
+                self.copy(Part::Written { block, moves }, nodes)
+            }
+            Source::Parts(parts) => {
+                let parts = parts.clone()?;
+                self.copy(Part::Copy { parts, moves }, nodes)
+            }
+            Source::TooLong(block) => {
+                self.long_copy(block, moves, nodes);
+                Ok(())
+            }
+        }
     }
 }
