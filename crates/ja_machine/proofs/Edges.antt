@@ -26,6 +26,7 @@ use Rattle.ja_graph.specs.declared.program.Class.TheVariants as class
 use Rattle.ja_graph.specs.declared.program.Program.{Program}
 use Rattle.ja_graph.specs.Node.{may_throw}
 use Rattle.ja_graph.specs.Program.{node_at, global}
+use Rattle.ja_prim.specs.Texts.{is_short}
 use Rattle.ja_machine.specs.declared.machine.Addr.{Addr}
 use Rattle.ja_machine.specs.declared.machine.Value.{Value}
 use Rattle.ja_machine.specs.declared.machine.Value.TheVariants as value
@@ -48,13 +49,13 @@ use Rattle.ja_machine.specs.Values.{Outcome, unary, binary, key_of}
 use Rattle.ja_machine.specs.Enumeration.{names}
 use Rattle.ja_machine.specs.Frames.{register_of, thrown, scope, undefined, with_result, with_register, moved_to, with_remaining, entered}
 use Rattle.ja_machine.specs.Objects.{dont_delete, first_of, error_object, empty_object, wrapper, text_length, scope_object}
-use Rattle.ja_machine.specs.Events.{Standing, next_state, goes_on, sets, sets_in, left_scope, is_text_length, throws, throws_value, sets_content, sets_outcome, unbound_message, nothing_message, not_an_object_message, array_length_message, no_function_message, no_prototype_message, not_a_function_message, not_a_constructor_message}
+use Rattle.ja_machine.specs.Events.{Standing, next_state, goes_on, sets, sets_in, left_scope, throws, throws_value, sets_content, sets_outcome, unbound_message, nothing_message, not_an_object_message, array_length_message, no_function_message, no_prototype_message, not_a_function_message, not_a_constructor_message}
 use Rattle.ja_machine.specs.Calls.{Given, given, chain_of, receiver_of, object_in, function_called, function_constructing, enters, calls_with, calls, constructs, stays, default_function, convert_step, constructed, returns, return_step, escape_step}
 use Rattle.ja_machine.specs.Intrinsics.{Row, rows}
 use Rattle.ja_machine.specs.Nodes
 use Rattle.ja_machine.specs.Machine.{fits, wants, frames_step, step}
 use Rattle.ja_machine.specs.State.{enters_functions}
-use Rattle.ja_machine.specs.Runs.{IsSameActivation, IsStep, AreSteps, ObjectsStay}
+use Rattle.ja_machine.specs.Runs.{IsSameActivation, IsStep, ReturnsTo, AreSteps, ObjectsStay}
 use Rattle.ja_machine.proofs.Lists.{either_way}
 use Rattle.ja_machine.proofs.Staying.{AllStay, stay_same, stay_then, stay-with_new, stay-with_object}
 use Rattle.ja_machine.proofs.Writing.{IsRewritten, by_define, by_delete, by_put}
@@ -127,7 +128,7 @@ module _ (p : Program) (s : Standing) (frames_are : s.conf.frames ≡ s.top ∷ 
   throws_along may error prototype message =
       let h : Heap = with_new s.conf.heap error (error_object prototype message) in
       let v : Value = value.Object (new_address s.conf.heap error) in
-      either_way Taken (is_text_length message) (throws_value s h v) (left_scope s scope_kind.TextLength) (λ e. throws_value_along may h v (stay-with_new s.conf.heap error (error_object prototype message))) (λ e. refl)
+      either_way Taken (is_short message) (throws_value s h v) (left_scope s scope_kind.TextLength) (λ e. throws_value_along may h v (stay-with_new s.conf.heap error (error_object prototype message))) (λ e. refl)
 
   content_along : (dst : Reg) (content : Content) → Taken (sets_content s dst content)
   content_along dst (contents.Value v) = sets_along dst v
@@ -348,34 +349,42 @@ module _ (p : Program) (s : Standing) (frames_are : s.conf.frames ≡ s.top ∷ 
   -- ---- how a function is left
 
   module _ (caller : Frame) (below : List Frame) (below_is : s.below ≡ caller ∷ below) (info : NodeInfo) (caller_is : node_at p caller.function caller.node ≡ Some info) where
-    leaves : (r : Reg) (v : Value) (n : NodeId) → (n ≡ info.next) ⊎ (n ≡ info.handler) → Taken (next_state s.conf s.conf.heap (with_result caller r v n ∷ below))
+    leaves : (r : Reg) (v : Value) (n : NodeId) → ReturnsTo s.info.node info n → Taken (next_state s.conf s.conf.heap (with_result caller r v n ∷ below))
     leaves r v n edge =
         let moved : Frame = with_result caller r v n in
         let same : IsSameActivation caller moved = record { function = refl; born = refl; receiver = refl; callee = refl; scope = refl; arguments = refl } in
         let before : s.conf.frames ≡ s.top ∷ caller ∷ below = frames_are ∙ ap (λ (fs : List Frame). s.top ∷ fs) below_is in
-        ((refl, inr (inr (record { top = s.top; caller = caller; below = below; before_is = before; info = info; info_is = caller_is; moved = moved; after_is = refl; same = same; edge = edge }))), stay_same s.conf.heap)
+        ((refl, inr (inr (record { top = s.top; caller = caller; below = below; before_is = before; info = s.info; info_is = info_is; caller_info = info; caller_info_is = caller_is; moved = moved; after_is = refl; same = same; edge = edge }))), stay_same s.conf.heap)
 
-    returns_along : (v : Value) (node : Node) → IsTakenIf p s.conf (returns s caller below v info node)
-    returns_along v (node.Call dst callee receiver args error) = leaves dst v info.next (inl refl)
-    returns_along v (node.New dst callee args site error) = leaves dst (constructed s.top.receiver v) info.next (inl refl)
-    returns_along v (node.Convert dst src hint other) = leaves dst v info.next (inl refl)
-    returns_along v node = tt
+    returns_along : ReturnsTo s.info.node info info.next → (v : Value) (node : Node) → IsTakenIf p s.conf (returns s caller below v info node)
+    returns_along to v (node.Call dst callee receiver args error) = leaves dst v info.next to
+    returns_along to v (node.New dst callee args site error) = leaves dst (constructed s.top.receiver v) info.next to
+    returns_along to v (node.Convert dst src hint other) = leaves dst v info.next to
+    returns_along to v node = tt
 
-  caller_returns : (v : Value) (caller : Frame) (below : List Frame) → s.below ≡ caller ∷ below → (r : Option NodeInfo) → node_at p caller.function caller.node ≡ r → IsTakenIf p s.conf (option_and_then (λ (info : NodeInfo). returns s caller below v info info.node) r)
-  caller_returns v caller below below_is None is = tt
-  caller_returns v caller below below_is (Some info) is = returns_along caller below below_is info is v info.node
+  module _ (src : Reg) (node_is : s.info.node ≡ node.Return src) where
+    returning : (info : NodeInfo) → ReturnsTo s.info.node info info.next
+    returning info = subst (λ m. ReturnsTo m info info.next) (sym node_is) refl
 
-  return_along : (v : Value) (fs : List Frame) → s.below ≡ fs → IsTakenIf p s.conf (return_step p s fs v)
-  return_along v [] is = refl
-  return_along v (caller ∷ below) is = caller_returns v caller below is (node_at p caller.function caller.node) refl
+    caller_returns : (v : Value) (caller : Frame) (below : List Frame) → s.below ≡ caller ∷ below → (r : Option NodeInfo) → node_at p caller.function caller.node ≡ r → IsTakenIf p s.conf (option_and_then (λ (info : NodeInfo). returns s caller below v info info.node) r)
+    caller_returns v caller below below_is None is = tt
+    caller_returns v caller below below_is (Some info) is = returns_along caller below below_is info is (returning info) v info.node
 
-  caller_catches : (v : Value) (caller : Frame) (below : List Frame) → s.below ≡ caller ∷ below → (r : Option NodeInfo) → node_at p caller.function caller.node ≡ r → IsTakenIf p s.conf (option_map (λ (info : NodeInfo). next_state s.conf s.conf.heap (with_result caller thrown v info.handler ∷ below)) r)
-  caller_catches v caller below below_is None is = tt
-  caller_catches v caller below below_is (Some info) is = leaves caller below below_is info is thrown v info.handler (inr refl)
+    return_along : (v : Value) (fs : List Frame) → s.below ≡ fs → IsTakenIf p s.conf (return_step p s fs v)
+    return_along v [] is = refl
+    return_along v (caller ∷ below) is = caller_returns v caller below is (node_at p caller.function caller.node) refl
 
-  escape_along : (v : Value) (fs : List Frame) → s.below ≡ fs → IsTakenIf p s.conf (escape_step p s fs v)
-  escape_along v [] is = refl
-  escape_along v (caller ∷ below) is = caller_catches v caller below is (node_at p caller.function caller.node) refl
+  module _ (node_is : s.info.node ≡ node.Escape) where
+    escaping : (info : NodeInfo) → ReturnsTo s.info.node info info.handler
+    escaping info = subst (λ m. ReturnsTo m info info.handler) (sym node_is) refl
+
+    caller_catches : (v : Value) (caller : Frame) (below : List Frame) → s.below ≡ caller ∷ below → (r : Option NodeInfo) → node_at p caller.function caller.node ≡ r → IsTakenIf p s.conf (option_map (λ (info : NodeInfo). next_state s.conf s.conf.heap (with_result caller thrown v info.handler ∷ below)) r)
+    caller_catches v caller below below_is None is = tt
+    caller_catches v caller below below_is (Some info) is = leaves caller below below_is info is thrown v info.handler (escaping info)
+
+    escape_along : (v : Value) (fs : List Frame) → s.below ≡ fs → IsTakenIf p s.conf (escape_step p s fs v)
+    escape_along v [] is = refl
+    escape_along v (caller ∷ below) is = caller_catches v caller below is (node_at p caller.function caller.node) refl
 
   -- ---- each kind of node
 
@@ -416,8 +425,8 @@ module _ (p : Program) (s : Standing) (frames_are : s.conf.frames ≡ s.top ∷ 
   node_along answer (node.Names list object) is = names_along list (register_of s.top object)
   node_along answer (node.Pick list dst object) is = pick_step_along list dst answer (register_of s.top object)
   node_along answer (node.Throw src) is = throws_value_along (may _ is refl) s.conf.heap (register_of s.top src) (stay_same s.conf.heap)
-  node_along answer (node.Return src) is = return_along (register_of s.top src) s.below refl
-  node_along answer node.Escape is = escape_along (register_of s.top thrown) s.below refl
+  node_along answer (node.Return src) is = return_along src is (register_of s.top src) s.below refl
+  node_along answer node.Escape is = escape_along is (register_of s.top thrown) s.below refl
   node_along answer (node.Intrinsic dst which args) is = intrinsic_along dst which (map (register_of s.top) args)
   node_along answer (node.Device dst which) is = device_along dst answer
   node_along answer (node.Stop kind) is = refl

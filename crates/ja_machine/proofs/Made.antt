@@ -7,12 +7,12 @@ use Rattle.std.proofs.lemmas.Bool.{false≢true}
 use Rattle.std.proofs.lemmas.Option.{same_Some}
 use Rattle.ja_graph.specs.declared.program.Program.{Program}
 use Rattle.ja_graph.specs.Node.{Making}
+use Rattle.ja_prim.specs.Texts.{same_text}
 use Rattle.ja_machine.specs.declared.machine.Addr.{Addr}
 use Rattle.ja_machine.specs.declared.machine.Value.{Value}
 use Rattle.ja_machine.specs.declared.machine.Property.{Property}
 use Rattle.ja_machine.specs.declared.machine.Object.{Object}
 use Rattle.ja_machine.specs.declared.machine.Heap.{Heap}
-use Rattle.ja_machine.specs.Heap.{same_text}
 use Rattle.ja_machine.specs.Frames.{argument}
 use Rattle.ja_machine.specs.Objects.{dont_delete, property_with, with_flag, first_flag, with_property, with_parameters, argument_elements}
 use Rattle.ja_machine.specs.State.{IsObjectOf, IsValueOf, IsContentOf}

@@ -16,6 +16,7 @@ use Rattle.ja_graph.specs.declared.program.Program.{Program}
 use Rattle.ja_graph.specs.Node.{argument_registers}
 use Rattle.ja_graph.specs.Program.{global}
 use Rattle.ja_graph.specs.WellFormed.{IsWellFormed, IsRegister}
+use Rattle.ja_prim.specs.Texts.{same_text}
 use Rattle.ja_machine.specs.declared.machine.Addr.{Addr}
 use Rattle.ja_machine.specs.declared.machine.Value.{Value}
 use Rattle.ja_machine.specs.declared.machine.Value.TheVariants as value
@@ -25,7 +26,7 @@ use Rattle.ja_machine.specs.declared.machine.Property.{Property}
 use Rattle.ja_machine.specs.declared.machine.Object.{Object}
 use Rattle.ja_machine.specs.declared.machine.Heap.{Heap}
 use Rattle.ja_machine.specs.declared.machine.Frame.{Frame}
-use Rattle.ja_machine.specs.Heap.{size, object_at, class_at, property_of, own, or_else, first_own, get, content_at, has, same_text, prototypes, scopes}
+use Rattle.ja_machine.specs.Heap.{size, object_at, class_at, property_of, own, or_else, first_own, get, content_at, has, prototypes, scopes}
 use Rattle.ja_machine.specs.Writes.{length_name}
 use Rattle.ja_machine.specs.Frames.{undefined, register_of}
 use Rattle.ja_machine.specs.Objects.{first_of, index_text}

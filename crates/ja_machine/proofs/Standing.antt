@@ -19,6 +19,7 @@ use Rattle.ja_graph.specs.declared.program.Program.{Program}
 use Rattle.ja_graph.specs.Node.{making, makings, register_set}
 use Rattle.ja_graph.specs.Program.{node_at}
 use Rattle.ja_graph.specs.WellFormed.{IsWellFormed, IsFunctionWellFormed, IsNodeWellFormed, IsFunction, IsRegister, IsDestination, fixed_registers}
+use Rattle.ja_prim.specs.Texts.{is_short}
 use Rattle.ja_machine.specs.declared.machine.Addr.{Addr}
 use Rattle.ja_machine.specs.declared.machine.Value.{Value}
 use Rattle.ja_machine.specs.declared.machine.Value.TheVariants as value
@@ -31,7 +32,7 @@ use Rattle.ja_machine.specs.declared.machine.Event.TheVariants as event
 use Rattle.ja_machine.specs.Heap.{count, with_new, new_address}
 use Rattle.ja_machine.specs.Frames.{register_of, thrown, scope, with_result, with_register}
 use Rattle.ja_machine.specs.Objects.{error_object, prototype_of_error}
-use Rattle.ja_machine.specs.Events.{Standing, next_state, goes_on, sets_in, sets, left_scope, is_text_length, throws_value, throws}
+use Rattle.ja_machine.specs.Events.{Standing, next_state, goes_on, sets_in, sets, left_scope, throws_value, throws}
 use Rattle.ja_machine.specs.Calls.{chain_of, enters, constructed, returns, return_step, escape_step}
 use Rattle.ja_machine.specs.Nodes.{enters_scope}
 use Rattle.ja_machine.specs.State.{IsObjectOf, IsValueOf, IsHeap, IsFrame, AreFrames, enters_functions, AreWaiting, IsWaiting, IsLowest, IsState}
@@ -192,7 +193,7 @@ module _ (p : Program) (good : IsWellFormed p) (s : Standing) (here : IsAt p s) 
       let fits : IsFitting p h error o = fitting p h (making error class.Error) o made refl tt (error_prototype_there p good h here.heap kind) tt in
       let k : IsKept p h now = kept-with_new p h error o here.heap fits (tt, tt) in
       let v : Value = value.Object (new_address h error) in
-      either_way Kept (is_text_length message) (throws_value s now v) (left_scope s scope_kind.TextLength) (λ e. throws_value_kept now k v (new_there h error o (row p h error o (linked_of p h here.heap) fits))) (λ e. tt)
+      either_way Kept (is_short message) (throws_value s now v) (left_scope s scope_kind.TextLength) (λ e. throws_value_kept now k v (new_there h error o (row p h error o (linked_of p h here.heap) fits))) (λ e. tt)
 
   -- ---- how a function is left
 

@@ -5,6 +5,7 @@ use Rattle.std.specs.List.{AllByRecursion}
 use Rattle.std.specs.Option.{option_map_or}
 use Rattle.ja_graph.specs.declared.attrs.Attrs.{Attrs}
 use Rattle.ja_prim.specs.Conversions.{to_number, index_of}
+use Rattle.ja_prim.specs.Texts.{same_text}
 use Rattle.ja_machine.specs.declared.machine.Addr.{Addr}
 use Rattle.ja_machine.specs.declared.machine.Value.{Value}
 use Rattle.ja_machine.specs.declared.machine.Value.TheVariants as value
@@ -14,7 +15,7 @@ use Rattle.ja_machine.specs.declared.machine.Property.{Property}
 use Rattle.ja_machine.specs.declared.machine.Object.{Object}
 use Rattle.ja_machine.specs.declared.machine.Heap.{Heap}
 use Rattle.ja_machine.specs.declared.machine.Put.TheVariants as put_ends
-use Rattle.ja_machine.specs.Heap.{same_text, object_at, with_object, can_put, is_shared}
+use Rattle.ja_machine.specs.Heap.{object_at, with_object, can_put, is_shared}
 use Rattle.ja_machine.specs.Writes.{with_value, with_definition, without, object_with_value, changed, define, can_delete, delete, length_name, whole_number, length_of, grown, with_element, unsigned_number, is_cut, with_length, Written, written, put_length, put_length_value, put_array, is_array, put_own, put}
 use Rattle.ja_machine.proofs.Lists.{either_way, all_filter}
 use Rattle.ja_machine.proofs.Heaps.{of_object}

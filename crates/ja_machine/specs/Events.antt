@@ -1,12 +1,12 @@
 -- What a step comes to: a state that goes on, an error that is thrown, or an end.
-use Rattle.std.specs.Prelude.{ℕ, ◌+◌, Bool, if◌then◌else◌, nat_le, List, ◌∷◌, ◌++◌, length, Some, None, Ok, Err}
+use Rattle.std.specs.Prelude.{ℕ, ◌+◌, if◌then◌else◌, List, ◌∷◌, ◌++◌, Some, None, Ok, Err}
 use lib.Chars.{codes}
 use Rattle.ja_base.specs.declared.ids.Reg.{Reg}
 use Rattle.ja_base.specs.declared.ids.Site.{Site}
 use Rattle.ja_base.specs.declared.ids.ScopeKind.{ScopeKind}
 use Rattle.ja_base.specs.declared.ids.ScopeKind.TheVariants.{TextLength, Register, Row}
 use Rattle.ja_graph.specs.declared.node.NodeInfo.{NodeInfo}
-use Rattle.ja_prim.specs.Texts.{max_units}
+use Rattle.ja_prim.specs.Texts.{is_short}
 use Rattle.ja_machine.specs.declared.machine.Value.{Value}
 use Rattle.ja_machine.specs.declared.machine.Value.TheVariants as value
 use Rattle.ja_machine.specs.declared.machine.Content.{Content}
@@ -52,10 +52,6 @@ sets s dst v = sets_in s s.conf.heap dst v
 abbrev pub left_scope : Standing → ScopeKind → Event
 left_scope s kind = end_state s.conf (ending.Scope kind s.info.place)
 
--- whether there may be a text of these units
-abbrev pub is_text_length : List ℕ → Bool
-is_text_length t = nat_le (length t) max_units
-
 -- the node throws a value: its handler has it in `thrown`
 abbrev pub throws_value : Standing → Heap → Value → Event
 throws_value s h v = next_state s.conf h (with_result s.top thrown v s.info.handler ∷ s.below)
@@ -63,7 +59,7 @@ throws_value s h v = next_state s.conf h (with_result s.top thrown v s.info.hand
 -- the node throws an error, which it makes at a site; a message that is too long leaves the profile
 abbrev pub throws : Standing → Site → Site → List ℕ → Event
 throws s error prototype message =
-    if is_text_length message
+    if is_short message
     then throws_value s (with_new s.conf.heap error (error_object prototype message)) (value.Object (new_address s.conf.heap error))
     else left_scope s TextLength
 

@@ -6,6 +6,7 @@ use Rattle.ja_base.specs.declared.ids.FnId.{FnId}
 use Rattle.ja_base.specs.declared.ids.NodeId.{NodeId}
 use Rattle.ja_base.specs.declared.ids.Reg.{Reg}
 use Rattle.ja_prim.specs.declared.primitive.Primitive.TheVariants.{Undefined}
+use Rattle.ja_prim.specs.Texts.{same_text}
 use Rattle.ja_graph.specs.declared.program.Function.{Function}
 use Rattle.ja_graph.specs.declared.program.Program.{Program}
 use Rattle.ja_machine.specs.declared.machine.Addr.{Addr}
@@ -83,3 +84,8 @@ abbrev pub with_remaining : List Remaining → Reg → List (List ℕ) → List 
 with_remaining [] list names = record { list = list; names = names } ∷ []
 with_remaining (r ∷ rs) list names =
     if r.list.0 == list.0 then record { list = list; names = names } ∷ rs else r ∷ with_remaining rs list names
+
+-- names without the first that is this one; none stands twice among those of a list
+abbrev pub without_first : List (List ℕ) → List ℕ → List (List ℕ)
+without_first [] name = []
+without_first (other ∷ names) name = if same_text other name then names else other ∷ without_first names name

@@ -2,10 +2,10 @@
 use Rattle.std.specs.Prelude.{ℕ, zero, suc, Bool, true, false, not, if◌then◌else◌, nat_eq, List, [], ◌∷◌, ◌++◌, length, slice_get, slice_set, Option, Some, None, is_some, unwrap_or, find}
 use Rattle.std.specs.Option.{option_and_then, option_map, option_map_or}
 use Rattle.std.specs.List.{sum_by}
-use lib.Pointwise.{pointwise}
 use Rattle.ja_base.specs.declared.ids.Site.{Site}
 use Rattle.ja_graph.specs.declared.attrs.Attrs.{Attrs}
 use Rattle.ja_graph.specs.declared.program.Class.{Class}
+use Rattle.ja_prim.specs.Texts.{same_text}
 use Rattle.ja_machine.specs.declared.machine.Addr.{Addr}
 use Rattle.ja_machine.specs.declared.machine.Content.{Content}
 use Rattle.ja_machine.specs.declared.machine.Property.{Property}
@@ -37,9 +37,6 @@ new_address h s = record { site = s; ordinal = count h s }
 -- the heap with another object at an address
 abbrev pub with_object : Heap → Addr → Object → Heap
 with_object h a o = record { objects = slice_set h.objects a.site.0 (slice_set (objects_of h a.site) a.ordinal o) }
-
-abbrev pub same_text : List ℕ → List ℕ → Bool
-same_text = pointwise nat_eq
 
 -- an own property
 abbrev pub property_of : Object → List ℕ → Option Property

@@ -34,11 +34,11 @@ use Rattle.ja_machine.specs.declared.machine.Frame.{Frame}
 use Rattle.ja_machine.specs.declared.machine.Answer.{Answer}
 use Rattle.ja_machine.specs.declared.machine.Answer.TheVariants as answers
 use Rattle.ja_machine.specs.declared.machine.Event.{Event}
-use Rattle.ja_machine.specs.Heap.{own, has, content_at, scopes, prototypes, class_at, same_address, same_text, is_shared, with_new, new_address}
+use Rattle.ja_machine.specs.Heap.{own, has, content_at, scopes, prototypes, class_at, same_address, is_shared, with_new, new_address}
 use Rattle.ja_machine.specs.Writes.{put, define, delete, can_delete, is_array}
 use Rattle.ja_machine.specs.Enumeration.{names, shows}
 use Rattle.ja_machine.specs.Values.{unary, binary, truth, key_of}
-use Rattle.ja_machine.specs.Frames.{undefined, register_of, scope, thrown, moved_to, with_register, parameters_of, object_or_undefined, remaining, with_remaining}
+use Rattle.ja_machine.specs.Frames.{undefined, register_of, scope, thrown, moved_to, with_register, parameters_of, object_or_undefined, remaining, with_remaining, without_first}
 use Rattle.ja_machine.specs.Objects.{dont_delete, first_of, empty_object, wrapper, text_length, scope_object, function_object, prototype_object, sharing, with_parameters, with_property, property_with, arguments_object, activation}
 use Rattle.ja_machine.specs.Events.{Standing, next_state, goes_on, sets, sets_in, left_scope, throws, throws_value, sets_content, sets_outcome, unbound_message, nothing_message, not_an_object_message, array_length_message, no_function_message, no_prototype_message}
 use Rattle.ja_machine.specs.Intrinsics.{Row, rows}
@@ -252,7 +252,7 @@ names_step s list (value.Primitive q) = not_taken s
 -- the name that is taken remains no longer
 abbrev pub takes : Standing → Reg → Reg → List ℕ → Event
 takes s list dst name =
-    let left = filter (λ other. not (same_text other name)) (remaining s.top.lists list) in
+    let left = without_first (remaining s.top.lists list) name in
     let f = with_register (record s.top { lists = with_remaining s.top.lists list left }) dst (value.Primitive (primitive.Text name)) in
     next_state s.conf s.conf.heap (moved_to f s.info.next ∷ s.below)
 

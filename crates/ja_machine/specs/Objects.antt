@@ -15,6 +15,7 @@ use Rattle.ja_prim.specs.declared.primitive.Primitive.{Primitive}
 use Rattle.ja_prim.specs.declared.primitive.Num.TheVariants.{Whole}
 use Rattle.ja_prim.specs.declared.primitive.Primitive.TheVariants.{Number, Text}
 use Rattle.ja_prim.specs.Conversions.{to_text}
+use Rattle.ja_prim.specs.Texts.{same_text}
 use Rattle.ja_machine.specs.declared.machine.Addr.{Addr}
 use Rattle.ja_machine.specs.declared.machine.Value.{Value}
 use Rattle.ja_machine.specs.declared.machine.Value.TheVariants as value
@@ -22,7 +23,7 @@ use Rattle.ja_machine.specs.declared.machine.Content.TheVariants as contents
 use Rattle.ja_machine.specs.declared.machine.Property.{Property}
 use Rattle.ja_machine.specs.declared.machine.Slots.{Slots}
 use Rattle.ja_machine.specs.declared.machine.Object.{Object}
-use Rattle.ja_machine.specs.Heap.{no_attrs, same_text}
+use Rattle.ja_machine.specs.Heap.{no_attrs}
 use Rattle.ja_machine.specs.Writes.{new_property, length_name, whole_number}
 use Rattle.ja_machine.specs.Frames.{argument}
 

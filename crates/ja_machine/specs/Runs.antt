@@ -1,5 +1,8 @@
 -- What holds of every run of a program.
 use Rattle.std.specs.Prelude.{◌≡◌, ◌⊎◌, ◌≤◌, ◌↔◌, ℕ, ◌+◌, true, IsTrue, List, ◌∷◌, slice_get, Option, Some, IsSome}
+use Rattle.ja_base.specs.declared.ids.NodeId.{NodeId}
+use Rattle.ja_graph.specs.declared.node.Node.{Node}
+use Rattle.ja_graph.specs.declared.node.Node.TheVariants as node
 use Rattle.ja_graph.specs.declared.node.NodeInfo.{NodeInfo}
 use Rattle.ja_graph.specs.declared.program.Program.{Program}
 use Rattle.ja_graph.specs.Node.{may_throw}
@@ -63,18 +66,26 @@ pub record EntersFunction (p : Program) (c : Conf) (after : List Frame) : Type 0
   pub first_node : entered.node.0 ≡ 0
   pub born : entered.born ≡ c.steps + 1
 
--- A function is left: its caller goes on behind its node, or to that node's handler.
+-- where the caller goes on, by the node that leaves the function: behind its node after a Return, at its handler after an Escape
+abbrev pub ReturnsTo : Node → NodeInfo → NodeId → Type 0
+ReturnsTo (node.Return src) caller n = n ≡ caller.next
+ReturnsTo node.Escape caller n = n ≡ caller.handler
+ReturnsTo node caller n = ⊥
+
+-- A function is left, by a Return or an Escape: its caller goes on.
 pub record LeavesFunction (p : Program) (before after : List Frame) : Type 0 where
   pub top : Frame
   pub caller : Frame
   pub below : List Frame
   pub before_is : before ≡ top ∷ caller ∷ below
   pub info : NodeInfo
-  pub info_is : node_at p caller.function caller.node ≡ Some info
+  pub info_is : node_at p top.function top.node ≡ Some info
+  pub caller_info : NodeInfo
+  pub caller_info_is : node_at p caller.function caller.node ≡ Some caller_info
   pub moved : Frame
   pub after_is : after ≡ moved ∷ below
   pub same : IsSameActivation caller moved
-  pub edge : (moved.node ≡ info.next) ⊎ (moved.node ≡ info.handler)
+  pub edge : ReturnsTo info.node caller_info moved.node
 
 -- A step counts one more. Where the run goes on, the top frame goes along an edge, enters a function or leaves its own; where it ends,
 -- nothing else changes.

@@ -10,6 +10,7 @@ use Rattle.ja_prim.specs.declared.primitive.Num.TheVariants.{NaN, Whole}
 use Rattle.ja_prim.specs.declared.primitive.Primitive.TheVariants.{Number}
 use Rattle.ja_prim.specs.declared.stop.Stop.{Stop}
 use Rattle.ja_prim.specs.Conversions.{to_number, index_of}
+use Rattle.ja_prim.specs.Texts.{same_text}
 use Rattle.ja_machine.specs.declared.machine.Addr.{Addr}
 use Rattle.ja_machine.specs.declared.machine.Value.{Value}
 use Rattle.ja_machine.specs.declared.machine.Value.TheVariants as value
@@ -20,7 +21,7 @@ use Rattle.ja_machine.specs.declared.machine.Object.{Object}
 use Rattle.ja_machine.specs.declared.machine.Heap.{Heap}
 use Rattle.ja_machine.specs.declared.machine.Put.{Put}
 use Rattle.ja_machine.specs.declared.machine.Put.TheVariants as put_ends
-use Rattle.ja_machine.specs.Heap.{same_text, object_at, own, with_object, property_of, can_put, is_shared, no_attrs}
+use Rattle.ja_machine.specs.Heap.{object_at, own, with_object, property_of, can_put, is_shared, no_attrs}
 
 -- a property that is new: it comes last, and isn't shared
 abbrev pub new_property : List ℕ → Content → Attrs → Property
@@ -55,8 +56,8 @@ define h a name content attrs =
     changed h a (λ o. record o { properties = with_definition o.properties name content attrs })
 
 -- a property is shared from now on, if it is there
-abbrev pub sharing : List ℕ → Property → Property
-sharing name q = if same_text q.name name then record q { shared = true } else q
+abbrev pub shared_from_now : List ℕ → Property → Property
+shared_from_now name q = if same_text q.name name then record q { shared = true } else q
 
 -- [[Delete]] (8.6.2.5): whether it gives true, and the heap behind it
 abbrev pub can_delete : Heap → Addr → List ℕ → Bool

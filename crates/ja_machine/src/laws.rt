@@ -19,8 +19,8 @@ pub fn never_stuck()
 
 /// Each step counts one more. Where the run goes on, the top frame stands at `next`, at `other` or, of
 /// a node that may throw, at `handler` of the node at which it stood; or a function is entered above it;
-/// or it is left, and its caller stands at `next` or `handler` of its node. Where the run ends, the heap
-/// and the frames stay.
+/// or it is left, and its caller stands at `next` of its node after a Return, at `handler` after an Escape.
+/// Where the run ends, the heap and the frames stay.
 pub fn steps_go_along_edges()
     ensures { (p : Program) → AreSteps p }
 {}

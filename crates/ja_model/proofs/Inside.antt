@@ -7,13 +7,14 @@ use Rattle.std.proofs.lemmas.Option.{same_Some}
 use Rattle.ja_prim.specs.declared.primitive.Primitive.{Primitive}
 use Rattle.ja_graph.specs.declared.attrs.Attrs.{Attrs}
 use Rattle.ja_graph.specs.declared.program.Program.{Program}
+use Rattle.ja_prim.specs.Texts.{same_text}
 use Rattle.ja_machine.specs.declared.machine.Addr.{Addr}
 use Rattle.ja_machine.specs.declared.machine.Content.{Content}
 use Rattle.ja_machine.specs.declared.machine.Content.TheVariants as contents
 use Rattle.ja_machine.specs.declared.machine.Property.{Property}
 use Rattle.ja_machine.specs.declared.machine.Object.{Object}
 use Rattle.ja_machine.specs.declared.machine.Heap.{Heap}
-use Rattle.ja_machine.specs.Heap.{object_at, same_text, property_of}
+use Rattle.ja_machine.specs.Heap.{object_at, property_of}
 use Rattle.ja_machine.specs.State.{IsHeap, IsObjectOf, IsContentOf}
 use Rattle.ja_model.specs.declared.abstraction.Slot.TheVariants as slot
 use Rattle.ja_model.specs.Meaning.{missing, Spot, named, internal, content, object_content, content_of, property_content, held_address, held_primitive}

@@ -19,7 +19,7 @@ use Rattle.ja_machine.specs.declared.machine.Value.TheVariants as value
 use Rattle.ja_machine.specs.declared.machine.Object.{Object}
 use Rattle.ja_machine.specs.declared.machine.Heap.{Heap}
 use Rattle.ja_machine.specs.declared.machine.Frame.{Frame}
-use Rattle.ja_machine.specs.Heap.{count, with_new, new_address, same_text, no_attrs}
+use Rattle.ja_machine.specs.Heap.{count, with_new, new_address, no_attrs}
 use Rattle.ja_machine.specs.Frames.{thrown, with_result}
 use Rattle.ja_machine.specs.Objects.{first_of, property_with, error_object}
 use Rattle.ja_machine.specs.Nodes.{name_text}
@@ -30,6 +30,7 @@ use Rattle.ja_model.specs.declared.abstraction.Slot.TheVariants as slot
 use Rattle.ja_model.specs.declared.abstraction.Key.{Key}
 use Rattle.ja_model.specs.declared.abstraction.Key.TheVariants as key
 use Rattle.std.proofs.lemmas.Option.{slice_get_within}
+use Rattle.ja_prim.specs.Texts.{same_text}
 use Rattle.ja_model.specs.AbstractValue.{AbstractValue, AbstractProperty, join_properties, same_label, of_label, bare, absent_property}
 use Rattle.ja_model.specs.AbstractState.{AbstractState, new, old, same_key, with_property, aged, aged_property, made_property, with_made, exactly_some}
 use Rattle.ja_model.specs.Reading.{prototype}

@@ -16,6 +16,7 @@ use Rattle.ja_graph.specs.declared.program.Program.{Program}
 use Rattle.ja_graph.specs.Kinds.{is_built, AreBuilt}
 use Rattle.ja_graph.specs.Program.{global, reference_error_prototype, type_error_prototype}
 use Rattle.ja_graph.specs.WellFormed.{IsWellFormed, IsDestination, IsRegister, IsName, fixed_registers}
+use Rattle.ja_prim.specs.Texts.{is_short}
 use Rattle.ja_machine.specs.declared.machine.Addr.{Addr}
 use Rattle.ja_machine.specs.declared.machine.Value.{Value}
 use Rattle.ja_machine.specs.declared.machine.Value.TheVariants as value
@@ -33,7 +34,7 @@ use Rattle.ja_machine.specs.Writes.{object_with_value, put_own, is_array}
 use Rattle.ja_machine.specs.Writes as writes
 use Rattle.ja_machine.specs.Frames.{register_of, scope, thrown, moved_to, with_result}
 use Rattle.ja_machine.specs.Objects.{first_of, error_object}
-use Rattle.ja_machine.specs.Events.{Standing, goes_on, sets_content, is_text_length, unbound_message, not_a_function_message}
+use Rattle.ja_machine.specs.Events.{Standing, goes_on, sets_content, unbound_message, not_a_function_message}
 use Rattle.ja_machine.specs.Events as machine
 use Rattle.ja_machine.specs.Calls.{receiver_of, calls, call_step}
 use Rattle.ja_machine.specs.Nodes.{name_text, not_taken, find_name, find_name_step, read, read_ref_step, after_put, puts, is_array_at, write_ref_step, node_step}
@@ -125,9 +126,9 @@ module _ (p : Program) (good : IsWellFormed p) (built : AreBuilt p) (t : Table) 
 
   -- ---- an error that is thrown
 
-  throw_kept : (error proto : Site) (text : List ℕ) → IsNodeSite p error → proto.0 < length p.opening → (is_text_length text ≡ true → HasWithin p t info.handler.0 (with_error a error proto text)) → Kept (machine.throws s error proto text)
+  throw_kept : (error proto : Site) (text : List ℕ) → IsNodeSite p error → proto.0 < length p.opening → (is_short text ≡ true → HasWithin p t info.handler.0 (with_error a error proto text)) → Kept (machine.throws s error proto text)
   throw_kept error proto text site first within =
-      elim (cases_Bool (is_text_length text)) [
+      elim (cases_Bool (is_short text)) [
         | inl e ↦ subst Kept (sym (cond-true _ _ _ e)) (λ after. held_next p t (with_new c.heap error (error_object proto text)) (with_result f thrown (value.Object (new_address c.heap error)) info.handler) _ (with_error a error proto text) program_frame (within e) (holds_with_error p good (opening_heap p) c.heap error proto text a f known.heap site.0 site.1 first grows holds frame.values info.handler zero_fits))
         | inr e ↦ subst Kept (sym (cond-false _ _ _ e)) (λ after. tt)
       ]

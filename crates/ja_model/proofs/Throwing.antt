@@ -10,7 +10,7 @@ use Rattle.ja_base.specs.declared.ids.Reg.{Reg}
 use Rattle.ja_base.specs.declared.ids.Site.{Site}
 use Rattle.ja_base.specs.declared.ids.ScopeKind.TheVariants.{TextLength}
 use Rattle.ja_prim.specs.declared.primitive.Primitive.TheVariants as primitive
-use Rattle.ja_prim.specs.Texts.{max_units}
+use Rattle.ja_prim.specs.Texts.{max_units, is_short}
 use Rattle.ja_graph.specs.declared.node.Args.{Args}
 use Rattle.ja_graph.specs.declared.node.Node.{Node}
 use Rattle.ja_graph.specs.declared.node.Node.TheVariants.{Const, FindName, ReadRef, WriteRef, Call, Return, Escape}
@@ -38,7 +38,7 @@ use Rattle.ja_machine.specs.declared.machine.Answer.{Answer}
 use Rattle.ja_machine.specs.Heap.{size, object_at, with_new, new_address}
 use Rattle.ja_machine.specs.Frames.{register_of}
 use Rattle.ja_machine.specs.Objects.{first_of, error_object}
-use Rattle.ja_machine.specs.Events.{Standing, is_text_length, throws, throws_value, sets_content, unbound_message, not_a_function_message}
+use Rattle.ja_machine.specs.Events.{Standing, throws, throws_value, sets_content, unbound_message, not_a_function_message}
 use Rattle.ja_machine.specs.Calls.{receiver_of, calls, call_step}
 use Rattle.ja_machine.specs.Nodes.{name_text, read, read_ref_step, node_step}
 use Rattle.ja_machine.specs.Machine.{fits, wants, frames_step, step}
@@ -69,10 +69,10 @@ abbrev heap_after : Event → Heap
 heap_after (event.Next d) = d.heap
 heap_after (event.End e d) = d.heap
 
-fits_length : (t : List ℕ) → is_text_length t ≡ true → length t ≤ max_units
+fits_length : (t : List ℕ) → is_short t ≡ true → length t ≤ max_units
 fits_length t e = leb-true (length t) max_units e
 
-too_long : (t : List ℕ) → is_text_length t ≡ false → max_units < length t
+too_long : (t : List ℕ) → is_short t ≡ false → max_units < length t
 too_long t e = leb-false (length t) max_units e
 
 short_message : max_units < length not_a_function_message → ⊥
@@ -105,7 +105,7 @@ module _ (c : Conf) (f : Frame) (below : List Frame) (info : NodeInfo) where
   -- a throw is one
   throws_so : (error proto : Site) (text : List ℕ) → IsThrow c f below info error proto text (Some (throws s error proto text))
   throws_so error proto text =
-      elim (cases_Bool (is_text_length text)) [
+      elim (cases_Bool (is_short text)) [
         | inl e ↦ inl (fits_length text e, ap Some (cond-true _ _ _ e))
         | inr e ↦ inr (too_long text e, ap Some (cond-false _ _ _ e))
       ]
@@ -135,7 +135,7 @@ module _ (c : Conf) (f : Frame) (below : List Frame) (info : NodeInfo) where
     -- a throw is of one prototype, or its texts are too long
     one_throw : (proto other : Site) (text more : List ℕ) → IsThrow c f below info error other more (Some (throws s error proto text)) → (proto.0 ≡ other.0) ⊎ ((max_units < length text) × (max_units < length more))
     one_throw proto other text more throw =
-        elim (cases_Bool (is_text_length text)) [
+        elim (cases_Bool (is_short text)) [
           | inl e ↦ short_one proto other text more (subst (λ x. IsThrow c f below info error other more (Some x)) (cond-true _ _ _ e) throw)
           | inr e ↦ inr (too_long text e, long_one other more _ refl (subst (λ x. IsThrow c f below info error other more (Some x)) (cond-false _ _ _ e) throw))
         ]

@@ -10,9 +10,10 @@ use Rattle.ja_graph.specs.declared.node.Node.TheVariants as node
 use Rattle.ja_graph.specs.declared.node.NodeInfo.{NodeInfo}
 use Rattle.ja_graph.specs.declared.program.Program.{Program}
 use Rattle.ja_graph.specs.Program.{global, reference_error_prototype, type_error_prototype, message}
+use Rattle.ja_prim.specs.Texts.{is_short}
 use Rattle.ja_machine.specs.Heap.{no_attrs}
 use Rattle.ja_machine.specs.Frames.{thrown, scope}
-use Rattle.ja_machine.specs.Events.{is_text_length, unbound_message, not_a_function_message}
+use Rattle.ja_machine.specs.Events.{unbound_message, not_a_function_message}
 use Rattle.ja_machine.specs.Nodes.{name_text}
 use Rattle.ja_model.specs.declared.abstraction.AAttrs.{AAttrs}
 use Rattle.ja_model.specs.declared.abstraction.Key.{Key}
@@ -56,7 +57,7 @@ with_error a error proto text =
 
 -- a text that is too long stops the run, so it gives no state
 abbrev pub throws : View → Bool → NodeInfo → Site → Site → List ℕ → List (ℕ × AbstractState)
-throws w b info error proto text = gives (b && is_text_length text) info.handler (with_error w.state error proto text)
+throws w b info error proto text = gives (b && is_short text) info.handler (with_error w.state error proto text)
 
 -- ---- reading a name
 
