@@ -16,10 +16,11 @@ use Rattle.ja_graph.specs.declared.program.SpecContent.TheVariants as spec_conte
 use Rattle.ja_graph.specs.declared.program.Program.{Program}
 use Rattle.ja_graph.specs.Program.{object_spec}
 use Rattle.ja_graph.specs.WellFormed.{IsWellFormed, IsObjectWellFormed, IsName, IsContent}
+use Rattle.ja_prim.specs.Texts.{same_text}
 use Rattle.ja_machine.specs.declared.machine.Addr.{Addr}
 use Rattle.ja_machine.specs.declared.machine.Property.{Property}
 use Rattle.ja_machine.specs.declared.machine.Object.{Object}
-use Rattle.ja_machine.specs.Heap.{object_at, count, same_text}
+use Rattle.ja_machine.specs.Heap.{object_at, count}
 use Rattle.ja_machine.specs.Objects.{first_of}
 use Rattle.ja_machine.specs.Nodes.{name_text}
 use Rattle.ja_machine.specs.Machine.{opening_content, opening_property, opening_object, opening_heap}

@@ -17,8 +17,9 @@ use Rattle.ja_graph.specs.declared.program.Function.{Function}
 use Rattle.ja_graph.specs.declared.program.Program.{Program}
 use Rattle.ja_graph.specs.Program.{node_at, nodes_of, reference_error_prototype, type_error_prototype}
 use Rattle.ja_graph.specs.WellFormed.{IsWellFormed, IsNodeWellFormed, IsName}
+use Rattle.ja_prim.specs.Texts.{is_short}
 use Rattle.ja_machine.specs.Frames.{registers_of, scope}
-use Rattle.ja_machine.specs.Events.{is_text_length, unbound_message, not_a_function_message}
+use Rattle.ja_machine.specs.Events.{unbound_message, not_a_function_message}
 use Rattle.ja_machine.specs.Nodes.{name_text}
 use Rattle.ja_machine.specs.Machine.{program_function}
 use Rattle.ja_model.specs.declared.abstraction.Key.{Key}
@@ -164,7 +165,7 @@ below-sets : (count : ℕ) (w : View) (dst : Reg) (v : AbstractValue) (next : No
 below-sets count w dst v next h = below-gives count (has_part w.labels v) next (with_register w.state dst v) h
 
 below-throws : (count : ℕ) (w : View) (b : Bool) (info : NodeInfo) (error proto : Site) (text : List ℕ) → info.handler.0 < count → Below count (throws w b info error proto text)
-below-throws count w b info error proto text h = below-gives count (b && is_text_length text) info.handler (with_error w.state error proto text) h
+below-throws count w b info error proto text h = below-gives count (b && is_short text) info.handler (with_error w.state error proto text) h
 
 -- each state of a node goes to the next node or to the handler
 pub node_states : (p : Program) (count : ℕ) (w : View) (info : NodeInfo) (node : Node) → info.next.0 < count → info.handler.0 < count → Below count (transfer_node p w info node).states

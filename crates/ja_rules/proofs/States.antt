@@ -1,23 +1,29 @@
 -- The states of a table by node, after a write and after a join.
 use Rattle.std.specs.Prelude.{◌≡◌, ◌≢◌, ◌⊎◌, ◌<◌, ℕ, zero, suc, Bool, true, false, if◌then◌else◌, ◌==◌, List, [], ◌∷◌, ◌++◌, length, map, Option, Some, None, unwrap_or, ◌||◌, ◌&&◌, slice_get, vec_len}
 use Rattle.std.specs.Option.{is_some, option_map, option_and_then}
-use Rattle.std.specs.Prelude.{Result, Ok, Err, IfOk}
+use Rattle.std.specs.Prelude.{Result, Ok, Err, IfOk, IfSome, OnErr}
 use Rattle.std.proofs.Common.{refl, sym, ◌∙◌, ap, subst, set, get_or, inl, inr, arith}
-use Rattle.std.proofs.lemmas.Bool.{false≢true, true≢false}
-use Rattle.std.proofs.lemmas.Option.{same_Some, slice_get-get_or}
+use Rattle.std.proofs.lemmas.Bool.{false≢true, true≢false, and_parts}
+use Rattle.std.proofs.lemmas.Option.{same_Some}
+use Rattle.std.proofs.lemmas.List.{set-get_or}
 use Rattle.std.proofs.lemmas.List.Folds.{list_any-append}
 use Rattle.std.proofs.lemmas.Bool.Decides.{nat_tests}
-use Rattle.ja_model.specs.AbstractState.{AbstractState, join_states, same_key}
+use Rattle.ja_model.specs.AbstractState.{AbstractState, same_key}
 use Rattle.ja_model.specs.Table.{joined_state, demanded}
 use Rattle.ja_state.specs.declared.state.AState.{AState}
-use Rattle.ja_state.specs.State.{state_of}
+use Rattle.ja_state.specs.declared.entries.DemandedEntries.{DemandedEntries}
+use Rattle.ja_state.specs.State.{state_of, entries_of, IsEntryAt}
+use Rattle.ja_value.specs.declared.property.AProp.{AProp}
+use denote.Ref.{Bor}
+use Rattle.ja_model.proofs.Keys.{same_key-true}
+use Rattle.ja_model.proofs.Labels.{same_label-true}
 use Rattle.ja_model.proofs.Order.{LeqOptionState, option_state_same, option_state_both, option_state_equal, given-leq, LeqEntries, demanded-leq}
 use Rattle.ja_base.specs.declared.ids.Label.{Label}
 use Rattle.ja_base.specs.declared.ids.NodeId.{NodeId}
 use Rattle.ja_model.specs.declared.abstraction.Key.{Key}
 use Rattle.ja_model.specs.Reading.{Demands, Entries}
 use Rattle.ja_model.specs.AbstractValue.{AbstractProperty, no_property, same_label}
-use Rattle.std.specs.List.{list_any, remove, AllByRecursion}
+use Rattle.std.specs.List.{list_all, list_any, remove, AllByRecursion}
 use Rattle.ja_rules.specs.Readings.{states_in, with_given, with_all_given, given_by, HaveRegisters, HaveSameRegisters, is_pair}
 
 -- ---- lists
@@ -66,40 +72,25 @@ given_at xs i s j h e n =
       | inr d ↦ rw d.0 refl
     ]
 
--- a state where there was none
-pub given_none : (xs : List (Option AState)) (i : ℕ) (s : AState) → i < length xs → slice_get xs i ≡ Some None → states_in (set xs i (Some s)) ≡ with_given (states_in xs) (i, state_of s)
-given_none xs i s h e =
-    λ k n. given_at xs i s s h (ap (λ o. Some (joined_state (entry_of o) (state_of s))) (sym e)) n k
+-- a state that was joined in at a place
+pub given_put : (xs : List (Option AState)) (i : ℕ) (s j : AState) → i < length xs → state_of j ≡ joined_state (states_in xs i) (state_of s) → states_in (set xs i (Some j)) ≡ with_given (states_in xs) (i, state_of s)
+given_put xs i s j h e = λ k n. given_at xs i s j h (ap Some e) n k
 
--- a state joined into the one that was there
-pub given_some : (xs : List (Option AState)) (i : ℕ) (s o j : AState) → i < length xs → slice_get xs i ≡ Some (Some o) → state_of j ≡ join_states (state_of o) (state_of s) → states_in (set xs i (Some j)) ≡ with_given (states_in xs) (i, state_of s)
-given_some xs i s o j h e d =
-    λ k n. given_at xs i s j h (ap Some d ∙ ap (λ q. Some (joined_state (entry_of q) (state_of s))) (sym e)) n k
+-- .. is a change if it isn't the one that was there
+pub put_changes : (xs : List (Option AState)) (i : ℕ) (j : AState) → i < length xs → Some (state_of j) ≢ states_in xs i → states_in (set xs i (Some j)) ≢ states_in xs
+put_changes xs i j h apart same =
+    apart (sym (ap entry_of (slice_get-set_same xs i (Some j) h)) ∙ ap (λ (f : ℕ → Option AbstractState). f i) same)
 
-at_place : (xs : List (Option AState)) (i : ℕ) (j : AState) → i < length xs → states_in (set xs i (Some j)) i ≡ Some (state_of j)
-at_place xs i j h = ap entry_of (slice_get-set_same xs i (Some j) h)
-
--- a state more is a change
-pub given_none-changes : (xs : List (Option AState)) (i : ℕ) (s : AState) → i < length xs → slice_get xs i ≡ Some None → states_in (set xs i (Some s)) ≢ states_in xs
-given_none-changes xs i s h e same =
-    let k : Some (state_of s) ≡ None = sym (at_place xs i s h) ∙ ap (λ (f : ℕ → Option AbstractState). f i) same ∙ ap entry_of e in cc
-
--- .. and so is another state
-pub given_some-changes : (xs : List (Option AState)) (i : ℕ) (o j : AState) → i < length xs → slice_get xs i ≡ Some (Some o) → state_of j ≢ state_of o → states_in (set xs i (Some j)) ≢ states_in xs
-given_some-changes xs i o j h e apart same =
-    let k : Some (state_of j) ≡ Some (state_of o) = sym (at_place xs i j h) ∙ ap (λ (f : ℕ → Option AbstractState). f i) same ∙ ap entry_of e in
-    apart (cc)
-
-same_there : (xs : List (Option AState)) (i : ℕ) (o j : AState) → i < length xs → slice_get xs i ≡ Some (Some o) → state_of j ≡ state_of o → (n : ℕ) → (if i == n then Some (state_of j) else states_in xs n) ≡ states_in xs n
-same_there xs i o j h e d n =
+given_there : (f : ℕ → Option AbstractState) (i : ℕ) (a : AbstractState) → Some (joined_state (f i) a) ≡ f i → (n : ℕ) → with_given f (i, a) n ≡ f n
+given_there f i a e n =
     elim (same_or_apart i n) [
-      | inl q ↦ rw q.0 (ap Some d ∙ ap entry_of (sym e) ∙ ap (λ m. states_in xs m) q.1)
+      | inl q ↦ rw q.0 (subst (λ m. Some (joined_state (f m) a) ≡ f m) q.1 e)
       | inr q ↦ rw q.0 refl
     ]
 
--- the state that was there is none
-pub given_some-same : (xs : List (Option AState)) (i : ℕ) (o j : AState) → i < length xs → slice_get xs i ≡ Some (Some o) → state_of j ≡ state_of o → states_in (set xs i (Some j)) ≡ states_in xs
-given_some-same xs i o j h e d = λ k n. (set_at xs i j h n ∙ same_there xs i o j h e d n) k
+-- a state that is held by the one that is there
+pub given_same : (f : ℕ → Option AbstractState) (i : ℕ) (a : AbstractState) → Some (joined_state (f i) a) ≡ f i → f ≡ with_given f (i, a)
+given_same f i a e = λ k n. sym (given_there f i a e n) k
 
 -- a state with as many registers as the others
 pub HaveRegisters-set : (xs : List (Option AState)) (i : ℕ) (j : AState) (count : ℕ) → i < length xs → vec_len j.registers ≡ count → HaveRegisters xs count → HaveRegisters (set xs i (Some j)) count
@@ -109,9 +100,9 @@ HaveRegisters-set xs i j count h e each n s at =
       | inr q ↦ each n s (sym (slice_get-set_other xs i n (Some j) q.1) ∙ at)
     ]
 
--- what was read at a place of the list
-pub read_at : (xs : List (Option AState)) (i : ℕ) (o r : Option AState) → i < length xs → r ≡ get_or xs i r → o ≡ r → slice_get xs i ≡ Some o
-read_at xs i o r h e d = slice_get-get_or xs i r h ∙ ap Some (sym e ∙ sym d)
+-- what was read at a place is put back
+pub put_back : (xs : List (Option AState)) (i : ℕ) (o r : Option AState) → r ≡ get_or xs i r → o ≡ r → set xs i o ≡ xs
+put_back xs i o r e d = ap (λ (q : Option AState). set xs i q) (d ∙ e) ∙ set-get_or xs i r
 
 -- ---- states rise
 
@@ -144,7 +135,7 @@ demands_of_list pairs l k = list_any (is_pair l k) pairs
 -- ---- lists taken apart
 
 -- a list is its first entry and the rest
-pub first_removed : {X : Type 0} (xs : List X) (x : X) → 0 < length xs → x ≡ get_or xs 0 x → xs ≡ x ∷ remove xs 0
+first_removed : {X : Type 0} (xs : List X) (x : X) → 0 < length xs → x ≡ get_or xs 0 x → xs ≡ x ∷ remove xs 0
 first_removed [] x h e = absurd (omega arith)
 first_removed (y ∷ xs) x h e = ap (λ z. z ∷ xs) (sym e)
 
@@ -194,6 +185,26 @@ pub demanded_none : (e : Entries) (pairs : List (Label × Key)) → length pairs
 demanded_none e [] h = refl
 demanded_none e (x ∷ xs) h = absurd (omega arith)
 
+here_cases : (q : Option AbstractProperty) (x b : Bool) → (x ≡ true → is_some q ≡ true) → (if x || b then Some (unwrap_or q no_property) else q) ≡ (if b then Some (unwrap_or q no_property) else q)
+here_cases q false b h = refl
+here_cases (Some s) true true h = refl
+here_cases (Some s) true false h = refl
+here_cases None true b h = absurd (false≢true (h refl))
+
+demanded_here : (e : Entries) (l : Label) (k : Key) (rest : List (Label × Key)) → is_some (e l k) ≡ true → demanded e (demands_of_list ((l, k) ∷ rest)) ≡ demanded e (demands_of_list rest)
+demanded_here e l k rest h =
+    λ i m j. here_cases (e m j) (is_pair m j (l, k)) (list_any (is_pair m j) rest) (λ t. let (s, d) = and_parts (same_label l m) (same_key k j) t in subst (λ (a : Label). is_some (e a j) ≡ true) (same_label-true l m s) (subst (λ (b : Key). is_some (e l b) ≡ true) (same_key-true k j d) h)) i
+
+-- each pair of a list was demanded before
+pub all_demanded : (e : Entries) (pairs : List (Label × Key)) → list_all (λ (p : Label × Key). is_some (e p.0 p.1)) pairs ≡ true → demanded e (demands_of_list pairs) ≡ e
+all_demanded e [] h = refl
+all_demanded e (p ∷ ps) h = let (a, b) = and_parts (is_some (e p.0 p.1)) _ h in demanded_here e p.0 p.1 ps a ∙ all_demanded e ps b
+
+-- what is read at a pair tells whether it was demanded
+pub entry_there : (e : DemandedEntries) (l : Label) (k : Key) (r : Option (Bor AProp)) → IsEntryAt e l k r → is_some r ≡ is_some (entries_of e l k)
+entry_there e l k None h = sym (ap is_some h)
+entry_there e l k (Some q) h = sym (ap is_some h)
+
 -- ---- a state more
 
 -- the first state of a list is joined in first
@@ -204,6 +215,27 @@ given_step f g all rest n s h e =
 -- a state joined in rises, by the equation
 pub given-leq_step : (f g : ℕ → Option AbstractState) (given : ℕ × AbstractState) → g ≡ with_given f given → LeqStates f g
 given-leq_step f g given h = subst (λ (d : ℕ → Option AbstractState). LeqStates f d) (sym h) (with_given-leq f given)
+
+-- states joined in rise
+pub all_given-leq : (f : ℕ → Option AbstractState) (given : List (ℕ × AbstractState)) → LeqStates f (with_all_given f given)
+all_given-leq f [] = states_same f
+all_given-leq f (x ∷ xs) = states_both _ _ _ (with_given-leq f x) (all_given-leq (with_given f x) xs)
+
+-- what changed by the first state that is joined in has changed
+pub given_changes : (f g h : ℕ → Option AbstractState) (x : ℕ × AbstractState) (given : List (ℕ × AbstractState)) → g ≡ with_given f x → g ≢ f → h ≡ with_all_given g given → h ≢ f
+given_changes f g h x given first apart rest back =
+    let up : LeqStates f g = given-leq_step f g x first in
+    let more : LeqStates g h = subst (λ (d : ℕ → Option AbstractState). LeqStates g d) (sym rest) (all_given-leq g given) in
+    apart (states_equal g f (subst (λ (d : ℕ → Option AbstractState). LeqStates g d) back more) up)
+
+-- no state is left
+pub given_none : (f : ℕ → Option AbstractState) (given : List (NodeId × AState)) → length given ≡ 0 → f ≡ with_all_given f (map given_by given)
+given_none f [] h = refl
+given_none f (x ∷ xs) h = absurd (omega arith)
+
+-- a list is what was taken out first, and what was left
+pub first_of : {X : Type 0} (xs rest : List X) (x : X) → 0 < length xs → x ≡ get_or xs 0 x → rest ≡ remove xs 0 → xs ≡ x ∷ rest
+first_of xs rest x h e d = first_removed xs x h e ∙ ap (λ ys. x ∷ ys) (sym d)
 
 -- what holds of a list's entries holds of the first and of the rest
 pub all_rest : {X : Type 0} (P : X → Type 0) (all rest : List X) (x : X) → all ≡ x ∷ rest → AllByRecursion P all → P x × AllByRecursion P rest
@@ -229,3 +261,20 @@ first_is (y ∷ xs) ys r x e h at = h ∙ (ap (λ zs. get_or zs 0 r) e ∙ same_
 pub ok_from : {A E : Type 0} (P Q : A → Type 0) (r : Result A E) → ((a : A) → P a → Q a) → IfOk r P → IfOk r Q
 ok_from P Q (Ok a) f h = f a h
 ok_from P Q (Err e) f h = h
+
+-- what holds whether there is a result or an error
+pub either_way : {A E : Type 0} (P : A → Type 0) (Q R : Type 0) (r : Result A E) → ((a : A) → P a → R) → (Q → R) → IfOk r P → OnErr r Q → R
+either_way P Q R (Ok a) f g h k = f a h
+either_way P Q R (Err e) f g h k = g k
+
+-- ---- values at entry that are replaced
+
+-- they changed if there are others
+pub replaced_changes : (o : Option DemandedEntries) (e f : DemandedEntries) (b : Bool) → f ≡ unwrap_or o e → b ≡ is_some o → IfSome o (λ x. entries_of x ≢ entries_of e) → b ≡ true → entries_of f ≢ entries_of e
+replaced_changes (Some x) e f b h g apart t = λ same. apart (sym (ap entries_of h) ∙ same)
+replaced_changes None e f b h g apart t = absurd (false≢true (sym g ∙ t))
+
+-- .. and stayed if there are none
+pub replaced_stays : (o : Option DemandedEntries) (e f : DemandedEntries) (b : Bool) → f ≡ unwrap_or o e → b ≡ is_some o → b ≡ false → entries_of f ≡ entries_of e
+replaced_stays (Some x) e f b h g t = absurd (true≢false (sym g ∙ t))
+replaced_stays None e f b h g t = ap entries_of h

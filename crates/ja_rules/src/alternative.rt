@@ -1,5 +1,6 @@
 ghost use Rattle.std.specs.Prelude.{◌≡◌, ◌<◌, ◌++◌, ℕ, List, IfOk, length, vec_len};
-ghost use Rattle.ja_machine.specs.Events.{is_text_length, unbound_message, not_a_function_message};
+ghost use Rattle.ja_prim.specs.Texts.{is_short};
+ghost use Rattle.ja_machine.specs.Events.{unbound_message, not_a_function_message};
 ghost use Rattle.ja_machine.specs.Nodes.{name_text};
 ghost use Rattle.ja_model.specs.AbstractValue.{of_label, bare};
 ghost use Rattle.ja_model.specs.AbstractState.{AbstractState, new};
@@ -91,7 +92,7 @@ impl Reader<'_> {
         requires { 0 < vec_len self.now.state.now.registers }
         ensures { IfOk result (IsGiven (vec_len self.now.state.now.registers) (throws (view_of self.now) is_thrown info.now error prototype message.items)) }
     {
-        let is_given = is_thrown & is_text_length(&message);
+        let is_given = is_thrown & is_short(&message);
         if !is_given {
             return Ok(None);
         }
@@ -125,8 +126,8 @@ impl Reader<'_> {
 }
 
 /// Whether units aren't too many for a text.
-fn is_text_length(units: &[u16]) -> bool
-    ensures { result ≡ is_text_length units.now }
+fn is_short(units: &[u16]) -> bool
+    ensures { result ≡ is_short units.now }
 {
     units.len() <= MAX_UNITS
 }

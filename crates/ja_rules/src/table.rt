@@ -1,6 +1,6 @@
-ghost use Rattle.std.specs.Prelude.{◌≡◌, ◌≢◌, ◌<◌, ◌==◌, ℕ, IfOk, OnOk, IsTrue, IsSome, true, false, None, Some, vec_len, length, replicate, map, find, slice_get};
+ghost use Rattle.std.specs.Prelude.{◌≡◌, ◌≢◌, ◌<◌, ◌==◌, ℕ, IfOk, IfSome, IfNone, OnOk, OnErr, IsTrue, IsSome, is_some, unwrap_or, true, false, None, Some, vec_len, length, replicate, map, find, slice_get};
 ghost use Rattle.std.specs.Option.{option_copied};
-ghost use Rattle.std.specs.List.{AllByRecursion};
+ghost use Rattle.std.specs.List.{AllByRecursion, list_all};
 ghost use Rattle.ja_base.specs.declared.ids.NodeId.{NodeId};
 ghost use Rattle.ja_base.specs.declared.ids.Label.{Label};
 ghost use Rattle.ja_graph.specs.Program.{object_spec, node_at};
@@ -10,7 +10,7 @@ ghost use Rattle.ja_model.specs.declared.abstraction.Key.{Key};
 ghost use Rattle.ja_model.specs.AbstractState.{is_key};
 ghost use Rattle.ja_model.specs.Meaning.{opened};
 ghost use Rattle.ja_value.specs.Value.{value_of, property_of};
-ghost use Rattle.ja_model.specs.Table.{opening_table, visited, visit_step, IsItem, demanded, root, opened_entries};
+ghost use Rattle.ja_model.specs.Table.{opening_table, joined_state, visited, visit_step, IsItem, demanded, root, opened_entries};
 ghost use Rattle.ja_state.specs.declared.state.AState.{AState};
 ghost use Rattle.ja_state.specs.State.{state_of, entries_of};
 
@@ -44,36 +44,28 @@ fn no_states(alloc: Global, count: usize) -> Result<Vec<Option<AState>>, Memory>
     Ok(states)
 }
 
-// Joins a state in at a node, and tells whether the states changed.
-fn join_one(
+// The state at a node with another joined in, or `None` where that changes nothing.
+fn joined_at(
     alloc: Global,
-    states: &mut Vec<Option<AState>>,
+    states: &[Option<AState>],
     node: NodeId,
     state: AState,
-) -> Result<bool, Memory>
-    requires node { node.0 < length states.old.items }
-    requires registers { HaveRegisters states.old.items (vec_len state.registers) }
-    ensures joined { IfOk result (λ _. states_in states.new.items ≡ with_given (states_in states.old.items) (node.0, state_of state)) }
-    ensures changed { IfOk result (λ c. c ≡ true → states_in states.new.items ≢ states_in states.old.items) }
-    ensures same { IfOk result (λ c. c ≡ false → states_in states.new.items ≡ states_in states.old.items) }
-    ensures nodes { OnOk result (length states.new.items ≡ length states.old.items) }
-    ensures registers { OnOk result (HaveRegisters states.new.items (vec_len state.registers)) }
+) -> Result<Option<AState>, Memory>
+    requires node { node.0 < length states.now }
+    requires registers { HaveRegisters states.now (vec_len state.registers) }
+    ensures joined { IfOk result (λ o. IfSome o (λ s. state_of s ≡ joined_state (states_in states.now node.0) (state_of state))) }
+    ensures changed { IfOk result (λ o. IfSome o (λ s. Some (state_of s) ≢ states_in states.now node.0)) }
+    ensures same { IfOk result (λ o. IfNone o (Some (joined_state (states_in states.now node.0) (state_of state)) ≡ states_in states.now node.0)) }
+    ensures registers { IfOk result (λ o. IfSome o (λ s. vec_len s.registers ≡ vec_len state.registers)) }
 {
-    let place = node.0 as usize;
-    match mem::replace(&mut states[place], None) {
-        None => {
-            states[place] = Some(state);
-            Ok(true)
-        }
-        Some(mut joined) => {
-            let changed = joined.join(alloc, &state)?;
-            states[place] = Some(joined);
-            Ok(changed)
-        }
+    match &states[node.0 as usize] {
+        None => Ok(Some(state)),
+        Some(before) => before.joined(alloc, &state),
     }
 }
 
-// Joins states in at their nodes, and tells whether the states changed.
+// Joins states in at their nodes, and tells whether the states changed. After `Memory` they are as
+// they were.
 fn join_all(
     alloc: Global,
     states: &mut Vec<Option<AState>>,
@@ -86,16 +78,28 @@ fn join_all(
     ensures same { IfOk result (λ c. c ≡ false → states_in states.new.items ≡ states_in states.old.items) }
     ensures nodes { OnOk result (length states.new.items ≡ length states.old.items) }
     ensures registers { OnOk result ((count : ℕ) → HaveRegisters states.old.items count → HaveSameRegisters given.items count → HaveRegisters states.new.items count) }
+    ensures kept { OnErr result (states.new.items ≡ states.old.items) }
 {
-    let mut changed = false;
-    'given: while !given.is_empty() {
-        let (node, state) = given.remove(0);
-        changed |= join_one(alloc, states, node, state)?;
+    if given.is_empty() {
+        return Ok(false);
     }
-    Ok(changed)
+    let (node, state) = given.remove(0);
+    let Some(joined) = joined_at(alloc, states, node, state)? else {
+        return join_all(alloc, states, given);
+    };
+    let place = node.0 as usize;
+    let before = mem::replace(&mut states[place], Some(joined));
+    match join_all(alloc, states, given) {
+        Ok(_) => Ok(true),
+        Err(memory) => {
+            states[place] = before;
+            Err(memory)
+        }
+    }
 }
 
-// Demands each pair of a list, and tells whether one wasn't demanded before.
+// Demands each pair of a list, and tells whether one wasn't demanded before. After `Memory` some may
+// have been demanded.
 fn demand_all(
     alloc: Global,
     entries: &mut DemandedEntries,
@@ -111,6 +115,53 @@ fn demand_all(
         changed |= entries.demand(alloc, label, key)?;
     }
     Ok(changed)
+}
+
+// Whether a pair is demanded.
+fn is_demanded(entries: &DemandedEntries, label: Label, key: Key) -> bool
+    ensures { result ≡ is_some (entries_of entries.now label key) }
+{
+    entries.get(label, key).is_some()
+}
+
+// Whether each pair of a list is demanded.
+fn are_demanded(entries: &DemandedEntries, pairs: &[(Label, Key)]) -> bool
+    ensures { result ≡ list_all (λ (p : Label × Key). is_some (entries_of entries.now p.0 p.1)) pairs.now }
+{
+    pairs
+        .iter()
+        .all(|pair| is_demanded(entries, pair.0, pair.1))
+}
+
+// The values at entry with each pair of a list demanded, or `None` where each was demanded before.
+fn with_demanded(
+    alloc: Global,
+    entries: &DemandedEntries,
+    demands: DemandList,
+) -> Result<Option<DemandedEntries>, Memory>
+    ensures demanded { IfOk result (λ o. entries_of (unwrap_or o entries.now) ≡ demanded (entries_of entries.now) (demands_in demands)) }
+    ensures changed { IfOk result (λ o. IfSome o (λ e. entries_of e ≢ entries_of entries.now)) }
+{
+    if are_demanded(entries, &demands.pairs) {
+        return Ok(None);
+    }
+    let mut more = entries.copy(alloc)?;
+    let changed = demand_all(alloc, &mut more, demands)?;
+    if changed { Ok(Some(more)) } else { Ok(None) }
+}
+
+// Puts values at entry in the place of others, if there are some, and tells whether there are.
+fn replace_entries(entries: &mut DemandedEntries, new: Option<DemandedEntries>) -> bool
+    ensures replaced { entries.new ≡ unwrap_or new entries.old }
+    ensures told { result ≡ is_some new }
+{
+    match new {
+        Some(new) => {
+            *entries = new;
+            true
+        }
+        None => false,
+    }
 }
 
 // The property of a name.
@@ -252,6 +303,7 @@ fn open_pair(
 }
 
 // Joins the contents of the opening heap into the values at entry, and tells whether they changed.
+// After `Memory` they are as they were.
 fn visit_open(
     alloc: Global,
     program: &Program,
@@ -262,15 +314,17 @@ fn visit_open(
     ensures opened { IfOk result (λ _. entries_of entries.new ≡ opened_entries program.now (entries_of entries.old)) }
     ensures changed { IfOk result (λ c. c ≡ true → entries_of entries.new ≢ entries_of entries.old) }
     ensures same { IfOk result (λ c. c ≡ false → entries_of entries.new ≡ entries_of entries.old) }
+    ensures kept { OnErr result (entries.new ≡ entries.old) }
 {
     let sites = program.sites.len() as u32;
     let names = program.names.len() as u32;
-    let before = entries.copy(alloc)?;
+    let mut opened = entries.copy(alloc)?;
     let mut changed = false;
-    let mut pairs = before.pairs(alloc, sites, names)?;
+    let mut pairs = entries.pairs(alloc, sites, names)?;
     'pairs: while let Some((label, key)) = pairs.pop() {
-        changed |= open_pair(alloc, program, &before, entries, label, key)?;
+        changed |= open_pair(alloc, program, entries, &mut opened, label, key)?;
     }
+    *entries = opened;
     Ok(changed)
 }
 
@@ -294,7 +348,8 @@ fn state_at(states: &[Option<AState>], node: NodeId) -> &AState
     }
 }
 
-// Takes the step of a node that has a state.
+// Takes the step of a node that has a state, and tells whether the table changed. After `Memory` it is
+// as it was.
 fn visit_step(
     alloc: Global,
     program: &Program,
@@ -304,16 +359,18 @@ fn visit_step(
     requires program { IsWellFormed program.now }
     requires fits { Fits program.now table.old }
     requires item { HasStep program.now table.old node }
-    ensures fits { OnOk result (Fits program.now table.new) }
+    ensures fits { Fits program.now table.new }
     ensures visited { IfOk result (λ _. table_of table.new ≡ visit_step program.now (table_of table.old) root node) }
     ensures changed { IfOk result (λ c. c ≡ true → table_of table.new ≢ table_of table.old) }
     ensures same { IfOk result (λ c. c ≡ false → table_of table.new ≡ table_of table.old) }
+    ensures kept { OnErr result (table_of table.new ≡ table_of table.old) }
 {
     let info = node_info(program, node);
     let state = state_at(&table.states, node);
     let out = transfer(alloc, program, info, state, &table.entries)?;
-    let demanded = demand_all(alloc, &mut table.entries, out.demands)?;
+    let entries = with_demanded(alloc, &table.entries, out.demands)?;
     let joined = join_all(alloc, &mut table.states, out.states)?;
+    let demanded = replace_entries(&mut table.entries, entries);
     Ok(demanded | joined)
 }
 
@@ -332,8 +389,8 @@ pub fn opening(alloc: Global, program: &Program) -> Result<ATable, Memory>
     })
 }
 
-/// Joins in what an item of the table gives, and tells whether the table changed. After `Memory` the
-/// table may be anything.
+/// Joins in what an item of the table gives, and tells whether the table changed. After `Memory` it is
+/// as it was.
 pub fn visit(
     alloc: Global,
     program: &Program,
@@ -343,10 +400,11 @@ pub fn visit(
     requires program { IsWellFormed program.now }
     requires fits { Fits program.now table.old }
     requires item { IsItem program.now (table_of table.old) item }
-    ensures fits { OnOk result (Fits program.now table.new) }
+    ensures fits { Fits program.now table.new }
     ensures visited { IfOk result (λ _. table_of table.new ≡ visited program.now (table_of table.old) item) }
     ensures changed { IfOk result (λ c. c ≡ true → table_of table.new ≢ table_of table.old) }
     ensures same { IfOk result (λ c. c ≡ false → table_of table.new ≡ table_of table.old) }
+    ensures kept { OnErr result (table_of table.new ≡ table_of table.old) }
 {
     match item {
         Item::Open => visit_open(alloc, program, &mut table.entries),

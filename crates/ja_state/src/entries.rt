@@ -1,8 +1,7 @@
 ghost use Rattle.std.specs.Prelude.{◌≡◌, ◌≢◌, ◌==◌, ◌&&◌, ◌+◌, ◌-◌, ◌*◌, ℕ, nat_lt, nat_le, List, [], ◌∷◌, ◌++◌, map, filter, IfOk, OnErr, IsSome, Option, Some, None, is_some, true, false, if◌then◌else◌, unwrap_or};
 ghost use Rattle.std.specs.Ordering.{nat_cmp};
 ghost use Rattle.std.specs.BTreeMap.{get};
-ghost use Rattle.std.specs.Option.{option_map};
-ghost use Rattle.ja_model.specs.AbstractValue.{same_label, no_property, join_properties};
+ghost use Rattle.ja_model.specs.AbstractValue.{same_label, no_property};
 ghost use Rattle.ja_model.specs.AbstractState.{same_key, labels_below, keys_below, name_key};
 ghost use Rattle.ja_value.specs.Labels.{label_at};
 ghost use Rattle.ja_value.specs.Value.{property_of};
@@ -56,27 +55,6 @@ impl DemandedEntries {
         let number = label_number(label);
         let mut properties = take_out(&mut self.objects, alloc, number)?;
         let changed = demand_key(&mut properties, alloc, key_number(key));
-        exchange(&mut self.objects, number, properties);
-        changed
-    }
-
-    /// Joins a property into the value of a pair, if it is demanded, and tells whether the value changed.
-    /// After `Memory` the entries are as they were.
-    pub fn join(
-        &mut self,
-        alloc: Global,
-        label: Label,
-        key: Key,
-        property: &AProp,
-    ) -> Result<bool, Memory>
-        ensures joined { IfOk result (λ _. entries_of self.new ≡ (λ l k. if same_label label l && same_key key k then option_map (λ q. join_properties q (property_of property.now)) (entries_of self.old l k) else entries_of self.old l k)) }
-        ensures changed { IfOk result (λ c. c ≡ true → entries_of self.new ≢ entries_of self.old) }
-        ensures same { IfOk result (λ c. c ≡ false → entries_of self.new ≡ entries_of self.old) }
-        ensures kept { OnErr result (entries_of self.new ≡ entries_of self.old) }
-    {
-        let number = label_number(label);
-        let mut properties = take_out(&mut self.objects, alloc, number)?;
-        let changed = join_key(&mut properties, alloc, key_number(key), property);
         exchange(&mut self.objects, number, properties);
         changed
     }
@@ -176,28 +154,6 @@ fn set_key(
 {
     put(properties, number, property)?;
     Ok(())
-}
-
-/// Joins a property into the one at the number of a key, if it is demanded, and tells whether it changed.
-/// After `Memory` the properties are as they were.
-fn join_key(
-    properties: &mut BTreeMap<u64, AProp>,
-    alloc: Global,
-    number: u64,
-    property: &AProp,
-) -> Result<bool, Memory>
-    ensures joined { IfOk result (λ _. (q : ℕ) → property_in properties.new q ≡ (if number == q then option_map (λ p. join_properties p (property_of property.now)) (property_in properties.old q) else property_in properties.old q)) }
-    ensures changed { IfOk result (λ c. c ≡ true → property_in properties.new number ≢ property_in properties.old number) }
-    ensures same { IfOk result (λ c. c ≡ false → property_in properties.new number ≡ property_in properties.old number) }
-    ensures kept { OnErr result ((q : ℕ) → property_in properties.new q ≡ property_in properties.old q) }
-{
-    if !properties.contains_key(&number) {
-        return Ok(false);
-    }
-    let mut mine = exchange(properties, number, AProp::absent(alloc));
-    let changed = mine.join(alloc, property);
-    exchange(properties, number, mine);
-    changed
 }
 
 /// Adds the demanded pairs of the label of a number, if it is of the first sites.

@@ -1,4 +1,5 @@
-ghost use Rattle.std.specs.Prelude.{◌≡◌, ◌≢◌, ◌<◌, ◌≤◌, ◌*◌, ℕ, nat_lt, [], ◌∷◌, ◌++◌, IfOk, OnErr, true, false, if◌then◌else◌, vec_len, filter};
+ghost use Rattle.std.specs.Prelude.{◌≡◌, ◌≢◌, ◌<◌, ◌≤◌, ◌*◌, ℕ, nat_lt, [], ◌∷◌, ◌++◌, IfOk, IfSome, OnErr, true, false, if◌then◌else◌, vec_len, filter};
+ghost use Rattle.std.specs.Option.{option_map_or};
 ghost use Rattle.ja_base.specs.declared.ids.Label.{Label};
 ghost use Rattle.ja_model.specs.declared.abstraction.Key.{Key};
 ghost use Rattle.ja_model.specs.AbstractValue.{Labels, entry_property};
@@ -114,23 +115,20 @@ impl AState {
             && masks_cover(&self.masks, &other.masks)
     }
 
-    /// Joins another state in, and tells whether the state changed. After `Memory` it is as it was.
-    pub fn join(&mut self, alloc: Global, other: &AState) -> Result<bool, Memory>
-        requires { vec_len self.old.registers ≡ vec_len other.now.registers }
-        ensures joined { IfOk result (λ _. state_of self.new ≡ join_states (state_of self.old) (state_of other.now)) }
-        ensures changed { IfOk result (λ c. c ≡ true → state_of self.new ≢ state_of self.old) }
-        ensures same { IfOk result (λ c. c ≡ false → state_of self.new ≡ state_of self.old) }
-        ensures registers { IfOk result (λ _. vec_len self.new.registers ≡ vec_len self.old.registers) }
-        ensures kept { OnErr result (state_of self.new ≡ state_of self.old) }
+    /// This state with another joined in, or `None` where that changes nothing.
+    pub fn joined(&self, alloc: Global, other: &AState) -> Result<Option<AState>, Memory>
+        requires { vec_len self.now.registers ≡ vec_len other.now.registers }
+        ensures joined { IfOk result (λ o. option_map_or state_of o (state_of self.now) ≡ join_states (state_of self.now) (state_of other.now)) }
+        ensures changed { IfOk result (λ o. IfSome o (λ a. state_of a ≢ state_of self.now)) }
+        ensures registers { IfOk result (λ o. IfSome o (λ a. vec_len a.registers ≡ vec_len self.now.registers)) }
     {
         if self.covers(alloc, other) {
-            return Ok(false);
+            return Ok(None);
         }
         // a state that grows is stepped again, and a step copies its state once more
         let mut joined = self.copy(alloc)?;
         let changed = joined.join_all(alloc, other)?;
-        *self = joined;
-        Ok(changed)
+        if changed { Ok(Some(joined)) } else { Ok(None) }
     }
 
     /// Joins another state in, and tells whether the state changed. After `Memory` some parts may have

@@ -1,25 +1,32 @@
 use Rattle.std.proofs.Common.{◌≡◌, ◌≢◌, Bool, true, false, sym, ap, subst, ◌∙◌}
 use Rattle.std.specs.Prelude.{IfOk, IsSome}
+use Rattle.std.proofs.lemmas.Result.{on_err_weaker}
 use Rattle.ja_model.specs.declared.table.Item.{Item}
 use Rattle.ja_model.specs.declared.table.Item.TheVariants.{Step}
 use Rattle.ja_model.specs.Reading.{Entries}
 use Rattle.ja_model.specs.Table.{Table, visited, opened_entries, IsItem}
+use Rattle.ja_state.specs.declared.entries.DemandedEntries.{DemandedEntries}
 use Rattle.ja_state.specs.State.{entries_of}
 use Rattle.ja_rules.specs.Readings.{table_of, states_in, Fits}
-use Rattle.ja_rules.proofs.States.{ok_from}
+use Rattle.ja_rules.proofs.States.{either_way, ok_from}
 use Rattle.ja_rules.proofs.Tables.{table_by, table-open, table_entries, item_context, visited_step}
 use Rattle.ja_rules.proofs.Ranges.{opened_keys}
 use Rattle.ja_rules.proofs.table.visit.Goals as goal
 
 pub returns-in-Open-clause-fits : goal.returns-in-Open-clause-fits
 returns-in-Open-clause-fits c =
-    ok_from (λ (b : Bool). entries_of c.visit_open.new.entries ≡ opened_entries c.args.program.now (entries_of c.args.table.now.entries)) (λ (b : Bool). Fits c.args.program.now (record { states = c.args.table.now.states; entries = c.visit_open.new.entries })) c.visit_open.result
+    either_way (λ (b : Bool). entries_of c.visit_open.new.entries ≡ opened_entries c.args.program.now (entries_of c.args.table.now.entries)) (c.visit_open.new.entries ≡ c.args.table.now.entries) (Fits c.args.program.now (record { states = c.args.table.now.states; entries = c.visit_open.new.entries })) c.visit_open.result
     (λ b e. record {
       nodes = c.requires.fits.nodes;
       registers = c.requires.fits.registers;
       keys = λ l k h. opened_keys c.args.program.now (entries_of c.args.table.now.entries) c.requires.fits.keys l k (subst (λ (f : Entries). IsSome (f l k)) e h);
     })
-    c.visit_open.ensures.opened
+    (λ e. record {
+      nodes = c.requires.fits.nodes;
+      registers = c.requires.fits.registers;
+      keys = λ l k h. c.requires.fits.keys l k (subst (λ (f : DemandedEntries). IsSome (entries_of f l k)) e h);
+    })
+    c.visit_open.ensures.opened c.visit_open.ensures.kept
 
 pub returns-in-Open-clause-visited : goal.returns-in-Open-clause-visited
 returns-in-Open-clause-visited c =
@@ -47,6 +54,10 @@ returns-in-Open-clause-same c =
     ok_from (λ (b : Bool). b ≡ false → now ≡ was) (λ (b : Bool). b ≡ false → table_by states now ≡ table_by states was) c.visit_open.result
     (λ b same h. ap (λ (f : Entries). table_by states f) (same h))
     c.visit_open.ensures.same
+
+pub returns-in-Open-clause-kept : goal.returns-in-Open-clause-kept
+returns-in-Open-clause-kept c =
+    on_err_weaker c.visit_open.result (ap (λ (f : DemandedEntries). table_by (states_in c.args.table.now.states.items) (entries_of f))) c.visit_open.ensures.kept
 
 pub returns-in-Step-clause-visited : goal.returns-in-Step-clause-visited
 returns-in-Step-clause-visited c =

@@ -1,7 +1,4 @@
-use Rattle.std.proofs.Common.{◌≡◌, ◌∙◌, sym, ap, subst, length, rules}
-use Rattle.std.specs.Prelude.{IsSome}
-use Rattle.ja_model.specs.Reading.{Entries}
-use Rattle.ja_model.specs.Table.{opened_entries}
+use Rattle.std.proofs.Common.{◌≡◌, ◌∙◌, ap, length, rules}
 use Rattle.ja_model.specs.AbstractState.{labels_below, keys_below}
 use Rattle.ja_state.specs.State.{entries_of, pairs_of}
 use Rattle.ja_rules.proofs.Visits.{opening_start, opening_step, opening_end}
@@ -9,16 +6,14 @@ use Rattle.ja_rules.proofs.table.visit_open.Goals as goal
 
 pub pairs-init : goal.pairs-init
 pairs-init c =
-    opening_start c.args.program.now c.requires.program (entries_of c.in_ok-before.before) (λ l k h. c.requires.keys l k (subst (λ (f : Entries). IsSome (f l k)) c.in_ok-before.ensures h)) (entries_of c.args.entries.now) c.in_ok-pairs.pairs.items (sym c.in_ok-before.ensures) (c.in_ok-pairs.ensures ∙ (ap (λ n. pairs_of (entries_of c.in_ok-before.before) (labels_below n) (keys_below c.len-names.result)) c.len-sites.ensures ∙ ap (λ n. pairs_of (entries_of c.in_ok-before.before) (labels_below (length c.args.program.now.sites)) (keys_below n)) c.len-names.ensures))
-
-pub open_pair-requires-clause-key : goal.open_pair-requires-clause-key
-open_pair-requires-clause-key c h = c.requires.keys _ _ (subst (λ (f : Entries). IsSome (f c.in-Some.label c.in-Some.key)) c.in_ok-before.ensures h)
+    let was = entries_of c.args.entries.now in
+    opening_start c.args.program.now c.requires.program was c.requires.keys (entries_of c.in_ok-opened.opened) c.in_ok-pairs.pairs.items c.in_ok-opened.ensures (c.in_ok-pairs.ensures ∙ (ap (λ n. pairs_of was (labels_below n) (keys_below c.len-names.result)) c.len-sites.ensures ∙ ap (λ n. pairs_of was (labels_below (length c.args.program.now.sites)) (keys_below n)) c.len-names.ensures))
 
 pub pairs-preserved : goal.pairs-preserved
 pairs-preserved c =
-    opening_step c.args.program.now (entries_of c.in_ok-before.before) (entries_of c.pairs.entries) (entries_of c.open_pair.new.entries) c.pop.new.self.items c.pairs.pairs.items c.in-Some.label c.in-Some.key c.pairs.changed c.in_ok-changed.field-0 c.pairs.invariant c.in-Some.ensures.items c.in_ok-changed.ensures.opened c.in_ok-changed.ensures.changed c.in_ok-changed.ensures.same
+    opening_step c.args.program.now (entries_of c.args.entries.now) (entries_of c.pairs.opened) (entries_of c.open_pair.new.entries) c.pop.new.self.items c.pairs.pairs.items c.in-Some.label c.in-Some.key c.pairs.changed c.in_ok-changed.field-0 c.pairs.invariant c.in-Some.ensures.items c.in_ok-changed.ensures.opened c.in_ok-changed.ensures.changed c.in_ok-changed.ensures.same
 
 pub returns-clause-opened : goal.returns-clause-opened
 returns-clause-opened c =
     let none : length c.pairs.pairs.items ≡ 0 = search (rules, c.in_default.ensures.cases.0) in
-    opening_end _ _ _ c.pairs.pairs.items c.pairs.changed c.pairs.invariant none ∙ ap (λ (f : Entries). opened_entries c.args.program.now f) c.in_ok-before.ensures
+    opening_end _ _ _ c.pairs.pairs.items c.pairs.changed c.pairs.invariant none

@@ -8,6 +8,7 @@ use Rattle.ja_graph.specs.Program.{nodes_of}
 use Rattle.ja_state.specs.State.{state_of, entries_of}
 use Rattle.ja_rules.specs.Readings.{states_in, HaveSameRegisters}
 use Rattle.std.proofs.lemmas.List.Elements.{recursion_from_All}
+use Rattle.ja_rules.proofs.States.{replaced_changes, replaced_stays}
 use Rattle.ja_rules.proofs.Tables.{table-step, table_changes, table_stays}
 use Rattle.ja_rules.proofs.Ranges.{info_in_range, registers_of_text, step_nodes, step_keys}
 use Rattle.ja_rules.proofs.table.visit_step.Goals as goal
@@ -32,18 +33,18 @@ returns-clause-fits c =
     record {
       nodes = count;
       registers = c.in_ok-joined.ensures.registers (registers_of c.args.program.now program_function) c.requires.fits.registers same;
-      keys = step_keys c.args.program.now c.requires.program (entries_of c.args.table.now.entries) (state_of c.state_at-state.result.now) c.node_info-info.result.now c.in_ok-out.out c.in_ok-out.ensures.out r (entries_of c.demand_all.new.entries) c.in_ok-demanded.ensures.demanded c.requires.fits.keys;
+      keys = step_keys c.args.program.now c.requires.program (entries_of c.args.table.now.entries) (state_of c.state_at-state.result.now) c.node_info-info.result.now c.in_ok-out.out c.in_ok-out.ensures.out r (entries_of c.replace_entries-demanded.new.entries) (ap entries_of c.replace_entries-demanded.ensures.replaced ∙ c.in_ok-entries.ensures.demanded) c.requires.fits.keys;
     }
 
 pub returns-clause-visited : goal.returns-clause-visited
 returns-clause-visited c =
     let at : slice_get c.args.table.now.states.items c.args.node.0 ≡ Some (Some c.state_at-state.result.now) = ap (λ xs. slice_get xs c.args.node.0) (sym c.deref.ensures.value) ∙ c.state_at-state.ensures in
-    table-step c.args.program.now (states_in c.args.table.now.states.items) (states_in c.join_all.new.states.items) (entries_of c.args.table.now.entries) (entries_of c.demand_all.new.entries) c.args.node c.node_info-info.result.now (state_of c.state_at-state.result.now) c.in_ok-out.out c.node_info-info.ensures (ap (λ (o : Option (Option AState)). option_and_then (λ (s : Option AState). option_map state_of s) o) at) c.in_ok-out.ensures.out c.in_ok-demanded.ensures.demanded c.in_ok-joined.ensures.joined
+    table-step c.args.program.now (states_in c.args.table.now.states.items) (states_in c.join_all.new.states.items) (entries_of c.args.table.now.entries) (entries_of c.replace_entries-demanded.new.entries) c.args.node c.node_info-info.result.now (state_of c.state_at-state.result.now) c.in_ok-out.out c.node_info-info.ensures (ap (λ (o : Option (Option AState)). option_and_then (λ (s : Option AState). option_map state_of s) o) at) c.in_ok-out.ensures.out (ap entries_of c.replace_entries-demanded.ensures.replaced ∙ c.in_ok-entries.ensures.demanded) c.in_ok-joined.ensures.joined
 
 pub returns-clause-changed : goal.returns-clause-changed
 returns-clause-changed c =
-    table_changes (states_in c.args.table.now.states.items) (states_in c.join_all.new.states.items) (entries_of c.args.table.now.entries) (entries_of c.demand_all.new.entries) c.in_ok-demanded.demanded c.in_ok-joined.joined c.in_ok-demanded.ensures.changed c.in_ok-joined.ensures.changed
+    table_changes (states_in c.args.table.now.states.items) (states_in c.join_all.new.states.items) (entries_of c.args.table.now.entries) (entries_of c.replace_entries-demanded.new.entries) c.replace_entries-demanded.result c.in_ok-joined.joined (replaced_changes c.in_ok-entries.entries c.args.table.now.entries _ _ c.replace_entries-demanded.ensures.replaced c.replace_entries-demanded.ensures.told c.in_ok-entries.ensures.changed) c.in_ok-joined.ensures.changed
 
 pub returns-clause-same : goal.returns-clause-same
 returns-clause-same c =
-    table_stays (states_in c.args.table.now.states.items) (states_in c.join_all.new.states.items) (entries_of c.args.table.now.entries) (entries_of c.demand_all.new.entries) c.in_ok-demanded.demanded c.in_ok-joined.joined c.in_ok-demanded.ensures.same c.in_ok-joined.ensures.same
+    table_stays (states_in c.args.table.now.states.items) (states_in c.join_all.new.states.items) (entries_of c.args.table.now.entries) (entries_of c.replace_entries-demanded.new.entries) c.replace_entries-demanded.result c.in_ok-joined.joined (replaced_stays c.in_ok-entries.entries c.args.table.now.entries _ _ c.replace_entries-demanded.ensures.replaced c.replace_entries-demanded.ensures.told) c.in_ok-joined.ensures.same
