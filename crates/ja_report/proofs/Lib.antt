@@ -1,5 +1,4 @@
 pub mod EntryLemmas
-pub mod Lists
 pub mod NameLemmas
 pub mod ObjectLemmas
 pub mod OutputLemmas

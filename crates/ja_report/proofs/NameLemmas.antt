@@ -6,7 +6,8 @@ use Rattle.std.specs.Option.{option_map_or}
 use Rattle.std.proofs.lemmas.Bool.{false≢true}
 use Rattle.std.proofs.lemmas.Bool.Decides.{nat_tests}
 use Rattle.ja_prim.specs.Characters.{is_digit}
-use Rattle.ja_report.specs.Texts.{is_name_unit, is_bare, unit_text, units_text, name_text}
+use Rattle.ja_report.specs.Texts.{is_name_unit, is_bare, name_text}
+use Rattle.ja_texts.specs.Texts.{unit_text, units_text}
 
 both : (a b : Bool) → a && b ≡ true → (a ≡ true) × (b ≡ true)
 both true b e = (refl, e)

@@ -2,34 +2,9 @@
 use Rattle.std.specs.Prelude.{ℕ, List, ◌++◌}
 use Rattle.std.specs.Fmt.{decimal}
 use lib.Chars.{codes}
-use Rattle.ja_base.specs.declared.ids.ScopeKind.{ScopeKind}
-use Rattle.ja_base.specs.declared.ids.ScopeKind.TheVariants as scope
 use Rattle.ja_report.specs.declared.refusals.Refusal.{Refusal}
 use Rattle.ja_report.specs.declared.refusals.Refusal.TheVariants.{Usage, ReadFault, TooLong, NotText, Syntax, Scope, Depth, Functions, Nodes, Unbuilt}
-use Rattle.ja_report.specs.Texts.{place_text}
-
--- the kinds of scope go by these names
-abbrev pub scope_name : ScopeKind → List ℕ
-scope_name scope.Eval = codes "Eval"
-scope_name scope.With = codes "With"
-scope_name scope.RegExp = codes "RegExp"
-scope_name scope.Octal = codes "Octal"
-scope_name scope.Number = codes "Number"
-scope_name scope.NonAscii = codes "NonAscii"
-scope_name scope.IdentifierEscape = codes "IdentifierEscape"
-scope_name scope.ReservedWord = codes "ReservedWord"
-scope_name scope.ArgumentsName = codes "ArgumentsName"
-scope_name scope.TextLength = codes "TextLength"
-scope_name scope.Fraction = codes "Fraction"
-scope_name scope.Range = codes "Range"
-scope_name scope.Row = codes "Row"
-scope_name scope.CodeMaker = codes "CodeMaker"
-scope_name scope.DeviceObject = codes "DeviceObject"
-scope_name scope.LengthObject = codes "LengthObject"
-scope_name scope.SharedArgument = codes "SharedArgument"
-scope_name scope.CaseChange = codes "CaseChange"
-scope_name scope.Radix = codes "Radix"
-scope_name scope.Register = codes "Register"
+use Rattle.ja_texts.specs.Texts.{place_text, scope_name}
 
 -- one line: how the program is called, that its input failed, that its text is too long, the offset of the first byte that
 -- begins no character, the place of the first token with which no program goes on, or where the text leaves the profile and

@@ -5,8 +5,6 @@ use Rattle.std.specs.Option.{option_map_or}
 use Rattle.std.specs.Fmt.{decimal}
 use lib.Chars.{codes}
 use Rattle.ja_base.specs.declared.ids.Context.{Context}
-use Rattle.ja_graph.specs.declared.program.Class.{Class}
-use Rattle.ja_graph.specs.declared.program.Class.TheVariants as class
 use Rattle.ja_graph.specs.declared.program.Program.{Program}
 use Rattle.ja_graph.specs.declared.program.SiteInfo.{SiteInfo}
 use Rattle.ja_model.specs.declared.table.Item.{Item}
@@ -16,7 +14,8 @@ use Rattle.ja_model.specs.declared.table.WarningKind.TheVariants.{NotAFunction, 
 use Rattle.ja_model.specs.declared.table.Warning.{Warning}
 use Rattle.ja_model.specs.AbstractState.{site_of}
 use Rattle.ja_model.specs.Table.{Table, root}
-use Rattle.ja_report.specs.Texts.{place_text, builtin_of, numbered_site, label_text}
+use Rattle.ja_report.specs.Texts.{builtin_of, numbered_site, label_text}
+use Rattle.ja_texts.specs.Texts.{place_text, class_text}
 use Rattle.ja_report.specs.Lines.{line_text, line_sites, entry_lines, table_lines}
 
 -- ---- warnings
@@ -72,17 +71,6 @@ abbrev pub table_sites : Program → Table → List ℕ
 table_sites p t = flat_map (line_sites p) (table_lines p t)
 
 -- a site of the text has a place and a class
-abbrev pub class_text : Class → List ℕ
-class_text class.Object = codes "Object"
-class_text class.Function = codes "Function"
-class_text class.Array = codes "Array"
-class_text class.String = codes "String"
-class_text class.Boolean = codes "Boolean"
-class_text class.Number = codes "Number"
-class_text class.Error = codes "Error"
-class_text class.Math = codes "Math"
-class_text class.Activation = codes "Activation"
-
 unfoldable pub info_text : Program → ℕ → List ℕ
 info_text p s = option_map_or (λ (info : SiteInfo). place_text info.place ++ codes " " ++ class_text info.class) (slice_get p.sites s) []
 

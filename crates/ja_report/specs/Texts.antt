@@ -1,4 +1,4 @@
--- The texts of places, names, keys, labels, values and attributes.
+-- The texts of names, keys, labels, values and attributes.
 use Rattle.std.specs.Prelude.{ℕ, ◌-◌, ◌/◌, ◌%◌, Bool, false, not, ◌&&◌, ◌||◌, if◌then◌else◌, ◌==◌, nat_le, List, [], ◌∷◌, ◌++◌, map, filter, Option, unwrap_or, slice_get}
 use Rattle.std.specs.List.{flat_map, list_all, join_with_byte}
 use Rattle.std.specs.Option.{option_map, option_map_or, option_and_then}
@@ -24,29 +24,7 @@ use Rattle.ja_model.specs.declared.abstraction.Key.{Key}
 use Rattle.ja_model.specs.declared.abstraction.Key.TheVariants as key
 use Rattle.ja_model.specs.AbstractValue.{AbstractValue}
 use Rattle.ja_model.specs.AbstractState.{labels_of}
-
--- a place is its line and its column
-unfoldable pub place_text : Place → List ℕ
-place_text at = decimal at.line ++ codes ":" ++ decimal at.column
-
--- ---- strings
-
--- four hexadecimal digits, in lower case
-abbrev pub four_digits : ℕ → List ℕ
-four_digits u =
-    digit_glyph false (u / 4096 % 16) ∷ digit_glyph false (u / 256 % 16) ∷ digit_glyph false (u / 16 % 16) ∷ digit_glyph false (u % 16) ∷ []
-
--- a unit of a string: `"` and `\` stand behind a `\`, and what is not from 0x20 to 0x7E behind a `\u`
-abbrev pub unit_text : ℕ → List ℕ
-unit_text u =
-    if (u == 34) || (u == 92) then 92 ∷ u ∷ [] else if nat_le 32 u && nat_le u 126 then u ∷ [] else codes "\\u" ++ four_digits u
-
-unfoldable pub units_text : List ℕ → List ℕ
-units_text t = flat_map unit_text t
-
--- a string in double quotes
-unfoldable pub quoted : List ℕ → List ℕ
-quoted t = codes "\"" ++ units_text t ++ codes "\""
+use Rattle.ja_texts.specs.Texts.{units_text, quoted}
 
 -- ---- names and keys
 

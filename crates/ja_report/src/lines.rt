@@ -13,12 +13,13 @@ ghost use Rattle.ja_report.specs.Lines.{entry, point, owner_text, property_text,
 ghost use Rattle.ja_report.specs.Output.{Adds};
 
 use crate::output::Output;
-use crate::texts::{push_attrs, push_key, push_number, push_register, push_site};
+use crate::texts::{push_attrs, push_key, push_register, push_site};
 use crate::values::{name_label, push_value, site_count};
 use ja_base::{Label, Memory, NameId, Reg, Site};
 use ja_graph::Program;
 use ja_model::{AAttrs, Key, Mask, May, NumberPart, Slot, TextPart};
 use ja_state::{AObject, AState, DemandedEntries};
+use ja_texts::push_number;
 use ja_value::{AProp, AValue};
 use std::alloc::Global;
 
@@ -241,11 +242,11 @@ fn push_mask(out: &mut Output, program: &Program, site: Site, mask: Mask) -> Res
     }
     out.text.extend_from_slice(b"alloc ")?;
     push_site(&mut out.text, program, site)?;
-    match (mask.none, mask.some) {
-        (true, true) => out.text.extend_from_slice(b" maybe\n")?,
-        (false, true) => out.text.extend_from_slice(b" some\n")?,
-        (_, false) => out.text.extend_from_slice(b" none\n")?,
-    }
+    out.text.extend_from_slice(match (mask.none, mask.some) {
+        (true, true) => b" maybe\n",
+        (false, true) => b" some\n",
+        (_, false) => b" none\n",
+    })?;
     out.named.push(site.0)?;
     Ok(())
 }

@@ -1,7 +1,9 @@
-ghost use Rattle.std.specs.Prelude.{◌≡◌, IfOk};
+ghost use Rattle.std.specs.Prelude.{◌≡◌, ◌++◌, IfOk, OnOk, decimal};
+ghost use lib.Chars.{codes};
+ghost use Rattle.ja_texts.specs.Texts.{place_text, scope_name};
 
-use crate::texts::{push_number, push_place};
 use ja_base::{Memory, Place, ScopeKind};
+use ja_texts::{push_number, push_place, scope_name};
 use std::alloc::Global;
 
 /// Why there is no answer.
@@ -29,33 +31,63 @@ pub enum Refusal {
     Unbuilt { place: Place },
 }
 
-ghost use Rattle.ja_report.specs.Refusals.{scope_name, refusal_text};
+ghost use Rattle.ja_report.specs.Refusals.{refusal_text};
 
-/// The name of a kind of scope.
-fn scope_name(kind: ScopeKind) -> &'static [u8]
-    ensures { result.now ≡ scope_name kind }
+/// Adds bytes.
+fn push_bytes(text: &mut Vec<u8>, bytes: &[u8]) -> Result<(), Memory>
+    ensures { OnOk result (text.new.items ≡ text.old.items ++ bytes.now) }
 {
-    match kind {
-        ScopeKind::Eval => b"Eval",
-        ScopeKind::With => b"With",
-        ScopeKind::RegExp => b"RegExp",
-        ScopeKind::Octal => b"Octal",
-        ScopeKind::Number => b"Number",
-        ScopeKind::NonAscii => b"NonAscii",
-        ScopeKind::IdentifierEscape => b"IdentifierEscape",
-        ScopeKind::ReservedWord => b"ReservedWord",
-        ScopeKind::ArgumentsName => b"ArgumentsName",
-        ScopeKind::TextLength => b"TextLength",
-        ScopeKind::Fraction => b"Fraction",
-        ScopeKind::Range => b"Range",
-        ScopeKind::Row => b"Row",
-        ScopeKind::CodeMaker => b"CodeMaker",
-        ScopeKind::DeviceObject => b"DeviceObject",
-        ScopeKind::LengthObject => b"LengthObject",
-        ScopeKind::SharedArgument => b"SharedArgument",
-        ScopeKind::CaseChange => b"CaseChange",
-        ScopeKind::Radix => b"Radix",
-        ScopeKind::Register => b"Register",
+    text.extend_from_slice(bytes)?;
+    Ok(())
+}
+
+/// Adds a line that ends with an offset.
+fn push_offset(text: &mut Vec<u8>, words: &[u8], offset: usize) -> Result<(), Memory>
+    ensures { OnOk result (text.new.items ≡ text.old.items ++ words.now ++ decimal offset ++ codes "\n") }
+{
+    text.extend_from_slice(words)?;
+    push_number(text, offset as u64)?;
+    text.push(b'\n')?;
+    Ok(())
+}
+
+/// Adds a line that ends with a place.
+fn push_line(text: &mut Vec<u8>, words: &[u8], place: Place) -> Result<(), Memory>
+    ensures { OnOk result (text.new.items ≡ text.old.items ++ words.now ++ place_text place ++ codes "\n") }
+{
+    text.extend_from_slice(words)?;
+    push_place(text, place)?;
+    text.push(b'\n')?;
+    Ok(())
+}
+
+/// Adds the line of a text that leaves the profile.
+fn push_scope(text: &mut Vec<u8>, kind: ScopeKind, place: Place) -> Result<(), Memory>
+    ensures { OnOk result (text.new.items ≡ text.old.items ++ codes "scope " ++ scope_name kind ++ codes " " ++ place_text place ++ codes "\n") }
+{
+    text.extend_from_slice(b"scope ")?;
+    text.extend_from_slice(scope_name(kind))?;
+    push_line(text, b" ", place)
+}
+
+/// Adds the line of a refusal.
+fn push_refusal(text: &mut Vec<u8>, refusal: Refusal) -> Result<(), Memory>
+    ensures { OnOk result (text.new.items ≡ text.old.items ++ refusal_text refusal) }
+{
+    match refusal {
+        Refusal::Usage => push_bytes(
+            text,
+            b"usage: tajs analyse [--cert] [--budget N] | check | run [--steps N] | generate --number N\n",
+        ),
+        Refusal::ReadFault => push_bytes(text, b"read fault\n"),
+        Refusal::TooLong => push_bytes(text, b"too long 16777216\n"),
+        Refusal::NotText { offset } => push_offset(text, b"not text ", offset),
+        Refusal::Syntax { place } => push_line(text, b"syntax ", place),
+        Refusal::Scope { kind, place } => push_scope(text, kind, place),
+        Refusal::Depth => push_bytes(text, b"limit depth 200\n"),
+        Refusal::Functions => push_bytes(text, b"limit functions 4096\n"),
+        Refusal::Nodes => push_bytes(text, b"limit nodes 65536\n"),
+        Refusal::Unbuilt { place } => push_line(text, b"unbuilt ", place),
     }
 }
 
@@ -64,37 +96,6 @@ pub fn refusal_text(alloc: Global, refusal: Refusal) -> Result<Vec<u8>, Memory>
     ensures { IfOk result (λ text. text.items ≡ refusal_text refusal) }
 {
     let mut text = Vec::new(alloc);
-    match refusal {
-        Refusal::Usage => text.extend_from_slice(
-            b"usage: tajs analyse [--cert] [--budget N] | check | run [--steps N] | generate --number N\n",
-        )?,
-        Refusal::ReadFault => text.extend_from_slice(b"read fault\n")?,
-        Refusal::TooLong => text.extend_from_slice(b"too long 16777216\n")?,
-        Refusal::NotText { offset } => {
-            text.extend_from_slice(b"not text ")?;
-            push_number(&mut text, offset as u64)?;
-            text.push(b'\n')?;
-        }
-        Refusal::Syntax { place } => {
-            text.extend_from_slice(b"syntax ")?;
-            push_place(&mut text, place)?;
-            text.push(b'\n')?;
-        }
-        Refusal::Scope { kind, place } => {
-            text.extend_from_slice(b"scope ")?;
-            text.extend_from_slice(scope_name(kind))?;
-            text.push(b' ')?;
-            push_place(&mut text, place)?;
-            text.push(b'\n')?;
-        }
-        Refusal::Depth => text.extend_from_slice(b"limit depth 200\n")?,
-        Refusal::Functions => text.extend_from_slice(b"limit functions 4096\n")?,
-        Refusal::Nodes => text.extend_from_slice(b"limit nodes 65536\n")?,
-        Refusal::Unbuilt { place } => {
-            text.extend_from_slice(b"unbuilt ")?;
-            push_place(&mut text, place)?;
-            text.push(b'\n')?;
-        }
-    }
+    push_refusal(&mut text, refusal)?;
     Ok(text)
 }

@@ -5,13 +5,14 @@ ghost use Rattle.std.specs.List.{flat_map, list_any};
 ghost use Rattle.std.specs.Ordering.{nat_cmp};
 ghost use Rattle.std.specs.BTreeSet.{contains};
 ghost use Rattle.ja_graph.specs.WellFormed.{IsWellFormed};
-ghost use Rattle.ja_report.specs.Report.{kind_text, certainty_text, warning_text, warnings_text, context_text, item_text, visits_text, class_text, info_text, is_text_site, site_line, named_sites, sites_text};
+ghost use Rattle.ja_report.specs.Report.{kind_text, certainty_text, warning_text, warnings_text, context_text, item_text, visits_text, info_text, is_text_site, site_line, named_sites, sites_text};
 
-use crate::texts::{push_label, push_number, push_numbered_site, push_place};
+use crate::texts::{push_label, push_numbered_site};
 use crate::values::site_count;
 use ja_base::{Context, Memory, Site};
-use ja_graph::{Class, Program};
+use ja_graph::Program;
 use ja_model::{Item, Warning, WarningKind};
+use ja_texts::{class_text, push_number, push_place};
 use std::alloc::Global;
 use std::collections::BTreeSet;
 
@@ -45,7 +46,7 @@ fn push_warning(text: &mut Vec<u8>, warning: Warning) -> Result<(), Memory>
     Ok(())
 }
 
-#[tactic(auto, using(crate::proofs::Lists::added_none, crate::proofs::Lists::added_more, crate::proofs::Lists::added_all))]
+#[tactic(auto, using(ja_texts::proofs::Lists::added_none, ja_texts::proofs::Lists::added_more, ja_texts::proofs::Lists::added_all))]
 fn push_each_warning(text: &mut Vec<u8>, warnings: &[Warning]) -> Result<(), Memory>
     ensures { OnOk result (text.new.items ≡ text.old.items ++ flat_map warning_text warnings.now) }
 {
@@ -99,7 +100,7 @@ fn push_item(text: &mut Vec<u8>, program: &Program, item: Item) -> Result<(), Me
     Ok(())
 }
 
-#[tactic(auto, using(crate::proofs::Lists::added_none, crate::proofs::Lists::added_more, crate::proofs::Lists::added_all))]
+#[tactic(auto, using(ja_texts::proofs::Lists::added_none, ja_texts::proofs::Lists::added_more, ja_texts::proofs::Lists::added_all))]
 pub(crate) fn push_items(
     text: &mut Vec<u8>,
     program: &Program,
@@ -175,22 +176,6 @@ fn named_sites(alloc: Global, program: &Program, named: &[u32]) -> Result<Vec<u3
     Ok(sites)
 }
 
-fn class_text(class: Class) -> &'static [u8]
-    ensures { result.now ≡ class_text class }
-{
-    match class {
-        Class::Object => b"Object",
-        Class::Function => b"Function",
-        Class::Array => b"Array",
-        Class::String => b"String",
-        Class::Boolean => b"Boolean",
-        Class::Number => b"Number",
-        Class::Error => b"Error",
-        Class::Math => b"Math",
-        Class::Activation => b"Activation",
-    }
-}
-
 #[tactic(auto, unfolding(crate::specs::Report::info_text))]
 fn push_info(text: &mut Vec<u8>, program: &Program, number: u32) -> Result<(), Memory>
     ensures { OnOk result (text.new.items ≡ text.old.items ++ info_text program.now number) }
@@ -214,7 +199,7 @@ fn push_site_line(text: &mut Vec<u8>, program: &Program, number: u32) -> Result<
     Ok(())
 }
 
-#[tactic(auto, using(crate::proofs::Lists::added_none, crate::proofs::Lists::added_more, crate::proofs::Lists::added_all))]
+#[tactic(auto, using(ja_texts::proofs::Lists::added_none, ja_texts::proofs::Lists::added_more, ja_texts::proofs::Lists::added_all))]
 fn push_site_lines(text: &mut Vec<u8>, program: &Program, numbers: &[u32]) -> Result<(), Memory>
     ensures { OnOk result (text.new.items ≡ text.old.items ++ flat_map (site_line program.now) numbers.now) }
 {

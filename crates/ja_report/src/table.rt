@@ -37,12 +37,14 @@ fn keys_below(alloc: Global, names: u32) -> Result<Vec<Key>, Memory>
     for number in 0..names {
         keys.push(Key::Name(NameId(number)))?;
     }
-    keys.push(Key::OtherIndex)?;
-    keys.push(Key::OtherName)?;
-    keys.push(Key::Slot(Slot::Prototype))?;
-    keys.push(Key::Slot(Slot::Outer))?;
-    keys.push(Key::Slot(Slot::Scope))?;
-    keys.push(Key::Slot(Slot::Value))?;
+    keys.extend_from_slice(&[
+        Key::OtherIndex,
+        Key::OtherName,
+        Key::Slot(Slot::Prototype),
+        Key::Slot(Slot::Outer),
+        Key::Slot(Slot::Scope),
+        Key::Slot(Slot::Value),
+    ])?;
     Ok(keys)
 }
 

@@ -1,93 +1,15 @@
-//! Writers of the texts of places, names, keys, labels and attributes. Each adds to what was written.
+//! Writers of the texts of names, keys, labels and attributes. Each adds to what was written.
 
-ghost use Rattle.std.specs.Prelude.{◌≡◌, ◌<◌, ◌++◌, false, OnOk, decimal};
+ghost use Rattle.std.specs.Prelude.{◌≡◌, ◌≤◌, ◌-◌, ◌++◌, OnOk, decimal};
+ghost use lib.Chars.{codes};
 ghost use Rattle.std.specs.List.{list_all};
-ghost use Rattle.std.specs.Fmt.{signed_decimal, digit_glyph};
 ghost use Rattle.ja_prim.specs.Characters.{is_digit};
-ghost use Rattle.ja_report.specs.Texts.{place_text, unit_text, units_text, quoted, is_name_unit, is_bare, name_text, slot_text, key_text, site_text, label_text, register_text, attr_text, attrs_text, numbered_site};
+ghost use Rattle.ja_report.specs.Texts.{is_name_unit, is_bare, name_text, slot_text, key_text, site_text, label_text, register_text, attr_text, attrs_text, numbered_site};
 
-use itoa::Buffer;
-use ja_base::{Label, Memory, Place, Site};
+use ja_base::{Label, Memory, Site};
 use ja_graph::Program;
 use ja_model::{AAttrs, Key, May, Slot};
-
-pub(crate) fn push_number(text: &mut Vec<u8>, n: u64) -> Result<(), Memory>
-    ensures { OnOk result (text.new.items ≡ text.old.items ++ decimal n) }
-{
-    let mut buffer = Buffer::new();
-    text.extend_from_slice(buffer.format(n).as_bytes())?;
-    Ok(())
-}
-
-pub(crate) fn push_signed(text: &mut Vec<u8>, n: i64) -> Result<(), Memory>
-    ensures { OnOk result (text.new.items ≡ text.old.items ++ signed_decimal n) }
-{
-    let mut buffer = Buffer::new();
-    text.extend_from_slice(buffer.format(n).as_bytes())?;
-    Ok(())
-}
-
-#[tactic(auto, unfolding(crate::specs::Texts::place_text))]
-pub(crate) fn push_place(text: &mut Vec<u8>, place: Place) -> Result<(), Memory>
-    ensures { OnOk result (text.new.items ≡ text.old.items ++ place_text place) }
-{
-    push_number(text, u64::from(place.line))?;
-    text.push(b':')?;
-    push_number(text, u64::from(place.column))?;
-    Ok(())
-}
-
-/// A hexadecimal digit, in lower case.
-fn glyph(digit: u16) -> u8
-    requires { digit < 16 }
-    ensures { result ≡ digit_glyph false digit }
-{
-    if digit < 10 {
-        b'0' + digit as u8
-    } else {
-        b'a' + (digit as u8 - 10)
-    }
-}
-
-fn push_unit(text: &mut Vec<u8>, unit: u16) -> Result<(), Memory>
-    ensures { OnOk result (text.new.items ≡ text.old.items ++ unit_text unit) }
-{
-    if unit == 34 || unit == 92 {
-        text.push(b'\\')?;
-        text.push(unit as u8)?;
-        return Ok(());
-    }
-    if 32 <= unit && unit <= 126 {
-        text.push(unit as u8)?;
-        return Ok(());
-    }
-    text.extend_from_slice(b"\\u")?;
-    text.push(glyph(unit / 4096 % 16))?;
-    text.push(glyph(unit / 256 % 16))?;
-    text.push(glyph(unit / 16 % 16))?;
-    text.push(glyph(unit % 16))?;
-    Ok(())
-}
-
-#[tactic(auto, using(crate::proofs::Lists::added_none, crate::proofs::Lists::added_more, crate::proofs::Lists::added_all), unfolding(crate::specs::Texts::units_text))]
-fn push_units(text: &mut Vec<u8>, units: &[u16]) -> Result<(), Memory>
-    ensures { OnOk result (text.new.items ≡ text.old.items ++ units_text units.now) }
-{
-    for unit in units {
-        push_unit(text, *unit)?;
-    }
-    Ok(())
-}
-
-#[tactic(auto, unfolding(crate::specs::Texts::quoted))]
-pub(crate) fn push_quoted(text: &mut Vec<u8>, units: &[u16]) -> Result<(), Memory>
-    ensures { OnOk result (text.new.items ≡ text.old.items ++ quoted units.now) }
-{
-    text.push(b'"')?;
-    push_units(text, units)?;
-    text.push(b'"')?;
-    Ok(())
-}
+use ja_texts::{push_number, push_quoted, push_units};
 
 fn is_digit(unit: u16) -> bool
     ensures { result ≡ is_digit unit }
@@ -189,22 +111,29 @@ pub(crate) fn push_label(text: &mut Vec<u8>, program: &Program, label: Label) ->
     Ok(())
 }
 
+fn push_numbered_register(text: &mut Vec<u8>, register: u32) -> Result<(), Memory>
+    requires { 6 ≤ register }
+    ensures { OnOk result (text.new.items ≡ text.old.items ++ codes "r" ++ decimal (register - 6)) }
+{
+    text.push(b'r')?;
+    push_number(text, u64::from(register - 6))?;
+    Ok(())
+}
+
 #[tactic(auto, unfolding(crate::specs::Texts::register_text))]
 pub(crate) fn push_register(text: &mut Vec<u8>, register: u32) -> Result<(), Memory>
     ensures { OnOk result (text.new.items ≡ text.old.items ++ register_text register) }
 {
-    match register {
-        0 => text.extend_from_slice(b"thrown")?,
-        1 => text.extend_from_slice(b"this")?,
-        2 => text.extend_from_slice(b"scope")?,
-        3 => text.extend_from_slice(b"callee")?,
-        4 => text.extend_from_slice(b"count")?,
-        5 => text.extend_from_slice(b"rest")?,
-        _ => {
-            text.push(b'r')?;
-            push_number(text, u64::from(register - 6))?;
-        }
-    }
+    let word: &[u8] = match register {
+        0 => b"thrown",
+        1 => b"this",
+        2 => b"scope",
+        3 => b"callee",
+        4 => b"count",
+        5 => b"rest",
+        _ => return push_numbered_register(text, register),
+    };
+    text.extend_from_slice(word)?;
     Ok(())
 }
 
@@ -227,8 +156,10 @@ pub(crate) fn push_attrs(text: &mut Vec<u8>, key: Key, attrs: AAttrs) -> Result<
         text.extend_from_slice(b"...")?;
         return Ok(());
     }
-    text.push(attr_text(b'R', attrs.read_only))?;
-    text.push(attr_text(b'E', attrs.dont_enum))?;
-    text.push(attr_text(b'D', attrs.dont_delete))?;
+    text.extend_from_slice(&[
+        attr_text(b'R', attrs.read_only),
+        attr_text(b'E', attrs.dont_enum),
+        attr_text(b'D', attrs.dont_delete),
+    ])?;
     Ok(())
 }

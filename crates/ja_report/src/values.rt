@@ -8,10 +8,11 @@ ghost use Rattle.ja_report.specs.Texts.{part, property_parts, primitive_parts, n
 ghost use Rattle.ja_report.specs.Lines.{label_sites, value_sites};
 
 use crate::output::Output;
-use crate::texts::{push_label, push_quoted, push_signed};
+use crate::texts::push_label;
 use ja_base::{Label, Memory};
 use ja_graph::Program;
 use ja_model::{Flags, NumberPart, TextPart};
+use ja_texts::{push_quoted, push_signed};
 use ja_value::{AValue, LabelSet};
 use std::alloc::Global;
 

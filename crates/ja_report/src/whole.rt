@@ -11,11 +11,11 @@ ghost use Rattle.ja_report.specs.Report.{context_line, entries_line, context_hea
 use crate::output::Output;
 use crate::sections::{push_context, push_items, push_sites, push_visits, push_warnings};
 use crate::table::{push_entries, push_points};
-use crate::texts::push_number;
 use ja_base::{Context, FnId, Label, Memory};
 use ja_graph::{GLOBAL, Program};
 use ja_model::{Item, Warning};
 use ja_rules::ATable;
+use ja_texts::push_number;
 use std::alloc::Global;
 
 #[tactic(auto, unfolding(crate::specs::Report::report_head))]

@@ -1,7 +1,7 @@
 use Rattle.std.proofs.Common.{◌≡◌, ◌++◌, take}
 use Rattle.std.specs.List.{flat_map}
-use Rattle.ja_report.specs.Texts.{unit_text}
-use Rattle.ja_report.proofs.texts.push_units.Given as goal
+use Rattle.ja_texts.specs.Texts.{unit_text}
+use Rattle.ja_texts.proofs.texts.push_units.Given as goal
 
 -- the units so far are written
 abbrev pub invariant-loop-unit : goal.invariant-loop-unit
