@@ -1,0 +1,5 @@
+pub mod Properties
+pub mod Links
+pub mod InSight
+pub mod Cuts
+pub mod Changes
