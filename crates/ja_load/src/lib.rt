@@ -10,6 +10,6 @@ mod loading;
 mod opening;
 pub mod table_laws;
 
-pub use built::unbuilt;
+pub use built::{Purpose, unbuilt};
 pub use fault::LoadFault;
-pub use loading::load;
+pub use loading::{load, load_to_run};

@@ -5,11 +5,11 @@ ghost use Rattle.ja_graph.specs.WellFormed as graph;
 ghost use Rattle.ja_load.specs.Built as built;
 ghost use Rattle.ja_load.specs.Builtins as builtins;
 ghost use Rattle.ja_load.specs.Explaining.{Explains};
-ghost use Rattle.ja_load.specs.Loading.{HasNone, IsProgramOf, program_of};
+ghost use Rattle.ja_load.specs.Loading.{HasNone, HasNoneFor, HasNoneToRun, IsProgramOf, IsProgramFor, IsProgramToRun, program_of};
 ghost use Rattle.ja_lower.specs.Limits.{IsWithin};
 ghost use Rattle.ja_lower.specs.Lowering.{lowered};
 
-use crate::built::unbuilt;
+use crate::built::{Purpose, unbuilt_for};
 use crate::builtins::{builtin_names, builtin_sites, opening_objects};
 use crate::fault::LoadFault;
 use ja_base::{FnId, Seq};
@@ -20,15 +20,15 @@ use ja_parse::parse;
 use ja_syntax::Tree;
 use std::alloc::Global;
 
-/// What a tree within the limits comes to, if all its forms are built.
+/// What a tree within the limits comes to, if all its forms are built for a purpose.
 #[tactic(auto, using(crate::proofs::TableLemmas::sites_count, crate::proofs::TableLemmas::names_count))]
-fn lower_built(alloc: Global, tree: &Tree) -> Result<Lowered, LoadFault>
+fn lower_built(alloc: Global, purpose: Purpose, tree: &Tree) -> Result<Lowered, LoadFault>
     ensures lowered { IfOk result (λ l. l ≡ lowered graph.builtin_names (length builtins.builtin_sites) tree.now.statements) }
     ensures within { IfOk result (λ _. IsWithin graph.builtin_names tree.now.statements) }
-    ensures built { IfOk result (λ _. built.unbuilt tree.now.statements ≡ None) }
+    ensures built { IfOk result (λ _. built.unbuilt_for purpose tree.now.statements ≡ None) }
     ensures registers { IfOk result (λ l. AllByRecursion (λ fn. fn.registers ≤ 262144) l.functions) }
     ensures names { IfOk result (λ l. length l.names ≤ 1048576) }
-    ensures fault { IfErr result (Explains tree.now.statements) }
+    ensures fault { IfErr result (Explains purpose tree.now.statements) }
 {
     let names = builtin_names(alloc)?;
     let lowered = match lower(alloc, tree, &names, BUILTIN_CLASSES.len() as u32) {
@@ -38,7 +38,7 @@ fn lower_built(alloc: Global, tree: &Tree) -> Result<Lowered, LoadFault>
         Err(LowerFault::Names) => return Err(LoadFault::Names),
         Err(LowerFault::Memory) => return Err(LoadFault::Parse(ParseFault::Memory)),
     };
-    match unbuilt(tree) {
+    match unbuilt_for(alloc, purpose, tree)? {
         Some(place) => Err(LoadFault::Unbuilt { place }),
         None => Ok(lowered),
     }
@@ -46,19 +46,24 @@ fn lower_built(alloc: Global, tree: &Tree) -> Result<Lowered, LoadFault>
 
 /// The program of a tree, with the text that the tree comes from.
 #[tactic(auto, unfolding(crate::specs::Loading::program_of))]
-fn program_of_tree(alloc: Global, tree: &Tree, text: &str) -> Result<Program, LoadFault>
+fn program_of_tree(
+    alloc: Global,
+    purpose: Purpose,
+    tree: &Tree,
+    text: &str,
+) -> Result<Program, LoadFault>
     ensures program { IfOk result (λ p. p ≡ program_of p.text tree.now.statements) }
     ensures text { IfOk result (λ p. string_bytes p.text ≡ text.now) }
     ensures within { IfOk result (λ _. IsWithin graph.builtin_names tree.now.statements) }
-    ensures built { IfOk result (λ _. built.unbuilt tree.now.statements ≡ None) }
+    ensures built { IfOk result (λ _. built.unbuilt_for purpose tree.now.statements ≡ None) }
     ensures well_formed { IfOk result graph.IsWellFormed }
-    ensures fault { IfErr result (Explains tree.now.statements) }
+    ensures fault { IfErr result (Explains purpose tree.now.statements) }
 {
     let Lowered {
         functions,
         sites,
         names,
-    } = lower_built(alloc, tree)?;
+    } = lower_built(alloc, purpose, tree)?;
     let text_functions = functions.len() as u32;
     let mut all_sites = builtin_sites(alloc)?;
     all_sites.append(&mut sites.into_vec())?;
@@ -85,7 +90,21 @@ fn program_of_tree(alloc: Global, tree: &Tree, text: &str) -> Result<Program, Lo
     })
 }
 
-/// The program of a text of at most 16,777,216 bytes.
+/// The program of a text for a purpose.
+fn load_for(alloc: Global, purpose: Purpose, text: &str) -> Result<Program, LoadFault>
+    requires { length text.now ≤ 16777216 }
+    ensures program { IfOk result (IsProgramFor purpose text.now) }
+    ensures well_formed { IfOk result graph.IsWellFormed }
+    ensures fault { IfErr result (HasNoneFor purpose text.now) }
+{
+    let tree = match parse(alloc, text) {
+        Ok(tree) => tree,
+        Err(fault) => return Err(LoadFault::Parse(fault)),
+    };
+    program_of_tree(alloc, purpose, &tree, text)
+}
+
+/// The program of a text of at most 16,777,216 bytes, to be analysed.
 ///
 /// # Errors
 ///
@@ -100,9 +119,20 @@ pub fn load(alloc: Global, text: &str) -> Result<Program, LoadFault>
     ensures well_formed { IfOk result graph.IsWellFormed }
     ensures fault { IfErr result (HasNone text.now) }
 {
-    let tree = match parse(alloc, text) {
-        Ok(tree) => tree,
-        Err(fault) => return Err(LoadFault::Parse(fault)),
-    };
-    program_of_tree(alloc, &tree, text)
+    load_for(alloc, Purpose::Analysis, text)
+}
+
+/// The program of a text of at most 16,777,216 bytes, to be run.
+///
+/// # Errors
+///
+/// Those of `load`, but for `Unbuilt`: it comes exactly where the text has a function and none of the others
+/// comes, with the place of the first word `function`.
+pub fn load_to_run(alloc: Global, text: &str) -> Result<Program, LoadFault>
+    requires { length text.now ≤ 16777216 }
+    ensures program { IfOk result (IsProgramToRun text.now) }
+    ensures well_formed { IfOk result graph.IsWellFormed }
+    ensures fault { IfErr result (HasNoneToRun text.now) }
+{
+    load_for(alloc, Purpose::Run, text)
 }

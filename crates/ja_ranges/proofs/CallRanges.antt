@@ -23,7 +23,7 @@ use Rattle.ja_expressions.specs.Calls.{Arguments, list_arguments, with_call, cal
 use Rattle.ja_names.specs.TextOrder.{Parts, if_any, in_name}
 use Rattle.ja_ranges.specs.Found.{HasName, HasFunctionAt, HasParts}
 use Rattle.ja_ranges.specs.InRange.{Limits, IsTemporary, limits_of}
-use Rattle.ja_ranges.proofs.LineRanges.{all_append, name_in_range, function_in_range, sound_with_node, sound_with_result, sound_with_const, sound_with_copy, sound_with_text, sound_move_to_scope}
+use Rattle.ja_ranges.proofs.LineRanges.{all_append, name_in_range, function_in_range, some_function, sound_with_node, sound_with_result, sound_with_const, sound_with_copy, sound_with_text, sound_move_to_scope}
 use Rattle.ja_ranges.proofs.NodeRanges.{read_prop_in_range, write_prop_in_range, delete_prop_in_range, has_prop_in_range, new_object_in_range, make_function_in_range, push_scope_in_range, bind_in_range, call_in_range, new_in_range, spread_in_range, stop_in_range, tail_in_range, intrinsic_in_range}
 use Rattle.ja_ranges.proofs.OperandRanges.{sound_get_value, sound_with_object, sound_value_of}
 use Rattle.ja_ranges.proofs.Sound.{IsSound, IsSoundValued, IsSoundOutcome, IsSoundForm}
@@ -100,7 +100,7 @@ module _ (parameters : ℕ) (scene : Scene) where
   pub sound_make_function : {l : Listing} (place : Place) → HasFunctionAt scene place → IsSound (limits_of parameters scene) l → IsSoundValued (limits_of parameters scene) (make_function scene place l)
   sound_make_function place here sound =
       sound_with_result scene place (λ dst. MakeFunction dst (function_id scene place) (site 0) (site 1))
-      (λ dst set. make_function_in_range (limits_of parameters scene) dst (function_id scene place) set (function_in_range scene place here)) sound
+      (λ dst set. make_function_in_range (limits_of parameters scene) dst (function_id scene place) set (function_in_range scene place here) (some_function scene place here)) sound
 
   pub sound_list_named_function : {l : Listing} (name : Name) (place : Place) → HasFunctionAt scene place → HasName scene name.text → IsSound (limits_of parameters scene) l → IsSoundValued (limits_of parameters scene) (list_named_function name place scene l)
   unfolding list_named_function

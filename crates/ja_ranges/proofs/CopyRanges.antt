@@ -25,59 +25,60 @@ use Rattle.ja_listing.proofs.Inside.{block_whole}
 use Rattle.ja_draft.specs.Lines.{Listing, Scene}
 use Rattle.ja_draft.specs.Copies.{Template, moved_register, moving, moves_with, moved_node, moved_block, with_block}
 use Rattle.ja_statements.specs.Ways.{Way, of_loop, of_switch, of_label, of_catch, of_finally, Leaving, with_scope, copied_above, leave, restored, arrive, arrive_or, jump_to, leave_all}
-use Rattle.ja_ranges.specs.InRange.{Limits, IsTemporary, IsDestination, IsOfTexts, IsInRange, OfNode, AllInRange}
+use Rattle.ja_ranges.specs.InRange.{Limits, IsTemporary, IsDestination, IsOfTexts, IsOfTextsWithoutFunctions, IsInRange, OfNode, AllInRange}
 use Rattle.ja_ranges.proofs.LineRanges.{all_append, sound_with_item, sound_with_jump, sound_move_to_scope}
 use Rattle.ja_ranges.proofs.Sound.{IsSound, IsSoundBlock, AreSoundLines, IsSoundWay}
 
 -- ---- a moved node
 
--- what a moved node keeps: its name, its function, that it is one of texts, and its sites
+-- what a moved node keeps: its name, its function, that it is one of texts, its sites, and that it is one of texts without functions
 abbrev Keeps : ℕ → ℕ → Node → Type 0
 Keeps first by n =
     (name_in (renamed (moving first by) n) ≡ name_in n)
     × (function_in (renamed (moving first by) n) ≡ function_in n)
     × (IsOfTexts n → IsOfTexts (renamed (moving first by) n))
     × (makings (renamed (moving first by) n) ≡ makings n)
+    × (IsOfTextsWithoutFunctions n → IsOfTextsWithoutFunctions (renamed (moving first by) n))
 
 keeps : (first by : ℕ) (n : Node) → Keeps first by n
 unfolding renamed name_in function_in makings
-keeps first by (node.Const dst prim) = (refl, refl, λ h. h, refl)
-keeps first by (node.Move dst src) = (refl, refl, λ h. h, refl)
-keeps first by (node.FindName dst name) = (refl, refl, λ h. h, refl)
-keeps first by (node.ReadRef dst base name error) = (refl, refl, λ h. h, refl)
-keeps first by (node.ReadSoft dst base name) = (refl, refl, λ h. h, refl)
-keeps first by (node.WriteRef base name src) = (refl, refl, λ h. h, refl)
-keeps first by (node.DeleteRef dst base name) = (refl, refl, λ h. h, refl)
-keeps first by (node.ToObject dst src sites error) = (refl, refl, λ h. h, refl)
-keeps first by (node.NeedObject src error) = (refl, refl, λ h. h, refl)
-keeps first by (node.ReadProp dst object key) = (refl, refl, λ h. h, refl)
-keeps first by (node.WriteProp object key src error) = (refl, refl, λ h. h, refl)
-keeps first by (node.DeleteProp dst object key) = (refl, refl, λ h. h, refl)
-keeps first by (node.HasProp dst object key) = (refl, refl, λ h. h, refl)
-keeps first by (node.InstanceOf dst left right not_function not_object) = (refl, refl, λ h. h, refl)
-keeps first by (node.NewObject dst site kind) = (refl, refl, λ h. h, refl)
-keeps first by (node.MakeFunction dst function site proto_site) = (refl, refl, λ h. h, refl)
-keeps first by (node.Enter site None) = (refl, refl, λ h. h, refl)
-keeps first by (node.Enter site (Some arguments)) = (refl, refl, λ h. h, refl)
-keeps first by (node.Declare name) = (refl, refl, λ h. h, refl)
-keeps first by (node.Bind name src read_only) = (refl, refl, λ h. h, refl)
-keeps first by (node.PushScope site) = (refl, refl, λ h. h, refl)
-keeps first by (node.Convert dst src hint other) = (refl, refl, λ h. h, refl)
-keeps first by (node.Unary dst op src) = (refl, refl, λ h. h, refl)
-keeps first by (node.Binary dst op a b) = (refl, refl, λ h. h, refl)
-keeps first by (node.Branch src) = (refl, refl, λ h. h, refl)
-keeps first by (node.Call dst callee receiver (args.Registers list) error) = (refl, refl, λ h. h, refl)
-keeps first by (node.Call dst callee receiver (args.Elements array) error) = (refl, refl, λ h. h, refl)
-keeps first by (node.Call dst callee receiver args.Tail error) = (refl, refl, λ h. h, refl)
-keeps first by (node.New dst callee args site error) = (refl, refl, λ h. h, refl)
-keeps first by (node.Names list object) = (refl, refl, λ h. h, refl)
-keeps first by (node.Pick list dst object) = (refl, refl, λ h. h, refl)
-keeps first by (node.Throw src) = (refl, refl, λ h. h, refl)
-keeps first by (node.Return src) = (refl, refl, λ h. h, refl)
-keeps first by node.Escape = (refl, refl, λ h. h, refl)
-keeps first by (node.Intrinsic dst which args) = (refl, refl, λ h. h, refl)
-keeps first by (node.Device dst which) = (refl, refl, λ h. h, refl)
-keeps first by (node.Stop kind) = (refl, refl, λ h. h, refl)
+keeps first by (node.Const dst prim) = (refl, refl, λ h. h, refl, λ h. h)
+keeps first by (node.Move dst src) = (refl, refl, λ h. h, refl, λ h. h)
+keeps first by (node.FindName dst name) = (refl, refl, λ h. h, refl, λ h. h)
+keeps first by (node.ReadRef dst base name error) = (refl, refl, λ h. h, refl, λ h. h)
+keeps first by (node.ReadSoft dst base name) = (refl, refl, λ h. h, refl, λ h. h)
+keeps first by (node.WriteRef base name src) = (refl, refl, λ h. h, refl, λ h. h)
+keeps first by (node.DeleteRef dst base name) = (refl, refl, λ h. h, refl, λ h. h)
+keeps first by (node.ToObject dst src sites error) = (refl, refl, λ h. h, refl, λ h. h)
+keeps first by (node.NeedObject src error) = (refl, refl, λ h. h, refl, λ h. h)
+keeps first by (node.ReadProp dst object key) = (refl, refl, λ h. h, refl, λ h. h)
+keeps first by (node.WriteProp object key src error) = (refl, refl, λ h. h, refl, λ h. h)
+keeps first by (node.DeleteProp dst object key) = (refl, refl, λ h. h, refl, λ h. h)
+keeps first by (node.HasProp dst object key) = (refl, refl, λ h. h, refl, λ h. h)
+keeps first by (node.InstanceOf dst left right not_function not_object) = (refl, refl, λ h. h, refl, λ h. h)
+keeps first by (node.NewObject dst site kind) = (refl, refl, λ h. h, refl, λ h. h)
+keeps first by (node.MakeFunction dst function site proto_site) = (refl, refl, λ h. h, refl, λ h. h)
+keeps first by (node.Enter site None) = (refl, refl, λ h. h, refl, λ h. h)
+keeps first by (node.Enter site (Some arguments)) = (refl, refl, λ h. h, refl, λ h. h)
+keeps first by (node.Declare name) = (refl, refl, λ h. h, refl, λ h. h)
+keeps first by (node.Bind name src read_only) = (refl, refl, λ h. h, refl, λ h. h)
+keeps first by (node.PushScope site) = (refl, refl, λ h. h, refl, λ h. h)
+keeps first by (node.Convert dst src hint other) = (refl, refl, λ h. h, refl, λ h. h)
+keeps first by (node.Unary dst op src) = (refl, refl, λ h. h, refl, λ h. h)
+keeps first by (node.Binary dst op a b) = (refl, refl, λ h. h, refl, λ h. h)
+keeps first by (node.Branch src) = (refl, refl, λ h. h, refl, λ h. h)
+keeps first by (node.Call dst callee receiver (args.Registers list) error) = (refl, refl, λ h. h, refl, λ h. h)
+keeps first by (node.Call dst callee receiver (args.Elements array) error) = (refl, refl, λ h. h, refl, λ h. h)
+keeps first by (node.Call dst callee receiver args.Tail error) = (refl, refl, λ h. h, refl, λ h. h)
+keeps first by (node.New dst callee args site error) = (refl, refl, λ h. h, refl, λ h. h)
+keeps first by (node.Names list object) = (refl, refl, λ h. h, refl, λ h. h)
+keeps first by (node.Pick list dst object) = (refl, refl, λ h. h, refl, λ h. h)
+keeps first by (node.Throw src) = (refl, refl, λ h. h, refl, λ h. h)
+keeps first by (node.Return src) = (refl, refl, λ h. h, refl, λ h. h)
+keeps first by node.Escape = (refl, refl, λ h. h, refl, λ h. h)
+keeps first by (node.Intrinsic dst which args) = (refl, refl, λ h. h, refl, λ h. h)
+keeps first by (node.Device dst which) = (refl, refl, λ h. h, refl, λ h. h)
+keeps first by (node.Stop kind) = (refl, refl, λ h. h, refl, λ h. h)
 
 module _ (limits : Limits) (first by : ℕ) (temporary : IsTemporary limits first) where
   moved_if : (r : Reg) (b : Bool) → nat_le first r.0 ≡ b → IsDestination limits r → IsDestination limits (if b then record { 0 = r.0 + by } else r)
@@ -97,6 +98,7 @@ module _ (limits : Limits) (first by : ℕ) (temporary : IsTemporary limits firs
         name = rw k.0 h.name;
         function = rw k.1 h.function;
         of_texts = λ texts. k.2 (h.of_texts texts);
+        without_functions = λ none. k.4 (h.without_functions none);
         sites = rw k.3 h.sites;
       }
 

@@ -32,16 +32,16 @@ use Rattle.ja_ranges.proofs.CallRanges.{sound_make_function}
 use Rattle.ja_ranges.proofs.DoesRanges.{each_in_range}
 use Rattle.ja_ranges.proofs.HoistedRanges.{hoisted_found}
 use Rattle.ja_ranges.proofs.Inclusions.{as_parts, all_first, all_second}
-use Rattle.ja_ranges.proofs.LineRanges.{all_append, name_in_range, sound_with_node, sound_restarted, sound_with_const}
+use Rattle.ja_ranges.proofs.LineRanges.{all_append, name_in_range, some_function, sound_with_node, sound_restarted, sound_with_const}
 use Rattle.ja_ranges.proofs.NodeRanges.{enter_in_range, bare_enter_in_range, bind_in_range, declare_in_range, return_in_range, escape_in_range}
 use Rattle.ja_ranges.proofs.CopyRanges.{lines_in_range, copies_whole}
 use Rattle.ja_ranges.proofs.Sound.{IsSound, IsSoundLine, AreSoundLines}
 use Rattle.ja_ranges.proofs.StatementRanges.{sound_all_statements}
 
 module _ (p : ℕ) (scene : Scene) where
-  sound_with_entry : (place : Place) (arguments : Bool) (l : Listing) → IsSound (limits_of p scene) l → IsSound (limits_of p scene) (with_entry scene place arguments l)
-  sound_with_entry place true l s = sound_with_node scene place _ (enter_in_range (limits_of p scene)) s
-  sound_with_entry place false l s = sound_with_node scene place _ (bare_enter_in_range (limits_of p scene)) s
+  sound_with_entry : (place : Place) (arguments : Bool) (l : Listing) → HasFunctionAt scene place → IsSound (limits_of p scene) l → IsSound (limits_of p scene) (with_entry scene place arguments l)
+  sound_with_entry place true l here s = sound_with_node scene place _ (enter_in_range (limits_of p scene) (some_function scene place here)) s
+  sound_with_entry place false l here s = sound_with_node scene place _ (bare_enter_in_range (limits_of p scene) (some_function scene place here)) s
 
   -- ---- declarations
 
@@ -110,7 +110,7 @@ function_sound scene f has =
     let base = first_temporary p in
     let t : IsTemporary (limits_of p scene) base = omega arith in
     (sound_with_body p (unhandled scene) f.place f.body base _ body t
-    (sound_with_entry p (unhandled scene) f.place (mentions_arguments f.body) (nothing_listed base) (record { nodes = tt; next = t }))).nodes
+    (sound_with_entry p (unhandled scene) f.place (mentions_arguments f.body) (nothing_listed base) has.0 (record { nodes = tt; next = t }))).nodes
 
 pub program_in_range : (scene : Scene) (statements : List Statement) → HasText scene statements → AllInRange (limits_of 0 scene) (program_listing scene statements)
 program_in_range scene statements has = lines_in_range (limits_of 0 scene) (program_listing scene statements) (program_sound scene statements has)

@@ -42,6 +42,10 @@ name_in_range scene name has = found_below (bytes_eq name) scene.names has
 pub function_in_range : (scene : Scene) (place : Place) → HasFunctionAt scene place → (function_id scene place).0 ≤ length scene.functions
 function_in_range scene place has = omega (arith, found_below (same_place place) scene.functions has)
 
+-- a text that has a function isn't one without functions
+pub some_function : (scene : Scene) (place : Place) → HasFunctionAt scene place → 0 < length scene.functions
+some_function scene place has = omega (arith, found_below (same_place place) scene.functions has)
+
 -- ---- lines
 
 pub sound_with_item : {limits : Limits} {l : Listing} (i : Item) → IsSoundLine limits i → IsSound limits l → IsSound limits (with_item l i)

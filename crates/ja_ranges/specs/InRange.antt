@@ -8,7 +8,7 @@ use Rattle.ja_base.specs.declared.ids.Reg.{Reg}
 use Rattle.ja_graph.specs.Node.{Making, register_set, name_in, function_in, makings}
 use Rattle.ja_graph.specs.declared.node.Args.TheVariants.{Tail}
 use Rattle.ja_graph.specs.declared.node.Node.{Node}
-use Rattle.ja_graph.specs.declared.node.Node.TheVariants.{Call, Intrinsic, Device}
+use Rattle.ja_graph.specs.declared.node.Node.TheVariants.{MakeFunction, Enter, Call, Intrinsic, Device}
 use Rattle.ja_listing.specs.declared.item.Block.{Block}
 use Rattle.ja_listing.specs.declared.item.BlockNode.{BlockNode}
 use Rattle.ja_listing.specs.declared.item.Item.{Item}
@@ -38,13 +38,20 @@ IsOfTexts (Intrinsic dst which args) = ⊥
 IsOfTexts (Device dst which) = ⊥
 IsOfTexts node = Unit {0}
 
+-- a node that stands in texts without functions: none is made, and none is entered
+abbrev pub IsOfTextsWithoutFunctions : Node → Type 0
+IsOfTextsWithoutFunctions (MakeFunction dst function site proto_site) = ⊥
+IsOfTextsWithoutFunctions (Enter site arguments) = ⊥
+IsOfTextsWithoutFunctions node = Unit {0}
+
 -- The numbers of a node are in range. The program is function 0, and those of its text follow. The sites of a node are numbered from 0
--- on, in the order of its fields. The texts of built-in functions have more kinds of nodes.
+-- on, in the order of its fields. The texts of built-in functions have more kinds of nodes, and those without functions have fewer.
 pub record IsInRange (limits : Limits) (node : Node) : Type 0 where
   pub sets : AllByRecursion (IsDestination limits) (option_to_list (register_set node))
   pub name : AllByRecursion (λ (n : NameId). n.0 < limits.names) (option_to_list (name_in node))
   pub function : AllByRecursion (λ (f : FnId). f.0 ≤ limits.functions) (option_to_list (function_in node))
   pub of_texts : limits.specials ≡ false → IsOfTexts node
+  pub without_functions : limits.functions ≡ 0 → IsOfTextsWithoutFunctions node
   pub sites : map (λ (m : Making). m.site.0) (makings node) ≡ range_with_len 0 (length (makings node))
 
 -- what holds of each node of a block, and of a line

@@ -1,0 +1,5 @@
+pub mod Steps
+pub mod Operators
+pub mod Places
+pub mod Given
+pub mod Lists

@@ -1,0 +1,29 @@
+//! The machine as it runs: one frame over a heap, its first state, what it wants, and its step. Contracts
+//! are by the definitions of the machine.
+#![tactic(auto)]
+
+mod beginning;
+mod calls;
+mod conf;
+mod copies;
+mod enumeration;
+mod events;
+mod frame;
+mod made;
+mod messages;
+mod names;
+mod nodes;
+mod objects;
+mod operators;
+mod properties;
+mod scopes;
+mod stepping;
+mod values;
+mod wanted;
+mod writes;
+
+pub use beginning::opening;
+pub use conf::Conf;
+pub use frame::{Frame, Listed};
+pub use stepping::step;
+pub use wanted::{first_answer, wants};

@@ -1,0 +1,39 @@
+ghost use Rattle.std.specs.Prelude.{◌≡◌, ◌<◌, ◌-◌, ◌^◌, Some, IfOk, IsSome};
+ghost use Rattle.ja_graph.specs.Kinds.{RunsAlone};
+ghost use Rattle.ja_graph.specs.WellFormed.{IsWellFormed};
+ghost use Rattle.ja_machine.specs.Machine.{step};
+ghost use Rattle.ja_step.specs.Steps.{conf_of, event_of};
+
+use crate::Conf;
+use crate::wanted::node_of;
+use ja_base::Memory;
+use ja_graph::{Node, NodeInfo, Program};
+use ja_machine::{Answer, End};
+use std::alloc::Global;
+
+/// One step of a program that runs alone, with an answer with which the machine has a step: one that the state
+/// wants. `None` says that the run goes on, and an end how it has ended; `conf` is then the state behind the step.
+///
+/// # Errors
+///
+/// `Memory` where memory is refused. The step may then be done in part, so the run can't go on.
+pub fn step(
+    alloc: Global,
+    program: &Program,
+    conf: &mut Conf,
+    answer: &Answer,
+) -> Result<Option<End>, Memory>
+    requires program { IsWellFormed program.now }
+    requires alone { RunsAlone program.now }
+    requires steps { conf.old.steps < 2 ^ 64 - 1 }
+    requires fits { IsSome (step program.now (conf_of conf.old) answer.now) }
+    ensures { IfOk result (λ end. step program.now (conf_of conf.old) answer.now ≡ Some (event_of end conf.new)) }
+{
+    let Some(info) = node_of(program, &conf.frame) else {
+        unreachable!()
+    };
+    let steps = conf.steps + 1;
+    let end = conf.step_node(alloc, program, info, answer)?;
+    conf.steps = steps;
+    Ok(end)
+}
