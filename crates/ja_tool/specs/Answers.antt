@@ -1,8 +1,9 @@
 -- The answers of the program: the cause of each status, and the text that is written with it.
-use Rattle.std.specs.Prelude.{◌≡◌, ◌≤◌, ◌⊎◌, ◌+◌, ℕ, String, Bool, true, List, [], ◌∷◌, map, length, Option}
+use Rattle.std.specs.Prelude.{◌≡◌, ◌≤◌, ◌⊎◌, ◌+◌, ℕ, String, Bool, true, List, [], ◌∷◌, map, length, Option, Some, None}
 use lib.Chars.{codes}
 use Rattle.std.specs.Str.{IsUtf8}
 use Rattle.std.specs.Str.Lossy.{utf8_valid_len}
+use Rattle.std.specs.Fmt.{decimal}
 use Rattle.std.specs.String.{string_bytes}
 use Rattle.std.specs.declared.alloc.Global.{Global}
 use Rattle.ja_base.specs.declared.ids.Place.{Place}
@@ -11,7 +12,7 @@ use Rattle.ja_base.specs.Streams.{Rose, Keeps, Took, IsAtEnd, IsLonger, TakesCou
 use Rattle.ja_graph.specs.declared.program.Program.{Program}
 use Rattle.ja_graph.specs.Kinds.{AreBuilt}
 use Rattle.ja_grammar.specs.declared.fault.ParseFault.TheVariants as fault
-use Rattle.ja_load.specs.Loading.{IsProgramOf, HasManyFunctions, HasManyNodes, IsUnbuiltAt, IsNone}
+use Rattle.ja_load.specs.Loading.{IsProgramOf, IsProgramToRun, HasManyFunctions, HasManyNodes, IsUnbuiltAt, HasFunctionAt, IsNone}
 use Rattle.ja_machine.specs.Runs.{NeverStuck}
 use Rattle.ja_model.specs.declared.table.Item.{Item}
 use Rattle.ja_model.specs.declared.table.Warning.{Warning}
@@ -20,18 +21,46 @@ use Rattle.ja_model.specs.Table.{Table, IsBuilt, IsClosed}
 use Rattle.ja_model.specs.Warning.{AreWarnings}
 use Rattle.ja_report.specs.declared.refusals.Refusal.{Refusal}
 use Rattle.ja_report.specs.declared.refusals.Refusal.TheVariants as refusal
-use Rattle.ja_tool.specs.declared.analysis.Answer.{Answer}
 use Rattle.ja_report.specs.Refusals.{refusal_text}
 use Rattle.ja_report.specs.Report.{report_text, spent_text}
+use Rattle.ja_run.specs.declared.ended.Ended.{Ended}
+use Rattle.ja_run.specs.declared.ended.RunEnd.{RunEnd}
+use Rattle.ja_run.specs.declared.ended.RunEnd.TheVariants as run_end
+use Rattle.ja_run.specs.Run.{IsRun}
+use Rattle.ja_run.specs.Transcript.{run_text}
 use Rattle.ja_rules.specs.declared.solver.Solved.{Solved}
 use Rattle.ja_rules.specs.Readings.{table_of, Fits}
 use Rattle.ja_rules.specs.Solving.{WasSpent}
+use Rattle.ja_tool.specs.declared.command.Command.{Command}
+use Rattle.ja_tool.specs.declared.command.Command.TheVariants as command
+use Rattle.ja_tool.specs.declared.refusing.Answer.{Answer}
 use Rattle.ja_tool.specs.declared.status.Status.{Status}
-use Rattle.ja_tool.specs.declared.status.Status.TheVariants.{Done, Warned, Usage, ReadFault, WriteFault, TooLong, NotText, Syntax, Scope, Limit, Spent, Memory, Unbuilt}
+use Rattle.ja_tool.specs.declared.status.Status.TheVariants.{Done, Warned, Usage, ReadFault, WriteFault, TooLong, NotText, Syntax, Scope, Limit, Spent, Left, Uncaught, StepsSpent, Memory, Unbuilt}
 
--- the words are a command line: `analyse` alone
+-- the words are the command line of the analysis: `analyse` alone
 abbrev pub IsCommand : List (String Global) → Type 0
 IsCommand words = map string_bytes words ≡ codes "analyse" ∷ []
+
+-- the number of steps that a run may make, where none is given, and the greatest one
+abbrev pub default_steps : ℕ
+default_steps = 1000000
+
+abbrev pub max_steps : ℕ
+max_steps = 10000000
+
+-- a word is such a number of steps, in decimal digits
+abbrev pub IsSteps : List ℕ → ℕ → Type 0
+IsSteps word steps = (word ≡ decimal steps) × (1 ≤ steps) × (steps ≤ max_steps)
+
+-- the words are a command line of a run that may make so many steps: `run` alone, or `run --steps` and their number
+abbrev pub IsRunCommand : List (String Global) → ℕ → Type 0
+IsRunCommand words steps =
+    ((map string_bytes words ≡ codes "run" ∷ []) × (steps ≡ default_steps))
+    ⊎ ((word : List ℕ) × (map string_bytes words ≡ codes "run" ∷ codes "--steps" ∷ word ∷ []) × IsSteps word steps)
+
+-- the words are a command line
+abbrev pub IsCommandLine : List (String Global) → Type 0
+IsCommandLine words = IsCommand words ⊎ ((steps : ℕ) × IsRunCommand words steps)
 
 -- the greatest number of bytes of a text, and of visits
 abbrev pub max_bytes : ℕ
@@ -84,6 +113,38 @@ Analyses bytes Limit text =
 Analyses bytes Unbuilt text = (place : Place) × IsUnbuiltAt bytes place × (text ≡ refusal_text (refusal.Unbuilt place))
 Analyses bytes status text = ⊥
 
+-- ---- runs
+
+-- the status of the end of a run
+abbrev pub status_of_end : RunEnd → Status
+status_of_end run_end.Normal = Done
+status_of_end (run_end.Uncaught value) = Uncaught
+status_of_end (run_end.Scope kind place) = Left
+status_of_end run_end.Limit = StepsSpent
+
+-- what is written of a program that may make so many steps: the transcript of its run
+abbrev pub Transcribes : Program → ℕ → Status → List ℕ → Type 0
+Transcribes p steps status text = (e : Ended) × IsRun p steps e × (status ≡ status_of_end e.end) × (text ≡ run_text e)
+
+abbrev pub TranscribesText : List ℕ → ℕ → Status → List ℕ → Type 0
+TranscribesText bytes steps status text = (p : Program) × IsProgramToRun bytes p × Transcribes p steps status text
+
+-- The cause of each status of the run of a text, and what is written. A text that is none of the language, or passes a limit, is refused
+-- as by the analysis; of forms only functions are not built.
+abbrev pub Runs : List ℕ → ℕ → Status → List ℕ → Type 0
+Runs bytes steps Done text = TranscribesText bytes steps Done text
+Runs bytes steps Left text = TranscribesText bytes steps Left text
+Runs bytes steps Uncaught text = TranscribesText bytes steps Uncaught text
+Runs bytes steps StepsSpent text = TranscribesText bytes steps StepsSpent text
+Runs bytes steps NotText text = Analyses bytes NotText text
+Runs bytes steps Syntax text = Analyses bytes Syntax text
+Runs bytes steps Scope text = Analyses bytes Scope text
+Runs bytes steps Limit text = Analyses bytes Limit text
+Runs bytes steps Unbuilt text = (place : Place) × HasFunctionAt bytes place × (text ≡ refusal_text (refusal.Unbuilt place))
+Runs bytes steps status text = ⊥
+
+-- ---- calls
+
 -- What a call meets: its words, and what is left of the source and how many faults it has counted, before and after.
 pub record Call : Type 0 where
   pub words : List (String Global)
@@ -101,20 +162,31 @@ pub record IsInput (c : Call) (bytes : List ℕ) : Type 0 where
 abbrev pub AnalysesInput : Call → Status → List ℕ → Type 0
 AnalysesInput c status text = IsCommand c.words × ((bytes : List ℕ) × IsInput c bytes × Analyses bytes status text)
 
+abbrev pub RunsInput : Call → Status → List ℕ → Type 0
+RunsInput c status text =
+    (steps : ℕ) × IsRunCommand c.words steps × ((bytes : List ℕ) × IsInput c bytes × Runs bytes steps status text)
+
+-- either of them
+abbrev pub AnswersInput : Call → Status → List ℕ → Type 0
+AnswersInput c status text = AnalysesInput c status text ⊎ RunsInput c status text
+
 -- the cause of each status that has a text, and the text
 abbrev pub HasCause : Call → Status → List ℕ → Type 0
-HasCause c Usage text = (IsCommand c.words → ⊥) × Keeps c.left c.left_after × (text ≡ refusal_text refusal.Usage)
-HasCause c ReadFault text = IsCommand c.words × Rose c.faults c.faults_after × (text ≡ refusal_text refusal.ReadFault)
+HasCause c Usage text = (IsCommandLine c.words → ⊥) × Keeps c.left c.left_after × (text ≡ refusal_text refusal.Usage)
+HasCause c ReadFault text = IsCommandLine c.words × Rose c.faults c.faults_after × (text ≡ refusal_text refusal.ReadFault)
 HasCause c TooLong text =
-    IsCommand c.words × IsLonger max_bytes c.left × TakesCount (max_bytes + 1) c.left c.left_after × (text ≡ refusal_text refusal.TooLong)
-HasCause c NotText text = AnalysesInput c NotText text
-HasCause c Syntax text = AnalysesInput c Syntax text
-HasCause c Scope text = AnalysesInput c Scope text
-HasCause c Limit text = AnalysesInput c Limit text
-HasCause c Done text = AnalysesInput c Done text
+    IsCommandLine c.words × IsLonger max_bytes c.left × TakesCount (max_bytes + 1) c.left c.left_after × (text ≡ refusal_text refusal.TooLong)
+HasCause c NotText text = AnswersInput c NotText text
+HasCause c Syntax text = AnswersInput c Syntax text
+HasCause c Scope text = AnswersInput c Scope text
+HasCause c Limit text = AnswersInput c Limit text
+HasCause c Unbuilt text = AnswersInput c Unbuilt text
+HasCause c Done text = AnswersInput c Done text
 HasCause c Warned text = AnalysesInput c Warned text
 HasCause c Spent text = AnalysesInput c Spent text
-HasCause c Unbuilt text = AnalysesInput c Unbuilt text
+HasCause c Left text = RunsInput c Left text
+HasCause c Uncaught text = RunsInput c Uncaught text
+HasCause c StepsSpent text = RunsInput c StepsSpent text
 HasCause c WriteFault text = ⊥
 HasCause c Memory text = ⊥
 
@@ -144,6 +216,30 @@ IsAnswered c w status = IsWritten c w status
 pub record IsRefusal (a : Answer) (s : Status) (r : Refusal) : Type 0 where
   pub status_is : a.status ≡ s
   pub text_is : a.text.items ≡ refusal_text r
+
+-- ---- commands
+
+-- what the words ask for
+abbrev pub AsksFor : List (String Global) → Option Command → Type 0
+AsksFor words None = IsCommandLine words → ⊥
+AsksFor words (Some command.Analyse) = IsCommand words
+AsksFor words (Some (command.Run steps)) = IsRunCommand words steps
+
+-- what a word asks for alone
+abbrev pub OfWord : List ℕ → Option Command → Type 0
+OfWord word None = (word ≡ codes "analyse" → ⊥) × (word ≡ codes "run" → ⊥)
+OfWord word (Some command.Analyse) = word ≡ codes "analyse"
+OfWord word (Some (command.Run steps)) = (word ≡ codes "run") × (steps ≡ default_steps)
+
+-- what a word says as a number of steps
+abbrev pub Counts : List ℕ → Option ℕ → Type 0
+Counts word None = (steps : ℕ) → IsSteps word steps → ⊥
+Counts word (Some steps) = IsSteps word steps
+
+-- the answer of a command to a text
+abbrev pub Follows : Command → List ℕ → Status → List ℕ → Type 0
+Follows command.Analyse bytes status text = Analyses bytes status text
+Follows (command.Run steps) bytes status text = Runs bytes steps status text
 
 -- what the solver gives of a program
 pub record IsSolved (p : Program) (s : Solved) : Type 0 where

@@ -1,7 +1,7 @@
 -- The exit status of each answer.
 use Rattle.std.specs.Prelude.{ℕ}
 use Rattle.ja_tool.specs.declared.status.Status.{Status}
-use Rattle.ja_tool.specs.declared.status.Status.TheVariants.{Done, Warned, Usage, ReadFault, WriteFault, TooLong, NotText, Syntax, Scope, Limit, Spent, Memory, Unbuilt}
+use Rattle.ja_tool.specs.declared.status.Status.TheVariants.{Done, Warned, Usage, ReadFault, WriteFault, TooLong, NotText, Syntax, Scope, Limit, Spent, Left, Uncaught, StepsSpent, Memory, Unbuilt}
 
 abbrev pub code_of : Status → ℕ
 code_of Done = 0
@@ -15,5 +15,8 @@ code_of Syntax = 7
 code_of Scope = 8
 code_of Limit = 9
 code_of Spent = 10
+code_of Left = 13
+code_of Uncaught = 14
+code_of StepsSpent = 15
 code_of Memory = 16
 code_of Unbuilt = 20

@@ -1,39 +1,23 @@
-ghost use Rattle.std.specs.Prelude.{◌≡◌, ◌≤◌, ℕ, List, IfOk, length};
+ghost use Rattle.std.specs.Prelude.{◌≡◌, ◌≤◌, IfOk, length};
 ghost use Rattle.ja_graph.specs.Kinds.{AreBuilt};
 ghost use Rattle.ja_graph.specs.WellFormed.{IsWellFormed};
-ghost use Rattle.ja_load.specs.Loading.{HasNone};
-ghost use Rattle.ja_tool.specs.Answers.{Analyses, IsRefusal, IsSolved, Reports, status_of};
+ghost use Rattle.ja_tool.specs.Answers.{Analyses, IsSolved, Reports, status_of};
 
+use crate::refusing::{Answer, explain, refuse};
 use crate::status::Status;
 use ja_base::Memory;
-use ja_grammar::ParseFault;
 use ja_graph::Program;
 use ja_load::laws::programs_are_built;
-use ja_load::{LoadFault, load};
+use ja_load::load;
 use ja_machine::never_stuck;
 use ja_model::Warning;
-use ja_report::{Refusal, refusal_text, report, spent_text};
+use ja_report::{Refusal, report, spent_text};
 use ja_rules::{SolveFault, Solved, solve, warnings};
 use std::alloc::Global;
 use std::str;
 
 /// The greatest number of visits.
 pub const BUDGET: u128 = 1_000_000;
-
-/// A status, and the text that is written with it.
-#[derive(Drop)]
-pub struct Answer {
-    pub status: Status,
-    pub text: Vec<u8>,
-}
-
-/// A refusal and its status.
-pub fn refuse(alloc: Global, status: Status, refusal: Refusal) -> Result<Answer, Memory>
-    ensures { IfOk result (λ a. IsRefusal a status refusal) }
-{
-    let text = refusal_text(alloc, refusal)?;
-    Ok(Answer { status, text })
-}
 
 // Done where there is no warning.
 fn judged(warnings: &[Warning]) -> Status
@@ -82,29 +66,6 @@ fn solve_and_report(alloc: Global, program: &Program) -> Result<Answer, Memory>
             })
         }
         Err(SolveFault::Memory) => Err(Memory),
-    }
-}
-
-// Says why a text has no program.
-fn explain(alloc: Global, fault: LoadFault) -> Result<Answer, Memory>
-    ensures { IfOk result (λ a. (bytes : List ℕ) → HasNone bytes fault → Analyses bytes a.status a.text.items) }
-{
-    match fault {
-        LoadFault::Parse(ParseFault::Syntax { place }) => {
-            refuse(alloc, Status::Syntax, Refusal::Syntax { place })
-        }
-        LoadFault::Parse(ParseFault::Scope { kind, place }) => {
-            refuse(alloc, Status::Scope, Refusal::Scope { kind, place })
-        }
-        LoadFault::Parse(ParseFault::Depth { .. }) => {
-            refuse(alloc, Status::Limit, Refusal::Depth)
-        }
-        LoadFault::Parse(ParseFault::Memory) => Err(Memory),
-        LoadFault::Functions => refuse(alloc, Status::Limit, Refusal::Functions),
-        LoadFault::Nodes => refuse(alloc, Status::Limit, Refusal::Nodes),
-        // no status has this cause: see docs/DECISIONS.md
-        LoadFault::Names => Err(Memory),
-        LoadFault::Unbuilt { place } => refuse(alloc, Status::Unbuilt, Refusal::Unbuilt { place }),
     }
 }
 

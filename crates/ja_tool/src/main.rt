@@ -1,7 +1,10 @@
-//! Finds type faults in JavaScript programs before they run.
+//! Finds type faults in JavaScript programs before they run, and runs them step by step.
 #![tactic(auto)]
 
 mod analysis;
+mod command;
+mod refusing;
+mod running;
 mod status;
 #[cfg(test)]
 mod tests;

@@ -3,7 +3,7 @@ ghost use Rattle.std.specs.Prelude.{◌≡◌};
 /// How a call ends. The number of each is the process's exit status.
 #[derive(Clone, Copy, Debug, PartialEq, Eq)]
 pub enum Status {
-    /// A report without a warning was written.
+    /// A report without a warning was written, or the transcript of a run that came to its end.
     Done = 0,
     /// A report with a warning was written.
     Warned = 1,
@@ -25,6 +25,12 @@ pub enum Status {
     Limit = 9,
     /// The visits of the budget are spent, and the table isn't closed.
     Spent = 10,
+    /// The transcript of a run that left the profile was written.
+    Left = 13,
+    /// The transcript of a run was written in which nothing caught a value.
+    Uncaught = 14,
+    /// The transcript of a run was written that made all of its steps and hadn't ended.
+    StepsSpent = 15,
     /// Memory was refused. Nothing was written.
     Memory = 16,
     /// The text has a form that isn't built yet.

@@ -1,8 +1,12 @@
-ghost use Rattle.std.specs.Prelude.{◌≡◌, ◌↔◌, IfOk, OnOk, OnErr, IsTrue, true};
+ghost use Rattle.std.specs.Prelude.{◌≤◌, IfOk, List, OnOk, OnErr, Some, String, length, true};
+ghost use Rattle.std.specs.declared.alloc.Global.{Global};
 ghost use Rattle.ja_base.specs.Streams.{NeverFalls, Appends, AppendsFront, TurnsTo, HasCause as StreamCause};
-ghost use Rattle.ja_tool.specs.Answers.{IsCommand, HasCause, IsAnswered};
+ghost use Rattle.ja_tool.specs.Answers.{AsksFor, Follows, HasCause, IsAnswered};
 
-use crate::analysis::{Answer, analyse, refuse};
+use crate::analysis::analyse;
+use crate::command::{Command, asked};
+use crate::refusing::{Answer, refuse};
+use crate::running::transcript_of;
 use crate::status::Status;
 use ja_base::{Failed, Memory, ReadFault, Sink, Source, read_all, write_all};
 use ja_report::Refusal;
@@ -11,13 +15,31 @@ use std::alloc::Global;
 /// The greatest number of bytes of a text.
 pub const MAX_BYTES: usize = 16_777_216;
 
-// Whether the words are a command line: `analyse` alone.
-fn is_command(words: &[String]) -> bool
-    ensures { IsTrue result ↔ IsCommand words.now }
+// The answer of a command to the bytes of a text.
+fn follow(alloc: Global, command: Command, bytes: &[u8]) -> Result<Answer, Memory>
+    requires { length bytes.now ≤ 16777216 }
+    ensures { IfOk result (λ a. Follows command bytes.now a.status a.text.items) }
 {
-    match words {
-        [word] => word.as_str() == "analyse",
-        _ => false,
+    match command {
+        Command::Analyse => analyse(alloc, bytes),
+        Command::Run { steps } => transcript_of(alloc, bytes, steps),
+    }
+}
+
+// The answer of a command to the source, before it is written: of any words that ask for it.
+#[tactic(auto, using(crate::proofs::Reporting::is_line))]
+fn answer_of<S: Source>(alloc: Global, command: Command, source: &mut S) -> Result<Answer, Memory>
+    ensures count { NeverFalls (S.faults source.old) (S.faults source.new) }
+    ensures cause { IfOk result (λ a. (words : List (String Global)) → AsksFor words (Some command) → HasCause (record { words = words; left = S.left source.old; left_after = S.left source.new; faults = S.faults source.old; faults_after = S.faults source.new }) a.status a.text.items) }
+{
+    match read_all(alloc, source, MAX_BYTES) {
+        Ok(bytes) => {
+            let answer = follow(alloc, command, &bytes)?;
+            Ok(answer)
+        }
+        Err(ReadFault::Failed) => refuse(alloc, Status::ReadFault, Refusal::ReadFault),
+        Err(ReadFault::TooLong) => refuse(alloc, Status::TooLong, Refusal::TooLong),
+        Err(ReadFault::Memory) => Err(Memory),
     }
 }
 
@@ -26,17 +48,9 @@ fn answer<S: Source>(alloc: Global, words: &[String], source: &mut S) -> Result<
     ensures count { NeverFalls (S.faults source.old) (S.faults source.new) }
     ensures cause { IfOk result (λ a. HasCause (record { words = words.now; left = S.left source.old; left_after = S.left source.new; faults = S.faults source.old; faults_after = S.faults source.new }) a.status a.text.items) }
 {
-    if !is_command(words) {
-        return refuse(alloc, Status::Usage, Refusal::Usage);
-    }
-    match read_all(alloc, source, MAX_BYTES) {
-        Ok(bytes) => {
-            let answer = analyse(alloc, &bytes)?;
-            Ok(answer)
-        }
-        Err(ReadFault::Failed) => refuse(alloc, Status::ReadFault, Refusal::ReadFault),
-        Err(ReadFault::TooLong) => refuse(alloc, Status::TooLong, Refusal::TooLong),
-        Err(ReadFault::Memory) => Err(Memory),
+    match asked(words) {
+        Some(command) => answer_of(alloc, command, source),
+        None => refuse(alloc, Status::Usage, Refusal::Usage),
     }
 }
 
@@ -52,7 +66,7 @@ fn write_answer<K: Sink>(sink: &mut K, text: &[u8]) -> Result<(), Failed>
     Ok(())
 }
 
-/// The program: `words` are those after its name. Reads a text from the source, analyses it, and
+/// The program: `words` are those after its name. Reads a text from the source, analyses or runs it, and
 /// writes the answer whole to the sink, which is finished last. The status says which answer it was.
 #[tactic(auto, using(crate::proofs::Reporting::answered))]
 pub fn tajs<S: Source, K: Sink>(

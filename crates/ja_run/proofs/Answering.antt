@@ -1,0 +1,56 @@
+-- The answers that are given are those that are wanted.
+use Rattle.std.proofs.Common.{◌≡◌, ℕ, Bool, true, false, List, [], ◌∷◌, Option, Some, None, length, refl, arith}
+use Rattle.std.proofs.lemmas.Bool.Decides.{nat_tests}
+use Rattle.std.specs.Prelude.{nat_lt}
+use Rattle.std.specs.Option.{option_map_or}
+use Rattle.ja_base.specs.declared.ids.Reg.{Reg}
+use Rattle.ja_graph.specs.Program.{node_at}
+use Rattle.ja_graph.specs.declared.node.Node.{Node}
+use Rattle.ja_graph.specs.declared.node.Node.TheVariants as node
+use Rattle.ja_graph.specs.declared.node.NodeInfo.{NodeInfo}
+use Rattle.ja_graph.specs.declared.program.Program.{Program}
+use Rattle.ja_machine.specs.declared.machine.Conf.{Conf}
+use Rattle.ja_machine.specs.declared.machine.Frame.{Frame}
+use Rattle.ja_machine.specs.declared.machine.Heap.{Heap}
+use Rattle.ja_machine.specs.declared.machine.Value.{Value}
+use Rattle.ja_machine.specs.declared.machine.Value.TheVariants as value
+use Rattle.ja_machine.specs.declared.machine.Wants.{Wants}
+use Rattle.ja_machine.specs.declared.machine.Wants.TheVariants as wanted
+use Rattle.ja_machine.specs.Frames.{register_of}
+use Rattle.ja_machine.specs.Machine.{pick_wanted, pick_wants, node_wants, frames_want, wants, fits}
+use Rattle.ja_machine.specs.Nodes.{shown}
+use Rattle.ja_graph.specs.Kinds.{RunsAlone, is_alone}
+use Rattle.ja_step.specs.Given.{answer_to}
+use Rattle.ja_run.specs.Run.{AnswersFit}
+
+abbrev Fits : Program → Wants → Type 0
+Fits p w = fits p w (answer_to w) ≡ true
+
+-- the first of some names is one of them
+some_place : (name : List ℕ) (names : List (List ℕ)) → nat_lt 0 (length (name ∷ names)) ≡ true
+some_place name names = grind (arith, nat_tests)
+
+pick_fits : (p : Program) (names : List (List ℕ)) → Fits p (pick_wanted names)
+pick_fits p [] = refl
+pick_fits p (name ∷ names) = some_place name names
+
+value_fits : (p : Program) (h : Heap) (f : Frame) (list : Reg) (v : Value) → Fits p (pick_wants h f list v)
+value_fits p h f list (value.Object a) = pick_fits p (shown h f list a)
+value_fits p h f list (value.Primitive q) = refl
+
+node_fits : (p : Program) (h : Heap) (f : Frame) (n : Node) → is_alone n ≡ true → Fits p (node_wants h f n)
+node_fits p h f (node.Pick list dst object) alone = value_fits p h f list (register_of f object)
+node_fits p h f (node.Device dst which) alone = absurd (cc)
+node_fits p h f n alone = refl
+
+standing_fits : (p : Program) (h : Heap) (f : Frame) (at : Option NodeInfo) → ((info : NodeInfo) → at ≡ Some info → is_alone info.node ≡ true) → Fits p (option_map_or (λ (info : NodeInfo). node_wants h f info.node) at wanted.Tick)
+standing_fits p h f None alone = refl
+standing_fits p h f (Some info) alone = node_fits p h f info.node (alone info refl)
+
+frames_fit : (p : Program) → RunsAlone p → (h : Heap) (frames : List Frame) → Fits p (frames_want p h frames)
+frames_fit p alone h [] = refl
+frames_fit p alone h (f ∷ below) =
+    standing_fits p h f (node_at p f.function f.node) (λ info at. alone.nodes f.function f.node info at)
+
+pub answers_fit : (p : Program) → RunsAlone p → AnswersFit p
+answers_fit p alone c = frames_fit p alone c.heap c.frames

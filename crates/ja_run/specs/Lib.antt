@@ -1,0 +1,4 @@
+pub mod Run
+pub mod Ends
+pub mod Making
+pub mod Transcript

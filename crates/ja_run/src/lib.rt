@@ -1,0 +1,12 @@
+//! The run of a program: its steps under the answers that are given, its end, and its transcript.
+#![tactic(auto)]
+
+mod ended;
+pub mod laws;
+mod running;
+mod told;
+mod transcript;
+
+pub use ended::{Ended, RunEnd};
+pub use running::run;
+pub use transcript::run_text;
