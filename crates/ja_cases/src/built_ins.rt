@@ -3,7 +3,6 @@
 //! DontEnum and DontDelete stand behind it, where these are other than DontEnum alone, which is the rule of ES3 15.
 
 use crate::out::Out;
-use crate::programs::loaded;
 use ja_base::Site;
 use ja_graph::{Attrs, ObjectSpec, Program, PropertySpec, SpecContent};
 use ja_prim::{Primitive, to_text};
@@ -89,10 +88,9 @@ fn put_object(out: &mut Out, program: &Program, object: &ObjectSpec) {
     }
 }
 
-pub fn built_ins(out: &mut Out) {
-    if let Ok(program) = loaded(out.alloc, "") {
-        for object in program.opening.as_slice() {
-            put_object(out, &program, object);
-        }
+/// Adds the objects of a program.
+pub fn put_objects(out: &mut Out, program: &Program) {
+    for object in program.opening.as_slice() {
+        put_object(out, program, object);
     }
 }

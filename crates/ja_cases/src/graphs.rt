@@ -1,11 +1,14 @@
-//! The graphs of small texts, whatever their forms are.
+//! The graphs of small texts, whatever their forms are. A row may have a number before its text, and its kind says what is
+//! told of the graph.
 
+use crate::names::put_texts;
 use crate::out::Out;
-use crate::trees::parsed;
 use ja_base::FnId;
 use ja_graph::{Function, Node, NodeInfo, SiteInfo};
 use ja_lower::{LowerFault, Lowered, lower, lower_prelude};
 use ja_prim::Text16;
+use ja_syntax::Tree;
+use std::alloc::Global;
 use std::fmt::Write;
 
 /// Why a tree has no functions.
@@ -18,32 +21,50 @@ fn put_fault(out: &mut Out, fault: LowerFault) {
     });
 }
 
-/// What a text is lowered to.
-fn lowered(out: &mut Out, text: &str) -> Option<Lowered> {
-    let tree = parsed(out, text).ok()?;
-    match lower(out.alloc, &tree, &[], 0) {
-        Ok(lowered) => Some(lowered),
-        Err(fault) => {
-            put_fault(out, fault);
-            None
-        }
+/// Lowers a tree where the name `a` comes first and the sites begin at 10.
+fn lower_behind(alloc: Global, tree: &Tree) -> Result<Lowered, LowerFault> {
+    match Text16::from_str(alloc, "a") {
+        Ok(name) => lower(alloc, tree, &[name], 10),
+        Err(_) => Err(LowerFault::Memory),
     }
 }
 
-/// How many functions a text has, with the program.
-pub fn functions(out: &mut Out, text: &str) {
-    if let Some(lowered) = lowered(out, text) {
-        out.put_number(lowered.functions.len() as u64);
+/// Lowers a tree as its kind says: behind a name, with special forms, or neither.
+fn lowered(alloc: Global, kind: &str, tree: &Tree) -> Result<Lowered, LowerFault> {
+    match kind {
+        "body" => lower_behind(alloc, tree),
+        "prelude-lines" => lower_prelude(alloc, tree, &[], 0),
+        "prelude-names" => lower_prelude(alloc, tree, &[], 0),
+        _ => lower(alloc, tree, &[], 0),
     }
 }
 
-/// How many nodes each function of a text has.
-pub fn nodes(out: &mut Out, text: &str) {
-    if let Some(lowered) = lowered(out, text) {
-        for function in lowered.functions.as_slice() {
-            out.put_number(function.nodes.len() as u64);
-            out.put(" ");
-        }
+/// What is told of a tree that is lowered.
+pub fn put_graphs(out: &mut Out, kind: &str, number: usize, tree: &Tree) {
+    match lowered(out.alloc, kind, tree) {
+        Ok(lowered) => put_kind(out, kind, number, &lowered),
+        Err(fault) => put_fault(out, fault),
+    }
+}
+
+/// How many functions there are, the names, how many nodes each function has, what is told of all, of the second function or
+/// of the program.
+fn put_kind(out: &mut Out, kind: &str, number: usize, lowered: &Lowered) {
+    match kind {
+        "functions" => out.put_number(lowered.functions.len() as u64),
+        "prelude-names" => put_texts(out, lowered.names.as_slice()),
+        "nodes" => put_counts(out, lowered),
+        "body" => put_lowered(out, lowered),
+        "columns" => put_function_at(out, kind, number, lowered, 1),
+        _ => put_function_at(out, kind, number, lowered, 0),
+    }
+}
+
+/// How many nodes each function has.
+fn put_counts(out: &mut Out, lowered: &Lowered) {
+    for function in lowered.functions.as_slice() {
+        out.put_number(function.nodes.len() as u64);
+        out.put(" ");
     }
 }
 
@@ -90,13 +111,13 @@ fn put_lowered(out: &mut Out, lowered: &Lowered) {
     }
 }
 
-/// What a text is lowered to, where the name `a` comes first and the sites begin at 10.
-pub fn body(out: &mut Out, text: &str) {
-    if let Ok(name) = Text16::from_str(out.alloc, "a") {
-        if let Ok(tree) = parsed(out, text) {
-            if let Ok(lowered) = lower(out.alloc, &tree, &[name], 10) {
-                put_lowered(out, &lowered);
-            }
+/// What is told of the nodes of a function.
+fn put_function_at(out: &mut Out, kind: &str, number: usize, lowered: &Lowered, place: usize) {
+    if let Some(function) = lowered.functions.as_slice().get(place) {
+        let mut count = 0_usize;
+        for info in function.nodes.as_slice() {
+            put_node(out, kind, number, count, info);
+            count = count.saturating_add(1);
         }
     }
 }
@@ -128,98 +149,37 @@ fn shown(node: &Node) -> (&'static str, u32, u32, u32) {
     }
 }
 
-/// The nodes of the program.
-fn put_lines(out: &mut Out, lowered: &Lowered) {
-    if let Some(program) = lowered.functions.as_slice().first() {
-        for info in program.nodes.as_slice() {
-            let (word, first, second, third) = shown(&info.node);
-            let _ = write!(out.text, "\n    {word} {first} {second} {third}");
-        }
-    }
-}
-
-/// The nodes of a text.
-pub fn lines(out: &mut Out, text: &str) {
-    if let Some(lowered) = lowered(out, text) {
-        put_lines(out, &lowered);
-    }
-}
-
-/// The nodes of a text with special forms.
-pub fn prelude_lines(out: &mut Out, text: &str) {
-    if let Ok(tree) = parsed(out, text) {
-        if let Ok(lowered) = lower_prelude(out.alloc, &tree, &[], 0) {
-            put_lines(out, &lowered);
-        }
-    }
-}
-
-/// A node of the program, by its number.
-fn node_at(lowered: &Lowered, number: usize) -> Option<&NodeInfo> {
-    let program = lowered.functions.as_slice().first()?;
-    program.nodes.as_slice().get(number)
-}
-
-/// The operation of a node: a number, and a text behind a space.
-pub fn operation(out: &mut Out, row: &str) {
-    if let Some((number, text)) = row.split_once(' ') {
-        if let (Ok(number), Some(lowered)) = (number.parse::<usize>(), lowered(out, text)) {
-            if let Some(info) = node_at(&lowered, number) {
-                if let Node::Binary { op, .. } = &info.node {
+/// What is told of a node by its kind and a number: its operation or the node behind it, where it is the node of this
+/// number; its column, from this one on; the register into which it reads a name; or a line of its own.
+fn put_node(out: &mut Out, kind: &str, number: usize, count: usize, info: &NodeInfo) {
+    match kind {
+        "operation" => {
+            if let Node::Binary { op, .. } = &info.node {
+                if count == number {
                     let _ = write!(out.text, "{op:?}");
                 }
             }
         }
-    }
-}
-
-/// The node behind a node: a number, and a text behind a space.
-pub fn next(out: &mut Out, row: &str) {
-    if let Some((number, text)) = row.split_once(' ') {
-        if let (Ok(number), Some(lowered)) = (number.parse::<usize>(), lowered(out, text)) {
-            if let Some(info) = node_at(&lowered, number) {
+        "next" => {
+            if count == number {
                 out.put_number(u64::from(info.next.0));
             }
         }
-    }
-}
-
-/// The columns of the nodes of the first function, from a column on: it, and a text behind a space.
-pub fn columns(out: &mut Out, row: &str) {
-    if let Some((first, text)) = row.split_once(' ') {
-        if let (Ok(first), Some(lowered)) = (first.parse::<u32>(), lowered(out, text)) {
-            if let Some(function) = lowered.functions.as_slice().get(1) {
-                put_columns(out, function, first);
+        "columns" => {
+            if info.place.column as usize >= number {
+                out.put_number(u64::from(info.place.column));
+                out.put(" ");
             }
         }
-    }
-}
-
-/// The columns of the nodes of a function, from a column on.
-fn put_columns(out: &mut Out, function: &Function, first: u32) {
-    for info in function.nodes.as_slice() {
-        if info.place.column >= first {
-            out.put_number(u64::from(info.place.column));
-            out.put(" ");
+        "reads" => {
+            if let Node::ReadRef { dst, .. } = &info.node {
+                out.put_number(u64::from(dst.0));
+                out.put(" ");
+            }
         }
-    }
-}
-
-/// The registers into which the program reads names.
-pub fn reads(out: &mut Out, text: &str) {
-    if let Some(lowered) = lowered(out, text) {
-        if let Some(program) = lowered.functions.as_slice().first() {
-            put_reads(out, program);
-        }
-    }
-}
-
-/// The registers into which a function reads names.
-fn put_reads(out: &mut Out, function: &Function) {
-    for info in function.nodes.as_slice() {
-        if let Node::ReadRef { dst, .. } = &info.node {
-            out.put_number(u64::from(dst.0));
-            out.put(" ");
+        _ => {
+            let (word, first, second, third) = shown(&info.node);
+            let _ = write!(out.text, "\n    {word} {first} {second} {third}");
         }
     }
 }

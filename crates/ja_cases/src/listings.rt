@@ -1,7 +1,6 @@
 //! Listings of nodes, and the graphs that they come to.
 
 use crate::out::Out;
-use crate::trees::parsed;
 use ja_base::{Place, Reg, Seq};
 use ja_draft::{Draft, Scene};
 use ja_graph::Node;
@@ -9,6 +8,7 @@ use ja_listing::{Block, BlockNode, Item, Spot, Target, assembled};
 use ja_names::Names;
 use ja_prim::Primitive;
 use ja_statements::program_listing;
+use ja_syntax::Statement;
 use std::alloc::Global;
 use std::fmt::Write;
 
@@ -111,19 +111,17 @@ fn put_draft(out: &mut Out, draft: Draft) {
     }
 }
 
-/// The listing of a text without names and functions.
-pub fn listing(out: &mut Out, text: &str) {
-    if let Ok(tree) = parsed(out, text) {
-        let names = Names::new(out.alloc);
-        let scene = Scene {
-            alloc: out.alloc,
-            names: &names,
-            functions: &[],
-            handler: None,
-            specials: false,
-        };
-        if let Ok(draft) = program_listing(&scene, tree.statements.as_slice()) {
-            put_draft(out, draft);
-        }
+/// The listing of statements without names and functions.
+pub fn put_listing(out: &mut Out, statements: &[Statement]) {
+    let names = Names::new(out.alloc);
+    let scene = Scene {
+        alloc: out.alloc,
+        names: &names,
+        functions: &[],
+        handler: None,
+        specials: false,
+    };
+    if let Ok(draft) = program_listing(&scene, statements) {
+        put_draft(out, draft);
     }
 }

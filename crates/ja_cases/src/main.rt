@@ -11,7 +11,6 @@ mod programs;
 mod renaming;
 mod reports;
 mod row;
-mod states;
 mod streams;
 mod tokens;
 mod trees;
@@ -21,53 +20,35 @@ mod well_formed;
 use out::Out;
 use row::text_of;
 
-/// Answers a row of a text.
+/// Answers a row: one of a value, a source or a sink, a listing, a program, calls, or else a tree.
 fn answer(out: &mut Out, kind: &str, text: &str) {
     match kind {
         "tokens" => tokens::tokens_of(out, text),
-        "tree" => trees::tree(out, text),
-        "hoisted" => names::hoisted(out, text),
-        "names" => names::names(out, text),
-        "prelude-names" => names::prelude_names(out, text),
         "number" => primitives::number_of(out, text),
         "text" => primitives::text_of(out, text),
-        "sum" => primitives::sum(out, text),
+        "sum" => primitives::of_values(out, "+", text),
         "calculation" => primitives::operation(out, text),
         "comparison" => primitives::comparison(out, text),
+        "index" => primitives::index_of(out, text),
         "read" => streams::read(out, text),
         "sure-read" => streams::surely_read(out, text),
         "write" => streams::write(out, text),
         "sure-write" => streams::surely_write(out, text),
-        "index" => primitives::index_of(out, text),
         "edges" => listings::edges(out, text),
-        "listing" => listings::listing(out, text),
-        "functions" => graphs::functions(out, text),
-        "nodes" => graphs::nodes(out, text),
-        "body" => graphs::body(out, text),
-        "lines" => graphs::lines(out, text),
-        "prelude-lines" => graphs::prelude_lines(out, text),
-        "operation" => graphs::operation(out, text),
-        "next" => graphs::next(out, text),
-        "columns" => graphs::columns(out, text),
-        "reads" => graphs::reads(out, text),
-        "built" => programs::built(out, text),
-        "program" => programs::program(out, text),
-        "budget" => programs::budget_of_one(out, text),
-        _ => fixed(out, text),
+        "built" => programs::of_text(out, kind, text),
+        "program" => programs::of_text(out, kind, text),
+        "budget" => programs::of_text(out, kind, text),
+        "calls" => calls(out, text),
+        _ => trees::of_text(out, kind, text),
     }
 }
 
-/// Answers a row of calls.
-fn fixed(out: &mut Out, topic: &str) {
+/// Answers a row of calls; those about a program are about the one of the empty text.
+fn calls(out: &mut Out, topic: &str) {
     match topic {
-        "built-in objects" => built_ins::built_ins(out),
         "renamed nodes" => renaming::renamed_nodes(out),
-        "well-formed programs" => well_formed::well_formed_programs(out),
         "values" => values::values(out),
-        "states" => states::states(out),
-        "entries" => states::entries(out),
-        "reports" => reports::reports(out),
-        _ => (),
+        _ => programs::of_text(out, topic, ""),
     }
 }
 

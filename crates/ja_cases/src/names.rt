@@ -1,12 +1,10 @@
 use crate::out::Out;
-use crate::trees::parsed;
-use ja_lower::lower_prelude;
 use ja_names::{functions_in, names_in};
 use ja_prim::Text16;
 use ja_syntax::{FunctionTree, Statement, hoist, mentions_arguments};
 
 /// Texts, each behind a space.
-fn put_texts(out: &mut Out, texts: &[Text16]) {
+pub fn put_texts(out: &mut Out, texts: &[Text16]) {
     for text in texts {
         out.put(" ");
         out.put_units(text.units());
@@ -31,19 +29,17 @@ fn put_hoisted(out: &mut Out, function: &FunctionTree) {
     }
 }
 
-/// What the functions of a text hoist: names, functions by the numbers of their statements.
-pub fn hoisted(out: &mut Out, text: &str) {
-    if let Ok(tree) = parsed(out, text) {
-        for statement in tree.statements.as_slice() {
-            if let Statement::Function(function) = statement {
-                put_hoisted(out, function);
-            }
+/// What the functions among statements hoist: names, functions by the numbers of their statements.
+pub fn put_all_hoisted(out: &mut Out, statements: &[Statement]) {
+    for statement in statements {
+        if let Statement::Function(function) = statement {
+            put_hoisted(out, function);
         }
     }
 }
 
 /// The functions of statements by the numbers of their parameters, and their names.
-fn put_parts(out: &mut Out, statements: &[Statement]) {
+pub fn put_parts(out: &mut Out, statements: &[Statement]) {
     if let Ok(functions) = functions_in(out.alloc, statements) {
         for function in functions.as_slice() {
             out.put_number(function.parameters.as_slice().len() as u64);
@@ -54,22 +50,6 @@ fn put_parts(out: &mut Out, statements: &[Statement]) {
         for name in names.as_slice() {
             out.put_units(name.text.units());
             out.put(" ");
-        }
-    }
-}
-
-/// The functions and the names of a text.
-pub fn names(out: &mut Out, text: &str) {
-    if let Ok(tree) = parsed(out, text) {
-        put_parts(out, tree.statements.as_slice());
-    }
-}
-
-/// The names of the program of a text of built-in functions.
-pub fn prelude_names(out: &mut Out, text: &str) {
-    if let Ok(tree) = parsed(out, text) {
-        if let Ok(lowered) = lower_prelude(out.alloc, &tree, &[], 0) {
-            put_texts(out, lowered.names.as_slice());
         }
     }
 }

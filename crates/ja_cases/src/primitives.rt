@@ -81,14 +81,6 @@ fn words(row: &str) -> (&str, &str) {
     row.split_once(' ').unwrap_or((row, "0"))
 }
 
-/// The sum of two values.
-pub fn sum(out: &mut Out, row: &str) {
-    let (left, right) = words(row);
-    if let Ok(sum) = add(out.alloc, &value(out.alloc, left), &value(out.alloc, right)) {
-        put_value(out, &sum);
-    }
-}
-
 /// An operation on numbers.
 fn operated(operator: &str, left: Num, right: Num) -> Result<Num, Stop> {
     match operator {
@@ -125,13 +117,34 @@ fn compared(operator: &str, left: &Prim, right: &Prim) -> Option<bool> {
     }
 }
 
+/// The sum of two values.
+fn put_sum(out: &mut Out, left: &Prim, right: &Prim) {
+    if let Ok(sum) = add(out.alloc, left, right) {
+        put_value(out, &sum);
+    }
+}
+
+/// A comparison of two values.
+fn put_comparison(out: &mut Out, operator: &str, left: &Prim, right: &Prim) {
+    out.put(match compared(operator, left, right) {
+        Some(true) => "true",
+        Some(false) => "false",
+        None => "undefined",
+    });
+}
+
+/// An operator and its operands, which are values: a comparison, or `+`, their sum.
+pub fn of_values(out: &mut Out, operator: &str, operands: &str) {
+    let (left, right) = words(operands);
+    let (left, right) = (value(out.alloc, left), value(out.alloc, right));
+    match operator {
+        "+" => put_sum(out, &left, &right),
+        _ => put_comparison(out, operator, &left, &right),
+    }
+}
+
 /// A comparison: an operator and its operands.
 pub fn comparison(out: &mut Out, row: &str) {
     let (operator, operands) = words(row);
-    let (left, right) = words(operands);
-    match compared(operator, &value(out.alloc, left), &value(out.alloc, right)) {
-        Some(true) => out.put("true"),
-        Some(false) => out.put("false"),
-        None => out.put("undefined"),
-    }
+    of_values(out, operator, operands);
 }

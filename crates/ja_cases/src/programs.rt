@@ -3,8 +3,11 @@
 ghost use Rattle.std.specs.Prelude.{IfOk};
 ghost use Rattle.ja_graph.specs.WellFormed.{IsWellFormed};
 
+use crate::built_ins::put_objects;
 use crate::out::Out;
+use crate::reports::put_reports;
 use crate::trees::{put_fault, put_place};
+use crate::well_formed::put_well_formed;
 use ja_base::NodeId;
 use ja_graph::Program;
 use ja_load::{LoadFault, load};
@@ -13,7 +16,7 @@ use ja_rules::{SolveFault, solve};
 use std::alloc::Global;
 
 /// The program of a text, which is well formed.
-pub fn loaded(alloc: Global, text: &str) -> Result<Program, LoadFault>
+fn loaded(alloc: Global, text: &str) -> Result<Program, LoadFault>
     ensures { IfOk result IsWellFormed }
 {
     if text.len() > 16_777_216 {
@@ -22,44 +25,63 @@ pub fn loaded(alloc: Global, text: &str) -> Result<Program, LoadFault>
     load(alloc, text)
 }
 
-/// Whether each form of a text is built; else the place of the first one that isn't, or why there is no program.
-pub fn built(out: &mut Out, text: &str) {
-    match loaded(out.alloc, text) {
-        Ok(_) => out.put("built"),
-        Err(LoadFault::Parse(fault)) => put_fault(out, fault),
-        Err(LoadFault::Unbuilt { place }) => {
+/// Why a text has no program: the place of the first form that isn't built, or another cause.
+fn put_cause(out: &mut Out, fault: LoadFault) {
+    match fault {
+        LoadFault::Parse(fault) => put_fault(out, fault),
+        LoadFault::Unbuilt { place } => {
             out.put("unbuilt ");
             put_place(out, place);
         }
-        Err(_) => out.put("limit"),
+        _ => out.put("limit"),
     }
 }
 
-/// What the program of a text has.
-pub fn program(out: &mut Out, text: &str) {
-    if let Ok(program) = loaded(out.alloc, text) {
-        out.line_of_number("functions", program.functions.len() as u64);
-        out.line_of_number("functions of the text", u64::from(program.text_functions));
-        out.line_of_number("names", program.names.len() as u64);
-        out.line_of_number("opening objects", program.opening.len() as u64);
-        out.line_of_bool("has the text", program.text.as_str() == text);
-    }
+/// What a program has.
+fn put_sizes(out: &mut Out, program: &Program, text: &str) {
+    out.line_of_number("functions", program.functions.len() as u64);
+    out.line_of_number("functions of the text", u64::from(program.text_functions));
+    out.line_of_number("names", program.names.len() as u64);
+    out.line_of_number("opening objects", program.opening.len() as u64);
+    out.line_of_bool("has the text", program.text.as_str() == text);
 }
 
 /// The visits of a budget of one. It is spent on the first node, whose base isn't known yet.
-pub fn budget_of_one(out: &mut Out, text: &str) {
-    if let Ok(program) = loaded(out.alloc, text) {
-        if let Err(SolveFault::Spent { visits }) = solve(out.alloc, &program, 1) {
-            for item in visits.as_slice() {
-                if let Item::Step {
-                    node: NodeId(node),
-                    ..
-                } = item
-                {
-                    out.put("node ");
-                    out.put_number(u64::from(*node));
-                }
+fn put_visits(out: &mut Out, program: &Program)
+    requires { IsWellFormed program.now }
+{
+    if let Err(SolveFault::Spent { visits }) = solve(out.alloc, program, 1) {
+        for item in visits.as_slice() {
+            if let Item::Step {
+                node: NodeId(node),
+                ..
+            } = item
+            {
+                out.put("node ");
+                out.put_number(u64::from(*node));
             }
         }
+    }
+}
+
+/// What is told of a program, by its kind.
+fn put_kind(out: &mut Out, kind: &str, program: &mut Program, text: &str)
+    requires { IsWellFormed program.old }
+{
+    match kind {
+        "built" => out.put("built"),
+        "program" => put_sizes(out, program, text),
+        "budget" => put_visits(out, program),
+        "built-in objects" => put_objects(out, program),
+        "well-formed programs" => put_well_formed(out, program),
+        _ => put_reports(out, program),
+    }
+}
+
+/// What is told of the program of a text, or why it has none.
+pub fn of_text(out: &mut Out, kind: &str, text: &str) {
+    match loaded(out.alloc, text) {
+        Ok(mut program) => put_kind(out, kind, &mut program, text),
+        Err(fault) => put_cause(out, fault),
     }
 }

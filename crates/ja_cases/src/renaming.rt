@@ -67,14 +67,14 @@ fn put_numbers(out: &mut Out, node: &Node) {
 }
 
 /// The numbers of a node whose registers from 6 on move up by 2, whose sites move up by 10, and whose name 0 is 4.
-fn put_renamed(out: &mut Out, node: &Node) {
+fn put_renamed(out: &mut Out, node: Node) {
     let shifts = Shifts {
         first: 6,
         by: 2,
         sites: 10,
         names: &[NameId(4)],
     };
-    if let Ok(node) = renamed(out.alloc, node, &shifts) {
+    if let Ok(node) = renamed(out.alloc, &node, &shifts) {
         put_numbers(out, &node);
     }
 }
@@ -87,7 +87,7 @@ pub fn renamed_nodes(out: &mut Out) {
         name: NameId(0),
         error: Site(3),
     };
-    put_renamed(out, &read);
+    put_renamed(out, read);
     let mut args = Vec::new(out.alloc);
     let _ = args.push(Reg(7));
     let call = Node::New {
@@ -97,5 +97,5 @@ pub fn renamed_nodes(out: &mut Out) {
         site: Site(0),
         error: Site(1),
     };
-    put_renamed(out, &call);
+    put_renamed(out, call);
 }

@@ -6,7 +6,6 @@ ghost use Rattle.ja_model.specs.AbstractState.{is_key};
 ghost use Rattle.ja_rules.specs.Readings.{Fits};
 
 use crate::out::Out;
-use crate::programs::loaded;
 use ja_base::{Context, FnId, Label, Memory, NameId, NodeId, Place, Seq, Site};
 use ja_graph::{GLOBAL, Program, well_formed};
 use ja_model::{AAttrs, Flags, Item, Key, May, NumberPart, Slot, TextPart};
@@ -180,13 +179,12 @@ fn put_refusal(out: &mut Out) {
     }
 }
 
-pub fn reports(out: &mut Out) {
-    if let Ok(mut program) = loaded(out.alloc, "") {
-        put_spent(out, &program);
-        add_names(out, &mut program);
-        if well_formed(&program) {
-            put_report(out, &program);
-        }
+/// The reports of a program, and a refusal.
+pub fn put_reports(out: &mut Out, program: &mut Program) {
+    put_spent(out, program);
+    add_names(out, program);
+    if well_formed(program) {
+        put_report(out, program);
     }
     put_refusal(out);
 }

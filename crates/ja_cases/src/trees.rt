@@ -1,3 +1,8 @@
+//! The trees of texts, and what is made of them.
+
+use crate::graphs::put_graphs;
+use crate::listings::put_listing;
+use crate::names::{put_all_hoisted, put_parts};
 use crate::out::Out;
 use ja_base::Place;
 use ja_grammar::ParseFault;
@@ -70,18 +75,44 @@ pub fn put_fault(out: &mut Out, fault: ParseFault) {
     }
 }
 
-/// The tree of a text.
-pub fn parsed(out: &Out, text: &str) -> Result<Tree, ParseFault> {
-    if text.len() > 16_777_216 {
-        return Err(ParseFault::Memory);
+/// What is told of a tree, by its kind.
+fn put_tree(out: &mut Out, kind: &str, number: usize, tree: &Tree) {
+    let statements = tree.statements.as_slice();
+    match kind {
+        "tree" => put_statements(out, statements),
+        "hoisted" => put_all_hoisted(out, statements),
+        "names" => put_parts(out, statements),
+        "listing" => put_listing(out, statements),
+        _ => put_graphs(out, kind, number, tree),
     }
-    parse(out.alloc, text)
 }
 
-/// The statements of a text, or why it has no tree.
-pub fn tree(out: &mut Out, text: &str) {
-    match parsed(out, text) {
-        Ok(tree) => put_statements(out, tree.statements.as_slice()),
+/// What is told of the tree of a text, or why it has none.
+fn answer(out: &mut Out, kind: &str, number: usize, text: &str) {
+    if text.len() > 16_777_216 {
+        return;
+    }
+    match parse(out.alloc, text) {
+        Ok(tree) => put_tree(out, kind, number, &tree),
         Err(fault) => put_fault(out, fault),
+    }
+}
+
+/// Answers a row about a tree; some kinds have a number and a space before the text.
+pub fn of_text(out: &mut Out, kind: &str, row: &str) {
+    match kind {
+        "operation" => of_number(out, kind, row),
+        "next" => of_number(out, kind, row),
+        "columns" => of_number(out, kind, row),
+        _ => answer(out, kind, 0, row),
+    }
+}
+
+/// Answers a row with a number.
+fn of_number(out: &mut Out, kind: &str, row: &str) {
+    if let Some((number, text)) = row.split_once(' ') {
+        if let Ok(number) = number.parse::<usize>() {
+            answer(out, kind, number, text);
+        }
     }
 }

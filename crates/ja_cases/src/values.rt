@@ -9,13 +9,13 @@ use ja_value::{AProp, AValue, LabelSet, exact_attrs, is_index_text};
 use std::collections::BTreeMap;
 
 /// A label, whose letter is `n` where the object is new, and `o` where it is old.
-pub fn put_label(out: &mut Out, label: Label) {
+fn put_label(out: &mut Out, label: Label) {
     out.put(if label.old { " o" } else { " n" });
     out.put_number(u64::from(label.site.0));
 }
 
 /// Labels.
-pub fn put_labels(out: &mut Out, labels: &[Label]) {
+fn put_labels(out: &mut Out, labels: &[Label]) {
     for label in labels {
         put_label(out, *label);
     }

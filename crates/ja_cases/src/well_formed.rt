@@ -1,52 +1,49 @@
 //! Which programs are well formed: the program of the empty text, and that program with a number changed.
 
 use crate::out::Out;
-use crate::programs::loaded;
 use ja_base::{FnId, NodeId, Reg, Seq, Site};
 use ja_graph::{
     Hint, Node, Program, SiteInfo, all_registers_below, is_function_well_formed, well_formed,
 };
 use ja_prim::Text16;
+use std::alloc::Global;
 use std::mem;
 
-/// Whether the program of the empty text is well formed where these functions are told of the site of `Math`, the last one.
-fn line_of_math(
-    out: &mut Out,
-    label: &str,
+/// Tells of the site of `Math`, the last one, that it has these functions.
+fn tell_of_math(
+    alloc: Global,
+    program: &mut Program,
     owner: Option<FnId>,
     calls: Option<FnId>,
     constructs: Option<FnId>,
 ) {
-    if let Ok(mut program) = loaded(out.alloc, "") {
-        let mut sites = mem::replace(&mut program.sites, Seq::new(out.alloc)).into_vec();
-        if let Some(math) = sites.pop() {
-            let _ = sites.push(SiteInfo {
-                owner,
-                calls,
-                constructs,
-                ..math
-            });
-        }
-        program.sites = Seq::from_vec(sites);
-        out.line_of_bool(label, well_formed(&program));
+    let mut sites = mem::replace(&mut program.sites, Seq::new(alloc)).into_vec();
+    if let Some(math) = sites.pop() {
+        let _ = sites.push(SiteInfo {
+            owner,
+            calls,
+            constructs,
+            ..math
+        });
     }
+    program.sites = Seq::from_vec(sites);
 }
 
-/// Functions of sites are those of the program, and a site without a node has no owner.
-fn sites(out: &mut Out) {
+/// Functions of sites are those of the program, and a site without a node has no owner. Nothing is told of `Math` behind these.
+fn sites(out: &mut Out, program: &mut Program) {
     let (here, none) = (Some(FnId(0)), Some(FnId(99)));
-    line_of_math(out, "Math is as it was", None, None, None);
-    line_of_math(
-        out,
-        "Math calls and constructs by function 0",
-        None,
-        here,
-        here,
-    );
-    line_of_math(out, "Math calls by function 99", None, none, None);
-    line_of_math(out, "Math constructs by function 99", None, None, none);
-    line_of_math(out, "Math is made by function 0", here, None, None);
-    line_of_math(out, "Math is made by function 99", none, None, None);
+    for (label, owner, calls, constructs) in [
+        ("Math is as it was", None, None, None),
+        ("Math calls and constructs by function 0", None, here, here),
+        ("Math calls by function 99", None, none, None),
+        ("Math constructs by function 99", None, None, none),
+        ("Math is made by function 0", here, None, None),
+        ("Math is made by function 99", none, None, None),
+    ] {
+        tell_of_math(out.alloc, program, owner, calls, constructs);
+        out.line_of_bool(label, well_formed(program));
+    }
+    tell_of_math(out.alloc, program, None, None, None);
 }
 
 /// The first functions come from the text.
@@ -102,13 +99,12 @@ fn names(out: &mut Out, program: &mut Program) {
     );
 }
 
-pub fn well_formed_programs(out: &mut Out) {
-    sites(out);
+/// Whether the program of the empty text is well formed, and with a number changed.
+pub fn put_well_formed(out: &mut Out, program: &mut Program) {
+    sites(out, program);
     registers(out);
-    if let Ok(mut program) = loaded(out.alloc, "") {
-        out.line_of_bool("the program", well_formed(&program));
-        text_functions(out, &mut program);
-        names(out, &mut program);
-        handlers(out, &mut program);
-    }
+    out.line_of_bool("the program", well_formed(program));
+    text_functions(out, program);
+    names(out, program);
+    handlers(out, program);
 }
