@@ -52,4 +52,5 @@ are_special_forms = record {
   tail = λ callee receiver scene place l. refl;
   make = (λ scene place l. refl, (λ scene place l. refl, (λ scene place l. refl, (λ scene place l. refl, (λ scene place l. refl, (λ scene place l. refl, (λ scene place l. refl, tt)))))));
   stop = (λ scene place l. refl, (λ scene place l. refl, (λ scene place l. refl, (λ scene place l. refl, (λ scene place l. refl, (λ scene place l. refl, (λ scene place l. refl, (λ scene place l. refl, (λ scene place l. refl, (λ scene place l. refl, (λ scene place l. refl, (λ scene place l. refl, (λ scene place l. refl, (λ scene place l. refl, (λ scene place l. refl, (λ scene place l. refl, (λ scene place l. refl, (λ scene place l. refl, (λ scene place l. refl, (λ scene place l. refl, tt))))))))))))))))))));
+  intrinsic = (λ arguments scene place l. refl, (λ arguments scene place l. refl, (λ arguments scene place l. refl, (λ arguments scene place l. refl, (λ arguments scene place l. refl, (λ arguments scene place l. refl, (λ arguments scene place l. refl, (λ arguments scene place l. refl, tt))))))));
 }

@@ -1,12 +1,13 @@
 -- What the call of each special form lists, by its name.
-use Rattle.std.specs.Prelude.{◌≡◌, ℕ, List, [], ◌∷◌, ◌++◌, Some}
+use Rattle.std.specs.Prelude.{◌≡◌, ℕ, List, [], ◌∷◌, ◌++◌, Some, length, map}
 use lib.Chars.{codes}
-use Rattle.std.specs.List.{AllByRecursion}
+use Rattle.std.specs.List.{AllByRecursion, range_with_len, zip}
 use Rattle.std.specs.Option.{option_map}
 use Rattle.ja_base.specs.declared.ids.Place.{Place}
 use Rattle.ja_base.specs.declared.ids.Reg.{Reg}
 use Rattle.ja_base.specs.declared.ids.ScopeKind.{ScopeKind}
 use Rattle.ja_base.specs.declared.ids.ScopeKind.TheVariants as scope
+use Rattle.ja_graph.specs.declared.builtins.TheConstants.{INTRINSICS}
 use Rattle.ja_graph.specs.declared.node.Args.TheVariants.{Registers, Elements, Tail}
 use Rattle.ja_graph.specs.declared.node.ErrorKind.{ErrorKind}
 use Rattle.ja_graph.specs.declared.node.ErrorKind.TheVariants as kind
@@ -44,6 +45,10 @@ stop_names =
     ∷ (codes "SharedArgument", scope.SharedArgument) ∷ (codes "CaseChange", scope.CaseChange) ∷ (codes "Radix", scope.Radix)
     ∷ (codes "Register", scope.Register) ∷ []
 
+-- the operations of the built-in functions, each with its number
+abbrev pub numbered_intrinsics : List (ℕ × List ℕ)
+numbered_intrinsics = zip (range_with_len 0 (length INTRINSICS)) (map (λ row. row.0.now) INTRINSICS)
+
 -- each special form by its name, with its node
 pub record AreSpecialForms : Type 0 where
   pub get : (object key : Reg) → Lists (codes "$get") (object ∷ key ∷ []) (giving (λ dst. node.ReadProp dst object key))
@@ -57,3 +62,4 @@ pub record AreSpecialForms : Type 0 where
   pub tail : (callee receiver : Reg) → Lists (codes "$tail") (callee ∷ receiver ∷ []) (giving (λ dst. node.Call dst callee receiver Tail (site 0)))
   pub make : AllByRecursion (λ (row : List ℕ × ErrorKind). Lists (codes "$make_" ++ row.0) [] (giving (λ dst. node.NewObject dst (site 0) (Error row.1)))) error_names
   pub stop : AllByRecursion (λ (row : List ℕ × ScopeKind). Lists (codes "$stop_" ++ row.0) [] (λ scene place l. record { listing = with_node scene place (node.Stop row.1) l; value = register l.temporary })) stop_names
+  pub intrinsic : AllByRecursion (λ (row : ℕ × List ℕ). (arguments : List Reg) → Lists row.1 arguments (giving (λ dst. node.Intrinsic dst row.0 arguments))) numbered_intrinsics

@@ -37,8 +37,8 @@ pub enum Special {
     Intrinsic(u32),
 }
 
-/// The names of the special forms.
-pub const SPECIALS: [(&[u8], Special); 36] = [
+/// The names of the special forms: the operations of the built-in functions come last, as `ja_graph::INTRINSICS` numbers them.
+pub const SPECIALS: [(&[u8], Special); 44] = [
     (b"$get", Special::Get),
     (b"$put", Special::Put),
     (b"$delete", Special::Delete),
@@ -96,6 +96,14 @@ pub const SPECIALS: [(&[u8], Special); 36] = [
     (b"$stop_CaseChange", Special::Stop(ScopeKind::CaseChange)),
     (b"$stop_Radix", Special::Stop(ScopeKind::Radix)),
     (b"$stop_Register", Special::Stop(ScopeKind::Register)),
+    (b"$is_object", Special::Intrinsic(0)),
+    (b"$class", Special::Intrinsic(1)),
+    (b"$value", Special::Intrinsic(2)),
+    (b"$has_own", Special::Intrinsic(3)),
+    (b"$is_enumerable", Special::Intrinsic(4)),
+    (b"$inherits", Special::Intrinsic(5)),
+    (b"$has_elements", Special::Intrinsic(6)),
+    (b"$digits", Special::Intrinsic(7)),
 ];
 
 /// The special form of a name.
@@ -113,7 +121,8 @@ pub fn special_of(name: &[u16]) -> Option<Special>
     None
 }
 
-/// Each special form is found by its name, and its call lists its node. The function does nothing; its contract is the law.
+/// Each special form, each operation of `ja_graph::INTRINSICS` among them, is found by its name, and its call lists its node. The
+/// function does nothing; its contract is the law.
 pub fn special_forms_list_their_nodes()
     ensures { AreSpecialForms }
 {}

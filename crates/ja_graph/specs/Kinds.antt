@@ -1,14 +1,21 @@
--- What is built: the kinds of nodes that the analysis goes through, and those that are run; and no functions that could be called.
-use Rattle.std.specs.Prelude.{◌≡◌, ℕ, Bool, true, false, None, Some, slice_get}
+-- What is built: the kinds of nodes that the analysis goes through, and the programs whose text has these kinds alone and meets no
+-- function.
+use Rattle.std.specs.Prelude.{◌≡◌, ℕ, Bool, true, false, Some, None, slice_get}
 use Rattle.ja_base.specs.declared.ids.FnId.{FnId}
+use Rattle.ja_base.specs.declared.ids.NameId.{NameId}
 use Rattle.ja_base.specs.declared.ids.NodeId.{NodeId}
+use Rattle.ja_base.specs.declared.ids.Site.{Site}
 use Rattle.ja_graph.specs.declared.node.Node.{Node}
-use Rattle.ja_graph.specs.declared.node.Node.TheVariants.{Const, FindName, ReadRef, WriteRef, Call, Return, Escape, Enter, Intrinsic, Device}
+use Rattle.ja_graph.specs.declared.node.Node.TheVariants.{Const, FindName, ReadRef, WriteRef, Call, Return, Escape}
 use Rattle.ja_graph.specs.declared.node.NodeInfo.{NodeInfo}
-use Rattle.ja_graph.specs.declared.program.Function.{Function}
+use Rattle.ja_graph.specs.declared.program.ObjectSpec.{ObjectSpec}
+use Rattle.ja_graph.specs.declared.program.PropertySpec.{PropertySpec}
+use Rattle.ja_graph.specs.declared.program.SpecContent.{SpecContent}
+use Rattle.ja_graph.specs.declared.program.SpecContent.TheVariants.{Object}
 use Rattle.ja_graph.specs.declared.program.Program.{Program}
 use Rattle.ja_graph.specs.declared.program.SiteInfo.{SiteInfo}
-use Rattle.ja_graph.specs.Program.{node_at}
+use Rattle.ja_graph.specs.Node.{name_in}
+use Rattle.ja_graph.specs.Program.{node_at, global, reference_error_prototype, type_error_prototype}
 
 -- a node of a kind that is built
 abbrev pub is_built : Node → Bool
@@ -21,22 +28,34 @@ is_built (Return src) = true
 is_built Escape = true
 is_built node = false
 
--- What is built: each node of each function is of a kind that is, and no object of the program can be called or constructs.
+-- the program's text is its function 0
+abbrev pub text_function : FnId
+text_function = record { 0 = 0 }
+
+-- the objects of a site are plain: they can be neither called nor constructed
+abbrev pub IsPlain : Program → Site → Type 0
+IsPlain p s = (info : SiteInfo) → slice_get p.sites s.0 ≡ Some info → (info.calls ≡ None) × (info.constructs ≡ None)
+
+-- a property holds no object, or a plain one
+abbrev pub IsPlainContent : Program → SpecContent → Type 0
+IsPlainContent p (Object s) = IsPlain p s
+IsPlainContent p content = Unit {0}
+
+-- a name of the text: one of its nodes has it
+pub record IsNamed (p : Program) (name : NameId) : Type 0 where
+  pub number : NodeId
+  pub info : NodeInfo
+  pub info_is : node_at p text_function number ≡ Some info
+  pub name_is : name_in info.node ≡ Some name
+
+-- What is built: each node of the text is of a kind that is, and the text meets plain objects alone. Those are what its nodes make, the
+-- global object, the prototypes of the errors that its nodes throw, and what leads from one of these to another: a prototype, or a
+-- property that has a name of the text. The other functions of the program, and the objects that can be called, are never met.
 pub record AreBuilt (p : Program) : Type 0 where
-  pub nodes : (f n : ℕ) (fn : Function) (info : NodeInfo) → slice_get p.functions f ≡ Some fn → slice_get fn.nodes n ≡ Some info → is_built info.node ≡ true
-  pub uncalled : (s : ℕ) (info : SiteInfo) → slice_get p.sites s ≡ Some info → (info.calls ≡ None) × (info.constructs ≡ None)
-
--- a node of a program that runs alone: it enters no function, and asks neither a built-in function's operation nor a device
-abbrev pub is_alone : Node → Bool
-is_alone (Enter site arguments) = false
-is_alone (Intrinsic dst which args) = false
-is_alone (Device dst which) = false
-is_alone node = true
-
--- What runs alone: each node is of such a kind, no object of the program can be called or constructs, and the program itself stands in
--- the place of the functions that begin default values, since there are none.
-pub record RunsAlone (p : Program) : Type 0 where
-  pub nodes : (f : FnId) (n : NodeId) (info : NodeInfo) → node_at p f n ≡ Some info → is_alone info.node ≡ true
-  pub uncalled : (s : ℕ) (info : SiteInfo) → slice_get p.sites s ≡ Some info → (info.calls ≡ None) × (info.constructs ≡ None)
-  pub value_first : p.value_first.0 ≡ 0
-  pub text_first : p.text_first.0 ≡ 0
+  pub nodes : (n : NodeId) (info : NodeInfo) → node_at p text_function n ≡ Some info → is_built info.node ≡ true
+  pub made : (s : Site) (info : SiteInfo) → slice_get p.sites s.0 ≡ Some info → info.owner ≡ Some text_function → IsPlain p s
+  pub global_object : IsPlain p global
+  pub reference_errors : IsPlain p reference_error_prototype
+  pub type_errors : IsPlain p type_error_prototype
+  pub prototypes : (i : ℕ) (o : ObjectSpec) (s : Site) → slice_get p.opening i ≡ Some o → IsPlain p o.site → o.prototype ≡ Some s → IsPlain p s
+  pub contents : (i j : ℕ) (o : ObjectSpec) (q : PropertySpec) → slice_get p.opening i ≡ Some o → IsPlain p o.site → slice_get o.properties j ≡ Some q → IsNamed p q.name → IsPlainContent p q.content

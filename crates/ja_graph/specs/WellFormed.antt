@@ -1,12 +1,12 @@
 -- What makes a program well formed.
-use Rattle.std.specs.Prelude.{◌≡◌, ◌<◌, ◌≤◌, ◌⊎◌, ◌+◌, ◌-◌, ℕ, suc, List, [], ◌∷◌, ◌++◌, map, Some, None, IsSome, slice_get, length, take}
-use Rattle.std.specs.Option.{option_to_list}
+use Rattle.std.specs.Prelude.{◌≡◌, ◌<◌, ◌≤◌, ◌⊎◌, ◌+◌, ◌-◌, ℕ, suc, List, [], ◌∷◌, ◌++◌, map, Option, Some, None, IsSome, slice_get, length, take}
+use Rattle.std.specs.Option.{option_map, option_to_list}
 use Rattle.std.specs.List.{AllByRecursion, flat_map, range_with_len}
 use Rattle.ja_base.specs.declared.ids.FnId.{FnId}
 use Rattle.ja_base.specs.declared.ids.NameId.{NameId}
 use Rattle.ja_base.specs.declared.ids.Reg.{Reg}
 use Rattle.ja_base.specs.declared.ids.Site.{Site}
-use Rattle.ja_graph.specs.declared.builtins.TheConstants.{BUILTIN_CLASSES, BUILTIN_NAMES}
+use Rattle.ja_graph.specs.declared.builtins.TheConstants.{BUILTIN_CLASSES, BUILTIN_NAMES, INTRINSICS}
 use Rattle.ja_graph.specs.declared.node.Args.TheVariants.{Tail}
 use Rattle.ja_graph.specs.declared.node.Node.{Node}
 use Rattle.ja_graph.specs.declared.node.Node.TheVariants.{Call, Escape, Intrinsic, Device}
@@ -44,11 +44,15 @@ IsName p n = n.0 < length p.names
 abbrev pub IsFunction : Program → FnId → Type 0
 IsFunction p f = f.0 < length p.functions
 
+-- how many arguments an operation of the built-in functions takes, if there is one of the number
+abbrev pub arguments_taken : ℕ → Option ℕ
+arguments_taken which = option_map (λ row. row.1) (slice_get INTRINSICS which)
+
 -- what only some kinds of nodes ask for: the caller's arguments from the second on are there where a function has at most
--- one parameter; no intrinsic is built yet; a device is one of the program's
+-- one parameter; an operation is one of the built-in functions', with as many arguments as it takes; a device is one of the program's
 abbrev pub IsAllowed : Program → Function → Node → Type 0
 IsAllowed p fn (Call dst callee receiver Tail error) = length fn.parameters ≤ 1
-IsAllowed p fn (Intrinsic dst which args) = ⊥
+IsAllowed p fn (Intrinsic dst which args) = arguments_taken which ≡ Some (length args)
 IsAllowed p fn (Device dst which) = which < length p.signatures
 IsAllowed p fn node = Unit {0}
 

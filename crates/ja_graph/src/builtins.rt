@@ -1,5 +1,5 @@
-//! The numbers of the built-in objects and names, as far as they are built (ES3 section 15): those that
-//! are no functions.
+//! The numbers of the built-in objects and names, and the operations that the built-in functions are written
+//! with (ES3 section 15).
 
 use crate::Class;
 use ja_base::{NameId, Site};
@@ -10,63 +10,179 @@ pub const GLOBAL: Site = Site(0);
 /// `Object.prototype` (15.2.4).
 pub const OBJECT_PROTOTYPE: Site = Site(1);
 
+/// `Function.prototype` (15.3.4).
+pub const FUNCTION_PROTOTYPE: Site = Site(2);
+
+/// `Object` (15.2.3).
+pub const OBJECT: Site = Site(3);
+
+/// `Function` (15.3.3).
+pub const FUNCTION: Site = Site(4);
+
 /// `Array.prototype` (15.4.4).
-pub const ARRAY_PROTOTYPE: Site = Site(2);
+pub const ARRAY_PROTOTYPE: Site = Site(5);
+
+/// `String` (15.5.3).
+pub const STRING: Site = Site(6);
 
 /// `String.prototype` (15.5.4).
-pub const STRING_PROTOTYPE: Site = Site(3);
+pub const STRING_PROTOTYPE: Site = Site(7);
+
+/// `Boolean` (15.6.3).
+pub const BOOLEAN: Site = Site(8);
 
 /// `Boolean.prototype` (15.6.4).
-pub const BOOLEAN_PROTOTYPE: Site = Site(4);
+pub const BOOLEAN_PROTOTYPE: Site = Site(9);
+
+/// `Number` (15.7.3).
+pub const NUMBER: Site = Site(10);
 
 /// `Number.prototype` (15.7.4).
-pub const NUMBER_PROTOTYPE: Site = Site(5);
+pub const NUMBER_PROTOTYPE: Site = Site(11);
+
+/// `Error` (15.11.3).
+pub const ERROR: Site = Site(12);
 
 /// `Error.prototype` (15.11.4).
-pub const ERROR_PROTOTYPE: Site = Site(6);
+pub const ERROR_PROTOTYPE: Site = Site(13);
+
+/// `EvalError` (15.11.7).
+pub const EVAL_ERROR: Site = Site(14);
 
 /// `EvalError.prototype` (15.11.7).
-pub const EVAL_ERROR_PROTOTYPE: Site = Site(7);
+pub const EVAL_ERROR_PROTOTYPE: Site = Site(15);
+
+/// `RangeError` (15.11.7).
+pub const RANGE_ERROR: Site = Site(16);
 
 /// `RangeError.prototype` (15.11.7).
-pub const RANGE_ERROR_PROTOTYPE: Site = Site(8);
+pub const RANGE_ERROR_PROTOTYPE: Site = Site(17);
+
+/// `ReferenceError` (15.11.7).
+pub const REFERENCE_ERROR: Site = Site(18);
 
 /// `ReferenceError.prototype` (15.11.7).
-pub const REFERENCE_ERROR_PROTOTYPE: Site = Site(9);
+pub const REFERENCE_ERROR_PROTOTYPE: Site = Site(19);
+
+/// `SyntaxError` (15.11.7).
+pub const SYNTAX_ERROR: Site = Site(20);
 
 /// `SyntaxError.prototype` (15.11.7).
-pub const SYNTAX_ERROR_PROTOTYPE: Site = Site(10);
+pub const SYNTAX_ERROR_PROTOTYPE: Site = Site(21);
+
+/// `TypeError` (15.11.7).
+pub const TYPE_ERROR: Site = Site(22);
 
 /// `TypeError.prototype` (15.11.7).
-pub const TYPE_ERROR_PROTOTYPE: Site = Site(11);
+pub const TYPE_ERROR_PROTOTYPE: Site = Site(23);
+
+/// `URIError` (15.11.7).
+pub const URI_ERROR: Site = Site(24);
 
 /// `URIError.prototype` (15.11.7).
-pub const URI_ERROR_PROTOTYPE: Site = Site(12);
+pub const URI_ERROR_PROTOTYPE: Site = Site(25);
 
 /// `Math` (15.8).
-pub const MATH: Site = Site(13);
+pub const MATH: Site = Site(26);
+
+/// `isNaN` (15.1.2.4).
+pub const IS_NAN: Site = Site(27);
+
+/// `isFinite` (15.1.2.5).
+pub const IS_FINITE: Site = Site(28);
+
+/// `Object.prototype.toString` (15.2.4.2).
+pub const OBJECT_TO_STRING: Site = Site(29);
+
+/// `Object.prototype.valueOf` (15.2.4.4).
+pub const OBJECT_VALUE_OF: Site = Site(30);
+
+/// `Object.prototype.hasOwnProperty` (15.2.4.5).
+pub const HAS_OWN_PROPERTY: Site = Site(31);
+
+/// `Object.prototype.isPrototypeOf` (15.2.4.6).
+pub const IS_PROTOTYPE_OF: Site = Site(32);
+
+/// `Object.prototype.propertyIsEnumerable` (15.2.4.7).
+pub const PROPERTY_IS_ENUMERABLE: Site = Site(33);
+
+/// `Function.prototype.apply` (15.3.4.3).
+pub const APPLY: Site = Site(34);
+
+/// `Function.prototype.call` (15.3.4.4).
+pub const CALL: Site = Site(35);
+
+/// `String.prototype.toString` (15.5.4.2).
+pub const STRING_TO_STRING: Site = Site(36);
+
+/// `String.prototype.valueOf` (15.5.4.3).
+pub const STRING_VALUE_OF: Site = Site(37);
+
+/// `Boolean.prototype.toString` (15.6.4.2).
+pub const BOOLEAN_TO_STRING: Site = Site(38);
+
+/// `Boolean.prototype.valueOf` (15.6.4.3).
+pub const BOOLEAN_VALUE_OF: Site = Site(39);
+
+/// `Number.prototype.toString` (15.7.4.2).
+pub const NUMBER_TO_STRING: Site = Site(40);
+
+/// `Number.prototype.valueOf` (15.7.4.4).
+pub const NUMBER_VALUE_OF: Site = Site(41);
+
+/// `Error.prototype.toString` (15.11.4.4).
+pub const ERROR_TO_STRING: Site = Site(42);
 
 /// The classes of the built-in objects, by their sites.
-pub const BUILTIN_CLASSES: [Class; 14] = [
+pub const BUILTIN_CLASSES: [Class; 43] = [
     Class::Object,
     Class::Object,
+    Class::Function,
+    Class::Function,
+    Class::Function,
     Class::Array,
+    Class::Function,
     Class::String,
+    Class::Function,
     Class::Boolean,
+    Class::Function,
     Class::Number,
+    Class::Function,
     Class::Error,
+    Class::Function,
     Class::Error,
+    Class::Function,
     Class::Error,
+    Class::Function,
     Class::Error,
+    Class::Function,
     Class::Error,
+    Class::Function,
     Class::Error,
+    Class::Function,
     Class::Error,
     Class::Math,
+    Class::Function,
+    Class::Function,
+    Class::Function,
+    Class::Function,
+    Class::Function,
+    Class::Function,
+    Class::Function,
+    Class::Function,
+    Class::Function,
+    Class::Function,
+    Class::Function,
+    Class::Function,
+    Class::Function,
+    Class::Function,
+    Class::Function,
+    Class::Function,
 ];
 
 /// The names of the built-in objects' properties, in the order of the standard; then those that other
 /// objects have.
-pub const BUILTIN_NAMES: [&[u8]; 96] = [
+pub const BUILTIN_NAMES: [&[u8]; 104] = [
     // of the global object (15.1)
     b"NaN",
     b"undefined",
@@ -98,6 +214,8 @@ pub const BUILTIN_NAMES: [&[u8]; 96] = [
     b"unescape",
     b"Date",
     b"RegExp",
+    // of constructors (15.2.3)
+    b"prototype",
     // of `Object.prototype` (15.2.4)
     b"constructor",
     b"toString",
@@ -106,6 +224,9 @@ pub const BUILTIN_NAMES: [&[u8]; 96] = [
     b"isPrototypeOf",
     b"propertyIsEnumerable",
     b"toLocaleString",
+    // of `Function.prototype` (15.3.4)
+    b"apply",
+    b"call",
     // of `Array.prototype` (15.4.4)
     b"concat",
     b"join",
@@ -117,6 +238,8 @@ pub const BUILTIN_NAMES: [&[u8]; 96] = [
     b"splice",
     b"unshift",
     b"sort",
+    // of `String` (15.5.3)
+    b"fromCharCode",
     // of `String.prototype` (15.5.4)
     b"charAt",
     b"charCodeAt",
@@ -133,6 +256,11 @@ pub const BUILTIN_NAMES: [&[u8]; 96] = [
     b"localeCompare",
     b"toLocaleLowerCase",
     b"toLocaleUpperCase",
+    // of `Number` (15.7.3)
+    b"MAX_VALUE",
+    b"MIN_VALUE",
+    b"POSITIVE_INFINITY",
+    b"NEGATIVE_INFINITY",
     // of `Number.prototype` (15.7.4)
     b"toFixed",
     b"toExponential",
@@ -174,16 +302,37 @@ pub const BUILTIN_NAMES: [&[u8]; 96] = [
 ];
 
 /// `name`, of the prototypes of errors.
-pub const NAME: NameId = NameId(65);
+pub const NAME: NameId = NameId(73);
 
 /// `message`, of errors and their prototypes.
-pub const MESSAGE: NameId = NameId(66);
+pub const MESSAGE: NameId = NameId(74);
 
 /// `length`.
-pub const LENGTH: NameId = NameId(93);
+pub const LENGTH: NameId = NameId(101);
 
 /// `callee`.
-pub const CALLEE: NameId = NameId(94);
+pub const CALLEE: NameId = NameId(102);
 
 /// `arguments`.
-pub const ARGUMENTS: NameId = NameId(95);
+pub const ARGUMENTS: NameId = NameId(103);
+
+/// The operations of the built-in functions, by their numbers: the name under which the texts of these functions
+/// call each, and how many arguments it takes.
+pub const INTRINSICS: [(&[u8], u32); 8] = [
+    // whether a value is an object
+    (b"$is_object", 1),
+    // the class of an object, as a text (8.6.2)
+    (b"$class", 1),
+    // the internal value of an object (8.6.2)
+    (b"$value", 1),
+    // whether an object has a property of its own, by its name
+    (b"$has_own", 2),
+    // .. that isn't DontEnum (8.6.1)
+    (b"$is_enumerable", 2),
+    // whether an object is on the prototype chain behind a value
+    (b"$inherits", 2),
+    // whether a value is an array or an arguments object
+    (b"$has_elements", 1),
+    // the digits of a number, by a radix from 2 to 36 (15.7.4.2)
+    (b"$digits", 2),
+];

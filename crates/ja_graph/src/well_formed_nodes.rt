@@ -1,6 +1,6 @@
 //! Whether the numbers of a node are in range.
 
-ghost use Rattle.std.specs.Prelude.{◌≡◌, ◌↔◌, ◌<◌, ◌≤◌, IsTrue, length};
+ghost use Rattle.std.specs.Prelude.{◌≡◌, ◌↔◌, ◌<◌, ◌≤◌, IsTrue, Some, length};
 ghost use Rattle.std.specs.List.{AllByRecursion};
 ghost use Rattle.std.specs.Option.{option_to_list};
 ghost use Rattle.ja_base.specs.declared.ids.Reg.{Reg};
@@ -8,7 +8,7 @@ ghost use Rattle.ja_graph.specs.Node.{register_set, registers_named, name_in, fu
 ghost use Rattle.ja_graph.specs.WellFormed as graph;
 
 use crate::node_registers::registers_with_named;
-use crate::{Args, FIXED_REGISTERS, Function, Node, NodeInfo, Program};
+use crate::{Args, FIXED_REGISTERS, Function, INTRINSICS, Node, NodeInfo, Program};
 use ja_base::{FnId, NameId, Reg};
 
 /// The register that a node sets, if it sets one.
@@ -118,6 +118,16 @@ pub(crate) fn is_function_if_any(program: &Program, function: Option<FnId>) -> b
     }
 }
 
+/// Whether there is an operation of the number, and it takes so many arguments.
+fn takes_arguments(which: u32, count: usize) -> bool
+    ensures { IsTrue result ↔ (graph.arguments_taken which ≡ Some count) }
+{
+    match INTRINSICS.get(which as usize) {
+        Some((_, taken)) => *taken as usize == count,
+        None => false,
+    }
+}
+
 /// Whether a function may have a node of this kind.
 fn is_allowed(program: &Program, function: &Function, node: &Node) -> bool
     ensures { IsTrue result ↔ graph.IsAllowed program.now function.now node.now }
@@ -127,7 +137,7 @@ fn is_allowed(program: &Program, function: &Function, node: &Node) -> bool
             args: Args::Tail,
             ..
         } => function.parameters.len() <= 1,
-        Node::Intrinsic { .. } => false,
+        Node::Intrinsic { which, args, .. } => takes_arguments(*which, args.len()),
         Node::Device { which, .. } => (*which as usize) < program.signatures.len(),
         _ => true,
     }
