@@ -1,6 +1,6 @@
 -- Each step counts one more, goes along an edge of its node, enters a function or leaves one; and no object goes.
 use Rattle.std.proofs.Common.{◌≡◌, ◌⊎◌, ◌+◌, ℕ, Bool, true, false, List, [], ◌∷◌, map, Some, None, Option, inl, inr, refl, sym, ap, ◌∙◌, subst}
-use Rattle.std.specs.Prelude.{IsTrue, Result, Ok, Err, is_some, slice_get, if◌then◌else◌, ◌==◌, ◌&&◌}
+use Rattle.std.specs.Prelude.{IsTrue, Result, Ok, Err, is_some, slice_get, ◌&&◌}
 use Rattle.std.specs.Option.{option_and_then, option_map}
 use Rattle.std.proofs.lemmas.Bool.{false≢true}
 use Rattle.std.proofs.lemmas.Option.{same_Some, option_and_then_some}
@@ -43,7 +43,7 @@ use Rattle.ja_machine.specs.declared.machine.Answer.{Answer}
 use Rattle.ja_machine.specs.declared.machine.Answer.TheVariants as answers
 use Rattle.ja_machine.specs.declared.machine.Event.{Event}
 use Rattle.ja_machine.specs.declared.machine.Event.TheVariants as event
-use Rattle.ja_machine.specs.Heap.{own, has, content_at, class_at, object_at, with_new, with_object, new_address, is_shared}
+use Rattle.ja_machine.specs.Heap.{own, has, content_at, class_at, object_at, with_new, with_object, new_address, is_shared, inherits_from}
 use Rattle.ja_machine.specs.Writes.{put, define, delete, can_delete}
 use Rattle.ja_machine.specs.Values.{Outcome, unary, binary, key_of}
 use Rattle.ja_machine.specs.Enumeration.{names}
@@ -221,7 +221,7 @@ module _ (p : Program) (s : Standing) (frames_are : s.conf.frames ≡ s.top ∷ 
   need_object_along may error (value.Primitive q) = throws_along may error builtins.TYPE_ERROR_PROTOTYPE not_an_object_message
 
   has_instance_along : IsTrue (may_throw s.info.node) → (dst : Reg) (not_object : Site) (left : Addr) (content : Option Content) → Taken (Nodes.has_instance s dst not_object left content)
-  has_instance_along may dst not_object left (Some (contents.Value (value.Object a))) = sets_along dst (Nodes.bool_value (Nodes.inherits_from s.conf.heap left a))
+  has_instance_along may dst not_object left (Some (contents.Value (value.Object a))) = sets_along dst (Nodes.bool_value (inherits_from s.conf.heap left a))
   has_instance_along may dst not_object left (Some (contents.Value (value.Primitive q))) = throws_along may not_object builtins.TYPE_ERROR_PROTOTYPE no_prototype_message
   has_instance_along may dst not_object left (Some contents.Row) = throws_along may not_object builtins.TYPE_ERROR_PROTOTYPE no_prototype_message
   has_instance_along may dst not_object left None = throws_along may not_object builtins.TYPE_ERROR_PROTOTYPE no_prototype_message
@@ -342,9 +342,7 @@ module _ (p : Program) (s : Standing) (frames_are : s.conf.frames ≡ s.top ∷ 
     convert_along : (dst : Reg) (hint : Hint) (other : Option Value) (x : Value) → Taken (convert_step p s dst hint other x)
     convert_along dst hint other (value.Primitive q) = sets_along dst (value.Primitive q)
     convert_along dst hint other (value.Object a) =
-        let enter_it : Event = enters p s s.conf.heap (default_function p hint) a None [] in
-        let out : Event = left_scope s scope_kind.Row in
-        either_way Taken (stays other) (sets s dst (value.Object a)) (if (default_function p hint).0 == 0 then out else enter_it) (λ e. sets_along dst (value.Object a)) (λ e. either_way Taken ((default_function p hint).0 == 0) out enter_it (λ f. refl) (λ f. enters_along is s.conf.heap (default_function p hint) a None [] (stay_same s.conf.heap)))
+        either_way Taken (stays other) (sets s dst (value.Object a)) (enters p s s.conf.heap (default_function p hint) a None []) (λ e. sets_along dst (value.Object a)) (λ e. enters_along is s.conf.heap (default_function p hint) a None [] (stay_same s.conf.heap))
 
   -- ---- how a function is left
 

@@ -1,6 +1,6 @@
 -- The state after a step of each kind of node is as it should be.
 use Rattle.std.proofs.Common.{◌≡◌, ◌<◌, ℕ, suc, Bool, true, false, List, [], ◌∷◌, length, map, Some, None, Option, refl, sym, subst, arith}
-use Rattle.std.specs.Prelude.{Result, Ok, Err, is_some, slice_get, ◌==◌, ◌&&◌, if◌then◌else◌}
+use Rattle.std.specs.Prelude.{Result, Ok, Err, is_some, slice_get, ◌&&◌}
 use Rattle.std.specs.List.{AllByRecursion}
 use Rattle.std.specs.Option.{option_map, option_to_list}
 use Rattle.std.proofs.lemmas.Option.{option_and_then_some}
@@ -42,7 +42,7 @@ use Rattle.ja_machine.specs.declared.machine.Put.TheVariants as put_ends
 use Rattle.ja_machine.specs.declared.machine.Answer.{Answer}
 use Rattle.ja_machine.specs.declared.machine.Answer.TheVariants as answers
 use Rattle.ja_machine.specs.declared.machine.Event.{Event}
-use Rattle.ja_machine.specs.Heap.{own, has, content_at, class_at, count, with_new, new_address, is_shared}
+use Rattle.ja_machine.specs.Heap.{own, has, content_at, class_at, count, with_new, new_address, is_shared, inherits_from}
 use Rattle.ja_machine.specs.Writes.{put, define, delete, can_delete}
 use Rattle.ja_machine.specs.Enumeration.{names}
 use Rattle.ja_machine.specs.Values.{Outcome, unary, binary, key_of}
@@ -110,6 +110,9 @@ module _ (p : Program) (good : IsWellFormed p) (s : Standing) (here : IsAt p s) 
 
   object_prototype : IsObjectOf s.conf.heap (first_of builtins.OBJECT_PROTOTYPE)
   object_prototype = program_nodes.object_prototype_there p good s.conf.heap here.heap
+
+  function_prototype : IsObjectOf s.conf.heap (first_of builtins.FUNCTION_PROTOTYPE)
+  function_prototype = program_nodes.function_prototype_there p good s.conf.heap here.heap
 
   reference_error : (error : Site) (message : List ℕ) → IsMade p (making error class.Error) → Kept (throws s error builtins.REFERENCE_ERROR_PROTOTYPE message)
   reference_error error message made = standing.throws_kept p good s here error error_kind.ReferenceError message made
@@ -226,7 +229,7 @@ module _ (p : Program) (good : IsWellFormed p) (s : Standing) (here : IsAt p s) 
   need_object_kept error (value.Primitive q) made = type_error error not_an_object_message made
 
   has_instance_kept : (dst : Reg) (not_object : Site) (left : Addr) (content : Option Content) → Sets dst → IsMade p (making not_object class.Error) → Kept (Nodes.has_instance s dst not_object left content)
-  has_instance_kept dst not_object left (Some (contents.Value (value.Object a))) to made = sets_kept dst (Nodes.bool_value (Nodes.inherits_from s.conf.heap left a)) to tt
+  has_instance_kept dst not_object left (Some (contents.Value (value.Object a))) to made = sets_kept dst (Nodes.bool_value (inherits_from s.conf.heap left a)) to tt
   has_instance_kept dst not_object left (Some (contents.Value (value.Primitive q))) to made = type_error not_object no_prototype_message made
   has_instance_kept dst not_object left (Some contents.Row) to made = type_error not_object no_prototype_message made
   has_instance_kept dst not_object left None to made = type_error not_object no_prototype_message made
@@ -294,7 +297,7 @@ module _ (p : Program) (good : IsWellFormed p) (s : Standing) (here : IsAt p s) 
       let q : Object = prototype_object f in
       let mid : Heap = with_new s.conf.heap site o in
       let now : Heap = with_new mid proto_site q in
-      let fits_o : IsFitting p s.conf.heap site o = fitting p s.conf.heap a o made.each.0 refl there object_prototype tt in
+      let fits_o : IsFitting p s.conf.heap site o = fitting p s.conf.heap a o made.each.0 refl there function_prototype tt in
       let grown : Grows s.conf.heap mid = Heaps.grows-with_new s.conf.heap site o (row p s.conf.heap site o (linked_of p s.conf.heap here.heap) fits_o) in
       let fits_q : IsFitting p mid proto_site q = fitting p mid b q made.each.1.0 refl tt (grown (first_of builtins.OBJECT_PROTOTYPE) object_prototype) tt in
       let f_there : IsObjectOf now f = first_there a b made.first made.in_order o q fits_o fits_q in
@@ -418,10 +421,7 @@ module _ (p : Program) (good : IsWellFormed p) (s : Standing) (here : IsAt p s) 
     convert_kept dst to_kind other (value.Primitive q) to there = sets_kept dst (value.Primitive q) to tt
     convert_kept dst to_kind other (value.Object a) to there =
         let f : FnId = default_function p to_kind in
-        let enter_it : Event = enters p s s.conf.heap f a None [] in
-        let out : Event = left_scope s scope_kind.Row in
-        let entered : Kept enter_it = standing.enters_kept p good s here s.conf.heap (standing.same p good s here) is f a None [] (default_fits p good to_kind) there (λ b e. absurd (cc)) tt in
-        either_way Kept (stays other) (sets s dst (value.Object a)) (if f.0 == 0 then out else enter_it) (λ e. sets_kept dst (value.Object a) to there) (λ e. either_way Kept (f.0 == 0) out enter_it (λ g. tt) (λ g. entered))
+        either_way Kept (stays other) (sets s dst (value.Object a)) (enters p s s.conf.heap f a None []) (λ e. sets_kept dst (value.Object a) to there) (λ e. standing.enters_kept p good s here s.conf.heap (standing.same p good s here) is f a None [] (default_fits p good to_kind) there (λ b e. absurd (cc)) tt)
 
   -- ---- the other kinds
 

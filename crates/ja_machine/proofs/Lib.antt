@@ -13,3 +13,4 @@ pub mod Standing
 pub mod Made
 pub mod Keeping
 pub mod States
+pub mod Operations

@@ -44,6 +44,10 @@ module _ (p : Program) (good : IsWellFormed p) (h : Heap) (known : IsHeap p h) w
   pub object_prototype_there : IsObjectOf h (first_of builtins.OBJECT_PROTOTYPE)
   object_prototype_there = builtin builtins.OBJECT_PROTOTYPE class.Object refl
 
+  -- .. of functions
+  pub function_prototype_there : IsObjectOf h (first_of builtins.FUNCTION_PROTOTYPE)
+  function_prototype_there = builtin builtins.FUNCTION_PROTOTYPE class.Function refl
+
   -- .. of arrays
   pub array_prototype_there : IsObjectOf h (first_of builtins.ARRAY_PROTOTYPE)
   array_prototype_there = builtin builtins.ARRAY_PROTOTYPE class.Array refl

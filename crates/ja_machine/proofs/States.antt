@@ -29,7 +29,8 @@ use Rattle.ja_machine.specs.Frames.{register_of, thrown, with_result}
 use Rattle.ja_machine.specs.Objects.{first_of}
 use Rattle.ja_machine.specs.Events.{Standing, next_state}
 use Rattle.ja_machine.specs.Calls.{returns, return_step, escape_step}
-use Rattle.ja_machine.specs.Nodes.{is_object, shown, takes, pick, pick_step, device_step, node_step}
+use Rattle.ja_machine.specs.Values.{is_object}
+use Rattle.ja_machine.specs.Nodes.{shown, takes, pick, pick_step, device_step, node_step}
 use Rattle.ja_machine.specs.Machine.{program_function, opening_heap, opening_state, pick_wanted, pick_wants, device_wants, node_wants, frames_want, wants, fits, frames_step, step, next_of, state_of}
 use Rattle.ja_machine.specs.State.{IsFrame, AreFrames, enters_functions, AreWaiting, IsLowest, below_top, IsState}
 use Rattle.ja_machine.specs.Runs.{AreStates, NeverStuck, ChainsEnd}

@@ -1,5 +1,5 @@
 -- Calls, constructions and conversions, and how a function is left (ES3 8.6.2.6, 10.2, 11.2.2, 11.2.3, 13.2.1, 13.2.2).
-use Rattle.std.specs.Prelude.{ℕ, ◌+◌, ◌==◌, ◌||◌, Bool, true, false, if◌then◌else◌, List, [], ◌∷◌, map, drop, Option, Some, None, unwrap_or, Result, Ok, Err, slice_get}
+use Rattle.std.specs.Prelude.{ℕ, ◌+◌, ◌||◌, Bool, true, false, if◌then◌else◌, List, [], ◌∷◌, map, drop, Option, Some, None, unwrap_or, Result, Ok, Err, slice_get}
 use Rattle.std.specs.Option.{option_and_then, option_map, option_map_or}
 use Rattle.std.specs.List.{range_with_len}
 use lib.Chars.{codes}
@@ -116,9 +116,12 @@ elements_up_to h a (Err kind) = Err kind
 abbrev pub has_elements : Object → Bool
 has_elements o = is_array o.class || o.slots.arguments
 
+abbrev pub has_elements_at : Heap → Addr → Bool
+has_elements_at h a = option_map_or has_elements (object_at h a) false
+
 abbrev pub elements : Heap → Value → Given
 elements h (value.Object a) =
-    if option_map_or has_elements (object_at h a) false then elements_up_to h a (element_count (content_at h a length_name))
+    if has_elements_at h a then elements_up_to h a (element_count (content_at h a length_name))
     else Err Register
 elements h (value.Primitive q) = Err Register
 
@@ -190,13 +193,10 @@ abbrev pub default_function : Program → Hint → FnId
 default_function p hint.Number = p.value_first
 default_function p hint.Text = p.text_first
 
--- a program that names itself has no such functions yet
 abbrev pub convert_step : Program → Standing → Reg → Hint → Option Value → Value → Event
 convert_step p s dst hint other (value.Primitive q) = sets s dst (value.Primitive q)
 convert_step p s dst hint other (value.Object a) =
-    if stays other then sets s dst (value.Object a)
-    else if (default_function p hint).0 == 0 then left_scope s Row
-    else enters p s s.conf.heap (default_function p hint) a None []
+    if stays other then sets s dst (value.Object a) else enters p s s.conf.heap (default_function p hint) a None []
 
 -- ---- how a function is left
 

@@ -1,7 +1,7 @@
 -- The concrete heap (ES3 8.6.2): objects by site and ordinal, and their properties.
-use Rattle.std.specs.Prelude.{ℕ, zero, suc, Bool, true, false, not, if◌then◌else◌, nat_eq, List, [], ◌∷◌, ◌++◌, length, slice_get, slice_set, Option, Some, None, is_some, unwrap_or, find}
+use Rattle.std.specs.Prelude.{ℕ, zero, suc, Bool, true, false, not, if◌then◌else◌, nat_eq, List, [], ◌∷◌, ◌++◌, length, drop, slice_get, slice_set, Option, Some, None, is_some, unwrap_or, find}
 use Rattle.std.specs.Option.{option_and_then, option_map, option_map_or}
-use Rattle.std.specs.List.{sum_by}
+use Rattle.std.specs.List.{sum_by, list_any}
 use Rattle.ja_base.specs.declared.ids.Site.{Site}
 use Rattle.ja_graph.specs.declared.attrs.Attrs.{Attrs}
 use Rattle.ja_graph.specs.declared.program.Class.{Class}
@@ -101,3 +101,7 @@ class_at h a = option_map (λ (o : Object). o.class) (object_at h a)
 
 abbrev pub same_address : Addr → Addr → Bool
 same_address a b = if nat_eq a.site.0 b.site.0 then nat_eq a.ordinal b.ordinal else false
+
+-- whether an object is among those that another inherits from
+abbrev pub inherits_from : Heap → Addr → Addr → Bool
+inherits_from h left prototype = list_any (same_address prototype) (drop 1 (prototypes h left))

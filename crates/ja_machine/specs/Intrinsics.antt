@@ -1,13 +1,140 @@
--- The operations of the built-in functions, by their numbers. There are none until functions are built in.
-use Rattle.std.specs.Prelude.{List, [], Result}
+-- The operations that the built-in functions are written with: what each gives of the values that it takes and of the heap.
+use Rattle.std.specs.Prelude.{◌≡◌, ◌⊎◌, ℕ, suc, ◌∷◌, pos, negsuc, nat_le, Bool, false, ◌&&◌, if◌then◌else◌, List, [], map, length, Option, Some, None, is_some, Result, Ok, Err}
+use Rattle.std.specs.Fmt.{digits}
+use Rattle.std.specs.Option.{option_and_then, option_map, option_map_or}
+use lib.Chars.{codes}
 use Rattle.ja_base.specs.declared.ids.ScopeKind.{ScopeKind}
+use Rattle.ja_base.specs.declared.ids.ScopeKind.TheVariants.{Register}
+use Rattle.ja_prim.specs.declared.primitive.Num.{Num}
+use Rattle.ja_prim.specs.declared.primitive.Num.TheVariants.{NaN, Whole}
 use Rattle.ja_prim.specs.declared.primitive.Primitive.{Primitive}
+use Rattle.ja_prim.specs.declared.primitive.Primitive.TheVariants.{Number, Text}
+use Rattle.ja_graph.specs.declared.program.Class.{Class}
+use Rattle.ja_graph.specs.declared.program.Class.TheVariants as class
+use Rattle.ja_machine.specs.declared.machine.Addr.{Addr}
 use Rattle.ja_machine.specs.declared.machine.Value.{Value}
+use Rattle.ja_machine.specs.declared.machine.Value.TheVariants as value
+use Rattle.ja_machine.specs.declared.machine.Property.{Property}
+use Rattle.ja_machine.specs.declared.machine.Object.{Object}
 use Rattle.ja_machine.specs.declared.machine.Heap.{Heap}
+use Rattle.ja_machine.specs.Heap.{object_at, class_at, own, inherits_from}
+use Rattle.ja_machine.specs.Values.{is_object, truth}
+use Rattle.ja_machine.specs.Enumeration.{is_enumerable}
+use Rattle.ja_machine.specs.Calls.{has_elements_at}
 
--- what one gives of its arguments, and of what it reads in the heap: a primitive value, or why the run leaves the profile
+-- what an operation gives: a primitive value, or why the run leaves the profile
+abbrev pub Outcome : Type 0
+Outcome = Result Primitive ScopeKind
+
+-- one that doesn't take the values in its registers leaves the profile
+abbrev pub refused : Outcome
+refused = Err Register
+
+abbrev pub tells : Bool → Outcome
+tells b = Ok (truth b)
+
 abbrev pub Row : Type 0
-Row = List Value → Heap → Result Primitive ScopeKind
+Row = List Value → Heap → Outcome
+
+-- an operation on one value, and one on two
+abbrev pub of_one : (Heap → Value → Outcome) → Row
+of_one f (v ∷ []) h = f h v
+of_one f vs h = refused
+
+abbrev pub of_two : (Heap → Value → Value → Outcome) → Row
+of_two f (v ∷ w ∷ []) h = f h v w
+of_two f vs h = refused
+
+-- ---- internal properties (8.6.2)
+
+abbrev pub if_any : Option Primitive → Outcome
+if_any None = refused
+if_any (Some q) = Ok q
+
+-- [[Class]]: an activation, which no function meets as a value (10.1.6), has none of its own
+abbrev pub class_name : Class → List ℕ
+class_name class.Object = codes "Object"
+class_name class.Function = codes "Function"
+class_name class.Array = codes "Array"
+class_name class.String = codes "String"
+class_name class.Boolean = codes "Boolean"
+class_name class.Number = codes "Number"
+class_name class.Error = codes "Error"
+class_name class.Math = codes "Math"
+class_name class.Activation = codes "Object"
+
+abbrev pub class_of : Heap → Value → Outcome
+class_of h (value.Object a) = if_any (option_map (λ (c : Class). Text (class_name c)) (class_at h a))
+class_of h (value.Primitive q) = refused
+
+-- [[Value]]
+abbrev pub value_of : Heap → Value → Outcome
+value_of h (value.Object a) = if_any (option_and_then (λ (o : Object). o.slots.value) (object_at h a))
+value_of h (value.Primitive q) = refused
+
+-- ---- properties and prototypes (15.2.4.5 to 15.2.4.7)
+
+-- what is asked of an object's own property of a name
+abbrev pub of_own : (Option Property → Bool) → Heap → Value → Value → Outcome
+of_own holds h (value.Object a) (value.Primitive (Text name)) = tells (holds (own h a name))
+of_own holds h v w = refused
+
+abbrev pub is_shown : Option Property → Bool
+is_shown q = option_map_or is_enumerable q false
+
+-- whether a value is an object that inherits from one
+abbrev pub is_behind : Heap → Addr → Value → Bool
+is_behind h a (value.Object b) = inherits_from h b a
+is_behind h a (value.Primitive q) = false
+
+abbrev pub inherits : Heap → Value → Value → Outcome
+inherits h v (value.Object a) = tells (is_behind h a v)
+inherits h v (value.Primitive q) = refused
+
+-- whether a value is an array or an arguments object (15.3.4.3)
+abbrev pub is_list : Heap → Value → Bool
+is_list h (value.Object a) = has_elements_at h a
+is_list h (value.Primitive q) = false
+
+-- ---- numbers (15.7.4.2)
+
+-- the digits in a radix, with a minus before those of a negative number
+abbrev pub radix_text : ℕ → Num → List ℕ
+radix_text radix NaN = codes "NaN"
+radix_text radix (Whole (pos n)) = digits radix false n
+radix_text radix (Whole (negsuc n)) = 45 ∷ digits radix false (suc n)
+
+abbrev pub digits_of : Heap → Value → Value → Outcome
+digits_of h (value.Primitive (Number n)) (value.Primitive (Number (Whole (pos radix)))) =
+    if nat_le 2 radix && nat_le radix 36 then Ok (Text (radix_text radix n)) else refused
+digits_of h v w = refused
+
+-- ---- all of them
+
+-- an operation: the name under which it is called, how many values it takes, and what it gives
+pub record Operation : Type 0 where
+  pub name : List ℕ
+  pub takes : ℕ
+  pub gives : Row
+
+abbrev pub operation : List ℕ → ℕ → Row → Operation
+operation name takes gives = record { name = name; takes = takes; gives = gives }
+
+-- by their numbers
+abbrev pub operations : List Operation
+operations =
+    operation (codes "$is_object") 1 (of_one (λ h v. tells (is_object v)))
+    ∷ operation (codes "$class") 1 (of_one class_of)
+    ∷ operation (codes "$value") 1 (of_one value_of)
+    ∷ operation (codes "$has_own") 2 (of_two (of_own is_some))
+    ∷ operation (codes "$is_enumerable") 2 (of_two (of_own is_shown))
+    ∷ operation (codes "$inherits") 2 (of_two inherits)
+    ∷ operation (codes "$has_elements") 1 (of_one (λ h v. tells (is_list h v)))
+    ∷ operation (codes "$digits") 2 (of_two digits_of) ∷ []
 
 abbrev pub rows : List Row
-rows = []
+rows = map (λ (o : Operation). o.gives) operations
+
+-- given another number of values than it takes, an operation leaves the profile
+abbrev pub TakesItsValues : Operation → Type 0
+TakesItsValues o = (vs : List Value) (h : Heap) → (length vs ≡ o.takes) ⊎ (o.gives vs h ≡ refused)

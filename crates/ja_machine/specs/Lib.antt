@@ -5,8 +5,8 @@ pub mod Values
 pub mod Frames
 pub mod Objects
 pub mod Events
-pub mod Intrinsics
 pub mod Calls
+pub mod Intrinsics
 pub mod Nodes
 pub mod Machine
 pub mod State

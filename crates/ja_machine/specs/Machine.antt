@@ -37,9 +37,10 @@ use Rattle.ja_machine.specs.declared.machine.Wants.TheVariants as wanted
 use Rattle.ja_machine.specs.declared.machine.Event.{Event}
 use Rattle.ja_machine.specs.declared.machine.Event.TheVariants as event
 use Rattle.ja_machine.specs.Writes.{new_property}
+use Rattle.ja_machine.specs.Values.{is_object}
 use Rattle.ja_machine.specs.Frames.{register_of, entered}
 use Rattle.ja_machine.specs.Objects.{first_of}
-use Rattle.ja_machine.specs.Nodes.{name_text, node_step, shown, is_object}
+use Rattle.ja_machine.specs.Nodes.{name_text, node_step, shown}
 
 -- ---- the first state
 

@@ -1,7 +1,6 @@
 -- The step of each kind of node; what its registers hold comes last.
-use Rattle.std.specs.Prelude.{ℕ, Bool, true, false, not, ◌&&◌, if◌then◌else◌, List, [], ◌∷◌, map, drop, filter, find, slice_get, Option, Some, None, is_some, unwrap_or, Result, Ok, Err}
+use Rattle.std.specs.Prelude.{ℕ, Bool, true, false, not, ◌&&◌, if◌then◌else◌, List, [], ◌∷◌, map, filter, find, slice_get, Option, Some, None, is_some, unwrap_or, Result, Ok, Err}
 use Rattle.std.specs.Option.{option_map, option_map_or}
-use Rattle.std.specs.List.{list_any}
 use lib.Chars.{codes}
 use Rattle.ja_base.specs.declared.ids.FnId.{FnId}
 use Rattle.ja_base.specs.declared.ids.NameId.{NameId}
@@ -34,7 +33,7 @@ use Rattle.ja_machine.specs.declared.machine.Frame.{Frame}
 use Rattle.ja_machine.specs.declared.machine.Answer.{Answer}
 use Rattle.ja_machine.specs.declared.machine.Answer.TheVariants as answers
 use Rattle.ja_machine.specs.declared.machine.Event.{Event}
-use Rattle.ja_machine.specs.Heap.{own, has, content_at, scopes, prototypes, class_at, same_address, is_shared, with_new, new_address}
+use Rattle.ja_machine.specs.Heap.{own, has, content_at, scopes, inherits_from, class_at, is_shared, with_new, new_address}
 use Rattle.ja_machine.specs.Writes.{put, define, delete, can_delete, is_array}
 use Rattle.ja_machine.specs.Enumeration.{names, shows}
 use Rattle.ja_machine.specs.Values.{unary, binary, truth, key_of}
@@ -154,10 +153,7 @@ abbrev pub need_object_step : Standing → Site → Value → Event
 need_object_step s error (value.Object a) = goes_on s s.conf.heap
 need_object_step s error (value.Primitive q) = throws s error builtins.TYPE_ERROR_PROTOTYPE not_an_object_message
 
--- `instanceof` (11.8.6, 15.3.5.3): whether the function's `prototype` is on the chain behind the object
-abbrev pub inherits_from : Heap → Addr → Addr → Bool
-inherits_from h left prototype = list_any (same_address prototype) (drop 1 (prototypes h left))
-
+-- `instanceof` (11.8.6, 15.3.5.3): whether the object inherits from the function's `prototype`
 abbrev pub has_instance : Standing → Reg → Site → Addr → Option Content → Event
 has_instance s dst not_object left (Some (contents.Value (value.Object a))) =
     sets s dst (bool_value (inherits_from s.conf.heap left a))
@@ -285,10 +281,6 @@ intrinsic_step s dst which arguments =
     sets_given s dst (option_map (λ (row : Row). row arguments s.conf.heap) (slice_get rows which))
 
 -- a device takes no objects
-abbrev pub is_object : Value → Bool
-is_object (value.Object a) = true
-is_object (value.Primitive q) = false
-
 abbrev pub device_step : Standing → Reg → Answer → Option Event
 device_step s dst (answers.Device q) = Some (sets s dst (value.Primitive q))
 device_step s dst answers.Tick = Some (left_scope s scope_kind.DeviceObject)

@@ -92,13 +92,13 @@ text_length units = property_with length_name (whole_number (length units)) all_
 abbrev pub scope_object : Addr → Object
 scope_object outer = object_with class.Object (record (inheriting builtins.OBJECT_PROTOTYPE) { outer = Some outer }) []
 
--- ---- functions (13.2); as long as `Function.prototype` isn't built, they inherit from `Object.prototype`
+-- ---- functions (13.2)
 
 abbrev pub function_object : ℕ → Addr → Addr → Object
 function_object parameters chain prototype =
     object_with
     class.Function
-    (record (inheriting builtins.OBJECT_PROTOTYPE) { scope = Some chain })
+    (record (inheriting builtins.FUNCTION_PROTOTYPE) { scope = Some chain })
     (property_with length_name (whole_number parameters) all_attrs ∷ property_with (codes "prototype") (value.Object prototype) dont_delete ∷ [])
 
 -- the object that its constructions inherit from

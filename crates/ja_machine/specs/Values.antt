@@ -41,6 +41,10 @@ truth b = primitive.Bool b
 
 -- ---- of one value
 
+abbrev pub is_object : Value → Bool
+is_object (value.Object a) = true
+is_object (value.Primitive q) = false
+
 -- ToBoolean (9.2): an object is true
 abbrev pub truth_of : Value → Bool
 truth_of (value.Primitive q) = to_bool q

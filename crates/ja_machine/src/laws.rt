@@ -1,7 +1,11 @@
-//! What holds of every run of a program. The functions do nothing; their contracts are the laws.
+//! What holds of every run of a program, and of the operations that it may name. The functions do nothing; their contracts are the laws.
 
+ghost use Rattle.std.specs.Prelude.{◌≡◌, map};
+ghost use Rattle.std.specs.List.{AllByRecursion};
+ghost use Rattle.ja_graph.specs.declared.builtins.TheConstants.{INTRINSICS};
 ghost use Rattle.ja_graph.specs.declared.program.Program.{Program};
 ghost use Rattle.ja_graph.specs.WellFormed.{IsWellFormed};
+ghost use Rattle.ja_machine.specs.Intrinsics.{Operation, TakesItsValues, operations};
 ghost use Rattle.ja_machine.specs.Runs.{AreStates, NeverStuck, AreSteps, ObjectsStay, ChainsEnd};
 
 /// After each list of answers a state has a frame, its frames and its heap are as they should be, each
@@ -34,4 +38,12 @@ pub fn objects_stay()
 /// links as the heap has objects follows all of them.
 pub fn chains_end()
     ensures { (p : Program) → IsWellFormed p → ChainsEnd p }
+{}
+
+/// The operations of the built-in functions are those of `ja_graph::INTRINSICS`, by their numbers, and take as
+/// many values: one that is given fewer or more leaves the profile.
+pub fn operations_are_listed()
+    ensures names { map (λ (o : Operation). o.name) operations ≡ map (λ row. row.0.now) INTRINSICS }
+    ensures counts { map (λ (o : Operation). o.takes) operations ≡ map (λ row. row.1) INTRINSICS }
+    ensures takes { AllByRecursion TakesItsValues operations }
 {}

@@ -4,7 +4,10 @@
 mod laws;
 mod machine;
 
-pub use laws::{chains_end, never_stuck, objects_stay, states_are_kept, steps_go_along_edges};
+pub use laws::{
+    chains_end, never_stuck, objects_stay, operations_are_listed, states_are_kept,
+    steps_go_along_edges,
+};
 pub use machine::{
     Addr, Answer, Conf, Content, End, Event, Frame, Heap, Object, Property, Put, Remaining, Slots,
     Value, Wants,
