@@ -19,6 +19,7 @@ use Rattle.ja_machine.specs.declared.machine.Property.{Property}
 use Rattle.ja_machine.specs.declared.machine.Value.{Value}
 use Rattle.ja_prim.specs.Texts.{same_text}
 use Rattle.ja_machine.specs.Heap.{no_attrs}
+use Rattle.ja_machine.specs.Objects.{with_property}
 use Rattle.ja_machine.specs.Writes.{with_value, with_definition, without, shared_from_now}
 use Rattle.ja_heap.specs.declared.held.Held.{Held}
 use Rattle.ja_heap.specs.Held.{property_with, properties_of}
@@ -100,6 +101,17 @@ module _ (name : List ℕ) where
       elim (cases_Bool (same_text e.0 name)) [
         | inl t ↦ let u : is_key e.0 ≡ true = same name e.0 true t in let k : Some e.1 ≡ None = simp u at h in cc
         | inr f ↦ let u : is_key e.0 ≡ false = same name e.0 false f in simp (f, u, definition_added es content attrs (simp u at h))
+      ]
+
+  -- a property is put: in place of the entry that is found, or behind the others
+  pub put_in_place : (es : List (List ℕ × Held)) (q : Held) → properties_of (insert_entry (pointwise nat_eq) es name q) ≡ with_property (properties_of es) (property_with name q)
+  put_in_place [] q = refl
+  put_in_place (e ∷ es) q =
+      elim (cases_Bool (same_text e.0 name)) [
+        | inl t ↦
+            let u : is_key e.0 ≡ true = same name e.0 true t in
+            simp (t, u) (ap (λ (n : List ℕ). property_with n q ∷ properties_of es) (text_same e.0 name t))
+        | inr f ↦ let u : is_key e.0 ≡ false = same name e.0 false f in simp (f, u, put_in_place es q)
       ]
 
   -- ---- among distinct keys a name is no other entry's

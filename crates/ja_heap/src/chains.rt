@@ -3,7 +3,6 @@ ghost use Rattle.std.specs.Prelude.{◌≡◌, IfOk, find};
 ghost use Rattle.std.specs.Option.{option_map, option_and_then};
 ghost use Rattle.ja_machine.specs.Heap as spec;
 ghost use Rattle.ja_machine.specs.Enumeration as enumeration;
-ghost use Rattle.ja_machine.specs.Nodes.{inherits_from};
 ghost use Rattle.ja_heap.specs.Held.{property_with};
 
 use crate::{Heap, Held};
@@ -112,7 +111,7 @@ impl Heap {
     /// Whether an object is among those that another inherits from (ES3 15.3.5.3).
     #[tactic(auto, using(crate::proofs::Links::walk))]
     pub fn inherits_from(&self, left: Addr, prototype: Addr) -> bool
-        ensures { result ≡ inherits_from self.now left prototype }
+        ensures { result ≡ spec.inherits_from self.now left prototype }
     {
         let mut at = self.prototype_at(left);
         for _object in 1..self.size {

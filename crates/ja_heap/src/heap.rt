@@ -1,5 +1,6 @@
 ghost use Rattle.std.specs.Prelude.{◌≡◌, ◌==◌, ◌+◌, ◌++◌, not, ◌∷◌, [], IfOk, OnOk, OnErr};
 ghost use Rattle.std.specs.Option.{option_map, option_to_list};
+ghost use Rattle.ja_machine.specs.Calls.{has_elements_at};
 ghost use Rattle.ja_machine.specs.Heap as spec;
 ghost use Rattle.ja_heap.specs.Held.{property_with};
 
@@ -141,6 +142,19 @@ impl Heap {
         ensures { result ≡ spec.class_at self.now a }
     {
         Some(self.object(a)?.class())
+    }
+
+    /// Whether an object is an array or an arguments object, whose elements a function is called with (ES3 15.3.4.3).
+    pub fn has_elements(&self, a: Addr) -> bool
+        ensures { result ≡ has_elements_at self.now a }
+    {
+        match self.object(a) {
+            Some(object) => match object.class() {
+                Class::Array => true,
+                _ => object.slots().arguments,
+            },
+            None => false,
+        }
     }
 
     /// An own property.

@@ -2,6 +2,7 @@ ghost use Rattle.std.specs.Prelude.{◌≡◌, [], IfOk, OnOk, OnErr, map};
 ghost use Rattle.std.specs.Option.{option_map};
 ghost use Rattle.ja_machine.specs.Heap.{property_of};
 ghost use Rattle.ja_machine.specs.Objects.{object_with};
+ghost use Rattle.ja_machine.specs.Objects as objects;
 ghost use Rattle.ja_machine.specs.Writes as spec;
 ghost use Rattle.ja_heap.specs.Held.{property_with};
 
@@ -132,6 +133,15 @@ impl Object {
                 Ok(())
             }
         }
+    }
+
+    /// Puts a property in place of the one of its name, or behind the others. After `Memory` the object is as it was.
+    pub fn set_property(&mut self, alloc: Global, name: &Text16, held: Held) -> Result<(), Memory>
+        ensures set { OnOk result (self.new ≡ record self.old { properties = objects.with_property self.old.properties (property_with name.now held) }) }
+        ensures kept { OnErr result (self.new ≡ self.old) }
+    {
+        self.properties.insert(name.copy(alloc)?, held)?;
+        Ok(())
     }
 
     /// Removes a property, if it is there.

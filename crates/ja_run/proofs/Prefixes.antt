@@ -1,21 +1,19 @@
 -- A run ends once, and goes on from where it was at its limit.
-use Rattle.std.proofs.Common.{◌≡◌, ◌<◌, ◌≤◌, ◌⊎◌, inl, inr, ℕ, zero, suc, ◌+◌, List, ◌∷◌, Option, Some, None, refl, sym, ap, ◌∙◌, subst, arith}
+use Rattle.std.proofs.Common.{◌≡◌, ◌<◌, ◌≤◌, ◌⊎◌, inl, inr, ℕ, zero, suc, ◌+◌, Option, Some, None, refl, sym, ap, ◌∙◌, subst, arith}
 use Rattle.std.specs.Prelude.{IsSome}
 use Rattle.std.proofs.lemmas.Bool.{cases_order}
 use Rattle.std.specs.Option.{option_and_then}
 use Rattle.ja_graph.specs.declared.program.Program.{Program}
 use Rattle.ja_machine.specs.declared.machine.Conf.{Conf}
-use Rattle.ja_machine.specs.declared.machine.Answer.{Answer}
 use Rattle.ja_machine.specs.declared.machine.End.{End}
-use Rattle.ja_machine.specs.declared.machine.Event.{Event}
 use Rattle.ja_machine.specs.declared.machine.Event.TheVariants as event
-use Rattle.ja_machine.specs.Machine.{wants, step, next_of, state_of}
+use Rattle.ja_machine.specs.Machine.{wants, step, next_of}
 use Rattle.ja_run.specs.declared.ended.Ended.{Ended}
 use Rattle.ja_run.specs.declared.ended.RunEnd.{RunEnd}
 use Rattle.ja_run.specs.declared.ended.RunEnd.TheVariants as run_end
 use Rattle.ja_run.specs.Ends.{told}
 use Rattle.ja_step.specs.Given.{answer_to}
-use Rattle.ja_run.specs.Run.{answer_in, answers_given, state_after, EndsIn, Ends, EndsBy, IsRun, RunsOnce, ContinuesBy, ArePrefixes}
+use Rattle.ja_run.specs.Run.{answer_in, state_after, EndsIn, Ends, EndsBy, IsRun, RunsOnce, ContinuesBy, ArePrefixes}
 
 -- ---- the state behind one more step
 

@@ -1,5 +1,5 @@
 -- One step after another.
-use Rattle.std.proofs.Common.{◌≡◌, ℕ, suc, ◌+◌, Option, Some, refl, sym, ap, ◌∙◌, subst, arith}
+use Rattle.std.proofs.Common.{◌≡◌, ℕ, suc, ◌+◌, Some, refl, sym, ap, ◌∙◌, subst, arith}
 use Rattle.std.specs.Prelude.{IsSome}
 use Rattle.std.specs.Option.{option_and_then}
 use Rattle.ja_graph.specs.declared.program.Program.{Program}

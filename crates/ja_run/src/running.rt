@@ -1,7 +1,6 @@
-ghost use Rattle.std.specs.Prelude.{◌≡◌, ◌≤◌, IfOk, Some};
+ghost use Rattle.std.specs.Prelude.{◌≡◌, ◌≤◌, [], IfOk, Some};
 ghost use Rattle.ja_graph.specs.WellFormed.{IsWellFormed};
 ghost use Rattle.ja_machine.specs.Machine.{opening_state};
-ghost use Rattle.ja_graph.specs.Kinds.{RunsAlone};
 ghost use Rattle.ja_step.specs.Steps.{conf_of};
 ghost use Rattle.ja_run.specs.Run.{IsRun};
 ghost use Rattle.ja_run.specs.Making.{IsMade};
@@ -30,7 +29,7 @@ fn make_steps(
     limit: u64,
 ) -> Result<Option<Last>, Memory>
     requires program { IsWellFormed program.now }
-    requires alone { RunsAlone program.now }
+    requires alone { program.now.signatures ≡ [] }
     requires opening { conf_of conf.old ≡ opening_state program.now }
     ensures { IfOk result (λ last. IsMade program.now limit last (conf_of conf.new)) }
 {
@@ -47,11 +46,11 @@ fn make_steps(
     Ok(None)
 }
 
-/// Runs a program whose text runs alone: it makes at most so many steps. Where a `for`-`in` may take one of some
+/// Runs a program without devices: it makes at most so many steps. Where a `for`-`in` may take one of some
 /// names, it takes the first one. `Err` comes where memory is refused, and only then.
 pub fn run(alloc: Global, program: &Program, limit: u64) -> Result<Ended, Memory>
     requires program { IsWellFormed program.now }
-    requires alone { RunsAlone program.now }
+    requires alone { program.now.signatures ≡ [] }
     ensures { IfOk result (IsRun program.now limit) }
 {
     let mut conf = opening(alloc, program)?;

@@ -1,7 +1,10 @@
-pub mod Alone
+pub mod Known
 pub mod Lists
 pub mod Opened
 pub mod Operations
 pub mod Puts
 pub mod Searches
 pub mod Stepped
+pub mod Elements
+pub mod Sharing
+pub mod DigitLemmas

@@ -1,7 +1,7 @@
 -- Objects, heaps and frames as a run begins with them.
-use Rattle.std.proofs.Common.{◌≡◌, ℕ, zero, suc, ◌+◌, ◌-◌, ◌<◌, List, [], ◌∷◌, ◌++◌, map, take, replicate, Bool, true, false, Some, Option, refl, ap, sym, ◌∙◌, add-one, arith}
+use Rattle.std.proofs.Common.{◌≡◌, ℕ, zero, suc, ◌+◌, ◌<◌, List, [], ◌∷◌, ◌++◌, map, take, Bool, true, false, Some, Option, refl, ap, sym, ◌∙◌, add-one, arith}
 use Rattle.std.specs.Prelude.{slice_get, unwrap_or}
-use Rattle.std.specs.List.{AllByRecursion, range_with_len}
+use Rattle.std.specs.List.{AllByRecursion}
 use lib.Pointwise.{bytes_decides}
 use Rattle.ja_base.specs.declared.ids.NameId.{NameId}
 use Rattle.ja_prim.specs.Texts.{same_text}
@@ -9,17 +9,12 @@ use Rattle.ja_graph.specs.declared.attrs.Attrs.{Attrs}
 use Rattle.ja_graph.specs.declared.program.ObjectSpec.{ObjectSpec}
 use Rattle.ja_graph.specs.declared.program.PropertySpec.{PropertySpec}
 use Rattle.ja_graph.specs.declared.program.Program.{Program}
-use Rattle.ja_graph.specs.Program.{global}
 use Rattle.ja_graph.specs.WellFormed.{IsWellFormed, IsObjectWellFormed, IsName}
 use Rattle.ja_machine.specs.declared.machine.Content.{Content}
 use Rattle.ja_machine.specs.declared.machine.Property.{Property}
-use Rattle.ja_machine.specs.declared.machine.Value.{Value}
-use Rattle.ja_machine.specs.declared.machine.Value.TheVariants as value
-use Rattle.ja_machine.specs.Frames.{undefined, argument, parameters_of, registers_of}
-use Rattle.ja_machine.specs.Machine.{opening_content, opening_property, opening_frame, program_function}
+use Rattle.ja_machine.specs.Machine.{opening_content, opening_property}
 use Rattle.ja_machine.specs.Nodes.{name_text}
-use Rattle.ja_machine.specs.Objects.{first_of}
-use Rattle.ja_machine.specs.Writes.{new_property, with_definition, whole_number}
+use Rattle.ja_machine.specs.Writes.{new_property, with_definition}
 use Rattle.ja_machine.proofs.Lists.{slice_get_some, all_from, all_map}
 
 -- ---- properties
@@ -84,15 +79,3 @@ module _ (p : Program) (good : IsWellFormed p) where
         with_fresh (map (opening_property p) (take n o.properties)) (name_text p q.name) (opening_content q.content) q.attrs none_before
         ∙ sym (map_one_more (opening_property p) (take n o.properties) q)
         ∙ ap (map (opening_property p)) (sym (take_one_more n o.properties q at) ∙ ap (λ (m : ℕ). take m o.properties) (sym (add-one n)))
-
--- ---- registers
-
--- there are no arguments
-none_given : (a n : ℕ) → map (argument []) (range_with_len a n) ≡ replicate n undefined
-none_given a zero = refl
-none_given a (suc n) = ap (λ (rest : List Value). undefined ∷ rest) (none_given (a + 1) n)
-
--- the registers with which a program is entered
-pub registers_at_entry : (p : Program) (parameters temporaries : ℕ) → parameters ≡ parameters_of p program_function → temporaries ≡ registers_of p program_function - 5 - parameters → undefined ∷ value.Object (first_of global) ∷ value.Object (first_of global) ∷ undefined ∷ whole_number 0 ∷ replicate parameters undefined ++ replicate temporaries undefined ≡ (opening_frame p).registers
-registers_at_entry p parameters temporaries few others =
-    rw (others, few, none_given 0 (parameters_of p program_function)) refl

@@ -2,4 +2,5 @@ pub mod Steps
 pub mod Operators
 pub mod Places
 pub mod Given
+pub mod Arguments
 pub mod Lists

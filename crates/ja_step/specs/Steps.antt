@@ -1,5 +1,5 @@
 -- The machine's states that the states here stand for, and the event that a step comes to.
-use Rattle.std.specs.Prelude.{◌+◌, [], ◌∷◌, map, Option, Some, None, unwrap_or}
+use Rattle.std.specs.Prelude.{◌+◌, List, ◌∷◌, map, reverse, Option, Some, None, unwrap_or}
 use Rattle.std.specs.Option.{option_map}
 use denote.Ref.{Bor}
 use Rattle.ja_base.specs.declared.ids.Reg.{Reg}
@@ -39,9 +39,13 @@ frame_of f = record {
   lists = map remaining_of f.lists.items;
 }
 
--- the state of the machine: one frame, and none below it
+-- the frames below the top one, the highest first: they are kept the other way round
+abbrev pub below_of : Conf → List machine_frame.Frame
+below_of c = map frame_of (reverse c.below.items)
+
+-- the state of the machine
 abbrev pub conf_of : Conf → machine_conf.Conf
-conf_of c = record { heap = c.heap; frames = frame_of c.frame ∷ []; steps = c.steps }
+conf_of c = record { heap = c.heap; frames = frame_of c.frame ∷ below_of c; steps = c.steps }
 
 -- what a register of the state holds
 abbrev pub held : Conf → Reg → Value
@@ -49,7 +53,7 @@ held c r = register_of (frame_of c.frame) r
 
 -- where the state stands: at this node
 abbrev pub standing : Conf → NodeInfo → Standing
-standing c info = record { conf = conf_of c; top = frame_of c.frame; below = []; info = info }
+standing c info = record { conf = conf_of c; top = frame_of c.frame; below = below_of c; info = info }
 
 -- The event of a step from one state to another: the run goes on, or it ends. The step is counted.
 abbrev pub counted : Conf → Conf → machine_conf.Conf

@@ -1,20 +1,19 @@
 //! The state in which a run begins.
 
-ghost use Rattle.std.specs.Prelude.{◌≡◌, ◌++◌, ℕ, [], Some, IfOk, OnOk, IfSome, replicate, slice_get};
+ghost use Rattle.std.specs.Prelude.{◌≡◌, ℕ, [], Some, IfOk, IfSome, slice_get};
 ghost use Rattle.std.specs.Option.{option_map};
 ghost use Rattle.ja_graph.specs.Program.{object_spec};
 ghost use Rattle.ja_graph.specs.WellFormed.{IsWellFormed, IsObjectWellFormed};
-ghost use Rattle.ja_machine.specs.Frames.{undefined, parameters_of, registers_of};
 ghost use Rattle.ja_machine.specs.Machine.{opening_content, opening_object, opening_heap, opening_frame, opening_state, class_of_site};
 ghost use Rattle.ja_machine.specs.Objects.{first_of};
 ghost use Rattle.ja_step.specs.Steps.{frame_of, conf_of};
 
 use crate::copies::copy_primitive;
-use crate::made::{first_of, whole_number};
+use crate::entry::entered;
+use crate::made::first_of;
 use crate::messages::name_text;
-use crate::scopes::parameters_of;
 use crate::{Conf, Frame};
-use ja_base::{FnId, Memory, NodeId, Site};
+use ja_base::{FnId, Memory, Site};
 use ja_graph::{Class, GLOBAL, ObjectSpec, Program, SpecContent};
 use ja_heap::{Heap, Object};
 use ja_machine::{Addr, Content, Slots, Value};
@@ -139,61 +138,13 @@ fn opening_heap(alloc: Global, program: &Program) -> Result<Heap, Memory>
     Ok(heap)
 }
 
-/// How many registers a function has.
-fn registers_of(program: &Program, function: FnId) -> u64
-    ensures { result ≡ registers_of program.now function }
-{
-    match program.functions.as_slice().get(function.0 as usize) {
-        Some(function) => u64::from(function.registers),
-        None => 0,
-    }
-}
-
-/// Adds registers that are undefined.
-fn push_undefined(registers: &mut Vec<Value>, count: u64) -> Result<(), Memory>
-    ensures { OnOk result (registers.new.items ≡ registers.old.items ++ replicate count undefined) }
-{
-    for _register in 0..count {
-        registers.push(Value::Primitive(Primitive::Undefined))?;
-    }
-    Ok(())
-}
-
-/// The registers with which a program is entered (ES3 10.2.1).
-fn opening_registers(alloc: Global, program: &Program) -> Result<Vec<Value>, Memory>
-    ensures { IfOk result (λ registers. registers.items ≡ (opening_frame program.now).registers) }
-{
-    let parameters = parameters_of(program, FnId(0));
-    let temporaries = registers_of(program, FnId(0))
-        .saturating_sub(5)
-        .saturating_sub(parameters);
-    let mut registers = Vec::new(alloc);
-    registers.push(Value::Primitive(Primitive::Undefined))?;
-    registers.push(Value::Object(first_of(GLOBAL)))?;
-    registers.push(Value::Object(first_of(GLOBAL)))?;
-    registers.push(Value::Primitive(Primitive::Undefined))?;
-    registers.push(whole_number(0))?;
-    push_undefined(&mut registers, parameters)?;
-    push_undefined(&mut registers, temporaries)?;
-    Ok(registers)
-}
-
 /// The frame in which a program is entered: the global object is its receiver and its scope chain.
 fn opening_frame(alloc: Global, program: &Program) -> Result<Frame, Memory>
     ensures { IfOk result (λ frame. frame_of frame ≡ opening_frame program.now) }
 {
-    let registers = opening_registers(alloc, program)?;
-    Ok(Frame {
-        function: FnId(0),
-        node: NodeId(0),
-        born: 0,
-        receiver: first_of(GLOBAL),
-        callee: None,
-        scope: first_of(GLOBAL),
-        arguments: Vec::new(alloc),
-        registers,
-        lists: Vec::new(alloc),
-    })
+    let global = first_of(GLOBAL);
+    let arguments = Vec::new(alloc);
+    entered(alloc, program, 0, FnId(0), global, None, global, arguments)
 }
 
 /// The state in which the run of a well-formed program begins.
@@ -210,6 +161,7 @@ pub fn opening(alloc: Global, program: &Program) -> Result<Conf, Memory>
     Ok(Conf {
         heap,
         frame,
+        below: Vec::new(alloc),
         steps: 0,
     })
 }

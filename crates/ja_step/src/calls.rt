@@ -1,72 +1,91 @@
-//! The nodes that call and construct, and those that leave the function (ES3 11.2.2, 11.2.3, 12.9, 12.13): as long
-//! as nothing can be called, a call throws, and the end of the one function is the end of the run.
+//! The node that calls (ES3 11.2.3).
 
-ghost use Rattle.std.specs.Prelude.{◌≡◌, IfOk};
-ghost use Rattle.ja_graph.specs.declared.builtins.TheConstants as builtins;
-ghost use Rattle.ja_machine.specs.declared.machine.End.TheVariants as ending;
-ghost use Rattle.ja_machine.specs.Events.{throws_value, throws, end_state, not_a_function_message, not_a_constructor_message};
-ghost use Rattle.ja_machine.specs.Frames.{thrown};
-ghost use Rattle.ja_step.specs.Steps.{held, conf_of, standing, leads_to};
+ghost use Rattle.std.specs.Prelude.{◌≡◌, ◌<◌, ◌-◌, ◌^◌, IfOk};
+ghost use Rattle.std.specs.Option.{option_map};
+ghost use Rattle.ja_machine.specs.Calls as calls;
+ghost use Rattle.ja_step.specs.Steps.{held, or_undefined, standing, leads_to};
 
 use crate::Conf;
-use crate::messages::{not_a_constructor, not_a_function};
-use ja_base::{Memory, Reg, Site};
-use ja_graph::{NodeInfo, THROWN, TYPE_ERROR_PROTOTYPE};
-use ja_machine::End;
+use crate::made::first_of;
+use crate::messages::not_a_function;
+use crate::properties::object_in;
+use ja_base::{FnId, Memory, Reg, ScopeKind, Site};
+use ja_graph::{Args, Class, GLOBAL, NodeInfo, Program, SiteInfo, TYPE_ERROR_PROTOTYPE};
+use ja_machine::{Addr, End, Value};
+use ja_prim::Primitive;
 use std::alloc::Global;
 
+/// What the program tells of the site of a value, if it is an object.
+pub(crate) fn site_of<'a>(program: &'a Program, value: Option<&Value>) -> Option<&'a SiteInfo>
+    ensures { option_map (λ site. site.now) result ≡ calls.site_of program.now (or_undefined value.entry) }
+{
+    match value {
+        Some(Value::Object(a)) => program.sites.as_slice().get(a.site.0 as usize),
+        _ => None,
+    }
+}
+
+/// The function that `[[Call]]` of a value runs.
+fn function_called(program: &Program, value: Option<&Value>) -> Option<FnId>
+    ensures { result ≡ calls.function_called program.now (or_undefined value.entry) }
+{
+    match site_of(program, value) {
+        Some(site) => site.calls,
+        None => None,
+    }
+}
+
+/// Whether a class is that of activations.
+fn is_activation(class: Option<Class>) -> bool
+    ensures { result ≡ calls.is_activation class }
+{
+    match class {
+        Some(Class::Activation) => true,
+        _ => false,
+    }
+}
+
 impl Conf {
-    /// What can't be called throws a TypeError.
+    /// The receiver of a call (10.1.6, 11.2.3): in place of null, undefined and an activation the global object.
+    /// Other primitive values are none.
+    fn receiver_of(&self, receiver: Reg) -> Option<Addr>
+        ensures { result ≡ calls.receiver_of self.now.heap (held self.now receiver) }
+    {
+        match self.frame.register(receiver) {
+            Some(Value::Object(a)) if !is_activation(self.heap.class_at(*a)) => Some(*a),
+            None | Some(Value::Object(_)) => Some(first_of(GLOBAL)),
+            Some(Value::Primitive(Primitive::Undefined | Primitive::Null)) => {
+                Some(first_of(GLOBAL))
+            }
+            Some(Value::Primitive(_)) => None,
+        }
+    }
+
+    /// A function is called. What can't be called throws a TypeError.
     pub(crate) fn calls(
         &mut self,
         alloc: Global,
+        program: &Program,
         info: &NodeInfo,
+        callee: Reg,
+        receiver: Reg,
+        arguments: &Args,
         error: Site,
     ) -> Result<Option<End>, Memory>
-        ensures { IfOk result (λ end. leads_to self.old end self.new ≡ throws (standing self.old info.now) error builtins.TYPE_ERROR_PROTOTYPE not_a_function_message) }
+        requires { self.old.steps < 2 ^ 64 - 1 }
+        ensures { IfOk result (λ end. leads_to self.old end self.new ≡ calls.call_step program.now (standing self.old info.now) (held self.old callee) (held self.old receiver) arguments.now error) }
     {
-        let message = not_a_function(alloc)?;
-        self.throws(alloc, info, error, TYPE_ERROR_PROTOTYPE, message)
-    }
-
-    /// What can't construct throws a TypeError.
-    pub(crate) fn constructs(
-        &mut self,
-        alloc: Global,
-        info: &NodeInfo,
-        error: Site,
-    ) -> Result<Option<End>, Memory>
-        ensures { IfOk result (λ end. leads_to self.old end self.new ≡ throws (standing self.old info.now) error builtins.TYPE_ERROR_PROTOTYPE not_a_constructor_message) }
-    {
-        let message = not_a_constructor(alloc)?;
-        self.throws(alloc, info, error, TYPE_ERROR_PROTOTYPE, message)
-    }
-
-    /// A value is thrown to the handler (12.13).
-    pub(crate) fn throws_register(
-        &mut self,
-        alloc: Global,
-        info: &NodeInfo,
-        src: Reg,
-    ) -> Result<Option<End>, Memory>
-        ensures { IfOk result (λ end. leads_to self.old end self.new ≡ throws_value (standing self.old info.now) self.old.heap (held self.old src)) }
-    {
-        let value = self.frame.held(alloc, src)?;
-        Ok(self.throws_value(info, value))
-    }
-
-    /// The run ends normally.
-    pub(crate) fn returns(&self) -> Option<End>
-        ensures { leads_to self.now result self.now ≡ end_state (conf_of self.now) ending.Normal }
-    {
-        Some(End::Normal)
-    }
-
-    /// The run ends with what was thrown.
-    pub(crate) fn escapes(&self, alloc: Global) -> Result<Option<End>, Memory>
-        ensures { IfOk result (λ end. leads_to self.now end self.now ≡ end_state (conf_of self.now) (ending.Uncaught (held self.now thrown))) }
-    {
-        let value = self.frame.held(alloc, THROWN)?;
-        Ok(Some(End::Uncaught(value)))
+        let Some(function) = function_called(program, self.frame.register(callee)) else {
+            let message = not_a_function(alloc)?;
+            return self.throws(alloc, info, error, TYPE_ERROR_PROTOTYPE, message);
+        };
+        let Some(receiver) = self.receiver_of(receiver) else {
+            return Ok(self.left_scope(info, ScopeKind::Register));
+        };
+        let callee = object_in(self.frame.register(callee));
+        match self.given(alloc, arguments)? {
+            Ok(arguments) => self.enters(alloc, program, function, receiver, callee, arguments),
+            Err(kind) => Ok(self.left_scope(info, kind)),
+        }
     }
 }

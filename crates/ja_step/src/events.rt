@@ -1,6 +1,6 @@
 //! What the step of a node comes to: a state that goes on, an error that is thrown, or an end.
 
-ghost use Rattle.std.specs.Prelude.{◌≡◌, [], ◌∷◌, IfOk};
+ghost use Rattle.std.specs.Prelude.{◌≡◌, ◌∷◌, IfOk};
 ghost use Rattle.ja_machine.specs.Events.{goes_on, sets, left_scope, throws_value, throws, sets_content, sets_outcome, next_state};
 ghost use Rattle.ja_machine.specs.Frames.{moved_to};
 ghost use Rattle.ja_machine.specs.Nodes.{makes};
@@ -18,7 +18,7 @@ use ja_prim::{MAX_UNITS, Primitive, Stop, Text16};
 use std::alloc::Global;
 
 /// Why a run leaves the profile, where an operation does.
-fn kind_of(stop: Stop) -> ScopeKind
+pub(crate) fn kind_of(stop: Stop) -> ScopeKind
     ensures { result ≡ kind_of stop }
 {
     match stop {
@@ -39,7 +39,7 @@ impl Conf {
 
     /// The node goes on to `other`.
     pub(crate) fn turns(&mut self, info: &NodeInfo) -> Option<End>
-        ensures { let s = standing self.old info.now in leads_to self.old result self.new ≡ next_state s.conf s.conf.heap (moved_to s.top info.now.other ∷ []) }
+        ensures { let s = standing self.old info.now in leads_to self.old result self.new ≡ next_state s.conf s.conf.heap (moved_to s.top info.now.other ∷ s.below) }
     {
         self.frame.node = info.other;
         None

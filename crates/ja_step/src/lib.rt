@@ -1,14 +1,21 @@
-//! The machine as it runs: one frame over a heap, its first state, what it wants, and its step. Contracts
-//! are by the definitions of the machine.
+//! The machine as it runs: frames over a heap, its first state, what it wants, and its step. Contracts are by
+//! the definitions of the machine.
 #![tactic(auto)]
 
+mod activations;
 mod beginning;
 mod calls;
 mod conf;
+mod constructs;
+mod convert;
 mod copies;
+mod digits;
+mod entry;
 mod enumeration;
 mod events;
 mod frame;
+mod given;
+mod intrinsics;
 mod made;
 mod messages;
 mod names;
@@ -16,6 +23,7 @@ mod nodes;
 mod objects;
 mod operators;
 mod properties;
+mod returns;
 mod scopes;
 mod stepping;
 mod values;

@@ -9,7 +9,7 @@ ghost use Rattle.ja_machine.specs.Writes.{whole_number};
 use ja_base::{Memory, Site};
 use ja_graph::{
     ARRAY_PROTOTYPE, Attrs, BOOLEAN_PROTOTYPE, Class, ERROR_PROTOTYPE, EVAL_ERROR_PROTOTYPE,
-    ErrorKind, Made, NUMBER_PROTOTYPE, OBJECT_PROTOTYPE, RANGE_ERROR_PROTOTYPE,
+    ErrorKind, FUNCTION_PROTOTYPE, Made, NUMBER_PROTOTYPE, OBJECT_PROTOTYPE, RANGE_ERROR_PROTOTYPE,
     REFERENCE_ERROR_PROTOTYPE, STRING_PROTOTYPE, SYNTAX_ERROR_PROTOTYPE, TYPE_ERROR_PROTOTYPE,
     URI_ERROR_PROTOTYPE,
 };
@@ -32,8 +32,8 @@ pub(crate) const DONT_DELETE: Attrs = Attrs {
     dont_delete: true,
 };
 
-/// The attributes of a `constructor` (13.2).
-const DONT_ENUM: Attrs = Attrs {
+/// The attributes of a `constructor` (13.2) and of what an arguments object has (10.1.8).
+pub(crate) const DONT_ENUM: Attrs = Attrs {
     read_only: false,
     dont_enum: true,
     dont_delete: false,
@@ -211,7 +211,7 @@ pub(crate) fn function_object(
     let length = Text16::from_ascii(alloc, b"length")?;
     let name = Text16::from_ascii(alloc, b"prototype")?;
     let slots = Slots {
-        prototype: Some(first_of(OBJECT_PROTOTYPE)),
+        prototype: Some(first_of(FUNCTION_PROTOTYPE)),
         outer: None,
         scope: Some(chain),
         value: None,

@@ -1,8 +1,7 @@
 //! The step of each kind of node.
 
-ghost use Rattle.std.specs.Prelude.{◌≡◌, true, Some, IfOk, IsSome};
+ghost use Rattle.std.specs.Prelude.{◌≡◌, ◌<◌, ◌-◌, ◌^◌, [], Some, IfOk, IsSome};
 ghost use Rattle.ja_graph.specs.declared.program.Function.{Function};
-ghost use Rattle.ja_graph.specs.Kinds.{RunsAlone, is_alone};
 ghost use Rattle.ja_graph.specs.WellFormed.{IsWellFormed, IsNodeWellFormed};
 ghost use Rattle.ja_machine.specs.Nodes.{node_step};
 ghost use Rattle.ja_step.specs.Steps.{standing, leads_to};
@@ -23,9 +22,9 @@ impl Conf {
         answer: &Answer,
     ) -> Result<Option<End>, Memory>
         requires program { IsWellFormed program.now }
-        requires alone { RunsAlone program.now }
+        requires alone { program.now.signatures ≡ [] }
         requires info { (fn : Function) × IsNodeWellFormed program.now fn info.now }
-        requires kind { is_alone info.now.node ≡ true }
+        requires steps { self.old.steps < 2 ^ 64 - 1 }
         requires fits { IsSome (node_step program.now (standing self.old info.now) answer.now info.now.node) }
         ensures { IfOk result (λ end. node_step program.now (standing self.old info.now) answer.now info.now.node ≡ Some (leads_to self.old end self.new)) }
     {
@@ -95,6 +94,9 @@ impl Conf {
                 site,
                 proto_site,
             } => self.makes_function(alloc, program, info, *dst, *function, *site, *proto_site),
+            Node::Enter { site, arguments } => {
+                self.enters_scope(alloc, program, info, *site, *arguments)
+            }
             Node::Declare { name } => self.declares(alloc, program, info, *name),
             Node::Bind {
                 name,
@@ -106,13 +108,36 @@ impl Conf {
             Node::Pick { list, dst, object } => {
                 self.picks(alloc, info, *list, *dst, *object, answer)
             }
-            Node::Call { error, .. } => self.calls(alloc, info, *error),
-            Node::New { error, .. } => self.constructs(alloc, info, *error),
+            Node::Call {
+                callee,
+                receiver,
+                args,
+                error,
+                ..
+            } => self.calls(alloc, program, info, *callee, *receiver, args, *error),
+            Node::New {
+                callee,
+                args,
+                site,
+                error,
+                ..
+            } => self.constructs(
+                alloc,
+                program,
+                info,
+                *callee,
+                args.as_slice(),
+                *site,
+                *error,
+            ),
             Node::Throw { src } => self.throws_register(alloc, info, *src),
-            Node::Return { .. } => Ok(self.returns()),
-            Node::Escape => self.escapes(alloc),
+            Node::Return { src } => self.returns(alloc, program, info, *src),
+            Node::Escape => self.escapes(alloc, program, info),
             Node::Stop { kind } => Ok(self.left_scope(info, *kind)),
-            Node::Enter { .. } | Node::Intrinsic { .. } | Node::Device { .. } => unreachable!(),
+            Node::Intrinsic { dst, which, args } => {
+                self.intrinsic(alloc, info, *dst, *which, args.as_slice())
+            }
+            Node::Device { .. } => unreachable!(),
         }
     }
 }

@@ -98,7 +98,7 @@ impl Conf {
     }
 
     /// The object that a property holds, if there is the property and it holds one.
-    fn object_at(&self, a: Addr, name: &Text16) -> Option<Addr>
+    pub(crate) fn object_at(&self, a: Addr, name: &Text16) -> Option<Addr>
         ensures { result ≡ object_held (content_at self.now.heap a name.now) }
     {
         match self.heap.content_at(a, name) {

@@ -37,7 +37,7 @@ fn key_of(alloc: Global, value: Option<&Value>) -> Result<Option<Text16>, Memory
 }
 
 /// The object that a value is.
-fn object_in(value: Option<&Value>) -> Option<Addr>
+pub(crate) fn object_in(value: Option<&Value>) -> Option<Addr>
     ensures { result ≡ object_in (or_undefined value.entry) }
 {
     match value {

@@ -31,7 +31,7 @@ pub(crate) fn parameters_of(program: &Program, function: FnId) -> u64
 
 impl Conf {
     /// The address of the next object of a site.
-    fn new_address(&self, site: Site) -> Addr
+    pub(crate) fn new_address(&self, site: Site) -> Addr
         ensures { result ≡ new_address self.now.heap site }
     {
         Addr {

@@ -1,5 +1,4 @@
-ghost use Rattle.std.specs.Prelude.{◌≡◌, ◌<◌, ◌-◌, ◌^◌, Some, IfOk, IsSome};
-ghost use Rattle.ja_graph.specs.Kinds.{RunsAlone};
+ghost use Rattle.std.specs.Prelude.{◌≡◌, ◌<◌, ◌-◌, ◌^◌, [], Some, IfOk, IsSome};
 ghost use Rattle.ja_graph.specs.WellFormed.{IsWellFormed};
 ghost use Rattle.ja_machine.specs.Machine.{step};
 ghost use Rattle.ja_step.specs.Steps.{conf_of, event_of};
@@ -11,7 +10,7 @@ use ja_graph::{Node, NodeInfo, Program};
 use ja_machine::{Answer, End};
 use std::alloc::Global;
 
-/// One step of a program that runs alone, with an answer with which the machine has a step: one that the state
+/// One step of a program without devices, with an answer with which the machine has a step: one that the state
 /// wants. `None` says that the run goes on, and an end how it has ended; `conf` is then the state behind the step.
 ///
 /// # Errors
@@ -24,7 +23,7 @@ pub fn step(
     answer: &Answer,
 ) -> Result<Option<End>, Memory>
     requires program { IsWellFormed program.now }
-    requires alone { RunsAlone program.now }
+    requires alone { program.now.signatures ≡ [] }
     requires steps { conf.old.steps < 2 ^ 64 - 1 }
     requires fits { IsSome (step program.now (conf_of conf.old) answer.now) }
     ensures { IfOk result (λ end. step program.now (conf_of conf.old) answer.now ≡ Some (event_of end conf.new)) }

@@ -1,9 +1,7 @@
 //! The nodes that compute values, and the one that branches.
 
 ghost use Rattle.std.specs.Prelude.{◌≡◌, IfOk};
-ghost use Rattle.std.specs.Option.{option_map};
 ghost use Rattle.ja_machine.specs.declared.machine.Value.TheVariants as value;
-ghost use Rattle.ja_machine.specs.Calls.{stays, convert_step, default_function};
 ghost use Rattle.ja_machine.specs.Events.{sets, sets_outcome};
 ghost use Rattle.ja_machine.specs.Nodes.{branch_step};
 ghost use Rattle.ja_machine.specs.Values.{unary, binary};
@@ -13,7 +11,7 @@ use crate::Conf;
 use crate::copies::copy_primitive;
 use crate::operators::{binary, unary};
 use ja_base::{Memory, Reg, ScopeKind};
-use ja_graph::{BinaryOp, Hint, NodeInfo, Program, UnaryOp};
+use ja_graph::{BinaryOp, NodeInfo, UnaryOp};
 use ja_machine::{End, Value};
 use ja_prim::Primitive;
 use std::alloc::Global;
@@ -81,44 +79,6 @@ impl Conf {
         let b = self.frame.register(b).unwrap_or(&undefined);
         let outcome = binary(alloc, op, a, b)?;
         Ok(self.sets_outcome(info, dst, outcome))
-    }
-
-    /// Whether an object stays as it is beside the other operand of an equality: an object, undefined or null
-    /// (ES3 11.9.3).
-    fn stays_beside(&self, other: Option<Reg>) -> bool
-        ensures { result ≡ stays (option_map (held self.now) other) }
-    {
-        let Some(other) = other else {
-            return false;
-        };
-        match self.frame.register(other) {
-            None | Some(Value::Object(_)) => true,
-            Some(Value::Primitive(Primitive::Undefined | Primitive::Null)) => true,
-            Some(Value::Primitive(_)) => false,
-        }
-    }
-
-    /// The default value of an object (8.6.2.6), and a primitive value itself. Without functions that give
-    /// default values, an object that doesn't stay leaves the profile.
-    pub(crate) fn converts(
-        &mut self,
-        alloc: Global,
-        program: &Program,
-        info: &NodeInfo,
-        dst: Reg,
-        src: Reg,
-        hint: Hint,
-        other: Option<Reg>,
-    ) -> Result<Option<End>, Memory>
-        requires { (default_function program.now hint).0 ≡ 0 }
-        ensures { IfOk result (λ end. leads_to self.old end self.new ≡ convert_step program.now (standing self.old info.now) dst hint (option_map (held self.old) other) (held self.old src)) }
-    {
-        match self.frame.register(src) {
-            Some(Value::Object(_)) if !self.stays_beside(other) => {
-                Ok(self.left_scope(info, ScopeKind::Row))
-            }
-            _ => self.moves(alloc, info, dst, src),
-        }
     }
 
     /// To `next` on true, to `other` on false. Other values aren't taken.

@@ -2,7 +2,7 @@ ghost use Rattle.std.specs.Prelude.{◌≡◌};
 ghost use Rattle.std.specs.Option.{option_map};
 ghost use Rattle.ja_graph.specs.Program.{node_at};
 ghost use Rattle.ja_machine.specs.Machine.{wants, pick_wants, device_wants};
-ghost use Rattle.ja_machine.specs.Nodes.{is_object};
+ghost use Rattle.ja_machine.specs.Values.{is_object};
 ghost use Rattle.ja_step.specs.Given.{answer_to};
 ghost use Rattle.ja_step.specs.Steps.{held, frame_of, conf_of};
 

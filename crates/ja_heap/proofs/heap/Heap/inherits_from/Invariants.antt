@@ -1,7 +1,6 @@
 use Rattle.std.proofs.Common.{◌≡◌, ◌-◌}
 use Rattle.std.specs.List.{list_any}
-use Rattle.ja_machine.specs.Heap.{chain, prototype_of, same_address}
-use Rattle.ja_machine.specs.Nodes.{inherits_from}
+use Rattle.ja_machine.specs.Heap.{chain, prototype_of, same_address, inherits_from}
 use Rattle.ja_heap.proofs.heap.Heap.inherits_from.Given as goal
 
 abbrev pub invariant-loop-object : goal.invariant-loop-object

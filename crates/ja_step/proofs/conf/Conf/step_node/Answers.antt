@@ -1,7 +1,7 @@
 use Rattle.std.proofs.Common.{Some, ap, sym}
 use Rattle.std.proofs.lemmas.Result.{IfOk-weaker}
 use Rattle.ja_graph.specs.Node.{name_in, function_in}
-use Rattle.ja_step.proofs.Alone.{named, few_parameters}
+use Rattle.ja_step.proofs.Known.{named, few_parameters}
 use Rattle.ja_step.proofs.conf.Conf.step_node.Goals as goal
 
 pub finds_name-requires : goal.finds_name-requires

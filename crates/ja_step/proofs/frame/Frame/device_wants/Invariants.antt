@@ -1,6 +1,6 @@
 use Rattle.std.proofs.Common.{◌≡◌, drop}
 use Rattle.std.specs.List.{list_any}
-use Rattle.ja_machine.specs.Nodes.{is_object}
+use Rattle.ja_machine.specs.Values.{is_object}
 use Rattle.ja_step.proofs.frame.Frame.device_wants.Given as goal
 
 abbrev pub invariant-loop-value : goal.invariant-loop-value

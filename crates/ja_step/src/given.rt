@@ -1,0 +1,154 @@
+//! The arguments that are given to a call (ES3 11.2.4, 15.3.4.3): the values of registers, the elements of an array or
+//! an arguments object, or the arguments of the caller from the second on.
+
+ghost use Rattle.std.specs.Prelude.{◌≡◌, ◌≤◌, IfOk, Ok, false, map, drop};
+ghost use Rattle.std.specs.Option.{option_map, option_map_or};
+ghost use Rattle.ja_machine.specs.Calls as calls;
+ghost use Rattle.ja_machine.specs.Frames.{register_of};
+ghost use Rattle.ja_machine.specs.Heap.{object_at, content_at};
+ghost use Rattle.ja_machine.specs.Objects as objects;
+ghost use Rattle.ja_step.specs.Arguments.{given_of};
+ghost use Rattle.ja_step.specs.Steps.{held, frame_of};
+
+use crate::Conf;
+use crate::copies::copy_value;
+use crate::events::kind_of;
+use ja_base::{Memory, Reg, ScopeKind};
+use ja_graph::{Args, Class};
+use ja_machine::{Addr, Content, Value};
+use ja_prim::{Int, Num, Primitive, Text16, to_num, to_text, to_uint32};
+use std::alloc::Global;
+
+/// The arguments that were read, or why the run leaves the profile.
+pub(crate) type Given = Result<Vec<Value>, ScopeKind>;
+
+/// The name of an element.
+pub(crate) fn index_text(alloc: Global, index: u64) -> Result<Text16, Memory>
+    requires { index ≤ 9007199254740991 }
+    ensures { IfOk result (λ name. name ≡ objects.index_text index) }
+{
+    let number = Num::Whole(Int::new(index as i64).unwrap());
+    match to_text(alloc, &Primitive::Number(number)) {
+        Ok(text) => Ok(text),
+        Err(_) => Err(Memory),
+    }
+}
+
+/// Values in memory of their own.
+fn copy_values(alloc: Global, values: &[Value]) -> Result<Vec<Value>, Memory>
+    ensures { IfOk result (λ copies. copies.items ≡ values.now) }
+{
+    let mut copies = Vec::with_capacity(alloc, values.len())?;
+    for value in values {
+        let copy = copy_value(alloc, value)?;
+        copies.push(copy)?;
+    }
+    Ok(copies)
+}
+
+/// How many elements a `length` says (9.6): none where it is missing or an object.
+fn element_count(length: Option<&Content>) -> Result<u32, ScopeKind>
+    ensures { result ≡ calls.element_count (option_map (λ c. c.now) length.entry) }
+{
+    match length {
+        None | Some(Content::Value(Value::Object(_))) => Ok(0),
+        Some(Content::Row) => Err(ScopeKind::Row),
+        Some(Content::Value(Value::Primitive(primitive))) => match to_num(primitive) {
+            Ok(number) => Ok(to_uint32(number)),
+            Err(stop) => Err(kind_of(stop)),
+        },
+    }
+}
+
+impl Conf {
+    /// The values of registers.
+    pub(crate) fn values_of(&self, alloc: Global, registers: &[Reg]) -> Result<Vec<Value>, Memory>
+        ensures { IfOk result (λ values. values.items ≡ map (register_of (frame_of self.now.frame)) registers.now) }
+    {
+        let mut values = Vec::with_capacity(alloc, registers.len())?;
+        for register in registers {
+            let value = self.frame.held(alloc, *register)?;
+            values.push(value)?;
+        }
+        Ok(values)
+    }
+
+    /// An element, undefined where it is missing. A row leaves the profile.
+    fn element(
+        &self,
+        alloc: Global,
+        a: Addr,
+        index: u32,
+    ) -> Result<Result<Value, ScopeKind>, Memory>
+        ensures { IfOk result (λ element. element ≡ calls.element (content_at self.now.heap a (objects.index_text index))) }
+    {
+        let name = index_text(alloc, u64::from(index))?;
+        match self.heap.content_at(a, &name) {
+            None => Ok(Ok(Value::Primitive(Primitive::Undefined))),
+            Some(Content::Row) => Ok(Err(ScopeKind::Row)),
+            Some(Content::Value(value)) => {
+                let value = copy_value(alloc, value)?;
+                Ok(Ok(value))
+            }
+        }
+    }
+
+    /// The first elements of an object. The first row among them leaves the profile.
+    fn first_elements(&self, alloc: Global, a: Addr, count: u32) -> Result<Given, Memory>
+        ensures { IfOk result (λ given. given_of given ≡ calls.elements_up_to self.now.heap a (Ok count)) }
+    {
+        let mut values = Vec::new(alloc);
+        for index in 0..count {
+            match self.element(alloc, a, index)? {
+                Ok(value) => values.push(value)?,
+                Err(kind) => return Ok(Err(kind)),
+            }
+        }
+        Ok(Ok(values))
+    }
+
+    /// The elements of an array or an arguments object, as many as its `length` says. Other values have none.
+    fn elements(&self, alloc: Global, array: Reg) -> Result<Given, Memory>
+        ensures { IfOk result (λ given. given_of given ≡ calls.elements self.now.heap (held self.now array)) }
+    {
+        let Some(Value::Object(a)) = self.frame.register(array) else {
+            return Ok(Err(ScopeKind::Register));
+        };
+        if !self.heap.has_elements(*a) {
+            return Ok(Err(ScopeKind::Register));
+        }
+        let name = Text16::from_ascii(alloc, b"length")?;
+        match element_count(self.heap.content_at(*a, &name)) {
+            Ok(count) => self.first_elements(alloc, *a, count),
+            Err(kind) => Ok(Err(kind)),
+        }
+    }
+
+    /// The caller's arguments from the second on.
+    fn tail(&self, alloc: Global) -> Result<Vec<Value>, Memory>
+        ensures { IfOk result (λ values. values.items ≡ drop 1 self.now.frame.arguments.items) }
+    {
+        let arguments = self.frame.arguments.as_slice();
+        if arguments.is_empty() {
+            return Ok(Vec::new(alloc));
+        }
+        copy_values(alloc, &arguments[1..])
+    }
+
+    /// The arguments of a call.
+    pub(crate) fn given(&self, alloc: Global, arguments: &Args) -> Result<Given, Memory>
+        ensures { IfOk result (λ given. given_of given ≡ calls.given self.now.heap (frame_of self.now.frame) arguments.now) }
+    {
+        match arguments {
+            Args::Registers(registers) => {
+                let values = self.values_of(alloc, registers.as_slice())?;
+                Ok(Ok(values))
+            }
+            Args::Elements(array) => self.elements(alloc, *array),
+            Args::Tail => {
+                let values = self.tail(alloc)?;
+                Ok(Ok(values))
+            }
+        }
+    }
+}
