@@ -1,8 +1,9 @@
 -- The frame of the program: what its registers hold, and that its result is kept by the state with a register set.
-use Rattle.std.proofs.Common.{◌≡◌, ◌≢◌, ◌⊎◌, ℕ, ◌<◌, List, [], ◌∷◌, length, Some, None, Option, inl, inr, refl, sym, ap, ◌∙◌, subst}
+use Rattle.std.proofs.Common.{◌≡◌, ◌≢◌, ◌⊎◌, ℕ, zero, suc, ◌<◌, List, [], ◌∷◌, ◌++◌, length, map, replicate, Some, None, Option, inl, inr, refl, sym, ap, ◌∙◌, subst}
 use Rattle.std.specs.Prelude.{IsTrue, slice_get, slice_set, unwrap_or, ◌==◌}
+use Rattle.std.specs.Option.{is_some, option_and_then}
 use Rattle.std.proofs.lemmas.Option.{same_Some}
-use Rattle.std.proofs.lemmas.Bool.{cases_eq, eq-eqb, ne_eqb, cond-true, cond-false}
+use Rattle.std.proofs.lemmas.Bool.{false≢true, cases_eq, eq-eqb, ne_eqb, cond-true, cond-false}
 use Rattle.ja_base.specs.declared.ids.FnId.{FnId}
 use Rattle.ja_base.specs.declared.ids.Reg.{Reg}
 use Rattle.ja_base.specs.declared.ids.NodeId.{NodeId}
@@ -16,9 +17,9 @@ use Rattle.ja_machine.specs.declared.machine.Frame.{Frame}
 use Rattle.ja_machine.specs.declared.machine.Conf.{Conf}
 use Rattle.ja_machine.specs.declared.machine.Event.{Event}
 use Rattle.ja_machine.specs.declared.machine.Event.TheVariants as event
-use Rattle.ja_machine.specs.Frames.{register_of, undefined, with_result}
+use Rattle.ja_machine.specs.Frames.{register_of, undefined, argument, with_result}
 use Rattle.ja_machine.specs.Objects.{first_of}
-use Rattle.ja_machine.specs.Machine.{program_function, opening_heap}
+use Rattle.ja_machine.specs.Machine.{program_function, opening_heap, next_of}
 use Rattle.ja_machine.specs.State.{IsValueOf, IsFrame, AreFrames, IsState}
 use Rattle.ja_machine.proofs.Lists.{slice_get-set_same, slice_get-set_other, slice_get_some}
 use Rattle.ja_model.specs.AbstractValue.{AbstractValue}
@@ -54,6 +55,12 @@ abbrev pub OnStep : (Conf → Type 0) → Option Event → Type 0
 OnStep P None = Unit {0}
 OnStep P (Some e) = OnNext P e
 
+-- what is kept on the way to a state that an event leads to
+pub on_event : (P Q : Conf → Type 0) (o : Option Event) (c : Conf) → (OnStep P o → OnStep Q o) → option_and_then next_of o ≡ Some c → P c → Q c
+on_event P Q None c k e = absurd (false≢true (ap is_some e))
+on_event P Q (Some (event.Next d)) c k e = subst (λ x. P x → Q x) (same_Some d c e) k
+on_event P Q (Some (event.End x d)) c k e = absurd (false≢true (ap is_some e))
+
 -- a state that is held from its parts
 pub held_next : (p : Program) (t : Table) (h : Heap) (f : Frame) (steps : ℕ) (b : AbstractState) → IsProgramFrame f → HasWithin p t f.node.0 b → Holds p (opening_heap p) h f b → IsHeld p t (record { heap = h; frames = f ∷ []; steps = steps })
 held_next p t h f steps b program_frame has holds = record {
@@ -66,6 +73,18 @@ held_next p t h f steps b program_frame has holds = record {
 }
 
 -- ---- registers
+
+-- each entry of lists of one value is that value
+of_replicate : {X : Type 0} (n i : ℕ) (x y : X) → slice_get (replicate n x) i ≡ Some y → x ≡ y
+of_replicate zero i x y e = absurd (false≢true (ap is_some e))
+of_replicate (suc n) zero x y e = same_Some x y e
+of_replicate (suc n) (suc i) x y e = of_replicate n i x y e
+
+-- .. and so is what the parameters and temporaries of a function that is given no arguments hold
+pub of_missing : (is : List ℕ) (n i : ℕ) (v : Value) → slice_get (map (argument []) is ++ replicate n undefined) i ≡ Some v → undefined ≡ v
+of_missing [] n i v e = of_replicate n i undefined v e
+of_missing (j ∷ js) n zero v e = same_Some undefined v e
+of_missing (j ∷ js) n (suc i) v e = of_missing js n i v e
 
 -- a register of the frame holds its value
 pub register_held : (f : Frame) (r : Reg) → r.0 < length f.registers → slice_get f.registers r.0 ≡ Some (register_of f r)

@@ -12,11 +12,14 @@ pub mod Made
 pub mod Nodes
 pub mod Order
 pub mod Parts
+pub mod Plain
+pub mod Putting
 pub mod Resolved
 pub mod Rounds
 pub mod Runs
 pub mod Searches
 pub mod Steps
+pub mod TextRuns
 pub mod Throwing
 pub mod Values
 pub mod Walks

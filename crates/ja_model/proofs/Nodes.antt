@@ -1,12 +1,11 @@
 -- The numbers of the nodes of a program are in range, and its built-in objects and names are there.
-use Rattle.std.proofs.Common.{◌≡◌, ℕ, zero, suc, ◌<◌, List, [], ◌∷◌, length, Some, None, Option, true, refl, sym, ap, ◌∙◌, arith}
+use Rattle.std.proofs.Common.{◌≡◌, ℕ, zero, suc, ◌<◌, List, [], ◌∷◌, length, Some, refl, sym, ap, ◌∙◌, arith}
 use Rattle.std.specs.Prelude.{slice_get, take}
-use Rattle.std.specs.Option.{is_some, option_to_list, option_and_then, option_map_or}
+use Rattle.std.specs.Option.{is_some, option_to_list, option_map_or}
 use Rattle.std.specs.List.{AllByRecursion}
 use Rattle.std.proofs.lemmas.Bool.{false≢true}
 use lib.Chars.{codes}
 use Rattle.ja_base.specs.declared.ids.NameId.{NameId}
-use Rattle.ja_base.specs.declared.ids.FnId.{FnId}
 use Rattle.ja_base.specs.declared.ids.NodeId.{NodeId}
 use Rattle.ja_base.specs.declared.ids.Reg.{Reg}
 use Rattle.ja_base.specs.declared.ids.Site.{Site}
@@ -18,13 +17,9 @@ use Rattle.ja_graph.specs.declared.program.Class.TheVariants as class
 use Rattle.ja_graph.specs.declared.program.Function.{Function}
 use Rattle.ja_graph.specs.declared.program.Program.{Program}
 use Rattle.ja_graph.specs.declared.program.SiteInfo.{SiteInfo}
-use Rattle.ja_graph.specs.Kinds.{is_built, AreBuilt}
 use Rattle.ja_graph.specs.Node.{register_set, registers_named, name_in, makings}
 use Rattle.ja_graph.specs.Program.{node_at, global, reference_error_prototype, type_error_prototype, message}
 use Rattle.ja_graph.specs.WellFormed.{IsWellFormed, IsNodeWellFormed, IsDestination, IsRegister, IsName, StandsBefore, builtin_names}
-use Rattle.ja_machine.specs.declared.machine.Value.{Value}
-use Rattle.ja_machine.specs.declared.machine.Value.TheVariants as value
-use Rattle.ja_machine.specs.Calls.{function_called}
 use Rattle.ja_machine.specs.Machine.{program_function, class_of_site}
 use Rattle.ja_machine.proofs.Growing.{IsNodeSite}
 use Rattle.ja_machine.proofs.Nodes.{IsMade, node_makings}
@@ -121,28 +116,3 @@ module _ (p : Program) (good : IsWellFormed p) (n : NodeId) (info : NodeInfo) (a
   -- .. and its sites behind those of the objects that are there when a run begins
   pub sites_at : HasNodeSites p info.node
   sites_at = (node_makings p good 0 good.text n.0 info good.text_is node_of_text).each
-
-  -- .. and is of a kind that is built, where all are
-  pub built_at : AreBuilt p → is_built info.node ≡ true
-  built_at built = built.nodes 0 n.0 good.text info good.text_is node_of_text
-
--- ---- the nodes of a function
-
-node_of : (o : Option Function) (n : ℕ) (info : NodeInfo) → slice_get (option_map_or (λ (fn : Function). fn.nodes) o []) n ≡ Some info → (fn : Function) × (o ≡ Some fn) × (slice_get fn.nodes n ≡ Some info)
-node_of None n info e = absurd (false≢true (ap is_some e))
-node_of (Some fn) n info e = (fn, refl, e)
-
--- a node of a program is one of a function of it
-pub function_of_node : (p : Program) (f : FnId) (n : NodeId) (info : NodeInfo) → node_at p f n ≡ Some info → (fn : Function) × (slice_get p.functions f.0 ≡ Some fn) × (slice_get fn.nodes n.0 ≡ Some info)
-function_of_node p f n info e = node_of (slice_get p.functions f.0) n.0 info e
-
--- ---- nothing is called
-
-no_site_called : (o : Option SiteInfo) → ((info : SiteInfo) → o ≡ Some info → info.calls ≡ None) → option_and_then (λ (i : SiteInfo). i.calls) o ≡ None
-no_site_called None none = refl
-no_site_called (Some info) none = none info refl
-
--- no value of a program that is built is a function
-pub none_called : (p : Program) → AreBuilt p → (v : Value) → function_called p v ≡ None
-none_called p built (value.Primitive q) = refl
-none_called p built (value.Object a) = no_site_called (slice_get p.sites a.site.0) (λ info at. (built.uncalled a.site.0 info at).0)

@@ -1,7 +1,7 @@
 -- What the changed values of readings keep: no flag of `absent` and `entry`, other labels, lists of joins.
-use Rattle.std.specs.Prelude.{ℕ, Bool, true, false, IsTrue, List, [], ◌∷◌, map}
+use Rattle.std.specs.Prelude.{◌≡◌, ◌&&◌, ℕ, Bool, true, false, not, IsTrue, List, [], ◌∷◌, map, None, is_some}
 use Rattle.std.specs.List.{list_any}
-use Rattle.std.proofs.Common.{refl, subst, arith, inl, inr}
+use Rattle.std.proofs.Common.{refl, ap, subst, arith, inl, inr}
 use Rattle.std.proofs.lemmas.Bool.{or_left, or_right, or_cases, and_parts, and_from, false≢true}
 use Rattle.ja_base.specs.declared.ids.Label.{Label}
 use Rattle.ja_prim.specs.declared.primitive.Num.TheVariants.{NaN, Whole}
@@ -15,6 +15,7 @@ use Rattle.ja_machine.specs.declared.machine.Value.TheVariants as value
 use Rattle.ja_machine.specs.declared.machine.Content as property
 use Rattle.ja_machine.specs.declared.machine.Content.TheVariants as contents
 use Rattle.ja_machine.specs.declared.machine.Heap.{Heap}
+use Rattle.ja_machine.specs.Calls.{function_called}
 use Rattle.ja_machine.specs.State.{IsObjectOf, IsValueOf, IsHeap}
 use Rattle.ja_model.specs.declared.abstraction.NumberPart.{NumberPart}
 use Rattle.ja_model.specs.declared.abstraction.NumberPart.TheVariants as number_part
@@ -24,7 +25,7 @@ use Rattle.ja_model.specs.AbstractValue.{Labels, AbstractValue, AbstractProperty
 use Rattle.ja_model.specs.AbstractState.{labels_of}
 use Rattle.ja_model.specs.Meaning.{label_of, number_has, text_has, has_primitive, has_value, SpotContent, missing, held, present, present_row, content_of, allows_attrs, knows}
 use Rattle.ja_model.specs.Reading.{known_part, join_all, join_values}
-use Rattle.ja_model.specs.Transfer.{as_read}
+use Rattle.ja_model.specs.Transfer.{can_be_called, uncalled_part, as_read}
 use Rattle.ja_model.proofs.Inside.{site_in_range}
 use Rattle.ja_model.proofs.Interface.{IsOfHeap}
 use Rattle.ja_model.proofs.Labels.{IsAmong, same_label-true, some_among, labels_of-has}
@@ -86,6 +87,11 @@ has_primitive-labels v set (primitive.Bool false) e = e
 has_primitive-labels v set (primitive.Number NaN) e = e
 has_primitive-labels v set (primitive.Number (Whole n)) e = e
 has_primitive-labels v set (primitive.Text t) e = e
+
+-- what can't be called is of the part that can't
+pub has_value-uncalled : (p : Program) (h : Heap) (v : AbstractValue) (u : Value) → function_called p u ≡ None → IsTrue (has_value h v u) → IsTrue (has_value h (uncalled_part p v) u)
+has_value-uncalled p h v (value.Primitive q) none e = has_primitive-labels v (λ l. v.label l && not (can_be_called p l)) q e
+has_value-uncalled p h v (value.Object a) none e = and_from _ _ e (ap (λ o. not (is_some o)) none)
 
 -- ---- lists of joins
 

@@ -1,11 +1,11 @@
 -- A closed table covers every run of its program, and an operation without a warning never goes wrong in one.
-use Rattle.std.proofs.Common.{◌≡◌, ℕ, zero, suc, ◌-◌, ◌<◌, ◌≤◌, true, List, [], ◌∷◌, ◌++◌, length, map, replicate, Some, None, Option, inl, inr, refl, sym, ap, ◌∙◌, subst, arith}
+use Rattle.std.proofs.Common.{◌≡◌, ℕ, zero, suc, ◌-◌, ◌<◌, ◌≤◌, true, List, [], ◌∷◌, length, Some, None, Option, inl, inr, refl, sym, ap, ◌∙◌, subst, arith}
 use Rattle.std.specs.Prelude.{pos, IsTrue, slice_get, ◌==◌}
 use Rattle.std.specs.List.{range_with_len}
 use Rattle.std.specs.Option.{is_some, option_and_then}
 use Rattle.std.proofs.lemmas.Bool.{false≢true, ne_eqb, cond-true, cond-false, cases_Bool, cases_lt}
 use Rattle.std.proofs.lemmas.List.{drop_all}
-use Rattle.std.proofs.lemmas.Option.{same_Some, option_and_then_some, cond_some, some_pair_parts}
+use Rattle.std.proofs.lemmas.Option.{same_Some, option_and_then_some, cond_some}
 use Rattle.ja_base.specs.declared.ids.Place.{Place}
 use Rattle.ja_base.specs.declared.ids.Reg.{Reg}
 use Rattle.ja_prim.specs.declared.primitive.Primitive.TheVariants as primitive
@@ -24,32 +24,35 @@ use Rattle.ja_machine.specs.declared.machine.Frame.{Frame}
 use Rattle.ja_machine.specs.declared.machine.Conf.{Conf}
 use Rattle.ja_machine.specs.declared.machine.Answer.{Answer}
 use Rattle.ja_machine.specs.declared.machine.Event.{Event}
-use Rattle.ja_machine.specs.declared.machine.Event.TheVariants as event
 use Rattle.ja_machine.specs.Heap.{count}
-use Rattle.ja_machine.specs.Frames.{undefined, register_of, parameters_of, argument}
+use Rattle.ja_machine.specs.Frames.{undefined, register_of, parameters_of}
 use Rattle.ja_machine.specs.Objects.{first_of}
+use Rattle.ja_machine.specs.Calls.{function_called}
 use Rattle.ja_machine.specs.Nodes.{node_step}
 use Rattle.ja_machine.specs.Machine.{program_function, opening_heap, opening_frame, opening_state, fits, wants, frames_step, step, next_of, state_of, earlier_state}
 use Rattle.ja_machine.specs.State.{IsValueOf, IsFrame, IsState}
 use Rattle.ja_machine.specs.Runs.{AreStates}
 use Rattle.ja_model.specs.declared.table.Warning.{Warning}
 use Rattle.ja_model.specs.declared.table.WarningKind.{WarningKind}
-use Rattle.ja_model.specs.declared.table.WarningKind.TheVariants.{NotAFunction, UnboundName}
+use Rattle.ja_model.specs.declared.table.WarningKind.TheVariants.{UnboundName}
 use Rattle.ja_model.specs.AbstractValue.{AbstractValue, undefined_value}
 use Rattle.ja_model.specs.AbstractState.{new, entry_registers, entry_state}
 use Rattle.ja_model.specs.Meaning.{Holds, EntriesHold, label_of, has_value, context_of}
+use Rattle.ja_model.specs.Transfer.{uncalled_part}
 use Rattle.ja_model.specs.Table.{Table, root, IsClosed}
 use Rattle.ja_model.specs.Warning.{AreWarnings, kind_of, allows_fault, is_null, fault_at, fault_of_frames}
 use Rattle.ja_model.specs.Sound.{CoversRuns, WarnsOfFaults}
 use Rattle.ja_model.proofs.Contents
 use Rattle.ja_model.proofs.Interface.{Grows}
-use Rattle.ja_model.proofs.Nodes.{IsNodeInRange, global_fits, in_range_at, sites_at, built_at}
+use Rattle.ja_model.proofs.Nodes.{IsNodeInRange, global_fits, in_range_at, sites_at}
 use Rattle.ja_model.proofs.Labels.{same_label_from}
-use Rattle.ja_model.proofs.Parts.{has_part-has_value}
+use Rattle.ja_model.proofs.Parts.{has_value-uncalled, has_part-has_value}
 use Rattle.ja_model.proofs.Entered.{entries_hold}
 use Rattle.ja_model.proofs.Closed.{IsWithin-from_leq, settled_step, settled_open}
-use Rattle.ja_model.proofs.Frames.{IsProgramFrame, IsHeld, OnStep, frame_of, register_has, register_of_heap, registers_are}
+use Rattle.ja_model.proofs.Frames.{IsProgramFrame, IsHeld, OnStep, on_event, of_missing, frame_of, register_has, register_of_heap, registers_are}
 use Rattle.ja_model.proofs.Steps.{step_kept}
+use Rattle.ja_model.proofs.TextRuns.{IsPlainState, uncalled, plain_states}
+use Rattle.ja_model.proofs.Throwing.{call_fault_parts}
 
 null_allowed : (h : Heap) (a : AbstractValue) (v : Value) → is_null v ≡ true → IsTrue (has_value h a v) → IsTrue a.flags.null
 null_allowed h a (value.Primitive primitive.Null) e has = has
@@ -58,23 +61,6 @@ null_allowed h a (value.Primitive (primitive.Bool q)) e has = absurd (false≢tr
 null_allowed h a (value.Primitive (primitive.Number q)) e has = absurd (false≢true e)
 null_allowed h a (value.Primitive (primitive.Text q)) e has = absurd (false≢true e)
 null_allowed h a (value.Object b) e has = absurd (false≢true e)
-
--- what is kept on the way to a state that an event leads to
-on_event : (P Q : Conf → Type 0) (o : Option Event) (c : Conf) → (OnStep P o → OnStep Q o) → option_and_then next_of o ≡ Some c → P c → Q c
-on_event P Q None c k e = absurd (false≢true (ap is_some e))
-on_event P Q (Some (event.Next d)) c k e = subst (λ x. P x → Q x) (same_Some d c e) k
-on_event P Q (Some (event.End x d)) c k e = absurd (false≢true (ap is_some e))
-
--- each entry of lists of one value is that value
-of_replicate : {X : Type 0} (n i : ℕ) (x y : X) → slice_get (replicate n x) i ≡ Some y → x ≡ y
-of_replicate zero i x y e = absurd (false≢true (ap is_some e))
-of_replicate (suc n) zero x y e = same_Some x y e
-of_replicate (suc n) (suc i) x y e = of_replicate n i x y e
-
-of_missing : (is : List ℕ) (n i : ℕ) (v : Value) → slice_get (map (argument []) is ++ replicate n undefined) i ≡ Some v → undefined ≡ v
-of_missing [] n i v e = of_replicate n i undefined v e
-of_missing (j ∷ js) n zero v e = same_Some undefined v e
-of_missing (j ∷ js) n (suc i) v e = of_missing js n i v e
 
 module _ (p : Program) (t : Table) (good : IsWellFormed p) (built : AreBuilt p) (states : AreStates p) (closed : IsClosed p t) where
   entries : EntriesHold p (opening_heap p) (t.entry root)
@@ -145,17 +131,17 @@ module _ (p : Program) (t : Table) (good : IsWellFormed p) (built : AreBuilt p) 
   abbrev step_of : Conf → Frame → Answer → Option NodeInfo → Option Event
   step_of c f answer o = option_and_then (λ (info : NodeInfo). node_step p (record { conf = c; top = f; below = []; info = info }) answer info.node) o
 
-  node_held : (c : Conf) (answer : Answer) (known : IsState p c) (k : IsHeld p t c) (o : Option NodeInfo) → node_at p program_function k.frame.node ≡ o → Keeps (step_of c k.frame answer o)
-  node_held c answer known k None e = λ x. tt
-  node_held c answer known k (Some info) e =
-      step_kept p good built t entries opening.heap c k.frame k.state known (frame_of p c k.frame known k.frames_are) k.program_frame (grows c known) k.holds info answer info.node (built_at p good k.frame.node info e built) (in_range_at p good k.frame.node info e) (sites_at p good k.frame.node info e) (settled_step p t k.frame.node k.state info closed e k.state_is)
+  node_held : (c : Conf) (answer : Answer) (known : IsState p c) (k : IsHeld p t c) → IsPlainState p c → (o : Option NodeInfo) → node_at p program_function k.frame.node ≡ o → Keeps (step_of c k.frame answer o)
+  node_held c answer known k plain None e = λ x. tt
+  node_held c answer known k plain (Some info) e =
+      step_kept p good t entries opening.heap c k.frame k.state known (frame_of p c k.frame known k.frames_are) k.program_frame (uncalled p c k.frame plain k.frames_are) (grows c known) k.holds info answer info.node (built.nodes k.frame.node info e) (in_range_at p good k.frame.node info e) (sites_at p good k.frame.node info e) (settled_step p t k.frame.node k.state info closed e k.state_is)
 
-  step_held : (c : Conf) (answer : Answer) → IsState p c → IsHeld p t c → Keeps (step p c answer)
-  step_held c answer known k =
+  step_held : (c : Conf) (answer : Answer) → IsState p c → IsHeld p t c → IsPlainState p c → Keeps (step p c answer)
+  step_held c answer known k plain =
       elim (cases_Bool (fits p (wants p c) answer)) [
         | inl e ↦
             let steps : frames_step p c answer c.frames ≡ step_of c k.frame answer (node_at p program_function k.frame.node) = ap (frames_step p c answer) k.frames_are ∙ ap (λ g. step_of c k.frame answer (node_at p g k.frame.node)) k.program_frame.0 in
-            subst Keeps (sym (cond-true (fits p (wants p c) answer) (frames_step p c answer c.frames) None e)) (subst Keeps (sym steps) (node_held c answer known k (node_at p program_function k.frame.node) refl))
+            subst Keeps (sym (cond-true (fits p (wants p c) answer) (frames_step p c answer c.frames) None e)) (subst Keeps (sym steps) (node_held c answer known k plain (node_at p program_function k.frame.node) refl))
         | inr e ↦ subst Keeps (sym (cond-false (fits p (wants p c) answer) (frames_step p c answer c.frames) None e)) (λ x. tt)
       ]
 
@@ -163,7 +149,7 @@ module _ (p : Program) (t : Table) (good : IsWellFormed p) (built : AreBuilt p) 
   pub held : (answers : List Answer) (c : Conf) → state_of p answers ≡ Some c → IsHeld p t c
   held [] c e = subst (IsHeld p t) (same_Some (opening_state p) c e) opening_held
   held (answer ∷ earlier) c e =
-      option_and_then_some (λ (d : Conf). option_and_then next_of (step p d answer)) (state_of p earlier) c e (λ d was next. on_event (IsState p) (IsHeld p t) (step p d answer) c (step_held d answer (states earlier d was) (held earlier d was)) next (states (answer ∷ earlier) c e))
+      option_and_then_some (λ (d : Conf). option_and_then next_of (step p d answer)) (state_of p earlier) c e (λ d was next. on_event (IsState p) (IsHeld p t) (step p d answer) c (step_held d answer (states earlier d was) (held earlier d was) (plain_states p good built states earlier d was)) next (states (answer ∷ earlier) c e))
 
   -- ---- covered
 
@@ -205,14 +191,14 @@ module _ (p : Program) (t : Table) (good : IsWellFormed p) (built : AreBuilt p) 
         (register_of_heap p c.heap k.frame r frame within, register_has p (opening_heap p) c.heap k.frame k.state r k.holds within)
 
     -- what goes wrong at a node is allowed by the table's state there
-    fault_allowed : (info : NodeInfo) (kind : WarningKind) (place : Place) (node : Node) → IsNodeInRange p good.text node → fault_at k.frame info node ≡ Some (kind, place) → (kind_of node ≡ Some kind) × (info.place ≡ place) × IsTrue (allows_fault p k.state node)
+    fault_allowed : (info : NodeInfo) (kind : WarningKind) (place : Place) (node : Node) → IsNodeInRange p good.text node → fault_at p k.frame info node ≡ Some (kind, place) → (kind_of node ≡ Some kind) × (info.place ≡ place) × IsTrue (allows_fault p k.state node)
     fault_allowed info kind place (ReadRef dst base name error) in_range e =
         let parts : (is_null (register_of k.frame base) ≡ true) × ((UnboundName, info.place) ≡ (kind, place)) = cond_some _ _ _ e in
         (ap (λ (u : WarningKind × Place). Some u.0) parts.1, ap (λ (u : WarningKind × Place). u.1) parts.1, null_allowed c.heap (k.state.register base.0) (register_of k.frame base) parts.0 (register_known base in_range.1).1)
     fault_allowed info kind place (Call dst callee receiver args error) in_range e =
-        let parts : (NotAFunction ≡ kind) × (info.place ≡ place) = some_pair_parts _ _ _ _ e in
+        let (none, kind_is, place_is) = call_fault_parts info.place (function_called p (register_of k.frame callee)) kind place e in
         let (there, told) = register_known callee in_range.1 in
-        (ap Some parts.0, parts.1, has_part-has_value p c.heap known.heap (k.state.register callee.0) (register_of k.frame callee) there told)
+        (ap Some kind_is, place_is, has_part-has_value p c.heap known.heap (uncalled_part p (k.state.register callee.0)) (register_of k.frame callee) there (has_value-uncalled p c.heap (k.state.register callee.0) (register_of k.frame callee) none told))
     fault_allowed info kind place node in_range e = absurd (false≢true (ap is_some e))
 
   -- .. so it has a warning
@@ -220,7 +206,7 @@ module _ (p : Program) (t : Table) (good : IsWellFormed p) (built : AreBuilt p) 
   warned ws warnings answers c kind place e fault =
       let k : IsHeld p t c = held answers c e in
       let at_frame : fault_of_frames p (k.frame ∷ []) ≡ Some (kind, place) = sym (ap (fault_of_frames p) k.frames_are) ∙ fault in
-      let at_program : option_and_then (λ (info : NodeInfo). fault_at k.frame info info.node) (node_at p program_function k.frame.node) ≡ Some (kind, place) = sym (ap (λ g. option_and_then (λ (info : NodeInfo). fault_at k.frame info info.node) (node_at p g k.frame.node)) k.program_frame.0) ∙ at_frame in
-      option_and_then_some (λ (info : NodeInfo). fault_at k.frame info info.node) (node_at p program_function k.frame.node) (kind, place) at_program (λ info info_is fault_is.
+      let at_program : option_and_then (λ (info : NodeInfo). fault_at p k.frame info info.node) (node_at p program_function k.frame.node) ≡ Some (kind, place) = sym (ap (λ g. option_and_then (λ (info : NodeInfo). fault_at p k.frame info info.node) (node_at p g k.frame.node)) k.program_frame.0) ∙ at_frame in
+      option_and_then_some (λ (info : NodeInfo). fault_at p k.frame info info.node) (node_at p program_function k.frame.node) (kind, place) at_program (λ info info_is fault_is.
       let parts : (kind_of info.node ≡ Some kind) × (info.place ≡ place) × IsTrue (allows_fault p k.state info.node) = fault_allowed c (states answers c e) k info kind place info.node (in_range_at p good k.frame.node info info_is) fault_is in
       warnings.complete kind place info.node k.state (record { context = root; number = k.frame.node; info = info; info_is = info_is; node_is = refl; kind_is = parts.0; place_is = parts.1; state_is = k.state_is }) parts.2)

@@ -1,7 +1,6 @@
 -- Each step of a run leads to a state that the table holds of.
-use Rattle.std.proofs.Common.{◌≡◌, ℕ, ◌<◌, ◌≤◌, true, false, not, List, [], length, Some, Option, inl, inr, refl, sym, ap, ◌∙◌, subst, arith}
+use Rattle.std.proofs.Common.{◌≡◌, ℕ, ◌<◌, ◌≤◌, true, false, List, [], length, Some, None, Option, inl, inr, refl, sym, ap, ◌∙◌, subst, arith}
 use Rattle.std.specs.Prelude.{IsTrue}
-use Rattle.std.specs.Option.{option_map, option_map_or}
 use Rattle.std.proofs.lemmas.Bool.{and_from, or_left, or_right, cases_Bool, cond-true, cond-false, false≢true}
 use Rattle.ja_base.specs.declared.ids.NameId.{NameId}
 use Rattle.ja_base.specs.declared.ids.Reg.{Reg}
@@ -13,7 +12,7 @@ use Rattle.ja_graph.specs.declared.node.Node.{Node}
 use Rattle.ja_graph.specs.declared.node.Node.TheVariants.{Const, FindName, ReadRef, WriteRef, Call, Return, Escape}
 use Rattle.ja_graph.specs.declared.node.NodeInfo.{NodeInfo}
 use Rattle.ja_graph.specs.declared.program.Program.{Program}
-use Rattle.ja_graph.specs.Kinds.{is_built, AreBuilt}
+use Rattle.ja_graph.specs.Kinds.{is_built}
 use Rattle.ja_graph.specs.Program.{global, reference_error_prototype, type_error_prototype}
 use Rattle.ja_graph.specs.WellFormed.{IsWellFormed, IsDestination, IsRegister, IsName, fixed_registers}
 use Rattle.ja_prim.specs.Texts.{is_short}
@@ -24,39 +23,37 @@ use Rattle.ja_machine.specs.declared.machine.Content.{Content}
 use Rattle.ja_machine.specs.declared.machine.Content.TheVariants as contents
 use Rattle.ja_machine.specs.declared.machine.Object.{Object}
 use Rattle.ja_machine.specs.declared.machine.Heap.{Heap}
-use Rattle.ja_machine.specs.declared.machine.Put.TheVariants as put_ends
 use Rattle.ja_machine.specs.declared.machine.Frame.{Frame}
 use Rattle.ja_machine.specs.declared.machine.Conf.{Conf}
 use Rattle.ja_machine.specs.declared.machine.Answer.{Answer}
 use Rattle.ja_machine.specs.declared.machine.Event.{Event}
-use Rattle.ja_machine.specs.Heap.{count, object_at, with_new, new_address, with_object, can_put, is_shared}
-use Rattle.ja_machine.specs.Writes.{object_with_value, put_own, is_array}
-use Rattle.ja_machine.specs.Writes as writes
+use Rattle.ja_machine.specs.Heap.{count, object_at, with_new, new_address}
+use Rattle.ja_machine.specs.Writes.{is_array}
 use Rattle.ja_machine.specs.Frames.{register_of, scope, thrown, moved_to, with_result}
 use Rattle.ja_machine.specs.Objects.{first_of, error_object}
 use Rattle.ja_machine.specs.Events.{Standing, goes_on, sets_content, unbound_message, not_a_function_message}
 use Rattle.ja_machine.specs.Events as machine
-use Rattle.ja_machine.specs.Calls.{receiver_of, calls, call_step}
-use Rattle.ja_machine.specs.Nodes.{name_text, not_taken, find_name, find_name_step, read, read_ref_step, after_put, puts, is_array_at, write_ref_step, node_step}
+use Rattle.ja_machine.specs.Calls.{function_called, receiver_of, calls, call_step}
+use Rattle.ja_machine.specs.Nodes.{name_text, not_taken, find_name, find_name_step, read, read_ref_step, puts, write_ref_step, node_step}
 use Rattle.ja_machine.specs.Machine.{opening_heap}
 use Rattle.ja_machine.specs.State.{IsHeap, IsObjectOf, IsValueOf, IsFrame, IsState}
-use Rattle.ja_machine.proofs.Lists.{slice_get-set_same, some_value, is_some_from}
+use Rattle.ja_machine.proofs.Lists.{slice_get-set_same, is_some_from}
 use Rattle.ja_machine.proofs.Growing.{IsNodeSite}
-use Rattle.ja_machine.proofs.Nodes.{global_there}
 use Rattle.ja_model.specs.declared.abstraction.Key.TheVariants as key
 use Rattle.ja_model.specs.AbstractValue.{AbstractValue, Labels, of_primitive, has_part}
 use Rattle.ja_model.specs.AbstractState.{AbstractState, new, labels_of, same_key, with_register}
 use Rattle.ja_model.specs.Reading.{View, found, demands_of_walk}
-use Rattle.ja_model.specs.Transfer.{view_of, sets, throws, read_value, with_error, written_labels, put}
+use Rattle.ja_model.specs.Transfer.{view_of, sets, throws, read_value, with_error, written_labels, put, uncalled_part}
 use Rattle.ja_model.specs.Meaning.{Spot, named, internal, Holds, EntriesHold, label_of, key_of, has_value}
 use Rattle.ja_model.specs.Table.{Table, root}
 use Rattle.ja_model.proofs.Interface.{Grows, IsRead, IsFilled}
 use Rattle.ja_model.proofs.Lists.{member-append_left, member-append_right}
-use Rattle.ja_model.proofs.Nodes.{HasNodeSites, read_site, call_site, IsNodeInRange, global_fits, global_class, reference_error_fits, type_error_fits, none_called}
+use Rattle.ja_model.proofs.Nodes.{HasNodeSites, read_site, call_site, IsNodeInRange, global_fits, reference_error_fits, type_error_fits}
 use Rattle.ja_model.proofs.Contents
 use Rattle.ja_model.proofs.Keys.{key_of-name, same_key_from}
 use Rattle.ja_model.proofs.Labels.{same_label_from}
-use Rattle.ja_model.proofs.Parts.{has_part-has_value}
+use Rattle.ja_model.proofs.Parts.{has_value-uncalled, has_part-has_value}
+use Rattle.ja_model.proofs.Putting.{IsBase, put_at_object, write_by}
 use Rattle.ja_model.proofs.Searches.{filled_walk, read_value-read, found-find_name}
 use Rattle.ja_model.proofs.Entered.{of_primitive_has, text_of_key}
 use Rattle.ja_model.proofs.Closed.{HasWithin, IsSettled}
@@ -64,7 +61,7 @@ use Rattle.ja_model.proofs.Frames.{IsProgramFrame, IsHeld, OnNext, OnStep, frame
 use Rattle.ja_model.proofs.Made.{holds_with_error}
 use Rattle.ja_model.proofs.Written.{member_gives, IsPut, refused_holds, put_holds}
 
-module _ (p : Program) (good : IsWellFormed p) (built : AreBuilt p) (t : Table) (entries : EntriesHold p (opening_heap p) (t.entry root)) (opening : IsHeap p (opening_heap p)) (c : Conf) (f : Frame) (a : AbstractState) (known : IsState p c) (frame : IsFrame p c.heap f) (program_frame : IsProgramFrame f) (grows : Grows (opening_heap p) c.heap) (holds : Holds p (opening_heap p) c.heap f a) (info : NodeInfo) where
+module _ (p : Program) (good : IsWellFormed p) (t : Table) (entries : EntriesHold p (opening_heap p) (t.entry root)) (opening : IsHeap p (opening_heap p)) (c : Conf) (f : Frame) (a : AbstractState) (known : IsState p c) (frame : IsFrame p c.heap f) (program_frame : IsProgramFrame f) (uncalled : (r : Reg) → function_called p (register_of f r) ≡ None) (grows : Grows (opening_heap p) c.heap) (holds : Holds p (opening_heap p) c.heap f a) (info : NodeInfo) where
   abbrev w : View
   w = view_of p (t.entry root) a
 
@@ -169,26 +166,9 @@ module _ (p : Program) (good : IsWellFormed p) (built : AreBuilt p) (t : Table) 
   read_by dst base name error (value.Primitive (primitive.Number q)) in_range site settled there told = λ after. tt
   read_by dst base name error (value.Primitive (primitive.Text q)) in_range site settled there told = λ after. tt
 
-  -- what a put comes to
-  abbrev After : writes.Written → Type 0
-  After x = Kept (after_put s (not_taken s) x.heap x.put)
-
-  -- a put on an object that is no array
-  put_at_object : (b : Addr) (o : Object) (n : List ℕ) (v : Value) → object_at c.heap b ≡ Some o → is_array o.class ≡ false → (can_put c.heap b n ≡ false → Kept (goes_on s c.heap)) → (can_put c.heap b n ≡ true → Kept (goes_on s (with_object c.heap b (object_with_value o n v)))) → Kept (puts s (not_taken s) b n v)
-  put_at_object b o n v object_is other refused done =
-      elim (cases_Bool (can_put c.heap b n)) [
-        | inl can ↦
-            subst After (sym (cond-false _ _ _ (ap not can))) (elim (cases_Bool (is_shared c.heap b n)) [
-              | inl e ↦ subst After (sym (cond-true _ _ _ e)) (λ after. tt)
-              | inr e ↦
-                  subst After (sym (cond-false _ _ _ e)) (subst (λ r. After (option_map_or (λ (x : Object). put_own c.heap b x n v) r (writes.written c.heap put_ends.Done))) (sym object_is) (subst After (sym (cond-false _ _ _ other)) (done can)))
-            ])
-        | inr cannot ↦ subst After (sym (cond-true _ _ _ (ap not cannot))) (refused cannot)
-      ]
-
   write_at : (base : Reg) (name : NameId) (src : Reg) (b : Addr) (o : Object) → IsNodeInRange p good.text (WriteRef base name src) → IsSettled p t a info (WriteRef base name src) → object_at c.heap b ≡ Some o → is_array o.class ≡ false → IsTrue (written_labels (a.register base.0) (label_of c.heap b)) → Kept (puts s (not_taken s) b (name_text p name) (register_of f src))
   write_at base name src b o in_range settled object_is other among =
-      put_at_object b o (name_text p name) (register_of f src) object_is other (λ c. goes_held _ (refused_holds p _ _ (t.entry root) a f is_read holds b there (name_text p name) (key.Name name) same (only_name name) filled (a.register src.0) info.next target among c)) (λ c. goes_held _ (put_holds p _ _ (t.entry root) a f is_read holds b there (name_text p name) (key.Name name) same (only_name name) filled (a.register src.0) info.next target o (register_of f src) object_is among (has src (in_frame src in_range.2)) c))
+      put_at_object p good s known.heap Kept (λ kind after. tt) b o (name_text p name) (register_of f src) object_is other (λ c. goes_held _ (refused_holds p _ _ (t.entry root) a f is_read holds b there (name_text p name) (key.Name name) same (only_name name) filled (a.register src.0) info.next target among c)) (λ c. goes_held _ (put_holds p _ _ (t.entry root) a f is_read holds b there (name_text p name) (key.Name name) same (only_name name) filled (a.register src.0) info.next target o (register_of f src) object_is among (has src (in_frame src in_range.2)) c))
     where
       target : Labels
       target = written_labels (a.register base.0)
@@ -206,39 +186,31 @@ module _ (p : Program) (good : IsWellFormed p) (built : AreBuilt p) (t : Table) 
       goes_held : (h : Heap) → IsPut p (opening_heap p) h f info.next (put w (written_labels (a.register base.0)) (key.Name name) (a.register src.0) info.next) → Kept (goes_on s h)
       goes_held h k after = held_next p t h (moved_to f info.next) _ k.state program_frame (settled.goes info.next.0 k.state k.member) k.holds
 
-  -- at an object that may be an array
-  write_object : (base : Reg) (name : NameId) (src : Reg) (b : Addr) (o : Object) → IsNodeInRange p good.text (WriteRef base name src) → IsSettled p t a info (WriteRef base name src) → object_at c.heap b ≡ Some o → IsTrue (written_labels (a.register base.0) (label_of c.heap b)) → Kept (write_ref_step p s name (register_of f src) (value.Object b))
-  write_object base name src b o in_range settled object_is among =
-      elim (cases_Bool (is_array_at c.heap b)) [
-        | inl e ↦ subst Kept (sym (cond-true _ _ _ e)) (λ after. tt)
-        | inr e ↦ subst Kept (sym (cond-false _ _ _ e)) (write_at base name src b o in_range settled object_is (sym (ap (λ r. option_map_or is_array (option_map (λ (x : Object). x.class) r) false) object_is) ∙ e) among)
-      ]
-
-  -- the global object is new, and no array
+  -- the global object is new
   global_label : new global ≡ label_of c.heap (first_of global)
   global_label =
       let one : count c.heap global ≡ 1 = known.heap.opening global (global_fits p good) in
       sym (Contents.same_parts (label_of c.heap (first_of global)) (new global) refl (Contents.label_is_new c.heap (first_of global) (omega arith)))
 
-  no_array : (o : Object) → object_at c.heap (first_of global) ≡ Some o → is_array o.class ≡ false
-  no_array o object_is = ap is_array (known.heap.class (first_of global) o object_is ∙ global_class p good)
+  -- the object at which a name is written is one that the state allows
+  base_among : (base : Reg) (x : Value) (b : Addr) → IsBase x b → IsTrue (has_value c.heap (a.register base.0) x) → IsTrue (written_labels (a.register base.0) (label_of c.heap b))
+  base_among base (value.Object d) b is told = or_left _ _ (subst (λ e. IsTrue ((a.register base.0).label (label_of c.heap e))) is told)
+  base_among base (value.Primitive primitive.Null) b is told =
+      or_right _ _ (and_from _ _ told (same_label_from (new global) _ (global_label ∙ ap (label_of c.heap) is)))
+  base_among base (value.Primitive primitive.Undefined) b is told = elim is [ ]
+  base_among base (value.Primitive (primitive.Bool q)) b is told = elim is [ ]
+  base_among base (value.Primitive (primitive.Number q)) b is told = elim is [ ]
+  base_among base (value.Primitive (primitive.Text q)) b is told = elim is [ ]
 
-  write_by : (base : Reg) (name : NameId) (src : Reg) (x : Value) → IsNodeInRange p good.text (WriteRef base name src) → IsSettled p t a info (WriteRef base name src) → IsValueOf c.heap x → IsTrue (has_value c.heap (a.register base.0) x) → Kept (write_ref_step p s name (register_of f src) x)
-  write_by base name src (value.Object b) in_range settled there told =
-      let (o, object_is) = some_value (object_at c.heap b) there in
-      write_object base name src b o in_range settled object_is (or_left _ _ told)
-  write_by base name src (value.Primitive primitive.Null) in_range settled there told =
-      let (o, object_is) = some_value (object_at c.heap (first_of global)) (global_there p good c.heap known.heap) in
-      write_at base name src (first_of global) o in_range settled object_is (no_array o object_is) (or_right _ _ (and_from _ _ told (same_label_from (new global) _ global_label)))
-  write_by base name src (value.Primitive primitive.Undefined) in_range settled there told = λ after. tt
-  write_by base name src (value.Primitive (primitive.Bool q)) in_range settled there told = λ after. tt
-  write_by base name src (value.Primitive (primitive.Number q)) in_range settled there told = λ after. tt
-  write_by base name src (value.Primitive (primitive.Text q)) in_range settled there told = λ after. tt
+  write_kept : (base : Reg) (name : NameId) (src : Reg) (x : Value) → IsNodeInRange p good.text (WriteRef base name src) → IsSettled p t a info (WriteRef base name src) → IsValueOf c.heap x → IsTrue (has_value c.heap (a.register base.0) x) → Kept (write_ref_step p s name (register_of f src) x)
+  write_kept base name src x in_range settled there told =
+      write_by p good s known.heap Kept (λ kind after. tt) name (register_of f src) x there (λ b o is object_is other. write_at base name src b o in_range settled object_is other (base_among base x b is told))
 
   call_kept : (dst callee receiver : Reg) (args : Args) (error : Site) → IsNodeInRange p good.text (Call dst callee receiver args error) → IsNodeSite p error → IsSettled p t a info (Call dst callee receiver args error) → Kept (call_step p s (register_of f callee) (register_of f receiver) args error)
   call_kept dst callee receiver args error in_range site settled =
       let l : callee.0 < length f.registers = in_frame callee in_range.1 in
-      subst (λ o. Kept (calls p s (register_of f callee) (receiver_of c.heap (register_of f receiver)) args error o)) (sym (none_called p built (register_of f callee))) (throw_kept error type_error_prototype not_a_function_message site (type_error_fits p good) (λ e. settled.goes info.handler.0 (with_error a error type_error_prototype not_a_function_message) (member_gives _ info.handler _ (and_from _ _ (part (register_of f callee) (a.register callee.0) (of_heap callee l) (has callee l)) e))))
+      let other : IsTrue (has_part (labels_of p) (uncalled_part p (a.register callee.0))) = part (register_of f callee) (uncalled_part p (a.register callee.0)) (of_heap callee l) (has_value-uncalled p c.heap (a.register callee.0) (register_of f callee) (uncalled callee) (has callee l)) in
+      subst (λ o. Kept (calls p s (register_of f callee) (receiver_of c.heap (register_of f receiver)) args error o)) (sym (uncalled callee)) (throw_kept error type_error_prototype not_a_function_message site (type_error_fits p good) (λ e. settled.goes info.handler.0 (with_error a error type_error_prototype not_a_function_message) (member_gives _ info.handler _ (and_from _ _ other e))))
 
   -- of the state that a step leads to
   abbrev pub KeptOnStep : Option Event → Type 0
@@ -251,7 +223,7 @@ module _ (p : Program) (good : IsWellFormed p) (built : AreBuilt p) (t : Table) 
   step_kept answer (ReadRef dst base name error) is in_range sites settled =
       read_by dst base name error (register_of f base) in_range (read_site p dst base name error sites) settled (of_heap base (in_frame base in_range.1)) (has base (in_frame base in_range.1))
   step_kept answer (WriteRef base name src) is in_range sites settled =
-      write_by base name src (register_of f base) in_range settled (of_heap base (in_frame base in_range.0)) (has base (in_frame base in_range.0))
+      write_kept base name src (register_of f base) in_range settled (of_heap base (in_frame base in_range.0)) (has base (in_frame base in_range.0))
   step_kept answer (Call dst callee receiver args error) is in_range sites settled = call_kept dst callee receiver args error in_range (call_site p dst callee receiver args error sites) settled
   step_kept answer (Return src) is in_range sites settled = λ after. tt
   step_kept answer Escape is in_range sites settled = λ after. tt

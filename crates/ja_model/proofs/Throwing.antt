@@ -1,9 +1,10 @@
 -- What goes wrong at a node is what its step throws.
 use Rattle.std.proofs.Common.{◌≡◌, ◌⊎◌, ℕ, zero, suc, ◌<◌, ◌≤◌, Bool, true, false, List, [], ◌∷◌, length, Some, None, Option, inl, inr, refl, sym, ap, ◌∙◌, subst, arith}
-use Rattle.std.specs.Prelude.{IsTrue, Contains, if◌then◌else◌}
+use Rattle.std.specs.Prelude.{IsTrue, Contains, if◌then◌else◌, drop, slice_get}
 use Rattle.std.specs.Option.{is_some, option_and_then}
 use Rattle.std.proofs.lemmas.Bool.{false≢true, cases_Bool, cond-true, cond-false, leb-true, leb-false}
 use Rattle.std.proofs.lemmas.Option.{same_Some, option_and_then_some, cond_some, some_pair_parts}
+use Rattle.ja_base.specs.declared.ids.FnId.{FnId}
 use Rattle.ja_base.specs.declared.ids.NameId.{NameId}
 use Rattle.ja_base.specs.declared.ids.Place.{Place}
 use Rattle.ja_base.specs.declared.ids.Reg.{Reg}
@@ -39,17 +40,17 @@ use Rattle.ja_machine.specs.Heap.{size, object_at, with_new, new_address}
 use Rattle.ja_machine.specs.Frames.{register_of}
 use Rattle.ja_machine.specs.Objects.{first_of, error_object}
 use Rattle.ja_machine.specs.Events.{Standing, throws, throws_value, sets_content, unbound_message, not_a_function_message}
-use Rattle.ja_machine.specs.Calls.{receiver_of, calls, call_step}
+use Rattle.ja_machine.specs.Calls.{function_called, receiver_of, calls, call_step}
 use Rattle.ja_machine.specs.Nodes.{name_text, read, read_ref_step, node_step}
-use Rattle.ja_machine.specs.Machine.{fits, wants, frames_step, step}
+use Rattle.ja_machine.specs.Machine.{program_function, fits, wants, frames_step, step}
 use Rattle.ja_machine.specs.Runs.{AreStates}
 use Rattle.ja_machine.proofs.Heaps
-use Rattle.ja_machine.proofs.Nodes.{node_makings}
 use Rattle.ja_model.specs.declared.table.WarningKind.{WarningKind}
 use Rattle.ja_model.specs.declared.table.WarningKind.TheVariants.{NotAFunction, UnboundName}
-use Rattle.ja_model.specs.Warning.{is_null, fault_at, fault_of_frames, fault_of}
+use Rattle.ja_model.specs.Warning.{is_null, call_fault, fault_at, fault_of_frames, fault_of}
 use Rattle.ja_model.specs.Faults.{error_prototype, error_message, IsThrow, Throws, FaultsThrow}
-use Rattle.ja_model.proofs.Nodes.{HasNodeSites, read_site, call_site, function_of_node, none_called}
+use Rattle.ja_model.proofs.Nodes.{HasNodeSites, read_site, call_site, sites_at}
+use Rattle.ja_model.proofs.TextRuns.{IsPlainState, uncalled, plain_states}
 
 -- ---- what tells events apart
 
@@ -88,6 +89,11 @@ null_value (value.Primitive (primitive.Bool q)) e = absurd (false≢true e)
 null_value (value.Primitive (primitive.Number q)) e = absurd (false≢true e)
 null_value (value.Primitive (primitive.Text q)) e = absurd (false≢true e)
 null_value (value.Object a) e = absurd (false≢true e)
+
+-- what goes wrong at a call: its callee is no function
+pub call_fault_parts : (at : Place) (o : Option FnId) (kind : WarningKind) (place : Place) → call_fault at o ≡ Some (kind, place) → (o ≡ None) × (NotAFunction ≡ kind) × (at ≡ place)
+call_fault_parts at None kind place e = let parts : (NotAFunction ≡ kind) × (at ≡ place) = some_pair_parts _ _ _ _ e in (refl, parts.0, parts.1)
+call_fault_parts at (Some f) kind place e = absurd (false≢true (ap is_some e))
 
 -- ---- what is thrown
 
@@ -162,13 +168,13 @@ call_makes : (dst callee receiver : Reg) (args : Args) (error : Site) → making
 unfolding makings
 call_makes dst callee receiver args error = refl
 
-module _ (p : Program) (built : AreBuilt p) (c : Conf) (f : Frame) (below : List Frame) (info : NodeInfo) where
+module _ (p : Program) (c : Conf) (f : Frame) (below : List Frame) (info : NodeInfo) where
   abbrev at_node : Standing
   at_node = record { conf = c; top = f; below = below; info = info }
 
-  -- a call throws
-  call_throws : (callee receiver : Value) (args : Args) (error : Site) → call_step p at_node callee receiver args error ≡ throws at_node error type_error_prototype not_a_function_message
-  call_throws callee receiver args error = ap (calls p at_node callee (receiver_of c.heap receiver) args error) (none_called p built callee)
+  -- a call of what is no function throws
+  call_throws : (callee receiver : Value) (args : Args) (error : Site) → function_called p callee ≡ None → call_step p at_node callee receiver args error ≡ throws at_node error type_error_prototype not_a_function_message
+  call_throws callee receiver args error none = ap (calls p at_node callee (receiver_of c.heap receiver) args error) none
 
   module _ (frames_are : c.frames ≡ f ∷ below) (info_is : node_at p f.function f.node ≡ Some info) where
     -- the step is that of the node
@@ -177,8 +183,8 @@ module _ (p : Program) (built : AreBuilt p) (c : Conf) (f : Frame) (below : List
         cond-true (fits p (wants p c) answer) (frames_step p c answer c.frames) None fit ∙ (ap (frames_step p c answer) frames_are ∙ ap (option_and_then (λ (i : NodeInfo). node_step p (record { conf = c; top = f; below = below; info = i }) answer i.node)) info_is)
 
     -- .. and so is what goes wrong
-    fault_is : fault_of p c ≡ fault_at f info info.node
-    fault_is = ap (fault_of_frames p) frames_are ∙ ap (option_and_then (λ (i : NodeInfo). fault_at f i i.node)) info_is
+    fault_is : fault_of p c ≡ fault_at p f info info.node
+    fault_is = ap (fault_of_frames p) frames_are ∙ ap (option_and_then (λ (i : NodeInfo). fault_at p f i i.node)) info_is
 
     module _ (answer : Answer) (fit : IsTrue (fits p (wants p c) answer)) where
       thrown_by : (kind : WarningKind) (place : Place) (node : Node) (error : Site) → info.node ≡ node → info.place ≡ place → makings node ≡ making error class.Error ∷ [] → node_step p at_node answer node ≡ Some (throws at_node error (error_prototype kind) (error_message p node kind)) → Throws p c answer kind place
@@ -194,10 +200,10 @@ module _ (p : Program) (built : AreBuilt p) (c : Conf) (f : Frame) (below : List
         throws = subst (λ n. IsThrow c f below info error (error_prototype kind) (error_message p n kind) (step p c answer)) (sym is) (subst (λ s. IsThrow c f below info error (error_prototype kind) (error_message p node kind) s) (sym (step_is answer fit ∙ (ap (node_step p at_node answer) is ∙ steps))) (throws_so c f below info error (error_prototype kind) (error_message p node kind)));
       }
 
-      fault_throws : (kind : WarningKind) (place : Place) (node : Node) → info.node ≡ node → fault_at f info node ≡ Some (kind, place) → Throws p c answer kind place
+      fault_throws : (kind : WarningKind) (place : Place) (node : Node) → info.node ≡ node → fault_at p f info node ≡ Some (kind, place) → Throws p c answer kind place
       fault_throws kind place (Call dst callee receiver args error) is e =
-          let parts : (NotAFunction ≡ kind) × (info.place ≡ place) = some_pair_parts _ _ _ _ e in
-          subst (λ k. Throws p c answer k place) parts.0 (thrown_by NotAFunction place (Call dst callee receiver args error) error is parts.1 (call_makes dst callee receiver args error) (ap Some (call_throws (register_of f callee) (register_of f receiver) args error)))
+          let (none, kind_is, place_is) = call_fault_parts info.place (function_called p (register_of f callee)) kind place e in
+          subst (λ k. Throws p c answer k place) kind_is (thrown_by NotAFunction place (Call dst callee receiver args error) error is place_is (call_makes dst callee receiver args error) (ap Some (call_throws (register_of f callee) (register_of f receiver) args error none)))
       fault_throws kind place (ReadRef dst base name error) is e =
           let parts : (is_null (register_of f base) ≡ true) × ((UnboundName, info.place) ≡ (kind, place)) = cond_some _ _ _ e in
           let message_is : unbound_message (name_text p name) ≡ error_message p (ReadRef dst base name error) UnboundName = sym (read_message p dst base name error) in
@@ -238,14 +244,14 @@ module _ (p : Program) (built : AreBuilt p) (c : Conf) (f : Frame) (below : List
   read_back kind node error row dst name (value.Primitive (primitive.Number q)) throw = absurd (no_end c f below info error (error_prototype kind) (error_message p node kind) _ refl refl throw)
   read_back kind node error row dst name (value.Primitive (primitive.Text q)) throw = absurd (no_end c f below info error (error_prototype kind) (error_message p node kind) _ refl refl throw)
 
-  module _ (rows : length c.heap.objects ≡ length p.sites) where
-    throw_faults : (kind : WarningKind) (answer : Answer) (node : Node) (error : Site) → is_built node ≡ true → HasNodeSites p node → Contains (makings node) (making error class.Error) → ThrowsAt node error kind (node_step p at_node answer node) → fault_at f info node ≡ Some (kind, info.place)
+  module _ (rows : length c.heap.objects ≡ length p.sites) (uncalled_here : (r : Reg) → function_called p (register_of f r) ≡ None) where
+    throw_faults : (kind : WarningKind) (answer : Answer) (node : Node) (error : Site) → is_built node ≡ true → HasNodeSites p node → Contains (makings node) (making error class.Error) → ThrowsAt node error kind (node_step p at_node answer node) → fault_at p f info node ≡ Some (kind, info.place)
     unfolding makings
     throw_faults kind answer (Call dst callee receiver args site) error is sites among throw =
         let same : site ≡ error = one_site site error among in
         let in_range : site.0 < length p.sites = (call_site p dst callee receiver args site sites).1 in
         let row : site.0 < length c.heap.objects = omega arith in
-        call_back kind (Call dst callee receiver args site) site row (subst (λ e. ThrowsAt (Call dst callee receiver args site) site kind (Some e)) (call_throws (register_of f callee) (register_of f receiver) args site) (subst (λ s. ThrowsAt (Call dst callee receiver args site) s kind (Some (call_step p at_node (register_of f callee) (register_of f receiver) args site))) (sym same) throw))
+        ap (call_fault info.place) (uncalled_here callee) ∙ call_back kind (Call dst callee receiver args site) site row (subst (λ e. ThrowsAt (Call dst callee receiver args site) site kind (Some e)) (call_throws (register_of f callee) (register_of f receiver) args site (uncalled_here callee)) (subst (λ s. ThrowsAt (Call dst callee receiver args site) s kind (Some (call_step p at_node (register_of f callee) (register_of f receiver) args site))) (sym same) throw))
     throw_faults kind answer (ReadRef dst base name site) error is sites among throw =
         let same : site ≡ error = one_site site error among in
         let in_range : site.0 < length p.sites = (read_site p dst base name site sites).1 in
@@ -260,20 +266,28 @@ module _ (p : Program) (built : AreBuilt p) (c : Conf) (f : Frame) (below : List
 
 -- ---- in each state of a run
 
-module _ (p : Program) (good : IsWellFormed p) (built : AreBuilt p) (c : Conf) (rows : length c.heap.objects ≡ length p.sites) (answer : Answer) (fit : IsTrue (fits p (wants p c) answer)) (kind : WarningKind) (place : Place) where
+module _ (p : Program) (good : IsWellFormed p) (built : AreBuilt p) (c : Conf) (rows : length c.heap.objects ≡ length p.sites) (plain : IsPlainState p c) (answer : Answer) (fit : IsTrue (fits p (wants p c) answer)) (kind : WarningKind) (place : Place) where
   faulted : (fs : List Frame) → c.frames ≡ fs → fault_of_frames p fs ≡ Some (kind, place) → Throws p c answer kind place
   faulted [] frames_are e = absurd (false≢true (ap is_some e))
   faulted (f ∷ below) frames_are e =
-      option_and_then_some (λ (info : NodeInfo). fault_at f info info.node) (node_at p f.function f.node) (kind, place) e (λ info info_is fault. fault_throws p built c f below info frames_are info_is answer fit kind place info.node refl fault)
+      option_and_then_some (λ (info : NodeInfo). fault_at p f info info.node) (node_at p f.function f.node) (kind, place) e (λ info info_is fault. fault_throws p c f below info frames_are info_is answer fit kind place info.node refl fault)
+
+  -- the top frame is the only one, and of the text
+  throw_in_text : (f : Frame) (below : List Frame) (info : NodeInfo) (error : Site) → c.frames ≡ f ∷ below → f.function ≡ program_function → below ≡ [] → node_at p f.function f.node ≡ Some info → info.place ≡ place → Contains (makings info.node) (making error class.Error) → IsThrow c f below info error (error_prototype kind) (error_message p info.node kind) (step p c answer) → fault_of p c ≡ Some (kind, place)
+  throw_in_text f below info error frames_are function_is alone info_is place_is among throw =
+      let at : node_at p program_function f.node ≡ Some info = sym (ap (λ g. node_at p g f.node) function_is) ∙ info_is in
+      let no_function : (r : Reg) → function_called p (register_of f r) ≡ None = uncalled p c f plain (frames_are ∙ ap (λ fs. f ∷ fs) alone) in
+      let step_here : step p c answer ≡ node_step p (record { conf = c; top = f; below = below; info = info }) answer info.node = step_is p c f below info frames_are info_is answer fit in
+      fault_is p c f below info frames_are info_is ∙ (throw_faults p c f below info rows no_function kind answer info.node error (built.nodes f.node info at) (sites_at p good f.node info at) among (subst (λ s. IsThrow c f below info error (error_prototype kind) (error_message p info.node kind) s) step_here throw) ∙ ap (λ q. Some (kind, q)) place_is)
 
   thrown_faults : Throws p c answer kind place → fault_of p c ≡ Some (kind, place)
   thrown_faults r =
-      let (fn, fn_is, at) = function_of_node p r.top.function r.top.node r.info r.info_is in
-      let step_here : step p c answer ≡ node_step p (record { conf = c; top = r.top; below = r.below; info = r.info }) answer r.info.node = step_is p built c r.top r.below r.info r.frames_are r.info_is answer fit in
-      let throw : IsThrow c r.top r.below r.info r.error (error_prototype kind) (error_message p r.info.node kind) (node_step p (record { conf = c; top = r.top; below = r.below; info = r.info }) answer r.info.node) = subst (λ s. IsThrow c r.top r.below r.info r.error (error_prototype kind) (error_message p r.info.node kind) s) step_here r.throws in
-      fault_is p built c r.top r.below r.info r.frames_are r.info_is ∙ (throw_faults p built c r.top r.below r.info rows kind answer r.info.node r.error (built.nodes r.top.function.0 r.top.node.0 fn r.info fn_is at) (node_makings p good r.top.function.0 fn r.top.node.0 r.info fn_is at).each r.site throw ∙ ap (λ q. Some (kind, q)) r.place_is)
+      let same : plain.frame ∷ [] ≡ r.top ∷ r.below = sym plain.frames_are ∙ r.frames_are in
+      let top_is : plain.frame ≡ r.top = same_Some _ _ (ap (λ (fs : List Frame). slice_get fs 0) same) in
+      throw_in_text r.top r.below r.info r.error r.frames_are (sym (ap (λ (g : Frame). g.function) top_is) ∙ plain.function_is) (sym (ap (λ (fs : List Frame). drop 1 fs) same)) r.info_is r.place_is r.site r.throws
 
 pub faults_throw : (p : Program) → IsWellFormed p → AreBuilt p → AreStates p → FaultsThrow p
 faults_throw p good built states answers c answer kind place reached fit =
     let rows : length c.heap.objects ≡ length p.sites = (states answers c reached).heap.rows in
-    (faulted p good built c rows answer fit kind place c.frames refl, thrown_faults p good built c rows answer fit kind place)
+    let plain : IsPlainState p c = plain_states p good built states answers c reached in
+    (faulted p good built c rows plain answer fit kind place c.frames refl, thrown_faults p good built c rows plain answer fit kind place)

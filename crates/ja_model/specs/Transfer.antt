@@ -1,5 +1,6 @@
 -- The abstract step of a node: the states that it gives to other nodes, and the values at entry that it demands.
-use Rattle.std.specs.Prelude.{ℕ, Bool, true, false, ◌&&◌, ◌||◌, if◌then◌else◌, List, [], ◌∷◌, ◌++◌, map, filter}
+use Rattle.std.specs.Prelude.{ℕ, Bool, true, false, not, ◌&&◌, ◌||◌, if◌then◌else◌, List, [], ◌∷◌, ◌++◌, map, filter, slice_get, is_some}
+use Rattle.std.specs.Option.{option_and_then}
 use Rattle.ja_base.specs.declared.ids.Label.{Label}
 use Rattle.ja_base.specs.declared.ids.NodeId.{NodeId}
 use Rattle.ja_base.specs.declared.ids.Reg.{Reg}
@@ -9,6 +10,7 @@ use Rattle.ja_graph.specs.declared.node.Node.{Node}
 use Rattle.ja_graph.specs.declared.node.Node.TheVariants as node
 use Rattle.ja_graph.specs.declared.node.NodeInfo.{NodeInfo}
 use Rattle.ja_graph.specs.declared.program.Program.{Program}
+use Rattle.ja_graph.specs.declared.program.SiteInfo.{SiteInfo}
 use Rattle.ja_graph.specs.Program.{global, reference_error_prototype, type_error_prototype, message}
 use Rattle.ja_prim.specs.Texts.{is_short}
 use Rattle.ja_machine.specs.Heap.{no_attrs}
@@ -108,6 +110,20 @@ put_at w target k v next labels = weak_put w target k v next
 abbrev pub put : View → Labels → Key → AbstractValue → NodeId → List (ℕ × AbstractState)
 put w target k v next = put_at w target k v next (filter target w.labels)
 
+-- ---- calling
+
+-- the objects of a label can be called
+abbrev pub can_be_called : Program → Labels
+can_be_called p l = is_some (option_and_then (λ (s : SiteInfo). s.calls) (slice_get p.sites l.site.0))
+
+-- what a callee may be: an object that can be called ..
+abbrev pub called_labels : Program → AbstractValue → Labels
+called_labels p v l = v.label l && can_be_called p l
+
+-- .. and anything else
+abbrev pub uncalled_part : Program → AbstractValue → AbstractValue
+uncalled_part p v = record v { label = λ l. v.label l && not (can_be_called p l) }
+
 -- ---- one clause per kind of node
 
 abbrev pub transfer_node : Program → View → NodeInfo → Node → Out
@@ -128,9 +144,10 @@ transfer_node p w info (node.WriteRef base name src) =
       states = put w target (key.Name name) (w.state.register src.0) info.next;
       demands = demands_of_read w target (key.Name name);
     }
+-- what can't be called throws; no function is entered, since in the programs that are built (`AreBuilt`) no callee is one
 transfer_node p w info (node.Call dst callee receiver args error) =
     record {
-      states = throws w (has_part w.labels (w.state.register callee.0)) info error type_error_prototype not_a_function_message;
+      states = throws w (has_part w.labels (uncalled_part p (w.state.register callee.0))) info error type_error_prototype not_a_function_message;
       demands = no_demands;
     }
 -- the function is left, so no node of it is next

@@ -3,6 +3,7 @@ use Rattle.std.specs.Prelude.{◌≡◌, ◌⊎◌, ◌<◌, ◌↔◌, ℕ, Boo
 use Rattle.std.specs.Option.{option_and_then}
 use Rattle.std.specs.List.{list_any, AllByRecursion}
 use Rattle.ja_base.specs.declared.ids.Context.{Context}
+use Rattle.ja_base.specs.declared.ids.FnId.{FnId}
 use Rattle.ja_base.specs.declared.ids.NodeId.{NodeId}
 use Rattle.ja_base.specs.declared.ids.Place.{Place}
 use Rattle.ja_prim.specs.declared.primitive.Primitive.TheVariants as primitive
@@ -16,11 +17,13 @@ use Rattle.ja_machine.specs.declared.machine.Value.TheVariants as value
 use Rattle.ja_machine.specs.declared.machine.Frame.{Frame}
 use Rattle.ja_machine.specs.declared.machine.Conf.{Conf}
 use Rattle.ja_machine.specs.Frames.{register_of}
+use Rattle.ja_machine.specs.Calls.{function_called}
 use Rattle.ja_model.specs.declared.table.WarningKind.{WarningKind}
 use Rattle.ja_model.specs.declared.table.WarningKind.TheVariants.{NotAFunction, UnboundName}
 use Rattle.ja_model.specs.declared.table.Warning.{Warning}
 use Rattle.ja_model.specs.AbstractValue.{has_part}
 use Rattle.ja_model.specs.AbstractState.{AbstractState, labels_of}
+use Rattle.ja_model.specs.Transfer.{called_labels, uncalled_part}
 use Rattle.ja_model.specs.Table.{Table}
 
 -- what may go wrong at a node
@@ -60,9 +63,9 @@ kind_of (node.Intrinsic dst which args) = None
 kind_of (node.Device dst which) = None
 kind_of (node.Stop kind) = None
 
--- the state allows it to go wrong: the callee has a part that can't be called (no part can yet), the base has null
+-- the state allows it to go wrong: the callee has a part that can't be called, the base has null
 abbrev pub allows_fault : Program → AbstractState → Node → Bool
-allows_fault p a (node.Call dst callee receiver args error) = has_part (labels_of p) (a.register callee.0)
+allows_fault p a (node.Call dst callee receiver args error) = has_part (labels_of p) (uncalled_part p (a.register callee.0))
 allows_fault p a (node.ReadRef dst base name error) = (a.register base.0).flags.null
 allows_fault p a (node.Const dst prim) = false
 allows_fault p a (node.Move dst src) = false
@@ -99,6 +102,7 @@ allows_fault p a (node.Stop kind) = false
 
 -- the state allows anything else: the callee has a label that can be called, the base has a label
 abbrev pub allows_more : Program → AbstractState → Node → Bool
+allows_more p a (node.Call dst callee receiver args error) = list_any (called_labels p (a.register callee.0)) (labels_of p)
 allows_more p a (node.ReadRef dst base name error) = list_any (a.register base.0).label (labels_of p)
 allows_more p a (node.Const dst prim) = false
 allows_more p a (node.Move dst src) = false
@@ -123,7 +127,6 @@ allows_more p a (node.Convert dst src hint other) = false
 allows_more p a (node.Unary dst op src) = false
 allows_more p a (node.Binary dst op left right) = false
 allows_more p a (node.Branch src) = false
-allows_more p a (node.Call dst callee receiver args error) = false
 allows_more p a (node.New dst callee args site error) = false
 allows_more p a (node.Names list object) = false
 allows_more p a (node.Pick list dst object) = false
@@ -174,50 +177,55 @@ pub record AreWarnings (p : Program) (t : Table) (ws : List Warning) : Type 0 wh
 
 -- ---- in the machine
 
--- what goes wrong at the next step: the callee is no function (none is yet), the base of a name is null
 abbrev pub is_null : Value → Bool
 is_null (value.Primitive primitive.Null) = true
 is_null v = false
 
-abbrev pub fault_at : Frame → NodeInfo → Node → Option (WarningKind × Place)
-fault_at f info (node.Call dst callee receiver args error) = Some (NotAFunction, info.place)
-fault_at f info (node.ReadRef dst base name error) = if is_null (register_of f base) then Some (UnboundName, info.place) else None
-fault_at f info (node.Const dst prim) = None
-fault_at f info (node.Move dst src) = None
-fault_at f info (node.FindName dst name) = None
-fault_at f info (node.ReadSoft dst base name) = None
-fault_at f info (node.WriteRef base name src) = None
-fault_at f info (node.DeleteRef dst base name) = None
-fault_at f info (node.ToObject dst src sites error) = None
-fault_at f info (node.NeedObject src error) = None
-fault_at f info (node.ReadProp dst object key) = None
-fault_at f info (node.WriteProp object key src error) = None
-fault_at f info (node.DeleteProp dst object key) = None
-fault_at f info (node.HasProp dst object key) = None
-fault_at f info (node.InstanceOf dst left right not_function not_object) = None
-fault_at f info (node.NewObject dst site kind) = None
-fault_at f info (node.MakeFunction dst function site proto_site) = None
-fault_at f info (node.Enter site arguments) = None
-fault_at f info (node.Declare name) = None
-fault_at f info (node.Bind name src read_only) = None
-fault_at f info (node.PushScope site) = None
-fault_at f info (node.Convert dst src hint other) = None
-fault_at f info (node.Unary dst op src) = None
-fault_at f info (node.Binary dst op a b) = None
-fault_at f info (node.Branch src) = None
-fault_at f info (node.New dst callee args site error) = None
-fault_at f info (node.Names list object) = None
-fault_at f info (node.Pick list dst object) = None
-fault_at f info (node.Throw src) = None
-fault_at f info (node.Return src) = None
-fault_at f info node.Escape = None
-fault_at f info (node.Intrinsic dst which args) = None
-fault_at f info (node.Device dst which) = None
-fault_at f info (node.Stop kind) = None
+-- a call of what is no function
+abbrev pub call_fault : Place → Option FnId → Option (WarningKind × Place)
+call_fault place None = Some (NotAFunction, place)
+call_fault place (Some function) = None
+
+-- what goes wrong at the next step: the callee is no function, the base of a name is null
+abbrev pub fault_at : Program → Frame → NodeInfo → Node → Option (WarningKind × Place)
+fault_at p f info (node.Call dst callee receiver args error) = call_fault info.place (function_called p (register_of f callee))
+fault_at p f info (node.ReadRef dst base name error) = if is_null (register_of f base) then Some (UnboundName, info.place) else None
+fault_at p f info (node.Const dst prim) = None
+fault_at p f info (node.Move dst src) = None
+fault_at p f info (node.FindName dst name) = None
+fault_at p f info (node.ReadSoft dst base name) = None
+fault_at p f info (node.WriteRef base name src) = None
+fault_at p f info (node.DeleteRef dst base name) = None
+fault_at p f info (node.ToObject dst src sites error) = None
+fault_at p f info (node.NeedObject src error) = None
+fault_at p f info (node.ReadProp dst object key) = None
+fault_at p f info (node.WriteProp object key src error) = None
+fault_at p f info (node.DeleteProp dst object key) = None
+fault_at p f info (node.HasProp dst object key) = None
+fault_at p f info (node.InstanceOf dst left right not_function not_object) = None
+fault_at p f info (node.NewObject dst site kind) = None
+fault_at p f info (node.MakeFunction dst function site proto_site) = None
+fault_at p f info (node.Enter site arguments) = None
+fault_at p f info (node.Declare name) = None
+fault_at p f info (node.Bind name src read_only) = None
+fault_at p f info (node.PushScope site) = None
+fault_at p f info (node.Convert dst src hint other) = None
+fault_at p f info (node.Unary dst op src) = None
+fault_at p f info (node.Binary dst op a b) = None
+fault_at p f info (node.Branch src) = None
+fault_at p f info (node.New dst callee args site error) = None
+fault_at p f info (node.Names list object) = None
+fault_at p f info (node.Pick list dst object) = None
+fault_at p f info (node.Throw src) = None
+fault_at p f info (node.Return src) = None
+fault_at p f info node.Escape = None
+fault_at p f info (node.Intrinsic dst which args) = None
+fault_at p f info (node.Device dst which) = None
+fault_at p f info (node.Stop kind) = None
 
 abbrev pub fault_of_frames : Program → List Frame → Option (WarningKind × Place)
 fault_of_frames p [] = None
-fault_of_frames p (f ∷ below) = option_and_then (λ (info : NodeInfo). fault_at f info info.node) (node_at p f.function f.node)
+fault_of_frames p (f ∷ below) = option_and_then (λ (info : NodeInfo). fault_at p f info info.node) (node_at p f.function f.node)
 
 abbrev pub fault_of : Program → Conf → Option (WarningKind × Place)
 fault_of p c = fault_of_frames p c.frames

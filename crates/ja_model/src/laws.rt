@@ -1,4 +1,4 @@
-//! What a closed table says of every run of a program in which nothing can be called, and what goes wrong in one.
+//! What a closed table says of every run of a program whose text calls no function, and what goes wrong in one.
 
 ghost use Rattle.std.specs.Prelude.{List};
 ghost use Rattle.ja_graph.specs.declared.program.Program.{Program};

@@ -27,7 +27,7 @@ use Rattle.ja_model.specs.declared.abstraction.Key.TheVariants as key
 use Rattle.ja_model.specs.AbstractValue.{Labels, AbstractValue, AbstractProperty, of_primitive, has_part}
 use Rattle.ja_model.specs.AbstractState.{AbstractState, same_key, is_key, with_register, with_property}
 use Rattle.ja_model.specs.Reading.{Demands, Entries, View, some_label, found, may_refuse, may_accept, demands_of, prototype, outer, asked, searched, may_lack, may_be_absent, demands_of_walk, demands_of_search}
-use Rattle.ja_model.specs.Transfer.{Out, gives, sets, throws, with_error, put_at, weak_put, weakly_written, written, strong_put, written_labels, read_value, demands_of_read, transfer, transfer_node, view_of}
+use Rattle.ja_model.specs.Transfer.{Out, gives, sets, throws, with_error, put_at, weak_put, weakly_written, written, strong_put, written_labels, uncalled_part, read_value, demands_of_read, transfer, transfer_node, view_of}
 use Rattle.ja_model.specs.Table.{demanded, opened_entries}
 use Rattle.ja_model.proofs.Keys.{same_key-true}
 use Rattle.ja_model.proofs.Labels.{among_some}
@@ -176,7 +176,7 @@ node_states p count w info (ReadRef dst base name error) h k =
 node_states p count w info (WriteRef base name src) h k =
     below-put_at count w (written_labels (w.state.register base.0)) (key.Name name) (w.state.register src.0) info.next (filter (written_labels (w.state.register base.0)) w.labels) h
 node_states p count w info (Call dst callee receiver args error) h k =
-    below-throws count w (has_part w.labels (w.state.register callee.0)) info error type_error_prototype not_a_function_message k
+    below-throws count w (has_part w.labels (uncalled_part p (w.state.register callee.0))) info error type_error_prototype not_a_function_message k
 node_states p count w info node h k = tt
 
 given_below : (count : ℕ) (given : List (NodeId × AState)) → Below count (map given_by given) → AllByRecursion (λ (s : NodeId × AState). s.0.0 < count) given

@@ -15,6 +15,7 @@ ghost use Rattle.ja_rules.specs.declared.faults.Operation.{Operation};
 ghost use Rattle.ja_rules.specs.Faults.{AreInOrder, operation_of, comes_before, merged, with_operation, with_found, operations_below, warnings_of};
 
 use crate::ATable;
+use crate::callee::callee_of;
 use ja_base::{Memory, Place, Seq};
 use ja_graph::{Node, NodeInfo, Program};
 use ja_model::{Warning, WarningKind, warned_of_faults};
@@ -77,21 +78,31 @@ fn comes_before(a: &Warning, b: &Warning) -> bool
 }
 
 // What may go wrong at a node, from a state at it.
-fn operation_of(program: &Program, info: &NodeInfo, state: &AState) -> Option<Operation>
+fn operation_of(
+    alloc: Global,
+    program: &Program,
+    info: &NodeInfo,
+    state: &AState,
+) -> Result<Option<Operation>, Memory>
     requires info { (fn : Function) × IsNodeWellFormed program.now fn info.now × (vec_len state.now.registers ≡ fn.registers) }
     requires sites { length program.now.sites < 2 ^ 32 }
-    ensures { result ≡ operation_of program.now (state_of state.now) info.now }
+    ensures { IfOk result (λ o. o ≡ operation_of program.now (state_of state.now) info.now) }
 {
     let sites = program.sites.len() as u32;
     match &info.node {
         Node::Call { callee, .. } => {
-            let fault = state.register(*callee).has_part(sites);
-            Some(Operation::new(WarningKind::NotAFunction, info.place, fault, false))
+            let callee = callee_of(alloc, program, state.register(*callee), sites)?;
+            Ok(Some(Operation::new(
+                WarningKind::NotAFunction,
+                info.place,
+                callee.is_other,
+                callee.is_called,
+            )))
         }
         Node::ReadRef { base, .. } => {
             let base = state.register(*base);
             let more = base.labels.has_below(sites);
-            Some(Operation::new(WarningKind::UnboundName, info.place, base.flags.null, more))
+            Ok(Some(Operation::new(WarningKind::UnboundName, info.place, base.flags.null, more)))
         }
         // Nothing goes wrong at the others.
         Node::Const { .. }
@@ -125,7 +136,7 @@ fn operation_of(program: &Program, info: &NodeInfo, state: &AState) -> Option<Op
         | Node::Escape
         | Node::Intrinsic { .. }
         | Node::Device { .. }
-        | Node::Stop { .. } => None,
+        | Node::Stop { .. } => Ok(None),
     }
 }
 
@@ -161,6 +172,7 @@ fn add(found: &mut Vec<Operation>, more: Operation) -> Result<(), Memory>
 
 // Adds the operation of a node, if it has one and the table has a state there.
 fn add_node(
+    alloc: Global,
     program: &Program,
     info: &NodeInfo,
     state: &Option<AState>,
@@ -174,7 +186,7 @@ fn add_node(
     let Some(state) = state else {
         return Ok(());
     };
-    let Some(more) = operation_of(program, info, state) else {
+    let Some(more) = operation_of(alloc, program, info, state)? else {
         return Ok(());
     };
     add(found, more)?;
@@ -198,7 +210,7 @@ fn operations(alloc: Global, program: &Program, table: &ATable) -> Result<Vec<Op
     let nodes = nodes(program);
     let mut found = Vec::new(alloc);
     'nodes: for n in 0..nodes.len() {
-        add_node(program, &nodes[n], &table.states[n], &mut found)?;
+        add_node(alloc, program, &nodes[n], &table.states[n], &mut found)?;
     }
     Ok(found)
 }

@@ -3,6 +3,7 @@
 #![tactic(auto)]
 
 mod alternative;
+mod callee;
 mod demands;
 mod faults;
 mod put;

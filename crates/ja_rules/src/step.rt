@@ -9,7 +9,7 @@ ghost use Rattle.ja_model.specs.declared.abstraction.Key.TheVariants as key;
 ghost use Rattle.ja_model.specs.AbstractValue.{of_primitive, has_part};
 ghost use Rattle.ja_model.specs.AbstractState.{with_register};
 ghost use Rattle.ja_model.specs.Reading.{found, demands_of_search};
-ghost use Rattle.ja_model.specs.Transfer.{transfer, transfer_node, nowhere, gives, sets, throws, put, no_demands, read_value, demands_of_read, written_labels};
+ghost use Rattle.ja_model.specs.Transfer.{transfer, transfer_node, nowhere, gives, sets, throws, put, no_demands, read_value, demands_of_read, written_labels, uncalled_part};
 ghost use Rattle.ja_state.specs.declared.state.AState.{AState};
 ghost use Rattle.ja_state.specs.State.{state_of, entries_of};
 ghost use Rattle.ja_value.specs.Value.{labels_in};
@@ -17,6 +17,7 @@ ghost use Rattle.ja_rules.specs.Readings.{out_of, view_of};
 ghost use Rattle.ja_rules.specs.Outcomes.{IsOutcome};
 
 use crate::alternative::{not_a_function_message, outcome, unbound_message};
+use crate::callee::callee_of;
 use crate::{DemandList, Reader};
 use ja_base::{Memory, NameId, NodeId, Reg, Site};
 use ja_graph::{Node, NodeInfo, Program, REFERENCE_ERROR_PROTOTYPE, SCOPE, TYPE_ERROR_PROTOTYPE};
@@ -73,7 +74,7 @@ impl Reader<'_> {
                 error,
             } => self.read_name(program, info, *dst, *base, *name, *error),
             Node::WriteRef { base, name, src } => self.write_name(*base, *name, *src, info.next),
-            Node::Call { callee, error, .. } => self.call(info, *callee, *error),
+            Node::Call { callee, error, .. } => self.call(program, info, *callee, *error),
             Node::Return { .. } | Node::Escape => self.nowhere(),
             // The kinds that aren't built.
             Node::Move { .. }
@@ -191,13 +192,19 @@ impl Reader<'_> {
     }
 
     /// What can't be called throws.
-    fn call(&self, info: &NodeInfo, callee: Reg, error: Site) -> Result<Outcome, Memory>
+    fn call(
+        &self,
+        program: &Program,
+        info: &NodeInfo,
+        callee: Reg,
+        error: Site,
+    ) -> Result<Outcome, Memory>
         requires { callee.0 < vec_len self.now.state.now.registers }
-        ensures { IfOk result (IsOutcome (vec_len self.now.state.now.registers) (let w = view_of self.now in record { states = throws w (has_part w.labels (w.state.register callee.0)) info.now error type_error_prototype not_a_function_message; demands = no_demands })) }
+        ensures { IfOk result (IsOutcome (vec_len self.now.state.now.registers) (let w = view_of self.now in record { states = throws w (has_part w.labels (uncalled_part program.now (w.state.register callee.0))) info.now error type_error_prototype not_a_function_message; demands = no_demands })) }
     {
-        let is_called = self.state.register(callee).has_part(self.sites);
+        let callee = callee_of(self.alloc, program, self.state.register(callee), self.sites)?;
         let message = not_a_function_message(self.alloc)?;
-        let thrown = self.throws(is_called, info, error, TYPE_ERROR_PROTOTYPE, message)?;
+        let thrown = self.throws(callee.is_other, info, error, TYPE_ERROR_PROTOTYPE, message)?;
         let outcome = outcome(self.alloc, thrown, None, DemandList::new(self.alloc))?;
         Ok(outcome)
     }
