@@ -1,7 +1,8 @@
 -- Functions of which what is listed is in range are well formed.
-use Rattle.std.proofs.Common.{◌≡◌, ℕ, zero, suc, ◌+◌, ◌-◌, ◌<◌, ◌≤◌, Bool, false, List, [], ◌∷◌, ◌++◌, length, map, Some, refl, sym, ap, ◌∙◌, subst, arith}
+use Rattle.std.proofs.Common.{◌≡◌, ℕ, zero, suc, ◌+◌, ◌-◌, ◌<◌, ◌≤◌, Bool, true, false, List, [], ◌∷◌, ◌++◌, length, map, Some, refl, sym, ap, ◌∙◌, subst, arith}
 use Rattle.std.specs.List.{AllByRecursion, slice_get, flat_map}
 use Rattle.std.specs.Option.{option_to_list}
+use Rattle.std.proofs.lemmas.List.{length-map}
 use Rattle.ja_base.specs.declared.ids.FnId.{FnId}
 use Rattle.ja_base.specs.declared.ids.NameId.{NameId}
 use Rattle.ja_base.specs.declared.ids.Reg.{Reg}
@@ -11,7 +12,7 @@ use Rattle.ja_graph.specs.declared.node.Node.TheVariants as node
 use Rattle.ja_graph.specs.declared.node.NodeInfo.{NodeInfo}
 use Rattle.ja_graph.specs.declared.program.Function.{Function}
 use Rattle.ja_graph.specs.declared.program.Program.{Program}
-use Rattle.ja_graph.specs.Node.{register_set, registers_named, registers_in, function_in}
+use Rattle.ja_graph.specs.Node.{register_set, registers_named, registers_in, name_in, function_in}
 use Rattle.ja_graph.specs.Parts.{LastIsEscape}
 use Rattle.ja_graph.specs.Renaming.{renamed}
 use Rattle.ja_graph.specs.WellFormed.{IsRegister, IsDestination, IsName, IsFunction, IsAllowed, IsNodeWellFormed, IsFunctionWellFormed}
@@ -26,7 +27,7 @@ use Rattle.ja_ranges.specs.InRange.{Limits, IsInRange, IsOfTexts, AllInRange}
 use Rattle.ja_ranges.proofs.CopyRanges.{assembled_keeps}
 use Rattle.ja_ranges.specs.InRange.{IsDestination as IsDestinationWithin}
 use Rattle.ja_lower.specs.declared.body.Body.{Body}
-use Rattle.ja_lower.specs.Lowering.{shifting, site_count, numbered, sites_in, registers_of, function_of, functions_of}
+use Rattle.ja_lower.specs.Lowering.{AreAllowed, shifting, site_count, numbered, sites_in, registers_of, function_of, functions_of, at_path, at_paths}
 use Rattle.ja_lower.proofs.NumberingLemmas.{sets_kept, named_kept, name_kept, function_kept, IsSited}
 use Rattle.ja_lower.proofs.SiteLemmas.{MakesFunctions, length-numbered}
 
@@ -79,14 +80,23 @@ registers_each parameters infos n info is =
 -- ---- nodes
 
 -- a node of texts is allowed in any function
-is_allowed : (p : Program) (fn : Function) (first : ℕ) (n : Node) → IsOfTexts n → IsAllowed p fn (renamed (shifting first) n)
+pub texts_allowed : (p : Program) (fn : Function) (n : Node) → IsOfTexts n → IsAllowed p fn n
+texts_allowed p fn (node.Call dst callee receiver (args.Registers list) error) of_texts = tt
+texts_allowed p fn (node.Call dst callee receiver (args.Elements array) error) of_texts = tt
+texts_allowed p fn (node.Call dst callee receiver args.Tail error) of_texts = absurd of_texts
+texts_allowed p fn (node.Intrinsic dst which list) of_texts = absurd of_texts
+texts_allowed p fn (node.Device dst which) of_texts = absurd of_texts
+texts_allowed p fn n of_texts = tt
+
+-- a node that is allowed still is with its sites numbered
+allowed_kept : (p : Program) (body : Body) (first from : ℕ) (n : Node) → IsAllowed p (function_of 0 body) n → IsAllowed p (function_of first body) (renamed (shifting from) n)
 unfolding renamed
-is_allowed p fn first (node.Call dst callee receiver (args.Registers list) error) of_texts = tt
-is_allowed p fn first (node.Call dst callee receiver (args.Elements array) error) of_texts = tt
-is_allowed p fn first (node.Call dst callee receiver args.Tail error) of_texts = absurd of_texts
-is_allowed p fn first (node.Intrinsic dst which list) of_texts = absurd of_texts
-is_allowed p fn first (node.Device dst which) of_texts = absurd of_texts
-is_allowed p fn first n of_texts = tt
+allowed_kept p body first from (node.Call dst callee receiver (args.Registers list) error) allowed = tt
+allowed_kept p body first from (node.Call dst callee receiver (args.Elements array) error) allowed = tt
+allowed_kept p body first from (node.Call dst callee receiver args.Tail error) allowed = allowed
+allowed_kept p body first from (node.Intrinsic dst which list) allowed = allowed ∙ ap Some (sym (length-map list (λ (r : Reg). r)))
+allowed_kept p body first from (node.Device dst which) allowed = allowed
+allowed_kept p body first from n allowed = tt
 
 -- Escape stays
 escape_kept : (first : ℕ) (n : Node) → n ≡ node.Escape → renamed (shifting first) n ≡ node.Escape
@@ -126,13 +136,45 @@ pub record IsListed (specials : Bool) (names functions : ℕ) (body : Body) : Ty
   pub ends : EndsWithEscape listing
   pub parameters : AllByRecursion (λ (n : NameId). n.0 < names) body.parameters
 
-module _ (p : Program) (functions first : ℕ) (body : Body) (some : functions < length p.functions) (listed : IsListed false (length p.names) functions body) where
+-- the nodes of a body are in range
+listed_in_range : (specials : Bool) (names functions : ℕ) (body : Body) → IsListed specials names functions body → AllByRecursion (λ (info : NodeInfo). IsInRange (limits_within specials names functions body) info.node) body.nodes
+listed_in_range specials names functions body listed =
+    let limits = limits_within specials names functions body in
+    subst (AllByRecursion (λ (info : NodeInfo). IsInRange limits info.node)) (sym listed.nodes) (assembled_keeps (IsInRange limits) listed.listing listed.in_range)
+
+-- A body that may stand in a program: its names and functions are among those of the program, and each of its nodes is allowed.
+pub record FitsIn (p : Program) (body : Body) : Type 0 where
+  pub specials : Bool
+  pub names : ℕ
+  pub functions : ℕ
+  pub listed : IsListed specials names functions body
+  pub few_names : names ≤ length p.names
+  pub few_functions : functions < length p.functions
+  pub allowed : AllByRecursion (λ (info : NodeInfo). IsAllowed p (function_of 0 body) info.node) body.nodes
+
+-- the body of a text does
+pub text_fits : (p : Program) (names functions : ℕ) (body : Body) → names ≤ length p.names → functions < length p.functions → IsListed false names functions body → FitsIn p body
+text_fits p names functions body few_names few_functions listed =
+    let limits = limits_within false names functions body in
+    record {
+      specials = false;
+      names = names;
+      functions = functions;
+      listed = listed;
+      few_names = few_names;
+      few_functions = few_functions;
+      allowed = all-from (λ (info : NodeInfo). IsInRange limits info.node) (λ (info : NodeInfo). IsAllowed p (function_of 0 body) info.node) body.nodes (λ info range. texts_allowed p (function_of 0 body) info.node (range.of_texts refl)) (listed_in_range false names functions body listed);
+    }
+
+module _ (p : Program) (first : ℕ) (body : Body) (fits : FitsIn p body) where
   abbrev limits : Limits
-  limits = limits_within false (length p.names) functions body
+  limits = limits_within fits.specials fits.names fits.functions body
+
+  abbrev listed : IsListed fits.specials fits.names fits.functions body
+  listed = fits.listed
 
   nodes_in_range : AllByRecursion (λ (info : NodeInfo). IsInRange limits info.node) body.nodes
-  nodes_in_range =
-      subst (AllByRecursion (λ (info : NodeInfo). IsInRange limits info.node)) (sym listed.nodes) (assembled_keeps (IsInRange limits) listed.listing listed.in_range)
+  nodes_in_range = listed_in_range fits.specials fits.names fits.functions body listed
 
   edges : EdgesLeadInside body.nodes
   edges = subst EdgesLeadInside (sym listed.nodes) (assembled_inside listed.listing listed.ends listed.copies)
@@ -152,9 +194,9 @@ module _ (p : Program) (functions first : ℕ) (body : Body) (some : functions <
       record {
         sets = subst (λ o. AllByRecursion (IsDestination fn) (option_to_list o)) (sym (sets_kept from old.node)) (all-both (IsRegister fn) (IsDestinationWithin limits) (IsDestination fn) (option_to_list (register_set old.node)) (λ r low destination. (low, destination)) set range.sets);
         names_registers = subst (AllByRecursion (IsRegister fn)) (sym (named_kept from old.node)) named;
-        name = subst (λ o. AllByRecursion (IsName p) (option_to_list o)) (sym (name_kept from old.node)) range.name;
-        function = subst (λ o. AllByRecursion (IsFunction p) (option_to_list o)) (sym (function_kept from old.node)) (all-from (λ (f : FnId). f.0 ≤ functions) (IsFunction p) (option_to_list (function_in old.node)) (λ f low. omega arith) range.function);
-        allowed = is_allowed p fn from old.node (range.of_texts refl);
+        name = subst (λ o. AllByRecursion (IsName p) (option_to_list o)) (sym (name_kept from old.node)) (all-from (λ (n : NameId). n.0 < fits.names) (IsName p) (option_to_list (name_in old.node)) (λ n low. omega (arith, fits.few_names)) range.name);
+        function = subst (λ o. AllByRecursion (IsFunction p) (option_to_list o)) (sym (function_kept from old.node)) (all-from (λ (f : FnId). f.0 ≤ fits.functions) (IsFunction p) (option_to_list (function_in old.node)) (λ f low. omega (arith, fits.few_functions)) range.function);
+        allowed = allowed_kept p body first from old.node (all-at (λ (info : NodeInfo). IsAllowed p (function_of 0 body) info.node) body.nodes n old fits.allowed is);
         next = omega (arith, inside.next, count);
         other = omega (arith, inside.other, count);
         handler = omega (arith, inside.handler, count);
@@ -172,7 +214,7 @@ module _ (p : Program) (functions first : ℕ) (body : Body) (some : functions <
         escape = escape_kept at_end.0 end.last.node end.escape;
         registers = registers_first (length body.parameters) body.nodes;
         few_registers = few;
-        parameters = listed.parameters;
+        parameters = all-from (λ (n : NameId). n.0 < fits.names) (IsName p) body.parameters (λ n low. omega (arith, fits.few_names)) listed.parameters;
         each = λ n info is.
             let from = get-numbered first body.nodes n info is in
             subst (IsNodeWellFormed p fn) from.3 (node_well_formed n from.0 from.1 from.2);
@@ -192,21 +234,59 @@ get-functions first [] f fn is = absurd (cc)
 get-functions first (body ∷ bodies) zero fn is = let same : function_of first body ≡ fn = cc in (first, body, refl, same)
 get-functions first (body ∷ bodies) (suc f) fn is = get-functions (first + sites_in body.nodes) bodies f fn is
 
-pub functions_well_formed : (p : Program) (functions first : ℕ) (bodies : List Body) → functions < length p.functions → AllByRecursion (IsListed false (length p.names) functions) bodies → p.functions ≡ functions_of first bodies → (f : ℕ) (fn : Function) → slice_get p.functions f ≡ Some fn → fn.registers ≤ 262144 → IsFunctionWellFormed p fn
-functions_well_formed p functions first bodies some listed are f fn is few =
+pub functions_well_formed : (p : Program) (first : ℕ) (bodies : List Body) → AllByRecursion (FitsIn p) bodies → p.functions ≡ functions_of first bodies → (f : ℕ) (fn : Function) → slice_get p.functions f ≡ Some fn → fn.registers ≤ 262144 → IsFunctionWellFormed p fn
+functions_well_formed p first bodies fit are f fn is few =
     let from = get-functions first bodies f fn (ap (λ fs. slice_get fs f) (sym are) ∙ is) in
-    let good = all-at (IsListed false (length p.names) functions) bodies f from.1 listed from.2 in
+    let fits = all-at (FitsIn p) bodies f from.1 fit from.2 in
     let low : registers_of (length from.1.parameters) from.1.nodes ≤ 262144 = subst (λ (g : Function). g.registers ≤ 262144) (sym from.3) few in
-    subst (IsFunctionWellFormed p) from.3 (function_well_formed p functions from.0 from.1 some good low)
+    subst (IsFunctionWellFormed p) from.3 (function_well_formed p from.0 from.1 fits low)
 
 -- the functions that the nodes of a body make objects of are those of a program with more functions
 pub listed_named : (p : Program) (specials : Bool) (names functions : ℕ) (body : Body) → functions < length p.functions → IsListed specials names functions body → AllByRecursion (MakesFunctions p) body.nodes
 listed_named p specials names functions body some listed =
-    let limits = limits_within specials names functions body in
-    subst (AllByRecursion (MakesFunctions p)) (sym listed.nodes) (all-from (λ (info : NodeInfo). IsInRange limits info.node) (MakesFunctions p) (assembled listed.listing) (λ info range. all-from (λ (f : FnId). f.0 ≤ functions) (IsFunction p) (option_to_list (function_in info.node)) (λ f low. omega arith) range.function) (assembled_keeps (IsInRange limits) listed.listing listed.in_range))
+    all-from (λ (info : NodeInfo). IsInRange (limits_within specials names functions body) info.node) (MakesFunctions p) body.nodes (λ info range. all-from (λ (f : FnId). f.0 ≤ functions) (IsFunction p) (option_to_list (function_in info.node)) (λ f low. omega arith) range.function) (listed_in_range specials names functions body listed)
 
 -- the sites of the nodes of a body are its own
 pub listed_sited : (specials : Bool) (names functions : ℕ) (body : Body) → IsListed specials names functions body → AllByRecursion IsSited body.nodes
 listed_sited specials names functions body listed =
-    let limits = limits_within specials names functions body in
-    subst (AllByRecursion IsSited) (sym listed.nodes) (all-from (λ (info : NodeInfo). IsInRange limits info.node) IsSited (assembled listed.listing) (λ info range. range.sites) (assembled_keeps (IsInRange limits) listed.listing listed.in_range))
+    all-from (λ (info : NodeInfo). IsInRange (limits_within specials names functions body) info.node) IsSited body.nodes (λ info range. range.sites) (listed_in_range specials names functions body listed)
+
+-- ---- bodies by their paths
+
+-- a path changes the name alone
+pub path_listed : (specials : Bool) (names functions : ℕ) (path : List ℕ) (body : Body) → IsListed specials names functions body → IsListed specials names functions (at_path path body)
+path_listed specials names functions path body listed =
+    record { listing = listed.listing; nodes = listed.nodes; in_range = listed.in_range; copies = listed.copies; ends = listed.ends; parameters = listed.parameters }
+
+pub paths_listed : (specials : Bool) (names functions : ℕ) (paths : List (List ℕ)) (bodies : List Body) → AllByRecursion (IsListed specials names functions) bodies → AllByRecursion (IsListed specials names functions) (at_paths paths bodies)
+paths_listed specials names functions [] bodies each = tt
+paths_listed specials names functions (path ∷ paths) [] each = tt
+paths_listed specials names functions (path ∷ paths) (body ∷ bodies) each =
+    (path_listed specials names functions path body each.0, paths_listed specials names functions paths bodies each.1)
+
+-- built-in functions fit in a program that allows their nodes
+prelude_fits : (p : Program) (names functions : ℕ) (path : List ℕ) (body : Body) → names ≤ length p.names → functions < length p.functions → IsListed true names functions body → AllByRecursion (λ (info : NodeInfo). (q : Program) → IsAllowed q (function_of 0 body) info.node) body.nodes → FitsIn p (at_path path body)
+prelude_fits p names functions path body few_names few_functions listed allowed = record {
+  specials = true;
+  names = names;
+  functions = functions;
+  listed = path_listed true names functions path body listed;
+  few_names = few_names;
+  few_functions = few_functions;
+  allowed = all-from (λ (info : NodeInfo). (q : Program) → IsAllowed q (function_of 0 body) info.node) (λ (info : NodeInfo). IsAllowed p (function_of 0 (at_path path body)) info.node) body.nodes (λ info any. same_parameters p path body info.node (any p)) allowed;
+}
+  where
+    -- what is allowed is so by the parameters alone
+    same_parameters : (p : Program) (path : List ℕ) (body : Body) (n : Node) → IsAllowed p (function_of 0 body) n → IsAllowed p (function_of 0 (at_path path body)) n
+    same_parameters p path body (node.Call dst callee receiver (args.Registers list) error) h = tt
+    same_parameters p path body (node.Call dst callee receiver (args.Elements array) error) h = tt
+    same_parameters p path body (node.Call dst callee receiver args.Tail error) h = h
+    same_parameters p path body (node.Intrinsic dst which list) h = h
+    same_parameters p path body (node.Device dst which) h = h
+    same_parameters p path body n h = tt
+
+pub preludes_fit : (p : Program) (names functions : ℕ) (paths : List (List ℕ)) (bodies : List Body) → names ≤ length p.names → functions < length p.functions → AllByRecursion (IsListed true names functions) bodies → AreAllowed bodies → AllByRecursion (FitsIn p) (at_paths paths bodies)
+preludes_fit p names functions [] bodies few_names few_functions each allowed = tt
+preludes_fit p names functions (path ∷ paths) [] few_names few_functions each allowed = tt
+preludes_fit p names functions (path ∷ paths) (body ∷ bodies) few_names few_functions each allowed =
+    (prelude_fits p names functions path body few_names few_functions each.0 allowed.0, preludes_fit p names functions paths bodies few_names few_functions each.1 allowed.1)

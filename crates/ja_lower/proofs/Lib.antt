@@ -7,3 +7,4 @@ pub mod Listed
 pub mod Shifts
 pub mod Sizes
 pub mod Wholes
+pub mod Joined

@@ -1,14 +1,20 @@
 -- What is too large to be lowered.
-use Rattle.std.proofs.Common.{◌≤◌, ℕ, List}
+use Rattle.std.proofs.Common.{◌≤◌, ℕ}
 use Rattle.ja_lower.specs.declared.fault.LowerFault.{LowerFault}
 use Rattle.ja_lower.specs.declared.fault.LowerFault.TheVariants.{Functions, Nodes, Names, Memory}
-use Rattle.ja_lower.specs.Limits.{function_count, ExplainsSize}
-use Rattle.ja_lower.specs.Room.{Exceeds}
-use Rattle.ja_syntax.specs.declared.tree.Statement.{Statement}
+use Rattle.ja_lower.specs.Limits.{ExplainsSize}
+use Rattle.ja_lower.specs.Room.{Exceeds, HasTooMany}
 
 -- what a fault says of the nodes, where the functions are within their limit
-pub exceeds_explains : (size names : ℕ) (statements : List Statement) (e : LowerFault) → function_count statements ≤ 4096 → Exceeds 65536 size e → ExplainsSize size names statements e
-exceeds_explains size names statements Functions h x = absurd x
-exceeds_explains size names statements Nodes h x = (h, x)
-exceeds_explains size names statements Names h x = absurd x
-exceeds_explains size names statements Memory h x = tt
+pub exceeds_explains : (functions size names : ℕ) (e : LowerFault) → functions ≤ 4096 → Exceeds 65536 size e → ExplainsSize functions size names e
+exceeds_explains functions size names Functions h x = absurd x
+exceeds_explains functions size names Nodes h x = (h, x)
+exceeds_explains functions size names Names h x = absurd x
+exceeds_explains functions size names Memory h x = tt
+
+-- what it says of the names, where the functions and the nodes are
+pub too_many_explain : (functions size names : ℕ) (e : LowerFault) → functions ≤ 4096 → size ≤ 65536 → HasTooMany names e → ExplainsSize functions size names e
+too_many_explain functions size names Functions h k x = absurd x
+too_many_explain functions size names Nodes h k x = absurd x
+too_many_explain functions size names Names h k x = (h, k, x)
+too_many_explain functions size names Memory h k x = tt

@@ -1,5 +1,5 @@
--- What is lowered is well formed.
-use Rattle.std.proofs.Common.{◌≡◌, ℕ, suc, ◌*◌, ◌<◌, ◌≤◌, false, List, [], ◌∷◌, ◌++◌, length, map, Some, refl, sym, ap, ◌∙◌, subst, arith}
+-- What is lowered is well formed, a text with built-in functions behind its own.
+use Rattle.std.proofs.Common.{◌≡◌, ℕ, suc, ◌+◌, ◌*◌, ◌<◌, ◌≤◌, true, false, List, [], ◌∷◌, ◌++◌, length, map, Some, refl, sym, ap, ◌∙◌, subst, arith, length-append}
 use Rattle.std.specs.List.{AllByRecursion, flat_map, slice_get, range_with_len}
 use Rattle.std.proofs.lemmas.List.{length-map}
 use Rattle.ja_graph.specs.declared.program.Function.{Function}
@@ -19,19 +19,21 @@ use Rattle.ja_syntax.specs.declared.tree.FunctionOf.{FunctionOf}
 use Rattle.ja_syntax.specs.declared.tree.Name.{Name}
 use Rattle.ja_syntax.specs.declared.tree.Statement.{Statement}
 use Rattle.ja_lower.specs.declared.body.Body.{Body}
-use Rattle.ja_lower.specs.Limits.{size_of}
-use Rattle.ja_lower.specs.Lowering.{names_of, scene_of, function_body, bodies_of, lowered}
-use Rattle.ja_lower.proofs.NumberingLemmas.{AreSited, numbers_of_bodies}
+use Rattle.ja_lower.specs.declared.lowered.Lowered.{Lowered}
+use Rattle.ja_lower.specs.Limits.{function_count, prelude_count, size_of, prelude_size_of}
+use Rattle.ja_lower.specs.Lowering.{AreAllowed, names_of, scene_of, scene_with, function_body, bodies_of, functions_of, sites_of, prelude_names, prelude_bodies, at_paths, lowered, lowered_prelude, lowered_with_prelude}
+use Rattle.ja_lower.proofs.Joined.{functions_append, sites_append, size-append, length-at_paths, size-at_paths, first_names_stay}
+use Rattle.ja_lower.proofs.NumberingLemmas.{IsSited, AreSited, numbers_of_bodies}
 use Rattle.ja_lower.proofs.Scenes.{scene_has_its_text, parameters_named}
-use Rattle.ja_lower.proofs.SiteLemmas.{MakesFunctions, told_bodies, named_bodies, few_sites, few_nodes}
-use Rattle.ja_lower.proofs.FunctionLemmas.{all-from, IsListed, functions_well_formed, length-functions, listed_named, listed_sited}
+use Rattle.ja_lower.proofs.SiteLemmas.{MakesFunctions, all-append, told_bodies, named_bodies, few_sites, few_nodes}
+use Rattle.ja_lower.proofs.FunctionLemmas.{FitsIn, all-from, IsListed, functions_well_formed, length-functions, listed_named, listed_sited, paths_listed, preludes_fit, text_fits}
 
 -- ---- bodies
 
-abbrev IsListedIn : Scene → List (List ℕ) → Body → Type 0
-IsListedIn scene names body = IsListed scene.specials (length names) (length scene.functions) body
+abbrev IsListedIn : Scene → Body → Type 0
+IsListedIn scene body = IsListed scene.specials (length scene.names) (length scene.functions) body
 
-function_listed : (scene : Scene) (f : FunctionOf Statement) → HasFunction scene f → IsListedIn scene scene.names (function_body scene f)
+function_listed : (scene : Scene) (f : FunctionOf Statement) → HasFunction scene f → IsListedIn scene (function_body scene f)
 function_listed scene f has =
     let count : length f.parameters ≡ length (map (λ (p : Name). number scene.names p.text) f.parameters) = sym (length-map f.parameters (λ (p : Name). number scene.names p.text)) in
     let inside = all_second (HasPart scene) (if_any in_name f.name) (flat_map in_name f.parameters ++ flat_map in_statement f.body) has.1 in
@@ -44,11 +46,11 @@ function_listed scene f has =
       parameters = parameters_named scene f.parameters (all_first (HasPart scene) (flat_map in_name f.parameters) (flat_map in_statement f.body) inside);
     }
 
-functions_listed : (scene : Scene) (fs : List (FunctionOf Statement)) → AllByRecursion (HasFunction scene) fs → AllByRecursion (IsListedIn scene scene.names) (map (function_body scene) fs)
+functions_listed : (scene : Scene) (fs : List (FunctionOf Statement)) → AllByRecursion (HasFunction scene) fs → AllByRecursion (IsListedIn scene) (map (function_body scene) fs)
 functions_listed scene [] has = tt
 functions_listed scene (f ∷ fs) has = (function_listed scene f has.0, functions_listed scene fs has.1)
 
-bodies_listed : (scene : Scene) (statements : List Statement) → HasText scene statements → AllByRecursion (IsListedIn scene scene.names) (bodies_of scene statements)
+bodies_listed : (scene : Scene) (statements : List Statement) → HasText scene statements → AllByRecursion (IsListedIn scene) (bodies_of scene statements)
 unfolding bodies_of
 bodies_listed scene statements has = (
   record {
@@ -62,57 +64,161 @@ bodies_listed scene statements has = (
   functions_listed scene (functions_in statements) (functions_found scene statements has),
 )
 
-length-bodies : (scene : Scene) (statements : List Statement) → length (bodies_of scene statements) ≡ suc (length (functions_in statements))
-unfolding bodies_of
-length-bodies scene statements = ap suc (length-map (functions_in statements) (function_body scene))
+-- ---- the scenes of a text, and of built-in functions
 
-bodies_sited : (scene : Scene) (statements : List Statement) → HasText scene statements → AreSited (bodies_of scene statements)
-bodies_sited scene statements has =
-    all-from (IsListedIn scene scene.names) _ (bodies_of scene statements) (listed_sited scene.specials (length scene.names) (length scene.functions)) (bodies_listed scene statements has)
+module _ (names : List (List ℕ)) (statements : List Statement) where
+  abbrev text_scene : Scene
+  text_scene = scene_of (names_of false names statements) statements
 
--- ---- the whole
+  abbrev text_bodies : List Body
+  text_bodies = bodies_of text_scene statements
 
-abbrev scene_in : List (List ℕ) → List Statement → Scene
-scene_in names statements = scene_of (names_of false names statements) statements
+  text_listed : AllByRecursion (IsListedIn text_scene) text_bodies
+  text_listed = bodies_listed text_scene statements (scene_has_its_text false names statements)
 
-has_text : (names : List (List ℕ)) (statements : List Statement) → HasText (scene_in names statements) statements
-has_text names statements = scene_has_its_text false names statements
+  text_count : length text_bodies ≡ function_count statements
+  unfolding bodies_of
+  text_count = omega (arith, length-map (functions_in statements) (function_body text_scene))
 
-pub functions_are_well_formed : (names : List (List ℕ)) (first : ℕ) (statements : List Statement) (p : Program) (f : ℕ) (fn : Function) → p.functions ≡ (lowered names first statements).functions → p.names ≡ (lowered names first statements).names → slice_get p.functions f ≡ Some fn → fn.registers ≤ 262144 → IsFunctionWellFormed p fn
+  -- the program is one more than the functions of its text
+  text_functions : length text_scene.functions < length text_bodies
+  text_functions = omega (arith, text_count, length-map (functions_in statements) (λ (g : FunctionOf Statement). g.place))
+
+  abbrev prelude_scene : Scene
+  prelude_scene = scene_with true (prelude_names names statements) statements
+
+  abbrev own_bodies : List Body
+  own_bodies = prelude_bodies (prelude_names names statements) statements
+
+  own_listed : AllByRecursion (IsListedIn prelude_scene) own_bodies
+  unfolding prelude_bodies
+  own_listed = functions_listed prelude_scene (functions_in statements) (functions_found prelude_scene statements (scene_has_its_text true names statements))
+
+  own_count : length own_bodies ≡ prelude_count statements
+  unfolding prelude_bodies
+  own_count = length-map (functions_in statements) (function_body prelude_scene)
+
+  own_functions : length prelude_scene.functions ≡ prelude_count statements
+  own_functions = length-map (functions_in statements) (λ (g : FunctionOf Statement). g.place)
+
+-- ---- a text with built-in functions behind its own
+
+module _ (names paths : List (List ℕ)) (prelude : List Statement) (first : ℕ) (statements : List Statement) where
+  abbrev first_names : List (List ℕ)
+  first_names = prelude_names names prelude
+
+  abbrev text : List Body
+  text = text_bodies first_names statements
+
+  abbrev built_in : List Body
+  built_in = at_paths paths (own_bodies names prelude)
+
+  abbrev bodies : List Body
+  bodies = text ++ built_in
+
+  abbrev whole : Lowered
+  whole = lowered_with_prelude names paths prelude first statements
+
+  -- it has the functions and the sites of these bodies
+  whole_functions : whole.functions ≡ functions_of first bodies
+  unfolding lowered_with_prelude lowered lowered_prelude
+  whole_functions = sym (functions_append first 0 text built_in)
+
+  whole_sites : whole.sites ≡ sites_of 0 bodies
+  unfolding lowered_with_prelude lowered lowered_prelude
+  whole_sites =
+      let count : length (functions_of first text) ≡ 0 + length text = omega (arith, length-functions first text) in
+      ap (λ n. sites_of 0 text ++ sites_of n built_in) count ∙ sym (sites_append 0 text built_in)
+
+  whole_names : whole.names ≡ names_of false first_names statements
+  unfolding lowered_with_prelude lowered
+  whole_names = refl
+
+  all_sited : AreSited bodies
+  all_sited =
+      let AreOwn : Body → Type 0 = λ body. AllByRecursion IsSited body.nodes in
+      let texts = text_scene first_names statements in
+      let own = prelude_scene names prelude in
+      all-append AreOwn text built_in
+      (all-from (IsListedIn texts) AreOwn text (listed_sited texts.specials (length texts.names) (length texts.functions)) (text_listed first_names statements))
+      (all-from (IsListedIn own) AreOwn built_in (listed_sited own.specials (length own.names) (length own.functions)) (paths_listed own.specials (length own.names) (length own.functions) paths (own_bodies names prelude) (own_listed names prelude)))
+
+  count : length paths ≡ prelude_count prelude → length bodies ≡ function_count statements + prelude_count prelude
+  count path_each =
+      omega (arith, length-append text built_in, text_count first_names statements, length-at_paths paths (own_bodies names prelude) (path_each ∙ sym (own_count names prelude)), path_each)
+
+  module _ (p : Program) (path_each : length paths ≡ prelude_count prelude) (functions : p.functions ≡ whole.functions) where
+    count_in : length p.functions ≡ function_count statements + prelude_count prelude
+    count_in = ap length functions ∙ ap length whole_functions ∙ length-functions first bodies ∙ count path_each
+
+    many_for_text : length (text_scene first_names statements).functions < length p.functions
+    many_for_text = omega (arith, count_in, text_count first_names statements, text_functions first_names statements)
+
+    many_for_prelude : length (prelude_scene names prelude).functions < length p.functions
+    many_for_prelude = omega (arith, count_in, own_functions names prelude)
+
+    are_well_formed : AreAllowed (own_bodies names prelude) → p.names ≡ whole.names → (f : ℕ) (fn : Function) → slice_get p.functions f ≡ Some fn → fn.registers ≤ 262144 → IsFunctionWellFormed p fn
+    are_well_formed allowed same f fn is few =
+        let in_names : p.names ≡ names_of false first_names statements = same ∙ whole_names in
+        let there : length (names_of false first_names statements) ≤ length p.names = omega (arith, ap length in_names) in
+        let begins = first_names_stay names prelude statements in
+        let enough : length first_names ≤ length p.names = omega (arith, ap length in_names, ap length begins.1, length-append first_names begins.0) in
+        let texts = text_scene first_names statements in
+        let of_text = all-from (IsListedIn texts) (FitsIn p) text (λ body listed. text_fits p (length texts.names) (length texts.functions) body there many_for_text listed) (text_listed first_names statements) in
+        let own = prelude_scene names prelude in
+        let of_prelude = preludes_fit p (length own.names) (length own.functions) paths (own_bodies names prelude) enough many_for_prelude (own_listed names prelude) allowed in
+        functions_well_formed p first bodies (all-append (FitsIn p) text built_in of_text of_prelude) (functions ∙ whole_functions) f fn is few
+
+    name_functions : AllByRecursion (NamesFunctions p) whole.sites
+    name_functions =
+        let Makes : Body → Type 0 = λ body. AllByRecursion (MakesFunctions p) body.nodes in
+        let texts = text_scene first_names statements in
+        let own = prelude_scene names prelude in
+        let of_text = all-from (IsListedIn texts) Makes text (λ body listed. listed_named p texts.specials (length texts.names) (length texts.functions) body many_for_text listed) (text_listed first_names statements) in
+        let of_prelude = all-from (IsListedIn own) Makes built_in (λ body listed. listed_named p own.specials (length own.names) (length own.functions) body many_for_prelude listed) (paths_listed own.specials (length own.names) (length own.functions) paths (own_bodies names prelude) (own_listed names prelude)) in
+        subst (AllByRecursion (NamesFunctions p)) (sym whole_sites) (named_bodies p 0 bodies (omega (arith, count_in, count path_each)) (all-append Makes text built_in of_text of_prelude))
+
+pub functions_are_well_formed : (names paths : List (List ℕ)) (prelude : List Statement) (first : ℕ) (statements : List Statement) (p : Program) (f : ℕ) (fn : Function) → length paths ≡ prelude_count prelude → AreAllowed (prelude_bodies (prelude_names names prelude) prelude) → p.functions ≡ (lowered_with_prelude names paths prelude first statements).functions → p.names ≡ (lowered_with_prelude names paths prelude first statements).names → slice_get p.functions f ≡ Some fn → fn.registers ≤ 262144 → IsFunctionWellFormed p fn
+functions_are_well_formed names paths prelude first statements p f fn path_each allowed functions same is few =
+    are_well_formed names paths prelude first statements p path_each functions allowed same f fn is few
+
+pub sites_are_numbered : (names paths : List (List ℕ)) (prelude : List Statement) (first : ℕ) (statements : List Statement) → map (λ (m : OwnedMaking). m.making.site.0) (makings_from 0 (lowered_with_prelude names paths prelude first statements).functions) ≡ range_with_len first (length (lowered_with_prelude names paths prelude first statements).sites)
+sites_are_numbered names paths prelude first statements =
+    let all = bodies names paths prelude first statements in
+    ap (λ fns. map (λ (m : OwnedMaking). m.making.site.0) (makings_from 0 fns)) (whole_functions names paths prelude first statements)
+    ∙ numbers_of_bodies 0 first all (all_sited names paths prelude first statements)
+    ∙ ap (λ (ss : List SiteInfo). range_with_len first (length ss)) (sym (whole_sites names paths prelude first statements))
+
+pub sites_are_told : (names paths : List (List ℕ)) (prelude : List Statement) (front : List SiteInfo) (statements : List Statement) (p : Program) → p.sites ≡ front ++ (lowered_with_prelude names paths prelude (length front) statements).sites → AllByRecursion (IsSiteTold p) (makings_from 0 (lowered_with_prelude names paths prelude (length front) statements).functions)
+sites_are_told names paths prelude front statements p sites =
+    let first = length front in
+    let here = sites ∙ ap (λ ss. front ++ ss) (whole_sites names paths prelude first statements) in
+    subst (λ fns. AllByRecursion (IsSiteTold p) (makings_from 0 fns)) (sym (whole_functions names paths prelude first statements)) (told_bodies p 0 first (bodies names paths prelude first statements) front here refl (all_sited names paths prelude first statements))
+
+pub sites_name_functions : (names paths : List (List ℕ)) (prelude : List Statement) (first : ℕ) (statements : List Statement) (p : Program) → length paths ≡ prelude_count prelude → p.functions ≡ (lowered_with_prelude names paths prelude first statements).functions → AllByRecursion (NamesFunctions p) (lowered_with_prelude names paths prelude first statements).sites
+sites_name_functions names paths prelude first statements p path_each functions =
+    name_functions names paths prelude first statements p path_each functions
+
+pub sites_are_few : (names paths : List (List ℕ)) (prelude : List Statement) (first : ℕ) (statements : List Statement) → length (lowered_with_prelude names paths prelude first statements).sites ≤ 4 * node_count (lowered_with_prelude names paths prelude first statements).functions
+sites_are_few names paths prelude first statements =
+    omega (arith, ap length (whole_sites names paths prelude first statements), ap node_count (whole_functions names paths prelude first statements), few_sites 0 first (bodies names paths prelude first statements))
+
+pub nodes_are_within_the_size : (names paths : List (List ℕ)) (prelude : List Statement) (first : ℕ) (statements : List Statement) → node_count (lowered_with_prelude names paths prelude first statements).functions ≤ size_of (prelude_names names prelude) statements + prelude_size_of names prelude
+unfolding size_of prelude_size_of
+nodes_are_within_the_size names paths prelude first statements =
+    omega (arith, ap node_count (whole_functions names paths prelude first statements), few_nodes first (bodies names paths prelude first statements), size-append (text names paths prelude first statements) (built_in names paths prelude first statements), size-at_paths paths (own_bodies names prelude))
+
+pub prelude_names_come_first : (names : List (List ℕ)) (prelude : List Statement) (first : ℕ) (statements : List Statement) → (own : List (List ℕ)) × ((lowered (prelude_names names prelude) first statements).names ≡ prelude_names names prelude ++ own)
 unfolding lowered
-functions_are_well_formed names first statements p f fn functions same is few =
-    let scene = scene_in names statements in
-    let bodies = bodies_of scene statements in
-    let listed = subst (λ ns. AllByRecursion (IsListedIn scene ns) bodies) (sym same) (bodies_listed scene statements (has_text names statements)) in
-    let many : length scene.functions < length p.functions = omega (arith, ap length functions, length-functions first bodies, length-bodies scene statements, length-map (functions_in statements) (λ (g : FunctionOf Statement). g.place)) in
-    functions_well_formed p (length scene.functions) first bodies many listed functions f fn is few
+prelude_names_come_first names prelude first statements = first_names_stay names prelude statements
 
-pub sites_are_numbered : (names : List (List ℕ)) (first : ℕ) (statements : List Statement) → map (λ (m : OwnedMaking). m.making.site.0) (makings_from 0 (lowered names first statements).functions) ≡ range_with_len first (length (lowered names first statements).sites)
+-- ---- how many functions
+
+pub text_counted : (names : List (List ℕ)) (first : ℕ) (statements : List Statement) → length (lowered names first statements).functions ≡ function_count statements
 unfolding lowered
-sites_are_numbered names first statements =
-    let scene = scene_in names statements in
-    numbers_of_bodies 0 first (bodies_of scene statements) (bodies_sited scene statements (has_text names statements))
+text_counted names first statements = length-functions first (text_bodies names statements) ∙ text_count names statements
 
-pub sites_are_told : (names : List (List ℕ)) (front : List SiteInfo) (statements : List Statement) (p : Program) → p.sites ≡ front ++ (lowered names (length front) statements).sites → AllByRecursion (IsSiteTold p) (makings_from 0 (lowered names (length front) statements).functions)
-unfolding lowered
-sites_are_told names front statements p sites =
-    let scene = scene_in names statements in
-    told_bodies p 0 (length front) (bodies_of scene statements) front sites refl (bodies_sited scene statements (has_text names statements))
-
-pub sites_name_functions : (names : List (List ℕ)) (first : ℕ) (statements : List Statement) (p : Program) → p.functions ≡ (lowered names first statements).functions → AllByRecursion (NamesFunctions p) (lowered names first statements).sites
-unfolding lowered
-sites_name_functions names first statements p functions =
-    let scene = scene_in names statements in
-    let bodies = bodies_of scene statements in
-    let count : length p.functions ≡ length bodies = ap length functions ∙ length-functions first bodies in
-    let many : length scene.functions < length p.functions = omega (arith, count, length-bodies scene statements, length-map (functions_in statements) (λ (g : FunctionOf Statement). g.place)) in
-    let named = all-from (IsListedIn scene scene.names) (λ (body : Body). AllByRecursion (MakesFunctions p) body.nodes) bodies (λ body listed. listed_named p scene.specials (length scene.names) (length scene.functions) body many listed) (bodies_listed scene statements (has_text names statements)) in
-    named_bodies p 0 bodies (omega (arith, count)) named
-
-pub sites_are_few : (names : List (List ℕ)) (first : ℕ) (statements : List Statement) → length (lowered names first statements).sites ≤ 4 * node_count (lowered names first statements).functions
-unfolding lowered
-sites_are_few names first statements = few_sites 0 first (bodies_of (scene_in names statements) statements)
-
-pub nodes_are_within_the_size : (names : List (List ℕ)) (first : ℕ) (statements : List Statement) → node_count (lowered names first statements).functions ≤ size_of names statements
-unfolding lowered size_of
-nodes_are_within_the_size names first statements = few_nodes first (bodies_of (scene_in names statements) statements)
+pub whole_counted : (names paths : List (List ℕ)) (prelude : List Statement) (first : ℕ) (statements : List Statement) → length paths ≡ prelude_count prelude → length (lowered_with_prelude names paths prelude first statements).functions ≡ function_count statements + length paths
+whole_counted names paths prelude first statements path_each =
+    let all = bodies names paths prelude first statements in
+    omega (arith, ap length (whole_functions names paths prelude first statements), length-functions first all, count names paths prelude first statements path_each, path_each)

@@ -8,7 +8,7 @@ use Rattle.ja_graph.specs.declared.program.Function.{Function}
 use Rattle.ja_graph.specs.declared.program.SiteInfo.{SiteInfo}
 use Rattle.ja_graph.specs.Node.{makings}
 use Rattle.ja_lower.specs.declared.body.Body.{Body}
-use Rattle.ja_lower.specs.Lowering.{site_of, site_count, sites_in, sites_of_nodes, sites_of, function_of, functions_of}
+use Rattle.ja_lower.specs.Lowering.{site_of, site_count, sites_in, sites_of_nodes, sites_of, function_of, functions_of, at_paths}
 
 -- there are as many sites as are counted
 pub sites_counted : (function : ℕ) (nodes : List NodeInfo) → length (sites_of_nodes function nodes) ≡ sites_in nodes
@@ -40,6 +40,11 @@ pub sites_done : (ss : List SiteInfo) (n : ℕ) (bodies : List Body) → length 
 unfolding sites_of
 sites_done ss n [] h = append-nil ss
 sites_done ss n (body ∷ bodies) h = absurd (omega arith)
+
+pub at_paths_done : (list : List Body) (paths : List (List ℕ)) (bodies : List Body) → length bodies ≡ 0 → list ++ at_paths paths bodies ≡ list
+at_paths_done list [] bodies h = append-nil list
+at_paths_done list (path ∷ paths) [] h = append-nil list
+at_paths_done list (path ∷ paths) (body ∷ bodies) h = absurd (omega arith)
 
 -- what holds of each element, and of one more
 pub all_more : {A : Type 0} (P : A → Type 0) (xs : List A) (x : A) → AllByRecursion P xs → P x → AllByRecursion P (xs ++ x ∷ [])

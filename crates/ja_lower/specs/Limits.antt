@@ -1,50 +1,57 @@
 -- What is too large to be lowered.
-use Rattle.std.specs.Prelude.{◌<◌, ◌≤◌, ◌+◌, ℕ, Bool, true, false, List, length}
+use Rattle.std.specs.Prelude.{◌<◌, ◌≤◌, ◌+◌, ℕ, false, List, length}
 use Rattle.std.specs.List.{sum_by}
 use Rattle.ja_names.specs.TextOrder.{functions_in}
 use Rattle.ja_lower.specs.declared.body.Body.{Body}
 use Rattle.ja_lower.specs.declared.fault.LowerFault.{LowerFault}
 use Rattle.ja_lower.specs.declared.fault.LowerFault.TheVariants.{Functions, Nodes, Names, Memory}
-use Rattle.ja_lower.specs.Lowering.{names_of, scene_with, bodies_of}
+use Rattle.ja_lower.specs.Lowering.{names_of, scene_of, bodies_of, prelude_names, prelude_bodies}
 use Rattle.ja_syntax.specs.declared.tree.Statement.{Statement}
 
--- how many functions there are, the program among them
+-- how many functions a text has, the program among them
 abbrev pub function_count : List Statement → ℕ
 function_count statements = 1 + length (functions_in statements)
+
+-- how many functions the texts of built-in functions have
+abbrev pub prelude_count : List Statement → ℕ
+prelude_count statements = length (functions_in statements)
 
 -- the nodes of a function, with one more for each of its parameters
 abbrev pub size_of_body : Body → ℕ
 size_of_body body = length body.nodes + length body.parameters
 
-abbrev pub size_with : Bool → List (List ℕ) → List Statement → ℕ
-size_with specials names statements = sum_by size_of_body (bodies_of (scene_with specials (names_of specials names statements) statements) statements)
+abbrev pub size_of_bodies : List Body → ℕ
+size_of_bodies bodies = sum_by size_of_body bodies
 
+-- of a text whose program has these names first, and of built-in functions
 unfoldable pub size_of : List (List ℕ) → List Statement → ℕ
-size_of names statements = size_with false names statements
+size_of names statements = size_of_bodies (bodies_of (scene_of (names_of false names statements) statements) statements)
 
 unfoldable pub prelude_size_of : List (List ℕ) → List Statement → ℕ
-prelude_size_of names statements = size_with true names statements
+prelude_size_of names statements = size_of_bodies (prelude_bodies (prelude_names names statements) statements)
 
--- what a fault says of a tree of this size, whose program has so many names
-abbrev pub ExplainsSize : ℕ → ℕ → List Statement → LowerFault → Type 0
-ExplainsSize size names statements Functions = 4096 < function_count statements
-ExplainsSize size names statements Nodes = (function_count statements ≤ 4096) × (65536 < size)
-ExplainsSize size names statements Names = (function_count statements ≤ 4096) × (size ≤ 65536) × (1048576 < names)
-ExplainsSize size names statements Memory = Unit {0}
+-- what a fault says of so many functions of this size, with so many names
+abbrev pub ExplainsSize : ℕ → ℕ → ℕ → LowerFault → Type 0
+ExplainsSize functions size names Functions = 4096 < functions
+ExplainsSize functions size names Nodes = (functions ≤ 4096) × (65536 < size)
+ExplainsSize functions size names Names = (functions ≤ 4096) × (size ≤ 65536) × (1048576 < names)
+ExplainsSize functions size names Memory = Unit {0}
 
 abbrev pub Explains : List (List ℕ) → List Statement → LowerFault → Type 0
-Explains names statements fault = ExplainsSize (size_of names statements) (length (names_of false names statements)) statements fault
+Explains names statements fault =
+    ExplainsSize (function_count statements) (size_of names statements) (length (names_of false names statements)) fault
 
 abbrev pub ExplainsPrelude : List (List ℕ) → List Statement → LowerFault → Type 0
-ExplainsPrelude names statements fault = ExplainsSize (prelude_size_of names statements) (length (names_of true names statements)) statements fault
+ExplainsPrelude names statements fault =
+    ExplainsSize (prelude_count statements) (prelude_size_of names statements) (length (prelude_names names statements)) fault
 
--- what holds of a tree of this size that is lowered
-pub record IsWithinSize (size : ℕ) (statements : List Statement) : Type 0 where
-  pub functions : function_count statements ≤ 4096
+-- what holds of so many functions of this size that are lowered
+pub record IsWithinSize (count size : ℕ) : Type 0 where
+  pub functions : count ≤ 4096
   pub nodes : size ≤ 65536
 
 abbrev pub IsWithin : List (List ℕ) → List Statement → Type 0
-IsWithin names statements = IsWithinSize (size_of names statements) statements
+IsWithin names statements = IsWithinSize (function_count statements) (size_of names statements)
 
 abbrev pub IsPreludeWithin : List (List ℕ) → List Statement → Type 0
-IsPreludeWithin names statements = IsWithinSize (prelude_size_of names statements) statements
+IsPreludeWithin names statements = IsWithinSize (prelude_count statements) (prelude_size_of names statements)

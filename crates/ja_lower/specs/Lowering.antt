@@ -1,6 +1,7 @@
--- What a tree is lowered to: the functions of its text with their nodes, the sites of these nodes, and the names.
+-- What a tree is lowered to: the functions of its text with their nodes, the sites of these nodes, and the names; and built-in
+-- functions behind them.
 use Rattle.std.specs.Prelude.{ℕ, Bool, true, false, suc, ◌+◌, List, [], ◌∷◌, ◌++◌, map, filter, length, Option, Some, None}
-use Rattle.std.specs.List.{fold, flat_map, sum_by}
+use Rattle.std.specs.List.{AllByRecursion, fold, flat_map, sum_by, zip}
 use Rattle.std.specs.Option.{option_map_or}
 use Rattle.ja_base.specs.declared.ids.FnId.{FnId}
 use Rattle.ja_graph.specs.declared.node.Node.{Node}
@@ -8,9 +9,11 @@ use Rattle.ja_graph.specs.declared.node.NodeInfo.{NodeInfo}
 use Rattle.ja_graph.specs.declared.program.Class.{Class}
 use Rattle.ja_graph.specs.declared.program.Class.TheVariants as class
 use Rattle.ja_graph.specs.declared.program.Function.{Function}
+use Rattle.ja_graph.specs.declared.program.Program.{Program}
 use Rattle.ja_graph.specs.declared.program.SiteInfo.{SiteInfo}
 use Rattle.ja_graph.specs.Node.{Making, registers_in, registers_with, function_in, makings}
 use Rattle.ja_graph.specs.Renaming.{Renaming, identity, renamed}
+use Rattle.ja_graph.specs.WellFormed.{IsAllowed}
 use Rattle.ja_listing.specs.Listing.{assembled}
 use Rattle.ja_statements.specs.Functions.{program_listing, function_listing}
 use Rattle.ja_draft.specs.Lines.{Scene}
@@ -119,15 +122,53 @@ sites_of function (body ∷ bodies) = sites_of_nodes function body.nodes ++ site
 
 -- ---- the whole
 
--- a tree, with or without special forms, where these names come first, and its sites are numbered from a number on
-abbrev pub lowered_with : Bool → List (List ℕ) → ℕ → List Statement → Lowered
-lowered_with specials names first statements =
-    let bodies = bodies_of (scene_with specials (names_of specials names statements) statements) statements in
-    record { functions = functions_of first bodies; sites = sites_of 0 bodies; names = names_of specials names statements }
+-- functions whose sites are numbered from a number on, and which are numbered from another on themselves
+abbrev pub lowered_bodies : List (List ℕ) → ℕ → ℕ → List Body → Lowered
+lowered_bodies names first_site first_function bodies =
+    record { functions = functions_of first_site bodies; sites = sites_of first_function bodies; names = names }
 
+-- a text, where these names come first, and its sites are numbered from a number on
 unfoldable pub lowered : List (List ℕ) → ℕ → List Statement → Lowered
-lowered names first statements = lowered_with false names first statements
+lowered first first_site statements =
+    let names = names_of false first statements in
+    lowered_bodies names first_site 0 (bodies_of (scene_of names statements) statements)
 
--- the tree of a text of built-in functions
-unfoldable pub lowered_prelude : List (List ℕ) → ℕ → List Statement → Lowered
-lowered_prelude names first statements = lowered_with true names first statements
+-- ---- built-in functions, whose texts have special forms
+
+-- the names of a program with built-in functions: some come first, then those of their texts, each once
+abbrev pub prelude_names : List (List ℕ) → List Statement → List (List ℕ)
+prelude_names first statements = names_of true first statements
+
+-- the functions of their texts, in a program with these names; what else stands in these texts is nothing
+unfoldable pub prelude_bodies : List (List ℕ) → List Statement → List Body
+prelude_bodies names statements = map (function_body (scene_with true names statements)) (functions_in statements)
+
+-- a function by its path
+abbrev pub at_path : List ℕ → Body → Body
+at_path path body = record body { name = path }
+
+-- functions by their paths, one for each
+abbrev pub at_paths : List (List ℕ) → List Body → List Body
+at_paths paths bodies = map (λ row. at_path row.0 row.1) (zip paths bodies)
+
+-- built-in functions by their paths, where these names come first, the sites are numbered from a number on, and so are the functions
+unfoldable pub lowered_prelude : List (List ℕ) → List (List ℕ) → ℕ → ℕ → List Statement → Lowered
+lowered_prelude first paths first_site first_function statements =
+    let names = prelude_names first statements in
+    lowered_bodies names first_site first_function (at_paths paths (prelude_bodies names statements))
+
+-- a text, and other functions behind its own, which know some of its names
+abbrev pub followed_by : Lowered → Lowered → Lowered
+followed_by text others =
+    record { functions = text.functions ++ others.functions; sites = text.sites ++ others.sites; names = text.names }
+
+-- a text and built-in functions behind it, whose names come first
+unfoldable pub lowered_with_prelude : List (List ℕ) → List (List ℕ) → List Statement → ℕ → List Statement → Lowered
+lowered_with_prelude first paths prelude first_site statements =
+    let text = lowered (prelude_names first prelude) first_site statements in
+    followed_by text (lowered_prelude first paths (first_site + length text.sites) (length text.functions) prelude)
+
+-- each node of functions is allowed whatever the program is
+abbrev pub AreAllowed : List Body → Type 0
+AreAllowed bodies =
+    AllByRecursion (λ (body : Body). AllByRecursion (λ (info : NodeInfo). (p : Program) → IsAllowed p (function_of 0 body) info.node) body.nodes) bodies

@@ -9,3 +9,10 @@ Exceeds room size Functions = ⊥
 Exceeds room size Nodes = room < size
 Exceeds room size Names = ⊥
 Exceeds room size Memory = Unit {0}
+
+-- what a fault says of so many names
+abbrev pub HasTooMany : ℕ → LowerFault → Type 0
+HasTooMany names Functions = ⊥
+HasTooMany names Nodes = ⊥
+HasTooMany names Names = 1048576 < names
+HasTooMany names Memory = Unit {0}

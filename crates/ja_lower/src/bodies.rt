@@ -1,4 +1,4 @@
-//! The functions of a text, each with the sites of its nodes numbered for itself.
+//! The functions of a text, or those that are built in, each with the sites of its nodes numbered for itself.
 
 ghost use Rattle.std.specs.Prelude.{◌≡◌, ◌≤◌, ◌+◌, ◌++◌, [], length, map, IfOk, IfErr, OnOk};
 ghost use Rattle.std.specs.List.{sum_by};
@@ -6,7 +6,7 @@ ghost use Rattle.std.specs.Option.{option_map_or};
 ghost use Rattle.ja_names.specs.Names.{number};
 ghost use Rattle.ja_names.specs.TextOrder as text;
 ghost use Rattle.ja_listing.specs.Listing.{assembled};
-ghost use Rattle.ja_lower.specs.Limits.{size_of_body};
+ghost use Rattle.ja_lower.specs.Limits.{size_of_body, size_of_bodies};
 ghost use Rattle.ja_lower.specs.Lowering as spec;
 ghost use Rattle.ja_lower.specs.Room.{Exceeds};
 
@@ -136,8 +136,8 @@ fn all_bodies(
 ) -> Result<Vec<Body>, LowerFault>
     requires functions { map (λ f. f.now) functions.now ≡ text.functions_in statements.now }
     ensures bodies { IfOk result (λ bodies. bodies.items ≡ spec.bodies_of scene.now statements.now) }
-    ensures within { IfOk result (λ bodies. sum_by size_of_body (spec.bodies_of scene.now statements.now) ≤ 65536) }
-    ensures fault { IfErr result (Exceeds 65536 (sum_by size_of_body (spec.bodies_of scene.now statements.now))) }
+    ensures within { IfOk result (λ bodies. size_of_bodies (spec.bodies_of scene.now statements.now) ≤ 65536) }
+    ensures fault { IfErr result (Exceeds 65536 (size_of_bodies (spec.bodies_of scene.now statements.now))) }
 {
     let program = program_body(scene, statements, MAX_NODES)?;
     let room = MAX_NODES - program.nodes.len();
@@ -158,19 +158,17 @@ fn places_of(alloc: Global, functions: &[&FunctionTree]) -> Result<Vec<Place>, M
     Ok(places)
 }
 
-/// The program and the functions of its text, where the program has these names, with or without special forms; or `Nodes` exactly where they are too
-/// large.
+/// The program and the functions of its text, where the program has these names; or `Nodes` exactly where they are too large.
 pub(crate) fn bodies_of(
     alloc: Global,
-    specials: bool,
     names: &Names<'_>,
     statements: &[Statement],
     functions: &[&FunctionTree],
 ) -> Result<Vec<Body>, LowerFault>
     requires functions { map (λ f. f.now) functions.now ≡ text.functions_in statements.now }
-    ensures bodies { IfOk result (λ bodies. bodies.items ≡ spec.bodies_of (spec.scene_with specials names.now statements.now) statements.now) }
-    ensures within { IfOk result (λ bodies. sum_by size_of_body (spec.bodies_of (spec.scene_with specials names.now statements.now) statements.now) ≤ 65536) }
-    ensures fault { IfErr result (Exceeds 65536 (sum_by size_of_body (spec.bodies_of (spec.scene_with specials names.now statements.now) statements.now))) }
+    ensures bodies { IfOk result (λ bodies. bodies.items ≡ spec.bodies_of (spec.scene_of names.now statements.now) statements.now) }
+    ensures within { IfOk result (λ bodies. size_of_bodies (spec.bodies_of (spec.scene_of names.now statements.now) statements.now) ≤ 65536) }
+    ensures fault { IfErr result (Exceeds 65536 (size_of_bodies (spec.bodies_of (spec.scene_of names.now statements.now) statements.now))) }
 {
     let places = places_of(alloc, functions)?;
     let scene = Scene {
@@ -178,7 +176,71 @@ pub(crate) fn bodies_of(
         names,
         functions: &places,
         handler: None,
-        specials,
+        specials: false,
     };
     all_bodies(&scene, statements, functions)
+}
+
+/// Functions by their paths, one for each.
+fn at_paths(alloc: Global, paths: &[Text16], bodies: Vec<Body>) -> Result<Vec<Body>, Memory>
+    ensures { IfOk result (λ list. list.items ≡ spec.at_paths paths.now bodies.items) }
+{
+    let mut list = Vec::with_capacity(alloc, paths.len())?;
+    let mut left = paths;
+    for body in bodies {
+        let [path, rest @ ..] = left else {
+            return Ok(list);
+        };
+        list.push(Body {
+            name: path.copy(alloc)?,
+            parameters: body.parameters,
+            nodes: body.nodes,
+        })?;
+        left = rest;
+    }
+    Ok(list)
+}
+
+/// The functions of the texts of built-in functions, each by its path, or `Nodes` exactly where they are too large.
+fn all_prelude(
+    scene: &Scene<'_, '_>,
+    paths: &[Text16],
+    statements: &[Statement],
+    functions: &[&FunctionTree],
+) -> Result<Vec<Body>, LowerFault>
+    requires functions { map (λ f. f.now) functions.now ≡ text.functions_in statements.now }
+    ensures bodies { IfOk result (λ bodies. bodies.items ≡ spec.at_paths paths.now (map (spec.function_body scene.now) (text.functions_in statements.now))) }
+    ensures within { IfOk result (λ bodies. size_of_bodies (map (spec.function_body scene.now) (text.functions_in statements.now)) ≤ 65536) }
+    ensures fault { IfErr result (Exceeds 65536 (size_of_bodies (map (spec.function_body scene.now) (text.functions_in statements.now)))) }
+{
+    let mut bodies = Vec::with_capacity(scene.alloc, functions.len())?;
+    add_functions(scene, functions, MAX_NODES, &mut bodies)?;
+    let named = at_paths(scene.alloc, paths, bodies)?;
+    Ok(named)
+}
+
+/// The functions of the texts of built-in functions, where the program has these names, each by its path; or `Nodes` exactly where
+/// they are too large.
+#[tactic(auto, unfolding(crate::specs::Lowering::prelude_bodies))]
+pub(crate) fn prelude_bodies(
+    alloc: Global,
+    names: &Names<'_>,
+    paths: &[Text16],
+    statements: &[Statement],
+    functions: &[&FunctionTree],
+) -> Result<Vec<Body>, LowerFault>
+    requires functions { map (λ f. f.now) functions.now ≡ text.functions_in statements.now }
+    ensures bodies { IfOk result (λ bodies. bodies.items ≡ spec.at_paths paths.now (spec.prelude_bodies names.now statements.now)) }
+    ensures within { IfOk result (λ bodies. size_of_bodies (spec.prelude_bodies names.now statements.now) ≤ 65536) }
+    ensures fault { IfErr result (Exceeds 65536 (size_of_bodies (spec.prelude_bodies names.now statements.now))) }
+{
+    let places = places_of(alloc, functions)?;
+    let scene = Scene {
+        alloc,
+        names,
+        functions: &places,
+        handler: None,
+        specials: true,
+    };
+    all_prelude(&scene, paths, statements, functions)
 }

@@ -1,13 +1,14 @@
-//! What lowered functions are in a program that has them. The functions do nothing; their contracts are the laws.
+//! What lowered functions are in a program that has them, those of a text and built-in ones behind them. The functions do nothing; their
+//! contracts are the laws.
 
-ghost use Rattle.std.specs.Prelude.{◌≡◌, ◌≤◌, ◌-◌, ◌*◌, ◌++◌, ℕ, Bool, List, Some, length, map, slice_get};
-ghost use Rattle.std.specs.List.{AllByRecursion, range_with_len, sum_by};
+ghost use Rattle.std.specs.Prelude.{◌≡◌, ◌≤◌, ◌+◌, ◌*◌, ◌++◌, ℕ, Bool, List, Some, length, map, slice_get};
+ghost use Rattle.std.specs.List.{AllByRecursion, range_with_len};
 ghost use Rattle.ja_graph.specs.declared.program.Function.{Function};
 ghost use Rattle.ja_graph.specs.declared.program.Program.{Program};
 ghost use Rattle.ja_graph.specs.declared.program.SiteInfo.{SiteInfo};
 ghost use Rattle.ja_graph.specs.WellFormed.{IsFunctionWellFormed, OwnedMaking, makings_from, IsSiteTold, NamesFunctions, node_count};
-ghost use Rattle.ja_lower.specs.Limits.{size_of};
-ghost use Rattle.ja_lower.specs.Lowering.{names_of, scene_with, lowered};
+ghost use Rattle.ja_lower.specs.Limits.{function_count, prelude_count, size_of, prelude_size_of};
+ghost use Rattle.ja_lower.specs.Lowering.{AreAllowed, names_of, scene_with, prelude_names, prelude_bodies, lowered, lowered_with_prelude};
 ghost use Rattle.ja_ranges.specs.Found.{HasText};
 ghost use Rattle.ja_syntax.specs.declared.tree.Statement.{Statement};
 
@@ -16,37 +17,51 @@ pub fn scenes_have_their_texts()
     ensures { (specials : Bool) (names : List (List ℕ)) (statements : List Statement) → HasText (scene_with specials (names_of specials names statements) statements) statements }
 {}
 
-/// Each function is well formed in a program that has these functions and names, and at most 262,144 registers in each.
+/// The names of built-in functions keep their numbers where a text is lowered with them: its own only follow.
+pub fn prelude_names_come_first()
+    ensures { (names : List (List ℕ)) (prelude : List Statement) (first : ℕ) (statements : List Statement) → (own : List (List ℕ)) × ((lowered (prelude_names names prelude) first statements).names ≡ prelude_names names prelude ++ own) }
+{}
+
+/// Each function is well formed in a program that has these functions and names, and at most 262,144 registers in each, where there is
+/// a path for each built-in function and each of their nodes is allowed.
 #[tactic(auto, using(crate::proofs::WellFormedLemmas::functions_are_well_formed))]
 pub fn functions_are_well_formed()
-    ensures { (names : List (List ℕ)) (first : ℕ) (statements : List Statement) (p : Program) (f : ℕ) (fn : Function) → p.functions ≡ (lowered names first statements).functions → p.names ≡ (lowered names first statements).names → slice_get p.functions f ≡ Some fn → fn.registers ≤ 262144 → IsFunctionWellFormed p fn }
+    ensures { (names paths : List (List ℕ)) (prelude : List Statement) (first : ℕ) (statements : List Statement) (p : Program) (f : ℕ) (fn : Function) → length paths ≡ prelude_count prelude → AreAllowed (prelude_bodies (prelude_names names prelude) prelude) → p.functions ≡ (lowered_with_prelude names paths prelude first statements).functions → p.names ≡ (lowered_with_prelude names paths prelude first statements).names → slice_get p.functions f ≡ Some fn → fn.registers ≤ 262144 → IsFunctionWellFormed p fn }
 {}
 
 /// The sites of the nodes are numbered by function and node, without a gap.
 #[tactic(auto, using(crate::proofs::WellFormedLemmas::sites_are_numbered))]
 pub fn sites_are_numbered()
-    ensures { (names : List (List ℕ)) (first : ℕ) (statements : List Statement) → map (λ (m : OwnedMaking). m.making.site.0) (makings_from 0 (lowered names first statements).functions) ≡ range_with_len first (length (lowered names first statements).sites) }
+    ensures { (names paths : List (List ℕ)) (prelude : List Statement) (first : ℕ) (statements : List Statement) → map (λ (m : OwnedMaking). m.making.site.0) (makings_from 0 (lowered_with_prelude names paths prelude first statements).functions) ≡ range_with_len first (length (lowered_with_prelude names paths prelude first statements).sites) }
 {}
 
 /// A program tells the class and the owner of each site of a node, where it has these sites behind as many others as the number of
 /// the first one says.
 pub fn sites_are_told()
-    ensures { (names : List (List ℕ)) (front : List SiteInfo) (statements : List Statement) (p : Program) → p.sites ≡ front ++ (lowered names (length front) statements).sites → AllByRecursion (IsSiteTold p) (makings_from 0 (lowered names (length front) statements).functions) }
+    ensures { (names paths : List (List ℕ)) (prelude : List Statement) (front : List SiteInfo) (statements : List Statement) (p : Program) → p.sites ≡ front ++ (lowered_with_prelude names paths prelude (length front) statements).sites → AllByRecursion (IsSiteTold p) (makings_from 0 (lowered_with_prelude names paths prelude (length front) statements).functions) }
 {}
 
-/// The functions that are told of each site of a node are those of a program that has these functions.
+/// The functions that are told of each site of a node are those of a program that has these functions, where there is a path for each
+/// built-in one.
 pub fn sites_name_functions()
-    ensures { (names : List (List ℕ)) (first : ℕ) (statements : List Statement) (p : Program) → p.functions ≡ (lowered names first statements).functions → AllByRecursion (NamesFunctions p) (lowered names first statements).sites }
+    ensures { (names paths : List (List ℕ)) (prelude : List Statement) (first : ℕ) (statements : List Statement) (p : Program) → length paths ≡ prelude_count prelude → p.functions ≡ (lowered_with_prelude names paths prelude first statements).functions → AllByRecursion (NamesFunctions p) (lowered_with_prelude names paths prelude first statements).sites }
 {}
 
 /// There are at most four sites for each node.
 #[tactic(auto, using(crate::proofs::WellFormedLemmas::sites_are_few))]
 pub fn sites_are_few()
-    ensures { (names : List (List ℕ)) (first : ℕ) (statements : List Statement) → length (lowered names first statements).sites ≤ 4 * node_count (lowered names first statements).functions }
+    ensures { (names paths : List (List ℕ)) (prelude : List Statement) (first : ℕ) (statements : List Statement) → length (lowered_with_prelude names paths prelude first statements).sites ≤ 4 * node_count (lowered_with_prelude names paths prelude first statements).functions }
 {}
 
-/// The functions have no more nodes than what is counted against the limit.
+/// The functions have no more nodes than what is counted against the limit, of the text and of the built-in functions.
 #[tactic(auto, using(crate::proofs::WellFormedLemmas::nodes_are_within_the_size))]
 pub fn nodes_are_within_the_size()
-    ensures { (names : List (List ℕ)) (first : ℕ) (statements : List Statement) → node_count (lowered names first statements).functions ≤ size_of names statements }
+    ensures { (names paths : List (List ℕ)) (prelude : List Statement) (first : ℕ) (statements : List Statement) → node_count (lowered_with_prelude names paths prelude first statements).functions ≤ size_of (prelude_names names prelude) statements + prelude_size_of names prelude }
+{}
+
+/// There are as many functions as the text has, and then one for each path of a built-in one, where each of these has a path.
+#[tactic(auto, using(crate::proofs::WellFormedLemmas::text_counted, crate::proofs::WellFormedLemmas::whole_counted))]
+pub fn functions_are_counted()
+    ensures text { (names : List (List ℕ)) (first : ℕ) (statements : List Statement) → length (lowered names first statements).functions ≡ function_count statements }
+    ensures whole { (names paths : List (List ℕ)) (prelude : List Statement) (first : ℕ) (statements : List Statement) → length paths ≡ prelude_count prelude → length (lowered_with_prelude names paths prelude first statements).functions ≡ function_count statements + length paths }
 {}

@@ -1,13 +1,14 @@
-//! From the tree of a text to its flow graph.
+//! From the tree of a text, or of built-in functions, to its flow graph.
 #![tactic(auto)]
 
-ghost use Rattle.std.specs.Prelude.{◌≡◌, ◌<◌, ◌≤◌, ◌^◌, length, map, filter, IfOk, IfErr, OnOk};
+ghost use Rattle.std.specs.Prelude.{◌≡◌, ◌<◌, ◌≤◌, ◌+◌, ◌^◌, length, map, filter, IfOk, IfErr, OnOk};
 ghost use Rattle.std.specs.List.{AllByRecursion, fold};
 ghost use Rattle.ja_expressions.specs.Specials.{is_name};
 ghost use Rattle.ja_names.specs.Names.{with_name};
 ghost use Rattle.ja_names.specs.TextParts.{named_of};
-ghost use Rattle.ja_lower.specs.Limits.{size_with, Explains, ExplainsPrelude, ExplainsSize, IsWithin, IsPreludeWithin, IsWithinSize};
-ghost use Rattle.ja_lower.specs.Lowering.{lowered, lowered_prelude, lowered_with, names_of};
+ghost use Rattle.ja_lower.specs.Limits.{Explains, ExplainsPrelude, IsWithin, IsPreludeWithin};
+ghost use Rattle.ja_lower.specs.Lowering as spec;
+ghost use Rattle.ja_lower.specs.Room.{HasTooMany};
 
 mod bodies;
 mod body;
@@ -19,7 +20,7 @@ mod registers;
 mod sites;
 mod whole;
 
-use crate::bodies::bodies_of;
+use crate::bodies::{bodies_of, prelude_bodies};
 use crate::whole::whole_of;
 pub use body::Body;
 pub use fault::LowerFault;
@@ -31,8 +32,8 @@ use ja_syntax::{Statement, Tree};
 pub use lowered::Lowered;
 use std::alloc::Global;
 
-/// The most functions that a text may have; the program is one more.
-const MAX_FUNCTIONS: usize = 4_095;
+/// The most functions that a program may have, or that may be built in.
+const MAX_FUNCTIONS: usize = 4_096;
 
 /// The most names that a program may have.
 const MAX_NAMES: usize = 1_048_576;
@@ -62,7 +63,7 @@ fn names_of<'a>(
     statements: &'a [Statement],
 ) -> Result<Names<'a>, Memory>
     requires { length first.now ≤ 65536 }
-    ensures { IfOk result (λ names. names ≡ names_of specials first.now statements.now) }
+    ensures { IfOk result (λ names. names ≡ spec.names_of specials first.now statements.now) }
 {
     let mut names = Names::new(alloc);
     for text in first {
@@ -72,33 +73,25 @@ fn names_of<'a>(
     Ok(names)
 }
 
-/// Lowers a tree, with or without special forms.
-#[tactic(auto, using(crate::proofs::Sizes::exceeds_explains))]
-fn lower_with(
+/// Functions with these names and their sites, where these names aren't too many.
+#[tactic(auto)]
+fn lowered_bodies(
     alloc: Global,
-    specials: bool,
-    tree: &Tree,
-    names: &[Text16],
+    names: &Names<'_>,
     first_site: u32,
+    first_function: u32,
+    bodies: Vec<Body>,
 ) -> Result<Lowered, LowerFault>
-    requires names { length names.now ≤ 65536 }
-    ensures lowered { IfOk result (λ l. l ≡ lowered_with specials names.now first_site tree.now.statements) }
-    ensures within { IfOk result (λ l. IsWithinSize (size_with specials names.now tree.now.statements) tree.now.statements) }
+    requires few { first_function + length bodies.items ≤ 2 ^ 32 }
+    ensures lowered { IfOk result (λ l. l ≡ spec.lowered_bodies names.now first_site first_function bodies.items) }
     ensures registers { IfOk result (λ l. AllByRecursion (λ fn. fn.registers ≤ 262144) l.functions) }
     ensures names { IfOk result (λ l. length l.names ≤ 1048576) }
-    ensures fault { IfErr result (ExplainsSize (size_with specials names.now tree.now.statements) (length (names_of specials names.now tree.now.statements)) tree.now.statements) }
+    ensures fault { IfErr result (HasTooMany (length names.now)) }
 {
-    let statements = tree.statements.as_slice();
-    let functions = functions_in(alloc, statements)?;
-    if functions.len() > MAX_FUNCTIONS {
-        return Err(LowerFault::Functions);
-    }
-    let names = names_of(alloc, specials, names, statements)?;
-    let bodies = bodies_of(alloc, specials, &names, statements, &functions)?;
     if names.len() > MAX_NAMES {
         return Err(LowerFault::Names);
     }
-    let whole = whole_of(alloc, first_site, bodies)?;
+    let whole = whole_of(alloc, first_site, first_function, bodies)?;
     Ok(Lowered {
         functions: Seq::from_vec(whole.functions),
         sites: Seq::from_vec(whole.sites),
@@ -115,7 +108,7 @@ fn lower_with(
 /// exactly where they have more than 65,536 nodes, each parameter of a function counted as one more; else `Names` exactly
 /// where the program has more than 1,048,576 names; else `Memory`, where memory was refused. More than 262,144 registers in a
 /// function, or a site or a name whose number isn't in 32 bits, count as refused memory.
-#[tactic(auto, unfolding(crate::specs::Limits::size_of, crate::specs::Lowering::lowered))]
+#[tactic(auto, using(crate::proofs::Sizes::exceeds_explains, crate::proofs::Sizes::too_many_explain), unfolding(crate::specs::Limits::size_of, crate::specs::Lowering::lowered))]
 pub fn lower(
     alloc: Global,
     tree: &Tree,
@@ -123,35 +116,67 @@ pub fn lower(
     first_site: u32,
 ) -> Result<Lowered, LowerFault>
     requires names { length names.now ≤ 65536 }
-    ensures lowered { IfOk result (λ l. l ≡ lowered names.now first_site tree.now.statements) }
+    ensures lowered { IfOk result (λ l. l ≡ spec.lowered names.now first_site tree.now.statements) }
     ensures within { IfOk result (λ l. IsWithin names.now tree.now.statements) }
     ensures registers { IfOk result (λ l. AllByRecursion (λ fn. fn.registers ≤ 262144) l.functions) }
     ensures names { IfOk result (λ l. length l.names ≤ 1048576) }
     ensures fault { IfErr result (Explains names.now tree.now.statements) }
 {
-    lower_with(alloc, false, tree, names, first_site)
+    let statements = tree.statements.as_slice();
+    let functions = functions_in(alloc, statements)?;
+    if functions.len() >= MAX_FUNCTIONS {
+        return Err(LowerFault::Functions);
+    }
+    let names = names_of(alloc, false, names, statements)?;
+    let bodies = bodies_of(alloc, &names, statements, &functions)?;
+    lowered_bodies(alloc, &names, first_site, 0, bodies)
 }
 
-/// Lowers the tree of a text of built-in functions: as `lower`, but the names of the table of special forms
-/// (`ja_expressions::SPECIALS`) stand for these where they are variables, which then are no names of the program. The call of a
-/// special form that doesn't have its arguments, or such a variable that isn't called, is undefined.
+/// The names of a program with built-in functions: these, each once, and then those of the functions' texts. A variable that
+/// is in the table of special forms (`ja_expressions::SPECIALS`) is no name.
+#[tactic(auto)]
+pub fn prelude_names(
+    alloc: Global,
+    names: &[Text16],
+    statements: &[Statement],
+) -> Result<Seq<Text16>, Memory>
+    requires { length names.now ≤ 65536 }
+    ensures { IfOk result (λ texts. texts ≡ spec.prelude_names names.now statements.now) }
+{
+    let names = names_of(alloc, true, names, statements)?;
+    names.texts(alloc)
+}
+
+/// Lowers the functions of the texts of built-in functions, each by its path: as `lower`, but the names of the table of special
+/// forms (`ja_expressions::SPECIALS`) stand for these where they are variables, which then are no names of the program. The call of a
+/// special form that doesn't have its arguments, or such a variable that isn't called, is undefined. The functions are numbered from
+/// `first_function` on, and nothing else of these texts is lowered.
 ///
 /// # Errors
 ///
-/// Those of `lower`.
-#[tactic(auto, unfolding(crate::specs::Limits::prelude_size_of, crate::specs::Lowering::lowered_prelude))]
+/// `Functions` exactly where there are more than 4,096 functions; the others are those of `lower`.
+#[tactic(auto, using(crate::proofs::Sizes::exceeds_explains, crate::proofs::Sizes::too_many_explain), unfolding(crate::specs::Limits::prelude_size_of, crate::specs::Lowering::lowered_prelude))]
 pub fn lower_prelude(
     alloc: Global,
-    tree: &Tree,
+    statements: &[Statement],
     names: &[Text16],
+    paths: &[Text16],
     first_site: u32,
+    first_function: u32,
 ) -> Result<Lowered, LowerFault>
     requires names { length names.now ≤ 65536 }
-    ensures lowered { IfOk result (λ l. l ≡ lowered_prelude names.now first_site tree.now.statements) }
-    ensures within { IfOk result (λ l. IsPreludeWithin names.now tree.now.statements) }
+    requires functions { first_function ≤ 4096 }
+    ensures lowered { IfOk result (λ l. l ≡ spec.lowered_prelude names.now paths.now first_site first_function statements.now) }
+    ensures within { IfOk result (λ l. IsPreludeWithin names.now statements.now) }
     ensures registers { IfOk result (λ l. AllByRecursion (λ fn. fn.registers ≤ 262144) l.functions) }
     ensures names { IfOk result (λ l. length l.names ≤ 1048576) }
-    ensures fault { IfErr result (ExplainsPrelude names.now tree.now.statements) }
+    ensures fault { IfErr result (ExplainsPrelude names.now statements.now) }
 {
-    lower_with(alloc, true, tree, names, first_site)
+    let functions = functions_in(alloc, statements)?;
+    if functions.len() > MAX_FUNCTIONS {
+        return Err(LowerFault::Functions);
+    }
+    let names = names_of(alloc, true, names, statements)?;
+    let bodies = prelude_bodies(alloc, &names, paths, statements, &functions)?;
+    lowered_bodies(alloc, &names, first_site, first_function, bodies)
 }

@@ -34,14 +34,14 @@ fn function_of(alloc: Global, first: u32, body: Body) -> Result<Function, Memory
     })
 }
 
-/// Adds a function and its sites, where the first site of all has this number.
-fn add(whole: &mut Whole, first_site: u32, body: Body) -> Result<(), Memory>
-    requires few { length whole.old.functions.items < 2 ^ 32 }
+/// Adds a function and its sites, where the first site of all and the first function have these numbers.
+fn add(whole: &mut Whole, first_site: u32, first_function: u32, body: Body) -> Result<(), Memory>
+    requires few { first_function + length whole.old.functions.items < 2 ^ 32 }
     ensures functions { OnOk result (whole.new.functions.items ≡ whole.old.functions.items ++ spec.function_of (first_site + length whole.old.sites.items) body ∷ []) }
-    ensures sites { OnOk result (whole.new.sites.items ≡ whole.old.sites.items ++ spec.sites_of_nodes (length whole.old.functions.items) body.nodes) }
+    ensures sites { OnOk result (whole.new.sites.items ≡ whole.old.sites.items ++ spec.sites_of_nodes (first_function + length whole.old.functions.items) body.nodes) }
     ensures registers { OnOk result ((spec.function_of (first_site + length whole.old.sites.items) body).registers ≤ 262144) }
 {
-    let function = FnId(whole.functions.len() as u32);
+    let function = FnId(first_function + whole.functions.len() as u32);
     let first = behind(first_site, whole.sites.len())?;
     add_sites(&mut whole.sites, function, body.nodes.as_slice())?;
     let alloc = *whole.functions.allocator();
@@ -49,11 +49,16 @@ fn add(whole: &mut Whole, first_site: u32, body: Body) -> Result<(), Memory>
     Ok(())
 }
 
-/// The functions of these bodies and their sites, the first of which has this number.
-pub(crate) fn whole_of(alloc: Global, first_site: u32, bodies: Vec<Body>) -> Result<Whole, Memory>
-    requires few { length bodies.items ≤ 4096 }
+/// The functions of these bodies and their sites, where the first site and the first function have these numbers.
+pub(crate) fn whole_of(
+    alloc: Global,
+    first_site: u32,
+    first_function: u32,
+    bodies: Vec<Body>,
+) -> Result<Whole, Memory>
+    requires few { first_function + length bodies.items ≤ 2 ^ 32 }
     ensures functions { IfOk result (λ w. w.functions.items ≡ spec.functions_of first_site bodies.items) }
-    ensures sites { IfOk result (λ w. w.sites.items ≡ spec.sites_of 0 bodies.items) }
+    ensures sites { IfOk result (λ w. w.sites.items ≡ spec.sites_of first_function bodies.items) }
     ensures registers { IfOk result (λ w. AllByRecursion (λ f. f.registers ≤ 262144) w.functions.items) }
 {
     let mut whole = Whole {
@@ -61,7 +66,7 @@ pub(crate) fn whole_of(alloc: Global, first_site: u32, bodies: Vec<Body>) -> Res
         sites: Vec::new(alloc),
     };
     for body in bodies {
-        add(&mut whole, first_site, body)?;
+        add(&mut whole, first_site, first_function, body)?;
     }
     Ok(whole)
 }

@@ -10,4 +10,4 @@ mod program;
 mod reader;
 mod statement;
 
-pub use reader::parse;
+pub use reader::{parse, read};

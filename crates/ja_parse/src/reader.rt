@@ -51,8 +51,12 @@ fn fault_at(why: Refusal, cursor: &Cursor<'_>) -> ParseFault
     }
 }
 
-/// Reads the tokens of a program.
-fn read(alloc: Global, tokens: &[Token]) -> Result<Items<Statement>, ParseFault>
+/// Reads the tokens of a program (ES3 14), with 200 levels, to its statements.
+///
+/// # Errors
+///
+/// Those of `parse`, with the places that the tokens have.
+pub fn read(alloc: Global, tokens: &[Token]) -> Result<Items<Statement>, ParseFault>
     ensures { Answers (program max_levels tokens.now) result }
 {
     let mut cursor = Cursor::new(tokens);
