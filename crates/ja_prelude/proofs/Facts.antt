@@ -1,0 +1,138 @@
+-- What the texts of the built-in functions come to, computed.
+use Rattle.std.proofs.Common.{◌≡◌, ◌≤◌, ◌==◌, ℕ, Bool, true, Ok, List, [], ◌∷◌, ◌++◌, map, length, Option, None, refl, ap, sym, subst, ◌∙◌, arith}
+use Rattle.std.specs.List.{AllByRecursion, list_all, slice_get, sum_by, zip}
+use lib.Chars.{codes}
+use Rattle.ja_base.specs.declared.ids.ScopeKind.{ScopeKind}
+use Rattle.ja_base.specs.declared.ids.ScopeKind.TheVariants.{CodeMaker, Radix}
+use Rattle.ja_grammar.specs.Input.{Tokens, Outcome, Done, Refused}
+use Rattle.ja_grammar.specs.Language.{Spells, max_levels, Answers}
+use Rattle.ja_grammar.specs.ReadStatement.{program}
+use Rattle.ja_grammar.proofs.Theorem.{answered_tree}
+use Rattle.ja_graph.specs.Node.{function_in}
+use Rattle.ja_graph.specs.WellFormed.{builtin_names}
+use Rattle.ja_graph.specs.declared.node.NodeInfo.{NodeInfo}
+use Rattle.ja_lex.specs.Tokens.{tokens}
+use Rattle.ja_lower.specs.Limits.{prelude_count, prelude_size_of}
+use Rattle.ja_lower.specs.Lowering as lower
+use Rattle.ja_lower.specs.declared.body.Body.{Body}
+use Rattle.ja_names.specs.TextOrder.{functions_in, names_in}
+use Rattle.ja_syntax.specs.declared.tree.Statement.{Statement}
+use Rattle.ja_prelude.specs.Reading.{numbered, is_read, statements_in, is_text, tree_of, is_few}
+use Rattle.ja_prelude.specs.Prelude.{prelude_statements, prelude_paths, prelude_names, prelude_bodies, parameter_counts, own_names, stops, Use, reads, calls, uses, by_path}
+use Rattle.ja_prelude.specs.Table.{function_paths, lengths}
+use Rattle.ja_prelude.proofs.Allowed.{are_plain, all_allowed, all_alone}
+use Rattle.ja_prelude.proofs.Evaluating.{reading, listing}
+use Rattle.ja_prelude.proofs.Readings.{Readings, defined, computing, computing_is, functions_by, names_by}
+use Rattle.ja_prelude.proofs.Rows.{Row, rows_by, bodies, rows_computed, size_of_row, by_path_of, by_path_computed, size_computed, parameters_computed}
+use Rattle.ja_prelude.specs.declared.texts.TheConstants.{FUNCTIONS}
+
+-- ---- reading
+
+pub texts_are_read : list_all (λ f. is_text f.1.now) FUNCTIONS ≡ true
+unfolding reading
+texts_are_read = refl
+
+pub texts_are_few : list_all (λ f. is_few f.1.now) FUNCTIONS ≡ true
+unfolding reading
+texts_are_few = refl
+
+spelled_by : (i : Tokens) (o : Outcome (List Statement)) → program max_levels i ≡ o → is_read o ≡ true → Spells max_levels i (statements_in o)
+spelled_by i (Done xs r) is read = answered_tree i xs (subst (λ o. Answers o (Ok xs)) (sym is) refl)
+spelled_by i (Refused why r) is read = absurd (cc)
+
+pub spelled : (text : List ℕ) → is_text text ≡ true → Spells max_levels (numbered 1 (tokens text)) (tree_of text)
+unfolding is_text tree_of
+spelled text read = spelled_by (numbered 1 (tokens text)) (program max_levels (numbered 1 (tokens text))) refl read
+
+-- ---- functions and names
+
+one_each : list_all (λ f. length (functions_by computing (tree_of f.1.now)) == 1) FUNCTIONS ≡ true
+unfolding reading listing
+one_each = refl
+
+pub texts_are_functions : list_all (λ f. length (functions_in (tree_of f.1.now)) == 1) FUNCTIONS ≡ true
+unfolding functions_in
+texts_are_functions = subst (λ r. list_all (λ f. length (functions_by r (tree_of f.1.now)) == 1) FUNCTIONS ≡ true) computing_is one_each
+
+counted : length (functions_by computing prelude_statements) ≡ 43
+unfolding reading listing
+counted = refl
+
+pub functions_counted : prelude_count prelude_statements ≡ 43
+unfolding functions_in
+functions_counted = subst (λ r. length (functions_by r prelude_statements) ≡ 43) computing_is counted
+
+pub paths_counted : length prelude_paths ≡ 43
+unfolding prelude_paths
+paths_counted = refl
+
+named : names_by computing builtin_names prelude_statements ≡ builtin_names ++ own_names
+unfolding reading listing
+named = refl
+
+pub names_are : prelude_names ≡ builtin_names ++ own_names
+unfolding lower.names_of names_in
+names_are = subst (λ r. names_by r builtin_names prelude_statements ≡ builtin_names ++ own_names) computing_is named
+
+pub names_counted : length prelude_names ≡ 118
+names_counted = ap length names_are
+
+-- ---- nodes
+
+plain : are_plain (rows_by computing) ≡ true
+unfolding reading listing
+plain = refl
+
+pub nodes_are_allowed : lower.AreAllowed bodies
+nodes_are_allowed = all_allowed bodies (subst (λ rows. are_plain rows ≡ true) (sym rows_computed) plain)
+
+pub nodes_stand_alone : AllByRecursion (λ (body : Body). AllByRecursion (λ (info : NodeInfo). function_in info.node ≡ None) body.nodes) bodies
+nodes_stand_alone = all_alone bodies (subst (λ rows. are_plain rows ≡ true) (sym rows_computed) plain)
+
+sized : sum_by size_of_row (rows_by computing) ≡ 1095
+unfolding reading listing
+sized = refl
+
+pub nodes_are_few : prelude_size_of builtin_names prelude_statements ≤ 1100
+unfolding prelude_size_of
+nodes_are_few = omega (arith, size_computed ∙ sized)
+
+stopping : by_path_of stops prelude_paths (rows_by computing) ≡ (codes "Function", CodeMaker) ∷ (codes "Function", CodeMaker) ∷ (codes "Number.prototype.toString", Radix) ∷ []
+unfolding reading listing
+stopping = refl
+
+pub stops_are : by_path stops prelude_bodies ≡ (codes "Function", CodeMaker) ∷ (codes "Function", CodeMaker) ∷ (codes "Number.prototype.toString", Radix) ∷ []
+stops_are = by_path_computed stops ∙ stopping
+
+using : by_path_of uses prelude_paths (rows_by computing) ≡
+    (codes "Error.prototype.toString", reads (codes "name")) ∷ (codes "Error.prototype.toString", reads (codes "message"))
+    ∷ (codes "%valueFirst", reads (codes "valueOf")) ∷ (codes "%valueFirst", calls)
+    ∷ (codes "%valueFirst", reads (codes "toString")) ∷ (codes "%valueFirst", calls)
+    ∷ (codes "%textFirst", reads (codes "toString")) ∷ (codes "%textFirst", calls)
+    ∷ (codes "%textFirst", reads (codes "valueOf")) ∷ (codes "%textFirst", calls) ∷ []
+unfolding reading listing
+using = refl
+
+pub uses_are : by_path uses prelude_bodies ≡
+    (codes "Error.prototype.toString", reads (codes "name")) ∷ (codes "Error.prototype.toString", reads (codes "message"))
+    ∷ (codes "%valueFirst", reads (codes "valueOf")) ∷ (codes "%valueFirst", calls)
+    ∷ (codes "%valueFirst", reads (codes "toString")) ∷ (codes "%valueFirst", calls)
+    ∷ (codes "%textFirst", reads (codes "toString")) ∷ (codes "%textFirst", calls)
+    ∷ (codes "%textFirst", reads (codes "valueOf")) ∷ (codes "%textFirst", calls) ∷ []
+uses_are = by_path_computed uses ∙ using
+
+parametrised : map (λ (x : List ℕ × Row). x.1.parameters) (zip prelude_paths (rows_by computing)) ≡ 0 ∷ 1 ∷ 1 ∷ 1 ∷ 1 ∷ 1 ∷ 1 ∷ 1 ∷ 1 ∷ 1 ∷ 1 ∷ 1 ∷ 1 ∷ 1 ∷ 1 ∷ 1 ∷ 1 ∷ 1 ∷ 1 ∷ 1 ∷ 1 ∷ 1 ∷ 1 ∷ 1 ∷ 1 ∷ 1 ∷ 1 ∷ 0 ∷ 0 ∷ 1 ∷ 1 ∷ 1 ∷ 2 ∷ 1 ∷ 0 ∷ 0 ∷ 0 ∷ 0 ∷ 1 ∷ 0 ∷ 0 ∷ 0 ∷ 0 ∷ []
+unfolding reading listing
+parametrised = refl
+
+parameters_are : parameter_counts ≡ 0 ∷ 1 ∷ 1 ∷ 1 ∷ 1 ∷ 1 ∷ 1 ∷ 1 ∷ 1 ∷ 1 ∷ 1 ∷ 1 ∷ 1 ∷ 1 ∷ 1 ∷ 1 ∷ 1 ∷ 1 ∷ 1 ∷ 1 ∷ 1 ∷ 1 ∷ 1 ∷ 1 ∷ 1 ∷ 1 ∷ 1 ∷ 0 ∷ 0 ∷ 1 ∷ 1 ∷ 1 ∷ 2 ∷ 1 ∷ 0 ∷ 0 ∷ 0 ∷ 0 ∷ 1 ∷ 0 ∷ 0 ∷ 0 ∷ 0 ∷ []
+parameters_are = parameters_computed ∙ parametrised
+
+-- ---- the table
+
+pub paths_are_told : prelude_paths ≡ function_paths ++ codes "%valueFirst" ∷ codes "%textFirst" ∷ []
+unfolding prelude_paths
+paths_are_told = refl
+
+pub lengths_are_told : map (λ (row : ℕ × Option ℕ). slice_get parameter_counts row.0) lengths ≡ map (λ (row : ℕ × Option ℕ). row.1) lengths
+lengths_are_told = subst (λ counts. map (λ (row : ℕ × Option ℕ). slice_get counts row.0) lengths ≡ map (λ (row : ℕ × Option ℕ). row.1) lengths) (sym parameters_are) refl

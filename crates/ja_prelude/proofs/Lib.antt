@@ -1,0 +1,12 @@
+pub mod Allowed
+pub mod Answering
+pub mod DistinctLemmas
+pub mod Evaluating
+pub mod Facts
+pub mod Folds
+pub mod ListLemmas
+pub mod ObjectLemmas
+pub mod OpeningLemmas
+pub mod Readings
+pub mod Rows
+pub mod TableLemmas

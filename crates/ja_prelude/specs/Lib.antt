@@ -1,0 +1,4 @@
+pub mod Opening
+pub mod Table
+pub mod Reading
+pub mod Prelude

@@ -1,0 +1,35 @@
+-- The trees of the built-in functions' texts.
+use Rattle.std.specs.Prelude.{ℕ, suc, Bool, true, false, ◌&&◌, nat_le, List, [], ◌∷◌, length}
+use Rattle.ja_grammar.specs.Input.{Outcome, Done, Refused}
+use Rattle.ja_grammar.specs.Language.{max_levels}
+use Rattle.ja_grammar.specs.ReadStatement.{program}
+use Rattle.ja_lex.specs.declared.token.Token.{Token}
+use Rattle.ja_lex.specs.Tokens.{tokens}
+use Rattle.ja_syntax.specs.declared.tree.Statement.{Statement}
+
+-- The tokens of a text with their numbers as places: what no text of a user has stands at line 0.
+unfoldable pub numbered : ℕ → List Token → List Token
+numbered n [] = []
+numbered n (t ∷ ts) = record t { place = record { line = 0; column = n } } ∷ numbered (suc n) ts
+
+abbrev pub outcome_of : List ℕ → Outcome (List Statement)
+outcome_of text = program max_levels (numbered 1 (tokens text))
+
+abbrev pub is_read : Outcome (List Statement) → Bool
+is_read (Done statements rest) = true
+is_read (Refused why rest) = false
+
+abbrev pub statements_in : Outcome (List Statement) → List Statement
+statements_in (Done statements rest) = statements
+statements_in (Refused why rest) = []
+
+-- whether the bytes are a text of the language, and its statements
+unfoldable pub is_text : List ℕ → Bool
+is_text text = is_read (outcome_of text)
+
+unfoldable pub tree_of : List ℕ → List Statement
+tree_of text = statements_in (outcome_of text)
+
+-- a text of few bytes and tokens
+abbrev pub is_few : List ℕ → Bool
+is_few text = nat_le (length text) 65536 && nat_le (length (tokens text)) 65536

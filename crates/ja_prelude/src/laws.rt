@@ -1,0 +1,75 @@
+//! What the texts of the built-in functions come to. The functions do nothing; their contracts are the laws.
+
+ghost use Rattle.std.specs.Prelude.{◌≡◌, ◌≤◌, ◌==◌, ◌++◌, ◌∷◌, [], ℕ, List, None, true, length, map, slice_get};
+ghost use Rattle.std.specs.List.{AllByRecursion, list_all};
+ghost use lib.Chars.{codes};
+ghost use Rattle.ja_base.specs.declared.ids.ScopeKind.TheVariants.{CodeMaker, Radix};
+ghost use Rattle.ja_grammar.specs.Language.{Spells, max_levels};
+ghost use Rattle.ja_graph.specs.Node.{function_in};
+ghost use Rattle.ja_graph.specs.WellFormed.{builtin_names};
+ghost use Rattle.ja_lex.specs.Tokens.{tokens};
+ghost use Rattle.ja_lower.specs.Limits.{prelude_count, prelude_size_of};
+ghost use Rattle.ja_lower.specs.Lowering as lower;
+ghost use Rattle.ja_names.specs.TextOrder.{functions_in};
+ghost use Rattle.ja_prelude.specs.Reading.{is_few, is_text, numbered, tree_of};
+ghost use Rattle.ja_prelude.specs.Prelude.{by_path, calls, own_names, parameter_counts, prelude_bodies, prelude_names, prelude_paths, prelude_statements, reads, stops, uses};
+ghost use Rattle.ja_prelude.specs.Table.{function_paths, lengths};
+ghost use Rattle.ja_prelude.specs.declared.texts.TheConstants.{FUNCTIONS};
+
+/// Each text is in the language and short, and its tree is that of the grammar.
+#[tactic(auto, using(crate::proofs::Facts::texts_are_read, crate::proofs::Facts::texts_are_few, crate::proofs::Facts::spelled))]
+pub fn texts_are_read()
+    ensures read { list_all (λ f. is_text f.1.now) FUNCTIONS ≡ true }
+    ensures few { list_all (λ f. is_few f.1.now) FUNCTIONS ≡ true }
+    ensures spelled { (text : List ℕ) → is_text text ≡ true → Spells max_levels (numbered 1 (tokens text)) (tree_of text) }
+{}
+
+/// Each text is one function, in which no other stands, and there is a path for each.
+#[tactic(auto, using(crate::proofs::Facts::texts_are_functions, crate::proofs::Facts::functions_counted, crate::proofs::Facts::paths_counted))]
+pub fn texts_are_functions()
+    ensures each { list_all (λ f. length (functions_in (tree_of f.1.now)) == 1) FUNCTIONS ≡ true }
+    ensures functions { prelude_count prelude_statements ≡ 43 }
+    ensures paths { length prelude_paths ≡ 43 }
+{}
+
+/// The functions are those of the table, and the two default values behind them: each has the path of its object, and as many parameters as
+/// the `length` of the object says.
+#[tactic(auto, using(crate::proofs::Facts::paths_are_told, crate::proofs::Facts::lengths_are_told))]
+pub fn functions_are_those_of_the_table()
+    ensures paths { prelude_paths ≡ function_paths ++ codes "%valueFirst" ∷ codes "%textFirst" ∷ [] }
+    ensures lengths { map (λ row. slice_get parameter_counts row.0) lengths ≡ map (λ row. row.1) lengths }
+{}
+
+/// The names that each program begins with.
+#[tactic(auto, using(crate::proofs::Facts::names_are, crate::proofs::Facts::names_counted))]
+pub fn names_are_told()
+    ensures names { prelude_names ≡ builtin_names ++ own_names }
+    ensures count { length prelude_names ≡ 118 }
+{}
+
+/// The functions have few nodes, where each parameter of one counts as one more.
+#[tactic(auto, using(crate::proofs::Facts::nodes_are_few))]
+pub fn nodes_are_few()
+    ensures { prelude_size_of builtin_names prelude_statements ≤ 1100 }
+{}
+
+/// Each node is allowed in any program, so none asks a device; and none makes a function.
+#[tactic(auto, using(crate::proofs::Facts::nodes_are_allowed, crate::proofs::Facts::nodes_stand_alone))]
+pub fn nodes_are_allowed()
+    ensures allowed { lower.AreAllowed (lower.prelude_bodies prelude_names prelude_statements) }
+    ensures alone { AllByRecursion (λ body. AllByRecursion (λ info. function_in info.node ≡ None) body.nodes) (lower.prelude_bodies prelude_names prelude_statements) }
+{}
+
+/// The functions that may stop, with the kinds of their stops: those that make functions of texts (15.3), and the one that takes a radix
+/// (15.7.4.2).
+#[tactic(auto, using(crate::proofs::Facts::stops_are))]
+pub fn stops_are_told()
+    ensures { by_path stops prelude_bodies ≡ (codes "Function", CodeMaker) ∷ (codes "Function", CodeMaker) ∷ (codes "Number.prototype.toString", Radix) ∷ [] }
+{}
+
+/// What the functions read of their `this`, and where they call a function on it: the default value of an object comes of both methods,
+/// in the order of the hint (8.6.2.6).
+#[tactic(auto, using(crate::proofs::Facts::uses_are))]
+pub fn uses_are_told()
+    ensures { by_path uses prelude_bodies ≡ (codes "Error.prototype.toString", reads (codes "name")) ∷ (codes "Error.prototype.toString", reads (codes "message")) ∷ (codes "%valueFirst", reads (codes "valueOf")) ∷ (codes "%valueFirst", calls) ∷ (codes "%valueFirst", reads (codes "toString")) ∷ (codes "%valueFirst", calls) ∷ (codes "%textFirst", reads (codes "toString")) ∷ (codes "%textFirst", calls) ∷ (codes "%textFirst", reads (codes "valueOf")) ∷ (codes "%textFirst", calls) ∷ [] }
+{}
