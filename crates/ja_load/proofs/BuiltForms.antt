@@ -1,5 +1,5 @@
 -- What an expression all of whose forms are built lists is built, and it has no function.
-use Rattle.std.proofs.Common.{Bool, true, false, List, [], ◌∷◌, Option, Some, None, Ok, Err, if◌then◌else◌, sym, subst}
+use Rattle.std.proofs.Common.{◌≡◌, Bool, true, false, List, [], ◌∷◌, Option, Some, None, Ok, Err, if◌then◌else◌, refl, sym, subst}
 use Rattle.std.specs.List.{AllByRecursion}
 use Rattle.ja_base.specs.declared.ids.Place.{Place}
 use Rattle.ja_prim.specs.declared.primitive.Primitive.{Primitive}
@@ -18,7 +18,7 @@ use Rattle.ja_names.specs.TextOrder.{Part, a_function, a_name, Parts, in_literal
 use Rattle.ja_expressions.specs.References.{Form}
 use Rattle.ja_expressions.specs.Expressions.{apply_operations, form_step, form}
 use Rattle.ja_ranges.proofs.LineRanges.{all_append}
-use Rattle.ja_load.specs.Built.{Read, behind, read_suffix, read_chain, read_update, is_logical, read_assignment, read_expression, read}
+use Rattle.ja_load.specs.Built.{Read, is_excluded, behind, read_suffix, read_chain, read_update, is_logical, read_assignment, read_expression, read}
 use Rattle.ja_load.proofs.BuiltNodes.{IsBuiltForm, built_with_const, built_value_of, built_with_name, built_list_call, built_assign}
 
 -- all forms of what was read are built
@@ -99,6 +99,10 @@ literal_parts primitive.Null = tt
 literal_parts (primitive.Bool b) = tt
 literal_parts (primitive.Number n) = tt
 
+not_excluded : (b : Bool) (place : Place) → IsRead (if b then Err place else Ok true) → b ≡ false
+not_excluded true place h = absurd h
+not_excluded false place h = refl
+
 -- ---- one level of an expression
 
 abbrev IsBuiltAt : Expression → Type 0
@@ -144,7 +148,7 @@ chain_built head (s ∷ t ∷ ts) h = absurd (no_second (read head.0) _ _ _ h)
 level_built : (y : WithProofs) → IsBuiltLevel (without_proofs y)
 unfolding apply_operations
 level_built (Expression-F.This place) h = absurd h
-level_built (Expression-F.Name name) h = record { listed = built_with_name name.text name.place; names = (tt, tt) }
+level_built (Expression-F.Name name) h = record { listed = built_with_name name.text name.place (not_excluded (is_excluded name.text) name.place h); names = (tt, tt) }
 level_built (Expression-F.Literal value place) h =
     record { listed = λ scene l plain built. record { nodes = built_with_const scene place value built; outcome = tt }; names = literal_parts value }
 level_built (Expression-F.Array elements place) h = absurd h

@@ -1,8 +1,7 @@
--- A text all of whose forms are built comes to nodes of kinds that are built, and to no function that could be called.
-use Rattle.std.proofs.Common.{◌≡◌, ℕ, zero, suc, Bool, true, false, if◌then◌else◌, List, [], ◌∷◌, ◌++◌, map, length, Option, Some, None, Ok, Err, slice_get, refl, sym, ap, ◌∙◌, subst}
+-- A text all of whose forms are built comes to nodes of kinds that are built, with no excluded name, and to no function that could be
+-- called.
+use Rattle.std.proofs.Common.{◌≡◌, ℕ, zero, suc, Bool, true, false, if◌then◌else◌, List, [], ◌∷◌, ◌++◌, map, Option, Some, None, Ok, Err, slice_get, refl, sym, ap, ◌∙◌, subst}
 use Rattle.std.specs.List.{AllByRecursion, flat_map}
-use Rattle.std.specs.declared.alloc.Global.{Global}
-use Rattle.std.specs.Prelude.{String}
 use Rattle.ja_base.specs.declared.ids.Place.{Place}
 use Rattle.ja_prim.specs.declared.primitive.Primitive.TheVariants as primitive
 use Rattle.ja_syntax.specs.Hoisted.{Texts, nothing, variables_step, variables_in_case, variables_of, once, hoisted_variables}
@@ -14,15 +13,13 @@ use Rattle.ja_syntax.specs.declared.tree.Expression.TheOpen.{Statement-F}
 use Rattle.ja_syntax.specs.declared.tree.Expression.TheFolds.{fold-roll-Statement, para-roll-Statement, ind-Statement, map-Statement}
 use Rattle.ja_syntax.specs.declared.tree.Expression.TheViews.{out-roll-Statement}
 use Rattle.ja_names.specs.TextOrder.{a_function, a_name, Parts, if_function, expression_step, statement_step, case_step, in_expression, in_statement, in_case, functions_in}
-use Rattle.ja_graph.specs.Kinds.{AreBuilt}
+use Rattle.ja_graph.specs.Kinds.{is_built}
 use Rattle.ja_graph.specs.Node.{makings}
-use Rattle.ja_graph.specs.WellFormed.{builtin_names}
 use Rattle.ja_graph.specs.declared.node.Node.{Node}
 use Rattle.ja_graph.specs.declared.node.Node.TheVariants.{Return, Escape}
 use Rattle.ja_graph.specs.declared.node.Node.TheVariants as node
 use Rattle.ja_graph.specs.declared.node.NodeInfo.{NodeInfo}
 use Rattle.ja_graph.specs.declared.program.Function.{Function}
-use Rattle.ja_graph.specs.declared.program.Program.{Program}
 use Rattle.ja_graph.specs.declared.program.SiteInfo.{SiteInfo}
 use Rattle.ja_listing.specs.declared.item.Item.{Item}
 use Rattle.ja_listing.specs.Listing.{begins_with_node}
@@ -35,20 +32,17 @@ use Rattle.ja_ranges.specs.InRange.{OfNode}
 use Rattle.ja_ranges.proofs.CopyRanges.{assembled_keeps}
 use Rattle.ja_ranges.proofs.LineRanges.{all_append}
 use Rattle.ja_lower.specs.declared.body.Body.{Body}
-use Rattle.ja_lower.specs.Lowering.{shifting, names_of, scene_of, program_body, function_body, bodies_of, numbered, function_of, functions_of, site_of, sites_of_nodes, sites_of, lowered}
-use Rattle.ja_lower.proofs.FunctionLemmas.{all-at, all-from, get-numbered}
+use Rattle.ja_lower.specs.Lowering.{names_of, scene_of, program_body, function_body, bodies_of, numbered, function_of, functions_of, site_of, sites_of_nodes, sites_of, lowered}
+use Rattle.ja_lower.proofs.FunctionLemmas.{all-at, get-numbered}
 use Rattle.ja_load.specs.Built.{Read, read, fault_of, unbuilt_layer, unbuilt_statement, first_of, unbuilt}
-use Rattle.ja_load.specs.Builtins.{builtin_sites}
-use Rattle.ja_load.specs.Loading.{program_of, IsProgramOf}
-use Rattle.ja_load.proofs.BuiltNodes.{IsBuilt, AllBuilt, IsBuiltListing, renamed_built, built_restarted, built_with_node, built_with_const, built_value_of}
-use Rattle.ja_load.proofs.WellFormedLemmas.{HasNone, builtins_have_none}
+use Rattle.ja_load.proofs.BuiltNodes.{IsBuilt, AllBuilt, IsBuiltListing, escape_built, return_built, renamed_built, built_restarted, built_with_node, built_with_const, built_value_of}
 use Rattle.ja_load.proofs.BuiltForms.{IsRead, IsName, HasNoFunction, expression_built}
 
 -- ---- statements
 
 -- what a statement all of whose forms are built does, and what it has not
 pub record IsBuiltStatement (x : Statement) : Type 0 where
-  pub nodes : (around : Around) (base : ℕ) (l : Listing) → around.scene.specials ≡ false → IsBuiltListing l → IsBuiltListing (does x around base l)
+  pub nodes : (around : Around) (base : ℕ) (l : Listing) → around.scene.specials ≡ false → IsBuiltListing around.scene.names l → IsBuiltListing around.scene.names (does x around base l)
   pub parts : HasNoFunction (in_statement x)
   pub variables : variables_of x ≡ []
   pub declares : (scene : Scene) (base : ℕ) (l : Listing) → declare_function_of scene x base l ≡ l
@@ -67,7 +61,7 @@ no_declaration x none scene base l = ap (λ y. declare_function scene y base l) 
 empty_built : (place : Place) → IsBuiltStatement (roll-Statement (Statement-F.Empty place))
 empty_built place = record {
   nodes = λ around base l plain built.
-      subst (λ x. IsBuiltListing (does x around base l)) (sym (rolls-Empty place)) (subst (λ (z : Listing). IsBuiltListing z) (sym (does_empty place around base l)) built);
+      subst (λ x. IsBuiltListing around.scene.names (does x around base l)) (sym (rolls-Empty place)) (subst (λ (z : Listing). IsBuiltListing around.scene.names z) (sym (does_empty place around base l)) built);
   parts = subst HasNoFunction (sym (parts_opened (Statement-F.Empty place))) tt;
   variables = fold-roll-Statement (Unit {0}) Texts Texts nothing variables_step variables_in_case (Statement-F.Empty place);
   declares = no_declaration (Statement-F.Empty place) (λ scene base l. refl);
@@ -78,8 +72,8 @@ expression_statement_built value place h =
     let e = expression_built value h in
     record {
       nodes = λ around base l plain built.
-          subst (λ x. IsBuiltListing (does x around base l)) (sym (rolls-Expression value place))
-          (subst (λ (z : Listing). IsBuiltListing z) (sym (does_expression value place around base l)) (built_value_of (form value) e.listed around.scene (restarted base l) plain (built_restarted base built)));
+          subst (λ x. IsBuiltListing around.scene.names (does x around base l)) (sym (rolls-Expression value place))
+          (subst (λ (z : Listing). IsBuiltListing around.scene.names z) (sym (does_expression value place around base l)) (built_value_of (form value) e.listed around.scene (restarted base l) plain (built_restarted base built)));
       parts = subst HasNoFunction (sym (parts_opened (Statement-F.Expression value place))) e.names;
       variables = fold-roll-Statement (Unit {0}) Texts Texts nothing variables_step variables_in_case (Statement-F.Expression value place);
       declares = no_declaration (Statement-F.Expression value place) (λ scene base l. refl);
@@ -112,7 +106,7 @@ each_built [] is = tt
 each_built (x ∷ xs) is =
     (statement_built x (first_none (unbuilt_statement x) (unbuilt xs) is), each_built xs (later_none (unbuilt_statement x) (unbuilt xs) is))
 
-statements_built : (xs : List Statement) (around : Around) (base : ℕ) (l : Listing) → AllByRecursion IsBuiltStatement xs → around.scene.specials ≡ false → IsBuiltListing l → IsBuiltListing (list_all_statements (map does xs) around base l)
+statements_built : (xs : List Statement) (around : Around) (base : ℕ) (l : Listing) → AllByRecursion IsBuiltStatement xs → around.scene.specials ≡ false → IsBuiltListing around.scene.names l → IsBuiltListing around.scene.names (list_all_statements (map does xs) around base l)
 unfolding list_all_statements
 statements_built [] around base l each plain built = built
 statements_built (x ∷ xs) around base l each plain built =
@@ -149,36 +143,36 @@ no_functions xs each = names_alone (flat_map in_statement xs) (all_parts xs each
 
 -- ---- the program's nodes
 
-body_built : (scene : Scene) (place : Place) (xs : List Statement) (base : ℕ) (l : Listing) → AllByRecursion IsBuiltStatement xs → scene.specials ≡ false → IsBuiltListing l → IsBuiltListing (with_body scene place xs base l)
+body_built : (scene : Scene) (place : Place) (xs : List Statement) (base : ℕ) (l : Listing) → AllByRecursion IsBuiltStatement xs → scene.specials ≡ false → IsBuiltListing scene.names l → IsBuiltListing scene.names (with_body scene place xs base l)
 unfolding declare_variables
 body_built scene place xs base l each plain built =
     let around : Around = record { scene = scene; ways = []; labels = [] } in
     let start : declare_variables scene place (hoisted_variables xs) (declare_functions scene xs base l) ≡ l =
     ap (λ vs. declare_variables scene place vs (declare_functions scene xs base l)) (no_variable xs each) ∙ nothing_declared scene xs base l each in
-    let statements = statements_built xs around base _ each plain (subst (λ (z : Listing). IsBuiltListing z) (sym start) built) in
-    built_with_node scene place Escape refl (built_with_node scene place (Return _) refl (built_with_const scene place primitive.Undefined (built_restarted base statements)))
+    let statements = statements_built xs around base _ each plain (subst (λ (z : Listing). IsBuiltListing scene.names z) (sym start) built) in
+    built_with_node scene place Escape escape_built (built_with_node scene place (Return _) (return_built _) (built_with_const scene place primitive.Undefined (built_restarted base statements)))
 
-beginning_built : (scene : Scene) (items : List Item) → AllBuilt items → AllBuilt (beginning_with_node scene items)
+beginning_built : (names : List (List ℕ)) (scene : Scene) (items : List Item) → AllBuilt names items → AllBuilt names (beginning_with_node scene items)
 unfolding beginning_with_node
-beginning_built scene items built = either (begins_with_node items)
+beginning_built names scene items built = either (begins_with_node items)
   where
-    first : IsBuiltListing (with_const scene first_place primitive.Undefined (nothing_listed (first_temporary 0))).listing
+    first : IsBuiltListing names (with_const scene first_place primitive.Undefined (nothing_listed (first_temporary 0))).listing
     first = built_with_const {l = nothing_listed (first_temporary 0)} scene first_place primitive.Undefined (record { nodes = tt })
 
-    either : (b : Bool) → AllBuilt (if b then items else first_const scene ++ items)
+    either : (b : Bool) → AllBuilt names (if b then items else first_const scene ++ items)
     either true = built
-    either false = all_append (OfNode IsBuilt) (first_const scene) items first.nodes built
+    either false = all_append (OfNode (IsBuilt names)) (first_const scene) items first.nodes built
 
-program_built : (scene : Scene) (xs : List Statement) → AllByRecursion IsBuiltStatement xs → scene.specials ≡ false → AllBuilt (program_listing scene xs)
+program_built : (scene : Scene) (xs : List Statement) → AllByRecursion IsBuiltStatement xs → scene.specials ≡ false → AllBuilt scene.names (program_listing scene xs)
 unfolding program_listing
 program_built scene xs each plain =
-    beginning_built (unhandled scene) _ (body_built (unhandled scene) first_place xs (first_temporary 0) (nothing_listed (first_temporary 0)) each plain (record { nodes = tt })).nodes
+    beginning_built scene.names (unhandled scene) _ (body_built (unhandled scene) first_place xs (first_temporary 0) (nothing_listed (first_temporary 0)) each plain (record { nodes = tt })).nodes
 
-numbered_built : (first : ℕ) (infos : List NodeInfo) (n : ℕ) (info : NodeInfo) → AllByRecursion (λ (i : NodeInfo). IsBuilt i.node) infos → slice_get (numbered first infos) n ≡ Some info → IsBuilt info.node
-numbered_built first infos n info each is =
+pub numbered_built : (names : List (List ℕ)) (first : ℕ) (infos : List NodeInfo) (n : ℕ) (info : NodeInfo) → AllByRecursion (λ (i : NodeInfo). IsBuilt names i.node) infos → slice_get (numbered first infos) n ≡ Some info → IsBuilt names info.node
+numbered_built names first infos n info each is =
     let from = get-numbered first infos n info is in
-    let old = all-at (λ (i : NodeInfo). IsBuilt i.node) infos n from.1 each from.2 in
-    subst (λ (i : NodeInfo). IsBuilt i.node) from.3 (renamed_built (shifting from.0) from.1.node old)
+    let old = all-at (λ (i : NodeInfo). IsBuilt names i.node) infos n from.1 each from.2 in
+    subst (λ (i : NodeInfo). IsBuilt names i.node) from.3 (renamed_built names from.0 from.1.node old)
 
 -- the one function of a text without functions
 only_function : (first : ℕ) (body : Body) (f : ℕ) (fn : Function) → slice_get (functions_of first (body ∷ [])) f ≡ Some fn → function_of first body ≡ fn
@@ -186,25 +180,32 @@ unfolding functions_of
 only_function first body zero fn is = cc
 only_function first body (suc f) fn is = absurd (cc)
 
-pub lowered_built : (names : List (List ℕ)) (first : ℕ) (xs : List Statement) (f n : ℕ) (fn : Function) (info : NodeInfo) → unbuilt xs ≡ None → slice_get (lowered names first xs).functions f ≡ Some fn → slice_get fn.nodes n ≡ Some info → IsBuilt info.node
-unfolding lowered bodies_of
+-- a text all of whose forms are built has no function besides the program
+only_body : (scene : Scene) (xs : List Statement) → unbuilt xs ≡ None → bodies_of scene xs ≡ program_body scene xs ∷ []
+unfolding bodies_of
+only_body scene xs is = ap (λ fs. program_body scene xs ∷ map (function_body scene) fs) (no_functions xs (each_built xs is))
+
+-- the nodes of the program are built, by the names of the text
+pub body_is_built : (scene : Scene) (xs : List Statement) → scene.specials ≡ false → unbuilt xs ≡ None → AllByRecursion (λ (i : NodeInfo). IsBuilt scene.names i.node) (program_body scene xs).nodes
+body_is_built scene xs plain is =
+    assembled_keeps (IsBuilt scene.names) (program_listing scene xs) (program_built scene xs (each_built xs is) plain)
+
+pub lowered_built : (names : List (List ℕ)) (first : ℕ) (xs : List Statement) (f n : ℕ) (fn : Function) (info : NodeInfo) → unbuilt xs ≡ None → slice_get (lowered names first xs).functions f ≡ Some fn → slice_get fn.nodes n ≡ Some info → is_built info.node ≡ true
+unfolding lowered
 lowered_built names first xs f n fn info is at_f at_n =
-    let each = each_built xs is in
     let scene = scene_of (names_of false names xs) xs in
     let body = program_body scene xs in
-    let bodies : bodies_of scene xs ≡ body ∷ [] = ap (λ fs. body ∷ map (function_body scene) fs) (no_functions xs each) in
-    let same = only_function first body f fn (ap (λ (bs : List Body). slice_get (functions_of first bs) f) (sym bodies) ∙ at_f) in
-    let nodes = assembled_keeps IsBuilt (program_listing scene xs) (program_built scene xs each refl) in
-    numbered_built first body.nodes n info nodes (ap (λ (g : Function). slice_get g.nodes n) same ∙ at_n)
+    let same = only_function first body f fn (ap (λ (bs : List Body). slice_get (functions_of first bs) f) (sym (only_body scene xs is)) ∙ at_f) in
+    (numbered_built scene.names first body.nodes n info (body_is_built scene xs refl is) (ap (λ (g : Function). slice_get g.nodes n) same ∙ at_n)).kind
 
 -- ---- the program's sites
 
 -- none of the site's objects can be called or constructs
-abbrev IsUncalled : SiteInfo → Type 0
+abbrev pub IsUncalled : SiteInfo → Type 0
 IsUncalled info = (info.calls ≡ None) × (info.constructs ≡ None)
 
 -- what a node of a kind that is built makes is no function
-makings_uncalled : (f : ℕ) (info : NodeInfo) (n : Node) → IsBuilt n → AllByRecursion IsUncalled (map (site_of f info) (makings n))
+makings_uncalled : (f : ℕ) (info : NodeInfo) (n : Node) → is_built n ≡ true → AllByRecursion IsUncalled (map (site_of f info) (makings n))
 unfolding makings
 makings_uncalled f info (node.ReadRef dst base name error) built = ((refl, refl), tt)
 makings_uncalled f info (node.Call dst callee receiver args error) built = ((refl, refl), tt)
@@ -215,28 +216,15 @@ makings_uncalled f info (Return src) built = tt
 makings_uncalled f info Escape built = tt
 makings_uncalled f info n built = absurd (cc)
 
-nodes_uncalled : (f : ℕ) (infos : List NodeInfo) → AllByRecursion (λ (info : NodeInfo). IsBuilt info.node) infos → AllByRecursion IsUncalled (sites_of_nodes f infos)
+nodes_uncalled : (names : List (List ℕ)) (f : ℕ) (infos : List NodeInfo) → AllByRecursion (λ (info : NodeInfo). IsBuilt names info.node) infos → AllByRecursion IsUncalled (sites_of_nodes f infos)
 unfolding sites_of_nodes
-nodes_uncalled f [] each = tt
-nodes_uncalled f (info ∷ infos) each =
-    all_append IsUncalled (map (site_of f info) (makings info.node)) (sites_of_nodes f infos) (makings_uncalled f info info.node each.0) (nodes_uncalled f infos each.1)
+nodes_uncalled names f [] each = tt
+nodes_uncalled names f (info ∷ infos) each =
+    all_append IsUncalled (map (site_of f info) (makings info.node)) (sites_of_nodes f infos) (makings_uncalled f info info.node each.0.kind) (nodes_uncalled names f infos each.1)
 
-lowered_uncalled : (names : List (List ℕ)) (first : ℕ) (xs : List Statement) → unbuilt xs ≡ None → AllByRecursion IsUncalled (lowered names first xs).sites
-unfolding lowered bodies_of sites_of
+pub lowered_uncalled : (names : List (List ℕ)) (first : ℕ) (xs : List Statement) → unbuilt xs ≡ None → AllByRecursion IsUncalled (lowered names first xs).sites
+unfolding lowered sites_of
 lowered_uncalled names first xs is =
-    let each = each_built xs is in
     let scene = scene_of (names_of false names xs) xs in
     let body = program_body scene xs in
-    let bodies : bodies_of scene xs ≡ body ∷ [] = ap (λ fs. body ∷ map (function_body scene) fs) (no_functions xs each) in
-    let nodes = assembled_keeps IsBuilt (program_listing scene xs) (program_built scene xs each refl) in
-    subst (λ (bs : List Body). AllByRecursion IsUncalled (sites_of 0 bs)) (sym bodies) (all_append IsUncalled (sites_of_nodes 0 body.nodes) [] (nodes_uncalled 0 body.nodes nodes) tt)
-
-pub program_is_built : (text : String Global) (xs : List Statement) → unbuilt xs ≡ None → AreBuilt (program_of text xs)
-unfolding program_of
-program_is_built text xs is = record {
-  nodes = λ f n fn info at_f at_n. lowered_built builtin_names _ xs f n fn info is at_f at_n;
-  uncalled = λ s info at. all-at IsUncalled (builtin_sites ++ (lowered builtin_names (length builtin_sites) xs).sites) s info (all_append IsUncalled builtin_sites (lowered builtin_names (length builtin_sites) xs).sites (all-from HasNone IsUncalled builtin_sites (λ i none. (none.1, none.2)) builtins_have_none) (lowered_uncalled builtin_names (length builtin_sites) xs is)) at;
-}
-
-pub programs_are_built : (bytes : List ℕ) (p : Program) → IsProgramOf bytes p → AreBuilt p
-programs_are_built bytes p is = subst AreBuilt (sym is.program) (program_is_built p.text is.statements is.built)
+    subst (λ (bs : List Body). AllByRecursion IsUncalled (sites_of 0 bs)) (sym (only_body scene xs is)) (all_append IsUncalled (sites_of_nodes 0 body.nodes) [] (nodes_uncalled scene.names 0 body.nodes (body_is_built scene xs refl is)) tt)

@@ -1,8 +1,5 @@
 pub mod BuiltForms
 pub mod BuiltNodes
 pub mod BuiltPrograms
-pub mod DistinctLemmas
-pub mod ObjectLemmas
-pub mod RunningPrograms
-pub mod TableLemmas
+pub mod PlainPrograms
 pub mod WellFormedLemmas

@@ -1,7 +1,7 @@
--- Which forms are built, and where the first one stands that is not. A run goes through every form but functions.
+-- Which forms are built for the analysis, and where the first one stands that is not. A run goes through every form.
 --
--- For the analysis are built the empty statement, and the statement of an expression that is a number, a name, the call of a name without
--- arguments, or the assignment by `=` of such an expression to a name; no name is an excluded one.
+-- Built are the empty statement, and the statement of an expression that is a number, a name, the call of a name without arguments, or
+-- the assignment by `=` of such an expression to a name; no name is an excluded one.
 --
 -- Any other form has a place: an assignment, an operator between operands, `++` and `--` behind an operand, and a suffix of a
 -- member or call have that of the operator or bracket; any other form, `&&` and `||` among them, has that of its first token.
@@ -10,15 +10,10 @@
 -- before its operator, or the head and the suffixes before a suffix; so the places of the forms in there come first. All other
 -- parts of a form that is not built (right operands, assigned values, arguments, keys, bodies) stand behind its place, and so do
 -- the places of the forms in them. Statements stand one behind the other, and so do the two parts of a built assignment.
-use Rattle.std.specs.Prelude.{ℕ, Bool, true, false, if◌then◌else◌, ◌==◌, ◌&&◌, ◌||◌, List, [], ◌∷◌, Option, Some, None, Result, Ok, Err, slice_get}
-use Rattle.std.specs.List.{list_any}
-use Rattle.std.specs.Option.{option_map}
+use Rattle.std.specs.Prelude.{ℕ, Bool, true, false, if◌then◌else◌, ◌&&◌, ◌||◌, List, [], ◌∷◌, Option, Some, None, Result, Ok, Err}
 use Rattle.std.specs.Str.{bytes_eq}
 use lib.Chars.{codes}
 use Rattle.ja_base.specs.declared.ids.Place.{Place}
-use Rattle.ja_base.specs.declared.ids.Site.{Site}
-use Rattle.ja_graph.specs.declared.builtins.TheConstants.{GLOBAL, OBJECT_PROTOTYPE}
-use Rattle.ja_names.specs.TextOrder.{functions_in}
 use Rattle.ja_prim.specs.declared.primitive.Num.TheVariants.{Whole}
 use Rattle.ja_prim.specs.declared.primitive.Primitive.{Primitive}
 use Rattle.ja_prim.specs.declared.primitive.Primitive.TheVariants as primitive
@@ -34,20 +29,13 @@ use Rattle.ja_syntax.specs.declared.tree.Case.{Case}
 use Rattle.ja_syntax.specs.declared.tree.Expression.{Expression}
 use Rattle.ja_syntax.specs.declared.tree.Expression.TheOpen.{Expression-F, Statement-F}
 use Rattle.ja_syntax.specs.declared.tree.Expression.TheFolds.{fold-Expression}
-use Rattle.ja_syntax.specs.declared.tree.FunctionOf.{FunctionOf}
 use Rattle.ja_syntax.specs.declared.tree.Statement.{Statement, out-Statement}
-use Rattle.ja_load.specs.declared.built.Purpose.{Purpose}
-use Rattle.ja_load.specs.declared.built.Purpose.TheVariants as purpose
-use Rattle.ja_load.specs.declared.opening.TheConstants.{OPENING}
-
--- the object of a site has a property of this name, by the table of the built-in objects
-abbrev pub has_property : Site → List ℕ → Bool
-has_property s name = list_any (λ row. (row.0.site.0 == s.0) && list_any (λ e. bytes_eq e.0.now name) row.1.now) OPENING
+use Rattle.ja_prelude.specs.Table.{is_global_name}
 
 -- The names with a meaning that is not built: `arguments` (10.1.8), and those of the properties of the global object (15.1) and of its
 -- prototype (15.2.4).
 unfoldable pub is_excluded : List ℕ → Bool
-is_excluded name = bytes_eq (codes "arguments") name || (has_property GLOBAL name || has_property OBJECT_PROTOTYPE name)
+is_excluded name = bytes_eq (codes "arguments") name || is_global_name name
 
 -- What an expression is, where all its forms are built: whether it is a name alone; or else the place of the first one that is
 -- not.
@@ -184,13 +172,3 @@ first_of None later = later
 unfoldable pub unbuilt : List Statement → Option Place
 unbuilt [] = None
 unbuilt (s ∷ ss) = first_of (unbuilt_statement s) (unbuilt ss)
-
--- ---- functions: the place of the word `function` of the first declaration or expression of one, if there is one
-
-unfoldable pub first_function : List Statement → Option Place
-first_function statements = option_map (λ (f : FunctionOf Statement). f.place) (slice_get (functions_in statements) 0)
-
--- the first form that is not built, by what the program is loaded for
-abbrev pub unbuilt_for : Purpose → List Statement → Option Place
-unbuilt_for purpose.Analysis statements = unbuilt statements
-unbuilt_for purpose.Run statements = first_function statements

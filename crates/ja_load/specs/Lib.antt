@@ -1,4 +1,3 @@
 pub mod Built
-pub mod Builtins
 pub mod Explaining
 pub mod Loading

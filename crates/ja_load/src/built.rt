@@ -1,21 +1,12 @@
 //! The place of the first form of a tree that is not built.
 
-ghost use Rattle.std.specs.Prelude.{◌≡◌, Ok, Err, IfOk};
+ghost use Rattle.std.specs.Prelude.{◌≡◌, Ok, Err};
 ghost use Rattle.ja_load.specs.Built as spec;
 
 use crate::excluded::is_excluded;
-use ja_base::{Memory, Place};
-use ja_names::functions_in;
+use ja_base::Place;
 use ja_prim::{Num, Primitive};
 use ja_syntax::{BinaryOperator, Expression, Name, Statement, Suffix, Tree, UpdateOperator};
-use std::alloc::Global;
-
-/// What a program is loaded for.
-#[derive(Clone, Copy, Debug, PartialEq, Eq)]
-pub enum Purpose {
-    Analysis,
-    Run,
-}
 
 /// Reads a name.
 fn read_name(name: &Name) -> Result<bool, Place>
@@ -197,30 +188,4 @@ pub fn unbuilt(tree: &Tree) -> Option<Place>
         }
     }
     None
-}
-
-/// The place of the first function of a tree, if it has one.
-#[tactic(auto, unfolding(crate::specs::Built::first_function))]
-fn first_function(alloc: Global, tree: &Tree) -> Result<Option<Place>, Memory>
-    ensures { IfOk result (λ place. place ≡ spec.first_function tree.now.statements) }
-{
-    let functions = functions_in(alloc, tree.statements.as_slice())?;
-    match functions.first() {
-        Some(function) => Ok(Some(function.place)),
-        None => Ok(None),
-    }
-}
-
-/// The place of the first form of a tree that is not built for a purpose, if there is one.
-pub(crate) fn unbuilt_for(
-    alloc: Global,
-    purpose: Purpose,
-    tree: &Tree,
-) -> Result<Option<Place>, Memory>
-    ensures { IfOk result (λ place. place ≡ spec.unbuilt_for purpose tree.now.statements) }
-{
-    match purpose {
-        Purpose::Analysis => Ok(unbuilt(tree)),
-        Purpose::Run => first_function(alloc, tree),
-    }
 }

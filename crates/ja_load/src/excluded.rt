@@ -1,18 +1,19 @@
 //! The names with a meaning that is not built.
 
-ghost use Rattle.std.specs.Prelude.{◌≡◌, ◌==◌, ◌&&◌};
+ghost use Rattle.std.specs.Prelude.{◌≡◌, ◌==◌, ◌&&◌, ◌||◌, map};
 ghost use Rattle.std.specs.List.{list_any};
 ghost use Rattle.std.specs.Str.{bytes_eq};
 ghost use Rattle.ja_load.specs.Built as spec;
+ghost use Rattle.ja_prelude.specs.Table.{is_global_name, seen_entry, seen_row};
 
-use crate::opening::{BuiltinObject, Entry, OPENING};
 use ja_base::Site;
 use ja_graph::{GLOBAL, OBJECT_PROTOTYPE};
+use ja_prelude::{Entry, OPENING, TableRow};
 use ja_prim::spells;
 
 /// Whether one of these properties has the name.
 fn is_among(entries: &[Entry], name: &[u16]) -> bool
-    ensures { result ≡ list_any (λ e. bytes_eq e.0.now name.now) entries.now }
+    ensures { result ≡ list_any (λ e. bytes_eq e.name name.now) (map seen_entry entries.now) }
 {
     for (entry, _, _) in entries {
         if spells(name, entry) {
@@ -23,10 +24,10 @@ fn is_among(entries: &[Entry], name: &[u16]) -> bool
 }
 
 /// Whether the object of a site has a property of the name in a table of objects.
-fn has_property(table: &[(BuiltinObject, &[Entry])], site: Site, name: &[u16]) -> bool
-    ensures { result ≡ list_any (λ row. (row.0.site.0 == site.0) && list_any (λ e. bytes_eq e.0.now name.now) row.1.now) table.now }
+fn has_property(table: &[TableRow], site: Site, name: &[u16]) -> bool
+    ensures { result ≡ list_any (λ row. (row.object.site.0 == site.0) && list_any (λ e. bytes_eq e.name name.now) row.entries) (map seen_row table.now) }
 {
-    for (object, entries) in table {
+    for (_, object, entries) in table {
         if object.site.0 == site.0 && is_among(entries, name) {
             return true;
         }
@@ -34,12 +35,24 @@ fn has_property(table: &[(BuiltinObject, &[Entry])], site: Site, name: &[u16]) -
     false
 }
 
+/// Whether one of two objects of a table has a property of the name.
+fn has_either(table: &[TableRow], first: Site, second: Site, name: &[u16]) -> bool
+    ensures { result ≡ (list_any (λ row. (row.object.site.0 == first.0) && list_any (λ e. bytes_eq e.name name.now) row.entries) (map seen_row table.now) || list_any (λ row. (row.object.site.0 == second.0) && list_any (λ e. bytes_eq e.name name.now) row.entries) (map seen_row table.now)) }
+{
+    has_property(table, first, name) || has_property(table, second, name)
+}
+
+/// Whether a name is that of a property of the global object or of its prototype.
+fn is_global_name(name: &[u16]) -> bool
+    ensures { result ≡ is_global_name name.now }
+{
+    has_either(&OPENING, GLOBAL, OBJECT_PROTOTYPE, name)
+}
+
 /// Whether a name is `arguments`, or that of a property of the global object or of its prototype.
 #[tactic(auto, unfolding(crate::specs::Built::is_excluded))]
 pub(crate) fn is_excluded(name: &[u16]) -> bool
     ensures { result ≡ spec.is_excluded name.now }
 {
-    spells(name, b"arguments")
-        || has_property(&OPENING, GLOBAL, name)
-        || has_property(&OPENING, OBJECT_PROTOTYPE, name)
+    spells(name, b"arguments") || is_global_name(name)
 }
