@@ -21,11 +21,20 @@ use std::alloc::Global;
 use std::collections::BTreeMap;
 
 /// An abstract state: the registers, and the objects and masks that aren't as at entry.
-#[derive(Drop)]
 pub struct AState {
     pub registers: Vec<AValue>,
     objects: BTreeMap<u64, AObject>,
     masks: BTreeMap<u64, Mask>,
+}
+
+impl Drop for AState {
+    fn drop(self) {
+        let AState {
+            registers: _,
+            objects: _,
+            masks: _,
+        } = self;
+    }
 }
 
 impl AState {

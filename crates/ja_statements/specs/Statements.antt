@@ -171,6 +171,18 @@ abbrev pub for_in_first : ForTarget Form → Scene → Listing → Listing
 for_in_first (target.Variable declaration) scene l = declare_with declaration.name declaration.initialiser scene l
 for_in_first (target.Reference value) scene l = l
 
+-- a turn of it up to the body, with the register of the list
+abbrev pub for_in_turn : ForTarget Form → Form → Place → Scene → ℕ → Spot → Spot → Listing → Valued
+for_in_turn goal object place scene base turn end l =
+    let v = value_of object scene (for_in_first goal scene (restarted base l)) in
+    let o = with_object scene place v.value v.listing in
+    let list = register o.listing.temporary in
+    let names = with_node scene place (Names list o.value) (restarted (o.listing.temporary + 1) o.listing) in
+    let name = register names.temporary in
+    let pick = with_branch scene place (Pick list name o.value) end (restarted (names.temporary + 1) (with_spot turn names)) in
+    let r = for_in_reference goal scene pick in
+    record { listing = put_value scene place r.outcome name r.listing; value = list }
+
 -- the object and the list are kept while the loop runs
 unfoldable pub list_for_in : ForTarget Form → Form → Does → Place → Does
 list_for_in goal object body place around base l =

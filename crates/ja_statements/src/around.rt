@@ -1,12 +1,13 @@
 //! What is around a statement.
 
-ghost use Rattle.std.specs.Prelude.{◌≡◌, ◌+◌, ◌∷◌, map, IfOk, Some};
+ghost use Rattle.std.specs.Prelude.{◌≡◌, ◌+◌, ◌∷◌, map, IfOk, OnOk, Some};
+ghost use Rattle.ja_draft.specs.Lines as lines;
 ghost use Rattle.ja_statements.specs.Statements as spec;
 ghost use Rattle.ja_statements.specs.Standing.{around_of, way_of};
 
 use crate::way::Way;
 use ja_base::{Memory, Reg};
-use ja_draft::Scene;
+use ja_draft::{Draft, Scene};
 use ja_listing::Spot;
 use std::alloc::Global;
 
@@ -73,12 +74,60 @@ pub(crate) fn handled_at<'a, 't>(scene: &Scene<'a, 't>, handler: Spot) -> Scene<
     }
 }
 
+/// The first of the spots that a statement has taken.
+pub(crate) fn first_spot(first: u32) -> Spot
+    ensures { result ≡ spec.nth_spot first 0 }
+{
+    Spot(first)
+}
+
 /// One of the spots that a statement has taken. Past the last number memory counts as refused.
 pub(crate) fn nth_spot(first: u32, index: u32) -> Result<Spot, Memory>
     ensures { IfOk result (λ spot. spot ≡ spec.nth_spot first index) }
 {
     match first.checked_add(index) {
         Some(number) => Ok(Spot(number)),
+        None => Err(Memory),
+    }
+}
+
+/// The first two of the spots that a statement has taken. Past the last number memory counts as refused.
+pub(crate) fn two_spots(first: u32) -> Result<(Spot, Spot), Memory>
+    ensures { IfOk result (λ spots. spots ≡ (spec.nth_spot first 0, spec.nth_spot first 1)) }
+{
+    match first.checked_add(1) {
+        Some(second) => Ok((Spot(first), Spot(second))),
+        None => Err(Memory),
+    }
+}
+
+/// The four of the spots that a statement has taken. Past the last number memory counts as refused.
+pub(crate) fn four_spots(first: u32) -> Result<(Spot, Spot, Spot, Spot), Memory>
+    ensures { IfOk result (λ spots. spots ≡ (spec.nth_spot first 0, spec.nth_spot first 1, spec.nth_spot first 2, spec.nth_spot first 3)) }
+{
+    match first.checked_add(3) {
+        Some(fourth) => Ok((Spot(first), Spot(first + 1), Spot(first + 2), Spot(fourth))),
+        None => Err(Memory),
+    }
+}
+
+/// Takes two spots. Past the last number memory counts as refused.
+pub(crate) fn take_two(draft: &mut Draft) -> Result<(Spot, Spot), Memory>
+    ensures spots { IfOk result (λ spots. spots ≡ (lines.spot_of draft.old 0, lines.spot_of draft.old 1)) }
+    ensures next { OnOk result (draft.new ≡ lines.behind_spots 2 draft.old) }
+{
+    let first = draft.take_spots(2)?;
+    two_spots(first)
+}
+
+/// Takes three spots. Past the last number memory counts as refused.
+pub(crate) fn take_three(draft: &mut Draft) -> Result<(Spot, Spot, Spot), Memory>
+    ensures spots { IfOk result (λ spots. spots ≡ (lines.spot_of draft.old 0, lines.spot_of draft.old 1, lines.spot_of draft.old 2)) }
+    ensures next { OnOk result (draft.new ≡ lines.behind_spots 3 draft.old) }
+{
+    let first = draft.take_spots(3)?;
+    match first.checked_add(2) {
+        Some(third) => Ok((Spot(first), Spot(first + 1), Spot(third))),
         None => Err(Memory),
     }
 }

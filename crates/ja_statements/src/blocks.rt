@@ -5,7 +5,7 @@ ghost use Rattle.ja_draft.specs.Lines as lines;
 ghost use Rattle.ja_statements.specs.Standing.{Guards, Keeps, around_of, guarded_at};
 ghost use Rattle.ja_statements.specs.Statements as spec;
 
-use crate::around::{Around, handled_at, later, nth_spot, with_way};
+use crate::around::{Around, first_spot, handled_at, later, nth_spot, with_way};
 use crate::statement_list::statements;
 use crate::trials::{Guarded, Kept, handler, ways_out};
 use crate::way::Way;
@@ -31,9 +31,8 @@ fn guarded(
     let first = draft.take_spots(2)?;
     draft.restart(base);
     let saved = copy(outer, place, SCOPE, draft)?;
-    let handler = nth_spot(first, 0)?;
     let behind = later(base, 1)?;
-    let scene = handled_at(outer, handler);
+    let scene = handled_at(outer, first_spot(first));
     let inner = Around {
         scene: &scene,
         ways: around.ways,
@@ -137,9 +136,8 @@ pub(crate) fn trial(
             },
             Some(finally) => {
                 let kept = keep(finally.as_slice(), around, base, *place, draft)?;
-                let handler = nth_spot(kept.first, 0)?;
                 let behind = later(base, 1)?;
-                let inside = handled_at(scene, handler);
+                let inside = handled_at(scene, first_spot(kept.first));
                 let way = Way::of_finally(kept.saved, &kept.template);
                 let ways = with_way(scene.alloc, way, around.ways)?;
                 let inner = Around {

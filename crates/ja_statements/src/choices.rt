@@ -6,7 +6,7 @@ ghost use Rattle.ja_draft.specs.Lines as lines;
 ghost use Rattle.ja_statements.specs.Standing.{around_of};
 ghost use Rattle.ja_statements.specs.Statements as spec;
 
-use crate::around::{Around, later, nth_spot, with_label, with_way};
+use crate::around::{Around, first_spot, later, two_spots, with_label, with_way};
 use crate::clauses::{default_spot, spots_of, tests};
 use crate::statement_list::{statement, statements};
 use crate::statement_parts::branch_on;
@@ -34,8 +34,7 @@ pub(crate) fn if_alone(
     draft.restart(base);
     let first = branch_on(condition, 1, around.scene, place, draft)?;
     statement(&inner, base, then, draft)?;
-    let end = nth_spot(first, 0)?;
-    draft.mark(end)
+    draft.mark(first_spot(first))
 }
 
 /// `if` up to its `else` (12.5). Gives the first of its spots.
@@ -71,8 +70,7 @@ pub(crate) fn if_else(
     ensures { lines.Adds (spec.list_else (spec.does otherwise.now) (around_of around.now) base (record { listing = draft.old; first = first })) result draft.new }
 {
     let inner = around.unlabelled();
-    let other = nth_spot(first, 0)?;
-    let end = nth_spot(first, 1)?;
+    let (other, end) = two_spots(first)?;
     draft.jump(end)?;
     draft.mark(other)?;
     statement(&inner, base, otherwise, draft)?;
@@ -93,7 +91,7 @@ pub(crate) fn labelled(
 {
     let scene = around.scene;
     let first = draft.take_spots(1)?;
-    let end = nth_spot(first, 0)?;
+    let end = first_spot(first);
     let text = label.text.units();
     let ways = with_way(scene.alloc, Way::of_label(text, end), around.ways)?;
     let labels = with_label(scene.alloc, text, around.labels)?;
@@ -145,7 +143,7 @@ pub(crate) fn switch(
     let switched = value(scene, subject, draft)?;
     let count = spots_of(cases)?;
     let own = draft.take_spots(count)?;
-    let end = nth_spot(own, 0)?;
+    let end = first_spot(own);
     let first = later(own, 1)?;
     tests(cases, scene, place, switched, first, draft)?;
     let other = default_spot(cases, first, end)?;

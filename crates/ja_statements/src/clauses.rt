@@ -4,7 +4,7 @@ ghost use Rattle.std.specs.Prelude.{◌≡◌, ◌+◌, map, IfOk};
 ghost use Rattle.ja_draft.specs.Lines as lines;
 ghost use Rattle.ja_statements.specs.Statements as spec;
 
-use crate::around::{later, nth_spot};
+use crate::around::{first_spot, later};
 use crate::statement_parts::branch;
 use ja_base::{Memory, Place, Reg};
 use ja_draft::{Draft, Scene};
@@ -48,7 +48,7 @@ pub(crate) fn test(
             };
             draft.node(scene.handler, place, node)?;
             let first = draft.take_spots(1)?;
-            let next = nth_spot(first, 0)?;
+            let next = first_spot(first);
             branch(scene, place, Node::Branch { src: dst }, next, draft)?;
             draft.jump(body)?;
             draft.mark(next)

@@ -7,14 +7,14 @@ ghost use Rattle.ja_draft.specs.Lines as lines;
 ghost use Rattle.ja_statements.specs.Standing.{around_of};
 ghost use Rattle.ja_statements.specs.Statements as spec;
 
-use crate::around::{Around, later, nth_spot, with_way};
+use crate::around::{Around, later, take_three, take_two, with_way};
 use crate::statement_list::statement;
 use crate::statement_parts::{
     branch, condition, for_condition, for_first, for_in_first, for_in_reference, for_update,
 };
 use crate::way::Way;
-use ja_base::{Memory, Place};
-use ja_draft::Draft;
+use ja_base::{Memory, Place, Reg};
+use ja_draft::{Draft, Scene};
 use ja_expressions::reference::{object, put_value};
 use ja_expressions::value;
 use ja_graph::Node;
@@ -61,10 +61,7 @@ pub(crate) fn do_loop(
     ensures { lines.Adds (spec.list_do (spec.does body.now) (form test.now) place (around_of around.now) base draft.old) result draft.new }
 {
     let scene = around.scene;
-    let first = draft.take_spots(3)?;
-    let top = nth_spot(first, 0)?;
-    let turn = nth_spot(first, 1)?;
-    let end = nth_spot(first, 2)?;
+    let (top, turn, end) = take_three(draft)?;
     draft.mark(top)?;
     turn_body(body, around, base, end, turn, draft)?;
     draft.mark(turn)?;
@@ -89,9 +86,7 @@ pub(crate) fn while_loop(
     ensures { lines.Adds (spec.list_while (form test.now) (spec.does body.now) place (around_of around.now) base draft.old) result draft.new }
 {
     let scene = around.scene;
-    let first = draft.take_spots(2)?;
-    let turn = nth_spot(first, 0)?;
-    let end = nth_spot(first, 1)?;
+    let (turn, end) = take_two(draft)?;
     draft.mark(turn)?;
     draft.restart(base);
     let src = condition(test, scene, place, draft)?;
@@ -117,10 +112,7 @@ pub(crate) fn for_loop(
     ensures { lines.Adds (spec.list_for (spec.first_of head.now) (option_map form test.now) (option_map form update.now) (spec.does body.now) place (around_of around.now) base draft.old) result draft.new }
 {
     let scene = around.scene;
-    let first = draft.take_spots(3)?;
-    let top = nth_spot(first, 0)?;
-    let turn = nth_spot(first, 1)?;
-    let end = nth_spot(first, 2)?;
+    let (top, turn, end) = take_three(draft)?;
     draft.restart(base);
     for_first(head, scene, base, draft)?;
     draft.mark(top)?;
@@ -133,6 +125,33 @@ pub(crate) fn for_loop(
     for_update(update, scene, draft)?;
     draft.jump(top)?;
     draft.mark(end)
+}
+
+/// A turn of a `for`-`in` up to its body. Gives the register of the list.
+fn for_in_turn(
+    target: &ForTarget<Expression>,
+    subject: &Expression,
+    scene: &Scene<'_, '_>,
+    base: u32,
+    place: Place,
+    turn: Spot,
+    end: Spot,
+    draft: &mut Draft,
+) -> Result<Reg, Memory>
+    ensures { lines.Gives (spec.for_in_turn (spec.target_of target.now) (form subject.now) place scene.now base turn end draft.old) result draft.new }
+{
+    draft.restart(base);
+    for_in_first(target, scene, draft)?;
+    let src = value(scene, subject, draft)?;
+    let object = object(scene, place, src, draft)?;
+    let list = draft.fresh()?;
+    draft.node(scene.handler, place, Node::Names { list, object })?;
+    draft.mark(turn)?;
+    let dst = draft.fresh()?;
+    branch(scene, place, Node::Pick { list, dst, object }, end, draft)?;
+    let outcome = for_in_reference(target, scene, draft)?;
+    put_value(scene, place, outcome, dst, draft)?;
+    Ok(list)
 }
 
 /// `for`-`in` (12.6.4): the object and the list are kept while the loop runs.
@@ -149,21 +168,8 @@ pub(crate) fn for_in_loop(
 ) -> Result<(), Memory>
     ensures { lines.Adds (spec.list_for_in (spec.target_of target.now) (form subject.now) (spec.does body.now) place (around_of around.now) base draft.old) result draft.new }
 {
-    let scene = around.scene;
-    let first = draft.take_spots(2)?;
-    let turn = nth_spot(first, 0)?;
-    let end = nth_spot(first, 1)?;
-    draft.restart(base);
-    for_in_first(target, scene, draft)?;
-    let src = value(scene, subject, draft)?;
-    let object = object(scene, place, src, draft)?;
-    let list = draft.fresh()?;
-    draft.node(scene.handler, place, Node::Names { list, object })?;
-    draft.mark(turn)?;
-    let dst = draft.fresh()?;
-    branch(scene, place, Node::Pick { list, dst, object }, end, draft)?;
-    let outcome = for_in_reference(target, scene, draft)?;
-    put_value(scene, place, outcome, dst, draft)?;
+    let (turn, end) = take_two(draft)?;
+    let list = for_in_turn(target, subject, around.scene, base, place, turn, end, draft)?;
     let inner = later(list.0, 1)?;
     turn_body(body, around, inner, end, turn, draft)?;
     draft.jump(turn)?;

@@ -36,7 +36,7 @@ pub fn statements(
 /// Lists a statement, with temporaries from a register on. It fails where memory is refused, or where
 /// the numbers of temporaries, spots or functions are used up.
 #[cycle(statements)]
-#[tactic(auto, using(crate::proofs::StatementLemmas::does_block, crate::proofs::StatementLemmas::does_variables, crate::proofs::StatementLemmas::does_empty, crate::proofs::StatementLemmas::does_expression, crate::proofs::StatementLemmas::does_if_alone, crate::proofs::StatementLemmas::does_if_else, crate::proofs::StatementLemmas::does_do, crate::proofs::StatementLemmas::does_while, crate::proofs::StatementLemmas::does_for, crate::proofs::StatementLemmas::does_for_in, crate::proofs::StatementLemmas::does_continue, crate::proofs::StatementLemmas::does_break, crate::proofs::StatementLemmas::does_return, crate::proofs::StatementLemmas::does_labelled, crate::proofs::StatementLemmas::does_switch, crate::proofs::StatementLemmas::does_throw, crate::proofs::StatementLemmas::does_function))]
+#[tactic(auto, using(crate::proofs::StatementLemmas::does_if_else))]
 pub fn statement(
     around: &Around<'_, '_, '_>,
     base: u32,

@@ -8,7 +8,7 @@ ghost use Rattle.ja_expressions.specs.References as references;
 ghost use Rattle.ja_statements.specs.Standing.{around_of};
 ghost use Rattle.ja_statements.specs.Statements as spec;
 
-use crate::around::{Around, nth_spot};
+use crate::around::{Around, first_spot};
 use crate::way::leave_all;
 use ja_base::{Memory, Place, Reg};
 use ja_draft::conversion::{constant, truth};
@@ -94,8 +94,7 @@ pub(crate) fn branch_on(
 {
     let src = condition(test, scene, place, draft)?;
     let first = draft.take_spots(spots)?;
-    let other = nth_spot(first, 0)?;
-    branch(scene, place, Node::Branch { src }, other, draft)?;
+    branch(scene, place, Node::Branch { src }, first_spot(first), draft)?;
     Ok(first)
 }
 

@@ -5,7 +5,7 @@ ghost use Rattle.ja_draft.specs.Lines as lines;
 ghost use Rattle.ja_statements.specs.Standing.{guarded_at};
 ghost use Rattle.ja_statements.specs.Statements as spec;
 
-use crate::around::{later, nth_spot};
+use crate::around::{four_spots, later, two_spots};
 use ja_base::{Memory, Place, Reg, Site};
 use ja_draft::conversion::{copy, set};
 use ja_draft::{Draft, Scene, Template};
@@ -50,8 +50,7 @@ pub(crate) fn handler(
 ) -> Result<(), Memory>
     ensures { lines.Adds (spec.list_handler parameter.now place scene.now (guarded_at guarded draft.old)) result draft.new }
 {
-    let handler = nth_spot(guarded.first, 0)?;
-    let end = nth_spot(guarded.first, 1)?;
+    let (handler, end) = two_spots(guarded.first)?;
     draft.jump(end)?;
     draft.mark(handler)?;
     set(scene, place, SCOPE, guarded.saved, draft)?;
@@ -93,10 +92,7 @@ pub(crate) fn ways_out(
 ) -> Result<(), Memory>
     ensures { lines.Adds (spec.list_ways_out place scene.now base kept.now.first kept.now.saved kept.now.template draft.old) result draft.new }
 {
-    let handler = nth_spot(kept.first, 0)?;
-    let normal = nth_spot(kept.first, 1)?;
-    let exceptional = nth_spot(kept.first, 2)?;
-    let end = nth_spot(kept.first, 3)?;
+    let (handler, normal, exceptional, end) = four_spots(kept.first)?;
     draft.jump(normal)?;
     draft.mark(handler)?;
     set(scene, place, SCOPE, kept.saved, draft)?;

@@ -13,12 +13,22 @@ use ja_prim::{Int, Num, Primitive, Text16};
 use std::alloc::Global;
 
 /// An abstract value (Jensen, Møller and Thiemann, SAS 2009).
-#[derive(Drop)]
 pub struct AValue {
     pub flags: Flags,
     pub number: NumberPart,
     pub text: TextPart,
     pub labels: LabelSet,
+}
+
+impl Drop for AValue {
+    fn drop(self) {
+        let AValue {
+            flags: _,
+            number: _,
+            text: _,
+            labels: _,
+        } = self;
+    }
 }
 
 /// No flag.
