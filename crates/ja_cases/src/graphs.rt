@@ -29,12 +29,20 @@ fn lower_behind(alloc: Global, tree: &Tree) -> Result<Lowered, LowerFault> {
     }
 }
 
-/// Lowers a tree as its kind says: behind a name, with special forms, or neither.
+/// Lowers the functions of a tree as built-in ones, the first of which has the path `f`.
+fn lower_built_in(alloc: Global, tree: &Tree) -> Result<Lowered, LowerFault> {
+    match Text16::from_str(alloc, "f") {
+        Ok(path) => lower_prelude(alloc, tree.statements.as_slice(), &[], &[path], 0, 0),
+        Err(_) => Err(LowerFault::Memory),
+    }
+}
+
+/// Lowers a tree as its kind says: behind a name, as built-in functions, or neither.
 fn lowered(alloc: Global, kind: &str, tree: &Tree) -> Result<Lowered, LowerFault> {
     match kind {
         "body" => lower_behind(alloc, tree),
-        "prelude-lines" => lower_prelude(alloc, tree, &[], 0),
-        "prelude-names" => lower_prelude(alloc, tree, &[], 0),
+        "prelude-lines" => lower_built_in(alloc, tree),
+        "prelude-names" => lower_built_in(alloc, tree),
         _ => lower(alloc, tree, &[], 0),
     }
 }
@@ -63,8 +71,7 @@ fn put_kind(out: &mut Out, kind: &str, number: usize, lowered: &Lowered) {
 /// How many nodes each function has.
 fn put_counts(out: &mut Out, lowered: &Lowered) {
     for function in lowered.functions.as_slice() {
-        out.put_number(function.nodes.len() as u64);
-        out.put(" ");
+        out.put_before(function.nodes.len() as u64, " ");
     }
 }
 
@@ -86,14 +93,11 @@ fn put_site(out: &mut Out, site: &SiteInfo) {
 
 /// The nodes and the registers of a function, and the site of its activation, if it begins with one.
 fn put_body(out: &mut Out, function: &Function) {
-    out.put_number(function.nodes.len() as u64);
-    out.put(" nodes ");
-    out.put_number(u64::from(function.registers));
-    out.put(" registers");
+    out.put_before(function.nodes.len() as u64, " nodes ");
+    out.put_before(u64::from(function.registers), " registers");
     if let Some(info) = function.nodes.as_slice().first() {
         if let Node::Enter { site, .. } = &info.node {
-            out.put(" enters ");
-            out.put_number(u64::from(site.0));
+            out.put_behind(" enters ", u64::from(site.0));
         }
     }
     out.put(", ");
@@ -104,8 +108,7 @@ fn put_lowered(out: &mut Out, lowered: &Lowered) {
     for function in lowered.functions.as_slice() {
         put_body(out, function);
     }
-    out.put_number(lowered.names.len() as u64);
-    out.put(" names, sites");
+    out.put_before(lowered.names.len() as u64, " names, sites");
     for site in lowered.sites.as_slice() {
         put_site(out, site);
     }
@@ -149,6 +152,16 @@ fn shown(node: &Node) -> (&'static str, u32, u32, u32) {
     }
 }
 
+/// A node in a line of its own.
+fn put_shown(out: &mut Out, node: &Node) {
+    let (word, first, second, third) = shown(node);
+    out.put("\n    ");
+    out.put(word);
+    for number in [first, second, third] {
+        out.put_behind(" ", u64::from(number));
+    }
+}
+
 /// What is told of a node by its kind and a number: its operation or the node behind it, where it is the node of this
 /// number; its column, from this one on; the register into which it reads a name; or a line of its own.
 fn put_node(out: &mut Out, kind: &str, number: usize, count: usize, info: &NodeInfo) {
@@ -167,19 +180,14 @@ fn put_node(out: &mut Out, kind: &str, number: usize, count: usize, info: &NodeI
         }
         "columns" => {
             if info.place.column as usize >= number {
-                out.put_number(u64::from(info.place.column));
-                out.put(" ");
+                out.put_before(u64::from(info.place.column), " ");
             }
         }
         "reads" => {
             if let Node::ReadRef { dst, .. } = &info.node {
-                out.put_number(u64::from(dst.0));
-                out.put(" ");
+                out.put_before(u64::from(dst.0), " ");
             }
         }
-        _ => {
-            let (word, first, second, third) = shown(&info.node);
-            let _ = write!(out.text, "\n    {word} {first} {second} {third}");
-        }
+        _ => put_shown(out, &info.node),
     }
 }

@@ -1,7 +1,7 @@
 //! Listings of nodes, and the graphs that they come to.
 
-use crate::out::Out;
-use ja_base::{Place, Reg, Seq};
+use crate::out::{Out, add};
+use ja_base::{Memory, Place, Reg, Seq};
 use ja_draft::{Draft, Scene};
 use ja_graph::Node;
 use ja_listing::{Block, BlockNode, Item, Spot, Target, assembled};
@@ -10,16 +10,15 @@ use ja_prim::Primitive;
 use ja_statements::program_listing;
 use ja_syntax::Statement;
 use std::alloc::Global;
-use std::fmt::Write;
 
 const PLACE: Place = Place { line: 1, column: 1 };
 
 /// The item of a node.
-fn node(node: Node, other: Option<u32>, handler: Option<u32>) -> Item {
+fn node(node: Node, other: Option<Spot>, handler: Option<Spot>) -> Item {
     Item::Node {
         node,
-        other: other.map(Spot),
-        handler: handler.map(Spot),
+        other,
+        handler,
         place: PLACE,
     }
 }
@@ -45,8 +44,11 @@ fn block(alloc: Global, spot: u32) -> Block {
     };
     let last = Node::Branch { src: register };
     let mut nodes = Vec::new(alloc);
-    let _ = nodes.push(block_node(first, Target::Behind, Target::Out));
-    let _ = nodes.push(block_node(last, Target::Node(0), Target::Spot(Spot(spot))));
+    add(&mut nodes, block_node(first, Target::Behind, Target::Out));
+    add(
+        &mut nodes,
+        block_node(last, Target::Node(0), Target::Spot(Spot(spot))),
+    );
     Block {
         entry: Target::Node(1),
         nodes: Seq::from_vec(nodes),
@@ -57,8 +59,8 @@ fn block(alloc: Global, spot: u32) -> Block {
 fn item(alloc: Global, word: &str, spot: u32) -> Item {
     let register = Reg(6);
     match word {
-        "branch" => node(Node::Branch { src: register }, Some(spot), None),
-        "throw" => node(Node::Throw { src: register }, None, Some(spot)),
+        "branch" => node(Node::Branch { src: register }, Some(Spot(spot)), None),
+        "throw" => node(Node::Throw { src: register }, None, Some(Spot(spot))),
         "return" => node(Node::Return { src: register }, None, None),
         "escape" => node(Node::Escape, None, None),
         "spot" => Item::Spot(Spot(spot)),
@@ -77,7 +79,10 @@ fn items(out: &Out, text: &str) -> Vec<Item> {
     let mut items = Vec::new(out.alloc);
     for line in text.split(", ") {
         let (word, spot) = line.split_once(' ').unwrap_or((line, "0"));
-        let _ = items.push(item(out.alloc, word, spot.parse::<u32>().unwrap_or(0)));
+        add(
+            &mut items,
+            item(out.alloc, word, spot.parse::<u32>().unwrap_or(0)),
+        );
     }
     items
 }
@@ -90,8 +95,9 @@ pub fn edges(out: &mut Out, text: &str) {
     }
     if let Ok(nodes) = assembled(out.alloc, items) {
         for info in nodes.as_slice() {
-            let (next, other, handler) = (info.next.0, info.other.0, info.handler.0);
-            let _ = write!(out.text, "{next}/{other}/{handler} ");
+            out.put_before(u64::from(info.next.0), "/");
+            out.put_before(u64::from(info.other.0), "/");
+            out.put_before(u64::from(info.handler.0), " ");
         }
     }
 }
@@ -105,23 +111,27 @@ fn put_draft(out: &mut Out, draft: Draft) {
     out.put_number(u64::from(draft.nodes()));
     if let Ok(items) = draft.into_items(out.alloc) {
         if let Ok(nodes) = assembled(out.alloc, items) {
-            out.put(" ");
-            out.put_number(nodes.len() as u64);
+            out.put_behind(" ", nodes.len() as u64);
         }
     }
+}
+
+/// The listing of statements without functions.
+fn listed(alloc: Global, names: &Names<'_>, statements: &[Statement]) -> Result<Draft, Memory> {
+    let scene = Scene {
+        alloc,
+        names,
+        functions: &[],
+        handler: None,
+        specials: false,
+    };
+    program_listing(&scene, statements)
 }
 
 /// The listing of statements without names and functions.
 pub fn put_listing(out: &mut Out, statements: &[Statement]) {
     let names = Names::new(out.alloc);
-    let scene = Scene {
-        alloc: out.alloc,
-        names: &names,
-        functions: &[],
-        handler: None,
-        specials: false,
-    };
-    if let Ok(draft) = program_listing(&scene, statements) {
+    if let Ok(draft) = listed(out.alloc, &names, statements) {
         put_draft(out, draft);
     }
 }

@@ -8,6 +8,11 @@ pub struct Out {
     pub text: String,
 }
 
+/// Adds an item to a list.
+pub fn add<T: Drop>(list: &mut Vec<T>, item: T) {
+    let _ = list.push(item);
+}
+
 impl Out {
     pub fn new(alloc: Global) -> Out {
         Out {
@@ -22,6 +27,18 @@ impl Out {
 
     pub fn put_number(&mut self, number: u64) {
         let _ = write!(self.text, "{number}");
+    }
+
+    /// A number and what stands behind it.
+    pub fn put_before(&mut self, number: u64, text: &str) {
+        self.put_number(number);
+        self.put(text);
+    }
+
+    /// A number behind a text.
+    pub fn put_behind(&mut self, text: &str, number: u64) {
+        self.put(text);
+        self.put_number(number);
     }
 
     pub fn put_signed(&mut self, number: i64) {

@@ -25,7 +25,7 @@ fn text(alloc: Global, units: &str) -> Prim {
 }
 
 /// The value of a word.
-fn value(alloc: Global, word: &str) -> Prim {
+pub fn value(alloc: Global, word: &str) -> Prim {
     match word.strip_prefix('\'') {
         Some(units) => text(alloc, units),
         None => match word {

@@ -57,8 +57,7 @@ fn put_visits(out: &mut Out, program: &Program)
                 ..
             } = item
             {
-                out.put("node ");
-                out.put_number(u64::from(*node));
+                out.put_behind("node ", u64::from(*node));
             }
         }
     }

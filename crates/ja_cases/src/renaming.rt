@@ -1,6 +1,6 @@
 ghost use Rattle.std.specs.Prelude.{◌+◌, ◌-◌, ◌^◌, ltb, min, if◌then◌else◌, slice_index_or};
 
-use crate::out::Out;
+use crate::out::{Out, add};
 use ja_base::{FnId, NameId, Reg, Seq, Site};
 use ja_graph::{Node, Renames, renamed};
 
@@ -67,15 +67,19 @@ fn put_numbers(out: &mut Out, node: &Node) {
 }
 
 /// The numbers of a node whose registers from 6 on move up by 2, whose sites move up by 10, and whose name 0 is 4.
-fn put_renamed(out: &mut Out, node: Node) {
+fn put_renamed(out: &mut Out, node: &Node) {
     let shifts = Shifts {
         first: 6,
         by: 2,
         sites: 10,
         names: &[NameId(4)],
     };
-    if let Ok(node) = renamed(out.alloc, &node, &shifts) {
-        put_numbers(out, &node);
+    let mut list = Vec::new(out.alloc);
+    if let Ok(node) = renamed(out.alloc, node, &shifts) {
+        add(&mut list, node);
+    }
+    for node in list.as_slice() {
+        put_numbers(out, node);
     }
 }
 
@@ -87,9 +91,8 @@ pub fn renamed_nodes(out: &mut Out) {
         name: NameId(0),
         error: Site(3),
     };
-    put_renamed(out, read);
     let mut args = Vec::new(out.alloc);
-    let _ = args.push(Reg(7));
+    add(&mut args, Reg(7));
     let call = Node::New {
         dst: Reg(1),
         callee: Reg(9),
@@ -97,5 +100,10 @@ pub fn renamed_nodes(out: &mut Out) {
         site: Site(0),
         error: Site(1),
     };
-    put_renamed(out, call);
+    let mut nodes = Vec::new(out.alloc);
+    add(&mut nodes, read);
+    add(&mut nodes, call);
+    for node in nodes.as_slice() {
+        put_renamed(out, node);
+    }
 }

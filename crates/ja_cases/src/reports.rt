@@ -5,7 +5,7 @@ ghost use Rattle.ja_graph.specs.WellFormed.{IsWellFormed};
 ghost use Rattle.ja_model.specs.AbstractState.{is_key};
 ghost use Rattle.ja_rules.specs.Readings.{Fits};
 
-use crate::out::Out;
+use crate::out::{Out, add};
 use ja_base::{Context, FnId, Label, Memory, NameId, NodeId, Place, Seq, Site};
 use ja_graph::{GLOBAL, Program, well_formed};
 use ja_model::{AAttrs, Flags, Item, Key, May, NumberPart, Slot, TextPart};
@@ -124,12 +124,12 @@ fn table_of(out: &Out, program: &Program, first: u32) -> Result<ATable, Memory>
     Ok(table)
 }
 
-/// Gives a program the names `x1`, `1x` and the empty one behind its own.
+/// Gives a program the names `x1`, `1x` and `x-1` behind its own.
 fn add_names(out: &Out, program: &mut Program) {
     let mut names = mem::replace(&mut program.names, Seq::new(out.alloc)).into_vec();
-    for name in ["x1", "1x", ""] {
+    for name in ["x1", "1x", "x-1"] {
         if let Ok(name) = Text16::from_str(out.alloc, name) {
-            let _ = names.push(name);
+            add(&mut names, name);
         }
     }
     program.names = Seq::from_vec(names);

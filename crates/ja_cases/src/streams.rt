@@ -75,10 +75,8 @@ fn put_read<S: Source>(out: &mut Out, source: &mut S, most: usize) {
 
 /// How many calls and faults there were.
 fn put_counts(out: &mut Out, calls: u64, faults: u64) {
-    out.put_number(calls);
-    out.put(" calls ");
-    out.put_number(faults);
-    out.put(" faults ");
+    out.put_before(calls, " calls ");
+    out.put_before(faults, " faults ");
 }
 
 /// What is read of a source, how much it gave, and what a second try reads.
@@ -88,8 +86,7 @@ pub fn read(out: &mut Out, row: &str) {
     let mut source = MemorySource::new(bytes, row.piece, fails);
     put_read(out, &mut source, row.most);
     if source.faults > 0 {
-        out.put_number(source.at as u64);
-        out.put(" bytes ");
+        out.put_before(source.at as u64, " bytes ");
         put_counts(out, source.calls, source.faults);
         put_read(out, &mut source, row.most);
     }

@@ -40,12 +40,9 @@ fn put_kind(out: &mut Out, kind: &TokenKind) {
 fn put_token(out: &mut Out, token: &Token) {
     put_kind(out, &token.kind);
     out.put(if token.line_before { "^@" } else { "@" });
-    out.put_number(u64::from(token.place.line));
-    out.put(":");
-    out.put_number(u64::from(token.place.column));
-    out.put("+");
-    out.put_number(token.start as u64);
-    out.put(" ");
+    out.put_before(u64::from(token.place.line), ":");
+    out.put_before(u64::from(token.place.column), "+");
+    out.put_before(token.start as u64, " ");
 }
 
 /// The tokens of a text.

@@ -54,8 +54,7 @@ fn put_statements(out: &mut Out, statements: &[Statement]) {
 
 /// A place.
 pub fn put_place(out: &mut Out, place: Place) {
-    out.put_number(u64::from(place.line));
-    out.put(":");
+    out.put_before(u64::from(place.line), ":");
     out.put_number(u64::from(place.column));
 }
 

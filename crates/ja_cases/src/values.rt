@@ -1,17 +1,17 @@
 //! Abstract values.
 
 use crate::out::Out;
+use crate::primitives;
 use ja_base::{Label, Site};
 use ja_graph::Attrs;
 use ja_model::{Mask, NumberPart, TextPart};
-use ja_prim::{Int, Num, Primitive, Text16};
+use ja_prim::{Int, Text16};
 use ja_value::{AProp, AValue, LabelSet, exact_attrs, is_index_text};
 use std::collections::BTreeMap;
 
 /// A label, whose letter is `n` where the object is new, and `o` where it is old.
 fn put_label(out: &mut Out, label: Label) {
-    out.put(if label.old { " o" } else { " n" });
-    out.put_number(u64::from(label.site.0));
+    out.put_behind(if label.old { " o" } else { " n" }, u64::from(label.site.0));
 }
 
 /// Labels.
@@ -53,10 +53,10 @@ fn line_of_join(out: &mut Out, label: &str, value: &mut AValue, other: &AValue) 
     }
 }
 
-/// Joins a text in.
-fn line_of_text(out: &mut Out, label: &str, value: &mut AValue, text: &str) {
-    if let Ok(text) = Text16::from_str(out.alloc, text) {
-        let other = AValue::of_text(out.alloc, text);
+/// Joins the value of a word in.
+fn line_of_word(out: &mut Out, label: &str, value: &mut AValue, word: &str) {
+    let primitive = primitives::value(out.alloc, word);
+    if let Ok(other) = AValue::of_primitive(out.alloc, &primitive) {
         line_of_join(out, label, value, &other);
     }
 }
@@ -68,17 +68,12 @@ fn line_of_index(out: &mut Out, text: &str) {
     }
 }
 
-fn joins(out: &mut Out, number: Int, minus_one: Int) {
-    let five_again = AValue::of_number(out.alloc, number);
-    let minus_one = AValue::of_number(out.alloc, minus_one);
-    let five = Primitive::Number(Num::Whole(number));
-    if let Ok(mut value) = AValue::of_primitive(out.alloc, &five) {
-        line_of_join(out, "5 and 5", &mut value, &five_again);
-        let is_five = value.number == NumberPart::One(number);
-        out.line_of_bool("which is 5", is_five);
-        line_of_join(out, "and -1", &mut value, &minus_one);
-        line_of_text(out, "and 'x'", &mut value, "x");
-        line_of_text(out, "and '01'", &mut value, "01");
+fn joins(out: &mut Out, five: Int) {
+    let mut value = AValue::of_number(out.alloc, five);
+    line_of_word(out, "5 and 5", &mut value, "5");
+    out.line_of_bool("which is 5", value.number == NumberPart::One(five));
+    for (label, word) in [("and -1", "-1"), ("and 'x'", "'x"), ("and '01'", "'01")] {
+        line_of_word(out, label, &mut value, word);
     }
     line_of_index(out, "4294967294");
     line_of_index(out, "4294967295");
@@ -108,16 +103,25 @@ fn joins_labels(out: &mut Out, labels: &LabelSet, others: &LabelSet) {
     }
 }
 
+/// Joins a property in, and tells whether that changed it.
+fn line_of_more(out: &mut Out, label: &str, property: &mut AProp, other: &AProp) {
+    if let Ok(is_changed) = property.join(out.alloc, other) {
+        out.line_of_bool(label, is_changed);
+    }
+}
+
 /// A property that is joined with itself and with what is absent.
 fn property_joins(out: &mut Out, property: &mut AProp) {
     if let Ok(copy) = property.copy(out.alloc) {
-        if let Ok(is_changed) = property.join(out.alloc, &copy) {
-            out.line_of_bool("a property and itself is more", is_changed);
-        }
+        line_of_more(out, "a property and itself is more", property, &copy);
     }
-    if let Ok(is_changed) = property.join(out.alloc, &AProp::absent(out.alloc)) {
-        out.line_of_bool("a property that may be absent is more", is_changed);
-    }
+    let absent = AProp::absent(out.alloc);
+    line_of_more(
+        out,
+        "a property that may be absent is more",
+        property,
+        &absent,
+    );
     if let Ok(aged) = property.aged(out.alloc, Site(3)) {
         out.line_of_bool("it may be absent", aged.value.flags.absent);
     }
@@ -140,8 +144,8 @@ fn renames(out: &mut Out) {
 }
 
 pub fn values(out: &mut Out) {
-    if let (Some(five), Some(minus_one)) = (Int::new(5), Int::new(-1)) {
-        joins(out, five, minus_one);
+    if let Some(five) = Int::new(5) {
+        joins(out, five);
     }
     if let Ok(value) = AValue::of_label(out.alloc, label(3, false)) {
         ages(out, &value);

@@ -3,13 +3,13 @@
 use crate::out::Out;
 use ja_base::{FnId, NodeId, Reg, Seq, Site};
 use ja_graph::{
-    Hint, Node, Program, SiteInfo, all_registers_below, is_function_well_formed, well_formed,
+    Function, Hint, MATH, Node, Program, all_registers_below, is_function_well_formed, well_formed,
 };
 use ja_prim::Text16;
 use std::alloc::Global;
 use std::mem;
 
-/// Tells of the site of `Math`, the last one, that it has these functions.
+/// Tells of the site of `Math` that it has these functions.
 fn tell_of_math(
     alloc: Global,
     program: &mut Program,
@@ -18,13 +18,10 @@ fn tell_of_math(
     constructs: Option<FnId>,
 ) {
     let mut sites = mem::replace(&mut program.sites, Seq::new(alloc)).into_vec();
-    if let Some(math) = sites.pop() {
-        let _ = sites.push(SiteInfo {
-            owner,
-            calls,
-            constructs,
-            ..math
-        });
+    if let Some(math) = sites.get_mut(MATH.0 as usize) {
+        math.owner = owner;
+        math.calls = calls;
+        math.constructs = constructs;
     }
     program.sites = Seq::from_vec(sites);
 }
@@ -50,25 +47,29 @@ fn sites(out: &mut Out, program: &mut Program) {
 fn text_functions(out: &mut Out, program: &mut Program) {
     program.text_functions = 0;
     out.line_of_bool("no function is of the text", well_formed(program));
-    program.text_functions = 2;
-    out.line_of_bool("two functions are of the text", well_formed(program));
+    program.text_functions = 45;
+    out.line_of_bool("45 of 44 functions are of the text", well_formed(program));
     program.text_functions = 1;
     out.line_of_bool("one function is of the text", well_formed(program));
+}
+
+/// Gives the last node of a function the handler 99.
+fn give_handler(alloc: Global, function: &mut Function) {
+    let mut nodes = mem::replace(&mut function.nodes, Seq::new(alloc)).into_vec();
+    if let Some(escape) = nodes.last_mut() {
+        escape.handler = NodeId(99);
+    }
+    function.nodes = Seq::from_vec(nodes);
 }
 
 /// Handlers are nodes.
 fn handlers(out: &mut Out, program: &mut Program) {
     let functions = mem::replace(&mut program.functions, Seq::new(out.alloc));
     let mut functions = functions.into_vec();
-    if let Some(mut text) = functions.pop() {
-        out.line_of_bool("the function", is_function_well_formed(program, &text));
-        let mut nodes = mem::replace(&mut text.nodes, Seq::new(out.alloc)).into_vec();
-        if let Some(mut escape) = nodes.pop() {
-            escape.handler = NodeId(99);
-            let _ = nodes.push(escape);
-        }
-        text.nodes = Seq::from_vec(nodes);
-        let is_well_formed = is_function_well_formed(program, &text);
+    if let Some(text) = functions.get_mut(0) {
+        out.line_of_bool("the function", is_function_well_formed(program, text));
+        give_handler(out.alloc, text);
+        let is_well_formed = is_function_well_formed(program, text);
         out.line_of_bool("Escape has the handler 99", is_well_formed);
     }
 }

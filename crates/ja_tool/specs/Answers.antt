@@ -12,7 +12,7 @@ use Rattle.ja_base.specs.Streams.{Rose, Keeps, Took, IsAtEnd, IsLonger, TakesCou
 use Rattle.ja_graph.specs.declared.program.Program.{Program}
 use Rattle.ja_graph.specs.Kinds.{AreBuilt}
 use Rattle.ja_grammar.specs.declared.fault.ParseFault.TheVariants as fault
-use Rattle.ja_load.specs.Loading.{IsProgramOf, IsProgramToRun, HasManyFunctions, HasManyNodes, IsUnbuiltAt, HasFunctionAt, IsNone}
+use Rattle.ja_load.specs.Loading.{IsProgramOf, IsProgramToRun, HasManyFunctions, HasManyNodes, IsUnbuiltAt, IsNone}
 use Rattle.ja_machine.specs.Runs.{NeverStuck}
 use Rattle.ja_model.specs.declared.table.Item.{Item}
 use Rattle.ja_model.specs.declared.table.Warning.{Warning}
@@ -130,7 +130,7 @@ abbrev pub TranscribesText : List ℕ → ℕ → Status → List ℕ → Type 0
 TranscribesText bytes steps status text = (p : Program) × IsProgramToRun bytes p × Transcribes p steps status text
 
 -- The cause of each status of the run of a text, and what is written. A text that is none of the language, or passes a limit, is refused
--- as by the analysis; of forms only functions are not built.
+-- as by the analysis; every form is run.
 abbrev pub Runs : List ℕ → ℕ → Status → List ℕ → Type 0
 Runs bytes steps Done text = TranscribesText bytes steps Done text
 Runs bytes steps Left text = TranscribesText bytes steps Left text
@@ -140,7 +140,6 @@ Runs bytes steps NotText text = Analyses bytes NotText text
 Runs bytes steps Syntax text = Analyses bytes Syntax text
 Runs bytes steps Scope text = Analyses bytes Scope text
 Runs bytes steps Limit text = Analyses bytes Limit text
-Runs bytes steps Unbuilt text = (place : Place) × HasFunctionAt bytes place × (text ≡ refusal_text (refusal.Unbuilt place))
 Runs bytes steps status text = ⊥
 
 -- ---- calls
@@ -180,10 +179,10 @@ HasCause c NotText text = AnswersInput c NotText text
 HasCause c Syntax text = AnswersInput c Syntax text
 HasCause c Scope text = AnswersInput c Scope text
 HasCause c Limit text = AnswersInput c Limit text
-HasCause c Unbuilt text = AnswersInput c Unbuilt text
 HasCause c Done text = AnswersInput c Done text
 HasCause c Warned text = AnalysesInput c Warned text
 HasCause c Spent text = AnalysesInput c Spent text
+HasCause c Unbuilt text = AnalysesInput c Unbuilt text
 HasCause c Left text = RunsInput c Left text
 HasCause c Uncaught text = RunsInput c Uncaught text
 HasCause c StepsSpent text = RunsInput c StepsSpent text

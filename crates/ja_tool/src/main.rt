@@ -2,6 +2,8 @@
 #![tactic(auto)]
 
 mod analysis;
+#[cfg(test)]
+mod built_in_tests;
 mod command;
 mod refusing;
 mod running;

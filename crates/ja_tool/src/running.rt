@@ -1,7 +1,6 @@
 //! The answer of `run` to bytes.
 
-ghost use Rattle.std.specs.Prelude.{◌≡◌, ◌≤◌, IfOk, length};
-ghost use Rattle.ja_graph.specs.Kinds.{RunsAlone};
+ghost use Rattle.std.specs.Prelude.{◌≡◌, ◌≤◌, [], IfOk, length};
 ghost use Rattle.ja_graph.specs.WellFormed.{IsWellFormed};
 ghost use Rattle.ja_tool.specs.Answers.{Runs, Transcribes, status_of_end};
 
@@ -9,7 +8,6 @@ use crate::refusing::{Answer, explain, refuse};
 use crate::status::Status;
 use ja_base::Memory;
 use ja_graph::Program;
-use ja_load::laws::programs_to_run_run_alone;
 use ja_load::load_to_run;
 use ja_report::Refusal;
 use ja_run::{RunEnd, run, run_text};
@@ -31,7 +29,7 @@ fn status_of(end: &RunEnd) -> Status
 // Runs a program, and writes the transcript.
 fn transcribe(alloc: Global, program: &Program, steps: u64) -> Result<Answer, Memory>
     requires program { IsWellFormed program.now }
-    requires alone { RunsAlone program.now }
+    requires alone { program.now.signatures ≡ [] }
     ensures { IfOk result (λ a. Transcribes program.now steps a.status a.text.items) }
 {
     let ended = run(alloc, program, steps)?;
@@ -50,7 +48,6 @@ fn transcribe_text(alloc: Global, text: &str, steps: u64) -> Result<Answer, Memo
 {
     match load_to_run(alloc, text) {
         Ok(program) => {
-            programs_to_run_run_alone();
             let answer = transcribe(alloc, &program, steps)?;
             Ok(answer)
         }

@@ -142,7 +142,7 @@ const LONG_TEXTS: [(&[u8], &[u8], usize, &[u8], Status, &str); 11] = [
 ];
 
 /// Texts that are run, each with its status, and lines of its transcript or its refusal.
-const RUNS: [(&[u8], Status, &str); 49] = [
+const RUNS: [(&[u8], Status, &str); 90] = [
     (b"", Status::Done, "end normal\nsteps 2\n"),
     (
         b"x;",
@@ -175,7 +175,6 @@ const RUNS: [(&[u8], Status, &str); 49] = [
         Status::Uncaught,
         "end uncaught 7\n",
     ),
-    (b"throw {} + 1;", Status::Left, "end scope Row 1:10\n"),
     (
         b"9007199254740991 + 1;",
         Status::Left,
@@ -228,9 +227,9 @@ const RUNS: [(&[u8], Status, &str); 49] = [
         "end uncaught 1\n",
     ),
     (
-        b"var valueOf = 5; try { throw 1; } catch (e) { valueOf; }",
-        Status::Left,
-        "end scope Row 1:47\n",
+        b"var valueOf = 5; try { throw 1; } catch (e) { throw typeof valueOf; }",
+        Status::Uncaught,
+        "end uncaught \"function\"\n",
     ),
     (
         b"var a = []; a[4294967294] = a[4294967295] = 1; throw a.length;",
@@ -328,11 +327,225 @@ const RUNS: [(&[u8], Status, &str); 49] = [
         Status::Uncaught,
         "end uncaught 1\n",
     ),
-    (b"a;\nfunction f() {}", Status::Unbuilt, "unbuilt 2:1\n"),
+    (
+        b"a;\nfunction f() {}",
+        Status::Uncaught,
+        "end uncaught ReferenceError: a is not bound\nsteps 5\n",
+    ),
     (
         b"a(b, function () { function g() {} });",
-        Status::Unbuilt,
-        "unbuilt 1:6\n",
+        Status::Uncaught,
+        "end uncaught ReferenceError: b is not bound\nsteps 4\n",
+    ),
+    (
+        b"f(); function f() {}",
+        Status::Done,
+        "end normal\nsteps 10\n",
+    ),
+    (
+        b"function f(a, b) { return a + typeof b; } throw f(\"x\");",
+        Status::Uncaught,
+        "end uncaught \"xundefined\"\nsteps 18\n",
+    ),
+    (
+        b"function f(a) { return arguments[2] + arguments.length; } throw f(1, 2, 3);",
+        Status::Uncaught,
+        "end uncaught 6\nsteps 27\n",
+    ),
+    (
+        b"function f(a, a) { arguments[0] = 5; return a; } throw f(1, 2);",
+        Status::Uncaught,
+        "end uncaught 2\nsteps 21\n",
+    ),
+    (
+        b"function f(a) { arguments[0] = 2; } f(1);",
+        Status::Left,
+        "end scope SharedArgument 1:30\nsteps 15\n",
+    ),
+    (
+        b"function f(a) { a = 2; return arguments[0]; } throw f();",
+        Status::Uncaught,
+        "end uncaught undefined\nsteps 19\n",
+    ),
+    (
+        b"function f(a) { var s = \"\"; for (var k in arguments) { s += k; } return s + arguments.length + (arguments.callee === f); } throw f(7, 8);",
+        Status::Uncaught,
+        "end uncaught \"2true\"\nsteps 42\n",
+    ),
+    (
+        b"function f(a, b) {} f.length = 9; throw f.length;",
+        Status::Uncaught,
+        "end uncaught 2\nsteps 15\n",
+    ),
+    (
+        b"function f(a) { var a; return a; } throw f(4);",
+        Status::Uncaught,
+        "end uncaught 4\nsteps 13\n",
+    ),
+    (
+        b"function f(f) { return typeof f; function f() {} } throw f(1);",
+        Status::Uncaught,
+        "end uncaught \"function\"\nsteps 15\n",
+    ),
+    (
+        b"throw f(); function f() { return 1; } function f() { return 2; }",
+        Status::Uncaught,
+        "end uncaught 2\nsteps 12\n",
+    ),
+    (
+        b"throw typeof f; var f; function f() {}",
+        Status::Uncaught,
+        "end uncaught \"function\"\nsteps 8\n",
+    ),
+    (
+        b"var f = 1; function f() {} throw typeof f;",
+        Status::Uncaught,
+        "end uncaught \"number\"\nsteps 11\n",
+    ),
+    (
+        b"var x = 1; function f() { throw x; var x = 2; } f();",
+        Status::Uncaught,
+        "end uncaught undefined\nsteps 16\n",
+    ),
+    (
+        b"function f() { g = 3; var h = 4; } f(); throw typeof h + g;",
+        Status::Uncaught,
+        "end uncaught \"undefined3\"\nsteps 25\n",
+    ),
+    (
+        b"var n = 1; try { g(n = 2); } catch (e) {} throw n;",
+        Status::Uncaught,
+        "end uncaught 2\nsteps 18\n",
+    ),
+    (
+        b"function fib(n) { return n < 2 ? n : fib(n - 1) + fib(n - 2); } throw fib(10);",
+        Status::Uncaught,
+        "end uncaught 55\nsteps 4333\n",
+    ),
+    (
+        b"function f(n) { if (n) { f(n - 1); } } f(10000);",
+        Status::Done,
+        "end normal\nsteps 180015\n",
+    ),
+    (
+        b"function f(n) { var o = {p: null}, c; if (n) { c = f(false); o.p = 1; c.p.x; } return o; } f(true);",
+        Status::Uncaught,
+        "end uncaught TypeError: property of null or undefined\nsteps 56\n",
+    ),
+    (
+        b"var g = function f(n) { f = 1; return n ? f(n - 1) : typeof f; }; throw g(2) + typeof f;",
+        Status::Uncaught,
+        "end uncaught \"functionundefined\"\nsteps 75\n",
+    ),
+    (
+        b"function counter() { var n = 0; return {up: function () { return ++n; }}; } var a = counter(), b = counter(); a.up(); throw \"\" + a.up() + b.up();",
+        Status::Uncaught,
+        "end uncaught \"21\"\nsteps 88\n",
+    ),
+    (
+        b"var fs = [], i = 0; function make(n) { return function () { return n; }; } for (; i < 2; i++) { fs[i] = [make(i), function () { return i; }]; } throw \"\" + fs[0][0]() + fs[1][0]() + fs[0][1]();",
+        Status::Uncaught,
+        "end uncaught \"012\"\nsteps 164\n",
+    ),
+    (
+        b"var o = {f: function () { return this === o; }}; throw \"\" + o.f() + (0, o.f)();",
+        Status::Uncaught,
+        "end uncaught \"truefalse\"\nsteps 42\n",
+    ),
+    (
+        b"var h = this; function f() { function g() { return this === h; } return g(); } throw f();",
+        Status::Uncaught,
+        "end uncaught true\nsteps 24\n",
+    ),
+    (
+        b"var h = this; throw (function g(n) { return n ? g(0) : this === h; })(1);",
+        Status::Uncaught,
+        "end uncaught false\nsteps 36\n",
+    ),
+    (
+        b"var h = this; try { throw function () { return this === h; }; } catch (e) { throw e(); }",
+        Status::Uncaught,
+        "end uncaught false\nsteps 21\n",
+    ),
+    (
+        b"var f; try { throw 5; } catch (e) { f = function () { return e; }; } var e = 6; throw f() + e;",
+        Status::Uncaught,
+        "end uncaught 11\nsteps 29\n",
+    ),
+    (
+        b"function f() { a: for (;;) { try { throw 3; } catch (e) { var g = function () { return e; }; break a; } } return g() + typeof e; } throw f();",
+        Status::Uncaught,
+        "end uncaught \"3undefined\"\nsteps 36\n",
+    ),
+    (
+        b"function f() { try { throw 1; } finally { return 2; } } throw f();",
+        Status::Uncaught,
+        "end uncaught 2\nsteps 15\n",
+    ),
+    (
+        b"function f() { for (;;) { try { return 1; } finally { break; } } return 2; } throw f();",
+        Status::Uncaught,
+        "end uncaught 2\nsteps 15\n",
+    ),
+    (
+        b"var s = \"\"; function f() { try { g(); } finally { s += \"f\"; } } function g() { try { throw 1; } finally { s += \"g\"; } } try { f(); } catch (e) { s += e; } throw s;",
+        Status::Uncaught,
+        "end uncaught \"gf1\"\nsteps 59\n",
+    ),
+    (
+        b"function C() { return 3; } throw new C() instanceof C;",
+        Status::Uncaught,
+        "end uncaught true\nsteps 13\n",
+    ),
+    (
+        b"function C() { this.p = 1; return {p: 2}; } throw new C().p;",
+        Status::Uncaught,
+        "end uncaught 2\nsteps 21\n",
+    ),
+    (
+        b"function C() { this.n = arguments.length; } throw \"\" + new C(1, 2).n + (new C).n;",
+        Status::Uncaught,
+        "end uncaught \"20\"\nsteps 49\n",
+    ),
+    (
+        b"function C() { this.g = 6; } C(); throw g;",
+        Status::Uncaught,
+        "end uncaught 6\nsteps 17\n",
+    ),
+    (
+        b"function A() {} A.prototype.m = function () { return this.n; }; function B(n) { this.n = n; } B.prototype = new A(); throw new B(8).m();",
+        Status::Uncaught,
+        "end uncaught 8\nsteps 49\n",
+    ),
+    (
+        b"function C() {} throw new C().constructor === C;",
+        Status::Uncaught,
+        "end uncaught true\nsteps 16\n",
+    ),
+    (
+        b"function C() { this.a = 1; } C.prototype.b = 2; var s = \"\"; for (var k in new C()) { s += k; } throw s;",
+        Status::Uncaught,
+        "end uncaught \"ab\"\nsteps 56\n",
+    ),
+    (
+        b"function C() {} var s = \"\"; for (var k in C) { s += k; } throw s + C.length;",
+        Status::Uncaught,
+        "end uncaught \"prototype0\"\nsteps 35\n",
+    ),
+    (
+        b"function C() {} C.prototype = 3; ({}) instanceof C;",
+        Status::Uncaught,
+        "end uncaught TypeError: prototype is not an object\nsteps 13\n",
+    ),
+    (
+        b"function f() {} throw typeof f + (f instanceof f);",
+        Status::Uncaught,
+        "end uncaught \"functionfalse\"\nsteps 15\n",
+    ),
+    (
+        b"throw function () {};",
+        Status::Uncaught,
+        "end uncaught object Function\nsteps 3\n",
     ),
     (b"var x = (", Status::Syntax, "syntax 1:10\n"),
     (b"with (a) {}", Status::Scope, "scope With 1:1\n"),
@@ -399,7 +612,7 @@ fn words(alloc: Global, texts: &[&str]) -> Vec<String> {
 }
 
 /// A part so many times, between what stands before and behind it.
-fn repeated(alloc: Global, before: &[u8], part: &[u8], count: usize, behind: &[u8]) -> Vec<u8> {
+pub fn repeated(alloc: Global, before: &[u8], part: &[u8], count: usize, behind: &[u8]) -> Vec<u8> {
     let mut text = Vec::new(alloc);
     let _ = text.extend_from_slice(before);
     for _ in 0..count {
@@ -410,7 +623,7 @@ fn repeated(alloc: Global, before: &[u8], part: &[u8], count: usize, behind: &[u
 }
 
 /// The status and what was written, in pieces of 10 bytes. The text is read in pieces of 7, a long one in longer ones.
-fn answered(
+pub fn answered(
     alloc: Global,
     texts: &[&str],
     text: Vec<u8>,
@@ -425,7 +638,7 @@ fn answered(
 }
 
 /// Whether what was written is the answer, or a report or a transcript with these lines.
-fn is_answer(written: &[u8], lines: &str) -> bool {
+pub fn is_answer(written: &[u8], lines: &str) -> bool {
     match str::from_utf8(written) {
         Ok(text) => {
             let has_lines = text.starts_with("tajs report 1\n") || text.starts_with("tajs run 1\n");
