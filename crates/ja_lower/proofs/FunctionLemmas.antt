@@ -18,7 +18,6 @@ use Rattle.ja_graph.specs.Renaming.{renamed}
 use Rattle.ja_graph.specs.WellFormed.{IsRegister, IsDestination, IsName, IsFunction, IsAllowed, IsNodeWellFormed, IsFunctionWellFormed}
 use Rattle.ja_graph.proofs.RegisterLemmas.{first_stay, each_among}
 use Rattle.ja_listing.specs.declared.item.Item.{Item}
-use Rattle.ja_listing.specs.declared.item.Item.TheVariants as item
 use Rattle.ja_listing.specs.Listing.{assembled}
 use Rattle.ja_listing.specs.Laws.{EndsWithEscape, CopiesAreWhole, EdgesLeadInside}
 use Rattle.ja_listing.proofs.Kept.{assembled_ends}

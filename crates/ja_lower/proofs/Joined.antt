@@ -2,7 +2,7 @@
 use Rattle.std.proofs.Common.{◌≡◌, ℕ, suc, ◌+◌, ◌≤◌, Bool, true, false, if◌then◌else◌, List, [], ◌∷◌, ◌++◌, length, map, filter, refl, sym, ap, ◌∙◌, append-nil, append_assoc, arith, length-append}
 use Rattle.std.specs.List.{fold, list_any}
 use Rattle.std.specs.Str.{bytes_eq}
-use Rattle.std.proofs.lemmas.List.Sums.{sum_by-cons}
+use Rattle.std.proofs.lemmas.List.Sums.{fold-append, sum_by-cons}
 use Rattle.ja_expressions.specs.Specials.{is_name}
 use Rattle.ja_names.specs.Names.{with_name}
 use Rattle.ja_names.specs.TextOrder.{Named, names_in}
@@ -82,11 +82,21 @@ taken_again names (t ∷ ts) once = taken_again (with_name names t) ts (at (list
         let new : with_name names t ≡ names ++ t ∷ [] = rw known refl in
         taken_behind [] names t ∙ taken ∙ new
 
-pub first_names_stay : (names : List (List ℕ)) (prelude statements : List Statement) → (own : List (List ℕ)) × (names_of false (prelude_names names prelude) statements ≡ prelude_names names prelude ++ own)
+-- names of which some come first are those, and then the others
+pub names_behind : (specials : Bool) (first more : List (List ℕ)) (statements : List Statement) → names_of specials (first ++ more) statements ≡ fold with_name (fold with_name [] first) (more ++ map (λ (n : Named). n.text) (filter (is_name specials) (names_in statements)))
 unfolding names_of
-first_names_stay names prelude statements =
-    let built_in = map (λ (n : Named). n.text) (filter (is_name true) (names_in prelude)) in
-    let texts = map (λ (n : Named). n.text) (filter (is_name false) (names_in statements)) in
-    let once = taken_again (fold with_name [] names) built_in (taken_again [] names refl) in
-    let follow = with_names_follow (fold with_name (fold with_name [] names) built_in) texts in
-    (follow.0, ap (λ ns. fold with_name ns texts) once ∙ follow.1)
+names_behind specials first more statements =
+    let texts = map (λ (n : Named). n.text) (filter (is_name specials) (names_in statements)) in
+    ap (λ ns. fold with_name ns texts) (fold-append with_name [] first more) ∙ sym (fold-append with_name (fold with_name [] first) more texts)
+
+-- the names of built-in functions stay as they are
+prelude_names_stay : (names : List (List ℕ)) (prelude : List Statement) → fold with_name [] (prelude_names names prelude) ≡ prelude_names names prelude
+unfolding names_of
+prelude_names_stay names prelude =
+    taken_again (fold with_name [] names) (map (λ (n : Named). n.text) (filter (is_name true) (names_in prelude))) (taken_again [] names refl)
+
+pub first_names_stay : (names more : List (List ℕ)) (prelude statements : List Statement) → (own : List (List ℕ)) × (names_of false (prelude_names names prelude ++ more) statements ≡ prelude_names names prelude ++ own)
+first_names_stay names more prelude statements =
+    let all = more ++ map (λ (n : Named). n.text) (filter (is_name false) (names_in statements)) in
+    let follow = with_names_follow (prelude_names names prelude) all in
+    (follow.0, names_behind false (prelude_names names prelude) more statements ∙ ap (λ ns. fold with_name ns all) (prelude_names_stay names prelude) ∙ follow.1)

@@ -2,6 +2,7 @@ pub mod NumberingLemmas
 pub mod SiteLemmas
 pub mod FunctionLemmas
 pub mod Scenes
+pub mod DeviceBodies
 pub mod WellFormedLemmas
 pub mod Listed
 pub mod Shifts

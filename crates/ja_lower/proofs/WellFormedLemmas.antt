@@ -1,7 +1,8 @@
--- What is lowered is well formed, a text with built-in functions behind its own.
-use Rattle.std.proofs.Common.{◌≡◌, ℕ, suc, ◌+◌, ◌*◌, ◌<◌, ◌≤◌, true, false, List, [], ◌∷◌, ◌++◌, length, map, Some, refl, sym, ap, ◌∙◌, subst, arith, length-append}
+-- What is lowered is well formed, a text with the functions of devices and the built-in ones behind its own.
+use Rattle.std.proofs.Common.{◌≡◌, ℕ, ◌+◌, ◌*◌, ◌<◌, ◌≤◌, true, false, List, [], ◌∷◌, ◌++◌, length, map, Some, refl, sym, ap, ◌∙◌, subst, arith, length-append}
 use Rattle.std.specs.List.{AllByRecursion, flat_map, slice_get, range_with_len}
 use Rattle.std.proofs.lemmas.List.{length-map}
+use Rattle.ja_prim.specs.declared.signature.Signature.{Signature}
 use Rattle.ja_graph.specs.declared.program.Function.{Function}
 use Rattle.ja_graph.specs.declared.program.Program.{Program}
 use Rattle.ja_graph.specs.declared.program.SiteInfo.{SiteInfo}
@@ -21,7 +22,8 @@ use Rattle.ja_syntax.specs.declared.tree.Statement.{Statement}
 use Rattle.ja_lower.specs.declared.body.Body.{Body}
 use Rattle.ja_lower.specs.declared.lowered.Lowered.{Lowered}
 use Rattle.ja_lower.specs.Limits.{function_count, prelude_count, size_of, prelude_size_of}
-use Rattle.ja_lower.specs.Lowering.{AreAllowed, names_of, scene_of, scene_with, function_body, bodies_of, functions_of, sites_of, prelude_names, prelude_bodies, at_paths, lowered, lowered_prelude, lowered_with_prelude}
+use Rattle.ja_lower.specs.Lowering.{AreAllowed, names_of, scene_of, scene_with, function_body, bodies_of, functions_of, sites_of, prelude_names, prelude_bodies, at_paths, device_names, first_names, device_bodies, followed_by, behind_devices, lowered, lowered_prelude, lowered_with_prelude}
+use Rattle.ja_lower.proofs.DeviceBodies.{devices_listed, devices_fit, length-devices, size-devices, devices_siteless, devices_alike}
 use Rattle.ja_lower.proofs.Joined.{functions_append, sites_append, size-append, length-at_paths, size-at_paths, first_names_stay}
 use Rattle.ja_lower.proofs.NumberingLemmas.{IsSited, AreSited, numbers_of_bodies}
 use Rattle.ja_lower.proofs.Scenes.{scene_has_its_text, parameters_named}
@@ -101,116 +103,151 @@ module _ (names : List (List ℕ)) (statements : List Statement) where
   own_functions : length prelude_scene.functions ≡ prelude_count statements
   own_functions = length-map (functions_in statements) (λ (g : FunctionOf Statement). g.place)
 
--- ---- a text with built-in functions behind its own
+-- ---- a text with the functions of devices and the built-in ones behind its own
 
-module _ (names paths : List (List ℕ)) (prelude : List Statement) (first : ℕ) (statements : List Statement) where
-  abbrev first_names : List (List ℕ)
-  first_names = prelude_names names prelude
+module _ (names paths : List (List ℕ)) (prelude : List Statement) (signatures : List Signature) (first : ℕ) (statements : List Statement) where
+  abbrev before : List (List ℕ)
+  before = first_names names prelude signatures
 
   abbrev text : List Body
-  text = text_bodies first_names statements
+  text = text_bodies before statements
 
   abbrev built_in : List Body
   built_in = at_paths paths (own_bodies names prelude)
 
+  abbrev others : List Body
+  others = device_bodies signatures ++ built_in
+
   abbrev bodies : List Body
-  bodies = text ++ built_in
+  bodies = text ++ others
 
   abbrev whole : Lowered
-  whole = lowered_with_prelude names paths prelude first statements
+  whole = lowered_with_prelude names paths prelude signatures first statements
 
   -- it has the functions and the sites of these bodies
   whole_functions : whole.functions ≡ functions_of first bodies
-  unfolding lowered_with_prelude lowered lowered_prelude
-  whole_functions = sym (functions_append first 0 text built_in)
+  unfolding lowered_with_prelude lowered
+  whole_functions = sym (functions_append first 0 text others)
 
   whole_sites : whole.sites ≡ sites_of 0 bodies
-  unfolding lowered_with_prelude lowered lowered_prelude
+  unfolding lowered_with_prelude lowered
   whole_sites =
       let count : length (functions_of first text) ≡ 0 + length text = omega (arith, length-functions first text) in
-      ap (λ n. sites_of 0 text ++ sites_of n built_in) count ∙ sym (sites_append 0 text built_in)
+      ap (λ n. sites_of 0 text ++ sites_of n others) count ∙ sym (sites_append 0 text others)
 
-  whole_names : whole.names ≡ names_of false first_names statements
+  whole_names : whole.names ≡ names_of false before statements
   unfolding lowered_with_prelude lowered
   whole_names = refl
 
   all_sited : AreSited bodies
   all_sited =
       let AreOwn : Body → Type 0 = λ body. AllByRecursion IsSited body.nodes in
-      let texts = text_scene first_names statements in
+      let texts = text_scene before statements in
       let own = prelude_scene names prelude in
-      all-append AreOwn text built_in
-      (all-from (IsListedIn texts) AreOwn text (listed_sited texts.specials (length texts.names) (length texts.functions)) (text_listed first_names statements))
-      (all-from (IsListedIn own) AreOwn built_in (listed_sited own.specials (length own.names) (length own.functions)) (paths_listed own.specials (length own.names) (length own.functions) paths (own_bodies names prelude) (own_listed names prelude)))
+      let of_text = all-from (IsListedIn texts) AreOwn text (listed_sited texts.specials (length texts.names) (length texts.functions)) (text_listed before statements) in
+      let of_devices = all-from (IsListed true 0 0) AreOwn (device_bodies signatures) (listed_sited true 0 0) (devices_listed signatures) in
+      let of_prelude = all-from (IsListedIn own) AreOwn built_in (listed_sited own.specials (length own.names) (length own.functions)) (paths_listed own.specials (length own.names) (length own.functions) paths (own_bodies names prelude) (own_listed names prelude)) in
+      all-append AreOwn text others of_text (all-append AreOwn (device_bodies signatures) built_in of_devices of_prelude)
 
-  count : length paths ≡ prelude_count prelude → length bodies ≡ function_count statements + prelude_count prelude
+  count : length paths ≡ prelude_count prelude → length bodies ≡ function_count statements + length signatures + prelude_count prelude
   count path_each =
-      omega (arith, length-append text built_in, text_count first_names statements, length-at_paths paths (own_bodies names prelude) (path_each ∙ sym (own_count names prelude)), path_each)
+      omega (arith, length-append text others, length-append (device_bodies signatures) built_in, text_count before statements, length-devices signatures, length-at_paths paths (own_bodies names prelude) (path_each ∙ sym (own_count names prelude)), path_each)
 
   module _ (p : Program) (path_each : length paths ≡ prelude_count prelude) (functions : p.functions ≡ whole.functions) where
-    count_in : length p.functions ≡ function_count statements + prelude_count prelude
+    count_in : length p.functions ≡ function_count statements + length signatures + prelude_count prelude
     count_in = ap length functions ∙ ap length whole_functions ∙ length-functions first bodies ∙ count path_each
 
-    many_for_text : length (text_scene first_names statements).functions < length p.functions
-    many_for_text = omega (arith, count_in, text_count first_names statements, text_functions first_names statements)
+    many_for_text : length (text_scene before statements).functions < length p.functions
+    many_for_text = omega (arith, count_in, text_count before statements, text_functions before statements)
 
     many_for_prelude : length (prelude_scene names prelude).functions < length p.functions
     many_for_prelude = omega (arith, count_in, own_functions names prelude)
 
-    are_well_formed : AreAllowed (own_bodies names prelude) → p.names ≡ whole.names → (f : ℕ) (fn : Function) → slice_get p.functions f ≡ Some fn → fn.registers ≤ 262144 → IsFunctionWellFormed p fn
-    are_well_formed allowed same f fn is few =
-        let in_names : p.names ≡ names_of false first_names statements = same ∙ whole_names in
-        let there : length (names_of false first_names statements) ≤ length p.names = omega (arith, ap length in_names) in
-        let begins = first_names_stay names prelude statements in
-        let enough : length first_names ≤ length p.names = omega (arith, ap length in_names, ap length begins.1, length-append first_names begins.0) in
-        let texts = text_scene first_names statements in
-        let of_text = all-from (IsListedIn texts) (FitsIn p) text (λ body listed. text_fits p (length texts.names) (length texts.functions) body there many_for_text listed) (text_listed first_names statements) in
+    are_well_formed : AreAllowed (own_bodies names prelude) → p.names ≡ whole.names → p.signatures ≡ signatures → (f : ℕ) (fn : Function) → slice_get p.functions f ≡ Some fn → fn.registers ≤ 262144 → IsFunctionWellFormed p fn
+    are_well_formed allowed same asked f fn is few =
+        let in_names : p.names ≡ names_of false before statements = same ∙ whole_names in
+        let there : length (names_of false before statements) ≤ length p.names = omega (arith, ap length in_names) in
+        let begins = first_names_stay names (device_names signatures) prelude statements in
+        let enough : length (prelude_names names prelude) ≤ length p.names = omega (arith, ap length in_names, ap length begins.1, length-append (prelude_names names prelude) begins.0) in
+        let texts = text_scene before statements in
+        let of_text = all-from (IsListedIn texts) (FitsIn p) text (λ body listed. text_fits p (length texts.names) (length texts.functions) body there many_for_text listed) (text_listed before statements) in
+        let of_devices = devices_fit p signatures (omega (arith, many_for_prelude)) asked in
         let own = prelude_scene names prelude in
         let of_prelude = preludes_fit p (length own.names) (length own.functions) paths (own_bodies names prelude) enough many_for_prelude (own_listed names prelude) allowed in
-        functions_well_formed p first bodies (all-append (FitsIn p) text built_in of_text of_prelude) (functions ∙ whole_functions) f fn is few
+        let of_others = all-append (FitsIn p) (device_bodies signatures) built_in of_devices of_prelude in
+        functions_well_formed p first bodies (all-append (FitsIn p) text others of_text of_others) (functions ∙ whole_functions) f fn is few
 
     name_functions : AllByRecursion (NamesFunctions p) whole.sites
     name_functions =
         let Makes : Body → Type 0 = λ body. AllByRecursion (MakesFunctions p) body.nodes in
-        let texts = text_scene first_names statements in
+        let texts = text_scene before statements in
         let own = prelude_scene names prelude in
-        let of_text = all-from (IsListedIn texts) Makes text (λ body listed. listed_named p texts.specials (length texts.names) (length texts.functions) body many_for_text listed) (text_listed first_names statements) in
+        let of_text = all-from (IsListedIn texts) Makes text (λ body listed. listed_named p texts.specials (length texts.names) (length texts.functions) body many_for_text listed) (text_listed before statements) in
+        let of_devices = all-from (IsListed true 0 0) Makes (device_bodies signatures) (λ body listed. listed_named p true 0 0 body (omega (arith, many_for_prelude)) listed) (devices_listed signatures) in
         let of_prelude = all-from (IsListedIn own) Makes built_in (λ body listed. listed_named p own.specials (length own.names) (length own.functions) body many_for_prelude listed) (paths_listed own.specials (length own.names) (length own.functions) paths (own_bodies names prelude) (own_listed names prelude)) in
-        subst (AllByRecursion (NamesFunctions p)) (sym whole_sites) (named_bodies p 0 bodies (omega (arith, count_in, count path_each)) (all-append Makes text built_in of_text of_prelude))
+        let of_others = all-append Makes (device_bodies signatures) built_in of_devices of_prelude in
+        subst (AllByRecursion (NamesFunctions p)) (sym whole_sites) (named_bodies p 0 bodies (omega (arith, count_in, count path_each)) (all-append Makes text others of_text of_others))
 
-pub functions_are_well_formed : (names paths : List (List ℕ)) (prelude : List Statement) (first : ℕ) (statements : List Statement) (p : Program) (f : ℕ) (fn : Function) → length paths ≡ prelude_count prelude → AreAllowed (prelude_bodies (prelude_names names prelude) prelude) → p.functions ≡ (lowered_with_prelude names paths prelude first statements).functions → p.names ≡ (lowered_with_prelude names paths prelude first statements).names → slice_get p.functions f ≡ Some fn → fn.registers ≤ 262144 → IsFunctionWellFormed p fn
-functions_are_well_formed names paths prelude first statements p f fn path_each allowed functions same is few =
-    are_well_formed names paths prelude first statements p path_each functions allowed same f fn is few
+  -- the parts: devices have no sites, so they stand before the built-in functions wherever sites are numbered from
+  parts : (l : Lowered) → l ≡ lowered before first statements → whole ≡ followed_by l (behind_devices signatures (lowered_prelude names paths (first + length l.sites) (length l.functions + length signatures) prelude))
+  unfolding lowered_with_prelude lowered_prelude
+  parts l is =
+      let devices = device_bodies signatures in
+      let built : ℕ → ℕ → Lowered = λ site function. record { functions = functions_of site built_in; sites = sites_of function built_in; names = prelude_names names prelude } in
+      let site = first + length l.sites in
+      let function = length l.functions in
+      let none = devices_siteless function signatures in
+      let functions : functions_of site others ≡ functions_of 0 devices ++ functions_of site built_in =
+      functions_append site function devices built_in
+      ∙ ap (λ fns. fns ++ functions_of (site + length (sites_of function devices)) built_in) (sym (devices_alike site signatures))
+      ∙ ap (λ n. functions_of 0 devices ++ functions_of n built_in) (omega (arith, ap length none)) in
+      let sites : sites_of function others ≡ sites_of (function + length signatures) built_in =
+      sites_append function devices built_in
+      ∙ ap (λ ss. ss ++ sites_of (function + length devices) built_in) none
+      ∙ ap (λ n. sites_of (function + n) built_in) (length-devices signatures) in
+      ap (λ (t : Lowered). followed_by t (record { functions = functions_of (first + length t.sites) others; sites = sites_of (length t.functions) others; names = prelude_names names prelude })) (sym is)
+      ∙ ap (λ fns. followed_by l (record { functions = fns; sites = sites_of function others; names = prelude_names names prelude })) functions
+      ∙ ap (λ ss. followed_by l (record { functions = functions_of 0 devices ++ functions_of site built_in; sites = ss; names = prelude_names names prelude })) sites
 
-pub sites_are_numbered : (names paths : List (List ℕ)) (prelude : List Statement) (first : ℕ) (statements : List Statement) → map (λ (m : OwnedMaking). m.making.site.0) (makings_from 0 (lowered_with_prelude names paths prelude first statements).functions) ≡ range_with_len first (length (lowered_with_prelude names paths prelude first statements).sites)
-sites_are_numbered names paths prelude first statements =
-    let all = bodies names paths prelude first statements in
-    ap (λ fns. map (λ (m : OwnedMaking). m.making.site.0) (makings_from 0 fns)) (whole_functions names paths prelude first statements)
-    ∙ numbers_of_bodies 0 first all (all_sited names paths prelude first statements)
-    ∙ ap (λ (ss : List SiteInfo). range_with_len first (length ss)) (sym (whole_sites names paths prelude first statements))
+pub functions_are_well_formed : (names paths : List (List ℕ)) (prelude : List Statement) (signatures : List Signature) (first : ℕ) (statements : List Statement) (p : Program) (f : ℕ) (fn : Function) → length paths ≡ prelude_count prelude → AreAllowed (prelude_bodies (prelude_names names prelude) prelude) → p.functions ≡ (lowered_with_prelude names paths prelude signatures first statements).functions → p.names ≡ (lowered_with_prelude names paths prelude signatures first statements).names → p.signatures ≡ signatures → slice_get p.functions f ≡ Some fn → fn.registers ≤ 262144 → IsFunctionWellFormed p fn
+functions_are_well_formed names paths prelude signatures first statements p f fn path_each allowed functions same asked is few =
+    are_well_formed names paths prelude signatures first statements p path_each functions allowed same asked f fn is few
 
-pub sites_are_told : (names paths : List (List ℕ)) (prelude : List Statement) (front : List SiteInfo) (statements : List Statement) (p : Program) → p.sites ≡ front ++ (lowered_with_prelude names paths prelude (length front) statements).sites → AllByRecursion (IsSiteTold p) (makings_from 0 (lowered_with_prelude names paths prelude (length front) statements).functions)
-sites_are_told names paths prelude front statements p sites =
+pub sites_are_numbered : (names paths : List (List ℕ)) (prelude : List Statement) (signatures : List Signature) (first : ℕ) (statements : List Statement) → map (λ (m : OwnedMaking). m.making.site.0) (makings_from 0 (lowered_with_prelude names paths prelude signatures first statements).functions) ≡ range_with_len first (length (lowered_with_prelude names paths prelude signatures first statements).sites)
+sites_are_numbered names paths prelude signatures first statements =
+    let all = bodies names paths prelude signatures first statements in
+    ap (λ fns. map (λ (m : OwnedMaking). m.making.site.0) (makings_from 0 fns)) (whole_functions names paths prelude signatures first statements)
+    ∙ numbers_of_bodies 0 first all (all_sited names paths prelude signatures first statements)
+    ∙ ap (λ (ss : List SiteInfo). range_with_len first (length ss)) (sym (whole_sites names paths prelude signatures first statements))
+
+pub sites_are_told : (names paths : List (List ℕ)) (prelude : List Statement) (signatures : List Signature) (front : List SiteInfo) (statements : List Statement) (p : Program) → p.sites ≡ front ++ (lowered_with_prelude names paths prelude signatures (length front) statements).sites → AllByRecursion (IsSiteTold p) (makings_from 0 (lowered_with_prelude names paths prelude signatures (length front) statements).functions)
+sites_are_told names paths prelude signatures front statements p sites =
     let first = length front in
-    let here = sites ∙ ap (λ ss. front ++ ss) (whole_sites names paths prelude first statements) in
-    subst (λ fns. AllByRecursion (IsSiteTold p) (makings_from 0 fns)) (sym (whole_functions names paths prelude first statements)) (told_bodies p 0 first (bodies names paths prelude first statements) front here refl (all_sited names paths prelude first statements))
+    let here = sites ∙ ap (λ ss. front ++ ss) (whole_sites names paths prelude signatures first statements) in
+    subst (λ fns. AllByRecursion (IsSiteTold p) (makings_from 0 fns)) (sym (whole_functions names paths prelude signatures first statements)) (told_bodies p 0 first (bodies names paths prelude signatures first statements) front here refl (all_sited names paths prelude signatures first statements))
 
-pub sites_name_functions : (names paths : List (List ℕ)) (prelude : List Statement) (first : ℕ) (statements : List Statement) (p : Program) → length paths ≡ prelude_count prelude → p.functions ≡ (lowered_with_prelude names paths prelude first statements).functions → AllByRecursion (NamesFunctions p) (lowered_with_prelude names paths prelude first statements).sites
-sites_name_functions names paths prelude first statements p path_each functions =
-    name_functions names paths prelude first statements p path_each functions
+pub sites_name_functions : (names paths : List (List ℕ)) (prelude : List Statement) (signatures : List Signature) (first : ℕ) (statements : List Statement) (p : Program) → length paths ≡ prelude_count prelude → p.functions ≡ (lowered_with_prelude names paths prelude signatures first statements).functions → AllByRecursion (NamesFunctions p) (lowered_with_prelude names paths prelude signatures first statements).sites
+sites_name_functions names paths prelude signatures first statements p path_each functions =
+    name_functions names paths prelude signatures first statements p path_each functions
 
-pub sites_are_few : (names paths : List (List ℕ)) (prelude : List Statement) (first : ℕ) (statements : List Statement) → length (lowered_with_prelude names paths prelude first statements).sites ≤ 4 * node_count (lowered_with_prelude names paths prelude first statements).functions
-sites_are_few names paths prelude first statements =
-    omega (arith, ap length (whole_sites names paths prelude first statements), ap node_count (whole_functions names paths prelude first statements), few_sites 0 first (bodies names paths prelude first statements))
+pub sites_are_few : (names paths : List (List ℕ)) (prelude : List Statement) (signatures : List Signature) (first : ℕ) (statements : List Statement) → length (lowered_with_prelude names paths prelude signatures first statements).sites ≤ 4 * node_count (lowered_with_prelude names paths prelude signatures first statements).functions
+sites_are_few names paths prelude signatures first statements =
+    omega (arith, ap length (whole_sites names paths prelude signatures first statements), ap node_count (whole_functions names paths prelude signatures first statements), few_sites 0 first (bodies names paths prelude signatures first statements))
 
-pub nodes_are_within_the_size : (names paths : List (List ℕ)) (prelude : List Statement) (first : ℕ) (statements : List Statement) → node_count (lowered_with_prelude names paths prelude first statements).functions ≤ size_of (prelude_names names prelude) statements + prelude_size_of names prelude
+pub nodes_are_within_the_size : (names paths : List (List ℕ)) (prelude : List Statement) (signatures : List Signature) (first : ℕ) (statements : List Statement) → node_count (lowered_with_prelude names paths prelude signatures first statements).functions ≤ size_of (first_names names prelude signatures) statements + 3 * length signatures + prelude_size_of names prelude
 unfolding size_of prelude_size_of
-nodes_are_within_the_size names paths prelude first statements =
-    omega (arith, ap node_count (whole_functions names paths prelude first statements), few_nodes first (bodies names paths prelude first statements), size-append (text names paths prelude first statements) (built_in names paths prelude first statements), size-at_paths paths (own_bodies names prelude))
+nodes_are_within_the_size names paths prelude signatures first statements =
+    let all = bodies names paths prelude signatures first statements in
+    let behind = others names paths prelude signatures first statements in
+    let built = built_in names paths prelude signatures first statements in
+    omega (arith, ap node_count (whole_functions names paths prelude signatures first statements), few_nodes first all, size-append (text names paths prelude signatures first statements) behind, size-append (device_bodies signatures) built, size-devices signatures, size-at_paths paths (own_bodies names prelude))
 
-pub prelude_names_come_first : (names : List (List ℕ)) (prelude : List Statement) (first : ℕ) (statements : List Statement) → (own : List (List ℕ)) × ((lowered (prelude_names names prelude) first statements).names ≡ prelude_names names prelude ++ own)
+pub prelude_names_come_first : (names more : List (List ℕ)) (prelude : List Statement) (first : ℕ) (statements : List Statement) → (own : List (List ℕ)) × ((lowered (prelude_names names prelude ++ more) first statements).names ≡ prelude_names names prelude ++ own)
 unfolding lowered
-prelude_names_come_first names prelude first statements = first_names_stay names prelude statements
+prelude_names_come_first names more prelude first statements = first_names_stay names more prelude statements
+
+pub parts_follow : (names paths : List (List ℕ)) (prelude : List Statement) (signatures : List Signature) (first : ℕ) (statements : List Statement) (text : Lowered) → text ≡ lowered (first_names names prelude signatures) first statements → lowered_with_prelude names paths prelude signatures first statements ≡ followed_by text (behind_devices signatures (lowered_prelude names paths (first + length text.sites) (length text.functions + length signatures) prelude))
+parts_follow names paths prelude signatures first statements text is = parts names paths prelude signatures first statements text is
 
 -- ---- how many functions
 
@@ -218,7 +255,7 @@ pub text_counted : (names : List (List ℕ)) (first : ℕ) (statements : List St
 unfolding lowered
 text_counted names first statements = length-functions first (text_bodies names statements) ∙ text_count names statements
 
-pub whole_counted : (names paths : List (List ℕ)) (prelude : List Statement) (first : ℕ) (statements : List Statement) → length paths ≡ prelude_count prelude → length (lowered_with_prelude names paths prelude first statements).functions ≡ function_count statements + length paths
-whole_counted names paths prelude first statements path_each =
-    let all = bodies names paths prelude first statements in
-    omega (arith, ap length (whole_functions names paths prelude first statements), length-functions first all, count names paths prelude first statements path_each, path_each)
+pub whole_counted : (names paths : List (List ℕ)) (prelude : List Statement) (signatures : List Signature) (first : ℕ) (statements : List Statement) → length paths ≡ prelude_count prelude → length (lowered_with_prelude names paths prelude signatures first statements).functions ≡ function_count statements + length signatures + length paths
+whole_counted names paths prelude signatures first statements path_each =
+    let all = bodies names paths prelude signatures first statements in
+    omega (arith, ap length (whole_functions names paths prelude signatures first statements), length-functions first all, count names paths prelude signatures first statements path_each, path_each)

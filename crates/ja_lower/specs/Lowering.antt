@@ -1,10 +1,13 @@
--- What a tree is lowered to: the functions of its text with their nodes, the sites of these nodes, and the names; and built-in
--- functions behind them.
+-- What a tree is lowered to: the functions of its text with their nodes, the sites of these nodes, and the names; and behind them the
+-- functions of host devices, and built-in functions.
 use Rattle.std.specs.Prelude.{ℕ, Bool, true, false, suc, ◌+◌, List, [], ◌∷◌, ◌++◌, map, filter, length, Option, Some, None}
-use Rattle.std.specs.List.{AllByRecursion, fold, flat_map, sum_by, zip}
+use Rattle.std.specs.List.{AllByRecursion, enumerate_from, fold, flat_map, sum_by, zip}
 use Rattle.std.specs.Option.{option_map_or}
 use Rattle.ja_base.specs.declared.ids.FnId.{FnId}
+use Rattle.ja_base.specs.declared.ids.Reg.{Reg}
+use Rattle.ja_prim.specs.declared.signature.Signature.{Signature}
 use Rattle.ja_graph.specs.declared.node.Node.{Node}
+use Rattle.ja_graph.specs.declared.node.Node.TheVariants.{Device, Return, Escape}
 use Rattle.ja_graph.specs.declared.node.NodeInfo.{NodeInfo}
 use Rattle.ja_graph.specs.declared.program.Class.{Class}
 use Rattle.ja_graph.specs.declared.program.Class.TheVariants as class
@@ -162,11 +165,53 @@ abbrev pub followed_by : Lowered → Lowered → Lowered
 followed_by text others =
     record { functions = text.functions ++ others.functions; sites = text.sites ++ others.sites; names = text.names }
 
--- a text and built-in functions behind it, whose names come first
-unfoldable pub lowered_with_prelude : List (List ℕ) → List (List ℕ) → List Statement → ℕ → List Statement → Lowered
-lowered_with_prelude first paths prelude first_site statements =
-    let text = lowered (prelude_names first prelude) first_site statements in
-    followed_by text (lowered_prelude first paths (first_site + length text.sites) (length text.functions) prelude)
+-- ---- the functions of host devices
+
+-- no text has their nodes, which stand at 0:1
+abbrev pub device_node : Node → ℕ → NodeInfo
+device_node node next = record {
+  node = node;
+  place = record { line = 0; column = 1 };
+  next = record { 0 = next };
+  other = record { 0 = 2 };
+  handler = record { 0 = 2 };
+}
+
+-- the first temporary of a function without parameters
+abbrev pub device_register : Reg
+device_register = record { 0 = 6 }
+
+-- the device of a number is asked, and its answer returned
+abbrev pub device_body : ℕ → Signature → Body
+device_body which s = record {
+  name = s.name;
+  parameters = [];
+  nodes = device_node (Device device_register which) 1 ∷ device_node (Return device_register) 2 ∷ device_node Escape 2 ∷ [];
+}
+
+unfoldable pub device_bodies : List Signature → List Body
+device_bodies signatures = map (λ row. device_body row.0 row.1) (enumerate_from 0 signatures)
+
+abbrev pub device_names : List Signature → List (List ℕ)
+device_names signatures = map (λ (s : Signature). s.name) signatures
+
+-- ---- all together
+
+-- the names that come before those of a text: those of the built-in functions, and then those of the devices
+abbrev pub first_names : List (List ℕ) → List Statement → List Signature → List (List ℕ)
+first_names first prelude signatures = prelude_names first prelude ++ device_names signatures
+
+-- built-in functions behind those of devices, which have no sites
+abbrev pub behind_devices : List Signature → Lowered → Lowered
+behind_devices signatures built_in = record built_in { functions = functions_of 0 (device_bodies signatures) ++ built_in.functions }
+
+-- a text, and behind it the functions of devices and the built-in ones
+unfoldable pub lowered_with_prelude : List (List ℕ) → List (List ℕ) → List Statement → List Signature → ℕ → List Statement → Lowered
+lowered_with_prelude first paths prelude signatures first_site statements =
+    let names = prelude_names first prelude in
+    let text = lowered (first_names first prelude signatures) first_site statements in
+    let behind = device_bodies signatures ++ at_paths paths (prelude_bodies names prelude) in
+    followed_by text (lowered_bodies names (first_site + length text.sites) (length text.functions) behind)
 
 -- each node of functions is allowed whatever the program is
 abbrev pub AreAllowed : List Body → Type 0

@@ -1,4 +1,4 @@
-//! From the tree of a text, or of built-in functions, to its flow graph.
+//! From the tree of a text, or of built-in functions, to its flow graph; and the functions of host devices.
 #![tactic(auto)]
 
 ghost use Rattle.std.specs.Prelude.{◌≡◌, ◌<◌, ◌≤◌, ◌+◌, ◌^◌, length, map, filter, IfOk, IfErr, OnOk};
@@ -12,6 +12,7 @@ ghost use Rattle.ja_lower.specs.Room.{HasTooMany};
 
 mod bodies;
 mod body;
+mod devices;
 mod fault;
 pub mod laws;
 mod lowered;
@@ -23,6 +24,7 @@ mod whole;
 use crate::bodies::{bodies_of, prelude_bodies};
 use crate::whole::whole_of;
 pub use body::Body;
+pub use devices::device_functions;
 pub use fault::LowerFault;
 use ja_base::{Memory, Seq};
 use ja_expressions::special_of;
@@ -165,7 +167,7 @@ pub fn lower_prelude(
     first_function: u32,
 ) -> Result<Lowered, LowerFault>
     requires names { length names.now ≤ 65536 }
-    requires functions { first_function ≤ 4096 }
+    requires functions { first_function ≤ 4160 }
     ensures lowered { IfOk result (λ l. l ≡ spec.lowered_prelude names.now paths.now first_site first_function statements.now) }
     ensures within { IfOk result (λ l. IsPreludeWithin names.now statements.now) }
     ensures registers { IfOk result (λ l. AllByRecursion (λ fn. fn.registers ≤ 262144) l.functions) }

@@ -66,7 +66,7 @@ impl Prelude {
         first_function: u32,
     ) -> Result<Lowered, Memory>
         requires prelude { self.now ≡ spec.the_prelude }
-        requires functions { first_function ≤ 4096 }
+        requires functions { first_function ≤ 4160 }
         ensures lowered { IfOk result (λ l. l ≡ lowered_prelude builtin_names spec.prelude_paths first_site first_function spec.prelude_statements) }
         ensures registers { IfOk result (λ l. AllByRecursion (λ fn. fn.registers ≤ 262144) l.functions) }
     {

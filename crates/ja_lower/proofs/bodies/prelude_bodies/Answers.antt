@@ -1,4 +1,4 @@
-use Rattle.std.proofs.Common.{◌≡◌, true, map, None, IfErr, ap, subst, ◌∙◌}
+use Rattle.std.proofs.Common.{true, map, None, IfErr, ap, subst, ◌∙◌}
 use Rattle.ja_draft.specs.Lines.{Scene}
 use Rattle.ja_names.specs.TextOrder.{functions_in}
 use Rattle.ja_syntax.specs.declared.tree.FunctionOf.{FunctionOf}
