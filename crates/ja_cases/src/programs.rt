@@ -22,7 +22,7 @@ fn loaded(alloc: Global, text: &str) -> Result<Program, LoadFault>
     if text.len() > 16_777_216 {
         return Err(LoadFault::Nodes);
     }
-    load(alloc, text)
+    load(alloc, text, &[])
 }
 
 /// Why a text has no program: the place of the first form that isn't built, or another cause.

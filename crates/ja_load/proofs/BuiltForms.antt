@@ -1,5 +1,5 @@
 -- What an expression all of whose forms are built lists is built, and it has no function.
-use Rattle.std.proofs.Common.{◌≡◌, Bool, true, false, List, [], ◌∷◌, Option, Some, None, Ok, Err, if◌then◌else◌, refl, sym, subst}
+use Rattle.std.proofs.Common.{◌≡◌, ℕ, Bool, true, false, List, [], ◌∷◌, Option, Some, None, Ok, Err, if◌then◌else◌, refl, sym, subst}
 use Rattle.std.specs.List.{AllByRecursion}
 use Rattle.ja_base.specs.declared.ids.Place.{Place}
 use Rattle.ja_prim.specs.declared.primitive.Primitive.{Primitive}
@@ -33,10 +33,6 @@ IsName (a_name text) = Unit {0}
 -- no part is a function
 abbrev pub HasNoFunction : Parts → Type 0
 HasNoFunction parts = AllByRecursion IsName parts
-
-pub record IsBuiltExpression (x : Form) (parts : Parts) : Type 0 where
-  pub listed : IsBuiltForm x
-  pub names : HasNoFunction parts
 
 -- ---- what is read of a form, by what is read of its parts
 
@@ -103,91 +99,97 @@ not_excluded : (b : Bool) (place : Place) → IsRead (if b then Err place else O
 not_excluded true place h = absurd h
 not_excluded false place h = refl
 
--- ---- one level of an expression
+-- where a program has these devices
+module _ (hosts : List (List ℕ)) where
+  pub record IsBuiltExpression (x : Form) (parts : Parts) : Type 0 where
+    pub listed : IsBuiltForm hosts x
+    pub names : HasNoFunction parts
 
-abbrev IsBuiltAt : Expression → Type 0
-IsBuiltAt e = IsRead (read e) → IsBuiltExpression (form e) (in_expression e)
+  -- ---- one level of an expression
 
-abbrev Proved : Type 0
-Proved = (e : Expression) × IsBuiltAt e
+  abbrev IsBuiltAt : Expression → Type 0
+  IsBuiltAt e = IsRead (read hosts e) → IsBuiltExpression (form e) (in_expression e)
 
--- a level with a proof beside each expression inside
-abbrev WithProofs : Type 0
-WithProofs = Expression-F Proved (Statement × Unit {0}) (Case × Unit {0})
+  abbrev Proved : Type 0
+  Proved = (e : Expression) × IsBuiltAt e
 
-abbrev without_proofs : WithProofs → Expression-F Expression Statement Case
-without_proofs = map-Expression Proved (Statement × Unit {0}) (Case × Unit {0}) Expression Statement Case (λ e. e.0) (λ s. s.0) (λ c. c.0)
+  -- a level with a proof beside each expression inside
+  abbrev WithProofs : Type 0
+  WithProofs = Expression-F Proved (Statement × Unit {0}) (Case × Unit {0})
 
-abbrev with_reads : Expression-F Expression Statement Case → Expression-F Read (Unit {0}) (Unit {0})
-with_reads = map-Expression Expression Statement Case Read (Unit {0}) (Unit {0}) read (λ _. tt) (λ _. tt)
+  abbrev without_proofs : WithProofs → Expression-F Expression Statement Case
+  without_proofs = map-Expression Proved (Statement × Unit {0}) (Case × Unit {0}) Expression Statement Case (λ e. e.0) (λ s. s.0) (λ c. c.0)
 
-abbrev with_forms : Expression-F Expression Statement Case → Expression-F Form (Unit {0}) (Unit {0})
-with_forms = map-Expression Expression Statement Case Form (Unit {0}) (Unit {0}) form (λ _. tt) (λ _. tt)
+  abbrev with_reads : Expression-F Expression Statement Case → Expression-F Read (Unit {0}) (Unit {0})
+  with_reads = map-Expression Expression Statement Case Read (Unit {0}) (Unit {0}) (read hosts) (λ _. tt) (λ _. tt)
 
-abbrev with_parts : Expression-F Expression Statement Case → Expression-F (Expression × Parts) (Statement × Parts) (Case × Parts)
-with_parts = map-Expression Expression Statement Case (Expression × Parts) (Statement × Parts) (Case × Parts) (λ e. (e, in_expression e)) (λ s. (s, in_statement s)) (λ c. (c, in_case c))
+  abbrev with_forms : Expression-F Expression Statement Case → Expression-F Form (Unit {0}) (Unit {0})
+  with_forms = map-Expression Expression Statement Case Form (Unit {0}) (Unit {0}) form (λ _. tt) (λ _. tt)
 
-abbrev IsBuiltLevel : Expression-F Expression Statement Case → Type 0
-IsBuiltLevel x = IsRead (read_expression (with_reads x)) → IsBuiltExpression (form_step (with_forms x)) (expression_step (with_parts x))
+  abbrev with_parts : Expression-F Expression Statement Case → Expression-F (Expression × Parts) (Statement × Parts) (Case × Parts)
+  with_parts = map-Expression Expression Statement Case (Expression × Parts) (Statement × Parts) (Case × Parts) (λ e. (e, in_expression e)) (λ s. (s, in_statement s)) (λ c. (c, in_case c))
 
-chain_built : (head : Proved) (suffixes : List (Suffix Proved)) → IsBuiltLevel (without_proofs (Expression-F.Chain head suffixes))
-chain_built head [] h =
-    let b = head.1 (head_read (read head.0) [] h) in
-    record { listed = b.listed; names = all_append IsName (in_expression head.0) [] b.names tt }
-chain_built head (suffix.Member name place ∷ []) h = absurd (no_member (read head.0) name place h)
-chain_built head (suffix.Index key place ∷ []) h = absurd (no_index (read head.0) (read key.0) place h)
-chain_built head (suffix.Call [] place ∷ []) h =
-    let b = head.1 (head_read (read head.0) (suffix.Call [] place ∷ []) h) in
-    record {
-      listed = λ scene l plain built. built_list_call scene place (b.listed scene l plain built);
-      names = all_append IsName (in_expression head.0) [] b.names tt;
-    }
-chain_built head (suffix.Call (a ∷ others) place ∷ []) h = absurd (no_argument (read head.0) (read a.0) _ place h)
-chain_built head (s ∷ t ∷ ts) h = absurd (no_second (read head.0) _ _ _ h)
+  abbrev IsBuiltLevel : Expression-F Expression Statement Case → Type 0
+  IsBuiltLevel x = IsRead (read_expression hosts (with_reads x)) → IsBuiltExpression (form_step (with_forms x)) (expression_step (with_parts x))
 
-level_built : (y : WithProofs) → IsBuiltLevel (without_proofs y)
-unfolding apply_operations
-level_built (Expression-F.This place) h = absurd h
-level_built (Expression-F.Name name) h = record { listed = built_with_name name.text name.place (not_excluded (is_excluded name.text) name.place h); names = (tt, tt) }
-level_built (Expression-F.Literal value place) h =
-    record { listed = λ scene l plain built. record { nodes = built_with_const scene place value built; outcome = tt }; names = literal_parts value }
-level_built (Expression-F.Array elements place) h = absurd h
-level_built (Expression-F.Object properties place) h = absurd h
-level_built (Expression-F.Expression::Function function) h = absurd h
-level_built (Expression-F.Chain head suffixes) h = chain_built head suffixes h
-level_built (Expression-F.New callee arguments place) h = absurd h
-level_built (Expression-F.Unary operator operand place) h = absurd h
-level_built (Expression-F.Update operator operand place) h = absurd (not_updated operator (read operand.0) place h)
-level_built (Expression-F.Binary first [] place) h =
-    let b = first.1 h in
-    record {
-      listed = λ scene l plain built. record { nodes = built_value_of (form first.0) b.listed scene l plain built; outcome = tt };
-      names = all_append IsName (in_expression first.0) [] b.names tt;
-    }
-level_built (Expression-F.Binary first (o ∷ os) place) h = absurd (no_operation (is_logical o.operator) (read first.0) place o.place h)
-level_built (Expression-F.Conditional condition consequent otherwise place) h = absurd h
-level_built (Expression-F.Assign target None value place) h =
-    let t = target.1 (target_read (read target.0) None (read value.0) place h) in
-    let v = value.1 (value_read (read target.0) (read value.0) place h) in
-    record {
-      listed = built_assign (form target.0) (form value.0) place t.listed v.listed;
-      names = all_append IsName (in_expression target.0) (in_expression value.0) t.names v.names;
-    }
-level_built (Expression-F.Assign target (Some operator) value place) h = absurd (not_assigned_by (read target.0) operator (read value.0) place h)
-level_built (Expression-F.Sequence first others place) h = absurd h
+  chain_built : (head : Proved) (suffixes : List (Suffix Proved)) → IsBuiltLevel (without_proofs (Expression-F.Chain head suffixes))
+  chain_built head [] h =
+      let b = head.1 (head_read (read hosts head.0) [] h) in
+      record { listed = b.listed; names = all_append IsName (in_expression head.0) [] b.names tt }
+  chain_built head (suffix.Member name place ∷ []) h = absurd (no_member (read hosts head.0) name place h)
+  chain_built head (suffix.Index key place ∷ []) h = absurd (no_index (read hosts head.0) (read hosts key.0) place h)
+  chain_built head (suffix.Call [] place ∷ []) h =
+      let b = head.1 (head_read (read hosts head.0) (suffix.Call [] place ∷ []) h) in
+      record {
+        listed = λ scene l plain built. built_list_call hosts scene place (b.listed scene l plain built);
+        names = all_append IsName (in_expression head.0) [] b.names tt;
+      }
+  chain_built head (suffix.Call (a ∷ others) place ∷ []) h = absurd (no_argument (read hosts head.0) (read hosts a.0) _ place h)
+  chain_built head (s ∷ t ∷ ts) h = absurd (no_second (read hosts head.0) _ _ _ h)
 
--- ---- whole expressions
+  level_built : (y : WithProofs) → IsBuiltLevel (without_proofs y)
+  unfolding apply_operations
+  level_built (Expression-F.This place) h = absurd h
+  level_built (Expression-F.Name name) h = record { listed = built_with_name hosts name.text name.place (not_excluded (is_excluded hosts name.text) name.place h); names = (tt, tt) }
+  level_built (Expression-F.Literal value place) h =
+      record { listed = λ scene l plain built. record { nodes = built_with_const hosts scene place value built; outcome = tt }; names = literal_parts value }
+  level_built (Expression-F.Array elements place) h = absurd h
+  level_built (Expression-F.Object properties place) h = absurd h
+  level_built (Expression-F.Expression::Function function) h = absurd h
+  level_built (Expression-F.Chain head suffixes) h = chain_built head suffixes h
+  level_built (Expression-F.New callee arguments place) h = absurd h
+  level_built (Expression-F.Unary operator operand place) h = absurd h
+  level_built (Expression-F.Update operator operand place) h = absurd (not_updated operator (read hosts operand.0) place h)
+  level_built (Expression-F.Binary first [] place) h =
+      let b = first.1 h in
+      record {
+        listed = λ scene l plain built. record { nodes = built_value_of hosts (form first.0) b.listed scene l plain built; outcome = tt };
+        names = all_append IsName (in_expression first.0) [] b.names tt;
+      }
+  level_built (Expression-F.Binary first (o ∷ os) place) h = absurd (no_operation (is_logical o.operator) (read hosts first.0) place o.place h)
+  level_built (Expression-F.Conditional condition consequent otherwise place) h = absurd h
+  level_built (Expression-F.Assign target None value place) h =
+      let t = target.1 (target_read (read hosts target.0) None (read hosts value.0) place h) in
+      let v = value.1 (value_read (read hosts target.0) (read hosts value.0) place h) in
+      record {
+        listed = built_assign hosts (form target.0) (form value.0) place t.listed v.listed;
+        names = all_append IsName (in_expression target.0) (in_expression value.0) t.names v.names;
+      }
+  level_built (Expression-F.Assign target (Some operator) value place) h = absurd (not_assigned_by (read hosts target.0) operator (read hosts value.0) place h)
+  level_built (Expression-F.Sequence first others place) h = absurd h
 
-opened : (x : Expression-F Expression Statement Case) → IsBuiltLevel x → IsBuiltAt (roll-Expression x)
-unfolding read form in_expression in_statement in_case
-opened x level h =
-    let reads = fold-roll-Expression Read (Unit {0}) (Unit {0}) read_expression (λ _. tt) (λ _. tt) x in
-    let forms = fold-roll-Expression Form (Unit {0}) (Unit {0}) form_step (λ _. tt) (λ _. tt) x in
-    let parts = para-roll-Expression Parts Parts Parts expression_step statement_step case_step x in
-    let b = level (subst IsRead reads h) in
-    record { listed = subst IsBuiltForm (sym forms) b.listed; names = subst HasNoFunction (sym parts) b.names }
+  -- ---- whole expressions
 
-pub expression_built : (e : Expression) → IsRead (read e) → IsBuiltExpression (form e) (in_expression e)
-expression_built = ind-Expression IsBuiltAt (λ s. Unit {0}) (λ c. Unit {0})
-    (λ x y is. subst (λ z. IsBuiltAt (roll-Expression z)) is (opened (without_proofs y) (level_built y)))
-    (λ x y is. tt) (λ x y is. tt)
+  opened : (x : Expression-F Expression Statement Case) → IsBuiltLevel x → IsBuiltAt (roll-Expression x)
+  unfolding read form in_expression in_statement in_case
+  opened x level h =
+      let reads = fold-roll-Expression Read (Unit {0}) (Unit {0}) (read_expression hosts) (λ _. tt) (λ _. tt) x in
+      let forms = fold-roll-Expression Form (Unit {0}) (Unit {0}) form_step (λ _. tt) (λ _. tt) x in
+      let parts = para-roll-Expression Parts Parts Parts expression_step statement_step case_step x in
+      let b = level (subst IsRead reads h) in
+      record { listed = subst (IsBuiltForm hosts) (sym forms) b.listed; names = subst HasNoFunction (sym parts) b.names }
+
+  pub expression_built : (e : Expression) → IsRead (read hosts e) → IsBuiltExpression (form e) (in_expression e)
+  expression_built = ind-Expression IsBuiltAt (λ s. Unit {0}) (λ c. Unit {0})
+      (λ x y is. subst (λ z. IsBuiltAt (roll-Expression z)) is (opened (without_proofs y) (level_built y)))
+      (λ x y is. tt) (λ x y is. tt)

@@ -1,5 +1,9 @@
 pub mod BuiltForms
+pub mod BuiltHosts
 pub mod BuiltNodes
 pub mod BuiltPrograms
+pub mod HostLemmas
+pub mod HostNames
+pub mod Places
 pub mod PlainPrograms
 pub mod WellFormedLemmas

@@ -11,6 +11,7 @@
 -- parts of a form that is not built (right operands, assigned values, arguments, keys, bodies) stand behind its place, and so do
 -- the places of the forms in them. Statements stand one behind the other, and so do the two parts of a built assignment.
 use Rattle.std.specs.Prelude.{ℕ, Bool, true, false, if◌then◌else◌, ◌&&◌, ◌||◌, List, [], ◌∷◌, Option, Some, None, Result, Ok, Err}
+use Rattle.std.specs.List.{list_any}
 use Rattle.std.specs.Str.{bytes_eq}
 use lib.Chars.{codes}
 use Rattle.ja_base.specs.declared.ids.Place.{Place}
@@ -32,10 +33,10 @@ use Rattle.ja_syntax.specs.declared.tree.Expression.TheFolds.{fold-Expression}
 use Rattle.ja_syntax.specs.declared.tree.Statement.{Statement, out-Statement}
 use Rattle.ja_prelude.specs.Table.{is_global_name}
 
--- The names with a meaning that is not built: `arguments` (10.1.8), and those of the properties of the global object (15.1) and of its
--- prototype (15.2.4).
-unfoldable pub is_excluded : List ℕ → Bool
-is_excluded name = bytes_eq (codes "arguments") name || is_global_name name
+-- The names with a meaning that is not built: `arguments` (10.1.8), those of the properties of the global object (15.1) and of its
+-- prototype (15.2.4), and those of the devices, which are the `hosts` of what follows.
+unfoldable pub is_excluded : List (List ℕ) → List ℕ → Bool
+is_excluded hosts name = bytes_eq (codes "arguments") name || is_global_name name || list_any (bytes_eq name) hosts
 
 -- What an expression is, where all its forms are built: whether it is a name alone; or else the place of the first one that is
 -- not.
@@ -49,8 +50,8 @@ abbrev pub behind : Read → Place → Read
 behind (Ok is_name) place = Err place
 behind (Err first) place = Err first
 
-abbrev pub read_name : Name → Read
-read_name name = if is_excluded name.text then Err name.place else Ok true
+abbrev pub read_name : List (List ℕ) → Name → Read
+read_name hosts name = if is_excluded hosts name.text then Err name.place else Ok true
 
 -- a number is built, and no other literal
 abbrev pub read_literal : Primitive → Place → Read
@@ -113,24 +114,24 @@ read_assignment (Ok true) None value assign = read_value value
 read_assignment (Ok is_name) operator value assign = Err assign
 
 -- an expression, with what each part of it is in the part's place
-abbrev pub read_expression : Expression-F Read (Unit {0}) (Unit {0}) → Read
-read_expression (Expression-F.This place) = Err place
-read_expression (Expression-F.Name name) = read_name name
-read_expression (Expression-F.Literal value place) = read_literal value place
-read_expression (Expression-F.Array elements place) = Err place
-read_expression (Expression-F.Object properties place) = Err place
-read_expression (Expression-F.Expression::Function function) = Err function.place
-read_expression (Expression-F.Chain head suffixes) = read_chain head suffixes
-read_expression (Expression-F.New callee arguments place) = Err place
-read_expression (Expression-F.Unary operator operand place) = Err place
-read_expression (Expression-F.Update operator operand place) = read_update operator operand place
-read_expression (Expression-F.Binary first operations place) = read_operations first operations place
-read_expression (Expression-F.Conditional condition consequent otherwise place) = Err place
-read_expression (Expression-F.Assign target operator value place) = read_assignment target operator value place
-read_expression (Expression-F.Sequence first others place) = Err place
+abbrev pub read_expression : List (List ℕ) → Expression-F Read (Unit {0}) (Unit {0}) → Read
+read_expression hosts (Expression-F.This place) = Err place
+read_expression hosts (Expression-F.Name name) = read_name hosts name
+read_expression hosts (Expression-F.Literal value place) = read_literal value place
+read_expression hosts (Expression-F.Array elements place) = Err place
+read_expression hosts (Expression-F.Object properties place) = Err place
+read_expression hosts (Expression-F.Expression::Function function) = Err function.place
+read_expression hosts (Expression-F.Chain head suffixes) = read_chain head suffixes
+read_expression hosts (Expression-F.New callee arguments place) = Err place
+read_expression hosts (Expression-F.Unary operator operand place) = Err place
+read_expression hosts (Expression-F.Update operator operand place) = read_update operator operand place
+read_expression hosts (Expression-F.Binary first operations place) = read_operations first operations place
+read_expression hosts (Expression-F.Conditional condition consequent otherwise place) = Err place
+read_expression hosts (Expression-F.Assign target operator value place) = read_assignment target operator value place
+read_expression hosts (Expression-F.Sequence first others place) = Err place
 
-unfoldable pub read : Expression → Read
-read = fold-Expression Read (Unit {0}) (Unit {0}) read_expression (λ _. tt) (λ _. tt)
+unfoldable pub read : List (List ℕ) → Expression → Read
+read hosts = fold-Expression Read (Unit {0}) (Unit {0}) (read_expression hosts) (λ _. tt) (λ _. tt)
 
 -- ---- statements: the place of the first form that is not built, if there is one
 
@@ -142,33 +143,33 @@ fault_of (Err first) = Some first
 abbrev pub Layer : Type 0
 Layer = Statement-F Expression Statement Case
 
-abbrev pub unbuilt_layer : Layer → Option Place
-unbuilt_layer (Statement-F.Block body place) = Some place
-unbuilt_layer (Statement-F.Variables declarations place) = Some place
-unbuilt_layer (Statement-F.Empty place) = None
-unbuilt_layer (Statement-F.Expression value place) = fault_of (read value)
-unbuilt_layer (Statement-F.If condition consequent otherwise place) = Some place
-unbuilt_layer (Statement-F.Do body condition place) = Some place
-unbuilt_layer (Statement-F.While condition body place) = Some place
-unbuilt_layer (Statement-F.For first condition update body place) = Some place
-unbuilt_layer (Statement-F.ForIn target object body place) = Some place
-unbuilt_layer (Statement-F.Continue label place) = Some place
-unbuilt_layer (Statement-F.Break label place) = Some place
-unbuilt_layer (Statement-F.Return value place) = Some place
-unbuilt_layer (Statement-F.Labelled label body) = Some label.place
-unbuilt_layer (Statement-F.Switch value cases place) = Some place
-unbuilt_layer (Statement-F.Throw value place) = Some place
-unbuilt_layer (Statement-F.Try block handler finally place) = Some place
-unbuilt_layer (Statement-F.Statement::Function function) = Some function.place
+abbrev pub unbuilt_layer : List (List ℕ) → Layer → Option Place
+unbuilt_layer hosts (Statement-F.Block body place) = Some place
+unbuilt_layer hosts (Statement-F.Variables declarations place) = Some place
+unbuilt_layer hosts (Statement-F.Empty place) = None
+unbuilt_layer hosts (Statement-F.Expression value place) = fault_of (read hosts value)
+unbuilt_layer hosts (Statement-F.If condition consequent otherwise place) = Some place
+unbuilt_layer hosts (Statement-F.Do body condition place) = Some place
+unbuilt_layer hosts (Statement-F.While condition body place) = Some place
+unbuilt_layer hosts (Statement-F.For first condition update body place) = Some place
+unbuilt_layer hosts (Statement-F.ForIn target object body place) = Some place
+unbuilt_layer hosts (Statement-F.Continue label place) = Some place
+unbuilt_layer hosts (Statement-F.Break label place) = Some place
+unbuilt_layer hosts (Statement-F.Return value place) = Some place
+unbuilt_layer hosts (Statement-F.Labelled label body) = Some label.place
+unbuilt_layer hosts (Statement-F.Switch value cases place) = Some place
+unbuilt_layer hosts (Statement-F.Throw value place) = Some place
+unbuilt_layer hosts (Statement-F.Try block handler finally place) = Some place
+unbuilt_layer hosts (Statement-F.Statement::Function function) = Some function.place
 
-abbrev pub unbuilt_statement : Statement → Option Place
-unbuilt_statement s = unbuilt_layer (out-Statement s)
+abbrev pub unbuilt_statement : List (List ℕ) → Statement → Option Place
+unbuilt_statement hosts s = unbuilt_layer hosts (out-Statement s)
 
 -- the first of two places that is there
 abbrev pub first_of : Option Place → Option Place → Option Place
 first_of (Some place) later = Some place
 first_of None later = later
 
-unfoldable pub unbuilt : List Statement → Option Place
-unbuilt [] = None
-unbuilt (s ∷ ss) = first_of (unbuilt_statement s) (unbuilt ss)
+unfoldable pub unbuilt : List (List ℕ) → List Statement → Option Place
+unbuilt hosts [] = None
+unbuilt hosts (s ∷ ss) = first_of (unbuilt_statement hosts s) (unbuilt hosts ss)

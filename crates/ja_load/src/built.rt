@@ -2,17 +2,18 @@
 
 ghost use Rattle.std.specs.Prelude.{◌≡◌, Ok, Err};
 ghost use Rattle.ja_load.specs.Built as spec;
+ghost use Rattle.ja_lower.specs.Lowering.{device_names};
 
 use crate::excluded::is_excluded;
 use ja_base::Place;
-use ja_prim::{Num, Primitive};
+use ja_prim::{Num, Primitive, Signature};
 use ja_syntax::{BinaryOperator, Expression, Name, Statement, Suffix, Tree, UpdateOperator};
 
 /// Reads a name.
-fn read_name(name: &Name) -> Result<bool, Place>
-    ensures { result ≡ spec.read_name name.now }
+fn read_name(hosts: &[Signature], name: &Name) -> Result<bool, Place>
+    ensures { result ≡ spec.read_name (device_names hosts.now) name.now }
 {
-    if is_excluded(name.text.units()) {
+    if is_excluded(hosts, name.text.units()) {
         return Err(name.place);
     }
     Ok(true)
@@ -95,14 +96,14 @@ fn is_behind(operator: UpdateOperator) -> bool
 
 /// Whether an expression is a name alone, or the place of its first form that is not built.
 #[tactic(auto, unfolding(crate::specs::Built::read))]
-fn read(expression: &Expression) -> Result<bool, Place>
-    ensures { result ≡ spec.read expression.now }
+fn read(hosts: &[Signature], expression: &Expression) -> Result<bool, Place>
+    ensures { result ≡ spec.read (device_names hosts.now) expression.now }
 {
     match expression {
-        Expression::Name(name) => read_name(name),
+        Expression::Name(name) => read_name(hosts, name),
         Expression::Literal { value, place } => read_literal(value, *place),
         Expression::Chain { head, suffixes } => {
-            let is_name = read(head.get())?;
+            let is_name = read(hosts, head.get())?;
             read_chain(is_name, suffixes.as_slice())
         }
         Expression::Assign {
@@ -111,11 +112,11 @@ fn read(expression: &Expression) -> Result<bool, Place>
             value,
             place,
         } => {
-            let is_name = read(target.get())?;
+            let is_name = read(hosts, target.get())?;
             if operator.is_some() || !is_name {
                 return Err(*place);
             }
-            read(value.get())?;
+            read(hosts, value.get())?;
             Ok(false)
         }
         Expression::Update {
@@ -124,7 +125,7 @@ fn read(expression: &Expression) -> Result<bool, Place>
             place,
         } => {
             if is_behind(*operator) {
-                read(operand.get())?;
+                read(hosts, operand.get())?;
             }
             Err(*place)
         }
@@ -133,10 +134,10 @@ fn read(expression: &Expression) -> Result<bool, Place>
             operations,
             place,
         } => match operations.as_slice() {
-            [] => read(first.get()),
+            [] => read(hosts, first.get()),
             [operation, ..] if is_logical(operation.operator) => Err(*place),
             [operation, ..] => {
-                read(first.get())?;
+                read(hosts, first.get())?;
                 Err(operation.place)
             }
         },
@@ -152,12 +153,12 @@ fn read(expression: &Expression) -> Result<bool, Place>
 }
 
 /// The place of the first form of a statement that is not built, if there is one.
-fn unbuilt_statement(statement: &Statement) -> Option<Place>
-    ensures { result ≡ spec.unbuilt_statement statement.now }
+fn unbuilt_statement(hosts: &[Signature], statement: &Statement) -> Option<Place>
+    ensures { result ≡ spec.unbuilt_statement (device_names hosts.now) statement.now }
 {
     let place = match statement {
         Statement::Empty { .. } => return None,
-        Statement::Expression { value, .. } => return read(value).err(),
+        Statement::Expression { value, .. } => return read(hosts, value).err(),
         Statement::Function(function) => function.place,
         Statement::Labelled { label, .. } => label.place,
         Statement::Block { place, .. }
@@ -177,13 +178,13 @@ fn unbuilt_statement(statement: &Statement) -> Option<Place>
     Some(place)
 }
 
-/// The place of the first form of a tree that is not built, if there is one.
+/// The place of the first form of a tree that is not built, where a program has these devices, if there is one.
 #[tactic(auto, unfolding(crate::specs::Built::unbuilt))]
-pub fn unbuilt(tree: &Tree) -> Option<Place>
-    ensures { result ≡ spec.unbuilt tree.now.statements }
+pub fn unbuilt(hosts: &[Signature], tree: &Tree) -> Option<Place>
+    ensures { result ≡ spec.unbuilt (device_names hosts.now) tree.now.statements }
 {
     for statement in tree.statements.as_slice() {
-        if let Some(place) = unbuilt_statement(statement) {
+        if let Some(place) = unbuilt_statement(hosts, statement) {
             return Some(place);
         }
     }

@@ -4,12 +4,13 @@ ghost use Rattle.std.specs.Prelude.{◌≡◌, ◌==◌, ◌&&◌, ◌||◌, map
 ghost use Rattle.std.specs.List.{list_any};
 ghost use Rattle.std.specs.Str.{bytes_eq};
 ghost use Rattle.ja_load.specs.Built as spec;
+ghost use Rattle.ja_lower.specs.Lowering.{device_names};
 ghost use Rattle.ja_prelude.specs.Table.{is_global_name, seen_entry, seen_row};
 
 use ja_base::Site;
 use ja_graph::{GLOBAL, OBJECT_PROTOTYPE};
 use ja_prelude::{Entry, OPENING, TableRow};
-use ja_prim::spells;
+use ja_prim::{Signature, spells};
 
 /// Whether one of these properties has the name.
 fn is_among(entries: &[Entry], name: &[u16]) -> bool
@@ -49,10 +50,22 @@ fn is_global_name(name: &[u16]) -> bool
     has_either(&OPENING, GLOBAL, OBJECT_PROTOTYPE, name)
 }
 
-/// Whether a name is `arguments`, or that of a property of the global object or of its prototype.
-#[tactic(auto, unfolding(crate::specs::Built::is_excluded))]
-pub(crate) fn is_excluded(name: &[u16]) -> bool
-    ensures { result ≡ spec.is_excluded name.now }
+/// Whether one of these devices has the name.
+fn is_device(hosts: &[Signature], name: &[u16]) -> bool
+    ensures { result ≡ list_any (bytes_eq name.now) (device_names hosts.now) }
 {
-    spells(name, b"arguments") || is_global_name(name)
+    for host in hosts {
+        if name == host.name.units() {
+            return true;
+        }
+    }
+    false
+}
+
+/// Whether a name is `arguments`, that of a property of the global object or of its prototype, or that of one of these devices.
+#[tactic(auto, unfolding(crate::specs::Built::is_excluded))]
+pub(crate) fn is_excluded(hosts: &[Signature], name: &[u16]) -> bool
+    ensures { result ≡ spec.is_excluded (device_names hosts.now) name.now }
+{
+    spells(name, b"arguments") || is_global_name(name) || is_device(hosts, name)
 }

@@ -1,43 +1,84 @@
-ghost use Rattle.std.specs.Prelude.{◌≡◌, ◌<◌, ◌≤◌, ◌+◌, ◌^◌, [], None, length, IfOk, IfErr};
+ghost use Rattle.std.specs.Prelude.{◌≡◌, ◌<◌, ◌≤◌, ◌+◌, ◌^◌, ◌++◌, None, length, IfOk, IfErr, OnOk};
 ghost use Rattle.std.specs.List.{AllByRecursion};
 ghost use Rattle.std.specs.String.{string_bytes};
+ghost use Rattle.ja_device.specs.Signatures.{AreSignatures};
 ghost use Rattle.ja_graph.specs.WellFormed as graph;
-ghost use Rattle.ja_graph.specs.declared.builtins.TheConstants as builtins;
 ghost use Rattle.ja_load.specs.Built as built;
 ghost use Rattle.ja_load.specs.Explaining.{Explains, ExplainsAnalysis};
-ghost use Rattle.ja_load.specs.Loading.{HasNone, HasNoneToRun, IsProgramOf, IsProgramToRun, program_of, program_with};
+ghost use Rattle.ja_load.specs.Hosts.{device_sites};
+ghost use Rattle.ja_load.specs.Loading.{HasNone, HasNoneToRun, IsProgramOf, IsProgramToRun, names_before, program_of, program_with, sites_before};
 ghost use Rattle.ja_lower.specs.Limits.{IsWithin};
-ghost use Rattle.ja_lower.specs.Lowering.{followed_by, lowered, lowered_prelude};
+ghost use Rattle.ja_lower.specs.Lowering.{behind_devices, device_names, followed_by, lowered, lowered_prelude};
 ghost use Rattle.ja_prelude.specs.Prelude as spec;
+ghost use Rattle.ja_prelude.specs.Table.{builtin_sites};
 
 use crate::built::unbuilt;
 use crate::fault::LoadFault;
+use crate::hosts::{add_device_sites, copied, opening_with};
 use ja_base::{FnId, Memory, Seq};
 use ja_grammar::ParseFault;
-use ja_graph::{BUILTIN_CLASSES, Program};
-use ja_lower::{LowerFault, Lowered, laws, lower};
+use ja_graph::{BUILTIN_CLASSES, Program, SiteInfo};
+use ja_lower::{LowerFault, Lowered, device_functions, laws, lower};
 use ja_parse::parse;
-use ja_prelude::{Prelude, builtin_sites, laws as prelude_laws, opening_objects};
+use ja_prelude::{Prelude, builtin_sites, laws as prelude_laws};
+use ja_prim::{Signature, Text16};
 use ja_syntax::Tree;
 use std::alloc::Global;
 
-/// What a tree within the limits comes to, behind the names of the built-in functions and the sites of the built-in objects.
+/// Adds the names of devices.
+fn add_names(alloc: Global, names: &mut Vec<Text16>, signatures: &[Signature]) -> Result<(), Memory>
+    ensures { OnOk result (names.new.items ≡ names.old.items ++ device_names signatures.now) }
+{
+    for signature in signatures {
+        names.push(signature.name.copy(alloc)?)?;
+    }
+    Ok(())
+}
+
+/// The names that come before those of a text: those of the built-in functions, and then those of the devices.
+fn names_before(
+    alloc: Global,
+    prelude: &Prelude,
+    signatures: &[Signature],
+) -> Result<Vec<Text16>, Memory>
+    requires { prelude.now ≡ spec.the_prelude }
+    ensures { IfOk result (λ names. names.items ≡ names_before signatures.now) }
+{
+    let mut names = Vec::new(alloc);
+    for name in prelude.names.as_slice() {
+        names.push(name.copy(alloc)?)?;
+    }
+    add_names(alloc, &mut names, signatures)?;
+    Ok(names)
+}
+
+/// How many sites stand before those of a text: one for each built-in object, and one for each device.
+fn sites_before(signatures: &[Signature]) -> u32
+    requires { length signatures.now ≤ 64 }
+    ensures { result ≡ sites_before signatures.now }
+{
+    BUILTIN_CLASSES.len() as u32 + signatures.len() as u32
+}
+
+/// What a tree within the limits comes to, behind the names and the sites that come before those of a text.
 #[tactic(auto, using(ja_prelude::proofs::TableLemmas::classes_count))]
-fn lower_within(alloc: Global, prelude: &Prelude, tree: &Tree) -> Result<Lowered, LoadFault>
+fn lower_within(
+    alloc: Global,
+    prelude: &Prelude,
+    signatures: &[Signature],
+    tree: &Tree,
+) -> Result<Lowered, LoadFault>
     requires prelude { prelude.now ≡ spec.the_prelude }
-    ensures lowered { IfOk result (λ l. l ≡ lowered spec.prelude_names (length builtins.BUILTIN_CLASSES) tree.now.statements) }
-    ensures within { IfOk result (λ _. IsWithin spec.prelude_names tree.now.statements) }
+    requires few { length signatures.now ≤ 64 }
+    ensures lowered { IfOk result (λ l. l ≡ lowered (names_before signatures.now) (sites_before signatures.now) tree.now.statements) }
+    ensures within { IfOk result (λ _. IsWithin (names_before signatures.now) tree.now.statements) }
     ensures registers { IfOk result (λ l. AllByRecursion (λ fn. fn.registers ≤ 262144) l.functions) }
     ensures names { IfOk result (λ l. length l.names ≤ 1048576) }
-    ensures fault { IfErr result (Explains tree.now.statements) }
+    ensures fault { IfErr result (Explains signatures.now tree.now.statements) }
 {
     prelude_laws::names_are_told();
-    match lower(
-        alloc,
-        tree,
-        prelude.names.as_slice(),
-        BUILTIN_CLASSES.len() as u32,
-    ) {
+    let names = names_before(alloc, prelude, signatures)?;
+    match lower(alloc, tree, &names, sites_before(signatures)) {
         Ok(lowered) => Ok(lowered),
         Err(LowerFault::Functions) => Err(LoadFault::Functions),
         Err(LowerFault::Nodes) => Err(LoadFault::Nodes),
@@ -46,31 +87,57 @@ fn lower_within(alloc: Global, prelude: &Prelude, tree: &Tree) -> Result<Lowered
     }
 }
 
-/// The number of the site behind those of the built-in objects and as many others. Past the last number that a site may have counts as
-/// refused memory.
-#[tactic(auto, using(ja_prelude::proofs::TableLemmas::classes_count))]
-fn site_behind(count: usize) -> Result<u32, Memory>
-    ensures { IfOk result (λ n. n ≡ length builtins.BUILTIN_CLASSES + count) }
+/// The number of the site behind this and as many others. Past the last number that a site may have counts as refused memory.
+fn site_behind(first: u32, count: usize) -> Result<u32, Memory>
+    ensures { IfOk result (λ n. n ≡ first + count) }
 {
     match u32::try_from(count) {
         Err(_) => Err(Memory),
-        Ok(count) => (BUILTIN_CLASSES.len() as u32)
-            .checked_add(count)
-            .ok_or(Memory),
+        Ok(count) => first.checked_add(count).ok_or(Memory),
     }
 }
 
-/// A text's functions with the built-in ones behind them.
-fn with_built_in(alloc: Global, prelude: &Prelude, text: Lowered) -> Result<Lowered, Memory>
+/// The functions of devices, and behind them the built-in ones, whose sites and which themselves are numbered from these numbers on.
+fn built_in(
+    alloc: Global,
+    prelude: &Prelude,
+    signatures: &[Signature],
+    first_site: u32,
+    first_function: u32,
+) -> Result<Lowered, Memory>
     requires prelude { prelude.now ≡ spec.the_prelude }
-    requires few { length text.functions ≤ 4096 }
-    requires registers { AllByRecursion (λ fn. fn.registers ≤ 262144) text.functions }
-    ensures lowered { IfOk result (λ l. l ≡ followed_by text (lowered_prelude graph.builtin_names spec.prelude_paths (length builtins.BUILTIN_CLASSES + length text.sites) (length text.functions) spec.prelude_statements)) }
+    requires few { length signatures.now ≤ 64 }
+    requires functions { first_function ≤ 4160 }
+    ensures lowered { IfOk result (λ l. l ≡ behind_devices signatures.now (lowered_prelude graph.builtin_names spec.prelude_paths first_site first_function spec.prelude_statements)) }
     ensures registers { IfOk result (λ l. AllByRecursion (λ fn. fn.registers ≤ 262144) l.functions) }
 {
-    let first_site = site_behind(text.sites.len())?;
-    let first_function = text.functions.len() as u32;
     let built_in = prelude.functions(alloc, first_site, first_function)?;
+    let mut functions = device_functions(alloc, signatures)?.into_vec();
+    functions.append(&mut built_in.functions.into_vec())?;
+    Ok(Lowered {
+        functions: Seq::from_vec(functions),
+        sites: built_in.sites,
+        names: built_in.names,
+    })
+}
+
+/// A text's functions with those of devices and the built-in ones behind them.
+fn with_built_in(
+    alloc: Global,
+    prelude: &Prelude,
+    signatures: &[Signature],
+    text: Lowered,
+) -> Result<Lowered, Memory>
+    requires prelude { prelude.now ≡ spec.the_prelude }
+    requires devices { length signatures.now ≤ 64 }
+    requires few { length text.functions ≤ 4096 }
+    requires registers { AllByRecursion (λ fn. fn.registers ≤ 262144) text.functions }
+    ensures lowered { IfOk result (λ l. l ≡ followed_by text (behind_devices signatures.now (lowered_prelude graph.builtin_names spec.prelude_paths (sites_before signatures.now + length text.sites) (length text.functions + length signatures.now) spec.prelude_statements))) }
+    ensures registers { IfOk result (λ l. AllByRecursion (λ fn. fn.registers ≤ 262144) l.functions) }
+{
+    let first_site = site_behind(sites_before(signatures), text.sites.len())?;
+    let first_function = (text.functions.len() + signatures.len()) as u32;
+    let built_in = built_in(alloc, prelude, signatures, first_site, first_function)?;
     let mut functions = text.functions.into_vec();
     functions.append(&mut built_in.functions.into_vec())?;
     let mut sites = text.sites.into_vec();
@@ -82,44 +149,77 @@ fn with_built_in(alloc: Global, prelude: &Prelude, text: Lowered) -> Result<Lowe
     })
 }
 
-/// The program of so many functions of a text with the built-in ones behind them.
-fn program_with(alloc: Global, own: u32, lowered: Lowered, text: &str) -> Result<Program, Memory>
+/// The sites of the built-in objects, those of devices behind them, and then others, where a text has so many functions.
+fn all_sites(
+    alloc: Global,
+    own: u32,
+    signatures: &[Signature],
+    others: Seq<SiteInfo>,
+) -> Result<Seq<SiteInfo>, Memory>
     requires few { own ≤ 4096 }
-    ensures program { IfOk result (λ p. p ≡ program_with p.text own lowered) }
+    requires devices { length signatures.now ≤ 64 }
+    ensures { IfOk result (λ sites. sites ≡ builtin_sites (own + length signatures.now) ++ device_sites own signatures.now ++ others) }
+{
+    let mut sites = builtin_sites(alloc, own + signatures.len() as u32)?;
+    add_device_sites(&mut sites, own, signatures)?;
+    sites.append(&mut others.into_vec())?;
+    Ok(Seq::from_vec(sites))
+}
+
+/// The program of so many functions of a text with those of devices and the built-in ones behind them.
+fn program_with(
+    alloc: Global,
+    own: u32,
+    signatures: &[Signature],
+    lowered: Lowered,
+    text: &str,
+) -> Result<Program, Memory>
+    requires few { own ≤ 4096 }
+    requires devices { length signatures.now ≤ 64 }
+    requires names { length lowered.names ≤ 1048576 }
+    ensures program { IfOk result (λ p. p ≡ program_with p.text signatures.now own lowered) }
     ensures text { IfOk result (λ p. string_bytes p.text ≡ text.now) }
 {
-    let mut sites = builtin_sites(alloc, own)?;
-    sites.append(&mut lowered.sites.into_vec())?;
-    let opening = opening_objects(alloc)?;
+    let first = own + signatures.len() as u32;
+    let sites = all_sites(alloc, own, signatures, lowered.sites)?;
+    let opening = opening_with(alloc, lowered.names.as_slice(), signatures)?;
+    let signatures = copied(alloc, signatures)?;
     let text = String::from_str(alloc, text)?;
     Ok(Program {
         functions: lowered.functions,
         text_functions: own,
-        sites: Seq::from_vec(sites),
+        sites,
         names: lowered.names,
-        signatures: Seq::new(alloc),
+        signatures,
         opening,
-        value_first: FnId(own + 41),
-        text_first: FnId(own + 42),
+        value_first: FnId(first + 41),
+        text_first: FnId(first + 42),
         text,
     })
 }
 
-/// The program of a tree, with the text that the tree comes from.
-fn program_of_tree(alloc: Global, tree: &Tree, text: &str) -> Result<Program, LoadFault>
-    ensures program { IfOk result (λ p. p ≡ program_of p.text tree.now.statements) }
+/// The program of a tree, with these devices and the text that the tree comes from.
+fn program_of_tree(
+    alloc: Global,
+    tree: &Tree,
+    signatures: &[Signature],
+    text: &str,
+) -> Result<Program, LoadFault>
+    requires { AreSignatures signatures.now }
+    ensures program { IfOk result (λ p. p ≡ program_of p.text signatures.now tree.now.statements) }
     ensures text { IfOk result (λ p. string_bytes p.text ≡ text.now) }
-    ensures within { IfOk result (λ _. IsWithin spec.prelude_names tree.now.statements) }
+    ensures within { IfOk result (λ _. IsWithin (names_before signatures.now) tree.now.statements) }
     ensures well_formed { IfOk result graph.IsWellFormed }
-    ensures alone { IfOk result (λ p. p.signatures ≡ []) }
-    ensures fault { IfErr result (Explains tree.now.statements) }
+    ensures signatures { IfOk result (λ p. p.signatures ≡ signatures.now) }
+    ensures fault { IfErr result (Explains signatures.now tree.now.statements) }
 {
     laws::functions_are_counted();
     let prelude = Prelude::read(alloc)?;
-    let lowered = lower_within(alloc, &prelude, tree)?;
+    let lowered = lower_within(alloc, &prelude, signatures, tree)?;
     let own = lowered.functions.len() as u32;
-    let whole = with_built_in(alloc, &prelude, lowered)?;
-    let program = program_with(alloc, own, whole, text)?;
+    let whole = with_built_in(alloc, &prelude, signatures, lowered)?;
+    let program = program_with(alloc, own, signatures, whole, text)?;
+    laws::parts_follow_one_another();
     laws::functions_are_well_formed();
     laws::sites_are_numbered();
     laws::sites_are_told();
@@ -133,41 +233,50 @@ fn program_of_tree(alloc: Global, tree: &Tree, text: &str) -> Result<Program, Lo
 }
 
 /// The program of a tree all of whose forms are built.
-fn built_program(alloc: Global, tree: &Tree, text: &str) -> Result<Program, LoadFault>
-    ensures program { IfOk result (λ p. p ≡ program_of p.text tree.now.statements) }
+fn built_program(
+    alloc: Global,
+    tree: &Tree,
+    signatures: &[Signature],
+    text: &str,
+) -> Result<Program, LoadFault>
+    requires { AreSignatures signatures.now }
+    ensures program { IfOk result (λ p. p ≡ program_of p.text signatures.now tree.now.statements) }
     ensures text { IfOk result (λ p. string_bytes p.text ≡ text.now) }
-    ensures within { IfOk result (λ _. IsWithin spec.prelude_names tree.now.statements) }
-    ensures built { IfOk result (λ _. built.unbuilt tree.now.statements ≡ None) }
+    ensures within { IfOk result (λ _. IsWithin (names_before signatures.now) tree.now.statements) }
+    ensures built { IfOk result (λ _. built.unbuilt (device_names signatures.now) tree.now.statements ≡ None) }
     ensures well_formed { IfOk result graph.IsWellFormed }
-    ensures fault { IfErr result (ExplainsAnalysis tree.now.statements) }
+    ensures signatures { IfOk result (λ p. p.signatures ≡ signatures.now) }
+    ensures fault { IfErr result (ExplainsAnalysis signatures.now tree.now.statements) }
 {
-    let program = program_of_tree(alloc, tree, text)?;
-    match unbuilt(tree) {
+    let program = program_of_tree(alloc, tree, signatures, text)?;
+    match unbuilt(signatures, tree) {
         Some(place) => Err(LoadFault::Unbuilt { place }),
         None => Ok(program),
     }
 }
 
-/// The program of a text of at most 16,777,216 bytes, to be analysed.
+/// The program of a text of at most 16,777,216 bytes with these devices, to be analysed.
 ///
 /// # Errors
 ///
 /// Those of `load_to_run`; else `Unbuilt` exactly where a form is not built, with the place of the first one.
 #[tactic(auto, using(crate::proofs::PlainPrograms::is_program))]
-pub fn load(alloc: Global, text: &str) -> Result<Program, LoadFault>
-    requires { length text.now ≤ 16777216 }
-    ensures program { IfOk result (IsProgramOf text.now) }
+pub fn load(alloc: Global, text: &str, signatures: &[Signature]) -> Result<Program, LoadFault>
+    requires text { length text.now ≤ 16777216 }
+    requires devices { AreSignatures signatures.now }
+    ensures program { IfOk result (IsProgramOf text.now signatures.now) }
     ensures well_formed { IfOk result graph.IsWellFormed }
-    ensures fault { IfErr result (HasNone text.now) }
+    ensures signatures { IfOk result (λ p. p.signatures ≡ signatures.now) }
+    ensures fault { IfErr result (HasNone text.now signatures.now) }
 {
     let tree = match parse(alloc, text) {
         Ok(tree) => tree,
         Err(fault) => return Err(LoadFault::Parse(fault)),
     };
-    built_program(alloc, &tree, text)
+    built_program(alloc, &tree, signatures, text)
 }
 
-/// The program of a text of at most 16,777,216 bytes, to be run. It asks no device.
+/// The program of a text of at most 16,777,216 bytes with these devices, to be run.
 ///
 /// # Errors
 ///
@@ -175,16 +284,21 @@ pub fn load(alloc: Global, text: &str) -> Result<Program, LoadFault>
 /// exactly where it has more than 4,096 functions, the program among them; else `Nodes` exactly where
 /// these have more than 65,536 nodes, each parameter of a function counted as one more; else `Names` exactly
 /// where the program has more than 1,048,576 names.
-pub fn load_to_run(alloc: Global, text: &str) -> Result<Program, LoadFault>
-    requires { length text.now ≤ 16777216 }
-    ensures program { IfOk result (IsProgramToRun text.now) }
+pub fn load_to_run(
+    alloc: Global,
+    text: &str,
+    signatures: &[Signature],
+) -> Result<Program, LoadFault>
+    requires text { length text.now ≤ 16777216 }
+    requires devices { AreSignatures signatures.now }
+    ensures program { IfOk result (IsProgramToRun text.now signatures.now) }
     ensures well_formed { IfOk result graph.IsWellFormed }
-    ensures alone { IfOk result (λ p. p.signatures ≡ []) }
-    ensures fault { IfErr result (HasNoneToRun text.now) }
+    ensures signatures { IfOk result (λ p. p.signatures ≡ signatures.now) }
+    ensures fault { IfErr result (HasNoneToRun text.now signatures.now) }
 {
     let tree = match parse(alloc, text) {
         Ok(tree) => tree,
         Err(fault) => return Err(LoadFault::Parse(fault)),
     };
-    program_of_tree(alloc, &tree, text)
+    program_of_tree(alloc, &tree, signatures, text)
 }

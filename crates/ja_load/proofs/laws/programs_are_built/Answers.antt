@@ -2,4 +2,4 @@ use Rattle.ja_load.proofs.PlainPrograms.{programs_are_built}
 use Rattle.ja_load.proofs.laws.programs_are_built.Goals as goal
 
 pub returns : goal.returns
-returns c = λ bytes p is. programs_are_built bytes p is
+returns c = λ bytes signatures p is. programs_are_built bytes signatures p is
