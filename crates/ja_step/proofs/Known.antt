@@ -1,18 +1,15 @@
--- What is known of the nodes of a well-formed program without devices.
-use Rattle.std.proofs.Common.{◌≡◌, ℕ, ◌<◌, ◌≤◌, List, [], length, Some, None, Option, refl, subst, arith}
+-- What is known of the nodes of a well-formed program.
+use Rattle.std.proofs.Common.{◌≡◌, ◌<◌, ◌≤◌, length, Some, None, Option, refl, subst, arith}
 use Rattle.std.specs.Prelude.{slice_get}
 use Rattle.std.specs.Option.{option_map_or, option_to_list}
 use Rattle.std.specs.List.{AllByRecursion}
 use Rattle.ja_base.specs.declared.ids.FnId.{FnId}
 use Rattle.ja_base.specs.declared.ids.NameId.{NameId}
-use Rattle.ja_base.specs.declared.ids.Reg.{Reg}
-use Rattle.ja_graph.specs.declared.node.Node.TheVariants as node
 use Rattle.ja_graph.specs.declared.node.NodeInfo.{NodeInfo}
 use Rattle.ja_graph.specs.declared.program.Function.{Function}
 use Rattle.ja_graph.specs.declared.program.Program.{Program}
-use Rattle.ja_prim.specs.declared.signature.Signature.{Signature}
 use Rattle.ja_graph.specs.Node.{name_in, function_in}
-use Rattle.ja_graph.specs.WellFormed.{IsWellFormed, IsNodeWellFormed, IsName, IsAllowed, arguments_taken, fixed_registers}
+use Rattle.ja_graph.specs.WellFormed.{IsWellFormed, IsNodeWellFormed, IsName, fixed_registers}
 use Rattle.ja_machine.specs.Frames.{parameters_of}
 
 -- ---- numbers in range
@@ -32,14 +29,3 @@ module _ (p : Program) (fn : Function) (info : NodeInfo) (well : IsNodeWellForme
           let most : g.registers ≤ 262144 = (good.each f.0 g is).few_registers in
           let all : fixed_registers g ≤ g.registers = (good.each f.0 g is).registers in
           omega arith
-
-  -- an operation of the built-in functions has as many registers as it takes
-  pub taken : (dst : Reg) (which : ℕ) (args : List Reg) → info.node ≡ node.Intrinsic dst which args → arguments_taken which ≡ Some (length args)
-  taken dst which args is = subst (IsAllowed p fn) is well.allowed
-
-  -- no device is asked, if there is none
-  pub no_device : p.signatures ≡ [] → (dst : Reg) (which : ℕ) → info.node ≡ node.Device dst which → ⊥
-  no_device none dst which is =
-      let among : which < length p.signatures = subst (IsAllowed p fn) is well.allowed in
-      let nothing : which < 0 = subst (λ (xs : List Signature). which < length xs) none among in
-      omega (arith, nothing)

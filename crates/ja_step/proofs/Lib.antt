@@ -1,10 +1,7 @@
 pub mod Known
 pub mod Lists
 pub mod Opened
-pub mod Operations
 pub mod Puts
 pub mod Searches
 pub mod Stepped
 pub mod Elements
-pub mod Sharing
-pub mod DigitLemmas

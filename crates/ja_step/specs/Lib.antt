@@ -1,5 +1,4 @@
 pub mod Steps
-pub mod Operators
 pub mod Places
 pub mod Given
 pub mod Arguments

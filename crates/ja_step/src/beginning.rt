@@ -8,15 +8,15 @@ ghost use Rattle.ja_machine.specs.Machine.{opening_content, opening_object, open
 ghost use Rattle.ja_machine.specs.Objects.{first_of};
 ghost use Rattle.ja_step.specs.Steps.{frame_of, conf_of};
 
-use crate::copies::copy_primitive;
 use crate::entry::entered;
-use crate::made::first_of;
-use crate::messages::name_text;
 use crate::{Conf, Frame};
 use ja_base::{FnId, Memory, Site};
 use ja_graph::{Class, GLOBAL, ObjectSpec, Program, SpecContent};
 use ja_heap::{Heap, Object};
 use ja_machine::{Addr, Content, Slots, Value};
+use ja_operations::copies::copy_primitive;
+use ja_operations::made::first_of;
+use ja_operations::messages::name_text;
 use ja_prim::Primitive;
 use std::alloc::Global;
 

@@ -6,12 +6,12 @@ ghost use Rattle.ja_machine.specs.Calls as calls;
 ghost use Rattle.ja_step.specs.Steps.{held, or_undefined, standing, leads_to};
 
 use crate::Conf;
-use crate::made::first_of;
-use crate::messages::not_a_function;
 use crate::properties::object_in;
 use ja_base::{FnId, Memory, Reg, ScopeKind, Site};
 use ja_graph::{Args, Class, GLOBAL, NodeInfo, Program, SiteInfo, TYPE_ERROR_PROTOTYPE};
 use ja_machine::{Addr, End, Value};
+use ja_operations::made::first_of;
+use ja_operations::messages::not_a_function;
 use ja_prim::Primitive;
 use std::alloc::Global;
 

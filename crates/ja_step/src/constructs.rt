@@ -7,13 +7,13 @@ ghost use Rattle.ja_step.specs.Steps.{held, or_undefined, standing, leads_to};
 
 use crate::Conf;
 use crate::calls::site_of;
-use crate::made::first_of;
-use crate::messages::not_a_constructor;
 use crate::properties::object_in;
 use ja_base::{FnId, Memory, Reg, Site};
 use ja_graph::{Class, NodeInfo, OBJECT_PROTOTYPE, Program, TYPE_ERROR_PROTOTYPE};
 use ja_heap::Object;
 use ja_machine::{Addr, End, Slots, Value};
+use ja_operations::made::first_of;
+use ja_operations::messages::not_a_constructor;
 use ja_prim::Text16;
 use std::alloc::Global;
 

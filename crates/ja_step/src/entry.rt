@@ -1,21 +1,20 @@
 //! How a function is entered (ES3 10.2.3, 13.2.1): its registers, and its frame above its caller's.
 
-ghost use Rattle.std.specs.Prelude.{◌≡◌, ◌+◌, ◌++◌, ◌∷◌, ◌<◌, ◌≤◌, ◌-◌, ◌^◌, IfOk, OnOk, length, map, replicate};
+ghost use Rattle.std.specs.Prelude.{◌≡◌, ◌+◌, ◌++◌, ◌∷◌, ◌<◌, ◌-◌, ◌^◌, IfOk, OnOk, map, replicate};
 ghost use Rattle.std.specs.List.{range_with_len};
 ghost use Rattle.ja_machine.specs.Calls.{chain_of};
 ghost use Rattle.ja_machine.specs.Events.{next_state};
 ghost use Rattle.ja_machine.specs.Frames as frames;
 ghost use Rattle.ja_machine.specs.Frames.{undefined};
-ghost use Rattle.ja_machine.specs.Writes as writes;
 ghost use Rattle.ja_step.specs.Steps.{frame_of, conf_of, leads_to};
 
-use crate::copies::copy_value;
-use crate::made::{first_of, whole_number};
 use crate::scopes::parameters_of;
 use crate::{Conf, Frame};
 use ja_base::{FnId, Memory, NodeId};
 use ja_graph::{GLOBAL, Program};
 use ja_machine::{Addr, End, Value};
+use ja_operations::arguments::{argument, argument_count, object_or_undefined};
+use ja_operations::made::first_of;
 use ja_prim::Primitive;
 use std::alloc::Global;
 use std::mem;
@@ -27,38 +26,6 @@ fn registers_of(program: &Program, function: FnId) -> u64
     match program.functions.as_slice().get(function.0 as usize) {
         Some(function) => u64::from(function.registers),
         None => 0,
-    }
-}
-
-/// How many arguments there are. There is memory for no more than the greatest whole number.
-pub(crate) fn argument_count(arguments: &[Value]) -> Result<Value, Memory>
-    ensures count { IfOk result (λ count. count ≡ writes.whole_number (length arguments.now)) }
-    ensures few { OnOk result (length arguments.now ≤ 9007199254740991) }
-{
-    let count = arguments.len() as u64;
-    if count > 9_007_199_254_740_991 {
-        return Err(Memory);
-    }
-    Ok(whole_number(count))
-}
-
-/// An argument, undefined where it is missing.
-pub(crate) fn argument(alloc: Global, arguments: &[Value], index: usize) -> Result<Value, Memory>
-    ensures { IfOk result (λ value. value ≡ frames.argument arguments.now index) }
-{
-    match arguments.get(index) {
-        Some(value) => copy_value(alloc, value),
-        None => Ok(Value::Primitive(Primitive::Undefined)),
-    }
-}
-
-/// The value of a function object, or undefined where there is none.
-pub(crate) fn object_or_undefined(object: Option<Addr>) -> Value
-    ensures { result ≡ frames.object_or_undefined object }
-{
-    match object {
-        Some(a) => Value::Object(a),
-        None => Value::Primitive(Primitive::Undefined),
     }
 }
 

@@ -8,12 +8,12 @@ ghost use Rattle.ja_machine.specs.Values.{kind_of};
 ghost use Rattle.ja_step.specs.Steps.{standing, leads_to};
 
 use crate::Conf;
-use crate::made::error_object;
-use crate::operators::Outcome;
 use ja_base::{Memory, Reg, ScopeKind, Site};
 use ja_graph::{NodeInfo, THROWN};
 use ja_heap::Object;
 use ja_machine::{Content, End, Value};
+use ja_operations::made::error_object;
+use ja_operations::operators::Outcome;
 use ja_prim::{MAX_UNITS, Primitive, Stop, Text16};
 use std::alloc::Global;
 

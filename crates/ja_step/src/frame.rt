@@ -1,9 +1,9 @@
 ghost use Rattle.std.specs.Prelude.{◌≡◌, IfOk};
 ghost use Rattle.ja_machine.specs.Frames.{register_of, with_register};
 
-use crate::copies::copy_value;
 use ja_base::{FnId, Memory, NodeId, Reg};
 use ja_machine::{Addr, Value};
+use ja_operations::copies::copy_value;
 use ja_prim::{Primitive, Text16};
 use std::alloc::Global;
 use std::collections::VecDeque;

@@ -1,38 +1,27 @@
 //! The arguments that are given to a call (ES3 11.2.4, 15.3.4.3): the values of registers, the elements of an array or
 //! an arguments object, or the arguments of the caller from the second on.
 
-ghost use Rattle.std.specs.Prelude.{◌≡◌, ◌≤◌, IfOk, Ok, false, map, drop};
-ghost use Rattle.std.specs.Option.{option_map, option_map_or};
+ghost use Rattle.std.specs.Prelude.{◌≡◌, IfOk, Ok, map, drop};
+ghost use Rattle.std.specs.Option.{option_map};
 ghost use Rattle.ja_machine.specs.Calls as calls;
 ghost use Rattle.ja_machine.specs.Frames.{register_of};
-ghost use Rattle.ja_machine.specs.Heap.{object_at, content_at};
+ghost use Rattle.ja_machine.specs.Heap.{content_at};
 ghost use Rattle.ja_machine.specs.Objects as objects;
 ghost use Rattle.ja_step.specs.Arguments.{given_of};
 ghost use Rattle.ja_step.specs.Steps.{held, frame_of};
 
 use crate::Conf;
-use crate::copies::copy_value;
 use crate::events::kind_of;
 use ja_base::{Memory, Reg, ScopeKind};
-use ja_graph::{Args, Class};
+use ja_graph::Args;
 use ja_machine::{Addr, Content, Value};
-use ja_prim::{Int, Num, Primitive, Text16, to_num, to_text, to_uint32};
+use ja_operations::arguments::index_text;
+use ja_operations::copies::copy_value;
+use ja_prim::{Primitive, Text16, to_num, to_uint32};
 use std::alloc::Global;
 
 /// The arguments that were read, or why the run leaves the profile.
 pub(crate) type Given = Result<Vec<Value>, ScopeKind>;
-
-/// The name of an element.
-pub(crate) fn index_text(alloc: Global, index: u64) -> Result<Text16, Memory>
-    requires { index ≤ 9007199254740991 }
-    ensures { IfOk result (λ name. name ≡ objects.index_text index) }
-{
-    let number = Num::Whole(Int::new(index as i64).unwrap());
-    match to_text(alloc, &Primitive::Number(number)) {
-        Ok(text) => Ok(text),
-        Err(_) => Err(Memory),
-    }
-}
 
 /// Values in memory of their own.
 fn copy_values(alloc: Global, values: &[Value]) -> Result<Vec<Value>, Memory>

@@ -8,11 +8,11 @@ ghost use Rattle.ja_machine.specs.Nodes.{name_text, find_name_step, read_ref_ste
 ghost use Rattle.ja_step.specs.Steps.{held, standing, leads_to};
 
 use crate::Conf;
-use crate::copies::copy_content;
-use crate::messages::{name_text, unbound};
 use ja_base::{Memory, NameId, Reg, ScopeKind, Site};
 use ja_graph::{NodeInfo, Program, REFERENCE_ERROR_PROTOTYPE, SCOPE};
 use ja_machine::{Addr, Content, End, Value};
+use ja_operations::copies::copy_content;
+use ja_operations::messages::{name_text, unbound};
 use ja_prim::{Primitive, Text16};
 use std::alloc::Global;
 

@@ -1,6 +1,6 @@
 //! The step of each kind of node.
 
-ghost use Rattle.std.specs.Prelude.{◌≡◌, ◌<◌, ◌-◌, ◌^◌, [], Some, IfOk, IsSome};
+ghost use Rattle.std.specs.Prelude.{◌≡◌, ◌<◌, ◌-◌, ◌^◌, Some, IfOk, IsSome};
 ghost use Rattle.ja_graph.specs.declared.program.Function.{Function};
 ghost use Rattle.ja_graph.specs.WellFormed.{IsWellFormed, IsNodeWellFormed};
 ghost use Rattle.ja_machine.specs.Nodes.{node_step};
@@ -22,7 +22,6 @@ impl Conf {
         answer: &Answer,
     ) -> Result<Option<End>, Memory>
         requires program { IsWellFormed program.now }
-        requires alone { program.now.signatures ≡ [] }
         requires info { (fn : Function) × IsNodeWellFormed program.now fn info.now }
         requires steps { self.old.steps < 2 ^ 64 - 1 }
         requires fits { IsSome (node_step program.now (standing self.old info.now) answer.now info.now.node) }
@@ -137,7 +136,7 @@ impl Conf {
             Node::Intrinsic { dst, which, args } => {
                 self.intrinsic(alloc, info, *dst, *which, args.as_slice())
             }
-            Node::Device { .. } => unreachable!(),
+            Node::Device { dst, .. } => self.asks_device(alloc, info, *dst, answer),
         }
     }
 }

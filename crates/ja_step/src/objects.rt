@@ -8,11 +8,11 @@ ghost use Rattle.ja_step.specs.Places.{object_held};
 ghost use Rattle.ja_step.specs.Steps.{held, standing, leads_to};
 
 use crate::Conf;
-use crate::made::{boolean_object, empty_object, number_object, text_object};
-use crate::messages::{no_function, no_prototype, not_an_object, nothing};
 use ja_base::{Memory, Reg, Site};
 use ja_graph::{Class, Made, NodeInfo, TYPE_ERROR_PROTOTYPE, Wrappers};
 use ja_machine::{Addr, Content, End, Value};
+use ja_operations::made::{boolean_object, empty_object, number_object, text_object};
+use ja_operations::messages::{no_function, no_prototype, not_an_object, nothing};
 use ja_prim::{Primitive, Text16};
 use std::alloc::Global;
 

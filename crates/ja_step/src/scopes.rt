@@ -11,11 +11,11 @@ ghost use Rattle.ja_machine.specs.Nodes.{make_function_step, declare_step, bind_
 ghost use Rattle.ja_step.specs.Steps.{held, standing, leads_to};
 
 use crate::Conf;
-use crate::made::{DONT_DELETE, function_object, prototype_object, scope_object};
-use crate::messages::name_text;
 use ja_base::{FnId, Memory, NameId, Reg, ScopeKind, Site};
 use ja_graph::{Attrs, NodeInfo, Program, SCOPE};
 use ja_machine::{Addr, Content, End, Value};
+use ja_operations::made::{DONT_DELETE, function_object, prototype_object, scope_object};
+use ja_operations::messages::name_text;
 use ja_prim::Primitive;
 use std::alloc::Global;
 

@@ -1,4 +1,4 @@
-ghost use Rattle.std.specs.Prelude.{◌≡◌, ◌<◌, ◌-◌, ◌^◌, [], Some, IfOk, IsSome};
+ghost use Rattle.std.specs.Prelude.{◌≡◌, ◌<◌, ◌-◌, ◌^◌, Some, IfOk, IsSome};
 ghost use Rattle.ja_graph.specs.WellFormed.{IsWellFormed};
 ghost use Rattle.ja_machine.specs.Machine.{step};
 ghost use Rattle.ja_step.specs.Steps.{conf_of, event_of};
@@ -10,8 +10,9 @@ use ja_graph::{Node, NodeInfo, Program};
 use ja_machine::{Answer, End};
 use std::alloc::Global;
 
-/// One step of a program without devices, with an answer with which the machine has a step: one that the state
-/// wants. `None` says that the run goes on, and an end how it has ended; `conf` is then the state behind the step.
+/// One step of a program, with an answer with which the machine has a step: one that the state wants. A device is
+/// asked by the caller, and what it answers is of the kinds that it declares. `None` says that the run goes on, and
+/// an end how it has ended; `conf` is then the state behind the step.
 ///
 /// # Errors
 ///
@@ -23,7 +24,6 @@ pub fn step(
     answer: &Answer,
 ) -> Result<Option<End>, Memory>
     requires program { IsWellFormed program.now }
-    requires alone { program.now.signatures ≡ [] }
     requires steps { conf.old.steps < 2 ^ 64 - 1 }
     requires fits { IsSome (step program.now (conf_of conf.old) answer.now) }
     ensures { IfOk result (λ end. step program.now (conf_of conf.old) answer.now ≡ Some (event_of end conf.new)) }

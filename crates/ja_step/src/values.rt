@@ -8,11 +8,11 @@ ghost use Rattle.ja_machine.specs.Values.{unary, binary};
 ghost use Rattle.ja_step.specs.Steps.{held, standing, leads_to};
 
 use crate::Conf;
-use crate::copies::copy_primitive;
-use crate::operators::{binary, unary};
 use ja_base::{Memory, Reg, ScopeKind};
 use ja_graph::{BinaryOp, NodeInfo, UnaryOp};
 use ja_machine::{End, Value};
+use ja_operations::copies::copy_primitive;
+use ja_operations::operators::{binary, unary};
 use ja_prim::Primitive;
 use std::alloc::Global;
 

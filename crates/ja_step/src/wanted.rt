@@ -3,13 +3,13 @@ ghost use Rattle.std.specs.Option.{option_map};
 ghost use Rattle.ja_graph.specs.Program.{node_at};
 ghost use Rattle.ja_machine.specs.Machine.{wants, pick_wants, device_wants};
 ghost use Rattle.ja_machine.specs.Values.{is_object};
-ghost use Rattle.ja_step.specs.Given.{answer_to};
+ghost use Rattle.ja_step.specs.Given.{uncounted};
 ghost use Rattle.ja_step.specs.Steps.{held, frame_of, conf_of};
 
 use crate::{Conf, Frame};
 use ja_base::Reg;
 use ja_graph::{Node, NodeInfo, Program};
-use ja_machine::{Answer, Value, Wants};
+use ja_machine::{Value, Wants};
 
 /// The node at which a frame stands, if the program has it.
 pub(crate) fn node_of<'a>(program: &'a Program, frame: &Frame) -> Option<&'a NodeInfo>
@@ -61,16 +61,16 @@ impl Conf {
 }
 
 impl Conf {
-    /// The answer to a node that takes a name: the first of those that are shown, if there are some.
-    fn pick_answer(&self, list: Reg, object: Reg) -> Answer
-        ensures { result ≡ answer_to (pick_wants self.now.heap (frame_of self.now.frame) list (held self.now object)) }
+    /// The same, where names aren't counted: the place of the first of those that are shown, if there are some.
+    fn first_pick(&self, list: Reg, object: Reg) -> Wants
+        ensures { result ≡ uncounted (pick_wants self.now.heap (frame_of self.now.frame) list (held self.now object)) }
     {
         match self.frame.register(object) {
             Some(Value::Object(a)) => match self.shown_at(list, *a, 0) {
-                Some(_) => Answer::Pick(0),
-                None => Answer::Tick,
+                Some(_) => Wants::Pick { count: 1 },
+                None => Wants::Tick,
             },
-            _ => Answer::Tick,
+            _ => Wants::Tick,
         }
     }
 }
@@ -90,16 +90,16 @@ pub fn wants(program: &Program, conf: &Conf) -> Wants
     }
 }
 
-/// The answer to what a state wants, where nobody is asked: leave to go on, or the first of the names that a
-/// `for`-`in` may take. It isn't counted how many these are.
-pub fn first_answer(program: &Program, conf: &Conf) -> Answer
-    ensures { result ≡ answer_to (wants program.now (conf_of conf.now)) }
+/// What a state wants, where names aren't counted: a place is that of the first one.
+pub fn first_wanted(program: &Program, conf: &Conf) -> Wants
+    ensures { result ≡ uncounted (wants program.now (conf_of conf.now)) }
 {
     match node_of(program, &conf.frame) {
         Some(info) => match &info.node {
-            Node::Pick { list, object, .. } => conf.pick_answer(*list, *object),
-            _ => Answer::Tick,
+            Node::Pick { list, object, .. } => conf.first_pick(*list, *object),
+            Node::Device { which, .. } => conf.frame.device_wants(*which),
+            _ => Wants::Tick,
         },
-        None => Answer::Tick,
+        None => Wants::Tick,
     }
 }

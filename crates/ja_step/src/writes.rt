@@ -6,11 +6,11 @@ ghost use Rattle.ja_machine.specs.Objects.{first_of};
 ghost use Rattle.ja_step.specs.Steps.{held, standing, leads_to};
 
 use crate::Conf;
-use crate::made::first_of;
-use crate::messages::{array_length, name_text};
 use ja_base::{Memory, NameId, Reg, ScopeKind, Site};
 use ja_graph::{Class, GLOBAL, NodeInfo, Program, RANGE_ERROR_PROTOTYPE};
 use ja_machine::{Addr, End, Put, Value};
+use ja_operations::made::first_of;
+use ja_operations::messages::{array_length, name_text};
 use ja_prim::{Primitive, Text16};
 use std::alloc::Global;
 

@@ -1,0 +1,194 @@
+//! What the operations of the built-in functions give of values and the heap.
+
+ghost use Rattle.std.specs.Prelude.{◌≡◌, ◌∷◌, [], ◌≤◌, IfOk, Some, length, slice_get, is_some};
+ghost use Rattle.std.specs.Option.{option_map};
+ghost use Rattle.ja_prim.specs.Texts.{max_units};
+ghost use Rattle.ja_graph.specs.WellFormed.{arguments_taken};
+ghost use Rattle.ja_machine.specs.Intrinsics as spec;
+ghost use Rattle.ja_machine.specs.Values.{is_object};
+
+use crate::copies::copy_primitive;
+use crate::digits::radix_text;
+use ja_base::{Memory, ScopeKind};
+use ja_graph::Class;
+use ja_heap::Heap;
+use ja_machine::Value;
+use ja_prim::{Num, Primitive, Text16};
+use std::alloc::Global;
+
+/// What an operation gives: a primitive value, or why the run leaves the profile.
+pub type Outcome = Result<Primitive, ScopeKind>;
+
+/// An operation doesn't take the values.
+const REFUSED: ScopeKind = ScopeKind::Register;
+
+/// Whether something holds.
+fn tells(truth: bool) -> Outcome
+    ensures { result ≡ spec.tells truth }
+{
+    Ok(Primitive::Bool(truth))
+}
+
+/// Whether a value is an object.
+fn is_object(value: &Value) -> bool
+    ensures { result ≡ is_object value.now }
+{
+    match value {
+        Value::Object(_) => true,
+        Value::Primitive(_) => false,
+    }
+}
+
+/// The name of a class (ES3 8.6.2).
+fn class_name(class: Class) -> &'static [u8]
+    ensures text { result.now ≡ spec.class_name class }
+    ensures short { length result.now ≤ max_units }
+{
+    match class {
+        Class::Object => b"Object",
+        Class::Function => b"Function",
+        Class::Array => b"Array",
+        Class::String => b"String",
+        Class::Boolean => b"Boolean",
+        Class::Number => b"Number",
+        Class::Error => b"Error",
+        Class::Math => b"Math",
+        Class::Activation => b"Object",
+    }
+}
+
+/// The class of an object, as a text.
+fn class_of(alloc: Global, heap: &Heap, value: &Value) -> Result<Outcome, Memory>
+    ensures { IfOk result (λ outcome. outcome ≡ spec.class_of heap.now value.now) }
+{
+    let Value::Object(a) = value else {
+        return Ok(Err(REFUSED));
+    };
+    match heap.class_at(*a) {
+        None => Ok(Err(REFUSED)),
+        Some(class) => {
+            let text = Text16::from_ascii(alloc, class_name(class))?;
+            Ok(Ok(Primitive::Text(text)))
+        }
+    }
+}
+
+/// The internal value of an object (ES3 8.6.2).
+fn value_of(alloc: Global, heap: &Heap, value: &Value) -> Result<Outcome, Memory>
+    ensures { IfOk result (λ outcome. outcome ≡ spec.value_of heap.now value.now) }
+{
+    let Value::Object(a) = value else {
+        return Ok(Err(REFUSED));
+    };
+    let Some(object) = heap.object(*a) else {
+        return Ok(Err(REFUSED));
+    };
+    match &object.slots().value {
+        None => Ok(Err(REFUSED)),
+        Some(internal) => Ok(Ok(copy_primitive(alloc, internal)?)),
+    }
+}
+
+/// Whether an object has a property of its own.
+fn has_own(heap: &Heap, value: &Value, name: &Value) -> Outcome
+    ensures { result ≡ spec.of_own is_some heap.now value.now name.now }
+{
+    match (value, name) {
+        (Value::Object(a), Value::Primitive(Primitive::Text(name))) => {
+            tells(heap.own(*a, name).is_some())
+        }
+        _ => Err(REFUSED),
+    }
+}
+
+/// Whether an object has a property of its own that isn't DontEnum.
+fn is_enumerable(heap: &Heap, value: &Value, name: &Value) -> Outcome
+    ensures { result ≡ spec.of_own spec.is_shown heap.now value.now name.now }
+{
+    match (value, name) {
+        (Value::Object(a), Value::Primitive(Primitive::Text(name))) => {
+            match heap.own(*a, name) {
+                Some(held) => tells(!held.attrs.dont_enum),
+                None => tells(false),
+            }
+        }
+        _ => Err(REFUSED),
+    }
+}
+
+/// Whether an object is on the prototype chain behind a value.
+fn inherits(heap: &Heap, value: &Value, prototype: &Value) -> Outcome
+    ensures { result ≡ spec.inherits heap.now value.now prototype.now }
+{
+    let Value::Object(prototype) = prototype else {
+        return Err(REFUSED);
+    };
+    match value {
+        Value::Object(a) => tells(heap.inherits_from(*a, *prototype)),
+        Value::Primitive(_) => tells(false),
+    }
+}
+
+/// Whether a value is an array or an arguments object.
+fn is_list(heap: &Heap, value: &Value) -> bool
+    ensures { result ≡ spec.is_list heap.now value.now }
+{
+    match value {
+        Value::Object(a) => heap.has_elements(*a),
+        Value::Primitive(_) => false,
+    }
+}
+
+/// The digits of a number, by a radix from 2 to 36.
+fn digits_of(alloc: Global, heap: &Heap, value: &Value, radix: &Value) -> Result<Outcome, Memory>
+    ensures { IfOk result (λ outcome. outcome ≡ spec.digits_of heap.now value.now radix.now) }
+{
+    match (value, radix) {
+        (
+            Value::Primitive(Primitive::Number(number)),
+            Value::Primitive(Primitive::Number(Num::Whole(radix))),
+        ) => {
+            let radix = radix.get();
+            if radix < 2 || radix > 36 {
+                return Ok(Err(REFUSED));
+            }
+            let text = radix_text(alloc, *number, radix as u64)?;
+            Ok(Ok(Primitive::Text(text)))
+        }
+        _ => Ok(Err(REFUSED)),
+    }
+}
+
+/// What an operation gives of the one value that it takes, by its number (its place in `INTRINSICS`).
+pub fn of_one(alloc: Global, heap: &Heap, which: u32, value: &Value) -> Result<Outcome, Memory>
+    requires { arguments_taken which ≡ Some 1 }
+    ensures { IfOk result (λ outcome. Some outcome ≡ option_map (λ (row : spec.Row). row (value.now ∷ []) heap.now) (slice_get spec.rows which)) }
+{
+    match which {
+        0 => Ok(tells(is_object(value))),
+        1 => class_of(alloc, heap, value),
+        2 => value_of(alloc, heap, value),
+        6 => Ok(tells(is_list(heap, value))),
+        _ => unreachable!(),
+    }
+}
+
+/// What an operation gives of the two values that it takes, by its number.
+pub fn of_two(
+    alloc: Global,
+    heap: &Heap,
+    which: u32,
+    first: &Value,
+    second: &Value,
+) -> Result<Outcome, Memory>
+    requires { arguments_taken which ≡ Some 2 }
+    ensures { IfOk result (λ outcome. Some outcome ≡ option_map (λ (row : spec.Row). row (first.now ∷ second.now ∷ []) heap.now) (slice_get spec.rows which)) }
+{
+    match which {
+        3 => Ok(has_own(heap, first, second)),
+        4 => Ok(is_enumerable(heap, first, second)),
+        5 => Ok(inherits(heap, first, second)),
+        7 => digits_of(alloc, heap, first, second),
+        _ => unreachable!(),
+    }
+}

@@ -1,6 +1,0 @@
-use Rattle.ja_machine.specs.Nodes.{name_text}
-use Rattle.ja_step.proofs.Sharing.{AreMarks}
-use Rattle.ja_step.proofs.activations.sharing.Given as goal
-
-abbrev pub invariant-loop-index : goal.invariant-loop-index
-invariant-loop-index l = AreMarks (name_text l.program) l.parameters l.arguments l.index l.flags.items
