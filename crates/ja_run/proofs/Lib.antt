@@ -1,3 +1,5 @@
 pub mod Answering
+pub mod Giving
+pub mod Hearing
 pub mod Prefixes
 pub mod Steps

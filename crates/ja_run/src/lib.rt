@@ -1,4 +1,4 @@
-//! The run of a program: its steps under the answers that are given, its end, and its transcript.
+//! The run of a program: its steps under the answers that its devices give, its end, and its transcript.
 #![tactic(auto)]
 
 mod ended;
@@ -7,6 +7,6 @@ mod running;
 mod told;
 mod transcript;
 
-pub use ended::{Ended, RunEnd};
+pub use ended::{CallRecord, Ended, RunEnd};
 pub use running::run;
 pub use transcript::run_text;

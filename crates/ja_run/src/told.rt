@@ -27,7 +27,7 @@ fn push_number(text: &mut Vec<u8>, number: Num) -> Result<(), Memory>
 }
 
 /// A primitive value; a text stands in quotes.
-fn push_primitive(text: &mut Vec<u8>, value: &Primitive) -> Result<(), Memory>
+pub(crate) fn push_primitive(text: &mut Vec<u8>, value: &Primitive) -> Result<(), Memory>
     ensures { OnOk result (text.new.items ≡ text.old.items ++ spec.primitive_text value.now) }
 {
     match value {

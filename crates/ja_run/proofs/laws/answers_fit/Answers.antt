@@ -2,4 +2,4 @@ use Rattle.ja_run.proofs.Answering as answering
 use Rattle.ja_run.proofs.laws.answers_fit.Goals as goal
 
 pub returns : goal.returns
-returns c = λ p good alone. answering.answers_fit p good alone
+returns c = λ p good. answering.answers_fit p good
