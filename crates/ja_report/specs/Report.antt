@@ -1,10 +1,12 @@
--- The report of a table: its warnings, the sites that it names, its states, and the visits that built it.
+-- The report of a table: the devices of its program, its warnings, the sites that it names, its states, and the visits that built it.
 use Rattle.std.specs.Prelude.{ℕ, Bool, not, ◌&&◌, if◌then◌else◌, ◌==◌, List, [], ◌++◌, filter, length, slice_get, is_some}
 use Rattle.std.specs.List.{flat_map, list_any, range_with_len}
 use Rattle.std.specs.Option.{option_map_or}
 use Rattle.std.specs.Fmt.{decimal}
 use lib.Chars.{codes}
 use Rattle.ja_base.specs.declared.ids.Context.{Context}
+use Rattle.ja_prim.specs.declared.signature.Kinds.{Kinds}
+use Rattle.ja_prim.specs.declared.signature.Signature.{Signature}
 use Rattle.ja_graph.specs.declared.program.Program.{Program}
 use Rattle.ja_graph.specs.declared.program.SiteInfo.{SiteInfo}
 use Rattle.ja_model.specs.declared.table.Item.{Item}
@@ -14,9 +16,26 @@ use Rattle.ja_model.specs.declared.table.WarningKind.TheVariants.{NotAFunction, 
 use Rattle.ja_model.specs.declared.table.Warning.{Warning}
 use Rattle.ja_model.specs.AbstractState.{site_of}
 use Rattle.ja_model.specs.Table.{Table, root}
-use Rattle.ja_report.specs.Texts.{builtin_of, numbered_site, label_text}
-use Rattle.ja_texts.specs.Texts.{place_text, class_text}
+use Rattle.ja_report.specs.Texts.{builtin_of, device_of, numbered_site, label_text, part, joined}
+use Rattle.ja_texts.specs.Texts.{place_text, plain, class_text}
 use Rattle.ja_report.specs.Lines.{line_text, line_sites, entry_lines, table_lines}
+
+-- ---- devices
+
+-- the kinds of its answers
+unfoldable pub kind_parts : Kinds → List (List ℕ)
+kind_parts k =
+    part k.undefined (codes "undefined") ++ part k.null (codes "null") ++ part k.boolean (codes "boolean") ++ part k.number (codes "number") ++ part k.text (codes "string")
+
+unfoldable pub kinds_text : Kinds → List ℕ
+kinds_text k = joined (kind_parts k)
+
+-- a device is its name and the kinds of its answers
+unfoldable pub device_line : Signature → List ℕ
+device_line device = codes "device " ++ plain device.name ++ codes " " ++ kinds_text device.kinds ++ codes "\n"
+
+unfoldable pub devices_text : List Signature → List ℕ
+devices_text devices = flat_map device_line devices
 
 -- ---- warnings
 
@@ -77,9 +96,9 @@ info_text p s = option_map_or (λ (info : SiteInfo). place_text info.place ++ co
 unfoldable pub site_line : Program → ℕ → List ℕ
 site_line p s = numbered_site (site_of s) ++ codes " " ++ info_text p s ++ codes "\n"
 
--- no site of a built-in object
+-- neither the site of a built-in object nor that of a device
 unfoldable pub is_text_site : Program → ℕ → Bool
-is_text_site p s = not (is_some (builtin_of p (site_of s)))
+is_text_site p s = not (is_some (builtin_of p (site_of s))) && not (is_some (device_of p (site_of s)))
 
 -- those of the text among these sites, each once, by number
 unfoldable pub named_sites : Program → List ℕ → List ℕ
@@ -92,10 +111,10 @@ sites_text p named =
 
 -- ---- whole texts
 
--- the report begins with the warnings and the sites that are named below, and goes on with the context and the visits
+-- the report begins with the devices, the warnings and the sites that are named below, and goes on with the context and the visits
 unfoldable pub report_head : Program → List Warning → List ℕ → List ℕ
 report_head p warnings named =
-    codes "tajs report 1\nbuilt yes\n" ++ warnings_text warnings ++ codes "edges 0\n" ++ sites_text p named
+    codes "tajs report 1\n" ++ devices_text p.signatures ++ codes "built yes\n" ++ warnings_text warnings ++ codes "edges 0\n" ++ sites_text p named
 
 unfoldable pub report_text : Program → Table → List Item → List Warning → List ℕ
 report_text p t visits warnings =

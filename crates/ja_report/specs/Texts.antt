@@ -1,13 +1,14 @@
 -- The texts of names, keys, labels, values and attributes.
-use Rattle.std.specs.Prelude.{ℕ, ◌-◌, ◌/◌, ◌%◌, Bool, false, not, ◌&&◌, ◌||◌, if◌then◌else◌, ◌==◌, nat_le, List, [], ◌∷◌, ◌++◌, map, filter, Option, unwrap_or, slice_get}
+use Rattle.std.specs.Prelude.{ℕ, ◌-◌, Bool, false, not, ◌&&◌, ◌||◌, if◌then◌else◌, ◌==◌, nat_le, List, [], ◌∷◌, ◌++◌, map, filter, length, Option, None, slice_get}
 use Rattle.std.specs.List.{flat_map, list_all, join_with_byte}
-use Rattle.std.specs.Option.{option_map, option_map_or, option_and_then}
-use Rattle.std.specs.Fmt.{decimal, signed_decimal, digit_glyph}
+use Rattle.std.specs.Option.{option_map_or, option_and_then}
+use Rattle.std.specs.Fmt.{decimal, signed_decimal}
 use lib.Chars.{codes}
 use Rattle.ja_base.specs.declared.ids.Label.{Label}
-use Rattle.ja_base.specs.declared.ids.Place.{Place}
 use Rattle.ja_base.specs.declared.ids.Site.{Site}
 use Rattle.ja_prim.specs.Characters.{is_digit}
+use Rattle.ja_prim.specs.declared.signature.Signature.{Signature}
+use Rattle.ja_graph.specs.declared.builtins.TheConstants.{BUILTIN_CLASSES}
 use Rattle.ja_graph.specs.declared.program.Program.{Program}
 use Rattle.ja_graph.specs.declared.program.SiteInfo.{SiteInfo}
 use Rattle.ja_machine.specs.Nodes as machine
@@ -24,7 +25,7 @@ use Rattle.ja_model.specs.declared.abstraction.Key.{Key}
 use Rattle.ja_model.specs.declared.abstraction.Key.TheVariants as key
 use Rattle.ja_model.specs.AbstractValue.{AbstractValue}
 use Rattle.ja_model.specs.AbstractState.{labels_of}
-use Rattle.ja_texts.specs.Texts.{units_text, quoted}
+use Rattle.ja_texts.specs.Texts.{plain, units_text, quoted}
 
 -- ---- names and keys
 
@@ -60,12 +61,20 @@ key_text p (key.Slot s) = slot_text s
 abbrev pub builtin_of : Program → Site → Option (List ℕ)
 builtin_of p s = option_and_then (λ (info : SiteInfo). info.builtin) (slice_get p.sites s.0)
 
+-- the device of a site: those of devices stand behind those of the built-in objects
+unfoldable pub device_of : Program → Site → Option Signature
+device_of p s = if nat_le (length BUILTIN_CLASSES) s.0 then slice_get p.signatures (s.0 - length BUILTIN_CLASSES) else None
+
+-- a device goes by its name
+abbrev pub device_text : Signature → List ℕ
+device_text device = codes "device." ++ plain device.name
+
 -- any other site goes by its number
 abbrev pub numbered_site : Site → List ℕ
 numbered_site s = codes "s" ++ decimal s.0
 
 unfoldable pub site_text : Program → Site → List ℕ
-site_text p s = unwrap_or (option_map units_text (builtin_of p s)) (numbered_site s)
+site_text p s = option_map_or units_text (builtin_of p s) (option_map_or device_text (device_of p s) (numbered_site s))
 
 abbrev pub age_text : Bool → List ℕ
 age_text old = if old then codes ".old" else codes ".new"

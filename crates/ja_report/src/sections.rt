@@ -1,20 +1,69 @@
-//! Writers of warnings, visits and sites.
+//! Writers of devices, warnings, visits and sites.
 
-ghost use Rattle.std.specs.Prelude.{◌≡◌, ◌++◌, OnOk, IfOk, ℕ, ◌==◌, ◌&&◌};
+ghost use Rattle.std.specs.Prelude.{◌≡◌, ◌++◌, OnOk, IfOk, ℕ, ◌==◌, ◌&&◌, is_some};
 ghost use Rattle.std.specs.List.{flat_map, list_any};
 ghost use Rattle.std.specs.Ordering.{nat_cmp};
 ghost use Rattle.std.specs.BTreeSet.{contains};
 ghost use Rattle.ja_graph.specs.WellFormed.{IsWellFormed};
-ghost use Rattle.ja_report.specs.Report.{kind_text, certainty_text, warning_text, warnings_text, context_text, item_text, visits_text, info_text, is_text_site, site_line, named_sites, sites_text};
+ghost use Rattle.ja_model.specs.AbstractState.{site_of};
+ghost use Rattle.ja_report.specs.Texts.{with_bars, builtin_of};
+ghost use Rattle.ja_report.specs.Report.{kind_parts, kinds_text, device_line, devices_text, kind_text, certainty_text, warning_text, warnings_text, context_text, item_text, visits_text, info_text, is_text_site, site_line, named_sites, sites_text};
 
-use crate::texts::{push_label, push_numbered_site};
-use crate::values::site_count;
+use crate::texts::{device_of, push_label, push_numbered_site};
+use crate::values::{close_parts, push_part, site_count};
 use ja_base::{Context, Memory, Site};
 use ja_graph::Program;
 use ja_model::{Item, Warning, WarningKind};
-use ja_texts::{class_text, push_number, push_place};
+use ja_prim::{Kinds, Signature};
+use ja_texts::{class_text, push_number, push_place, push_plain};
 use std::alloc::Global;
 use std::collections::BTreeSet;
+
+// ---- devices
+
+#[tactic(auto, using(crate::proofs::PartLemmas::bars_more), unfolding(crate::specs::Report::kind_parts))]
+fn push_kind_parts(text: &mut Vec<u8>, kinds: Kinds) -> Result<(), Memory>
+    ensures { OnOk result (text.new.items ≡ text.old.items ++ with_bars (kind_parts kinds)) }
+{
+    push_part(text, kinds.undefined, b"undefined")?;
+    push_part(text, kinds.null, b"null")?;
+    push_part(text, kinds.boolean, b"boolean")?;
+    push_part(text, kinds.number, b"number")?;
+    push_part(text, kinds.text, b"string")?;
+    Ok(())
+}
+
+#[tactic(auto, unfolding(crate::specs::Report::kinds_text))]
+fn push_kinds(text: &mut Vec<u8>, kinds: Kinds) -> Result<(), Memory>
+    ensures { OnOk result (text.new.items ≡ text.old.items ++ kinds_text kinds) }
+{
+    let start = text.len();
+    push_kind_parts(text, kinds)?;
+    close_parts(text, start)?;
+    Ok(())
+}
+
+#[tactic(auto, unfolding(crate::specs::Report::device_line))]
+fn push_device(text: &mut Vec<u8>, device: &Signature) -> Result<(), Memory>
+    ensures { OnOk result (text.new.items ≡ text.old.items ++ device_line device.now) }
+{
+    text.extend_from_slice(b"device ")?;
+    push_plain(text, device.name.units())?;
+    text.push(b' ')?;
+    push_kinds(text, device.kinds)?;
+    text.push(b'\n')?;
+    Ok(())
+}
+
+#[tactic(auto, using(ja_texts::proofs::Lists::added_none, ja_texts::proofs::Lists::added_more, ja_texts::proofs::Lists::added_all), unfolding(crate::specs::Report::devices_text))]
+pub(crate) fn push_devices(text: &mut Vec<u8>, devices: &[Signature]) -> Result<(), Memory>
+    ensures { OnOk result (text.new.items ≡ text.old.items ++ devices_text devices.now) }
+{
+    for device in devices {
+        push_device(text, device)?;
+    }
+    Ok(())
+}
 
 // ---- warnings
 
@@ -143,15 +192,22 @@ fn set_of(alloc: Global, numbers: &[u32]) -> Result<BTreeSet<u32>, Memory>
     Ok(set)
 }
 
-/// Whether a site is not that of a built-in object.
+/// Whether a site is that of a built-in object.
+fn is_builtin(program: &Program, number: u32) -> bool
+    ensures { result ≡ is_some (builtin_of program.now (site_of number)) }
+{
+    match program.sites.as_slice().get(number as usize) {
+        Some(info) => info.builtin.is_some(),
+        None => false,
+    }
+}
+
+/// Whether a site is neither that of a built-in object nor that of a device.
 #[tactic(auto, unfolding(crate::specs::Report::is_text_site))]
 fn is_text_site(program: &Program, number: u32) -> bool
     ensures { result ≡ is_text_site program.now number }
 {
-    match program.sites.as_slice().get(number as usize) {
-        Some(info) => info.builtin.is_none(),
-        None => true,
-    }
+    !is_builtin(program, number) && device_of(program, Site(number)).is_none()
 }
 
 fn is_named(program: &Program, set: &BTreeSet<u32>, number: u32) -> bool
@@ -160,7 +216,7 @@ fn is_named(program: &Program, set: &BTreeSet<u32>, number: u32) -> bool
     is_text_site(program, number) & set.contains(&number)
 }
 
-/// The sites among these, each once, but for those of built-in objects.
+/// The sites among these, each once, but for those of built-in objects and devices.
 #[tactic(auto, using(crate::proofs::SiteLemmas::sites_none, crate::proofs::SiteLemmas::sites_in, crate::proofs::SiteLemmas::sites_out))]
 fn named_sites(alloc: Global, program: &Program, named: &[u32]) -> Result<Vec<u32>, Memory>
     requires { IsWellFormed program.now }

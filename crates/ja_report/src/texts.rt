@@ -1,15 +1,17 @@
 //! Writers of the texts of names, keys, labels and attributes. Each adds to what was written.
 
 ghost use Rattle.std.specs.Prelude.{◌≡◌, ◌≤◌, ◌-◌, ◌++◌, OnOk, decimal};
+ghost use Rattle.std.specs.Option.{option_map};
 ghost use lib.Chars.{codes};
 ghost use Rattle.std.specs.List.{list_all};
 ghost use Rattle.ja_prim.specs.Characters.{is_digit};
-ghost use Rattle.ja_report.specs.Texts.{is_name_unit, is_bare, name_text, slot_text, key_text, site_text, label_text, register_text, attr_text, attrs_text, numbered_site};
+ghost use Rattle.ja_report.specs.Texts.{is_name_unit, is_bare, name_text, slot_text, key_text, device_of, device_text, site_text, label_text, register_text, attr_text, attrs_text, numbered_site};
 
 use ja_base::{Label, Memory, Site};
-use ja_graph::Program;
+use ja_graph::{BUILTIN_CLASSES, Program};
 use ja_model::{AAttrs, Key, May, Slot};
-use ja_texts::{push_number, push_quoted, push_units};
+use ja_prim::Signature;
+use ja_texts::{push_number, push_plain, push_quoted, push_units};
 
 fn is_digit(unit: u16) -> bool
     ensures { result ≡ is_digit unit }
@@ -90,6 +92,23 @@ pub(crate) fn push_numbered_site(text: &mut Vec<u8>, site: Site) -> Result<(), M
     Ok(())
 }
 
+/// The device of a site, if it is one of a device.
+#[tactic(auto, unfolding(crate::specs::Texts::device_of))]
+pub(crate) fn device_of(program: &Program, site: Site) -> Option<&Signature>
+    ensures { option_map (λ device. device.now) result ≡ device_of program.now site }
+{
+    let number = (site.0 as usize).checked_sub(BUILTIN_CLASSES.len())?;
+    program.signatures().get(number)
+}
+
+fn push_device_site(text: &mut Vec<u8>, device: &Signature) -> Result<(), Memory>
+    ensures { OnOk result (text.new.items ≡ text.old.items ++ device_text device.now) }
+{
+    text.extend_from_slice(b"device.")?;
+    push_plain(text, device.name.units())?;
+    Ok(())
+}
+
 #[tactic(auto, unfolding(crate::specs::Texts::site_text))]
 pub(crate) fn push_site(text: &mut Vec<u8>, program: &Program, site: Site) -> Result<(), Memory>
     ensures { OnOk result (text.new.items ≡ text.old.items ++ site_text program.now site) }
@@ -99,7 +118,10 @@ pub(crate) fn push_site(text: &mut Vec<u8>, program: &Program, site: Site) -> Re
             return push_units(text, name.units());
         }
     }
-    push_numbered_site(text, site)
+    match device_of(program, site) {
+        Some(device) => push_device_site(text, device),
+        None => push_numbered_site(text, site),
+    }
 }
 
 #[tactic(auto, unfolding(crate::specs::Texts::label_text))]

@@ -25,7 +25,7 @@ pub(crate) fn site_count(program: &Program) -> u32
 }
 
 #[tactic(auto, unfolding(crate::specs::Texts::with_bars))]
-fn push_part(text: &mut Vec<u8>, there: bool, word: &[u8]) -> Result<(), Memory>
+pub(crate) fn push_part(text: &mut Vec<u8>, there: bool, word: &[u8]) -> Result<(), Memory>
     ensures { OnOk result (text.new.items ≡ text.old.items ++ with_bars (part there word.now)) }
 {
     if there {

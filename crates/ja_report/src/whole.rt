@@ -9,7 +9,9 @@ ghost use Rattle.ja_report.specs.Lines.{line_text, entry_lines, table_lines};
 ghost use Rattle.ja_report.specs.Report.{context_line, entries_line, context_head, table_sites, report_head, report_text, spent_text};
 
 use crate::output::Output;
-use crate::sections::{push_context, push_items, push_sites, push_visits, push_warnings};
+use crate::sections::{
+    push_context, push_devices, push_items, push_sites, push_visits, push_warnings,
+};
 use crate::table::{push_entries, push_points};
 use ja_base::{Context, FnId, Label, Memory};
 use ja_graph::{GLOBAL, Program};
@@ -29,7 +31,9 @@ fn push_head(
     requires { IsWellFormed program.now }
     ensures { OnOk result (text.new.items ≡ text.old.items ++ report_head program.now warnings.now named.now) }
 {
-    text.extend_from_slice(b"tajs report 1\nbuilt yes\n")?;
+    text.extend_from_slice(b"tajs report 1\n")?;
+    push_devices(text, program.signatures())?;
+    text.extend_from_slice(b"built yes\n")?;
     push_warnings(text, warnings)?;
     text.extend_from_slice(b"edges 0\n")?;
     push_sites(text, alloc, program, named)?;
@@ -89,8 +93,8 @@ fn lines_of(alloc: Global, program: &Program, table: &ATable) -> Result<(Output,
     Ok((lines, entries))
 }
 
-/// The report of a table: its warnings, the sites that its states name, its states, and the visits
-/// that built it.
+/// The report of a table: the devices of its program, its warnings, the sites that its states name,
+/// its states, and the visits that built it.
 #[tactic(auto, unfolding(crate::specs::Report::report_text))]
 pub fn report(
     alloc: Global,
