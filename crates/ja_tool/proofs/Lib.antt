@@ -1,3 +1,1 @@
-pub mod Reporting
-pub mod Transcripts
-pub mod WordLemmas
+mod Signatures

@@ -1,7 +1,7 @@
 //! What the built-in functions come to: texts that are run, each with the end of its run.
 
-use crate::status::Status;
 use crate::tests::{answered, is_answer, repeated};
+use ja_top::Status;
 use std::alloc::Global;
 
 /// A text and the line of the end of its run. A stop in a built-in function has a place of line 0: of these the line begins so.

@@ -1,22 +1,20 @@
 //! Finds type faults in JavaScript programs before they run, and runs them step by step.
 #![tactic(auto)]
 
-mod analysis;
 #[cfg(test)]
 mod built_in_tests;
-mod command;
-mod refusing;
-mod running;
-mod status;
+#[cfg(test)]
+mod device_tests;
+mod hosts;
 #[cfg(test)]
 mod tests;
-mod top;
 
-use ja_base::{StdSink, StdSource};
-use status::Status;
+use hosts::{input, number, print, text};
+use ja_base::{Memory, StdSink, StdSource};
+use ja_device::Devices;
+use ja_top::{Status, tajs};
 use std::process::ExitCode;
 use std::{env, io};
-use top::tajs;
 
 // The words after the program's name, or the status without them: memory was refused, or a word is
 // no text.
@@ -32,13 +30,26 @@ fn words(rt: &HostRuntime) -> Result<Vec<String>, Status> {
     Ok(words)
 }
 
+// Answers the words, over standard input and output and with the four devices of the program.
+fn answered(rt: &HostRuntime, words: &[String]) -> Result<Status, Memory> {
+    let alloc = rt.alloc();
+    let mut list = Vec::new(alloc);
+    list.push(input(alloc)?)?;
+    list.push(number(alloc)?)?;
+    list.push(text(alloc)?)?;
+    list.push(print(alloc)?)?;
+    let Ok(devices) = Devices::new(list) else {
+        unreachable!()
+    };
+    let mut source = StdSource::new(rt.stdin());
+    let mut sink = StdSink::new(rt.stdout());
+    let (status, _) = tajs(alloc, words, &mut source, &mut sink, devices);
+    Ok(status)
+}
+
 fn main(rt: HostRuntime) -> ExitCode {
     let status = match words(&rt) {
-        Ok(words) => {
-            let mut source = StdSource::new(rt.stdin());
-            let mut sink = StdSink::new(rt.stdout());
-            tajs(rt.alloc(), &words, &mut source, &mut sink)
-        }
+        Ok(words) => answered(&rt, &words).unwrap_or(Status::Memory),
         Err(status) => status,
     };
     ExitCode::from(status.code())

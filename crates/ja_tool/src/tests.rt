@@ -1,8 +1,8 @@
 //! The answers of the program to words and texts, over memory.
 
-use crate::status::Status;
-use crate::top::tajs;
 use ja_base::{MemorySink, MemorySource};
+use ja_device::{Devices, Scripted};
+use ja_top::{Status, tajs};
 use std::alloc::Global;
 use std::str;
 
@@ -601,7 +601,7 @@ fn one(alloc: Global, number: u64) -> Vec<u64> {
 }
 
 /// Words. Where memory is refused some are missing, and the test fails.
-fn words(alloc: Global, texts: &[&str]) -> Vec<String> {
+pub fn words(alloc: Global, texts: &[&str]) -> Vec<String> {
     let mut words = Vec::new(alloc);
     for text in texts {
         if let Ok(word) = String::from_str(alloc, text) {
@@ -622,7 +622,7 @@ pub fn repeated(alloc: Global, before: &[u8], part: &[u8], count: usize, behind:
     text
 }
 
-/// The status and what was written, in pieces of 10 bytes. The text is read in pieces of 7, a long one in longer ones.
+/// The status and what was written, in pieces of 10 bytes, without devices. The text is read in pieces of 7, a long one in longer ones.
 pub fn answered(
     alloc: Global,
     texts: &[&str],
@@ -630,10 +630,14 @@ pub fn answered(
     read: u64,
     write: u64,
 ) -> (Status, Vec<u8>) {
+    let none: Vec<Scripted> = Vec::new(alloc);
+    let Ok(devices) = Devices::new(none) else {
+        return (Status::DeviceFault, Vec::new(alloc));
+    };
     let piece = if text.len() < 1000 { 7 } else { 65_536 };
     let mut source = MemorySource::new(text, piece, one(alloc, read));
     let mut sink = MemorySink::new(alloc, 10, one(alloc, write));
-    let status = tajs(alloc, &words(alloc, texts), &mut source, &mut sink);
+    let (status, _) = tajs(alloc, &words(alloc, texts), &mut source, &mut sink, devices);
     (status, sink.bytes)
 }
 

@@ -1,7 +1,8 @@
 ghost use Rattle.std.specs.Prelude.{◌≡◌, ◌≤◌, IfOk, length};
+ghost use Rattle.ja_device.specs.Signatures.{AreSignatures};
 ghost use Rattle.ja_graph.specs.Kinds.{AreBuilt};
 ghost use Rattle.ja_graph.specs.WellFormed.{IsWellFormed};
-ghost use Rattle.ja_tool.specs.Answers.{Analyses, IsSolved, Reports, status_of};
+ghost use Rattle.ja_top.specs.Answers.{Analyses, IsSolved, Reports, status_of};
 
 use crate::refusing::{Answer, explain, refuse};
 use crate::status::Status;
@@ -11,6 +12,7 @@ use ja_load::laws::programs_are_built;
 use ja_load::load;
 use ja_machine::never_stuck;
 use ja_model::Warning;
+use ja_prim::Signature;
 use ja_report::{Refusal, report, spent_text};
 use ja_rules::{SolveFault, Solved, solve, warnings};
 use std::alloc::Global;
@@ -71,11 +73,12 @@ fn solve_and_report(alloc: Global, program: &Program) -> Result<Answer, Memory>
 
 // Analyses a text.
 #[tactic(auto, using(crate::proofs::Reporting::analyses))]
-fn analyse_text(alloc: Global, text: &str) -> Result<Answer, Memory>
-    requires { length text.now ≤ 16777216 }
-    ensures { IfOk result (λ a. Analyses text.now a.status a.text.items) }
+fn analyse_text(alloc: Global, text: &str, signatures: &[Signature]) -> Result<Answer, Memory>
+    requires text { length text.now ≤ 16777216 }
+    requires devices { AreSignatures signatures.now }
+    ensures { IfOk result (λ a. Analyses text.now signatures.now a.status a.text.items) }
 {
-    match load(alloc, text) {
+    match load(alloc, text, signatures) {
         Ok(program) => {
             programs_are_built();
             let answer = solve_and_report(alloc, &program)?;
@@ -85,13 +88,14 @@ fn analyse_text(alloc: Global, text: &str) -> Result<Answer, Memory>
     }
 }
 
-/// Analyses bytes.
-pub fn analyse(alloc: Global, bytes: &[u8]) -> Result<Answer, Memory>
-    requires { length bytes.now ≤ 16777216 }
-    ensures { IfOk result (λ a. Analyses bytes.now a.status a.text.items) }
+/// Analyses bytes, as the text of a program with these devices.
+pub fn analyse(alloc: Global, bytes: &[u8], signatures: &[Signature]) -> Result<Answer, Memory>
+    requires bytes { length bytes.now ≤ 16777216 }
+    requires devices { AreSignatures signatures.now }
+    ensures { IfOk result (λ a. Analyses bytes.now signatures.now a.status a.text.items) }
 {
     match str::from_utf8(bytes) {
-        Ok(text) => analyse_text(alloc, text),
+        Ok(text) => analyse_text(alloc, text, signatures),
         Err(error) => {
             let offset = error.valid_up_to();
             refuse(alloc, Status::NotText, Refusal::NotText { offset })

@@ -1,9 +1,9 @@
 use Rattle.std.proofs.Common.{◌≡◌, subst}
 use Rattle.ja_rules.specs.Readings.{table_of}
-use Rattle.ja_tool.specs.declared.status.Status.{Status}
-use Rattle.ja_tool.specs.Answers.{IsAnalysed, Reports, status_of}
-use Rattle.ja_tool.proofs.Reporting.{reports}
-use Rattle.ja_tool.proofs.analysis.report_of.Goals as goal
+use Rattle.ja_top.specs.declared.status.Status.{Status}
+use Rattle.ja_top.specs.Answers.{IsAnalysed, Reports, status_of}
+use Rattle.ja_top.proofs.Reporting.{reports}
+use Rattle.ja_top.proofs.analysis.report_of.Goals as goal
 
 pub returns : goal.returns
 returns c =

@@ -1,7 +1,7 @@
 -- The exit status of each answer.
 use Rattle.std.specs.Prelude.{ℕ}
-use Rattle.ja_tool.specs.declared.status.Status.{Status}
-use Rattle.ja_tool.specs.declared.status.Status.TheVariants.{Done, Warned, Usage, ReadFault, WriteFault, TooLong, NotText, Syntax, Scope, Limit, Spent, Left, Uncaught, StepsSpent, Memory, Unbuilt}
+use Rattle.ja_top.specs.declared.status.Status.{Status}
+use Rattle.ja_top.specs.declared.status.Status.TheVariants.{Done, Warned, Usage, ReadFault, WriteFault, TooLong, NotText, Syntax, Scope, Limit, Spent, DeviceFault, Left, Uncaught, StepsSpent, Memory, Unbuilt}
 
 abbrev pub code_of : Status → ℕ
 code_of Done = 0
@@ -15,6 +15,7 @@ code_of Syntax = 7
 code_of Scope = 8
 code_of Limit = 9
 code_of Spent = 10
+code_of DeviceFault = 12
 code_of Left = 13
 code_of Uncaught = 14
 code_of StepsSpent = 15

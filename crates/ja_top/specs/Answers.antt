@@ -1,5 +1,5 @@
 -- The answers of the program: the cause of each status, and the text that is written with it.
-use Rattle.std.specs.Prelude.{◌≡◌, ◌≤◌, ◌⊎◌, ◌+◌, ℕ, String, Bool, true, List, [], ◌∷◌, map, length, Option, Some, None}
+use Rattle.std.specs.Prelude.{◌≡◌, ◌≤◌, ◌⊎◌, ◌+◌, ℕ, String, Bool, true, List, [], ◌∷◌, ◌++◌, map, length, take, drop, Option, Some, None}
 use lib.Chars.{codes}
 use Rattle.std.specs.Str.{IsUtf8}
 use Rattle.std.specs.Str.Lossy.{utf8_valid_len}
@@ -9,6 +9,7 @@ use Rattle.std.specs.declared.alloc.Global.{Global}
 use Rattle.ja_base.specs.declared.ids.Place.{Place}
 use Rattle.ja_base.specs.declared.ids.ScopeKind.{ScopeKind}
 use Rattle.ja_base.specs.Streams.{Rose, Keeps, Took, IsAtEnd, IsLonger, TakesCount, Appends, AppendsFront, TurnsTo}
+use Rattle.ja_device.specs.Devices.{AllSeen, signature_of}
 use Rattle.ja_graph.specs.declared.program.Program.{Program}
 use Rattle.ja_graph.specs.Kinds.{AreBuilt}
 use Rattle.ja_grammar.specs.declared.fault.ParseFault.TheVariants as fault
@@ -19,10 +20,13 @@ use Rattle.ja_model.specs.declared.table.Warning.{Warning}
 use Rattle.ja_model.specs.Sound.{CoversRuns, WarnsOfFaults}
 use Rattle.ja_model.specs.Table.{Table, IsBuilt, IsClosed}
 use Rattle.ja_model.specs.Warning.{AreWarnings}
+use Rattle.ja_prim.specs.declared.signature.Signature.{Signature}
 use Rattle.ja_report.specs.declared.refusals.Refusal.{Refusal}
 use Rattle.ja_report.specs.declared.refusals.Refusal.TheVariants as refusal
 use Rattle.ja_report.specs.Refusals.{refusal_text}
 use Rattle.ja_report.specs.Report.{report_text, spent_text}
+use Rattle.ja_run.specs.Asked.{IsLeft}
+use Rattle.ja_run.specs.declared.ended.CallRecord.{CallRecord}
 use Rattle.ja_run.specs.declared.ended.Ended.{Ended}
 use Rattle.ja_run.specs.declared.ended.RunEnd.{RunEnd}
 use Rattle.ja_run.specs.declared.ended.RunEnd.TheVariants as run_end
@@ -31,11 +35,15 @@ use Rattle.ja_run.specs.Transcript.{run_text}
 use Rattle.ja_rules.specs.declared.solver.Solved.{Solved}
 use Rattle.ja_rules.specs.Readings.{table_of, Fits}
 use Rattle.ja_rules.specs.Solving.{WasSpent}
-use Rattle.ja_tool.specs.declared.command.Command.{Command}
-use Rattle.ja_tool.specs.declared.command.Command.TheVariants as command
-use Rattle.ja_tool.specs.declared.refusing.Answer.{Answer}
-use Rattle.ja_tool.specs.declared.status.Status.{Status}
-use Rattle.ja_tool.specs.declared.status.Status.TheVariants.{Done, Warned, Usage, ReadFault, WriteFault, TooLong, NotText, Syntax, Scope, Limit, Spent, Left, Uncaught, StepsSpent, Memory, Unbuilt}
+use Rattle.ja_top.specs.declared.command.Command.{Command}
+use Rattle.ja_top.specs.declared.command.Command.TheVariants as command
+use Rattle.ja_top.specs.declared.refusing.Answer.{Answer}
+use Rattle.ja_top.specs.declared.status.Status.{Status}
+use Rattle.ja_top.specs.declared.status.Status.TheVariants.{Done, Warned, Usage, ReadFault, WriteFault, TooLong, NotText, Syntax, Scope, Limit, Spent, DeviceFault, Left, Uncaught, StepsSpent, Memory, Unbuilt}
+
+-- the names and kinds of devices
+abbrev pub signatures_of : AllSeen → List Signature
+signatures_of d = map signature_of d.devices
 
 -- the words are the command line of the analysis: `analyse` alone
 abbrev pub IsCommand : List (String Global) → Type 0
@@ -95,23 +103,23 @@ abbrev pub status_of : List Warning → Status
 status_of [] = Done
 status_of (w ∷ ws) = Warned
 
-abbrev pub ReportsOnText : List ℕ → Status → List ℕ → Type 0
-ReportsOnText bytes status text = (p : Program) × IsProgramOf bytes p × Reports p status text
+abbrev pub ReportsOnText : List ℕ → List Signature → Status → List ℕ → Type 0
+ReportsOnText bytes signatures status text = (p : Program) × IsProgramOf bytes signatures p × Reports p status text
 
--- the cause of each status of the analysis of a text, and what is written
-abbrev pub Analyses : List ℕ → Status → List ℕ → Type 0
-Analyses bytes Done text = ReportsOnText bytes Done text
-Analyses bytes Warned text = ReportsOnText bytes Warned text
-Analyses bytes Spent text = ReportsOnText bytes Spent text
-Analyses bytes NotText text = (IsUtf8 bytes → ⊥) × (text ≡ refusal_text (refusal.NotText (utf8_valid_len bytes)))
-Analyses bytes Syntax text = (place : Place) × IsNone bytes (fault.Syntax place) × (text ≡ refusal_text (refusal.Syntax place))
-Analyses bytes Scope text =
+-- the cause of each status of the analysis of a text whose program has these devices, and what is written
+abbrev pub Analyses : List ℕ → List Signature → Status → List ℕ → Type 0
+Analyses bytes signatures Done text = ReportsOnText bytes signatures Done text
+Analyses bytes signatures Warned text = ReportsOnText bytes signatures Warned text
+Analyses bytes signatures Spent text = ReportsOnText bytes signatures Spent text
+Analyses bytes signatures NotText text = (IsUtf8 bytes → ⊥) × (text ≡ refusal_text (refusal.NotText (utf8_valid_len bytes)))
+Analyses bytes signatures Syntax text = (place : Place) × IsNone bytes (fault.Syntax place) × (text ≡ refusal_text (refusal.Syntax place))
+Analyses bytes signatures Scope text =
     (kind : ScopeKind) × (place : Place) × IsNone bytes (fault.Scope kind place) × (text ≡ refusal_text (refusal.Scope kind place))
-Analyses bytes Limit text =
+Analyses bytes signatures Limit text =
     ((place : Place) × IsNone bytes (fault.Depth place) × (text ≡ refusal_text refusal.Depth))
-    ⊎ ((HasManyFunctions bytes × (text ≡ refusal_text refusal.Functions)) ⊎ (HasManyNodes bytes × (text ≡ refusal_text refusal.Nodes)))
-Analyses bytes Unbuilt text = (place : Place) × IsUnbuiltAt bytes place × (text ≡ refusal_text (refusal.Unbuilt place))
-Analyses bytes status text = ⊥
+    ⊎ ((HasManyFunctions bytes × (text ≡ refusal_text refusal.Functions)) ⊎ (HasManyNodes bytes signatures × (text ≡ refusal_text refusal.Nodes)))
+Analyses bytes signatures Unbuilt text = (place : Place) × IsUnbuiltAt bytes signatures place × (text ≡ refusal_text (refusal.Unbuilt place))
+Analyses bytes signatures status text = ⊥
 
 -- ---- runs
 
@@ -120,37 +128,67 @@ abbrev pub status_of_end : RunEnd → Status
 status_of_end run_end.Normal = Done
 status_of_end (run_end.Uncaught value) = Uncaught
 status_of_end (run_end.Scope kind place) = Left
+status_of_end (run_end.Device which) = DeviceFault
 status_of_end run_end.Limit = StepsSpent
 
--- what is written of a program that may make so many steps: the transcript of its run
-abbrev pub Transcribes : Program → ℕ → Status → List ℕ → Type 0
-Transcribes p steps status text = (e : Ended) × IsRun p steps e × (status ≡ status_of_end e.end) × (text ≡ run_text e)
+-- the devices that come back of what a run leaves: all but the one that failed, in their order
+abbrev pub returned : RunEnd → AllSeen → AllSeen
+returned (run_end.Device which) left = record left { devices = take which left.devices ++ drop (which + 1) left.devices }
+returned end left = left
 
-abbrev pub TranscribesText : List ℕ → ℕ → Status → List ℕ → Type 0
-TranscribesText bytes steps status text = (p : Program) × IsProgramToRun bytes p × Transcribes p steps status text
+-- What is written of a program that may make so many steps with these devices: the transcript of its run, under the answers that they gave.
+-- Those that come back have heard what it says.
+pub record Transcribes (p : Program) (steps : ℕ) (before after : AllSeen) (status : Status) (text : List ℕ) : Type 0 where
+  pub ended : Ended
+  pub run : IsRun p steps ended
+  pub left : AllSeen
+  pub left_is : IsLeft before left ended.calls ended.end
+  pub after_is : after ≡ returned ended.end left
+  pub status_is : status ≡ status_of_end ended.end
+  pub text_is : text ≡ run_text p ended
+
+abbrev pub TranscribesText : List ℕ → ℕ → AllSeen → AllSeen → Status → List ℕ → Type 0
+TranscribesText bytes steps before after status text =
+    (p : Program) × IsProgramToRun bytes (signatures_of before) p × Transcribes p steps before after status text
+
+-- the text is refused as by the analysis, and no device is asked
+abbrev pub RefusesText : List ℕ → AllSeen → AllSeen → Status → List ℕ → Type 0
+RefusesText bytes before after status text = Analyses bytes (signatures_of before) status text × (after ≡ before)
 
 -- The cause of each status of the run of a text, and what is written. A text that is none of the language, or passes a limit, is refused
 -- as by the analysis; every form is run.
-abbrev pub Runs : List ℕ → ℕ → Status → List ℕ → Type 0
-Runs bytes steps Done text = TranscribesText bytes steps Done text
-Runs bytes steps Left text = TranscribesText bytes steps Left text
-Runs bytes steps Uncaught text = TranscribesText bytes steps Uncaught text
-Runs bytes steps StepsSpent text = TranscribesText bytes steps StepsSpent text
-Runs bytes steps NotText text = Analyses bytes NotText text
-Runs bytes steps Syntax text = Analyses bytes Syntax text
-Runs bytes steps Scope text = Analyses bytes Scope text
-Runs bytes steps Limit text = Analyses bytes Limit text
-Runs bytes steps status text = ⊥
+abbrev pub Runs : List ℕ → ℕ → AllSeen → AllSeen → Status → List ℕ → Type 0
+Runs bytes steps before after Done text = TranscribesText bytes steps before after Done text
+Runs bytes steps before after DeviceFault text = TranscribesText bytes steps before after DeviceFault text
+Runs bytes steps before after Left text = TranscribesText bytes steps before after Left text
+Runs bytes steps before after Uncaught text = TranscribesText bytes steps before after Uncaught text
+Runs bytes steps before after StepsSpent text = TranscribesText bytes steps before after StepsSpent text
+Runs bytes steps before after NotText text = RefusesText bytes before after NotText text
+Runs bytes steps before after Syntax text = RefusesText bytes before after Syntax text
+Runs bytes steps before after Scope text = RefusesText bytes before after Scope text
+Runs bytes steps before after Limit text = RefusesText bytes before after Limit text
+Runs bytes steps before after status text = ⊥
+
+-- the devices as a run without an answer leaves them: it may have asked some
+abbrev pub MayBeLeft : AllSeen → AllSeen → Type 0
+MayBeLeft before after = (calls : List CallRecord) × (end : RunEnd) × IsLeft before after calls end
 
 -- ---- calls
 
--- What a call meets: its words, and what is left of the source and how many faults it has counted, before and after.
+-- What a call meets: its words; what is left of the source and how many faults it has counted, before and after; and the devices that are
+-- handed in and that come back.
 pub record Call : Type 0 where
   pub words : List (String Global)
   pub left : Option (List ℕ)
   pub left_after : Option (List ℕ)
   pub faults : ℕ
   pub faults_after : ℕ
+  pub devices : AllSeen
+  pub devices_after : AllSeen
+
+-- each device comes back as it was
+abbrev pub DevicesStand : Call → Type 0
+DevicesStand c = c.devices_after ≡ c.devices
 
 -- the bytes are all that was left, and no more than a text may have
 pub record IsInput (c : Call) (bytes : List ℕ) : Type 0 where
@@ -159,11 +197,12 @@ pub record IsInput (c : Call) (bytes : List ℕ) : Type 0 where
   pub within : length bytes ≤ max_bytes
 
 abbrev pub AnalysesInput : Call → Status → List ℕ → Type 0
-AnalysesInput c status text = IsCommand c.words × ((bytes : List ℕ) × IsInput c bytes × Analyses bytes status text)
+AnalysesInput c status text =
+    IsCommand c.words × ((bytes : List ℕ) × IsInput c bytes × Analyses bytes (signatures_of c.devices) status text) × DevicesStand c
 
 abbrev pub RunsInput : Call → Status → List ℕ → Type 0
 RunsInput c status text =
-    (steps : ℕ) × IsRunCommand c.words steps × ((bytes : List ℕ) × IsInput c bytes × Runs bytes steps status text)
+    (steps : ℕ) × IsRunCommand c.words steps × ((bytes : List ℕ) × IsInput c bytes × Runs bytes steps c.devices c.devices_after status text)
 
 -- either of them
 abbrev pub AnswersInput : Call → Status → List ℕ → Type 0
@@ -171,10 +210,10 @@ AnswersInput c status text = AnalysesInput c status text ⊎ RunsInput c status 
 
 -- the cause of each status that has a text, and the text
 abbrev pub HasCause : Call → Status → List ℕ → Type 0
-HasCause c Usage text = (IsCommandLine c.words → ⊥) × Keeps c.left c.left_after × (text ≡ refusal_text refusal.Usage)
-HasCause c ReadFault text = IsCommandLine c.words × Rose c.faults c.faults_after × (text ≡ refusal_text refusal.ReadFault)
+HasCause c Usage text = (IsCommandLine c.words → ⊥) × Keeps c.left c.left_after × DevicesStand c × (text ≡ refusal_text refusal.Usage)
+HasCause c ReadFault text = IsCommandLine c.words × Rose c.faults c.faults_after × DevicesStand c × (text ≡ refusal_text refusal.ReadFault)
 HasCause c TooLong text =
-    IsCommandLine c.words × IsLonger max_bytes c.left × TakesCount (max_bytes + 1) c.left c.left_after × (text ≡ refusal_text refusal.TooLong)
+    IsCommandLine c.words × IsLonger max_bytes c.left × TakesCount (max_bytes + 1) c.left c.left_after × DevicesStand c × (text ≡ refusal_text refusal.TooLong)
 HasCause c NotText text = AnswersInput c NotText text
 HasCause c Syntax text = AnswersInput c Syntax text
 HasCause c Scope text = AnswersInput c Scope text
@@ -183,6 +222,7 @@ HasCause c Done text = AnswersInput c Done text
 HasCause c Warned text = AnalysesInput c Warned text
 HasCause c Spent text = AnalysesInput c Spent text
 HasCause c Unbuilt text = AnalysesInput c Unbuilt text
+HasCause c DeviceFault text = RunsInput c DeviceFault text
 HasCause c Left text = RunsInput c Left text
 HasCause c Uncaught text = RunsInput c Uncaught text
 HasCause c StepsSpent text = RunsInput c StepsSpent text
@@ -203,12 +243,16 @@ abbrev pub IsWritten : Call → Written → Status → Type 0
 IsWritten c w status =
     (text : List ℕ) × HasCause c status text × Appends w.written w.written_after text × TurnsTo w.finished w.finished_after true
 
+-- without memory only a run may have asked devices; each comes back
+abbrev pub DevicesComeBack : Call → Type 0
+DevicesComeBack c = DevicesStand c ⊎ ((steps : ℕ) × IsRunCommand c.words steps × MayBeLeft c.devices c.devices_after)
+
 -- the status, its cause, and what the sink holds: after a fault of the sink the front of another answer's text, and without
 -- memory nothing
 abbrev pub IsAnswered : Call → Written → Status → Type 0
 IsAnswered c w WriteFault =
     Rose w.faults w.faults_after × ((status : Status) × (text : List ℕ) × HasCause c status text × AppendsFront w.written w.written_after text)
-IsAnswered c w Memory = Keeps w.written w.written_after × Keeps w.finished w.finished_after
+IsAnswered c w Memory = Keeps w.written w.written_after × Keeps w.finished w.finished_after × DevicesComeBack c
 IsAnswered c w status = IsWritten c w status
 
 -- the status and the text of a refusal
@@ -235,10 +279,15 @@ abbrev pub Counts : List ℕ → Option ℕ → Type 0
 Counts word None = (steps : ℕ) → IsSteps word steps → ⊥
 Counts word (Some steps) = IsSteps word steps
 
--- the answer of a command to a text
-abbrev pub Follows : Command → List ℕ → Status → List ℕ → Type 0
-Follows command.Analyse bytes status text = Analyses bytes status text
-Follows (command.Run steps) bytes status text = Runs bytes steps status text
+-- the answer of a command to a text, with the devices that are handed in and that come back
+abbrev pub Follows : Command → List ℕ → AllSeen → AllSeen → Status → List ℕ → Type 0
+Follows command.Analyse bytes before after status text = Analyses bytes (signatures_of before) status text × (after ≡ before)
+Follows (command.Run steps) bytes before after status text = Runs bytes steps before after status text
+
+-- the devices where memory was refused to a command
+abbrev pub StopsShort : Command → AllSeen → AllSeen → Type 0
+StopsShort command.Analyse before after = after ≡ before
+StopsShort (command.Run steps) before after = (after ≡ before) ⊎ MayBeLeft before after
 
 -- what the solver gives of a program
 pub record IsSolved (p : Program) (s : Solved) : Type 0 where

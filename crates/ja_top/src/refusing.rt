@@ -1,8 +1,10 @@
 //! Answers, and why there is none.
 
 ghost use Rattle.std.specs.Prelude.{ℕ, List, IfOk};
+ghost use Rattle.ja_device.specs.Devices.{AllSeen};
 ghost use Rattle.ja_load.specs.Loading.{HasNone, HasNoneToRun};
-ghost use Rattle.ja_tool.specs.Answers.{Analyses, IsRefusal, Runs};
+ghost use Rattle.ja_prim.specs.declared.signature.Signature.{Signature};
+ghost use Rattle.ja_top.specs.Answers.{Analyses, IsRefusal, Runs, signatures_of};
 
 use crate::status::Status;
 use ja_base::Memory;
@@ -28,8 +30,8 @@ pub fn refuse(alloc: Global, status: Status, refusal: Refusal) -> Result<Answer,
 
 /// Says why a text has no program, to be analysed or to be run.
 pub fn explain(alloc: Global, fault: LoadFault) -> Result<Answer, Memory>
-    ensures analysis { IfOk result (λ a. (bytes : List ℕ) → HasNone bytes fault → Analyses bytes a.status a.text.items) }
-    ensures run { IfOk result (λ a. (bytes : List ℕ) (steps : ℕ) → HasNoneToRun bytes fault → Runs bytes steps a.status a.text.items) }
+    ensures analysis { IfOk result (λ a. (bytes : List ℕ) (signatures : List Signature) → HasNone bytes signatures fault → Analyses bytes signatures a.status a.text.items) }
+    ensures run { IfOk result (λ a. (bytes : List ℕ) (steps : ℕ) (devices : AllSeen) → HasNoneToRun bytes (signatures_of devices) fault → Runs bytes steps devices devices a.status a.text.items) }
 {
     match fault {
         LoadFault::Parse(ParseFault::Syntax { place }) => {

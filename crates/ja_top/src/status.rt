@@ -25,6 +25,8 @@ pub enum Status {
     Limit = 9,
     /// The visits of the budget are spent, and the table isn't closed.
     Spent = 10,
+    /// The transcript of a run was written that ended at a device that failed.
+    DeviceFault = 12,
     /// The transcript of a run that left the profile was written.
     Left = 13,
     /// The transcript of a run was written in which nothing caught a value.
@@ -38,7 +40,7 @@ pub enum Status {
 }
 
 impl Status {
-    ghost use Rattle.ja_tool.specs.Statuses.{code_of};
+    ghost use Rattle.ja_top.specs.Statuses.{code_of};
 
     /// The exit status.
     pub fn code(self) -> u8

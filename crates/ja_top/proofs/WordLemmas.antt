@@ -1,8 +1,8 @@
 -- What words say.
-use Rattle.std.proofs.Common.{◌≡◌, ◌<◌, ◌≤◌, ◌^◌, ℕ, List, [], ◌∷◌, length, get_or, Ok, Err, Result, refl, sym, ap, ◌∙◌, subst, arith}
+use Rattle.std.proofs.Common.{◌≡◌, ◌<◌, ◌^◌, ℕ, List, Ok, Err, Result, subst, arith}
 use Rattle.std.specs.Str.Parse.{ParsesUnsigned}
 use Rattle.std.proofs.lemmas.Fmt.{parse-decimal}
-use Rattle.ja_tool.specs.Answers.{IsSteps}
+use Rattle.ja_top.specs.Answers.{IsSteps}
 
 -- a word that is a number of steps is read as this number
 parsed : {E : Type 0} (word : List ℕ) (r : Result ℕ E) → ParsesUnsigned 64 10 word r → (steps : ℕ) → IsSteps word steps → r ≡ Ok steps
@@ -19,11 +19,3 @@ pub only_parsed : {E : Type 0} (word : List ℕ) (r : Result ℕ E) (read : ℕ)
 only_parsed word r read parses gives none steps is =
     let same : steps ≡ read = cc (parsed word r parses steps is, gives) in
     none (subst (IsSteps word) same is)
-
--- a list of three
-pub only_three : {X : Type 0} (xs : List X) (x y z : X) → 3 ≤ length xs → length xs < 4 → x ≡ get_or xs 0 x → y ≡ get_or xs 1 y → z ≡ get_or xs 2 z → xs ≡ x ∷ y ∷ z ∷ []
-only_three [] x y z low high a b c = absurd (omega (arith, low))
-only_three (p ∷ []) x y z low high a b c = absurd (omega (arith, low))
-only_three (p ∷ q ∷ []) x y z low high a b c = absurd (omega (arith, low))
-only_three (p ∷ q ∷ r ∷ []) x y z low high a b c = cc (a, b, c)
-only_three (p ∷ q ∷ r ∷ s ∷ xs) x y z low high a b c = absurd (omega (arith, high))

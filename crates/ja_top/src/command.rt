@@ -2,7 +2,7 @@
 
 ghost use Rattle.std.specs.Prelude.{◌≡◌, ◌↔◌, IsTrue};
 ghost use Rattle.std.specs.String.{string_bytes};
-ghost use Rattle.ja_tool.specs.Answers.{AsksFor, Counts, IsSteps, OfWord};
+ghost use Rattle.ja_top.specs.Answers.{AsksFor, Counts, IsSteps, OfWord};
 
 use itoa::Buffer;
 

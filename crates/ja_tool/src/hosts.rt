@@ -1,0 +1,89 @@
+//! The host devices of the program. Each answers from a list, and repeats its last answer.
+
+ghost use Rattle.std.specs.Prelude.{◌≡◌, [], ◌∷◌, ◌++◌, IfOk, true, false, pos};
+ghost use Rattle.std.specs.String.{string_bytes};
+ghost use lib.Chars.{codes};
+ghost use Rattle.ja_prim.specs.declared.primitive.Num.TheVariants as num;
+ghost use Rattle.ja_prim.specs.declared.primitive.Primitive.TheVariants as primitive;
+
+use ja_base::Memory;
+use ja_device::Scripted;
+use ja_prim::{Int, Kinds, Num, Primitive, Text16};
+use std::alloc::Global;
+
+/// No kind.
+const NONE: Kinds = Kinds {
+    undefined: false,
+    null: false,
+    boolean: false,
+    number: false,
+    text: false,
+};
+
+/// Adds a number to answers.
+fn add_number(answers: &mut Vec<Primitive>, number: u8) -> Result<(), Memory>
+    ensures { IfOk result (λ _. answers.new.items ≡ answers.old.items ++ primitive.Number (num.Whole (pos number)) ∷ []) }
+{
+    let number = Num::Whole(Int::new(number as i64).unwrap());
+    answers.push(Primitive::Number(number))?;
+    Ok(())
+}
+
+/// `input` answers true three times, and then false.
+pub fn input(alloc: Global) -> Result<Scripted, Memory>
+    ensures name { IfOk result (λ s. string_bytes s.name ≡ codes "input") }
+    ensures kinds { IfOk result (λ s. s.kinds ≡ record { undefined = false; null = false; boolean = true; number = false; text = false }) }
+{
+    let mut answers = Vec::new(alloc);
+    for truth in [true, true, true, false] {
+        answers.push(Primitive::Bool(truth))?;
+    }
+    let kinds = Kinds {
+        boolean: true,
+        ..NONE
+    };
+    Scripted::new(alloc, "input", kinds, answers, Vec::new(alloc))
+}
+
+/// `number` answers 0, 1, 2, 3, 5 and 8.
+pub fn number(alloc: Global) -> Result<Scripted, Memory>
+    ensures name { IfOk result (λ s. string_bytes s.name ≡ codes "number") }
+    ensures kinds { IfOk result (λ s. s.kinds ≡ record { undefined = false; null = false; boolean = false; number = true; text = false }) }
+{
+    let mut answers = Vec::new(alloc);
+    for number in [0, 1, 2, 3, 5, 8] {
+        add_number(&mut answers, number)?;
+    }
+    let kinds = Kinds {
+        number: true,
+        ..NONE
+    };
+    Scripted::new(alloc, "number", kinds, answers, Vec::new(alloc))
+}
+
+/// `text` answers "a", "b" and the empty text.
+pub fn text(alloc: Global) -> Result<Scripted, Memory>
+    ensures name { IfOk result (λ s. string_bytes s.name ≡ codes "text") }
+    ensures kinds { IfOk result (λ s. s.kinds ≡ record { undefined = false; null = false; boolean = false; number = false; text = true }) }
+{
+    let mut answers = Vec::new(alloc);
+    answers.push(Primitive::Text(Text16::from_ascii(alloc, b"a")?))?;
+    answers.push(Primitive::Text(Text16::from_ascii(alloc, b"b")?))?;
+    answers.push(Primitive::Text(Text16::from_ascii(alloc, b"")?))?;
+    let kinds = Kinds { text: true, ..NONE };
+    Scripted::new(alloc, "text", kinds, answers, Vec::new(alloc))
+}
+
+/// `print` answers undefined.
+pub fn print(alloc: Global) -> Result<Scripted, Memory>
+    ensures name { IfOk result (λ s. string_bytes s.name ≡ codes "print") }
+    ensures kinds { IfOk result (λ s. s.kinds ≡ record { undefined = true; null = false; boolean = false; number = false; text = false }) }
+{
+    let mut answers = Vec::new(alloc);
+    answers.push(Primitive::Undefined)?;
+    let kinds = Kinds {
+        undefined: true,
+        ..NONE
+    };
+    Scripted::new(alloc, "print", kinds, answers, Vec::new(alloc))
+}

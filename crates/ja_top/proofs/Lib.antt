@@ -1,0 +1,3 @@
+pub mod Reporting
+pub mod Transcripts
+pub mod WordLemmas

@@ -1,0 +1,94 @@
+//! The answer of `run` to bytes.
+
+ghost use Rattle.std.specs.Prelude.{◌≡◌, ◌≤◌, ◌⊎◌, IfOk, IfErr, length};
+ghost use Rattle.ja_graph.specs.WellFormed.{IsWellFormed};
+ghost use Rattle.ja_top.specs.Answers.{MayBeLeft, Runs, Transcribes, signatures_of, status_of_end};
+
+use crate::refusing::{Answer, explain, refuse};
+use crate::status::Status;
+use ja_base::Memory;
+use ja_device::{Device, Devices};
+use ja_graph::Program;
+use ja_load::load_to_run;
+use ja_report::Refusal;
+use ja_run::{RunEnd, run, run_text};
+use std::alloc::Global;
+use std::str;
+
+// The status of the end of a run.
+fn status_of(end: &RunEnd) -> Status
+    ensures { result ≡ status_of_end end.now }
+{
+    match end {
+        RunEnd::Normal => Status::Done,
+        RunEnd::Uncaught(_) => Status::Uncaught,
+        RunEnd::Scope { .. } => Status::Left,
+        RunEnd::Device { .. } => Status::DeviceFault,
+        RunEnd::Limit => Status::StepsSpent,
+    }
+}
+
+// Runs a program, and writes the transcript. A device that failed is let go once the text is built.
+fn transcribe<D: Device>(
+    alloc: Global,
+    program: &Program,
+    devices: &mut Devices<D>,
+    steps: u64,
+) -> Result<Answer, Memory>
+    requires program { IsWellFormed program.now }
+    requires devices { signatures_of devices.old ≡ program.now.signatures }
+    ensures transcript { IfOk result (λ a. Transcribes program.now steps devices.old devices.new a.status a.text.items) }
+    ensures memory { IfErr result (λ _. MayBeLeft devices.old devices.new) }
+{
+    let ended = run(alloc, program, devices, steps)?;
+    let text = run_text(alloc, program, &ended)?;
+    if let RunEnd::Device { which } = &ended.end {
+        devices.retire(*which as usize);
+    }
+    Ok(Answer {
+        status: status_of(&ended.end),
+        text,
+    })
+}
+
+// Runs a text.
+#[tactic(auto, using(crate::proofs::Transcripts::runs))]
+fn transcribe_text<D: Device>(
+    alloc: Global,
+    text: &str,
+    devices: &mut Devices<D>,
+    steps: u64,
+) -> Result<Answer, Memory>
+    requires { length text.now ≤ 16777216 }
+    ensures transcript { IfOk result (λ a. Runs text.now steps devices.old devices.new a.status a.text.items) }
+    ensures memory { IfErr result (λ _. (devices.new ≡ devices.old) ⊎ MayBeLeft devices.old devices.new) }
+{
+    let signatures = devices.signatures(alloc)?;
+    match load_to_run(alloc, text, signatures.as_slice()) {
+        Ok(program) => {
+            let answer = transcribe(alloc, &program, devices, steps)?;
+            Ok(answer)
+        }
+        Err(fault) => explain(alloc, fault),
+    }
+}
+
+/// Runs the program of some bytes with these devices; it may make so many steps.
+pub fn transcript_of<D: Device>(
+    alloc: Global,
+    bytes: &[u8],
+    devices: &mut Devices<D>,
+    steps: u64,
+) -> Result<Answer, Memory>
+    requires { length bytes.now ≤ 16777216 }
+    ensures transcript { IfOk result (λ a. Runs bytes.now steps devices.old devices.new a.status a.text.items) }
+    ensures memory { IfErr result (λ _. (devices.new ≡ devices.old) ⊎ MayBeLeft devices.old devices.new) }
+{
+    match str::from_utf8(bytes) {
+        Ok(text) => transcribe_text(alloc, text, devices, steps),
+        Err(error) => {
+            let offset = error.valid_up_to();
+            refuse(alloc, Status::NotText, Refusal::NotText { offset })
+        }
+    }
+}

@@ -1,0 +1,117 @@
+ghost use Rattle.std.specs.Prelude.{◌≤◌, IfOk, IfErr, List, OnOk, OnErr, Some, String, length, true};
+ghost use Rattle.std.specs.declared.alloc.Global.{Global};
+ghost use Rattle.ja_base.specs.Streams.{NeverFalls, Appends, AppendsFront, TurnsTo, HasCause as StreamCause};
+ghost use Rattle.ja_top.specs.Answers.{AsksFor, DevicesComeBack, Follows, HasCause, IsAnswered, StopsShort};
+
+use crate::analysis::analyse;
+use crate::command::{Command, asked};
+use crate::refusing::{Answer, refuse};
+use crate::running::transcript_of;
+use crate::status::Status;
+use ja_base::{Failed, Memory, ReadFault, Sink, Source, read_all, write_all};
+use ja_device::{Device, Devices};
+use ja_report::Refusal;
+use std::alloc::Global;
+
+/// The greatest number of bytes of a text.
+pub const MAX_BYTES: usize = 16_777_216;
+
+// The answer of a command to the bytes of a text.
+fn follow<D: Device>(
+    alloc: Global,
+    command: Command,
+    bytes: &[u8],
+    devices: &mut Devices<D>,
+) -> Result<Answer, Memory>
+    requires { length bytes.now ≤ 16777216 }
+    ensures answer { IfOk result (λ a. Follows command bytes.now devices.old devices.new a.status a.text.items) }
+    ensures memory { IfErr result (λ _. StopsShort command devices.old devices.new) }
+{
+    match command {
+        Command::Analyse => {
+            let signatures = devices.signatures(alloc)?;
+            analyse(alloc, bytes, signatures.as_slice())
+        }
+        Command::Run { steps } => transcript_of(alloc, bytes, devices, steps),
+    }
+}
+
+// The answer of a command to the source, before it is written: of any words that ask for it.
+#[tactic(auto, using(crate::proofs::Reporting::is_line))]
+fn answer_of<S: Source, D: Device>(
+    alloc: Global,
+    command: Command,
+    source: &mut S,
+    devices: &mut Devices<D>,
+) -> Result<Answer, Memory>
+    ensures count { NeverFalls (S.faults source.old) (S.faults source.new) }
+    ensures cause { IfOk result (λ a. (words : List (String Global)) → AsksFor words (Some command) → HasCause (record { words = words; left = S.left source.old; left_after = S.left source.new; faults = S.faults source.old; faults_after = S.faults source.new; devices = devices.old; devices_after = devices.new }) a.status a.text.items) }
+    ensures memory { IfErr result (λ _. StopsShort command devices.old devices.new) }
+{
+    match read_all(alloc, source, MAX_BYTES) {
+        Ok(bytes) => {
+            let answer = follow(alloc, command, &bytes, devices)?;
+            Ok(answer)
+        }
+        Err(ReadFault::Failed) => refuse(alloc, Status::ReadFault, Refusal::ReadFault),
+        Err(ReadFault::TooLong) => refuse(alloc, Status::TooLong, Refusal::TooLong),
+        Err(ReadFault::Memory) => Err(Memory),
+    }
+}
+
+// The answer to the words and the source, before it is written.
+fn answer<S: Source, D: Device>(
+    alloc: Global,
+    words: &[String],
+    source: &mut S,
+    devices: &mut Devices<D>,
+) -> Result<Answer, Memory>
+    ensures count { NeverFalls (S.faults source.old) (S.faults source.new) }
+    ensures cause { IfOk result (λ a. HasCause (record { words = words.now; left = S.left source.old; left_after = S.left source.new; faults = S.faults source.old; faults_after = S.faults source.new; devices = devices.old; devices_after = devices.new }) a.status a.text.items) }
+    ensures memory { IfErr result (λ _. DevicesComeBack (record { words = words.now; left = S.left source.old; left_after = S.left source.new; faults = S.faults source.old; faults_after = S.faults source.new; devices = devices.old; devices_after = devices.new })) }
+{
+    match asked(words) {
+        Some(command) => answer_of(alloc, command, source, devices),
+        None => refuse(alloc, Status::Usage, Refusal::Usage),
+    }
+}
+
+// Writes a text whole, and finishes the sink.
+fn write_answer<K: Sink>(sink: &mut K, text: &[u8]) -> Result<(), Failed>
+    ensures written { OnOk result (Appends (K.written sink.old) (K.written sink.new) text.now) }
+    ensures finished { OnOk result (TurnsTo (K.finished sink.old) (K.finished sink.new) true) }
+    ensures front { OnErr result (AppendsFront (K.written sink.old) (K.written sink.new) text.now) }
+    ensures cause { StreamCause (K.faults sink.old) (K.faults sink.new) result }
+{
+    write_all(sink, text)?;
+    sink.finish()?;
+    Ok(())
+}
+
+/// The program: `words` are those after its name. Reads a text from the source, analyses or runs it, and
+/// writes the answer whole to the sink, which is finished last. The status says which answer it was.
+///
+/// A program finds a device under its name, as a function of the global object; only a run asks it, where the program calls it. The
+/// devices come back in their order; one that failed, which ends the run, is let go once the transcript is built.
+#[tactic(auto, using(crate::proofs::Reporting::answered))]
+pub fn tajs<S: Source, K: Sink, D: Device>(
+    alloc: Global,
+    words: &[String],
+    source: &mut S,
+    sink: &mut K,
+    devices: Devices<D>,
+) -> (Status, Devices<D>)
+    ensures source_count { NeverFalls (S.faults source.old) (S.faults source.new) }
+    ensures sink_count { NeverFalls (K.faults sink.old) (K.faults sink.new) }
+    ensures answered { IsAnswered (record { words = words.now; left = S.left source.old; left_after = S.left source.new; faults = S.faults source.old; faults_after = S.faults source.new; devices = devices; devices_after = result.1 }) (record { written = K.written sink.old; written_after = K.written sink.new; finished = K.finished sink.old; finished_after = K.finished sink.new; faults = K.faults sink.old; faults_after = K.faults sink.new }) result.0 }
+{
+    let mut devices = devices;
+    let status = match answer(alloc, words, source, &mut devices) {
+        Ok(answer) => match write_answer(sink, &answer.text) {
+            Ok(()) => answer.status,
+            Err(Failed) => Status::WriteFault,
+        },
+        Err(Memory) => Status::Memory,
+    };
+    (status, devices)
+}
