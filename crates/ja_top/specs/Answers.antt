@@ -30,7 +30,7 @@ use Rattle.ja_run.specs.declared.ended.CallRecord.{CallRecord}
 use Rattle.ja_run.specs.declared.ended.Ended.{Ended}
 use Rattle.ja_run.specs.declared.ended.RunEnd.{RunEnd}
 use Rattle.ja_run.specs.declared.ended.RunEnd.TheVariants as run_end
-use Rattle.ja_run.specs.Run.{IsRun}
+use Rattle.ja_run.specs.Run.{AreAnswered, IsRun}
 use Rattle.ja_run.specs.Transcript.{run_text}
 use Rattle.ja_rules.specs.declared.solver.Solved.{Solved}
 use Rattle.ja_rules.specs.Readings.{table_of, Fits}
@@ -169,9 +169,15 @@ Runs bytes steps before after Scope text = RefusesText bytes before after Scope 
 Runs bytes steps before after Limit text = RefusesText bytes before after Limit text
 Runs bytes steps before after status text = ⊥
 
--- the devices as a run without an answer leaves them: it may have asked some
-abbrev pub MayBeLeft : AllSeen → AllSeen → Type 0
-MayBeLeft before after = (calls : List CallRecord) × (end : RunEnd) × IsLeft before after calls end
+-- the devices as a run of a program leaves them that may make so many steps and was refused memory: they have answered the calls of its
+-- first steps, and one may have failed behind these
+abbrev pub MayBeLeft : Program → ℕ → AllSeen → AllSeen → Type 0
+MayBeLeft p steps before after = (calls : List CallRecord) × AreAnswered p steps calls × ((end : RunEnd) × IsLeft before after calls end)
+
+-- .. and as a run of a text does, which may not have begun
+abbrev pub MayBeLeftByText : List ℕ → ℕ → AllSeen → AllSeen → Type 0
+MayBeLeftByText bytes steps before after =
+    (after ≡ before) ⊎ ((p : Program) × IsProgramToRun bytes (signatures_of before) p × MayBeLeft p steps before after)
 
 -- ---- calls
 
@@ -243,9 +249,11 @@ abbrev pub IsWritten : Call → Written → Status → Type 0
 IsWritten c w status =
     (text : List ℕ) × HasCause c status text × Appends w.written w.written_after text × TurnsTo w.finished w.finished_after true
 
--- without memory only a run may have asked devices; each comes back
+-- without memory each device comes back, and only a run of the text that was read may have asked some
 abbrev pub DevicesComeBack : Call → Type 0
-DevicesComeBack c = DevicesStand c ⊎ ((steps : ℕ) × IsRunCommand c.words steps × MayBeLeft c.devices c.devices_after)
+DevicesComeBack c =
+    DevicesStand c
+    ⊎ ((steps : ℕ) × IsRunCommand c.words steps × ((bytes : List ℕ) × IsInput c bytes × MayBeLeftByText bytes steps c.devices c.devices_after))
 
 -- the status, its cause, and what the sink holds: after a fault of the sink the front of another answer's text, and without
 -- memory nothing
@@ -284,10 +292,10 @@ abbrev pub Follows : Command → List ℕ → AllSeen → AllSeen → Status →
 Follows command.Analyse bytes before after status text = Analyses bytes (signatures_of before) status text × (after ≡ before)
 Follows (command.Run steps) bytes before after status text = Runs bytes steps before after status text
 
--- the devices where memory was refused to a command
-abbrev pub StopsShort : Command → AllSeen → AllSeen → Type 0
-StopsShort command.Analyse before after = after ≡ before
-StopsShort (command.Run steps) before after = (after ≡ before) ⊎ MayBeLeft before after
+-- the devices where memory was refused to a command that follows a text
+abbrev pub StopsShort : Command → List ℕ → AllSeen → AllSeen → Type 0
+StopsShort command.Analyse bytes before after = after ≡ before
+StopsShort (command.Run steps) bytes before after = MayBeLeftByText bytes steps before after
 
 -- what the solver gives of a program
 pub record IsSolved (p : Program) (s : Solved) : Type 0 where

@@ -1,8 +1,8 @@
 //! The answer of `run` to bytes.
 
-ghost use Rattle.std.specs.Prelude.{◌≡◌, ◌≤◌, ◌⊎◌, IfOk, IfErr, length};
+ghost use Rattle.std.specs.Prelude.{◌≡◌, ◌≤◌, IfOk, IfErr, length};
 ghost use Rattle.ja_graph.specs.WellFormed.{IsWellFormed};
-ghost use Rattle.ja_top.specs.Answers.{MayBeLeft, Runs, Transcribes, signatures_of, status_of_end};
+ghost use Rattle.ja_top.specs.Answers.{MayBeLeft, MayBeLeftByText, Runs, Transcribes, signatures_of, status_of_end};
 
 use crate::refusing::{Answer, explain, refuse};
 use crate::status::Status;
@@ -38,7 +38,7 @@ fn transcribe<D: Device>(
     requires program { IsWellFormed program.now }
     requires devices { signatures_of devices.old ≡ program.now.signatures }
     ensures transcript { IfOk result (λ a. Transcribes program.now steps devices.old devices.new a.status a.text.items) }
-    ensures memory { IfErr result (λ _. MayBeLeft devices.old devices.new) }
+    ensures memory { IfErr result (λ _. MayBeLeft program.now steps devices.old devices.new) }
 {
     let ended = run(alloc, program, devices, steps)?;
     let text = run_text(alloc, program, &ended)?;
@@ -52,7 +52,6 @@ fn transcribe<D: Device>(
 }
 
 // Runs a text.
-#[tactic(auto, using(crate::proofs::Transcripts::runs))]
 fn transcribe_text<D: Device>(
     alloc: Global,
     text: &str,
@@ -61,14 +60,11 @@ fn transcribe_text<D: Device>(
 ) -> Result<Answer, Memory>
     requires { length text.now ≤ 16777216 }
     ensures transcript { IfOk result (λ a. Runs text.now steps devices.old devices.new a.status a.text.items) }
-    ensures memory { IfErr result (λ _. (devices.new ≡ devices.old) ⊎ MayBeLeft devices.old devices.new) }
+    ensures memory { IfErr result (λ _. MayBeLeftByText text.now steps devices.old devices.new) }
 {
     let signatures = devices.signatures(alloc)?;
     match load_to_run(alloc, text, signatures.as_slice()) {
-        Ok(program) => {
-            let answer = transcribe(alloc, &program, devices, steps)?;
-            Ok(answer)
-        }
+        Ok(program) => transcribe(alloc, &program, devices, steps),
         Err(fault) => explain(alloc, fault),
     }
 }
@@ -82,7 +78,7 @@ pub fn transcript_of<D: Device>(
 ) -> Result<Answer, Memory>
     requires { length bytes.now ≤ 16777216 }
     ensures transcript { IfOk result (λ a. Runs bytes.now steps devices.old devices.new a.status a.text.items) }
-    ensures memory { IfErr result (λ _. (devices.new ≡ devices.old) ⊎ MayBeLeft devices.old devices.new) }
+    ensures memory { IfErr result (λ _. MayBeLeftByText bytes.now steps devices.old devices.new) }
 {
     match str::from_utf8(bytes) {
         Ok(text) => transcribe_text(alloc, text, devices, steps),

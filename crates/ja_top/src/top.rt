@@ -25,7 +25,7 @@ fn follow<D: Device>(
 ) -> Result<Answer, Memory>
     requires { length bytes.now ≤ 16777216 }
     ensures answer { IfOk result (λ a. Follows command bytes.now devices.old devices.new a.status a.text.items) }
-    ensures memory { IfErr result (λ _. StopsShort command devices.old devices.new) }
+    ensures memory { IfErr result (λ _. StopsShort command bytes.now devices.old devices.new) }
 {
     match command {
         Command::Analyse => {
@@ -46,7 +46,7 @@ fn answer_of<S: Source, D: Device>(
 ) -> Result<Answer, Memory>
     ensures count { NeverFalls (S.faults source.old) (S.faults source.new) }
     ensures cause { IfOk result (λ a. (words : List (String Global)) → AsksFor words (Some command) → HasCause (record { words = words; left = S.left source.old; left_after = S.left source.new; faults = S.faults source.old; faults_after = S.faults source.new; devices = devices.old; devices_after = devices.new }) a.status a.text.items) }
-    ensures memory { IfErr result (λ _. StopsShort command devices.old devices.new) }
+    ensures memory { IfErr result (λ _. (words : List (String Global)) → AsksFor words (Some command) → DevicesComeBack (record { words = words; left = S.left source.old; left_after = S.left source.new; faults = S.faults source.old; faults_after = S.faults source.new; devices = devices.old; devices_after = devices.new })) }
 {
     match read_all(alloc, source, MAX_BYTES) {
         Ok(bytes) => {
