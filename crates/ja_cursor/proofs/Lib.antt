@@ -1,3 +1,4 @@
+pub mod Jumps
 pub mod Marks
 pub mod Sequences
 pub mod Turns

@@ -4,7 +4,6 @@ ghost use Rattle.std.specs.Prelude.{◌≡◌, ◌<◌, ◌≤◌, ◌∷◌, �
 ghost use Rattle.std.specs.Str.{bytes_eq};
 ghost use Rattle.std.specs.List.{list_any};
 ghost use Rattle.ja_grammar.specs.Contexts as spec;
-ghost use Rattle.ja_grammar.specs.ReadStatement as statements;
 ghost use Rattle.ja_cursor.specs.Marks as marks;
 ghost use Rattle.ja_grammar.specs.Contexts.{context_of, label_of};
 
@@ -164,7 +163,7 @@ pub fn has_loop(context: &Context<'_>, name: &[u16]) -> bool
 
 /// Whether a `break` may stand there (12.8).
 pub fn may_break(context: &Context<'_>) -> bool
-    ensures { result ≡ statements.may_break (context_of context.now) }
+    ensures { result ≡ spec.may_break (context_of context.now) }
 {
     context.in_breakable || !context.labels.is_empty()
 }

@@ -256,9 +256,9 @@ impl<'a> Cursor<'a> {
     }
 
     /// Takes a token that counts, where `depth` levels are left.
-    #[tactic(auto, unfolding(ja_grammar::specs::Input::enter))]
+    #[tactic(auto, unfolding(ja_grammar::specs::Input::enter, ja_grammar::specs::Input::strict))]
     pub fn enter(&mut self, depth: usize) -> Result<(), Stop>
-        ensures { Takes (spec.enter depth self.old) self.old result self.new }
+        ensures { Takes (spec.enter (spec.strict depth) self.old) self.old result self.new }
     {
         if depth == 0 {
             return Err(Stop::Refused(Refusal::Deep));
@@ -270,7 +270,7 @@ impl<'a> Cursor<'a> {
     /// Takes a token with this symbol, which counts, where `depth` levels are left.
     #[tactic(auto, unfolding(ja_grammar::specs::Input::opening))]
     pub fn opening(&mut self, depth: usize, symbol: Symbol) -> Result<(), Stop>
-        ensures { Takes (spec.opening depth symbol self.old) self.old result self.new }
+        ensures { Takes (spec.opening (spec.strict depth) symbol self.old) self.old result self.new }
     {
         if self.sees(symbol) {
             self.enter(depth)

@@ -3,8 +3,8 @@
 
 ghost use Rattle.std.specs.Prelude.{ℕ};
 ghost use Rattle.ja_syntax.specs.declared.tree.Statement.TheVariants as s;
-ghost use Rattle.ja_grammar.specs.Contexts.{context_of};
-ghost use Rattle.ja_grammar.specs.Input.{Follows, Done, behind, head};
+ghost use Rattle.ja_grammar.specs.Contexts.{context_of, may_break};
+ghost use Rattle.ja_grammar.specs.Input.{Follows, Done, behind, head, strict};
 ghost use Rattle.ja_grammar.specs.ReadExpression.{Below};
 ghost use Rattle.ja_grammar.specs.ReadStatement as spec;
 
@@ -33,7 +33,7 @@ pub fn continue_statement(
     cursor: &mut Cursor<'_>,
     context: &Context<'_>,
 ) -> Result<Held<Statement>, Stop>
-    ensures { (depth : ℕ) (below : Below) → Follows (spec.continue_by depth below (context_of context.now) context.now.in_loop cursor.old) result cursor.new }
+    ensures { (depth : ℕ) (below : Below) → Follows (spec.continue_by (strict depth) below (context_of context.now) context.now.in_loop cursor.old) result cursor.new }
 {
     if !context.in_loop {
         return Err(Stop::Refused(without_target(cursor, context)));
@@ -52,7 +52,7 @@ pub fn break_statement(
     cursor: &mut Cursor<'_>,
     context: &Context<'_>,
 ) -> Result<Held<Statement>, Stop>
-    ensures { (depth : ℕ) (below : Below) → Follows (spec.break_by depth below (context_of context.now) (spec.may_break (context_of context.now)) cursor.old) result cursor.new }
+    ensures { (depth : ℕ) (below : Below) → Follows (spec.break_by (strict depth) below (context_of context.now) (may_break (context_of context.now)) cursor.old) result cursor.new }
 {
     if !may_break(context) {
         return Err(Stop::Refused(without_target(cursor, context)));

@@ -4,15 +4,17 @@
 ghost use Rattle.std.specs.Prelude.{ℕ};
 ghost use Rattle.ja_syntax.specs.declared.tree.Expression.TheVariants as e;
 ghost use Rattle.ja_grammar.specs.Forms.{name_of};
-ghost use Rattle.ja_grammar.specs.Input.{Follows, Done, behind, head};
+ghost use Rattle.ja_grammar.specs.Input.{Follows, Done, behind, head, strict};
 ghost use Rattle.ja_grammar.specs.ReadExpression as spec;
 ghost use Rattle.ja_grammar.specs.ReadExpression.{Below};
 
 use crate::cursor::Cursor;
 use crate::held::Held;
 use crate::literal::literal_of;
+use crate::operator::postfix_of;
+use ja_base::Place;
 use ja_grammar::{Refusal, Stop};
-use ja_syntax::{Expression, Suffix, Symbol};
+use ja_syntax::{Expression, Suffix, Symbol, is_reference};
 use std::alloc::Global;
 
 /// Reads `this` (11.1.1).
@@ -36,7 +38,7 @@ pub fn name_expression(alloc: Global, cursor: &mut Cursor<'_>) -> Result<Held<Ex
 /// Reads a literal (7.8). Any other token is refused as `Unexpected`.
 #[tactic(auto, unfolding(ja_grammar::specs::ReadExpression::literal))]
 pub fn literal_expression(alloc: Global, cursor: &mut Cursor<'_>) -> Result<Held<Expression>, Stop>
-    ensures { (depth : ℕ) (below : Below) → Follows (spec.literal depth below cursor.old) result cursor.new }
+    ensures { (depth : ℕ) (below : Below) → Follows (spec.literal (strict depth) below cursor.old) result cursor.new }
 {
     let place = cursor.place();
     let Some(value) = literal_of(alloc, cursor)? else {
@@ -50,7 +52,7 @@ pub fn literal_expression(alloc: Global, cursor: &mut Cursor<'_>) -> Result<Held
 /// refused as `Unexpected`.
 #[tactic(auto, unfolding(ja_grammar::specs::ReadExpression::dotted))]
 pub fn dotted(alloc: Global, cursor: &mut Cursor<'_>) -> Result<Suffix<Expression>, Stop>
-    ensures { (depth : ℕ) (below : Below) → Follows (spec.dotted depth below cursor.old) result cursor.new }
+    ensures { (depth : ℕ) (below : Below) → Follows (spec.dotted (strict depth) below cursor.old) result cursor.new }
 {
     let place = cursor.place();
     cursor.take();
@@ -66,7 +68,7 @@ pub fn element_close(
     cursor: &mut Cursor<'_>,
     x: Held<Expression>,
 ) -> Result<Option<Expression>, Stop>
-    ensures { (depth : ℕ) (below : Below) → Follows (spec.element_close depth below x cursor.old) result cursor.new }
+    ensures { (depth : ℕ) (below : Below) → Follows (spec.element_close (strict depth) below x cursor.old) result cursor.new }
 {
     match cursor.symbol() {
         Symbol::Comma => {
@@ -75,5 +77,25 @@ pub fn element_close(
         }
         Symbol::CloseBracket => Ok(Some(x.into_inner())),
         _ => Err(Stop::Refused(Refusal::Unexpected)),
+    }
+}
+
+/// Ends the operand of the `++` or `--` at `place`, which is complete (11.4.4, 11.4.5). Where it is no
+/// reference, it is refused as `Operand` at `place`, and where a `++` or `--` stands behind it on its line
+/// as `Broken` there.
+#[tactic(auto, unfolding(ja_grammar::specs::ReadExpression::operand_close, ja_grammar::specs::Input::strict))]
+pub fn operand_close(
+    cursor: &Cursor<'_>,
+    x: Held<Expression>,
+    place: Place,
+) -> Result<Held<Expression>, Stop>
+    ensures { (depth : ℕ) (below : Below) → Follows (spec.operand_close (strict depth) below place x cursor.now) result cursor.now }
+{
+    if !is_reference(x.get()) {
+        return Err(Stop::Refused(Refusal::Operand(place)));
+    }
+    match postfix_of(cursor) {
+        Some(_) => Err(Stop::Refused(Refusal::Broken(place))),
+        None => Ok(x),
     }
 }

@@ -20,7 +20,9 @@ pub use context::{
 pub use cursor::Cursor;
 pub use held::Held;
 pub use jump::{break_statement, continue_statement, empty_statement};
-pub use leaf::{dotted, element_close, literal_expression, name_expression, this_expression};
+pub use leaf::{
+    dotted, element_close, literal_expression, name_expression, operand_close, this_expression,
+};
 pub use literal::property_name;
 pub use name::{declared, function_name, parameters};
 pub use operator::{

@@ -1,7 +1,8 @@
 //! Declared names (ES3 12.2, 13).
 
+ghost use Rattle.std.specs.Prelude.{ℕ};
 ghost use Rattle.ja_syntax.specs.declared.symbol.Symbol.TheVariants as k;
-ghost use Rattle.ja_grammar.specs.Input.{Follows, listed, separated};
+ghost use Rattle.ja_grammar.specs.Input.{Follows, listed, separated, strict};
 ghost use Rattle.ja_grammar.specs.ReadExpression as spec;
 ghost use Rattle.ja_grammar.specs.ReadStatement.{below};
 
@@ -13,9 +14,9 @@ use std::alloc::Global;
 
 /// Reads a name that is declared (12.2, 13). It is refused as `Arguments` where it is `arguments`, and
 /// as `Unexpected` where the next token is no name.
-#[tactic(auto, unfolding(ja_grammar::specs::ReadExpression::declared))]
+#[tactic(auto, unfolding(ja_grammar::specs::ReadExpression::declared, ja_grammar::specs::Input::strict))]
 pub fn declared(alloc: Global, cursor: &mut Cursor<'_>) -> Result<Name, Stop>
-    ensures { Follows (spec.declared cursor.old) result cursor.new }
+    ensures { (depth : ℕ) → Follows (spec.declared (strict depth) cursor.old) result cursor.new }
 {
     match cursor.symbol() {
         Symbol::Name => {
@@ -38,7 +39,7 @@ pub fn function_name(
     cursor: &mut Cursor<'_>,
     required: bool,
 ) -> Result<Option<Name>, Stop>
-    ensures { Follows (spec.function_name required cursor.old) result cursor.new }
+    ensures { (depth : ℕ) → Follows (spec.function_name (strict depth) required cursor.old) result cursor.new }
 {
     match cursor.symbol() {
         Symbol::Name => Ok(Some(declared(alloc, cursor)?)),
@@ -54,7 +55,7 @@ pub fn function_name(
 
 /// Reads declared names with commas between.
 fn names(alloc: Global, cursor: &mut Cursor<'_>) -> Result<Items<Name>, Stop>
-    ensures { Follows (separated spec.declared cursor.old) result cursor.new }
+    ensures { (depth : ℕ) → Follows (separated (spec.declared (strict depth)) cursor.old) result cursor.new }
 {
     let mut found = Items::new(alloc);
     let first = declared(alloc, cursor)?;
@@ -73,7 +74,7 @@ fn names(alloc: Global, cursor: &mut Cursor<'_>) -> Result<Items<Name>, Stop>
 /// Reads the parameters of a function and their `)`.
 #[tactic(auto, unfolding(ja_grammar::specs::Input::listed))]
 fn parameters_list(alloc: Global, cursor: &mut Cursor<'_>) -> Result<Items<Name>, Stop>
-    ensures { Follows (listed k.CloseParenthesis spec.declared cursor.old) result cursor.new }
+    ensures { (depth : ℕ) → Follows (listed k.CloseParenthesis (spec.declared (strict depth)) cursor.old) result cursor.new }
 {
     if cursor.sees(Symbol::CloseParenthesis) {
         cursor.take();
@@ -88,7 +89,7 @@ fn parameters_list(alloc: Global, cursor: &mut Cursor<'_>) -> Result<Items<Name>
 /// left.
 #[tactic(auto, unfolding(ja_grammar::specs::ReadExpression::parameters))]
 pub fn parameters(alloc: Global, cursor: &mut Cursor<'_>, depth: usize) -> Result<Items<Name>, Stop>
-    ensures { Follows (spec.parameters depth (below depth) cursor.old) result cursor.new }
+    ensures { Follows (spec.parameters (strict depth) (below strict depth) cursor.old) result cursor.new }
 {
     cursor.opening(depth, Symbol::OpenParenthesis)?;
     parameters_list(alloc, cursor)

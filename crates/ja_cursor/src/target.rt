@@ -1,9 +1,9 @@
 //! The labels behind jumps, and the `:` behind a label (ES3 12.7, 12.8, 12.12).
 
-ghost use Rattle.std.specs.Prelude.{◌≡◌, true};
+ghost use Rattle.std.specs.Prelude.{◌≡◌, ℕ, true};
 ghost use Rattle.ja_grammar.specs.Contexts.{context_of};
 ghost use Rattle.ja_grammar.specs.Contexts as contexts;
-ghost use Rattle.ja_grammar.specs.Input.{Follows, head, behind};
+ghost use Rattle.ja_grammar.specs.Input.{Follows, head, behind, strict};
 ghost use Rattle.ja_grammar.specs.ReadStatement as spec;
 ghost use Rattle.ja_grammar.specs.ReadStatement.{below};
 ghost use Rattle.ja_cursor.specs.Taking.{Takes};
@@ -18,6 +18,7 @@ use std::alloc::Global;
 
 /// Takes the label behind the jump at `place`, if it is `allowed`; one that is only `known` breaks
 /// a rule.
+#[tactic(auto, unfolding(ja_grammar::specs::Input::strict))]
 fn allowed_label(
     alloc: Global,
     cursor: &mut Cursor<'_>,
@@ -25,7 +26,7 @@ fn allowed_label(
     known: bool,
     place: Place,
 ) -> Result<Option<Name>, Stop>
-    ensures { Follows (spec.labelled_by place (head cursor.old) allowed known cursor.old) result cursor.new }
+    ensures { (depth : ℕ) → Follows (spec.labelled_by (strict depth) place (head cursor.old) allowed known cursor.old) result cursor.new }
 {
     if allowed {
         let name = cursor.name(alloc)?;
@@ -48,7 +49,7 @@ pub fn continue_target(
     context: &Context<'_>,
     place: Place,
 ) -> Result<Option<Name>, Stop>
-    ensures { Follows (spec.jump_target (contexts.has_loop (context_of context.now)) (contexts.has_label (context_of context.now)) true place cursor.old) result cursor.new }
+    ensures { (depth : ℕ) → Follows (spec.jump_target (strict depth) (contexts.has_loop (context_of context.now)) (contexts.has_label (context_of context.now)) true place cursor.old) result cursor.new }
 {
     if !is_label_behind(cursor) {
         return Ok(None);
@@ -60,8 +61,8 @@ pub fn continue_target(
 }
 
 /// Reads the label behind the `break` at `place`, if there is one on its line (12.8). One that is unknown
-/// is refused as `Unexpected`; where there is none, and nothing to break, `Broken` at `place` is the
-/// refusal.
+/// is refused as `Unexpected`; where there is none, and nothing to leave without one, `Alone` at `place`
+/// is the refusal.
 #[tactic(auto, unfolding(ja_grammar::specs::ReadStatement::jump_target))]
 pub fn break_target(
     alloc: Global,
@@ -69,13 +70,13 @@ pub fn break_target(
     context: &Context<'_>,
     place: Place,
 ) -> Result<Option<Name>, Stop>
-    ensures { Follows (spec.jump_target (contexts.has_label (context_of context.now)) (contexts.has_label (context_of context.now)) context.now.in_breakable place cursor.old) result cursor.new }
+    ensures { (depth : ℕ) → Follows (spec.jump_target (strict depth) (contexts.has_label (context_of context.now)) (contexts.has_label (context_of context.now)) context.now.in_breakable place cursor.old) result cursor.new }
 {
     if !is_label_behind(cursor) {
         return if context.in_breakable {
             Ok(None)
         } else {
-            Err(Stop::Refused(Refusal::Broken(place)))
+            Err(Stop::Refused(Refusal::Alone(place)))
         };
     }
     let known = has_label(context, cursor.word());
@@ -98,9 +99,9 @@ pub fn without_target(cursor: &Cursor<'_>, context: &Context<'_>) -> Refusal
 
 /// Takes the `:` behind the label at `place`, which counts. Where no level is left, that is refused as
 /// `DeepLabel` at `place`.
-#[tactic(auto, unfolding(ja_grammar::specs::ReadStatement::enter_label))]
+#[tactic(auto, unfolding(ja_grammar::specs::ReadStatement::enter_label, ja_grammar::specs::Input::strict))]
 fn enter_label(cursor: &mut Cursor<'_>, depth: usize, place: Place) -> Result<(), Stop>
-    ensures { Takes (spec.enter_label depth place cursor.old) cursor.old result cursor.new }
+    ensures { Takes (spec.enter_label (strict depth) place cursor.old) cursor.old result cursor.new }
 {
     if depth == 0 {
         return Err(Stop::Refused(Refusal::DeepLabel(place)));
@@ -113,7 +114,7 @@ fn enter_label(cursor: &mut Cursor<'_>, depth: usize, place: Place) -> Result<()
 /// already is refused as `Broken` at its place; where no level is left, it is `DeepLabel` there.
 #[tactic(auto, unfolding(ja_grammar::specs::ReadStatement::label))]
 pub fn label(cursor: &mut Cursor<'_>, depth: usize, context: &Context<'_>) -> Result<(), Stop>
-    ensures { Takes (spec.label depth (below depth) (context_of context.now) cursor.old) cursor.old result cursor.new }
+    ensures { Takes (spec.label (strict depth) (below strict depth) (context_of context.now) cursor.old) cursor.old result cursor.new }
 {
     let place = cursor.place();
     let word = cursor.word();

@@ -1,14 +1,19 @@
 -- What the laws of a rule take for granted of the parts that it reads one level below.
-use Rattle.std.proofs.Common.{◌≡◌}
+use Rattle.std.proofs.Common.{◌≡◌, false}
 use Rattle.ja_syntax.specs.declared.tree.Expression.{Expression}
 use Rattle.ja_syntax.specs.declared.tree.Statement.{Statement}
+use Rattle.ja_grammar.specs.declared.fault.Refusal.{Refusal}
 use Rattle.ja_grammar.specs.declared.part.ExpressionPart.{ExpressionPart}
 use Rattle.ja_grammar.specs.declared.part.StatementPart.{StatementPart}
 use Rattle.ja_grammar.specs.Contexts.{Context}
 use Rattle.ja_grammar.specs.ExpressionGrammar.{Nested}
-use Rattle.ja_grammar.specs.Input.{Tokens, Done}
+use Rattle.ja_grammar.specs.Input.{Tokens, Done, Rules}
 use Rattle.ja_grammar.specs.ReadExpression.{Below}
 use Rattle.ja_grammar.proofs.Shrinks.{Takes}
+
+-- what these rules don't ask, those don't ask
+abbrev pub Milder : Rules → Rules → Type 0
+Milder g g' = (why : Refusal) (i : Tokens) → g why i ≡ false → g' why i ≡ false
 
 -- a part takes a token
 pub record BelowTakes (b : Below) : Type 0 where

@@ -76,7 +76,7 @@ no_postfix_closes t h = go t.line_before
     go true = refl
     go false = no_update_closes (symbol t) h
 
--- ---- what is an operator or a literal is not the end
+-- ---- what is an operator or a literal is not the end, and what counts is no `:`
 
 none_some : {A : Type 0} {a : A} → None ≡ Some a → ⊥
 none_some h = cc h
@@ -89,13 +89,25 @@ pub assignment_more : (κ : Symbol) (o : Option BinaryOperator) → assignment_o
 unfolding assignment_operator
 assignment_more κ o h ends = none_some (sym (ap assignment_operator ends) ∙ h)
 
+pub assignment_no_colon : (κ : Symbol) (o : Option BinaryOperator) → assignment_operator κ ≡ Some o → κ ≢ k.Colon
+unfolding assignment_operator
+assignment_no_colon κ o h colon = none_some (sym (ap assignment_operator colon) ∙ h)
+
 pub unary_more : (κ : Symbol) (o : UnaryOperator) → unary_operator κ ≡ Some o → κ ≢ k.End
 unfolding unary_operator
 unary_more κ o h ends = none_some (sym (ap unary_operator ends) ∙ h)
 
+pub unary_no_colon : (κ : Symbol) (o : UnaryOperator) → unary_operator κ ≡ Some o → κ ≢ k.Colon
+unfolding unary_operator
+unary_no_colon κ o h colon = none_some (sym (ap unary_operator colon) ∙ h)
+
 pub prefix_more : (κ : Symbol) (o : UpdateOperator) → prefix_update κ ≡ Some o → κ ≢ k.End
 unfolding prefix_update
 prefix_more κ o h ends = none_some (sym (ap prefix_update ends) ∙ h)
+
+pub prefix_no_colon : (κ : Symbol) (o : UpdateOperator) → prefix_update κ ≡ Some o → κ ≢ k.Colon
+unfolding prefix_update
+prefix_no_colon κ o h colon = none_some (sym (ap prefix_update colon) ∙ h)
 
 pub postfix_more : (t : Token) (o : UpdateOperator) → postfix_of t ≡ Some o → symbol t ≢ k.End
 unfolding postfix_of postfix_update

@@ -13,14 +13,15 @@ use Rattle.ja_syntax.specs.declared.tree.Name.{Name}
 use Rattle.ja_syntax.specs.declared.tree.Statement.{Statement}
 use Rattle.ja_syntax.specs.Rules.{may_declare, may_declare_all, is_default}
 use Rattle.ja_syntax.specs.Jumps.{Around, within, within_switch, labelled, may_continue, may_break}
+use Rattle.ja_grammar.specs.declared.fault.Refusal.TheVariants as refusal
 use Rattle.ja_grammar.specs.declared.part.ExpressionPart.TheVariants as of_expression
 use Rattle.ja_grammar.specs.declared.part.StatementPart.TheVariants as part
 use Rattle.ja_grammar.specs.Contexts.{Context, switch_context, labelled_context, has_label, has_loop}
 use Rattle.ja_grammar.specs.ExpressionGrammar.{Nested, Assignment}
 use Rattle.ja_grammar.specs.Forms.{word, name_of, ends_clause}
-use Rattle.ja_grammar.specs.Input.{Tokens, next, head}
+use Rattle.ja_grammar.specs.Input.{Tokens, next, head, strict}
 use Rattle.ja_grammar.specs.Productions.{Rule, At}
-use Rattle.ja_grammar.specs.StatementGrammar.{Block, Bracketed, Variable, Target, Returned, Clause, Cases, Catch, Finally, Single, If, Do, While, For}
+use Rattle.ja_grammar.specs.StatementGrammar.{Block, Bracketed, Variable, Target, Untargeted, Returned, Clause, Cases, Catch, Finally, Single}
 use Rattle.ja_grammar.proofs.KeepsExpressions.{ExpressionKeeps, StatementKeeps, CaseKeepsRules}
 use Rattle.ja_grammar.proofs.KeepsStatements as make
 use Rattle.ja_grammar.proofs.KeepsStatements.{OptionKeeps, DeclarationKeeps}
@@ -29,6 +30,7 @@ use Rattle.ja_grammar.proofs.KeepsJumps.{WellIn, CaseWellIn}
 use Rattle.ja_grammar.proofs.KeepsContexts.{Matches, label_is, within_matches, loop_matches, switch_matches, labelled_matches}
 use Rattle.ja_grammar.proofs.KeepsParts.{PartKeeps, NestedKeeps, many_keep, separated_keep, all_weaker, all_pass}
 use Rattle.ja_grammar.proofs.KeepsExpressionGrammar.{declared_may, function_keeps, assignment_keeps, whole_keeps}
+use Rattle.ja_grammar.proofs.Strict.{strict_never}
 
 -- ---- statements in others
 
@@ -44,22 +46,32 @@ all_well c xs h a m = all_weaker (Inner c) (WellIn a) (λ x h. h.1 a m) xs h
 
 -- ---- jumps
 
-continue_may : (c : Context) (n : ℕ) (o : Bool) (a : Around) → Matches c n o a → c.in_loop ≡ true → (i : Tokens) (x : Option Name) (r : Tokens) → Target (has_loop c) true i x r → may_continue x a ≡ true
-continue_may c n o a m loop _ _ r (Target.labelled {t = t} is allowed) = m.loops (word t) allowed
-continue_may c n o a m loop _ _ r (Target.unlabelled alone is) = m.in_loop ∙ loop
+module _ (d : ℕ) (c : Context) (n : ℕ) (o : Bool) (a : Around) (m : Matches c n o a) (place : Place) where
+  continue_may : c.in_loop ≡ true → (i : Tokens) (x : Option Name) (r : Tokens) → Target (strict d) (has_loop c) (has_label c) true place i x r → may_continue x a ≡ true
+  continue_may loop _ _ r (Target.labelled {t = t} is allowed) = m.loops (word t) allowed
+  continue_may loop _ _ r (Target.unlabelled alone is) = m.in_loop ∙ loop
+  continue_may loop _ _ r (Target.known {t = t} is other around off) = absurd (strict_never d (refusal.Broken place) (t ∷ r) refl off)
+  continue_may loop _ _ r (Target.alone never is off) = absurd (strict_never d (refusal.Alone place) r refl off)
 
-break_may : (c : Context) (n : ℕ) (o : Bool) (a : Around) → Matches c n o a → (i : Tokens) (x : Option Name) (r : Tokens) → Target (has_label c) c.in_breakable i x r → may_break x a ≡ true
-break_may c n o a m _ _ r (Target.labelled {t = t} is allowed) = label_is c n o a m (word t) ∙ allowed
-break_may c n o a m _ _ r (Target.unlabelled alone is) = m.breakable ∙ alone
+  break_may : (i : Tokens) (x : Option Name) (r : Tokens) → Target (strict d) (has_label c) (has_label c) c.in_breakable place i x r → may_break x a ≡ true
+  break_may _ _ r (Target.labelled {t = t} is allowed) = label_is c n o a m (word t) ∙ allowed
+  break_may _ _ r (Target.unlabelled alone is) = m.breakable ∙ alone
+  break_may _ _ r (Target.known {t = t} is other around off) = absurd (strict_never d (refusal.Broken place) (t ∷ r) refl off)
+  break_may _ _ r (Target.alone never is off) = absurd (strict_never d (refusal.Alone place) r refl off)
+
+-- a jump where there is nothing to leave is not in the language
+untargeted_never : (d : ℕ) (c : Context) (i : Tokens) (x : Name) (r : Tokens) → Untargeted (strict d) c i x r → ⊥
+untargeted_never d c _ _ r (Untargeted.untargeted {t = t} {u = u} {i = i} is none off ends) = strict_never d (refusal.UnknownLabel u.place) (t ∷ u ∷ i) refl off
 
 -- ---- variables
 
 abbrev pub VariableKeeps : Declaration Expression → Type 0
 VariableKeeps v = DeclarationKeeps v × (may_declare v.name ≡ true)
 
-pub variable_keeps : (Value : Rule Expression) → ((i : Tokens) (x : Expression) (r : Tokens) → Value i x r → ExpressionKeeps x) → (i : Tokens) (v : Declaration Expression) (r : Tokens) → Variable Value i v r → VariableKeeps v
-variable_keeps Value each i _ r (Variable.alone {x = x} h at) = (tt, declared_may i x r h)
-variable_keeps Value each i _ r (Variable.initialised {t = t} {m = m} {x = x} {y = y} h is value) = (each m y r value, declared_may i x (t ∷ m) h)
+pub variable_keeps : (d : ℕ) (Value : Rule Expression) → ((i : Tokens) (x : Expression) (r : Tokens) → Value i x r → ExpressionKeeps x) → (i : Tokens) (v : Declaration Expression) (r : Tokens)
+    → Variable (strict d) Value i v r → VariableKeeps v
+variable_keeps d Value each i _ r (Variable.alone {x = x} h at) = (tt, declared_may d i x r h)
+variable_keeps d Value each i _ r (Variable.initialised {t = t} {m = m} {x = x} {y = y} h is value) = (each m y r value, declared_may d i x (t ∷ m) h)
 
 pub declarations_keep : (vs : List (Declaration Expression)) → AllByRecursion VariableKeeps vs → AllByRecursion DeclarationKeeps vs
 declarations_keep vs h = all_weaker VariableKeeps DeclarationKeeps (λ v h. h.0) vs h
@@ -90,13 +102,13 @@ module _ (d : ℕ) (n : Nested) (below : NestedKeeps n) where
   inner : (c : Context) (i : Tokens) (x : Statement) (r : Tokens) → n.statement c (part.Whole 0 false) i x r → Inner c x
   inner c i x r h = below.statement c (part.Whole 0 false) i x r h
 
-  block_keep : (c : Context) (i : Tokens) (xs : List Statement) (r : Tokens) → Block d n c i xs r → AllByRecursion (Inner c) xs
+  block_keep : (c : Context) (i : Tokens) (xs : List Statement) (r : Tokens) → Block (strict d) n c i xs r → AllByRecursion (Inner c) xs
   block_keep c _ xs r (Block.block {u = u} {i = i} is some many ends) = many_keep (n.statement c (part.Whole 0 false)) (Inner c) (inner c) (At k.CloseBrace) i xs (u ∷ r) many
 
-  pub bracketed_keeps : (i : Tokens) (x : Expression) (r : Tokens) → Bracketed d n i x r → ExpressionKeeps x
+  pub bracketed_keeps : (i : Tokens) (x : Expression) (r : Tokens) → Bracketed (strict d) n i x r → ExpressionKeeps x
   bracketed_keeps _ x r (Bracketed.bracketed {u = u} {i = i} is some h ends) = below.expression (of_expression.Whole false) i x (u ∷ r) h
 
-  returned_keeps : (i : Tokens) (x : Option Expression) (r : Tokens) → Returned d n i x r → OptionKeeps x
+  returned_keeps : (i : Tokens) (x : Option Expression) (r : Tokens) → Returned (strict d) n i x r → OptionKeeps x
   returned_keeps i None r (Returned.nothing ends) = tt
   returned_keeps i (Some x) r (Returned.value goes h) = whole_keeps d n below false i x r h
 
@@ -117,10 +129,10 @@ module _ (d : ℕ) (n : Nested) (below : NestedKeeps n) where
       let more = cases_keep c true l cs r rest in
       ((one_clause c None xs t.place tt (clause_keep c m xs l clause), more.0), one_default (roll-Case (record { test = None; body = xs; place = t.place })) cs (is_default_of (record { test = None; body = xs; place = t.place })) more.1)
 
-  catch_keeps : (c : Context) (i : Tokens) (h : CatchOf Statement) (r : Tokens) → Catch d n c i h r → AllByRecursion (Inner c) h.body × (may_declare h.parameter ≡ true)
-  catch_keeps c _ _ r (Catch.caught {v = v} {i = i} {m = m} {x = x} {xs = xs} is opens some name closes body) = (block_keep c m xs r body, declared_may i x (v ∷ m) name)
+  catch_keeps : (c : Context) (i : Tokens) (h : CatchOf Statement) (r : Tokens) → Catch (strict d) n c i h r → AllByRecursion (Inner c) h.body × (may_declare h.parameter ≡ true)
+  catch_keeps c _ _ r (Catch.caught {v = v} {i = i} {m = m} {x = x} {xs = xs} is opens some name closes body) = (block_keep c m xs r body, declared_may d i x (v ∷ m) name)
 
-  finally_keep : (c : Context) (i : Tokens) (xs : List Statement) (r : Tokens) → Finally d n c i xs r → AllByRecursion (Inner c) xs
+  finally_keep : (c : Context) (i : Tokens) (xs : List Statement) (r : Tokens) → Finally (strict d) n c i xs r → AllByRecursion (Inner c) xs
   finally_keep c _ xs r (Finally.finally {i = i} is body) = block_keep c i xs r body
 
   -- ---- each form
@@ -130,12 +142,12 @@ module _ (d : ℕ) (n : Nested) (below : NestedKeeps n) where
     abbrev Here : Statement → Type 0
     Here x = PartKeeps c (part.Whole labels outermost) x
 
-    pub single_keeps : (i : Tokens) (x : Statement) (r : Tokens) → Single d n c labels outermost i x r → Here x
+    pub single_keeps : (i : Tokens) (x : Statement) (r : Tokens) → Single (strict d) n c labels outermost i x r → Here x
     single_keeps i _ r (Single.block {xs = xs} h) =
         let all = block_keep c i xs r h in
         (make.block_keeps xs (head i).place (all_keep c xs all), λ a m. jumps.block_well xs (head i).place a (all_well c xs all (within a) (within_matches c labels outermost a m)))
     single_keeps _ _ r (Single.variables {t = t} {i = i} {m = l} {xs = xs} is h ends) =
-        let all = separated_keep (Variable (Assignment d n false)) VariableKeeps (variable_keeps (Assignment d n false) (assignment_keeps d n below false)) i xs l h in
+        let all = separated_keep (Variable (strict d) (Assignment (strict d) n false)) VariableKeeps (variable_keeps d (Assignment (strict d) n false) (assignment_keeps d n below false)) i xs l h in
         (make.variables_keeps xs t.place (declarations_keep xs all) (may_declare_them xs all), λ a m. jumps.variables_well xs t.place a)
     single_keeps _ _ r (Single.empty {t = t} is) = (make.empty_keeps t.place, λ a m. jumps.empty_well t.place a)
     single_keeps i _ r (Single.expression {m = l} {x = x} other plain h ends) = (make.expression_keeps x (head i).place (whole_keeps d n below false i x l h), λ a m. jumps.expression_well x (head i).place a)
@@ -152,9 +164,9 @@ module _ (d : ℕ) (n : Nested) (below : NestedKeeps n) where
         let g = below.statement c (part.For t.place labels) i x r h in
         (g.0, λ a m. g.1 a (loop_matches c labels outermost a m))
     single_keeps _ _ r (Single.continue {t = t} {i = i} {m = l} {x = x} is loop h ends) =
-        (make.continue_keeps x t.place, λ a m. jumps.continue_well x t.place a (continue_may c labels outermost a m loop i x l h))
-    single_keeps _ _ r (Single.break {t = t} {i = i} {m = l} {x = x} is h ends) =
-        (make.break_keeps x t.place, λ a m. jumps.break_well x t.place a (break_may c labels outermost a m i x l h))
+        (make.continue_keeps x t.place, λ a m. jumps.continue_well x t.place a (continue_may d c labels outermost a m t.place loop i x l h))
+    single_keeps _ _ r (Single.break {t = t} {i = i} {m = l} {x = x} is may h ends) =
+        (make.break_keeps x t.place, λ a m. jumps.break_well x t.place a (break_may d c labels outermost a m t.place i x l h))
     single_keeps _ _ r (Single.return {t = t} {i = i} {m = l} {x = x} is here h ends) =
         (make.return_keeps x t.place (returned_keeps i x l h), λ a m. jumps.return_well x t.place a (m.in_function ∙ here))
     single_keeps _ _ r (Single.labelled {t = t} {i = i} {x = x} is colon fresh some h) =
@@ -190,3 +202,6 @@ module _ (d : ℕ) (n : Nested) (below : NestedKeeps n) where
     single_keeps i _ r (Single.function {f = f} outer h) =
         let g = function_keeps d n below true i f r h in
         (make.function_keeps f g.0 g.1, λ a m. jumps.function_well f a (m.top outer))
+    single_keeps _ _ r (Single.relabelled {t = t} {u = u} {i = i} is colon around off some h) = absurd (strict_never d (refusal.Broken t.place) (u ∷ i) refl off)
+    single_keeps i _ r (Single.continue_untargeted {x = x} is none h) = absurd (untargeted_never d c i x r h)
+    single_keeps i _ r (Single.break_untargeted {x = x} is none h) = absurd (untargeted_never d c i x r h)

@@ -1,5 +1,5 @@
--- The labels of a context are names, so that they can be written again behind a `break`.
-use Rattle.std.proofs.Common.{◌≡◌, ◌≢◌, ℕ, zero, suc, Bool, true, false, not, ◌&&◌, ◌||◌, ◌==◌, List, [], ◌∷◌, length, Some, unwrap_or, if◌then◌else◌, refl, sym, ap, ◌∙◌}
+-- The labels of a context stand before it, so that they can be written again behind a `break`.
+use Rattle.std.proofs.Common.{◌≡◌, ◌≢◌, inr, ℕ, zero, suc, Bool, true, false, not, ◌&&◌, ◌||◌, ◌==◌, List, [], ◌∷◌, length, Some, unwrap_or, if◌then◌else◌, refl, sym, ap, ◌∙◌}
 use Rattle.std.proofs.lemmas.Slice.Eq.{bytes_eq-Decides}
 use Rattle.std.specs.List.{list_all, list_any}
 use Rattle.std.specs.Str.{bytes_eq}
@@ -10,12 +10,12 @@ use Rattle.ja_syntax.specs.declared.symbol.Symbol.{Symbol}
 use Rattle.ja_syntax.specs.declared.symbol.Symbol.TheVariants as k
 use Rattle.ja_syntax.specs.Lookups.{lookup}
 use Rattle.ja_syntax.specs.Symbols.{same_symbol, symbol_of, word_of, mark_symbol, punctuators}
-use Rattle.ja_grammar.specs.Contexts.{Label, Context, marked, loop_context, switch_context, labelled_context, has_label}
+use Rattle.ja_grammar.specs.Contexts.{Label, Context, marked, loop_context, switch_context, labelled_context, has_label, may_break}
 use Rattle.ja_grammar.specs.Forms.{word, is_name, is_label_behind}
-use Rattle.ja_grammar.specs.Input.{symbol}
-use Rattle.ja_grammar.specs.ReadStatement.{may_break}
-use Rattle.ja_grammar.proofs.Levels.{AreNames}
-use Rattle.ja_grammar.proofs.Outcomes.{same_symbol_is, same_symbol_true}
+use Rattle.ja_grammar.specs.Input.{Tokens, symbol}
+use Rattle.ja_grammar.specs.Language.{IsReal}
+use Rattle.ja_grammar.proofs.Levels.{AllNamed, AreNames}
+use Rattle.ja_grammar.proofs.Outcomes.{same_symbol_is}
 use Rattle.ja_grammar.proofs.SampleTokens.{token}
 
 -- two tests at once
@@ -26,10 +26,6 @@ both_first false b h = cc h
 both_second : (a b : Bool) → (a && b) ≡ true → b ≡ true
 both_second true b h = h
 both_second false b h = cc h
-
-both : (a b : Bool) → a ≡ true → b ≡ true → (a && b) ≡ true
-both true b h g = g
-both false b h g = cc h
 
 -- ---- a token whose symbol is a name is a word
 
@@ -52,12 +48,12 @@ mark_no_name text is = absurd (off (sym (ap not (same_symbol_is (mark_symbol tex
     off : false ≡ true → ⊥
     off e = cc e
 
-pub word_is_name : (t : Token) → symbol t ≡ k.Name → symbol_of (Word (word t)) ≡ k.Name
+word_is_kind : (t : Token) → symbol t ≡ k.Name → Word (word t) ≡ t.kind
 unfolding symbol_of word_of
-word_is_name t is = go t.kind is
+word_is_kind t is = go t.kind is
   where
-    go : (kind : TokenKind) → symbol_of kind ≡ k.Name → symbol_of (Word (word_of kind)) ≡ k.Name
-    go (Word text) h = h
+    go : (kind : TokenKind) → symbol_of kind ≡ k.Name → Word (word_of kind) ≡ kind
+    go (Word text) h = refl
     go (Number value) h = absurd (cc h)
     go (Text units) h = absurd (cc h)
     go (Mark text) h = absurd (mark_no_name text h)
@@ -66,33 +62,35 @@ word_is_name t is = go t.kind is
 
 -- ---- the contexts within one
 
-marked_names : (n : ℕ) (ls : List Label) → list_all (λ (l : Label). same_symbol (symbol_of (Word l.name)) k.Name) ls ≡ true
-    → list_all (λ (l : Label). same_symbol (symbol_of (Word l.name)) k.Name) (marked n ls) ≡ true
+marked_names : (U : Tokens) (n : ℕ) (ls : List Label) → AllNamed U ls → AllNamed U (marked n ls)
 unfolding marked
-marked_names zero ls h = h
-marked_names (suc n) [] h = h
-marked_names (suc n) (l ∷ ls) h = both (same_symbol (symbol_of (Word l.name)) k.Name) _ (both_first (same_symbol (symbol_of (Word l.name)) k.Name) _ h)
-    (marked_names n ls (both_second (same_symbol (symbol_of (Word l.name)) k.Name) _ h))
+marked_names U zero ls h = h
+marked_names U (suc n) [] h = h
+marked_names U (suc n) (l ∷ ls) h = (h.0, marked_names U n ls h.1)
 
-pub loop_names : (c : Context) (n : ℕ) → AreNames c → AreNames (loop_context c n)
-loop_names c n h = marked_names n c.labels h
+pub loop_names : {U : Tokens} (c : Context) (n : ℕ) → AreNames U c → AreNames U (loop_context c n)
+loop_names {U} c n h = record { all = marked_names U n c.labels h.all }
 
-pub switch_names : (c : Context) → AreNames c → AreNames (switch_context c)
-switch_names c h = h
+pub switch_names : {U : Tokens} (c : Context) → AreNames U c → AreNames U (switch_context c)
+switch_names c h = record { all = h.all }
 
-pub labelled_names : (c : Context) (t : Token) → symbol t ≡ k.Name → AreNames c → AreNames (labelled_context c (word t))
-labelled_names c t is h = both (same_symbol (symbol_of (Word (word t))) k.Name) _ (same_symbol_is _ k.Name (word_is_name t is)) h
+-- behind one more token
+names_more : (U : Tokens) (t : Token) (ls : List Label) → AllNamed U ls → AllNamed (t ∷ U) ls
+names_more U t [] h = tt
+names_more U t (l ∷ ls) h = ((t ∷ h.0.0, h.0.1, h.0.2, ap (λ x. t ∷ x) h.0.3, h.0.4, h.0.5), names_more U t ls h.1)
+
+-- which may be a label
+pub labelled_names : (U : Tokens) (c : Context) (t : Token) → symbol t ≡ k.Name → AreNames U c → AreNames (t ∷ U) (labelled_context c (word t))
+labelled_names U c t is h = record { all = (([], t, U, refl, is, word_is_kind t is), names_more U t c.labels h.all) }
 
 -- ---- a label where a `break` needs one
 
-pub break_label : (c : Context) → AreNames c → may_break c ≡ true → c.in_breakable ≡ false → (u : Token) × (is_label_behind u ≡ true) × (has_label c (word u) ≡ true)
+pub break_label : (U : Tokens) (c : Context) → AreNames U c → may_break c ≡ true → c.in_breakable ≡ false → (u : Token) × IsReal U u × (is_label_behind u ≡ true) × (has_label c (word u) ≡ true)
 unfolding has_label is_label_behind word_of
-break_label c names may off = go c.labels names (sym (ap (λ b. b || not (length c.labels == 0)) off) ∙ may)
+break_label U c names may off = go c.labels names.all (sym (ap (λ b. b || not (length c.labels == 0)) off) ∙ may)
   where
-    go : (ls : List Label) → list_all (λ (l : Label). same_symbol (symbol_of (Word l.name)) k.Name) ls ≡ true → not (length ls == 0) ≡ true
-        → (u : Token) × (is_label_behind u ≡ true) × (list_any (λ l. bytes_eq l.name (word u)) ls ≡ true)
+    go : (ls : List Label) → AllNamed U ls → not (length ls == 0) ≡ true
+        → (u : Token) × IsReal U u × (is_label_behind u ≡ true) × (list_any (λ l. bytes_eq l.name (word u)) ls ≡ true)
     go [] h some = absurd (cc some)
-    go (l ∷ ls) h some = (token (Word l.name), labels (both_first (same_symbol (symbol_of (Word l.name)) k.Name) _ h), ap (λ b. b || list_any (λ m. bytes_eq m.name l.name) ls) ((bytes_eq-Decides l.name l.name).1 refl))
-      where
-        labels : same_symbol (symbol_of (Word l.name)) k.Name ≡ true → is_label_behind (token (Word l.name)) ≡ true
-        labels e = ap (λ κ. is_name κ && true) (same_symbol_true (symbol_of (Word l.name)) k.Name e)
+    go (l ∷ ls) h some = let is = ap symbol_of h.0.5 ∙ h.0.4 in
+        (token (Word l.name) l.name, inr h.0, ap (λ κ. is_name κ && true) is, ap (λ b. b || list_any (λ m. bytes_eq m.name l.name) ls) ((bytes_eq-Decides l.name l.name).1 refl))

@@ -1,7 +1,6 @@
 -- What the place laws of a rule take for granted: of the refusals, and of the parts that are read one level below, with fewer levels
 -- (b) and with more (c).
-use Rattle.std.proofs.Common.{◌≡◌, ◌⊎◌, ℕ, Bool, true, false, ◌&&◌, is_none, is_some, [], ◌∷◌, ◌++◌}
-use Rattle.std.specs.List.{list_all}
+use Rattle.std.proofs.Common.{◌≡◌, ◌≢◌, refl, ℕ, Bool, true, false, List, [], ◌∷◌, ◌++◌}
 use Rattle.ja_base.specs.declared.ids.Place.{Place}
 use Rattle.ja_lex.specs.declared.token.Token.{Token}
 use Rattle.ja_lex.specs.declared.token.TokenKind.TheVariants.{Word}
@@ -9,18 +8,17 @@ use Rattle.ja_syntax.specs.declared.symbol.Symbol.{Symbol}
 use Rattle.ja_syntax.specs.declared.symbol.Symbol.TheVariants as k
 use Rattle.ja_syntax.specs.declared.tree.Expression.{Expression}
 use Rattle.ja_syntax.specs.declared.tree.Statement.{Statement}
-use Rattle.ja_syntax.specs.References.{is_reference}
-use Rattle.ja_syntax.specs.Symbols.{is_arguments, same_symbol, symbol_of}
-use Rattle.ja_grammar.specs.declared.fault.Refusal.TheVariants.{Unexpected, RegExp, Arguments, Deep, DeepLabel, Broken, UnknownLabel}
+use Rattle.ja_grammar.specs.declared.fault.Refusal.{Refusal}
+use Rattle.ja_grammar.specs.declared.fault.Refusal.TheVariants.{Unexpected, RegExp, Arguments, Deep, DeepLabel, Broken, Operand, Alone, UnknownLabel}
 use Rattle.ja_grammar.specs.declared.part.ExpressionPart.{ExpressionPart}
 use Rattle.ja_grammar.specs.declared.part.ExpressionPart.TheVariants as part
 use Rattle.ja_grammar.specs.declared.part.StatementPart.{StatementPart}
 use Rattle.ja_grammar.specs.Contexts.{Context, Label}
-use Rattle.ja_grammar.specs.Forms.{is_prefix, postfix_of, is_label_behind}
-use Rattle.ja_grammar.specs.Input.{Tokens, symbol, next, head, behind, Done}
-use Rattle.ja_grammar.specs.Operators.{prefix_update}
-use Rattle.ja_grammar.specs.ReadExpression.{Below, left_hand}
-use Rattle.ja_grammar.proofs.Good.{Reason, Follow, Closed, GoodAt, Any}
+use Rattle.ja_grammar.specs.Forms.{begins_suffix}
+use Rattle.ja_grammar.specs.Input.{Tokens, symbol, next, head, Done}
+use Rattle.ja_grammar.specs.Language.{AreReal}
+use Rattle.ja_grammar.specs.ReadExpression.{Below}
+use Rattle.ja_grammar.proofs.Good.{Reason, Follow, Closed, elsewhere, GoodAt, Any}
 
 -- ---- what surely ends an expression, and a statement
 
@@ -45,45 +43,43 @@ ends_block _ = false
 abbrev pub EndsStatement : Follow
 EndsStatement r = ends_block (next r) ≡ true
 
--- ---- why a refusal is right
+-- ---- what is known of a refusal
 
--- `++` or `--`
-abbrev pub IsUpdate : Token → Type 0
-IsUpdate t = is_some (prefix_update (symbol t)) ≡ true
+-- refusals of which nothing is to be known
+abbrev pub is_free : Refusal → Bool
+is_free Unexpected = true
+is_free RegExp = true
+is_free Arguments = true
+is_free (Broken place) = true
+is_free (UnknownLabel place) = true
+is_free _ = false
 
--- the reason, once the operator at the place stands before what was read
-abbrev pub Owed : Reason → Place → Reason
-Owed J place why w r = (t : Token) → t.place ≡ place → IsUpdate t → J why (t ∷ w) r
-
--- the reasons of each refusal, in a rule with so many levels left
-pub record Reasons (J : Reason) (d : ℕ) (b : Below) : Type 0 where
+pub record Reasons {O : Refusal} (J : Reason O) : Type 0 where
   pub closed : Closed J
-  pub unexpected : (r : Tokens) → J Unexpected [] r
-  pub regexp : (r : Tokens) → next r ≡ k.Divide → J RegExp [] r
-  pub regexp_assign : (r : Tokens) → next r ≡ k.DivideAssign → J RegExp [] r
-  pub arguments : (r : Tokens) → is_arguments (head r).kind ≡ true → J Arguments [] r
-  pub deep : (r : Tokens) → J Deep [] r
-  -- the operand of a `++` begins with a prefix operator
-  pub prefix : (t : Token) (r : Tokens) → IsUpdate t → is_prefix (next r) ≡ true → J (Broken t.place) (t ∷ []) r
-  -- the operand of a `++` is complete, and no reference
-  pub operand : (t : Token) (w r : Tokens) (x : Expression) → IsUpdate t → left_hand d b (w ++ r) ≡ Done x r
-      → (is_reference x && is_none (postfix_of (head r))) ≡ false → J (Broken t.place) (t ∷ w) r
-  -- a label inside itself, and one that stands too deep
-  pub label : (t : Token) (r : Tokens) → symbol t ≡ k.Name → next r ≡ k.Colon → J (Broken t.place) (t ∷ []) r
-  pub deep_label : (t : Token) (r : Tokens) → symbol t ≡ k.Name → next r ≡ k.Colon → J (DeepLabel t.place) (t ∷ []) r
-  -- a `continue` with a label that is no loop's, and a `break` without a label and without a target
-  pub continue : (t : Token) (r : Tokens) → symbol t ≡ k.Continue → is_label_behind (head r) ≡ true → J (Broken t.place) (t ∷ []) r
-  pub break : (t : Token) (r : Tokens) → symbol t ≡ k.Break → is_label_behind (head r) ≡ false → J (Broken t.place) (t ∷ []) r
-  -- the word of a jump, and a label behind it
-  pub unknown : (r : Tokens) → (next r ≡ k.Continue) ⊎ (next r ≡ k.Break) → is_label_behind (head (behind r)) ≡ true → J (UnknownLabel (head (behind r)).place) [] r
+  pub free : (why : Refusal) (w r : Tokens) → is_free why ≡ true → J.right why w r
+  -- what is too deep is a token and no `:`, or the `:` behind a label
+  pub deep : (r : Tokens) → next r ≢ k.End → next r ≢ k.Colon → J.right Deep [] r
+  pub deep_label : (t : Token) (r : Tokens) → next r ≡ k.Colon → J.right (DeepLabel t.place) (t ∷ []) r
+  -- an operand stands behind its operator, and ends there; and no label stands behind a `break`
+  pub operand : (place : Place) (t u : Token) (w r : Tokens) → elsewhere (Operand place) (head r) ≡ true → J.right (Operand place) (t ∷ u ∷ w) r
+  pub alone : (place : Place) (t : Token) (r : Tokens) → symbol t ≡ k.Break → elsewhere (Alone place) (head r) ≡ true → J.right (Alone place) (t ∷ []) r
+  -- so neither is refused behind a name alone
+  pub named : (why : Refusal) (t u : Token) (r : Tokens) → symbol t ≡ k.Name → J.right why (t ∷ []) r → elsewhere why u ≡ true → ⊥
+
+-- the reason, once a token stands before what was read
+abbrev pub owed_reason : {O : Refusal} → Reason O → Reason O
+owed_reason J = record {
+  right = λ why w r. ((t : Token) → J.right why (t ∷ w) r) × ((u : Token) → elsewhere why u ≡ true → w ≢ []);
+  taken = λ why u r h on. h.1 u on refl;
+}
 
 -- ---- the parts one level below
 
-abbrev pub reason_of : Reason → ExpressionPart → Reason
+abbrev pub reason_of : {O : Refusal} → Reason O → ExpressionPart → Reason O
 reason_of J (part.Whole no_in) = J
 reason_of J (part.Assignment no_in) = J
 reason_of J part.Unary = J
-reason_of J (part.Updated place) = Owed J place
+reason_of J (part.Updated place) = owed_reason J
 reason_of J (part.Created place) = J
 
 -- what may follow a part: behind `new` with its arguments, anything
@@ -94,15 +90,28 @@ follow_of part.Unary = EndsExpression
 follow_of (part.Updated place) = EndsExpression
 follow_of (part.Created place) = Any
 
--- the labels of a context are names, so that a `break` can be completed
-abbrev pub AreNames : Context → Type 0
-AreNames x = list_all (λ (l : Label). same_symbol (symbol_of (Word l.name)) k.Name) x.labels ≡ true
+-- a name among these tokens is spelled so
+abbrev pub IsNamed : Tokens → List ℕ → Type 0
+IsNamed U text = (v : Tokens) × (u : Token) × (w : Tokens) × (U ≡ v ++ u ∷ w) × (symbol u ≡ k.Name) × (Word text ≡ u.kind)
 
-pub record BelowGood (J : Reason) (b c : Below) : Type 0 where
-  pub expression : (p : ExpressionPart) (i : Tokens) → GoodAt (reason_of J p) (b.expression p) (c.expression p) (follow_of p) Any i
-  pub statement : (x : Context) → AreNames x → (p : StatementPart) (i : Tokens) → GoodAt J (b.statement x p) (c.statement x p) EndsStatement Any i
+abbrev pub AllNamed : Tokens → List Label → Type 0
+AllNamed U [] = Unit {0}
+AllNamed U (l ∷ ls) = IsNamed U l.name × AllNamed U ls
 
--- tokens that are read as the part
+-- the labels of a context stand before it, so that a `break` can be completed
+pub record AreNames (U : Tokens) (x : Context) : Type 0 where
+  pub all : AllNamed U x.labels
+
+pub record BelowGood {O : Refusal} (J : Reason O) (b c : Below) : Type 0 where
+  pub expression : (U : Tokens) (p : ExpressionPart) (i : Tokens) → GoodAt U (reason_of J p) (b.expression p) (c.expression p) (follow_of p) Any i
+  pub statement : (U : Tokens) (x : Context) → AreNames U x → (p : StatementPart) (i : Tokens) → GoodAt U J (b.statement x p) (c.statement x p) EndsStatement Any i
+
+-- tokens, real behind any, that are read as the part
 pub record BelowSamples (c : Below) : Type 0 where
-  pub expression : (p : ExpressionPart) → (w : Tokens) × (v : Expression) × ((tail : Tokens) → follow_of p tail → c.expression p (w ++ tail) ≡ Done v tail)
-  pub statement : (x : Context) (p : StatementPart) → (w : Tokens) × (v : Statement) × ((tail : Tokens) → EndsStatement tail → c.statement x p (w ++ tail) ≡ Done v tail)
+  pub expression : (p : ExpressionPart) → (w : Tokens) × (v : Expression) × AreReal [] w × ((tail : Tokens) → follow_of p tail → c.expression p (w ++ tail) ≡ Done v tail)
+  pub statement : (x : Context) (p : StatementPart) → (w : Tokens) × (v : Statement) × AreReal [] w × ((tail : Tokens) → EndsStatement tail → c.statement x p (w ++ tail) ≡ Done v tail)
+
+-- What is read behind a `new` doesn't depend on what follows, as long as that is no member or call.
+pub record Ahead (b : Below) : Type 0 where
+  pub created : (place : Place) (w m x : Tokens) (v : Expression) → begins_suffix (next m) ≡ false → begins_suffix (next x) ≡ false
+      → b.expression (part.Created place) (w ++ m) ≡ Done v m → b.expression (part.Created place) (w ++ x) ≡ Done v x

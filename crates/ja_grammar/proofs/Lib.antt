@@ -4,6 +4,7 @@ pub mod BlockGood
 pub mod ChainGood
 pub mod Closing
 pub mod Ends
+pub mod Evaluating
 pub mod Explaining
 pub mod ExpressionComplete
 pub mod ExpressionGood
@@ -22,7 +23,9 @@ pub mod KeepsPrograms
 pub mod KeepsStatementGrammar
 pub mod KeepsStatements
 pub mod Knot
+pub mod Known
 pub mod LabelNames
+pub mod LeftHandAhead
 pub mod Levels
 pub mod ListLaws
 pub mod Lists
@@ -30,7 +33,14 @@ pub mod LiteralGood
 pub mod Opening
 pub mod OperatorGood
 pub mod Outcomes
+pub mod Readings
+pub mod Real
+pub mod Refines
+pub mod RefinesExpressions
+pub mod RefinesKnot
+pub mod RefinesStatements
 pub mod Roomier
+pub mod Rows
 pub mod SampleTokens
 pub mod Shrinks
 pub mod SingleGood
@@ -41,9 +51,12 @@ pub mod StatementSamples
 pub mod StatementSound
 pub mod StatementTakes
 pub mod Steps
+pub mod Strict
 pub mod Taken
 pub mod Theorem
 pub mod TryGood
 pub mod Turns
 pub mod Until
 pub mod Walks
+pub mod WithinExpressions
+pub mod WithinStatements

@@ -5,7 +5,9 @@ use Rattle.ja_syntax.specs.declared.symbol.Symbol.{Symbol}
 use Rattle.ja_syntax.specs.declared.symbol.Symbol.TheVariants.{Comma, End}
 use Rattle.ja_syntax.specs.Symbols.{same_symbol}
 use Rattle.ja_grammar.specs.declared.fault.Refusal.TheVariants.{Unexpected}
+use Rattle.ja_grammar.specs.declared.fault.Refusal.{Refusal}
 use Rattle.ja_grammar.specs.Input.{Tokens, head, next, behind, symbol, Done, Parser, ◌>>◌, pure, look, expect, many, after_comma, separated, listed_by, listed}
+use Rattle.ja_grammar.specs.Language.{IsReal}
 use Rattle.ja_grammar.specs.Productions.{Rule, Is, NotAt, Led, Separated, Listed}
 use Rattle.ja_grammar.proofs.Outcomes.{end_is, comma_not_end, none_not_some, some_value, cons_of, done_value, done_rest, same_symbol_true, same_symbol_false, same_symbol_is, same_symbol_other, expect_done, expect_inverse, bind_done, bind_inverse, same_done}
 use Rattle.ja_grammar.proofs.Shrinks.{ShrinksAt, TakesAt, Shrinks, Takes, takes_shrinks, pure_shrinks, take_takes, expect_takes, bind_shrinks, bind_takes, bind_takes_second, look_shrinks, look_takes}
@@ -72,75 +74,76 @@ listed_takes {A} close item more shrinks i = look_takes (λ t. listed_by close i
 -- ---- the place
 
 -- a turn of a list with commas
-comma_good : {A : Type 0} {F : Follow} {W : A → Type 0} {J : Reason} (item next_item : Parser A) → Closed J → ((i : Tokens) → GoodAt J item next_item F W i) → Sample next_item Any F W
-    → (found : List A) (i : Tokens) → GoodAt J (comma_turn item found) (comma_turn next_item found) F (OfSome Any) i
-comma_good {A} {F} {W} {J} item next_item closed good sample found i =
+comma_good : {U : Tokens} {A : Type 0} {F : Follow} {W : A → Type 0} {O : Refusal} {J : Reason O} (item next_item : Parser A) → Closed J → ((i : Tokens) → GoodAt U J item next_item F W i) → Sample U next_item Any F W
+    → (found : List A) (i : Tokens) → GoodAt U J (comma_turn item found) (comma_turn next_item found) F (OfSome Any) i
+comma_good {U} {A} {F} {W} {O} {J} item next_item closed good sample found i =
     look_good (λ t. after_comma item found (same_symbol (symbol t) Comma)) (λ t. after_comma next_item found (same_symbol (symbol t) Comma)) i (go (same_symbol (next i) Comma) refl)
   where
     go : (b : Bool) → same_symbol (next i) Comma ≡ b
-        → GoodAt J (after_comma item found (same_symbol (next i) Comma)) (after_comma next_item found (same_symbol (next i) Comma)) F (OfSome Any) i
-    go true e = subst (λ b. GoodAt J (after_comma item found b) (after_comma next_item found b) F (OfSome Any) i) (sym e)
+        → GoodAt U J (after_comma item found (same_symbol (next i) Comma)) (after_comma next_item found (same_symbol (next i) Comma)) F (OfSome Any) i
+    go true e = subst (λ b. GoodAt U J (after_comma item found b) (after_comma next_item found b) F (OfSome Any) i) (sym e)
         (bind_good i closed (take_good J Any Any i (comma_more i e) tt)
         (λ t r _. bind_good r closed (good r) (λ x m _. pure_good J F (OfSome Any) (Some (found ++ x ∷ [])) m) (λ x v. pure_sample (Some (found ++ x ∷ [])) tt))
         (λ t v. bind_sample sample (λ x w. pure_sample (Some (found ++ x ∷ [])) tt)))
-    go false e = subst (λ b. GoodAt J (after_comma item found b) (after_comma next_item found b) F (OfSome Any) i) (sym e) (pure_good J F (OfSome Any) None i)
+    go false e = subst (λ b. GoodAt U J (after_comma item found b) (after_comma next_item found b) F (OfSome Any) i) (sym e) (pure_good J F (OfSome Any) None i)
 
 -- Items with commas between: F may follow an item, and G the list.
-pub separated_good : {A : Type 0} {F G : Follow} {W : A → Type 0} {J : Reason} (item next_item : Parser A) → Closed J → Shrinks item → Shrinks next_item
-    → ((i : Tokens) → GoodAt J item next_item F W i)
-    → Sample next_item Any F W
+pub separated_good : {U : Tokens} {A : Type 0} {F G : Follow} {W : A → Type 0} {O : Refusal} {J : Reason O} (item next_item : Parser A) → Closed J → Shrinks item → Shrinks next_item
+    → ((i : Tokens) → GoodAt U J item next_item F W i)
+    → Sample U next_item Any F W
     → ((tail : Tokens) → G tail → F tail) → ((tail : Tokens) → G tail → NotAt Comma tail)
-    → (i : Tokens) → GoodAt J (separated item) (separated next_item) G Any i
+    → (i : Tokens) → GoodAt U J (separated item) (separated next_item) G Any i
 unfolding separated
-separated_good {A} {F} {G} {W} {J} item next_item closed shrinks shrinks' good sample follows other i =
+separated_good {U} {A} {F} {G} {W} {O} {J} item next_item closed shrinks shrinks' good sample follows other i =
     bind_good i closed (good i)
-    (λ x r _. many_good_with {J = λ _. J} (comma_turn item) (comma_turn next_item) (comma_turns item shrinks) (comma_turns next_item shrinks') (comma_good item next_item closed good sample)
-    rest (λ a b why w v r e h. closed why w v r h) (x ∷ []) r)
+    (λ x r _. many_good_with (comma_turn item) (comma_turn next_item) closed (comma_turns item shrinks) (comma_turns next_item shrinks') (comma_good item next_item closed good sample)
+    rest (x ∷ []) r)
     (λ x v. rest (x ∷ []) tt)
   where
-    rest : (xs : List A) → Unit {0} → Sample (many (comma_turn next_item) xs) F G Any
+    rest : (xs : List A) → Unit {0} → Sample U (many (comma_turn next_item) xs) F G Any
     rest xs v = end_sample xs tt follows (λ tail h. many_end (comma_turn next_item) xs tail (no_comma next_item xs tail (other tail h)))
 
 -- Any number of items and a closing token, as t: F may follow an item, and anything may follow the list.
-pub listed_good : {A : Type 0} {F G : Follow} {W : A → Type 0} {J : Reason} (close : Symbol) (item next_item : Parser A) → close ≢ End → close ≢ Comma → Closed J → Shrinks item → Shrinks next_item
-    → ((i : Tokens) → GoodAt J item next_item F W i)
-    → Sample next_item Any F W
+pub listed_good : {U : Tokens} {A : Type 0} {F G : Follow} {W : A → Type 0} {O : Refusal} {J : Reason O} (close : Symbol) (item next_item : Parser A) → close ≢ End → close ≢ Comma → Closed J → Shrinks item → Shrinks next_item
+    → ((i : Tokens) → GoodAt U J item next_item F W i)
+    → Sample U next_item Any F W
     → ((tail : Tokens) → next tail ≡ close → F tail)
-    → (t : Token) → Is close t
-    → ((r : Tokens) → NotAt close r → J Unexpected [] r)
-    → (i : Tokens) → GoodAt J (listed close item) (listed close next_item) G Any i
+    → (t : Token) → Is close t → IsReal U t
+    → ((r : Tokens) → NotAt close r → J.right Unexpected [] r)
+    → (i : Tokens) → GoodAt U J (listed close item) (listed close next_item) G Any i
 unfolding listed
-listed_good {A} {F} {G} {W} {J} close item next_item more other closed shrinks shrinks' good sample follows t is unexpected i =
+listed_good {U} {A} {F} {G} {W} {O} {J} close item next_item more other closed shrinks shrinks' good sample follows t is real unexpected i =
     look_good (λ t. listed_by close item (same_symbol (symbol t) close)) (λ t. listed_by close next_item (same_symbol (symbol t) close)) i (go (same_symbol (next i) close) refl)
   where
     Closes : Tokens → Type 0
     Closes tail = next tail ≡ close
 
     go : (b : Bool) → same_symbol (next i) close ≡ b
-        → GoodAt J (listed_by close item (same_symbol (next i) close)) (listed_by close next_item (same_symbol (next i) close)) G Any i
-    go true e = subst (λ b. GoodAt J (listed_by close item b) (listed_by close next_item b) G Any i) (sym e)
+        → GoodAt U J (listed_by close item (same_symbol (next i) close)) (listed_by close next_item (same_symbol (next i) close)) G Any i
+    go true e = subst (λ b. GoodAt U J (listed_by close item b) (listed_by close next_item b) G Any i) (sym e)
         (bind_good i closed (take_good J G Any i (λ ends. more (sym (same_symbol_true (next i) close e) ∙ ends)) tt)
         (λ _ r _. pure_good J G Any [] r) (λ _ v. pure_sample [] tt))
-    go false e = subst (λ b. GoodAt J (listed_by close item b) (listed_by close next_item b) G Any i) (sym e)
+    go false e = subst (λ b. GoodAt U J (listed_by close item b) (listed_by close next_item b) G Any i) (sym e)
         (bind_good i closed
         (separated_good {G = Closes} item next_item closed shrinks shrinks' good sample follows (λ tail h k. other (sym h ∙ k)) i)
         (λ xs r _. bind_good r closed (expect_good J G Any close r more (unexpected r) (λ _. tt)) (λ _ m _. pure_good J G Any xs m) (λ _ v. pure_sample xs tt))
-        (λ xs v. bind_sample {V = Any} (expect_sample close t is tt (λ tail h. is)) (λ _ w. pure_sample xs tt)))
+        (λ xs v. bind_sample {V = Any} (expect_sample close t is real tt (λ tail h. is)) (λ _ w. pure_sample xs tt)))
 
 -- one item completes a list
-pub separated_sample : {A : Type 0} {E F G : Follow} {V : A → Type 0} {W : List A → Type 0} (item : Parser A) → Sample item E F V → ((x : A) → W (x ∷ []))
-    → ((tail : Tokens) → G tail → F tail) → ((tail : Tokens) → G tail → NotAt Comma tail) → Sample (separated item) E G W
+pub separated_sample : {U : Tokens} {A : Type 0} {E F G : Follow} {V : A → Type 0} {W : List A → Type 0} (item : Parser A) → Sample U item E F V → ((x : A) → W (x ∷ []))
+    → ((tail : Tokens) → G tail → F tail) → ((tail : Tokens) → G tail → NotAt Comma tail) → Sample U (separated item) E G W
 unfolding separated
 separated_sample item sample w follows other = bind_sample sample
     (λ x _. end_sample (x ∷ []) (w x) follows (λ tail h. many_end (comma_turn item) (x ∷ []) tail (no_comma item (x ∷ []) tail (other tail h))))
 
 -- the closing token t completes a list
-pub listed_sample : {A : Type 0} {F G : Follow} {W : List A → Type 0} (close : Symbol) (item : Parser A) (t : Token) → Is close t → W []
-    → ((tail : Tokens) → G tail → F (t ∷ tail)) → Sample (listed close item) F G W
+pub listed_sample : {U : Tokens} {A : Type 0} {F G : Follow} {W : List A → Type 0} (close : Symbol) (item : Parser A) (t : Token) → Is close t → IsReal U t → W []
+    → ((tail : Tokens) → G tail → F (t ∷ tail)) → Sample U (listed close item) F G W
 unfolding listed
-listed_sample close item t is w starts = record {
+listed_sample close item t is real w starts = record {
   more = t ∷ [];
   value = [];
+  real = (real, tt);
   fits = w;
   follows = starts;
   reads = λ tail _. ap (λ b. listed_by close item b (t ∷ tail)) (same_symbol_is (symbol t) close is);

@@ -1,6 +1,5 @@
 -- Outcomes, tokens, and the steps that every rule is made of: what they give, and what must have been there.
-use Rattle.std.proofs.Common.{◌≡◌, ◌≢◌, ℕ, zero, suc, ◌<◌, Bool, true, false, [], ◌∷◌, ◌++◌, Option, Some, None, if◌then◌else◌, refl, sym, ap, ◌∙◌, subst, arith}
-use Rattle.std.proofs.Math.Dec.{eqb-suc-zero}
+use Rattle.std.proofs.Common.{◌≡◌, ◌≢◌, Bool, true, false, [], ◌∷◌, ◌++◌, Option, Some, None, if◌then◌else◌, refl, sym, ap, ◌∙◌, subst}
 use denote.Enum.Bare.{same_true, same_false, true_same}
 use Rattle.ja_lex.specs.declared.token.Token.{Token}
 use Rattle.ja_syntax.specs.contracts.symbol.Symbol.{the_type}
@@ -9,8 +8,8 @@ use Rattle.ja_syntax.specs.declared.symbol.Symbol.TheVariants.{Comma, End}
 use Rattle.ja_syntax.specs.Symbols.{symbol_of, same_symbol}
 use Rattle.ja_grammar.specs.declared.fault.Refusal.{Refusal}
 use Rattle.ja_grammar.specs.declared.fault.Refusal.TheVariants.{Unexpected, Deep}
-use Rattle.ja_grammar.specs.Input.{Tokens, head, next, behind, symbol, Outcome, Done, Refused, Parser, and_then, ◌>>=◌, refuse, take_token, enter, expect}
-use Rattle.ja_grammar.specs.Productions.{Is}
+use Rattle.ja_grammar.specs.Input.{Tokens, head, next, behind, symbol, Outcome, Done, Refused, Parser, and_then, ◌>>=◌, refuse, Rules, unless, take_token, enter, expect}
+use Rattle.ja_grammar.specs.Productions.{Is, HasRoom}
 
 -- ---- about outcomes and tokens
 
@@ -156,31 +155,45 @@ expect_inverse k i {t} {r} more e = go (same_symbol (next i) k) refl e
         (take_inverse i r (λ ends. more (sym at ∙ ends)) h, ap symbol (sym (done_value h)) ∙ at)
     go false is h = absurd (refused_not_done h)
 
--- with levels left, entering takes the token
-pub enter_is : (d : ℕ) → 0 < d → enter d ≡ take_token
+-- where a rule isn't asked, reading goes on
+pub unless_reads : {A : Type 0} (g : Rules) (why : Refusal) (p : Parser A) (i : Tokens) → g why i ≡ false → unless g why p i ≡ p i
+unless_reads g why p i off = ap (λ b. if b then Refused why i else p i) off
+
+-- where it is asked, it refuses
+pub unless_refuses : {A : Type 0} (g : Rules) (why : Refusal) (p : Parser A) (i : Tokens) → g why i ≡ true → unless g why p i ≡ Refused why i
+unless_refuses g why p i on = ap (λ b. if b then Refused why i else p i) on
+
+-- what was read was read where the rule isn't asked
+pub unless_inverse : {A : Type 0} (g : Rules) (why : Refusal) (p : Parser A) (i : Tokens) {a : A} {r : Tokens} → unless g why p i ≡ Done a r → (g why i ≡ false) × (p i ≡ Done a r)
+unless_inverse g why p i {a} {r} e = go (g why i) refl e
+  where
+    go : (b : Bool) → g why i ≡ b → (if b then Refused why i else p i) ≡ Done a r → (g why i ≡ false) × (p i ≡ Done a r)
+    go true is h = absurd (refused_not_done h)
+    go false is h = (is, h)
+
+-- where a level is left, entering takes the token
+pub enter_done : (g : Rules) (t : Token) (r : Tokens) → HasRoom g (t ∷ r) → enter g (t ∷ r) ≡ Done t r
 unfolding enter
-enter_is zero some = absurd (omega arith)
-enter_is (suc d) some = λ n. λ i. if eqb-suc-zero d n then Refused Deep i else Done (head i) (behind i)
+enter_done g t r room = unless_reads g Deep take_token (t ∷ r) room
 
--- with none it refuses
-pub enter_zero : enter 0 ≡ refuse Deep
+-- where none is left, it refuses
+pub enter_refuses : (g : Rules) (i : Tokens) → g Deep i ≡ true → enter g i ≡ Refused Deep i
 unfolding enter
-enter_zero = refl
+enter_refuses g i on = unless_refuses g Deep take_token i on
 
--- the same of a token that is there
-pub enter_done : (d : ℕ) (t : Token) (r : Tokens) → 0 < d → enter d (t ∷ r) ≡ Done t r
-enter_done d t r some = ap (λ p. p (t ∷ r)) (enter_is d some)
+-- what entered had a level left
+pub entered : (g : Rules) (i : Tokens) {t : Token} {r : Tokens} → enter g i ≡ Done t r → HasRoom g i
+unfolding enter
+entered g i e = (unless_inverse g Deep take_token i e).0
 
--- what entered had levels left
-pub entered : (d : ℕ) (i : Tokens) {t : Token} {r : Tokens} → enter d i ≡ Done t r → 0 < d
-entered zero i e = absurd (refused_not_done (ap (λ p. p i) (sym enter_zero) ∙ e))
-entered (suc d) i e = omega arith
+-- and took the next token
+pub entered_token : (g : Rules) (i : Tokens) {t : Token} {r : Tokens} → enter g i ≡ Done t r → take_token i ≡ Done t r
+unfolding enter
+entered_token g i e = (unless_inverse g Deep take_token i e).1
 
--- what entered had levels left, and what it took stood there
-pub enter_inverse : (d : ℕ) (i : Tokens) {t : Token} {r : Tokens} → next i ≢ End → enter d i ≡ Done t r → (0 < d) × (i ≡ t ∷ r)
-enter_inverse d i {t} {r} more e =
-    let some = entered d i e in
-    (some, take_inverse i r more (ap (λ p. p i) (sym (enter_is d some)) ∙ e))
+-- what entered had a level left, and what it took stood there
+pub enter_inverse : (g : Rules) (i : Tokens) {t : Token} {r : Tokens} → next i ≢ End → enter g i ≡ Done t r → HasRoom g i × (i ≡ t ∷ r)
+enter_inverse g i {t} {r} more e = (entered g i e, take_inverse i r more (entered_token g i e))
 
 -- ---- what must have been there, for what is to be shown
 
@@ -194,12 +207,12 @@ pub then_is : {A B : Type 0} {P : Type 0} (p : Parser A) (f : A → Parser B) (i
 then_is p f i e h = let s = bind_inverse p f i e in h s.0 s.1 s.2 s.3
 
 -- entering, and what follows, gave a value
-pub enter_then : {B : Type 0} {P : Type 0} (d : ℕ) (f : Token → Parser B) (t : Token) (m : Tokens) {b : B} {r : Tokens} → (enter d >>= f) (t ∷ m) ≡ Done b r
-    → (0 < d → f t m ≡ Done b r → P) → P
-enter_then d f t m e h =
-    let s = bind_inverse (enter d) f (t ∷ m) e in
-    let some = entered d (t ∷ m) s.2 in
-    h some (sym (ap (λ o. and_then o f) (enter_done d t m some)) ∙ e)
+pub enter_then : {B : Type 0} {P : Type 0} (g : Rules) (f : Token → Parser B) (t : Token) (m : Tokens) {b : B} {r : Tokens} → (enter g >>= f) (t ∷ m) ≡ Done b r
+    → (HasRoom g (t ∷ m) → f t m ≡ Done b r → P) → P
+enter_then g f t m e h =
+    let s = bind_inverse (enter g) f (t ∷ m) e in
+    let room = entered g (t ∷ m) s.2 in
+    h room (sym (ap (λ o. and_then o f) (enter_done g t m room)) ∙ e)
 
 -- a token with this symbol, and what follows, gave a value
 pub expect_then : {B : Type 0} (P : Tokens → Type 0) (k : Symbol) (f : Token → Parser B) → k ≢ End → (i : Tokens) {b : B} {r : Tokens} → (expect k >>= f) i ≡ Done b r

@@ -9,7 +9,7 @@ use Rattle.ja_grammar.specs.declared.part.ExpressionPart.TheVariants as of_expre
 use Rattle.ja_grammar.specs.declared.part.StatementPart.TheVariants as part
 use Rattle.ja_grammar.specs.Contexts.{Context}
 use Rattle.ja_grammar.specs.Forms.{ends_clause, literal_of, literal_by}
-use Rattle.ja_grammar.specs.Input.{Tokens, head, next, Done, Parser, ◌>>=◌, separated}
+use Rattle.ja_grammar.specs.Input.{Tokens, head, next, Done, Parser, ◌>>=◌, separated, Rules}
 use Rattle.ja_grammar.specs.Operators.{unary_operator, prefix_update, levels}
 use Rattle.ja_grammar.specs.ReadExpression.{Below, is_close_brace, is_close_bracket, literal, primary, primary_by, chain_head, head_by, left_hand, postfix, unary, unary_by, level, binary, conditional, assignment, whole}
 use Rattle.ja_grammar.specs.ReadExpression as read
@@ -87,85 +87,85 @@ no_prefix_update k.Default h = refl
 no_prefix_update k.End h = refl
 no_prefix_update _ h = cc h
 
-module _ (d : ℕ) (b : Below) (i : Tokens) (ends : ends_list (next i) ≡ true) where
-  literal_refuses : RefusesAt (literal d b) i
+module _ (g : Rules) (b : Below) (i : Tokens) (ends : ends_list (next i) ≡ true) where
+  literal_refuses : RefusesAt (literal g b) i
   unfolding literal literal_of
-  literal_refuses = record { refuses = λ a r e. refused_not_done (ap (λ o. read.literal_by d b (head i) o i) (sym (no_literal (next i) (head i) ends)) ∙ e) }
+  literal_refuses = record { refuses = λ a r e. refused_not_done (ap (λ o. read.literal_by g b (head i) o i) (sym (no_literal (next i) (head i) ends)) ∙ e) }
 
-  primary_refuses : RefusesAt (primary d b) i
+  primary_refuses : RefusesAt (primary g b) i
   unfolding primary
   primary_refuses = record { refuses = go (next i) ends }
     where
-      go : (κ : Symbol) → ends_list κ ≡ true → (a : _) (r : Tokens) → primary_by d b (head i) κ i ≡ Done a r → ⊥
+      go : (κ : Symbol) → ends_list κ ≡ true → (a : _) (r : Tokens) → primary_by g b (head i) κ i ≡ Done a r → ⊥
       go k.CloseBrace h = literal_refuses.refuses
       go k.Case h = literal_refuses.refuses
       go k.Default h = literal_refuses.refuses
       go k.End h = literal_refuses.refuses
       go _ h = cc h
 
-  head_refuses : RefusesAt (chain_head d b) i
+  head_refuses : RefusesAt (chain_head g b) i
   unfolding chain_head
   head_refuses = record { refuses = go (next i) ends }
     where
-      go : (κ : Symbol) → ends_list κ ≡ true → (a : _) (r : Tokens) → head_by d b (head i) κ i ≡ Done a r → ⊥
+      go : (κ : Symbol) → ends_list κ ≡ true → (a : _) (r : Tokens) → head_by g b (head i) κ i ≡ Done a r → ⊥
       go k.CloseBrace h = primary_refuses.refuses
       go k.Case h = primary_refuses.refuses
       go k.Default h = primary_refuses.refuses
       go k.End h = primary_refuses.refuses
       go _ h = cc h
 
-  left_hand_refuses : RefusesAt (left_hand d b) i
+  left_hand_refuses : RefusesAt (left_hand g b) i
   unfolding left_hand
   left_hand_refuses = bind_refuses _ i head_refuses
 
-  postfix_refuses : RefusesAt (postfix d b) i
+  postfix_refuses : RefusesAt (postfix g b) i
   unfolding postfix
   postfix_refuses = bind_refuses _ i left_hand_refuses
 
-  unary_refuses : RefusesAt (unary d b) i
+  unary_refuses : RefusesAt (unary g b) i
   unfolding unary
   unary_refuses = record {
     refuses = λ a r e. postfix_refuses.refuses a r
-        (ap (λ o. unary_by d b (head i) None o i) (sym (no_prefix_update (next i) ends)) ∙ ap (λ o. unary_by d b (head i) o (prefix_update (next i)) i) (sym (no_unary_operator (next i) ends)) ∙ e);
+        (ap (λ o. unary_by g b (head i) None o i) (sym (no_prefix_update (next i) ends)) ∙ ap (λ o. unary_by g b (head i) o (prefix_update (next i)) i) (sym (no_unary_operator (next i) ends)) ∙ e);
   }
 
-  binary_refuses : (no_in : Bool) (l : ℕ) → RefusesAt (binary d b no_in l) i
+  binary_refuses : (no_in : Bool) (l : ℕ) → RefusesAt (binary g b no_in l) i
   unfolding binary level
   binary_refuses no_in zero = unary_refuses
   binary_refuses no_in (suc l) = record { refuses = (bind_refuses _ i (binary_refuses no_in l)).refuses }
 
-  conditional_refuses : (no_in : Bool) → RefusesAt (conditional d b no_in) i
+  conditional_refuses : (no_in : Bool) → RefusesAt (conditional g b no_in) i
   unfolding conditional
   conditional_refuses no_in = record { refuses = (bind_refuses _ i (binary_refuses no_in levels)).refuses }
 
-  assignment_refuses : (no_in : Bool) → RefusesAt (assignment d b no_in) i
+  assignment_refuses : (no_in : Bool) → RefusesAt (assignment g b no_in) i
   unfolding assignment
   assignment_refuses no_in = bind_refuses _ i (conditional_refuses no_in)
 
-  whole_refuses : (no_in : Bool) → RefusesAt (whole d b no_in) i
+  whole_refuses : (no_in : Bool) → RefusesAt (whole g b no_in) i
   unfolding whole separated
   whole_refuses no_in = record { refuses = (bind_refuses _ i (bind_refuses _ i (assignment_refuses no_in))).refuses }
 
-  statement_refuses : RefusesAt (expression_statement d b) i
+  statement_refuses : RefusesAt (expression_statement g b) i
   unfolding expression_statement
   statement_refuses = record { refuses = (bind_refuses _ i (whole_refuses false)).refuses }
 
-pub assignment_starts : (d : ℕ) (b : Below) (no_in : Bool) (i : Tokens) (x : Expression) (r : Tokens) → assignment d b no_in i ≡ Done x r → ends_list (next i) ≡ false
-assignment_starts d b no_in i x r e = go (ends_list (next i)) refl
+pub assignment_starts : (g : Rules) (b : Below) (no_in : Bool) (i : Tokens) (x : Expression) (r : Tokens) → assignment g b no_in i ≡ Done x r → ends_list (next i) ≡ false
+assignment_starts g b no_in i x r e = go (ends_list (next i)) refl
   where
     go : (c : Bool) → ends_list (next i) ≡ c → ends_list (next i) ≡ false
-    go true h = absurd ((assignment_refuses d b i h no_in).refuses x r e)
+    go true h = absurd ((assignment_refuses g b i h no_in).refuses x r e)
     go false h = h
 
 -- nor does a statement
-pub single_starts : (d : ℕ) (b : Below) (c : Context) (labels : ℕ) (outermost : Bool) (i : Tokens) (x : Statement) (r : Tokens) → single d b c labels outermost i ≡ Done x r
+pub single_starts : (g : Rules) (b : Below) (c : Context) (labels : ℕ) (outermost : Bool) (i : Tokens) (x : Statement) (r : Tokens) → single g b c labels outermost i ≡ Done x r
     → ends_list (next i) ≡ false
 unfolding single
-single_starts d b c labels outermost i x r e = go (next i) refl e
+single_starts g b c labels outermost i x r e = go (next i) refl e
   where
-    go : (κ : Symbol) → next i ≡ κ → single_by d b c labels outermost (head i) κ i ≡ Done x r → ends_list (next i) ≡ false
-    go k.CloseBrace h e = absurd ((statement_refuses d b i (ap ends_list h)).refuses x r e)
-    go k.Case h e = absurd ((statement_refuses d b i (ap ends_list h)).refuses x r e)
-    go k.Default h e = absurd ((statement_refuses d b i (ap ends_list h)).refuses x r e)
-    go k.End h e = absurd ((statement_refuses d b i (ap ends_list h)).refuses x r e)
+    go : (κ : Symbol) → next i ≡ κ → single_by g b c labels outermost (head i) κ i ≡ Done x r → ends_list (next i) ≡ false
+    go k.CloseBrace h e = absurd ((statement_refuses g b i (ap ends_list h)).refuses x r e)
+    go k.Case h e = absurd ((statement_refuses g b i (ap ends_list h)).refuses x r e)
+    go k.Default h e = absurd ((statement_refuses g b i (ap ends_list h)).refuses x r e)
+    go k.End h e = absurd ((statement_refuses g b i (ap ends_list h)).refuses x r e)
     go _ h e = ap ends_list h

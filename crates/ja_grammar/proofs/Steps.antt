@@ -1,66 +1,70 @@
 -- The place laws of the single steps, and what completes the rest of a production.
-use Rattle.std.proofs.Common.{◌≡◌, ◌≢◌, ℕ, zero, suc, ◌<◌, ◌≤◌, Bool, true, false, true≢false, [], ◌∷◌, ◌++◌, length, if◌then◌else◌, ◌==◌, suc-le-suc, refl, sym, ap, ◌∙◌, subst, append_assoc, arith}
-use Rattle.std.proofs.Math.Dec.{eqb-suc-zero}
+use Rattle.std.proofs.Common.{◌≡◌, ◌≢◌, ◌⊎◌, inl, inr, not, ◌||◌, ℕ, zero, suc, ◌<◌, ◌≤◌, Bool, true, false, true≢false, [], ◌∷◌, ◌++◌, length, if◌then◌else◌, suc-le-suc, refl, sym, ap, ◌∙◌, subst, append_assoc, arith}
 use Rattle.ja_lex.specs.declared.token.Token.{Token}
 use Rattle.ja_syntax.specs.declared.symbol.Symbol.{Symbol}
 use Rattle.ja_syntax.specs.declared.symbol.Symbol.TheVariants.{End}
 use Rattle.ja_syntax.specs.Symbols.{same_symbol}
 use Rattle.ja_grammar.specs.declared.fault.Refusal.{Refusal}
-use Rattle.ja_grammar.specs.declared.fault.Refusal.TheVariants.{Unexpected, Deep}
-use Rattle.ja_grammar.specs.Input.{Tokens, head, next, behind, symbol, Outcome, Done, Refused, Parser, and_then, ◌>>=◌, pure, refuse, look, look_second, take_token, enter, expect}
-use Rattle.ja_grammar.specs.Productions.{Is}
-use Rattle.ja_grammar.proofs.Outcomes.{done_rest, same_done, same_refused, done_not_refused, refused_not_done, same_symbol_true, same_symbol_false, cons_of, rest_of, head_behind, expect_done, enter_is, enter_zero, enter_done}
+use Rattle.ja_grammar.specs.declared.fault.Refusal.TheVariants.{Unexpected, Deep, DeepLabel}
+use Rattle.ja_grammar.specs.Input.{Tokens, head, next, behind, symbol, Outcome, Done, Refused, Parser, and_then, ◌>>=◌, pure, refuse, look, look_second, Rules, strict, unless, take_token, enter, expect}
+use Rattle.ja_grammar.specs.Language.{IsReal, AreReal, is_level, is_same}
+use Rattle.ja_grammar.specs.Productions.{Is, HasRoom}
+use Rattle.ja_grammar.proofs.Outcomes.{done_rest, same_done, same_refused, done_not_refused, refused_not_done, same_symbol_true, same_symbol_false, cons_of, rest_of, head_behind, expect_done, unless_reads, unless_refuses, enter_done}
 use Rattle.ja_grammar.proofs.Shrinks.{Within, Moves, split_within}
-use Rattle.ja_grammar.proofs.Good.{Follow, Reason, is_deep, Completes, Viable, Sample, Stops, Deeps, Refuses, GoodAt, refuse_good, like_good, look_good}
+use Rattle.ja_grammar.proofs.Good.{Follow, Reason, lifted, elsewhere, is_jump, Completes, CompletesWith, Viable, Sample, Stops, Refuses, GoodAt, unexpected_stays, refuse_good, lifted_good, like_good, look_good}
+use Rattle.ja_grammar.proofs.Real.{real_append}
+use Rattle.ja_grammar.proofs.Strict.{strict_asks, strict_room, strict_room_label, strict_full, strict_full_label}
 
 -- ---- samples
 
 -- nothing is left
-pub pure_sample : {A : Type 0} {F : Follow} {W : A → Type 0} (a : A) → W a → Sample (pure a) F F W
-pure_sample a w = record { more = []; value = a; fits = w; follows = λ tail ends. ends; reads = λ tail ends. refl }
+pub pure_sample : {U : Tokens} {A : Type 0} {F : Follow} {W : A → Type 0} (a : A) → W a → Sample U (pure a) F F W
+pure_sample a w = record { more = []; value = a; real = tt; fits = w; follows = λ tail ends. ends; reads = λ tail ends. refl }
 
 -- two parts
-pub bind_sample : {A B : Type 0} {p : Parser A} {f : A → Parser B} {F G H : Follow} {V : A → Type 0} {W : B → Type 0}
-    → Sample p F G V → ((a : A) → V a → Sample (f a) G H W) → Sample (p >>= f) F H W
-bind_sample {f = f} {F} {G} {H} {V} {W} first second = record {
+pub bind_sample : {U : Tokens} {A B : Type 0} {p : Parser A} {f : A → Parser B} {F G H : Follow} {V : A → Type 0} {W : B → Type 0}
+    → Sample U p F G V → ((a : A) → V a → Sample U (f a) G H W) → Sample U (p >>= f) F H W
+bind_sample {U} {f = f} {F} {G} {H} {V} {W} first second = record {
   more = first.more ++ s.more;
   value = s.value;
+  real = real_append U first.more s.more first.real s.real;
   fits = s.fits;
   follows = λ tail ends. rw (append_assoc first.more s.more tail) (first.follows (s.more ++ tail) (s.follows tail ends));
   reads = λ tail ends. rw (append_assoc first.more s.more tail) (ap (λ o. and_then o f) (first.reads (s.more ++ tail) (s.follows tail ends)) ∙ s.reads tail ends);
 }
   where
-    s : Sample (f first.value) G H W
+    s : Sample U (f first.value) G H W
     s = second first.value first.fits
 
 -- one token
-pub expect_sample : (k : Symbol) (t : Token) {F G : Follow} {W : Token → Type 0} → Is k t → W t → ((tail : Tokens) → G tail → F (t ∷ tail)) → Sample (expect k) F G W
-expect_sample k t is w starts = record { more = t ∷ []; value = t; fits = w; follows = starts; reads = λ tail ends. expect_done k t tail is }
+pub expect_sample : {U : Tokens} (k : Symbol) (t : Token) {F G : Follow} {W : Token → Type 0} → Is k t → IsReal U t → W t → ((tail : Tokens) → G tail → F (t ∷ tail)) → Sample U (expect k) F G W
+expect_sample k t is real w starts = record { more = t ∷ []; value = t; real = (real, tt); fits = w; follows = starts; reads = λ tail ends. expect_done k t tail is }
 
 -- the next token, whatever it is
-pub take_sample : (t : Token) {F G : Follow} {W : Token → Type 0} → W t → ((tail : Tokens) → G tail → F (t ∷ tail)) → Sample take_token F G W
-take_sample t w starts = record { more = t ∷ []; value = t; fits = w; follows = starts; reads = λ tail ends. refl }
+pub take_sample : {U : Tokens} (t : Token) {F G : Follow} {W : Token → Type 0} → IsReal U t → W t → ((tail : Tokens) → G tail → F (t ∷ tail)) → Sample U take_token F G W
+take_sample t real w starts = record { more = t ∷ []; value = t; real = (real, tt); fits = w; follows = starts; reads = λ tail ends. refl }
 
 -- a token that counts, with levels left
-pub enter_sample : (d : ℕ) (t : Token) {F G : Follow} {W : Token → Type 0} → 0 < d → W t → ((tail : Tokens) → G tail → F (t ∷ tail)) → Sample (enter d) F G W
-enter_sample d t some w starts = record { more = t ∷ []; value = t; fits = w; follows = starts; reads = λ tail ends. enter_done d t tail some }
+pub enter_sample : {U : Tokens} (g : Rules) (t : Token) {F G : Follow} {W : Token → Type 0} → ((i : Tokens) → HasRoom g i) → IsReal U t → W t → ((tail : Tokens) → G tail → F (t ∷ tail)) → Sample U (enter g) F G W
+enter_sample g t room real w starts = record { more = t ∷ []; value = t; real = (real, tt); fits = w; follows = starts; reads = λ tail ends. enter_done g t tail (room (t ∷ tail)) }
 
 -- by the next token, which is t
-pub look_sample : {A : Type 0} (f : Token → Parser A) (t : Token) (c : Tokens) {F G : Follow} {W : A → Type 0} (a : A) → W a
-    → ((tail : Tokens) → G tail → F (t ∷ c ++ tail)) → ((tail : Tokens) → G tail → f t (t ∷ c ++ tail) ≡ Done a tail) → Sample (look f) F G W
-look_sample f t c a w starts reads = record { more = t ∷ c; value = a; fits = w; follows = starts; reads = reads }
+pub look_sample : {U : Tokens} {A : Type 0} (f : Token → Parser A) (t : Token) (c : Tokens) {F G : Follow} {W : A → Type 0} (a : A) → IsReal U t → AreReal U c → W a
+    → ((tail : Tokens) → G tail → F (t ∷ c ++ tail)) → ((tail : Tokens) → G tail → f t (t ∷ c ++ tail) ≡ Done a tail) → Sample U (look f) F G W
+look_sample f t c a real reals w starts reads = record { more = t ∷ c; value = a; real = (real, reals); fits = w; follows = starts; reads = reads }
 
 -- the production ends here, because of what follows
-pub end_sample : {A : Type 0} {q : Parser A} {F G : Follow} {W : A → Type 0} (a : A) → W a
-    → ((tail : Tokens) → G tail → F tail) → ((tail : Tokens) → G tail → q tail ≡ Done a tail) → Sample q F G W
-end_sample a w follow reads = record { more = []; value = a; fits = w; follows = follow; reads = reads }
+pub end_sample : {U : Tokens} {A : Type 0} {q : Parser A} {F G : Follow} {W : A → Type 0} (a : A) → W a
+    → ((tail : Tokens) → G tail → F tail) → ((tail : Tokens) → G tail → q tail ≡ Done a tail) → Sample U q F G W
+end_sample a w follow reads = record { more = []; value = a; real = tt; fits = w; follows = follow; reads = reads }
 
 -- a sample for less
-pub weaken_sample : {A : Type 0} {q : Parser A} {F F' G G' : Follow} {V W : A → Type 0} → ((x : Tokens) → F' x → F x) → ((x : Tokens) → G x → G' x) → ((a : A) → V a → W a)
-    → Sample q F' G' V → Sample q F G W
+pub weaken_sample : {U : Tokens} {A : Type 0} {q : Parser A} {F F' G G' : Follow} {V W : A → Type 0} → ((x : Tokens) → F' x → F x) → ((x : Tokens) → G x → G' x) → ((a : A) → V a → W a)
+    → Sample U q F' G' V → Sample U q F G W
 weaken_sample before after value s = record {
   more = s.more;
   value = s.value;
+  real = s.real;
   fits = value s.value s.fits;
   follows = λ tail ends. before (s.more ++ tail) (s.follows tail (after tail ends));
   reads = λ tail ends. s.reads tail (after tail ends);
@@ -69,102 +73,130 @@ weaken_sample before after value s = record {
 -- ---- a token
 
 -- takes a token that is not the end
-pub take_good : (J : Reason) (F : Follow) (W : Token → Type 0) (i : Tokens) → next i ≢ End → W (head i) → GoodAt J take_token take_token F W i
-take_good J F W i more w = record {
-  done = λ t r e. same_done (λ t r. Stops take_token take_token F W i (Done t) r) e (record {
+pub take_good : {U : Tokens} {O : Refusal} (J : Reason O) (F : Follow) (W : Token → Type 0) (i : Tokens) → next i ≢ End → W (head i) → GoodAt U J take_token take_token F W i
+take_good {U} J F W i more w = record {
+  done = λ t r e. same_done (λ t r. Stops U take_token take_token F W i t r) e (record {
     before = head i ∷ [];
     split = cons_of i more;
     local = λ s h. refl;
     roomy = λ s h. refl;
-    viable = ([], head i, w, λ tail ends. refl);
+    viable = ([], head i, w, tt, λ tail ends. refl);
   });
-  refused = λ why r shallow e. absurd (done_not_refused e);
-  deep = λ why r d e. absurd (done_not_refused e);
+  refused = λ why r e. absurd (done_not_refused e);
 }
 
--- refuses for want of levels a token that q goes on with
-pub deep_good : {A : Type 0} (J : Reason) (F : Follow) (W : A → Type 0) (why : Refusal) (q : Parser A) (i : Tokens) → is_deep why ≡ true → next i ≢ End → J why [] i
-    → Completes q F W (head i ∷ []) → GoodAt J (refuse why) q F W i
-deep_good J F W why q i d more h c = record {
-  done = λ b r e. absurd (refused_not_done e);
-  refused = λ v r shallow e. absurd (true≢false (sym d ∙ same_refused (λ x y. is_deep x ≡ is_deep v) (sym e) refl ∙ shallow));
-  deep = λ v r _ e. same_refused (λ v r. (s : Deeps (refuse why) q F W i v r) × J v s.before r) e
-      (record { before = []; split = refl; local = λ s _. refl; there = more; viable = c }, h);
-}
+-- ---- where a rule is asked
+
+-- two parsers, written otherwise
+subst_good : {U : Tokens} {O : Refusal} {A : Type 0} {J : Reason O} {F : Follow} {W : A → Type 0} {i : Tokens} {p p' q q' : Parser A} → p ≡ p' → q ≡ q' → GoodAt U J p q F W i → GoodAt U J p' q' F W i
+subst_good {U} {J = J} {F = F} {W = W} {i = i} {p' = p'} {q = q} e f h = subst (λ y. GoodAt U J p' y F W i) f (subst (λ y. GoodAt U J y q F W i) e h)
+
+refuses_all : {A : Type 0} (g : Rules) (why : Refusal) (p : Parser A) → ((s : Tokens) → g why s ≡ true) → refuse why ≡ unless g why p
+refuses_all g why p on = λ n. λ s. sym (unless_refuses g why p s (on s)) n
+
+reads_all : {A : Type 0} (g : Rules) (why : Refusal) (p : Parser A) → ((s : Tokens) → g why s ≡ false) → p ≡ unless g why p
+reads_all g why p off = λ n. λ s. sym (unless_reads g why p s (off s)) n
+
+-- a rule that is no level's: it is asked, and `q` may leave it out
+pub unless_good : {U : Tokens} {O : Refusal} {A : Type 0} (J : Reason O) (F : Follow) (W : A → Type 0) (d : ℕ) (g' : Rules) (why : Refusal) (p q : Parser A) (i : Tokens) → is_level why ≡ false
+    → ((s : Tokens) → g' why s ≡ not (is_same O why)) → J.right why [] i → (is_same O why ≡ true → CompletesWith U q F W [] why i)
+    → GoodAt U J (unless (strict d) why p) (unless g' why q) F W i
+unless_good {U} {O} J F W d g' why p q i level asks h goes = go (is_same O why) refl
+  where
+    strictly : refuse why ≡ unless (strict d) why p
+    strictly = refuses_all (strict d) why p (λ s. strict_asks d why s level)
+
+    go : (b : Bool) → is_same O why ≡ b → GoodAt U J (unless (strict d) why p) (unless g' why q) F W i
+    go true out = subst_good strictly (reads_all g' why q (λ s. asks s ∙ ap not out)) (lifted_good J F W why q i (ap (λ b. b || is_same O why) level ∙ out) h (goes out))
+    go false kept = subst_good strictly (refuses_all g' why q (λ s. asks s ∙ ap not kept)) (refuse_good J F W why i (ap (λ b. b || is_same O why) level ∙ kept) h)
+
+-- a level: none is left, or reading goes on
+pub level_good : {U : Tokens} {O : Refusal} {A : Type 0} (J : Reason O) (F : Follow) (W : A → Type 0) (d : ℕ) (g' : Rules) (why : Refusal) (p q : Parser A) (i : Tokens) → is_level why ≡ true
+    → ((s : Tokens) → g' why s ≡ false) → (d ≡ 0 → J.right why [] i) → CompletesWith U q F W [] why i → (0 < d → GoodAt U J p q F W i)
+    → GoodAt U J (unless (strict d) why p) (unless g' why q) F W i
+level_good {U} {O} J F W zero g' why p q i level asks h goes good =
+    subst_good (refuses_all (strict 0) why p (full why level)) (reads_all g' why q asks) (lifted_good J F W why q i (ap (λ b. b || is_same O why) level) (h refl) goes)
+  where
+    full : (why : Refusal) → is_level why ≡ true → (s : Tokens) → strict 0 why s ≡ true
+    full Deep level s = strict_full s
+    full (DeepLabel place) level s = strict_full_label place s
+    full _ level s = absurd (cc level)
+level_good J F W (suc d) g' why p q i level asks h goes good =
+    subst_good (reads_all (strict (suc d)) why p (room why level)) (reads_all g' why q asks) (good (omega arith))
+  where
+    room : (why : Refusal) → is_level why ≡ true → (s : Tokens) → strict (suc d) why s ≡ false
+    room Deep level s = strict_room (suc d) s (omega arith)
+    room (DeepLabel place) level s = strict_room_label (suc d) place s (omega arith)
+    room _ level s = absurd (cc level)
 
 -- takes a token that counts
-pub enter_good : (J : Reason) (F : Follow) (W : Token → Type 0) (d n : ℕ) (i : Tokens) → 0 < n → next i ≢ End → J Deep [] i → W (head i) → GoodAt J (enter d) (enter n) F W i
-enter_good J F W zero n i some more h w = subst (λ p. GoodAt J p (enter n) F W i) (sym enter_zero)
-    (deep_good J F W Deep (enter n) i refl more h ([], head i, w, λ tail ends. enter_done n (head i) tail some))
-enter_good J F W (suc d) n i some more h w = subst2 (λ p q. GoodAt J p q F W i) (sym (enter_is (suc d) (omega arith))) (sym (enter_is n some)) (take_good J F W i more w)
-  where
-    subst2 : (P : Parser Token → Parser Token → Type 0) {a b c d : Parser Token} → a ≡ b → c ≡ d → P a c → P b d
-    subst2 P {b = b} {c = c} e f x = subst (λ y. P b y) f (subst (λ y. P y c) e x)
-
--- refuses where no levels are left, and else reads
-pub level_good : {A : Type 0} (J : Reason) (F : Follow) (W : A → Type 0) (d n : ℕ) (why why' : Refusal) (p q : Parser A) (i : Tokens) → 0 < n → is_deep why ≡ true → next i ≢ End
-    → (d ≡ 0 → J why [] i) → Completes q F W (head i ∷ []) → (0 < d → GoodAt J p q F W i)
-    → GoodAt J (λ i. if d == 0 then Refused why i else p i) (λ i. if n == 0 then Refused why' i else q i) F W i
-level_good J F W d zero why why' p q i some deep more h c good = absurd (omega arith)
-level_good J F W zero (suc n) why why' p q i some deep more h c good =
-    subst (λ b. GoodAt J (refuse why) (λ i. if b then Refused why' i else q i) F W i) (sym (eqb-suc-zero n)) (deep_good J F W why q i deep more (h refl) c)
-level_good J F W (suc d) (suc n) why why' p q i some deep more h c good =
-    subst (λ b. GoodAt J (λ i. if b then Refused why i else p i) (λ i. if suc n == 0 then Refused why' i else q i) F W i) (sym (eqb-suc-zero d))
-    (subst (λ b. GoodAt J p (λ i. if b then Refused why' i else q i) F W i) (sym (eqb-suc-zero n)) (good (omega arith)))
+pub enter_good : {U : Tokens} {O : Refusal} (J : Reason O) (F : Follow) (W : Token → Type 0) (d : ℕ) (g' : Rules) (i : Tokens) → ((s : Tokens) → HasRoom g' s) → next i ≢ End → J.right Deep [] i → W (head i)
+    → GoodAt U J (enter (strict d)) (enter g') F W i
+unfolding enter
+enter_good J F W d g' i room more h w =
+    level_good J F W d g' Deep take_token take_token i refl room (λ _. h) (head i ∷ [], head i, w, λ tail ends. (refl, refl), tt) (λ _. take_good J F W i more w)
 
 -- by a test
-pub if_good : {A : Type 0} {J : Reason} {F : Follow} {W : A → Type 0} (b : Bool) (p p' q q' : Parser A) (i : Tokens)
-    → (b ≡ true → GoodAt J p q F W i) → (b ≡ false → GoodAt J p' q' F W i) → GoodAt J (if b then p else p') (if b then q else q') F W i
+pub if_good : {U : Tokens} {O : Refusal} {A : Type 0} {J : Reason O} {F : Follow} {W : A → Type 0} (b : Bool) (p p' q q' : Parser A) (i : Tokens)
+    → (b ≡ true → GoodAt U J p q F W i) → (b ≡ false → GoodAt U J p' q' F W i) → GoodAt U J (if b then p else p') (if b then q else q') F W i
 if_good true p p' q q' i on off = on refl
 if_good false p p' q q' i on off = off refl
 
 -- takes a token with this symbol, or refuses
-pub expect_good : (J : Reason) (F : Follow) (W : Token → Type 0) (k : Symbol) (i : Tokens) → k ≢ End → (next i ≢ k → J Unexpected [] i) → (Is k (head i) → W (head i))
-    → GoodAt J (expect k) (expect k) F W i
+pub expect_good : {U : Tokens} {O : Refusal} (J : Reason O) (F : Follow) (W : Token → Type 0) (k : Symbol) (i : Tokens) → k ≢ End → (next i ≢ k → J.right Unexpected [] i) → (Is k (head i) → W (head i))
+    → GoodAt U J (expect k) (expect k) F W i
 unfolding expect
-expect_good J F W k i more h w = look_good by by i (go (same_symbol (next i) k) refl)
+expect_good {U} {O} J F W k i more h w = look_good by by i (go (same_symbol (next i) k) refl)
   where
     by : Token → Parser Token
     by t = λ i. if same_symbol (symbol t) k then Done (head i) (behind i) else Refused Unexpected i
 
-    go : (b : Bool) → same_symbol (next i) k ≡ b → GoodAt J (by (head i)) (by (head i)) F W i
-    go true e = subst (λ b. let p : Parser Token = λ i. if b then Done (head i) (behind i) else Refused Unexpected i in GoodAt J p p F W i) (sym e)
+    go : (b : Bool) → same_symbol (next i) k ≡ b → GoodAt U J (by (head i)) (by (head i)) F W i
+    go true e = subst (λ b. let p : Parser Token = λ i. if b then Done (head i) (behind i) else Refused Unexpected i in GoodAt U J p p F W i) (sym e)
         (let at = same_symbol_true (next i) k e in take_good J F W i (λ ends. more (sym at ∙ ends)) (w at))
-    go false e = subst (λ b. let p : Parser Token = λ i. if b then Done (head i) (behind i) else Refused Unexpected i in GoodAt J p p F W i) (sym e)
-        (refuse_good J F W Unexpected i refl (h (same_symbol_false (next i) k e)))
+    go false e = subst (λ b. let p : Parser Token = λ i. if b then Done (head i) (behind i) else Refused Unexpected i in GoodAt U J p p F W i) (sym e)
+        (refuse_good J F W Unexpected i (unexpected_stays O) (h (same_symbol_false (next i) k e)))
 
 -- ---- by the next two tokens
 
--- the next token is refused, for a reason by the one behind it
-pub refuse_second_good : {A : Type 0} (J : Reason) (F : Follow) (W : A → Type 0) (why : Token → Refusal) (i : Tokens) → ((u : Token) → is_deep (why u) ≡ false)
-    → J (why (head (behind i))) [] i → GoodAt J (look_second {A = A} (λ t u. refuse (why u))) (look_second (λ t u. refuse (why u))) F W i
-refuse_second_good {A} J F W why i shallow h = record {
-  done = λ b r e. absurd (refused_not_done e);
-  refused = λ v r _ e. same_refused {A = A} (λ v r. Refuses J (look_second (λ t u. refuse (why u))) (look_second (λ t u. refuse (why u))) F W i v r) e (record {
+-- The next token is refused, for a reason by the one behind it.
+pub second_refused : {U : Tokens} {O : Refusal} {A : Type 0} (J : Reason O) (F : Follow) (W : A → Type 0) (why : Token → Refusal) (p q : Parser A) (i : Tokens)
+    → ((u : Token) → is_jump (why u) ≡ true)
+    → ((u : Token) → is_level (why u) ≡ false) → ((u v : Token) → elsewhere (why u) v ≡ false)
+    → ((s : Tokens) → p s ≡ Refused (why (head (behind s))) s)
+    → ((s : Tokens) → lifted O (why (head (behind s))) ≡ false → q s ≡ Refused (why (head (behind s))) s)
+    → (lifted O (why (head (behind i))) ≡ true → CompletesWith U q F W [] (why (head (behind i))) i)
+    → J.right (why (head (behind i))) [] i → GoodAt U J p q F W i
+second_refused {U} {O} {A} J F W why p q i jump level nowhere reads reads' goes h = record {
+  done = λ b r e. absurd (refused_not_done (sym (reads i) ∙ e));
+  refused = λ v r e. same_refused {A = A} (λ v r. Refuses U J p q F W i v r) (sym (reads i) ∙ e) (record {
+    before = [];
+    split = refl;
     whys = λ s. why (head (behind s));
-    shallow = λ s. shallow (head (behind s));
-    stops = record { before = []; split = refl; local = λ s _. refl; roomy = λ s _. refl; viable = tt };
+    nearly = λ s same. ap why (sym same);
+    varies = λ s. inr (jump (head (behind s)));
+    level = λ s. level (head (behind s)) ∙ sym (level (head (behind i)));
+    local = λ s _. reads s;
+    roomy = λ s _ off. reads' s off;
+    others = λ s on. absurd (true≢false (sym on ∙ nowhere (head (behind i)) (head s)));
+    viable = tt;
+    goes_on = goes;
     right = h;
   });
-  deep = λ v r d e. absurd (true≢false (sym d ∙ same_refused {A = A} (λ v r. is_deep v ≡ false) e (shallow (head (behind i)))));
 }
 
 -- what stops leaves no more tokens than there were
-pub good_within : {A : Type 0} {J : Reason} {p q : Parser A} {F : Follow} {W : A → Type 0} (i : Tokens) → GoodAt J p q F W i → Within p i
-good_within {A} {p = p} i h = record { within = go (p i) refl }
+pub good_within : {U : Tokens} {O : Refusal} {A : Type 0} {J : Reason O} {p q : Parser A} {F : Follow} {W : A → Type 0} (i : Tokens) → GoodAt U J p q F W i → Within p i
+good_within {A = A} {p = p} i h = record { within = go (p i) refl }
   where
     go : (o : Outcome A) → p i ≡ o → length (rest_of o) ≤ length i
     go (Done a r) e = let s = h.done a r e in split_within s.before r s.split
-    go (Refused why r) e = by (is_deep why) refl
-      where
-        by : (b : Bool) → is_deep why ≡ b → length r ≤ length i
-        by true d = let s = h.deep why r d e in split_within (s.0).before r (s.0).split
-        by false d = let s = (h.refused why r d e).stops in split_within s.before r s.split
+    go (Refused why r) e = let s = h.refused why r e in split_within s.before r s.split
 
 -- What stops takes the next token, where it does so in another text with that token.
-pub good_moves : {A : Type 0} {J : Reason} {p q : Parser A} {F : Follow} {W : A → Type 0} (i s : Tokens) (a : A) (m : Tokens) → GoodAt J p q F W i
+pub good_moves : {U : Tokens} {O : Refusal} {A : Type 0} {J : Reason O} {p q : Parser A} {F : Follow} {W : A → Type 0} (i s : Tokens) (a : A) (m : Tokens) → GoodAt U J p q F W i
     → head i ≡ head s → p s ≡ Done a m → suc (length m) ≤ length s → Moves p i
-good_moves {A} {p = p} {q = q} {F = F} {W = W} i s a m h same reads fewer = record { moves = go (p i) refl }
+good_moves {A = A} {p = p} {q = q} {F = F} {W = W} i s a m h same reads fewer = record { moves = go (p i) refl }
   where
     longer : (w r : Tokens) → i ≡ w ++ r → (w ≡ [] → ⊥) → suc (length r) ≤ length i
     longer [] r e some = absurd (some refl)
@@ -173,25 +205,21 @@ good_moves {A} {p = p} {q = q} {F = F} {W = W} i s a m h same reads fewer = reco
     stuck : (o : Tokens → Outcome A) (before r : Tokens) → i ≡ before ++ r → ((x : Tokens) → head r ≡ head x → p (before ++ x) ≡ o x) → before ≡ [] → p s ≡ o s
     stuck o before r split local none = sym (ap (λ w. p (w ++ s)) none) ∙ local s (sym (ap head (split ∙ ap (λ w. w ++ r) none)) ∙ same)
 
-    refused : (whys : Tokens → Refusal) (before r : Tokens) → i ≡ before ++ r → ((x : Tokens) → head r ≡ head x → p (before ++ x) ≡ Refused (whys x) x) → suc (length r) ≤ length i
-    refused whys before r split local = longer before r split (λ none. done_not_refused (sym reads ∙ stuck (λ x. Refused (whys x) x) before r split local none))
-
     go : (o : Outcome A) → p i ≡ o → suc (length (rest_of o)) ≤ length i
     go (Done b r) e = let t = h.done b r e in longer t.before r t.split (λ none.
         let n = ap length (done_rest (sym reads ∙ stuck (Done b) t.before r t.split t.local none)) in omega arith)
-    go (Refused why r) e = by (is_deep why) refl
-      where
-        by : (b : Bool) → is_deep why ≡ b → suc (length r) ≤ length i
-        by true d = let t = h.deep why r d e in refused (λ _. why) (t.0).before r (t.0).split (t.0).local
-        by false d = let t = h.refused why r d e in refused t.whys t.stops.before r t.stops.split t.stops.local
+    go (Refused why r) e = let t = h.refused why r e in
+        longer t.before r t.split (λ none. done_not_refused (sym reads ∙ stuck (λ x. Refused (t.whys x) x) t.before r t.split t.local none))
 
--- Goes on by the next two tokens: whatever comes, the first of them is taken, and the first alone can be completed.
-pub look_second_good : {A : Type 0} {J : Reason} {F : Follow} {W : A → Type 0} (f g : Token → Token → Parser A) (i : Tokens)
+-- Goes on by the next two tokens: whatever comes, the first of them is taken, and the first alone can be completed; no refusal behind it alone
+-- is made for what it is.
+pub look_second_good : {U : Tokens} {O : Refusal} {A : Type 0} {J : Reason O} {F : Follow} {W : A → Type 0} (f g : Token → Token → Parser A) (i : Tokens)
     → Moves (f (head i) (head (behind i))) i
-    → Completes (look_second g) F W (head i ∷ [])
-    → GoodAt J (f (head i) (head (behind i))) (g (head i) (head (behind i))) F W i → GoodAt J (look_second f) (look_second g) F W i
-look_second_good {A} {J} {F} {W} f g i moves one h = like_good J (f t u) (g t u) F W (look_second f) (look_second g) i M reached refl
-    (agree f) (agree g) viable completes h
+    → Completes U (look_second g) F W (head i ∷ [])
+    → ((why : Refusal) (u : Token) (r : Tokens) → J.right why (head i ∷ []) r → elsewhere why u ≡ true → ⊥)
+    → GoodAt U J (f (head i) (head (behind i))) (g (head i) (head (behind i))) F W i → GoodAt U J (look_second f) (look_second g) F W i
+look_second_good {U} {O} {A} {J} {F} {W} f g i moves one named h = like_good U J (f t u) (g t u) F W (look_second f) (look_second g) i M Far reached far refl
+    (agree f) (agree g) viable h
   where
     t : Token
     t = head i
@@ -202,39 +230,43 @@ look_second_good {A} {J} {F} {W} f g i moves one h = like_good J (f t u) (g t u)
     M : Tokens → Tokens → Type 0
     M before r = (w : Tokens) × (before ≡ head i ∷ w) × (behind i ≡ w ++ r)
 
+    -- another token stands behind the first
+    Far : Tokens → Type 0
+    Far before = behind before ≢ []
+
+    far : (why : Refusal) (u : Token) (before r : Tokens) → M before r → J.right why before r → elsewhere why u ≡ true → Far before
+    far why u before r m right other none = named why u r (subst (λ x. J.right why x r) (m.1 ∙ ap (λ x. head i ∷ x) (sym (ap behind m.1) ∙ none)) right) other
+
     reached : (before r : Tokens) → rest_of (f (head i) (head (behind i)) i) ≡ r → i ≡ before ++ r → M before r
     reached [] r e split = absurd (omega (arith, moves.moves, ap length e, ap length split))
     reached (v ∷ w) r e split = (w, ap (λ x. x ∷ w) (sym (ap head split)), ap behind split)
 
-    agree : (f : Token → Token → Parser A) (before r s : Tokens) → M before r → head r ≡ head s
+    second : (w r s : Tokens) → behind i ≡ w ++ r → (head r ≡ head s) ⊎ (w ≢ []) → head (behind i) ≡ head (w ++ s)
+    second w r s e (inl same) = head_behind w (behind i) r s e same
+    second [] r s e (inr some) = absurd (some refl)
+    second (v ∷ w) r s e (inr some) = ap head e
+
+    near : (before w r s : Tokens) → before ≡ head i ∷ w → (head r ≡ head s) ⊎ Far before → (head r ≡ head s) ⊎ (w ≢ [])
+    near before w r s e (inl same) = inl same
+    near before w r s e (inr some) = inr (λ none. some (ap behind e ∙ none))
+
+    agree : (f : Token → Token → Parser A) (before r s : Tokens) → M before r → (head r ≡ head s) ⊎ Far before
         → f (head (before ++ s)) (head (behind (before ++ s))) (before ++ s) ≡ f (head i) (head (behind i)) (before ++ s)
-    agree f before r s m same = rw (m.1, head_behind m.0 (behind i) r s m.2 same) refl
+    agree f before r s m same = rw (m.1, second m.0 r s m.2 (near before m.0 r s m.1 same)) refl
 
-    heads : (w r x : Tokens) → behind i ≡ w ++ r → head (behind i) ≡ head ((w ++ head r ∷ []) ++ x)
-    heads w r x e = rw (append_assoc w (head r ∷ []) x) (head_behind w (behind i) r (head r ∷ x) e refl)
-
-    one_more : (w r : Tokens) → behind i ≡ w ++ r → Viable (g (head i) (head (behind i))) F W (head i ∷ w) → Viable (look_second g) F W (head i ∷ w)
+    one_more : (w r : Tokens) → behind i ≡ w ++ r → Viable U (g (head i) (head (behind i))) F W (head i ∷ w) → Viable U (look_second g) F W (head i ∷ w)
     one_more [] r e c = one
-    one_more (v ∷ w) r e c = (c.0, c.1, c.2, λ tail ends. ap (λ x. g (head i) x (head i ∷ v ∷ w ++ (c.0 ++ tail))) (sym (ap head e)) ∙ c.3 tail ends)
+    one_more (v ∷ w) r e c = (c.0, c.1, c.2, c.3, λ tail ends. ap (λ x. g (head i) x (head i ∷ v ∷ w ++ (c.0 ++ tail))) (sym (ap head e)) ∙ c.4 tail ends)
 
-    viable : (before r : Tokens) → M before r → Viable (g (head i) (head (behind i))) F W before → Viable (look_second g) F W before
-    viable before r m = subst (λ x. Viable (g (head i) (head (behind i))) F W x → Viable (look_second g) F W x) (sym m.1) (one_more m.0 r m.2)
-
-    completes : (before r : Tokens) → M before r → Completes (g (head i) (head (behind i))) F W (before ++ head r ∷ []) → Completes (look_second g) F W (before ++ head r ∷ [])
-    completes before r m = subst (λ x. Completes (g (head i) (head (behind i))) F W (x ++ head r ∷ []) → Completes (look_second g) F W (x ++ head r ∷ [])) (sym m.1)
-        (λ c. (
-          c.0,
-          c.1,
-          c.2,
-          λ tail ends.
-              ap (λ x. g (head i) x (head i ∷ (m.0 ++ head r ∷ []) ++ (c.0 ++ tail))) (sym (heads m.0 r (c.0 ++ tail) m.2)) ∙ c.3 tail ends,
-        ))
+    viable : (before r : Tokens) → M before r → Viable U (g (head i) (head (behind i))) F W before → Viable U (look_second g) F W before
+    viable before r m = subst (λ x. Viable U (g (head i) (head (behind i))) F W x → Viable U (look_second g) F W x) (sym m.1) (one_more m.0 r m.2)
 
 -- The same, where it is tested whether the second has the symbol k.
-pub second_good : {A : Type 0} {J : Reason} {F : Follow} {W : A → Type 0} (k : Symbol) (f g : Bool → Parser A) (i : Tokens)
-    → ((b : Bool) → same_symbol (next (behind i)) k ≡ b → GoodAt J (f b) (g b) F W i)
+pub second_good : {U : Tokens} {O : Refusal} {A : Type 0} {J : Reason O} {F : Follow} {W : A → Type 0} (k : Symbol) (f g : Bool → Parser A) (i : Tokens)
+    → ((b : Bool) → same_symbol (next (behind i)) k ≡ b → GoodAt U J (f b) (g b) F W i)
     → ((b : Bool) → same_symbol (next (behind i)) k ≡ b → Moves (f b) i)
-    → Completes (look_second (λ t u. g (same_symbol (symbol u) k))) F W (head i ∷ [])
-    → GoodAt J (look_second (λ t u. f (same_symbol (symbol u) k))) (look_second (λ t u. g (same_symbol (symbol u) k))) F W i
-second_good k f g i good moves one =
-    look_second_good (λ t u. f (same_symbol (symbol u) k)) (λ t u. g (same_symbol (symbol u) k)) i (moves (same_symbol (next (behind i)) k) refl) one (good (same_symbol (next (behind i)) k) refl)
+    → Completes U (look_second (λ t u. g (same_symbol (symbol u) k))) F W (head i ∷ [])
+    → ((why : Refusal) (u : Token) (r : Tokens) → J.right why (head i ∷ []) r → elsewhere why u ≡ true → ⊥)
+    → GoodAt U J (look_second (λ t u. f (same_symbol (symbol u) k))) (look_second (λ t u. g (same_symbol (symbol u) k))) F W i
+second_good k f g i good moves one named =
+    look_second_good (λ t u. f (same_symbol (symbol u) k)) (λ t u. g (same_symbol (symbol u) k)) i (moves (same_symbol (next (behind i)) k) refl) one named (good (same_symbol (next (behind i)) k) refl)

@@ -5,7 +5,7 @@ use Rattle.ja_grammar.specs.Input.{Tokens, Outcome, Done, Refused, Parser, and_t
 use Rattle.ja_grammar.specs.Productions.{Rule, Many}
 use Rattle.ja_grammar.proofs.Outcomes.{done_value, done_rest, bind_inverse}
 use Rattle.ja_grammar.proofs.Shrinks.{ShrinksAt, Shrinks, bind_shrinks, pure_shrinks}
-use Rattle.ja_grammar.proofs.Good.{Follow, Reason, Sample, GoodAt, Closed, pure_good, bind_good_with}
+use Rattle.ja_grammar.proofs.Good.{Follow, Reason, Sample, GoodAt, Closed, pure_good, bind_good}
 use Rattle.ja_grammar.proofs.Steps.{end_sample}
 
 -- each turn that goes on takes a token, and none goes on where no token is left
@@ -79,52 +79,42 @@ OfSome V None = ⊥
 OfSome V (Some a) = V a
 
 -- A list of turns: the general form. `V` is asked of what completes a turn, `sample` completes the list behind it.
-pub many_good_with : {A : Type 0} {F G : Follow} {V W : A → Type 0} {J : A → Reason} (turn next_turn : A → Parser (Option A)) → Turns turn → Turns next_turn
-    → ((a : A) (i : Tokens) → GoodAt (J a) (turn a) (next_turn a) F (OfSome V) i)
-    → ((a : A) → V a → Sample (many next_turn a) F G W)
-    → ((a b : A) (why : Refusal) (w v r : Tokens) → turn a (w ++ (v ++ r)) ≡ Done (Some b) (v ++ r) → J b why v r → J a why (w ++ v) r)
-    → (a : A) (i : Tokens) → GoodAt (J a) (many turn a) (many next_turn a) G W i
-many_good_with {A} {F} {G} {V} {W} {J} turn next_turn T T' good sample step a i = by (length i) a i (le_refl (length i))
+pub many_good_with : {U : Tokens} {O : Refusal} {A : Type 0} {F G : Follow} {V W : A → Type 0} {J : Reason O} (turn next_turn : A → Parser (Option A)) → Closed J → Turns turn → Turns next_turn
+    → ((a : A) (i : Tokens) → GoodAt U J (turn a) (next_turn a) F (OfSome V) i)
+    → ((a : A) → V a → Sample U (many next_turn a) F G W)
+    → (a : A) (i : Tokens) → GoodAt U J (many turn a) (many next_turn a) G W i
+many_good_with {U} {O} {A} {F} {G} {V} {W} {J} turn next_turn closed T T' good sample a i = by (length i) a i (le_refl (length i))
   where
-    L : A → Option A → Reason
-    L a None why w r = ⊥
-    L a (Some b) why w r = J b why w r
-
-    samples : (a : A) (o : Option A) → OfSome V o → Sample (after_turn a (many next_turn) o) F G W
+    samples : (a : A) (o : Option A) → OfSome V o → Sample U (after_turn a (many next_turn) o) F G W
     samples a None v = absurd v
     samples a (Some b) v = sample b v
 
-    steps : (a : A) (o : Option A) (why : Refusal) (w v r : Tokens) → turn a (w ++ (v ++ r)) ≡ Done o (v ++ r) → L a o why v r → J a why (w ++ v) r
-    steps a None why w v r e h = absurd h
-    steps a (Some b) why w v r e h = step a b why w v r e h
+    once : (a : A) (i : Tokens) → ((o : Option A) (r : Tokens) → turn a i ≡ Done o r → GoodAt U J (after_turn a (many turn) o) (after_turn a (many next_turn) o) G W r)
+        → GoodAt U J (many turn a) (many next_turn a) G W i
+    once a i second = subst (λ p. GoodAt U J p (many next_turn a) G W i) (sym (many_is_once turn T a))
+        (subst (λ q. GoodAt U J (turn a >>= after_turn a (many turn)) q G W i) (sym (many_is_once next_turn T' a))
+        (bind_good i closed (good a i) second (samples a)))
 
-    once : (a : A) (i : Tokens) → ((o : Option A) (r : Tokens) → turn a i ≡ Done o r → GoodAt (L a o) (after_turn a (many turn) o) (after_turn a (many next_turn) o) G W r)
-        → GoodAt (J a) (many turn a) (many next_turn a) G W i
-    once a i second = subst (λ p. GoodAt (J a) p (many next_turn a) G W i) (sym (many_is_once turn T a))
-        (subst (λ q. GoodAt (J a) (turn a >>= after_turn a (many turn)) q G W i) (sym (many_is_once next_turn T' a))
-        (bind_good_with i (good a i) second (samples a) (λ why w r h. h) (steps a)))
-
-    by : (n : ℕ) (a : A) (i : Tokens) → length i ≤ n → GoodAt (J a) (many turn a) (many next_turn a) G W i
+    by : (n : ℕ) (a : A) (i : Tokens) → length i ≤ n → GoodAt U J (many turn a) (many next_turn a) G W i
     by zero a i few = once a i second
       where
-        second : (o : Option A) (r : Tokens) → turn a i ≡ Done o r → GoodAt (L a o) (after_turn a (many turn) o) (after_turn a (many next_turn) o) G W r
-        second None r e = pure_good (L a None) G W a r
+        second : (o : Option A) (r : Tokens) → turn a i ≡ Done o r → GoodAt U J (after_turn a (many turn) o) (after_turn a (many next_turn) o) G W r
+        second None r e = pure_good J G W a r
         second (Some b) r e = absurd (let fewer = T.takes a i b r e in omega arith)
     by (suc n) a i few = once a i (second (by n))
       where
-        second : ((b : A) (r : Tokens) → length r ≤ n → GoodAt (J b) (many turn b) (many next_turn b) G W r)
-            → (o : Option A) (r : Tokens) → turn a i ≡ Done o r → GoodAt (L a o) (after_turn a (many turn) o) (after_turn a (many next_turn) o) G W r
-        second ih None r e = pure_good (L a None) G W a r
+        second : ((b : A) (r : Tokens) → length r ≤ n → GoodAt U J (many turn b) (many next_turn b) G W r)
+            → (o : Option A) (r : Tokens) → turn a i ≡ Done o r → GoodAt U J (after_turn a (many turn) o) (after_turn a (many next_turn) o) G W r
+        second ih None r e = pure_good J G W a r
         second ih (Some b) r e = let fewer = T.takes a i b r e in ih b r (omega arith)
 
--- A list of turns, with one reason, that ends where F follows
-pub many_good : {A : Type 0} {F : Follow} {W : A → Type 0} {J : Reason} (turn next_turn : A → Parser (Option A)) → Closed J → Turns turn → Turns next_turn
-    → ((a : A) (i : Tokens) → GoodAt J (turn a) (next_turn a) F (OfSome W) i)
+-- a list of turns that ends where F follows
+pub many_good : {U : Tokens} {O : Refusal} {A : Type 0} {F : Follow} {W : A → Type 0} {J : Reason O} (turn next_turn : A → Parser (Option A)) → Closed J → Turns turn → Turns next_turn
+    → ((a : A) (i : Tokens) → GoodAt U J (turn a) (next_turn a) F (OfSome W) i)
     → ((a : A) (tail : Tokens) → F tail → next_turn a tail ≡ Done None tail)
-    → (a : A) (i : Tokens) → GoodAt J (many turn a) (many next_turn a) F W i
-many_good {J = J} turn next_turn closed T T' good ends a i = many_good_with {J = λ _. J} turn next_turn T T' good
-    (λ b w. end_sample b w (λ tail h. h) (λ tail h. many_end next_turn b tail (ends b tail h)))
-    (λ a b why w v r e h. closed why w v r h) a i
+    → (a : A) (i : Tokens) → GoodAt U J (many turn a) (many next_turn a) F W i
+many_good turn next_turn closed T T' good ends a i = many_good_with turn next_turn closed T T' good
+    (λ b w. end_sample b w (λ tail h. h) (λ tail h. many_end next_turn b tail (ends b tail h))) a i
 
 -- ---- what is read
 

@@ -2,6 +2,7 @@
 use Rattle.std.proofs.Common.{◌≡◌, suc, ◌≤◌, Bool, true, false, List, [], ◌∷◌, ◌++◌, length, Option, Some, None, refl, sym, ap, ◌∙◌, subst}
 use Rattle.ja_syntax.specs.declared.symbol.Symbol.{Symbol}
 use Rattle.ja_syntax.specs.declared.symbol.Symbol.TheVariants.{End}
+use Rattle.ja_grammar.specs.declared.fault.Refusal.{Refusal}
 use Rattle.ja_grammar.specs.Input.{Tokens, next, symbol, Done, Parser, and_then, pure, look, many, until_by, until}
 use Rattle.ja_grammar.specs.Productions.{Rule, Many}
 use Rattle.ja_grammar.proofs.Outcomes.{end_is, none_not_some, done_value}
@@ -39,36 +40,36 @@ pub until_goes : {A : Type 0} (ends : Symbol → Bool) (item : Parser A) → end
 until_goes ends item last takes found i m x h e = many_goes (until_turn ends item) (until_turns ends item last takes) found (found ++ x ∷ []) i m
     (ap (λ b. until_by item found b i) h ∙ ap (λ o. and_then o (λ x. pure (Some (found ++ x ∷ [])))) e)
 
-turn_good : {A : Type 0} {F : Follow} {J : Reason} (ends : Symbol → Bool) (item next_item : Parser A) → Closed J
-    → ((i : Tokens) → ends (next i) ≡ false → GoodAt J item next_item F Any i)
-    → (found : List A) (i : Tokens) → GoodAt J (until_turn ends item found) (until_turn ends next_item found) F (OfSome Any) i
-turn_good {A} {F} {J} ends item next_item closed good found i =
+turn_good : {U : Tokens} {A : Type 0} {F : Follow} {O : Refusal} {J : Reason O} (ends : Symbol → Bool) (item next_item : Parser A) → Closed J
+    → ((i : Tokens) → ends (next i) ≡ false → GoodAt U J item next_item F Any i)
+    → (found : List A) (i : Tokens) → GoodAt U J (until_turn ends item found) (until_turn ends next_item found) F (OfSome Any) i
+turn_good {U} {A} {F} {O} {J} ends item next_item closed good found i =
     look_good (λ t. until_by item found (ends (symbol t))) (λ t. until_by next_item found (ends (symbol t))) i (go (ends (next i)) refl)
   where
-    go : (b : Bool) → ends (next i) ≡ b → GoodAt J (until_by item found (ends (next i))) (until_by next_item found (ends (next i))) F (OfSome Any) i
-    go true e = subst (λ b. GoodAt J (until_by item found b) (until_by next_item found b) F (OfSome Any) i) (sym e) (pure_good J F (OfSome Any) None i)
-    go false e = subst (λ b. GoodAt J (until_by item found b) (until_by next_item found b) F (OfSome Any) i) (sym e)
+    go : (b : Bool) → ends (next i) ≡ b → GoodAt U J (until_by item found (ends (next i))) (until_by next_item found (ends (next i))) F (OfSome Any) i
+    go true e = subst (λ b. GoodAt U J (until_by item found b) (until_by next_item found b) F (OfSome Any) i) (sym e) (pure_good J F (OfSome Any) None i)
+    go false e = subst (λ b. GoodAt U J (until_by item found b) (until_by next_item found b) F (OfSome Any) i) (sym e)
         (bind_good i closed (good i e) (λ x r _. pure_good J F (OfSome Any) (Some (found ++ x ∷ [])) r) (λ x _. pure_sample (Some (found ++ x ∷ [])) tt))
 
 -- Items up to a symbol: F may follow an item; `sample` completes the list behind any items.
-pub until_good_with : {A : Type 0} {F G : Follow} {W : List A → Type 0} {J : Reason} (ends : Symbol → Bool) (item next_item : Parser A) → Closed J → ends End ≡ true → Takes item → Takes next_item
-    → ((i : Tokens) → ends (next i) ≡ false → GoodAt J item next_item F Any i)
-    → ((found : List A) → Sample (many (until_turn ends next_item) found) F G W)
-    → (i : Tokens) → GoodAt J (until ends item) (until ends next_item) G W i
+pub until_good_with : {U : Tokens} {A : Type 0} {F G : Follow} {W : List A → Type 0} {O : Refusal} {J : Reason O} (ends : Symbol → Bool) (item next_item : Parser A) → Closed J → ends End ≡ true → Takes item → Takes next_item
+    → ((i : Tokens) → ends (next i) ≡ false → GoodAt U J item next_item F Any i)
+    → ((found : List A) → Sample U (many (until_turn ends next_item) found) F G W)
+    → (i : Tokens) → GoodAt U J (until ends item) (until ends next_item) G W i
 unfolding until
 until_good_with {J = J} ends item next_item closed last takes takes' good sample i =
-    many_good_with {J = λ _. J} (until_turn ends item) (until_turn ends next_item) (until_turns ends item last takes) (until_turns ends next_item last takes')
-    (turn_good ends item next_item closed good) (λ found _. sample found) (λ a b why w v r e h. closed why w v r h) [] i
+    many_good_with (until_turn ends item) (until_turn ends next_item) closed (until_turns ends item last takes) (until_turns ends next_item last takes')
+    (turn_good ends item next_item closed good) (λ found _. sample found) [] i
 
 -- items up to a symbol, where F follows
-pub until_good : {A : Type 0} {F : Follow} {J : Reason} (ends : Symbol → Bool) (item next_item : Parser A) → Closed J → ends End ≡ true → Takes item → Takes next_item
-    → ((i : Tokens) → ends (next i) ≡ false → GoodAt J item next_item F Any i)
+pub until_good : {U : Tokens} {A : Type 0} {F : Follow} {O : Refusal} {J : Reason O} (ends : Symbol → Bool) (item next_item : Parser A) → Closed J → ends End ≡ true → Takes item → Takes next_item
+    → ((i : Tokens) → ends (next i) ≡ false → GoodAt U J item next_item F Any i)
     → ((tail : Tokens) → F tail → ends (next tail) ≡ true)
-    → (i : Tokens) → GoodAt J (until ends item) (until ends next_item) F Any i
+    → (i : Tokens) → GoodAt U J (until ends item) (until ends next_item) F Any i
 until_good ends item next_item closed last takes takes' good stops i =
     until_good_with ends item next_item closed last takes takes' good (λ found. end_sample found tt (λ tail h. h) (λ tail h. until_ends ends next_item found tail (stops tail h))) i
 
 -- a list that ends at once completes
-pub until_sample : {A : Type 0} {F : Follow} (ends : Symbol → Bool) (item : Parser A) → ((tail : Tokens) → F tail → ends (next tail) ≡ true) → Sample (until ends item) F F Any
+pub until_sample : {U : Tokens} {A : Type 0} {F : Follow} (ends : Symbol → Bool) (item : Parser A) → ((tail : Tokens) → F tail → ends (next tail) ≡ true) → Sample U (until ends item) F F Any
 unfolding until
 until_sample ends item stops = end_sample [] tt (λ tail h. h) (λ tail h. until_ends ends item [] tail (stops tail h))

@@ -1,16 +1,15 @@
 -- From a reading that gave a value to what each of its parts gave, part by part; and entering a label.
-use Rattle.std.proofs.Common.{◌≡◌, ◌≢◌, ℕ, zero, suc, ◌<◌, ◌∷◌, if◌then◌else◌, refl, sym, ap, ◌∙◌, subst, le_trans, arith}
-use Rattle.std.proofs.Math.Dec.{eqb-suc-zero}
+use Rattle.std.proofs.Common.{◌≡◌, ◌≢◌, false, ◌∷◌, sym, ap, ◌∙◌, subst, le_trans}
 use Rattle.ja_base.specs.declared.ids.Place.{Place}
 use Rattle.ja_lex.specs.declared.token.Token.{Token}
 use Rattle.ja_syntax.specs.declared.symbol.Symbol.{Symbol}
 use Rattle.ja_syntax.specs.declared.symbol.Symbol.TheVariants.{End}
 use Rattle.ja_grammar.specs.declared.fault.Refusal.TheVariants.{DeepLabel}
-use Rattle.ja_grammar.specs.Input.{Tokens, head, next, behind, Outcome, Done, Refused, Parser, and_then, refuse, take_token, enter, opening, expect}
-use Rattle.ja_grammar.specs.Productions.{Is}
+use Rattle.ja_grammar.specs.Input.{Tokens, head, next, behind, Outcome, Done, Parser, and_then, take_token, enter, opening, expect, Rules}
+use Rattle.ja_grammar.specs.Productions.{Is, HasRoom}
 use Rattle.ja_grammar.specs.ReadStatement.{enter_label}
 use Rattle.ja_grammar.proofs.Opening.{opening_inverse}
-use Rattle.ja_grammar.proofs.Outcomes.{same_done, refused_not_done, cons_of, then_inverse, expect_inverse, enter_done, entered}
+use Rattle.ja_grammar.proofs.Outcomes.{same_done, cons_of, then_inverse, expect_inverse, unless_reads, unless_inverse, enter_done, entered}
 use Rattle.ja_grammar.proofs.Shrinks.{TakesAt, behind_shrinks}
 
 -- the same outcome, its rest written otherwise
@@ -31,12 +30,12 @@ pub begins : (P : Tokens → Type 0) (κ : Symbol) (i : Tokens) → κ ≢ End �
 begins P κ i more h go = subst P (sym (cons_of i (λ ends. more (sym h ∙ ends)))) (go (head i) (behind i) h)
 
 -- a rule that begins with an opening token
-pub after_opening : {B : Type 0} (d : ℕ) (κ : Symbol) {f : Token → Parser B} (P : Tokens → Type 0) (i : Tokens) {v : B} {r : Tokens} → κ ≢ End
-    → and_then (opening d κ i) f ≡ Done v r → ((t : Token) (m : Tokens) → Is κ t → 0 < d → f t m ≡ Done v r → P (t ∷ m)) → P i
-after_opening d κ {f} P i more e go =
-    let s = then_inverse (opening d κ i) f e in
-    let t = opening_inverse d κ i more s.2 in
-    subst P (sym t.1) (go s.0 s.1 t.2 t.0 s.3)
+pub after_opening : {B : Type 0} (g : Rules) (κ : Symbol) {f : Token → Parser B} (P : Tokens → Type 0) (i : Tokens) {v : B} {r : Tokens} → κ ≢ End
+    → and_then (opening g κ i) f ≡ Done v r → ((t : Token) (m : Tokens) → Is κ t → HasRoom g (t ∷ m) → f t m ≡ Done v r → P (t ∷ m)) → P i
+after_opening g κ {f} P i more e go =
+    let s = then_inverse (opening g κ i) f e in
+    let t = opening_inverse g κ i more s.2 in
+    subst P (sym t.1) (go s.0 s.1 t.2 (subst (λ x. HasRoom g x) t.1 t.0) s.3)
 
 -- a rule that begins with a token of this symbol
 pub after_first : {B : Type 0} (κ : Symbol) {f : Token → Parser B} (P : Tokens → Type 0) (i : Tokens) {v : B} {r : Tokens} → κ ≢ End
@@ -55,20 +54,20 @@ after_expect κ {f} i more e go =
     go s.0 s.1 t.0 t.1 s.3
 
 -- an opening token inside a rule
-pub after_open : {B : Type 0} (d : ℕ) (κ : Symbol) {f : Token → Parser B} (i : Tokens) {v : B} {r : Tokens} {P : Type 0} → κ ≢ End
-    → and_then (opening d κ i) f ≡ Done v r → ((t : Token) (m : Tokens) → i ≡ t ∷ m → Is κ t → 0 < d → f t m ≡ Done v r → P) → P
-after_open d κ {f} i more e go =
-    let s = then_inverse (opening d κ i) f e in
-    let t = opening_inverse d κ i more s.2 in
-    go s.0 s.1 t.1 t.2 t.0 s.3
+pub after_open : {B : Type 0} (g : Rules) (κ : Symbol) {f : Token → Parser B} (i : Tokens) {v : B} {r : Tokens} {P : Type 0} → κ ≢ End
+    → and_then (opening g κ i) f ≡ Done v r → ((t : Token) (m : Tokens) → i ≡ t ∷ m → Is κ t → HasRoom g (t ∷ m) → f t m ≡ Done v r → P) → P
+after_open g κ {f} i more e go =
+    let s = then_inverse (opening g κ i) f e in
+    let t = opening_inverse g κ i more s.2 in
+    go s.0 s.1 t.1 t.2 (subst (λ x. HasRoom g x) t.1 t.0) s.3
 
 -- a token that counts
-pub after_enter : {B : Type 0} (d : ℕ) (t : Token) (i : Tokens) (f : Token → Parser B) {v : B} {r : Tokens} {P : Type 0}
-    → and_then (enter d (t ∷ i)) f ≡ Done v r → (0 < d → f t i ≡ Done v r → P) → P
-after_enter d t i f e go =
-    let s = then_inverse (enter d (t ∷ i)) f e in
-    let some : 0 < d = entered d (t ∷ i) s.2 in
-    go some (sym (ap (λ o. and_then o f) (enter_done d t i some)) ∙ e)
+pub after_enter : {B : Type 0} (g : Rules) (t : Token) (i : Tokens) (f : Token → Parser B) {v : B} {r : Tokens} {P : Type 0}
+    → and_then (enter g (t ∷ i)) f ≡ Done v r → (HasRoom g (t ∷ i) → f t i ≡ Done v r → P) → P
+after_enter g t i f e go =
+    let s = then_inverse (enter g (t ∷ i)) f e in
+    let room = entered g (t ∷ i) s.2 in
+    go room (sym (ap (λ o. and_then o f) (enter_done g t i room)) ∙ e)
 
 -- what takes a token behind the next one takes a token
 pub behind_takes : {A : Type 0} {p q : Parser A} (i : Tokens) → TakesAt q (behind i) → p i ≡ q (behind i) → TakesAt p i
@@ -80,25 +79,18 @@ same_takes i h e = record { takes = λ a r at. h.takes a r (sym e ∙ at) }
 
 -- ---- the `:` of a label
 
-pub enter_label_is : (d : ℕ) (place : Place) → 0 < d → enter_label d place ≡ take_token
+pub enter_label_done : (g : Rules) (place : Place) (t : Token) (r : Tokens) → g (DeepLabel place) (t ∷ r) ≡ false → enter_label g place (t ∷ r) ≡ Done t r
 unfolding enter_label
-enter_label_is zero place some = absurd (omega arith)
-enter_label_is (suc d) place some = λ n. λ i. if eqb-suc-zero d n then Refused (DeepLabel place) i else Done (head i) (behind i)
+enter_label_done g place t r room = unless_reads g (DeepLabel place) take_token (t ∷ r) room
 
-pub enter_label_zero : (place : Place) → enter_label 0 place ≡ refuse (DeepLabel place)
+pub labelled_entered : (g : Rules) (place : Place) (i : Tokens) {t : Token} {r : Tokens} → enter_label g place i ≡ Done t r
+    → (g (DeepLabel place) i ≡ false) × (take_token i ≡ Done t r)
 unfolding enter_label
-enter_label_zero place = refl
+labelled_entered g place i e = unless_inverse g (DeepLabel place) take_token i e
 
-pub enter_label_done : (d : ℕ) (place : Place) (t : Token) (r : Tokens) → 0 < d → enter_label d place (t ∷ r) ≡ Done t r
-enter_label_done d place t r some = ap (λ p. p (t ∷ r)) (enter_label_is d place some)
-
-pub labelled_entered : (d : ℕ) (place : Place) (i : Tokens) {t : Token} {r : Tokens} → enter_label d place i ≡ Done t r → 0 < d
-labelled_entered zero place i e = absurd (refused_not_done (ap (λ p. p i) (sym (enter_label_zero place)) ∙ e))
-labelled_entered (suc d) place i e = omega arith
-
-pub after_label : {B : Type 0} (d : ℕ) (place : Place) (t : Token) (i : Tokens) (f : Token → Parser B) {v : B} {r : Tokens} {P : Type 0}
-    → and_then (enter_label d place (t ∷ i)) f ≡ Done v r → (0 < d → f t i ≡ Done v r → P) → P
-after_label d place t i f e go =
-    let s = then_inverse (enter_label d place (t ∷ i)) f e in
-    let some : 0 < d = labelled_entered d place (t ∷ i) s.2 in
-    go some (sym (ap (λ o. and_then o f) (enter_label_done d place t i some)) ∙ e)
+pub after_label : {B : Type 0} (g : Rules) (place : Place) (t : Token) (i : Tokens) (f : Token → Parser B) {v : B} {r : Tokens} {P : Type 0}
+    → and_then (enter_label g place (t ∷ i)) f ≡ Done v r → (g (DeepLabel place) (t ∷ i) ≡ false → f t i ≡ Done v r → P) → P
+after_label g place t i f e go =
+    let s = then_inverse (enter_label g place (t ∷ i)) f e in
+    let room = (labelled_entered g place (t ∷ i) s.2).0 in
+    go room (sym (ap (λ o. and_then o f) (enter_label_done g place t i room)) ∙ e)

@@ -1,5 +1,5 @@
 -- What stands around a statement, within its function.
-use Rattle.std.specs.Prelude.{ℕ, zero, suc, ◌+◌, Bool, true, false, ◌&&◌, List, [], ◌∷◌, map}
+use Rattle.std.specs.Prelude.{ℕ, zero, suc, Bool, true, false, not, ◌&&◌, ◌||◌, ◌==◌, List, [], ◌∷◌, length, map}
 use Rattle.std.specs.List.{list_any}
 use Rattle.std.specs.Str.{bytes_eq}
 use Rattle.ja_grammar.specs.declared.context.Context.{Context as Stored}
@@ -57,3 +57,7 @@ has_label c name = list_any (λ l. bytes_eq l.name name) c.labels
 -- there is a loop with a label of this name
 unfoldable pub has_loop : Context → List ℕ → Bool
 has_loop c name = list_any (λ l. l.is_loop && bytes_eq l.name name) c.labels
+
+-- a `break` may stand here (12.8)
+abbrev pub may_break : Context → Bool
+may_break c = c.in_breakable || not (length c.labels == 0)

@@ -1,13 +1,12 @@
 -- What reads tokens: how reading ends, and the steps that every rule is made of.
 use Rattle.std.specs.Prelude.{◌≡◌, ℕ, zero, suc, Bool, true, false, ◌==◌, if◌then◌else◌, List, [], ◌∷◌, ◌++◌, length, Option, Some, None, Result, Ok, Err}
-use Rattle.ja_base.specs.declared.ids.Place.{Place}
 use Rattle.ja_lex.specs.declared.token.Token.{Token}
 use Rattle.ja_lex.specs.declared.token.TokenKind.TheVariants.{End}
 use Rattle.ja_syntax.specs.declared.symbol.Symbol.{Symbol}
 use Rattle.ja_syntax.specs.declared.symbol.Symbol.TheVariants.{Comma}
 use Rattle.ja_syntax.specs.Symbols.{symbol_of, same_symbol}
 use Rattle.ja_grammar.specs.declared.fault.Refusal.{Refusal}
-use Rattle.ja_grammar.specs.declared.fault.Refusal.TheVariants.{Unexpected, Deep}
+use Rattle.ja_grammar.specs.declared.fault.Refusal.TheVariants.{Unexpected, Deep, DeepLabel}
 use Rattle.ja_grammar.specs.declared.fault.Stop.{Stop}
 use Rattle.ja_grammar.specs.declared.fault.Stop.TheVariants.{Refused as IsRefused, Memory}
 
@@ -78,13 +77,29 @@ look_second f = λ i. f (head i) (head (behind i)) i
 abbrev pub take_token : Parser Token
 take_token = λ i. Done (head i) (behind i)
 
--- takes a token that counts, from the number of levels that are left
-unfoldable pub enter : ℕ → Parser Token
-enter d = λ i. if d == 0 then Refused Deep i else Done (head i) (behind i)
+-- ---- rules
+
+-- Which rules are asked before tokens: whether there is this refusal.
+abbrev pub Rules : Type 0
+Rules = Refusal → Tokens → Bool
+
+-- the rules of the language, where so many levels are left
+unfoldable pub strict : ℕ → Rules
+strict d Deep i = d == 0
+strict d (DeepLabel place) i = d == 0
+strict d _ i = true
+
+-- reads, unless the rule of a refusal is asked
+abbrev pub unless : {A : Type 0} → Rules → Refusal → Parser A → Parser A
+unless g why p = λ i. if g why i then Refused why i else p i
+
+-- takes a token that counts
+unfoldable pub enter : Rules → Parser Token
+enter g = unless g Deep take_token
 
 -- takes a token with this symbol, which counts
-unfoldable pub opening : ℕ → Symbol → Parser Token
-opening d k = λ i. if same_symbol (next i) k then enter d i else Refused Unexpected i
+unfoldable pub opening : Rules → Symbol → Parser Token
+opening g k = λ i. if same_symbol (next i) k then enter g i else Refused Unexpected i
 
 -- takes a token with this symbol
 unfoldable pub expect : Symbol → Parser Token

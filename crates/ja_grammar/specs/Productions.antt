@@ -1,9 +1,10 @@
 -- The forms of which the productions of the grammar are made. A rule relates tokens, what they say, and the tokens that are left.
-use Rattle.std.specs.Prelude.{◌≡◌, ◌≢◌, List, [], ◌∷◌}
+use Rattle.std.specs.Prelude.{◌≡◌, ◌≢◌, false, List, [], ◌∷◌}
 use Rattle.ja_lex.specs.declared.token.Token.{Token}
 use Rattle.ja_syntax.specs.declared.symbol.Symbol.{Symbol}
 use Rattle.ja_syntax.specs.declared.symbol.Symbol.TheVariants.{Comma}
-use Rattle.ja_grammar.specs.Input.{Tokens, symbol, next}
+use Rattle.ja_grammar.specs.declared.fault.Refusal.TheVariants.{Deep}
+use Rattle.ja_grammar.specs.Input.{Tokens, symbol, next, Rules}
 
 abbrev pub Rule : Type 0 → Type 1
 Rule X = Tokens → X → Tokens → Type 0
@@ -19,6 +20,10 @@ At k i = next i ≡ k
 -- the next token has not the symbol
 abbrev pub NotAt : Symbol → Tokens → Type 0
 NotAt k i = next i ≢ k
+
+-- a level is left for the next token, which counts
+abbrev pub HasRoom : Rules → Tokens → Type 0
+HasRoom g i = g Deep i ≡ false
 
 -- as many as there are: the tokens behind satisfy `Stop`
 pub data Many {X : Type 0} (One : Rule X) (Stop : Tokens → Type 0) : Tokens → List X → Tokens → Type 0 where

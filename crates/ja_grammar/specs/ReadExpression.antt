@@ -1,5 +1,5 @@
--- How an expression is read, token by token: one function a rule of the grammar, at a number of levels that are left.
-use Rattle.std.specs.Prelude.{ℕ, zero, suc, Bool, true, false, not, ◌&&◌, is_none, if◌then◌else◌, List, [], ◌∷◌, Option, Some, None}
+-- How an expression is read, token by token: one function a rule of the grammar, by the rules that are asked.
+use Rattle.std.specs.Prelude.{ℕ, zero, suc, Bool, true, false, not, is_none, List, [], Option, Some, None}
 use Rattle.ja_base.specs.declared.ids.Place.{Place}
 use Rattle.ja_prim.specs.declared.primitive.Primitive.{Primitive}
 use Rattle.ja_lex.specs.declared.token.Token.{Token}
@@ -20,14 +20,14 @@ use Rattle.ja_syntax.specs.declared.tree.UnaryOperator.{UnaryOperator}
 use Rattle.ja_syntax.specs.declared.tree.UpdateOperator.{UpdateOperator}
 use Rattle.ja_syntax.specs.References.{is_reference}
 use Rattle.ja_syntax.specs.Symbols.{is_arguments}
-use Rattle.ja_grammar.specs.declared.fault.Refusal.TheVariants.{Unexpected, RegExp, Arguments, Broken}
+use Rattle.ja_grammar.specs.declared.fault.Refusal.TheVariants.{Unexpected, RegExp, Arguments, Broken, Operand}
 use Rattle.ja_grammar.specs.declared.part.ExpressionPart.{ExpressionPart}
 use Rattle.ja_grammar.specs.declared.part.ExpressionPart.TheVariants as part
 use Rattle.ja_grammar.specs.declared.part.StatementPart.{StatementPart}
 use Rattle.ja_grammar.specs.declared.part.StatementPart.TheVariants as of_statement
 use Rattle.ja_grammar.specs.Contexts.{Context, function_context}
 use Rattle.ja_grammar.specs.Forms.{name_of, literal_of, property_name, begins_property, begins_suffix, postfix_of, is_prefix, chained, operated, sequence}
-use Rattle.ja_grammar.specs.Input.{Parser, ◌>>=◌, ◌>>◌, pure, refuse, look, take_token, enter, opening, expect, until, separated, listed, symbol}
+use Rattle.ja_grammar.specs.Input.{Rules, unless, Parser, ◌>>=◌, ◌>>◌, pure, refuse, look, take_token, enter, opening, expect, until, separated, listed, symbol}
 use Rattle.ja_grammar.specs.Operators.{binary_operator, levels, unary_operator, prefix_update, assignment_operator}
 
 -- how the parts are read that stand one level below
@@ -37,24 +37,25 @@ pub record Below : Type 0 where
 
 -- ---- names
 
-abbrev pub declared_name : Token → Bool → Parser Name
-declared_name t true = refuse Arguments
-declared_name t false = take_token >> pure (name_of t)
+module _ (g : Rules) where
+  abbrev pub declared_name : Token → Bool → Parser Name
+  declared_name t true = unless g Arguments (take_token >> pure (name_of t))
+  declared_name t false = take_token >> pure (name_of t)
 
-abbrev pub declared_by : Token → Symbol → Parser Name
-declared_by t k.Name = declared_name t (is_arguments t.kind)
-declared_by t _ = refuse Unexpected
+  abbrev pub declared_by : Token → Symbol → Parser Name
+  declared_by t k.Name = declared_name t (is_arguments t.kind)
+  declared_by t _ = refuse Unexpected
 
-unfoldable pub declared : Parser Name
-declared = look (λ t. declared_by t (symbol t))
+  unfoldable pub declared : Parser Name
+  declared = look (λ t. declared_by t (symbol t))
 
-abbrev pub function_name_by : Bool → Symbol → Parser (Option Name)
-function_name_by required k.Name = declared >>= (λ x. pure (Some x))
-function_name_by true _ = refuse Unexpected
-function_name_by false _ = pure None
+  abbrev pub function_name_by : Bool → Symbol → Parser (Option Name)
+  function_name_by required k.Name = declared >>= (λ x. pure (Some x))
+  function_name_by true _ = refuse Unexpected
+  function_name_by false _ = pure None
 
-unfoldable pub function_name : Bool → Parser (Option Name)
-function_name required = look (λ t. function_name_by required (symbol t))
+  unfoldable pub function_name : Bool → Parser (Option Name)
+  function_name required = look (λ t. function_name_by required (symbol t))
 
 -- ends the statements of a block: a brace, or the end of the text, where the brace is missed
 abbrev pub is_close_brace : Symbol → Bool
@@ -68,7 +69,7 @@ is_close_bracket k.CloseBracket = true
 is_close_bracket k.End = true
 is_close_bracket _ = false
 
-module _ (d : ℕ) (b : Below) where
+module _ (g : Rules) (b : Below) where
   -- an expression with commas, and one without, one level below
   abbrev pub whole_below : Bool → Parser Expression
   whole_below no_in = b.expression (part.Whole no_in)
@@ -106,40 +107,40 @@ module _ (d : ℕ) (b : Below) where
 
   unfoldable pub function_body : Parser (List Statement)
   function_body = do
-    opening d k.OpenBrace
+    opening g k.OpenBrace
     body ← until is_close_brace (b.statement function_context (of_statement.Whole 0 true))
     expect k.CloseBrace
     pure body
 
   unfoldable pub parameters : Parser (List Name)
   parameters = do
-    opening d k.OpenParenthesis
-    listed k.CloseParenthesis declared
+    opening g k.OpenParenthesis
+    listed k.CloseParenthesis (declared g)
 
   unfoldable pub function : Bool → Parser (FunctionOf Statement)
   function required = do
     t ← expect k.Function
-    name ← function_name required
+    name ← function_name g required
     xs ← parameters
     body ← function_body
     pure (record { name = name; parameters = xs; body = body; place = t.place })
 
   unfoldable pub array : Parser Expression
   array = do
-    t ← enter d
+    t ← enter g
     xs ← until is_close_bracket element
     expect k.CloseBracket
     pure (e.Array xs t.place)
 
   unfoldable pub object : Parser Expression
   object = do
-    t ← enter d
+    t ← enter g
     xs ← listed k.CloseBrace property
     pure (e.Object xs t.place)
 
   unfoldable pub parenthesized : Parser Expression
   parenthesized = do
-    enter d
+    enter g
     x ← whole_below false
     expect k.CloseParenthesis
     pure x
@@ -151,6 +152,10 @@ module _ (d : ℕ) (b : Below) where
   unfoldable pub literal : Parser Expression
   literal = look (λ t. literal_by t (literal_of t))
 
+  -- a regular expression has no tree: `this` stands for it
+  abbrev pub regular_expression : Token → Parser Expression
+  regular_expression t = unless g RegExp (take_token >> pure (e.This t.place))
+
   abbrev pub primary_by : Token → Symbol → Parser Expression
   primary_by t k.This = take_token >> pure (e.This t.place)
   primary_by t k.Name = take_token >> pure (e.Name (name_of t))
@@ -158,8 +163,8 @@ module _ (d : ℕ) (b : Below) where
   primary_by t k.OpenBrace = object
   primary_by t k.OpenParenthesis = parenthesized
   primary_by t k.Function = function false >>= (λ f. pure (e.Function f))
-  primary_by t k.Divide = refuse RegExp
-  primary_by t k.DivideAssign = refuse RegExp
+  primary_by t k.Divide = regular_expression t
+  primary_by t k.DivideAssign = regular_expression t
   primary_by t _ = literal
 
   unfoldable pub primary : Parser Expression
@@ -168,7 +173,7 @@ module _ (d : ℕ) (b : Below) where
   -- ---- members, calls and `new` (11.2)
 
   abbrev pub head_by : Token → Symbol → Parser Expression
-  head_by t k.New = enter d >> b.expression (part.Created t.place)
+  head_by t k.New = enter g >> b.expression (part.Created t.place)
   head_by t _ = primary
 
   unfoldable pub chain_head : Parser Expression
@@ -182,7 +187,7 @@ module _ (d : ℕ) (b : Below) where
 
   unfoldable pub indexed : Parser (Suffix Expression)
   indexed = do
-    t ← enter d
+    t ← enter g
     x ← whole_below false
     expect k.CloseBracket
     pure (suffix.Index x t.place)
@@ -198,7 +203,7 @@ module _ (d : ℕ) (b : Below) where
   -- `(` and what stands behind it
   unfoldable pub arguments : Parser (List Expression)
   arguments = do
-    enter d
+    enter g
     listed k.CloseParenthesis (assignment_below false)
 
   abbrev pub any_suffix_by : Token → Symbol → Parser (Suffix Expression)
@@ -240,28 +245,30 @@ module _ (d : ℕ) (b : Below) where
   unfoldable pub postfix : Parser Expression
   postfix = left_hand >>= (λ x. look (λ t. postfix_by x t (postfix_of t)))
 
-  -- the operand of the `++` or `--` at a place
-  abbrev pub operand_by : Place → Expression → Bool → Parser Expression
-  operand_by place x true = pure x
-  operand_by place x false = refuse (Broken place)
-
-  unfoldable pub operand_close : Place → Expression → Parser Expression
-  operand_close place x = look (λ t. operand_by place x (is_reference x && is_none (postfix_of t)))
-
-  abbrev pub updated_by : Place → Bool → Parser Expression
-  updated_by place true = refuse (Broken place)
-  updated_by place false = left_hand >>= operand_close place
-
-  unfoldable pub updated : Place → Parser Expression
-  updated place = look (λ t. updated_by place (is_prefix (symbol t)))
-
   abbrev pub unary_by : Token → Option UnaryOperator → Option UpdateOperator → Parser Expression
-  unary_by t (Some o) update = enter d >> (b.expression part.Unary >>= (λ x. pure (e.Unary o x t.place)))
-  unary_by t None (Some o) = enter d >> (b.expression (part.Updated t.place) >>= (λ x. pure (e.Update o x t.place)))
+  unary_by t (Some o) update = enter g >> (b.expression part.Unary >>= (λ x. pure (e.Unary o x t.place)))
+  unary_by t None (Some o) = enter g >> (b.expression (part.Updated t.place) >>= (λ x. pure (e.Update o x t.place)))
   unary_by t None None = postfix
 
   unfoldable pub unary : Parser Expression
   unary = look (λ t. unary_by t (unary_operator (symbol t)) (prefix_update (symbol t)))
+
+  -- the operand of the `++` or `--` at a place: it is complete
+  abbrev pub operand_by : Place → Expression → Token → Bool → Option UpdateOperator → Parser Expression
+  operand_by place x t false found = unless g (Operand place) (pure x)
+  operand_by place x t true None = pure x
+  operand_by place x t true (Some o) = unless g (Broken place) (take_token >> pure (e.Update o x t.place))
+
+  unfoldable pub operand_close : Place → Expression → Parser Expression
+  operand_close place x = look (λ t. operand_by place x t (is_reference x) (postfix_of t))
+
+  -- .. and it begins with a prefix operator or not
+  abbrev pub updated_by : Place → Bool → Parser Expression
+  updated_by place true = unless g (Broken place) unary
+  updated_by place false = left_hand >>= operand_close place
+
+  unfoldable pub updated : Place → Parser Expression
+  updated place = look (λ t. updated_by place (is_prefix (symbol t)))
 
   -- ---- operators between operands (11.5 to 11.14)
 
@@ -281,7 +288,7 @@ module _ (d : ℕ) (b : Below) where
 
   abbrev pub conditional_by : Bool → Place → Expression → Symbol → Parser Expression
   conditional_by no_in place x k.Question = do
-    enter d
+    enter g
     y ← assignment_below no_in
     expect k.Colon
     z ← assignment_below no_in
@@ -293,7 +300,7 @@ module _ (d : ℕ) (b : Below) where
 
   abbrev pub assigned : Bool → Expression → Token → Option BinaryOperator → Bool → Parser Expression
   assigned no_in x t o false = refuse Unexpected
-  assigned no_in x t o true = enter d >> (assignment_below no_in >>= (λ y. pure (e.Assign x o y t.place)))
+  assigned no_in x t o true = enter g >> (assignment_below no_in >>= (λ y. pure (e.Assign x o y t.place)))
 
   abbrev pub assignment_by : Bool → Expression → Token → Option (Option BinaryOperator) → Parser Expression
   assignment_by no_in x t None = pure x

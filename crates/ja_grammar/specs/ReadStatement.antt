@@ -1,5 +1,5 @@
--- How a statement is read, token by token: one function a rule of the grammar, at a number of levels that are left.
-use Rattle.std.specs.Prelude.{ℕ, zero, suc, Bool, true, false, not, ◌&&◌, ◌||◌, ◌==◌, if◌then◌else◌, List, [], ◌∷◌, ◌++◌, length, Option, Some, None}
+-- How a statement is read, token by token: one function a rule of the grammar, by the rules that are asked.
+use Rattle.std.specs.Prelude.{ℕ, zero, suc, Bool, true, false, not, ◌&&◌, if◌then◌else◌, List, [], ◌∷◌, ◌++◌, Option, Some, None}
 use Rattle.ja_base.specs.declared.ids.Place.{Place}
 use Rattle.ja_lex.specs.declared.token.Token.{Token}
 use Rattle.ja_syntax.specs.declared.symbol.Symbol.{Symbol}
@@ -18,14 +18,12 @@ use Rattle.ja_syntax.specs.declared.tree.Statement.TheVariants as s
 use Rattle.ja_syntax.specs.References.{is_reference}
 use Rattle.ja_syntax.specs.Symbols.{same_symbol}
 use Rattle.ja_grammar.specs.declared.fault.Refusal.{Refusal}
-use Rattle.ja_grammar.specs.declared.fault.Refusal.TheVariants.{Unexpected, Deep, DeepLabel, Broken, UnknownLabel}
-use Rattle.ja_grammar.specs.declared.part.ExpressionPart.{ExpressionPart}
-use Rattle.ja_grammar.specs.declared.part.ExpressionPart.TheVariants as of_expression
+use Rattle.ja_grammar.specs.declared.fault.Refusal.TheVariants.{Unexpected, Deep, DeepLabel, Broken, Alone, UnknownLabel}
 use Rattle.ja_grammar.specs.declared.part.StatementPart.{StatementPart}
 use Rattle.ja_grammar.specs.declared.part.StatementPart.TheVariants as part
-use Rattle.ja_grammar.specs.Contexts.{Context, program_context, loop_context, switch_context, labelled_context, has_label, has_loop}
+use Rattle.ja_grammar.specs.Contexts.{Context, program_context, loop_context, switch_context, labelled_context, has_label, has_loop, may_break}
 use Rattle.ja_grammar.specs.Forms.{word, name_of, is_label, is_label_behind, ends_return, ends_clause}
-use Rattle.ja_grammar.specs.Input.{Tokens, Outcome, Done, Refused, Parser, ◌>>=◌, ◌>>◌, pure, refuse, look, look_second, take_token, enter, opening, expect, many, until, separated, symbol, head, behind}
+use Rattle.ja_grammar.specs.Input.{Rules, unless, Parser, ◌>>=◌, ◌>>◌, pure, refuse, look, look_second, take_token, enter, opening, expect, many, until, separated, symbol}
 use Rattle.ja_grammar.specs.ReadExpression.{Below, declared, function, whole, assignment, expression_part, whole_below, assignment_below, is_close_brace}
 
 -- ends a statement (7.9)
@@ -44,90 +42,91 @@ abbrev pub variable_by : Parser Expression → Name → Token → Symbol → Par
 variable_by value x t k.Assign = take_token >> (value >>= (λ y. pure (record { name = x; initialiser = Some (record { value = y; place = t.place }) })))
 variable_by value x t _ = pure (record { name = x; initialiser = None })
 
-unfoldable pub variable : Parser Expression → Parser (Declaration Expression)
-variable value = declared >>= (λ x. look (λ t. variable_by value x t (symbol t)))
+unfoldable pub variable : Rules → Parser Expression → Parser (Declaration Expression)
+variable g value = declared g >>= (λ x. look (λ t. variable_by value x t (symbol t)))
 
 -- the label behind a `continue` or `break` at a place; a label that is known but not allowed breaks a rule there (12.7, 12.8)
-abbrev pub labelled_by : Place → Token → Bool → Bool → Parser (Option Name)
-labelled_by place t true known = take_token >> pure (Some (name_of t))
-labelled_by place t false true = refuse (Broken place)
-labelled_by place t false false = refuse Unexpected
+module _ (g : Rules) where
+  abbrev pub labelled_by : Place → Token → Bool → Bool → Parser (Option Name)
+  labelled_by place t true known = take_token >> pure (Some (name_of t))
+  labelled_by place t false true = unless g (Broken place) (take_token >> pure (Some (name_of t)))
+  labelled_by place t false false = refuse Unexpected
 
-abbrev pub unlabelled_by : Place → Bool → Parser (Option Name)
-unlabelled_by place true = pure None
-unlabelled_by place false = refuse (Broken place)
+  abbrev pub unlabelled_by : Place → Bool → Parser (Option Name)
+  unlabelled_by place true = pure None
+  unlabelled_by place false = unless g (Alone place) (pure None)
 
-abbrev pub target_by : (List ℕ → Bool) → (List ℕ → Bool) → Bool → Place → Token → Bool → Parser (Option Name)
-target_by allowed known alone place t true = labelled_by place t (allowed (word t)) (known (word t))
-target_by allowed known alone place t false = unlabelled_by place alone
+  abbrev pub target_by : (List ℕ → Bool) → (List ℕ → Bool) → Bool → Place → Token → Bool → Parser (Option Name)
+  target_by allowed known alone place t true = labelled_by place t (allowed (word t)) (known (word t))
+  target_by allowed known alone place t false = unlabelled_by place alone
 
-unfoldable pub jump_target : (List ℕ → Bool) → (List ℕ → Bool) → Bool → Place → Parser (Option Name)
-jump_target allowed known alone place = look (λ t. target_by allowed known alone place t (is_label_behind t))
-
--- a `break` may stand here (12.8)
-abbrev pub may_break : Context → Bool
-may_break c = c.in_breakable || not (length c.labels == 0)
+  unfoldable pub jump_target : (List ℕ → Bool) → (List ℕ → Bool) → Bool → Place → Parser (Option Name)
+  jump_target allowed known alone place = look (λ t. target_by allowed known alone place t (is_label_behind t))
 
 -- why the word of a jump is refused where there is nothing to leave, by the token behind it: that is an unknown label, or the word is wrong
 unfoldable pub without_target : Context → Token → Refusal
 without_target c t = if is_label_behind t && not (has_label c (word t)) then UnknownLabel t.place else Unexpected
 
 -- takes the `:` of a label at a place, which counts
-unfoldable pub enter_label : ℕ → Place → Parser Token
-enter_label d place = λ i. if d == 0 then Refused (DeepLabel place) i else Done (head i) (behind i)
+unfoldable pub enter_label : Rules → Place → Parser Token
+enter_label g place = unless g (DeepLabel place) take_token
 
 -- the clauses of a `switch` so far, and whether there was a `default`
 pub record Clauses : Type 0 where
   pub defaulted : Bool
   pub found : List Case
 
-module _ (d : ℕ) (b : Below) where
+module _ (g : Rules) (b : Below) where
   abbrev pub inner : Context → Parser Statement
   inner c = b.statement c (part.Whole 0 false)
 
   unfoldable pub block : Context → Parser (List Statement)
   block c = do
-    opening d k.OpenBrace
+    opening g k.OpenBrace
     xs ← until is_close_brace (inner c)
     expect k.CloseBrace
     pure xs
 
   unfoldable pub bracketed : Parser Expression
   bracketed = do
-    opening d k.OpenParenthesis
-    x ← whole_below d b false
+    opening g k.OpenParenthesis
+    x ← whole_below g b false
     expect k.CloseParenthesis
     pure x
 
   unfoldable pub variables : Parser Statement
   variables = do
     t ← take_token
-    xs ← separated (variable (assignment d b false))
+    xs ← separated (variable g (assignment g b false))
     ended
     pure (s.Variables xs t.place)
 
   unfoldable pub expression_statement : Parser Statement
-  expression_statement = look (λ t. whole d b false >>= (λ x. ended >> pure (s.Expression x t.place)))
+  expression_statement = look (λ t. whole g b false >>= (λ x. ended >> pure (s.Expression x t.place)))
 
   -- ---- jumps (12.7 to 12.9, 12.13)
 
+  -- the word of a jump where there is nothing to leave, and the token behind it
+  abbrev pub untargeted : (Option Name → Statement) → Context → Token → Parser Statement
+  untargeted jump c u = unless g (without_target c u) (take_token >> (take_token >> (ended >> pure (jump (Some (name_of u))))))
+
   abbrev pub continue_by : Context → Bool → Parser Statement
-  continue_by c false = look_second (λ t u. refuse (without_target c u))
-  continue_by c true = take_token >>= (λ t. jump_target (has_loop c) (has_label c) true t.place >>= (λ x. ended >> pure (s.Continue x t.place)))
+  continue_by c false = look_second (λ t u. untargeted (λ x. s.Continue x t.place) c u)
+  continue_by c true = take_token >>= (λ t. jump_target g (has_loop c) (has_label c) true t.place >>= (λ x. ended >> pure (s.Continue x t.place)))
 
   unfoldable pub continue : Context → Parser Statement
   continue c = continue_by c c.in_loop
 
   abbrev pub break_by : Context → Bool → Parser Statement
-  break_by c false = look_second (λ t u. refuse (without_target c u))
-  break_by c true = take_token >>= (λ t. jump_target (has_label c) (has_label c) c.in_breakable t.place >>= (λ x. ended >> pure (s.Break x t.place)))
+  break_by c false = look_second (λ t u. untargeted (λ x. s.Break x t.place) c u)
+  break_by c true = take_token >>= (λ t. jump_target g (has_label c) (has_label c) c.in_breakable t.place >>= (λ x. ended >> pure (s.Break x t.place)))
 
   unfoldable pub break : Context → Parser Statement
   break c = break_by c (may_break c)
 
   abbrev pub returned_by : Bool → Parser (Option Expression)
   returned_by true = pure None
-  returned_by false = whole d b false >>= (λ x. pure (Some x))
+  returned_by false = whole g b false >>= (λ x. pure (Some x))
 
   unfoldable pub returned : Parser (Option Expression)
   returned = look (λ t. returned_by (ends_return t))
@@ -141,7 +140,7 @@ module _ (d : ℕ) (b : Below) where
 
   abbrev pub thrown_by : Bool → Parser Expression
   thrown_by true = refuse Unexpected
-  thrown_by false = whole d b false
+  thrown_by false = whole g b false
 
   unfoldable pub thrown : Parser Expression
   thrown = look (λ t. thrown_by t.line_before)
@@ -152,8 +151,8 @@ module _ (d : ℕ) (b : Below) where
   -- ---- labels (12.12)
 
   abbrev pub label_by : Token → Bool → Parser Token
-  label_by t true = refuse (Broken t.place)
-  label_by t false = enter_label d t.place
+  label_by t true = unless g (Broken t.place) (enter_label g t.place)
+  label_by t false = enter_label g t.place
 
   -- `NAME:`
   unfoldable pub label : Context → Parser Token
@@ -173,7 +172,7 @@ module _ (d : ℕ) (b : Below) where
   unfoldable pub case : Context → Parser Case
   case c = do
     t ← take_token
-    x ← whole_below d b false
+    x ← whole_below g b false
     xs ← clause c
     pure (roll-Case (record { test = Some x; body = xs; place = t.place }))
 
@@ -201,7 +200,7 @@ module _ (d : ℕ) (b : Below) where
 
   unfoldable pub cases : Context → Parser (List Case)
   cases c = do
-    opening d k.OpenBrace
+    opening g k.OpenBrace
     cs ← many (λ cs. look (λ t. clause_by c cs (symbol t))) (record { defaulted = false; found = [] })
     expect k.CloseBrace
     pure cs.found
@@ -217,8 +216,8 @@ module _ (d : ℕ) (b : Below) where
   unfoldable pub catch : Context → Parser (CatchOf Statement)
   catch c = do
     take_token
-    opening d k.OpenParenthesis
-    x ← declared
+    opening g k.OpenParenthesis
+    x ← declared g
     expect k.CloseParenthesis
     xs ← block c
     pure (record { parameter = x; body = xs })
@@ -246,11 +245,11 @@ module _ (d : ℕ) (b : Below) where
 
   abbrev pub function_statement : Bool → Parser Statement
   function_statement false = refuse Unexpected
-  function_statement true = function d b true >>= (λ f. pure (s.Function f))
+  function_statement true = function g b true >>= (λ f. pure (s.Function f))
 
   -- a word that counts, and what stands behind it
   abbrev pub headed : Context → StatementPart → Parser Statement
-  headed c p = enter d >> b.statement c p
+  headed c p = enter g >> b.statement c p
 
   abbrev pub single_by : Context → ℕ → Bool → Token → Symbol → Parser Statement
   single_by c labels outermost t k.OpenBrace = block c >>= (λ xs. pure (s.Block xs t.place))
@@ -276,7 +275,7 @@ module _ (d : ℕ) (b : Below) where
   -- ---- behind a word that counts (12.5, 12.6)
 
   abbrev pub else_by : Context → Place → Expression → Statement → Symbol → Parser Statement
-  else_by c place x y k.Else = enter d >> (inner c >>= (λ z. pure (s.If x y (Some z) place)))
+  else_by c place x y k.Else = enter g >> (inner c >>= (λ z. pure (s.If x y (Some z) place)))
   else_by c place x y _ = pure (s.If x y None place)
 
   unfoldable pub if_part : Context → Place → Parser Statement
@@ -298,7 +297,7 @@ module _ (d : ℕ) (b : Below) where
 
   abbrev pub optional_by : Symbol → Bool → Parser (Option Expression)
   optional_by close true = take_token >> pure None
-  optional_by close false = whole_below d b false >>= (λ x. expect close >> pure (Some x))
+  optional_by close false = whole_below g b false >>= (λ x. expect close >> pure (Some x))
 
   -- an expression, if any, and a closing token
   unfoldable pub optional : Symbol → Parser (Option Expression)
@@ -316,7 +315,7 @@ module _ (d : ℕ) (b : Below) where
   unfoldable pub in_rest : Context → Place → ForTarget Expression → Parser Statement
   in_rest c place x = do
     take_token
-    y ← whole_below d b false
+    y ← whole_below g b false
     expect k.CloseParenthesis
     z ← single c 0 false
     pure (s.ForIn x y z place)
@@ -328,7 +327,7 @@ module _ (d : ℕ) (b : Below) where
   unfoldable pub for_variables : Context → Place → Parser Statement
   for_variables c place = do
     take_token
-    xs ← separated (variable (assignment_below d b true))
+    xs ← separated (variable g (assignment_below g b true))
     look (λ t. for_variables_by c place xs (symbol t))
 
   abbrev pub in_reference_by : Context → Place → Expression → Bool → Parser Statement
@@ -340,7 +339,7 @@ module _ (d : ℕ) (b : Below) where
   for_expression_by c place x _ = expect k.Semicolon >> for_rest c place (first.Expression x)
 
   unfoldable pub for_expression : Context → Place → Parser Statement
-  for_expression c place = whole_below d b true >>= (λ x. look (λ t. for_expression_by c place x (symbol t)))
+  for_expression c place = whole_below g b true >>= (λ x. look (λ t. for_expression_by c place x (symbol t)))
 
   abbrev pub for_by : Context → Place → Symbol → Parser Statement
   for_by c place k.Var = for_variables c place
@@ -348,7 +347,7 @@ module _ (d : ℕ) (b : Below) where
   for_by c place _ = for_expression c place
 
   unfoldable pub for_part : Context → Place → ℕ → Parser Statement
-  for_part c place labels = opening d k.OpenParenthesis >> look (λ t. for_by (loop_context c labels) place (symbol t))
+  for_part c place labels = opening g k.OpenParenthesis >> look (λ t. for_by (loop_context c labels) place (symbol t))
 
   -- each part
   unfoldable pub statement_part : Context → StatementPart → Parser Statement
@@ -358,14 +357,14 @@ module _ (d : ℕ) (b : Below) where
   statement_part c (part.While place labels) = while_part c place labels
   statement_part c (part.For place labels) = for_part c place labels
 
--- the parts below a number of levels
-unfoldable pub below : ℕ → Below
-below zero = record { expression = λ p. refuse Deep; statement = λ c p. refuse Deep }
-below (suc d) = record { expression = expression_part d (below d); statement = statement_part d (below d) }
+-- The parts below a number of levels, where with so many left these rules are asked.
+unfoldable pub below : (ℕ → Rules) → ℕ → Below
+below rules zero = record { expression = λ p. refuse Deep; statement = λ c p. refuse Deep }
+below rules (suc d) = record { expression = expression_part (rules d) (below rules d); statement = statement_part (rules d) (below rules d) }
 
 abbrev pub is_end : Symbol → Bool
 is_end found = same_symbol found k.End
 
 -- the statements of a program of at most so many levels (14)
-unfoldable pub program : ℕ → Parser (List Statement)
-program d = until is_end (single d (below d) program_context 0 true)
+unfoldable pub program : (ℕ → Rules) → ℕ → Parser (List Statement)
+program rules d = until is_end (single (rules d) (below rules d) program_context 0 true)

@@ -17,8 +17,13 @@ pub enum Refusal {
     /// The token is the `:` behind a label at this place, and the label would stand under one more
     /// level than there are.
     DeepLabel(Place),
-    /// A rule is broken by what stands from this place on.
+    /// The token is forbidden by the word at this place: it makes the operand of a `++` or `--` no
+    /// reference, closes a label inside itself, or is no loop's label of a `continue`.
     Broken(Place),
+    /// The operand of the `++` or `--` at this place is complete, and no reference.
+    Operand(Place),
+    /// The `break` at this place has no label behind it, and there is nothing to leave without one.
+    Alone(Place),
     /// The token is the word of a jump where there is nothing to leave, and no label around is the
     /// one behind it, at this place.
     UnknownLabel(Place),

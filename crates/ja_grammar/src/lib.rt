@@ -4,8 +4,10 @@
 
 mod context;
 mod fault;
+mod laws;
 mod part;
 
 pub use context::{Context, Label};
 pub use fault::{ParseFault, Refusal, Stop};
+pub use laws::{others_are_wrong, refused_once};
 pub use part::{ExpressionPart, StatementPart};

@@ -1,11 +1,10 @@
 -- The program of a text, and why a text has none.
-use Rattle.std.specs.Prelude.{◌≡◌, ◌<◌, ◌≤◌, ◌+◌, ℕ, false, String, List, ◌++◌, length, Some, None, Err}
+use Rattle.std.specs.Prelude.{◌≡◌, ◌<◌, ◌≤◌, ◌+◌, ℕ, false, String, List, ◌++◌, length, Some, None}
 use Rattle.std.specs.Str.{IsUtf8}
 use Rattle.std.specs.String.{string_bytes}
 use Rattle.std.specs.declared.alloc.Global.{Global}
 use Rattle.ja_base.specs.declared.ids.Place.{Place}
-use Rattle.ja_grammar.specs.Language.{Spells, Explains, max_levels, Answers as AnswersTo}
-use Rattle.ja_grammar.specs.ReadStatement.{program}
+use Rattle.ja_grammar.specs.Language.{Spells, Explains, max_levels}
 use Rattle.ja_grammar.specs.declared.fault.ParseFault.{ParseFault}
 use Rattle.ja_graph.specs.WellFormed.{builtin_names}
 use Rattle.ja_graph.specs.declared.builtins.TheConstants.{BUILTIN_CLASSES}
@@ -90,9 +89,9 @@ abbrev pub IsUnbuiltAt : List ℕ → List Signature → Place → Type 0
 IsUnbuiltAt bytes signatures place =
     (statements : List Statement) × IsTextOf bytes statements × IsWithin (names_before signatures) statements × (unbuilt (device_names signatures) statements ≡ Some place)
 
--- the bytes are a text, and this is what its tokens are refused with, which says why it is none of the language
+-- the bytes are a text, and this is what its tokens are refused with, which is determined (`refused_once` in ja_grammar)
 abbrev pub IsNone : List ℕ → ParseFault → Type 0
-IsNone bytes f = IsUtf8 bytes × Explains (tokens bytes) f × AnswersTo (program max_levels (tokens bytes)) (Err f)
+IsNone bytes f = IsUtf8 bytes × Explains (tokens bytes) f
 
 -- why a text has no program to be run
 abbrev pub HasNoneToRun : List ℕ → List Signature → LoadFault → Type 0

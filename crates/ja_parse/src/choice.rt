@@ -5,7 +5,7 @@ ghost use Rattle.ja_syntax.specs.declared.symbol.Symbol.TheVariants as k;
 ghost use Rattle.ja_grammar.specs.Contexts.{context_of};
 ghost use Rattle.ja_grammar.specs.Contexts as contexts;
 ghost use Rattle.ja_grammar.specs.Forms as forms;
-ghost use Rattle.ja_grammar.specs.Input.{Follows, head, next, separated, until};
+ghost use Rattle.ja_grammar.specs.Input.{Follows, head, next, separated, until, strict};
 ghost use Rattle.ja_grammar.specs.ReadExpression as expressions;
 ghost use Rattle.ja_grammar.specs.ReadStatement as spec;
 ghost use Rattle.ja_grammar.specs.ReadStatement.{below};
@@ -40,7 +40,7 @@ impl<
         context: &Context<'_>,
     ) -> Result<Items<Statement>, Stop>
         requires { Nests self.now.depth (G.pre self.now.statement) (G.post self.now.statement) }
-        ensures { Follows (spec.clause self.now.depth (below self.now.depth) (context_of context.now) cursor.old) result cursor.new }
+        ensures { Follows (spec.clause (strict self.now.depth) (below strict self.now.depth) (context_of context.now) cursor.old) result cursor.new }
     {
         cursor.expect(Symbol::Colon)?;
         self.list_below(cursor, context, ListEnd::Clause)
@@ -50,7 +50,7 @@ impl<
     #[tactic(auto, unfolding(ja_grammar::specs::ReadStatement::case))]
     fn case(&self, cursor: &mut Cursor<'_>, context: &Context<'_>) -> Result<Case, Stop>
         requires { Nests self.now.depth (G.pre self.now.statement) (G.post self.now.statement) }
-        ensures { Follows (spec.case self.now.depth (below self.now.depth) (context_of context.now) cursor.old) result cursor.new }
+        ensures { Follows (spec.case (strict self.now.depth) (below strict self.now.depth) (context_of context.now) cursor.old) result cursor.new }
     {
         let place = cursor.place();
         cursor.take();
@@ -67,7 +67,7 @@ impl<
     #[tactic(auto, unfolding(ja_grammar::specs::ReadStatement::default))]
     fn default_case(&self, cursor: &mut Cursor<'_>, context: &Context<'_>) -> Result<Case, Stop>
         requires { Nests self.now.depth (G.pre self.now.statement) (G.post self.now.statement) }
-        ensures { Follows (spec.default self.now.depth (below self.now.depth) (context_of context.now) cursor.old) result cursor.new }
+        ensures { Follows (spec.default (strict self.now.depth) (below strict self.now.depth) (context_of context.now) cursor.old) result cursor.new }
     {
         let place = cursor.place();
         cursor.take();
@@ -82,7 +82,7 @@ impl<
     /// Reads the clauses of a `switch` and its `}`.
     fn clauses(&self, cursor: &mut Cursor<'_>, context: &Context<'_>) -> Result<Items<Case>, Stop>
         requires { Nests self.now.depth (G.pre self.now.statement) (G.post self.now.statement) }
-        ensures { Follows (clauses_behind self.now.depth (below self.now.depth) (context_of context.now) cursor.old) result cursor.new }
+        ensures { Follows (clauses_behind (strict self.now.depth) (below strict self.now.depth) (context_of context.now) cursor.old) result cursor.new }
     {
         let mut found = Items::new(self.alloc);
         let mut defaulted = false;
@@ -116,7 +116,7 @@ impl<
     #[tactic(auto, unfolding(ja_grammar::specs::ReadStatement::cases, crate::specs::Clauses::clauses_behind))]
     fn cases(&self, cursor: &mut Cursor<'_>, context: &Context<'_>) -> Result<Items<Case>, Stop>
         requires { Nests self.now.depth (G.pre self.now.statement) (G.post self.now.statement) }
-        ensures { Follows (spec.cases self.now.depth (below self.now.depth) (context_of context.now) cursor.old) result cursor.new }
+        ensures { Follows (spec.cases (strict self.now.depth) (below strict self.now.depth) (context_of context.now) cursor.old) result cursor.new }
     {
         cursor.opening(self.depth, Symbol::OpenBrace)?;
         self.clauses(cursor, context)
@@ -130,7 +130,7 @@ impl<
         context: &Context<'_>,
     ) -> Result<Held<Statement>, Stop>
         requires { Nests self.now.depth (G.pre self.now.statement) (G.post self.now.statement) }
-        ensures { Follows (spec.switch self.now.depth (below self.now.depth) (context_of context.now) cursor.old) result cursor.new }
+        ensures { Follows (spec.switch (strict self.now.depth) (below strict self.now.depth) (context_of context.now) cursor.old) result cursor.new }
     {
         let place = cursor.place();
         cursor.take();
@@ -155,7 +155,7 @@ impl<
         context: &Context<'_>,
     ) -> Result<Held<CatchOf<Statement>>, Stop>
         requires { Nests self.now.depth (G.pre self.now.statement) (G.post self.now.statement) }
-        ensures { Follows (spec.catch self.now.depth (below self.now.depth) (context_of context.now) cursor.old) result cursor.new }
+        ensures { Follows (spec.catch (strict self.now.depth) (below strict self.now.depth) (context_of context.now) cursor.old) result cursor.new }
     {
         cursor.take();
         cursor.opening(self.depth, Symbol::OpenParenthesis)?;
@@ -173,7 +173,7 @@ impl<
         context: &Context<'_>,
     ) -> Result<Items<Statement>, Stop>
         requires { Nests self.now.depth (G.pre self.now.statement) (G.post self.now.statement) }
-        ensures { Follows (spec.finally self.now.depth (below self.now.depth) (context_of context.now) cursor.old) result cursor.new }
+        ensures { Follows (spec.finally (strict self.now.depth) (below strict self.now.depth) (context_of context.now) cursor.old) result cursor.new }
     {
         cursor.take();
         self.block(cursor, context)
@@ -186,7 +186,7 @@ impl<
         context: &Context<'_>,
     ) -> Result<Held<Statement>, Stop>
         requires { Nests self.now.depth (G.pre self.now.statement) (G.post self.now.statement) }
-        ensures { Follows (try_whole self.now.depth (below self.now.depth) (context_of context.now) cursor.old) result cursor.new }
+        ensures { Follows (try_whole (strict self.now.depth) (below strict self.now.depth) (context_of context.now) cursor.old) result cursor.new }
     {
         let place = cursor.place();
         cursor.take();
@@ -222,7 +222,7 @@ impl<
         place: Place,
     ) -> Result<Held<Statement>, Stop>
         requires { Nests self.now.depth (G.pre self.now.statement) (G.post self.now.statement) }
-        ensures { Follows (try_behind_catch self.now.depth (below self.now.depth) (context_of context.now) place block catch cursor.old) result cursor.new }
+        ensures { Follows (try_behind_catch (strict self.now.depth) (below strict self.now.depth) (context_of context.now) place block catch cursor.old) result cursor.new }
     {
         match cursor.symbol() {
             Symbol::Finally => {
@@ -259,7 +259,7 @@ impl<
         then: Held<Statement>,
     ) -> Result<Held<Statement>, Stop>
         requires { Nests self.now.depth (G.pre self.now.statement) (G.post self.now.statement) }
-        ensures { Follows (spec.else_by self.now.depth (below self.now.depth) (context_of context.now) place condition then k.Else cursor.old) result cursor.new }
+        ensures { Follows (spec.else_by (strict self.now.depth) (below strict self.now.depth) (context_of context.now) place condition then k.Else cursor.old) result cursor.new }
     {
         cursor.enter(self.depth)?;
         let otherwise = self.statement_below(
@@ -282,7 +282,7 @@ impl<
         place: Place,
     ) -> Result<Held<Statement>, Stop>
         requires { Nests self.now.depth (G.pre self.now.statement) (G.post self.now.statement) }
-        ensures { Follows (spec.if_part self.now.depth (below self.now.depth) (context_of context.now) place cursor.old) result cursor.new }
+        ensures { Follows (spec.if_part (strict self.now.depth) (below strict self.now.depth) (context_of context.now) place cursor.old) result cursor.new }
     {
         let condition = self.bracketed(cursor)?;
         let then = self.single(cursor, context, 0, false)?;

@@ -4,7 +4,7 @@
 ghost use Rattle.std.specs.Prelude.{false, zero};
 ghost use Rattle.ja_grammar.specs.declared.part.StatementPart.TheVariants as part;
 ghost use Rattle.ja_grammar.specs.Contexts.{context_of};
-ghost use Rattle.ja_grammar.specs.Input.{Follows, until};
+ghost use Rattle.ja_grammar.specs.Input.{Follows, until, strict};
 ghost use Rattle.ja_grammar.specs.ReadExpression as expressions;
 ghost use Rattle.ja_grammar.specs.ReadStatement.{below};
 ghost use Rattle.ja_parse_expressions.specs.Ends.{ends};
@@ -43,7 +43,7 @@ impl<
         part: ExpressionPart,
     ) -> Result<Held<Expression>, Stop>
         requires { Nests self.now.depth (G.pre self.now.statement) (G.post self.now.statement) }
-        ensures { Follows ((below self.now.depth).expression part cursor.old) result cursor.new }
+        ensures { Follows ((below strict self.now.depth).expression part cursor.old) result cursor.new }
     {
         if self.depth == 0 {
             return Err(Stop::Refused(Refusal::Deep));
@@ -61,7 +61,7 @@ impl<
     #[tactic(auto, unfolding(ja_grammar::specs::ReadExpression::expression_part))]
     pub fn whole(&self, cursor: &mut Cursor<'_>) -> Result<Held<Expression>, Stop>
         requires { Nests self.now.depth (G.pre self.now.statement) (G.post self.now.statement) }
-        ensures { Follows (expressions.whole self.now.depth (below self.now.depth) false cursor.old) result cursor.new }
+        ensures { Follows (expressions.whole (strict self.now.depth) (below strict self.now.depth) false cursor.old) result cursor.new }
     {
         let part = ExpressionPart::Whole { no_in: false };
         expression_at(
@@ -77,7 +77,7 @@ impl<
     #[tactic(auto, unfolding(ja_grammar::specs::ReadExpression::expression_part))]
     pub fn assignment(&self, cursor: &mut Cursor<'_>) -> Result<Held<Expression>, Stop>
         requires { Nests self.now.depth (G.pre self.now.statement) (G.post self.now.statement) }
-        ensures { Follows (expressions.assignment self.now.depth (below self.now.depth) false cursor.old) result cursor.new }
+        ensures { Follows (expressions.assignment (strict self.now.depth) (below strict self.now.depth) false cursor.old) result cursor.new }
     {
         let part = ExpressionPart::Assignment { no_in: false };
         expression_at(
@@ -97,7 +97,7 @@ impl<
         part: StatementPart,
     ) -> Result<Held<Statement>, Stop>
         requires { Nests self.now.depth (G.pre self.now.statement) (G.post self.now.statement) }
-        ensures { Follows ((below self.now.depth).statement (context_of context.now) part cursor.old) result cursor.new }
+        ensures { Follows ((below strict self.now.depth).statement (context_of context.now) part cursor.old) result cursor.new }
     {
         statement_below(
             self.alloc,
@@ -117,7 +117,7 @@ impl<
         end: ListEnd,
     ) -> Result<Items<Statement>, Stop>
         requires { Nests self.now.depth (G.pre self.now.statement) (G.post self.now.statement) }
-        ensures { Follows (until (ends end) ((below self.now.depth).statement (context_of context.now) (part.Whole 0 false)) cursor.old) result cursor.new }
+        ensures { Follows (until (ends end) ((below strict self.now.depth).statement (context_of context.now) (part.Whole 0 false)) cursor.old) result cursor.new }
     {
         statements_below(
             self.alloc,

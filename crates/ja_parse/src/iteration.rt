@@ -5,7 +5,7 @@ ghost use Rattle.ja_syntax.specs.declared.symbol.Symbol.TheVariants as k;
 ghost use Rattle.ja_grammar.specs.Contexts.{context_of};
 ghost use Rattle.ja_grammar.specs.Contexts as contexts;
 ghost use Rattle.ja_grammar.specs.Forms as forms;
-ghost use Rattle.ja_grammar.specs.Input.{Follows, head, next, separated, until};
+ghost use Rattle.ja_grammar.specs.Input.{Follows, head, next, separated, until, strict};
 ghost use Rattle.ja_grammar.specs.ReadExpression as expressions;
 ghost use Rattle.ja_grammar.specs.ReadStatement as spec;
 ghost use Rattle.ja_grammar.specs.ReadStatement.{below};
@@ -42,7 +42,7 @@ impl<
         labels: usize,
     ) -> Result<Held<Statement>, Stop>
         requires { Nests self.now.depth (G.pre self.now.statement) (G.post self.now.statement) }
-        ensures { Follows (spec.do_part self.now.depth (below self.now.depth) (context_of context.now) place labels cursor.old) result cursor.new }
+        ensures { Follows (spec.do_part (strict self.now.depth) (below strict self.now.depth) (context_of context.now) place labels cursor.old) result cursor.new }
     {
         let inner = loop_context(self.alloc, context, labels)?;
         let body = self.single(cursor, &inner, 0, false)?;
@@ -62,7 +62,7 @@ impl<
         labels: usize,
     ) -> Result<Held<Statement>, Stop>
         requires { Nests self.now.depth (G.pre self.now.statement) (G.post self.now.statement) }
-        ensures { Follows (spec.while_part self.now.depth (below self.now.depth) (context_of context.now) place labels cursor.old) result cursor.new }
+        ensures { Follows (spec.while_part (strict self.now.depth) (below strict self.now.depth) (context_of context.now) place labels cursor.old) result cursor.new }
     {
         let condition = self.bracketed(cursor)?;
         let inner = loop_context(self.alloc, context, labels)?;
@@ -78,7 +78,7 @@ impl<
         close: Symbol,
     ) -> Result<Option<Held<Expression>>, Stop>
         requires { Nests self.now.depth (G.pre self.now.statement) (G.post self.now.statement) }
-        ensures { Follows (spec.optional self.now.depth (below self.now.depth) close cursor.old) result cursor.new }
+        ensures { Follows (spec.optional (strict self.now.depth) (below strict self.now.depth) close cursor.old) result cursor.new }
     {
         if cursor.sees(close) {
             cursor.take();
@@ -99,7 +99,7 @@ impl<
         first: Held<ForFirst<Expression>>,
     ) -> Result<Held<Statement>, Stop>
         requires { Nests self.now.depth (G.pre self.now.statement) (G.post self.now.statement) }
-        ensures { Follows (spec.for_rest self.now.depth (below self.now.depth) (context_of context.now) place first cursor.old) result cursor.new }
+        ensures { Follows (spec.for_rest (strict self.now.depth) (below strict self.now.depth) (context_of context.now) place first cursor.old) result cursor.new }
     {
         let condition = self.optional(cursor, Symbol::Semicolon)?;
         let update = self.optional(cursor, Symbol::CloseParenthesis)?;
@@ -117,7 +117,7 @@ impl<
         target: Held<ForTarget<Expression>>,
     ) -> Result<Held<Statement>, Stop>
         requires { Nests self.now.depth (G.pre self.now.statement) (G.post self.now.statement) }
-        ensures { Follows (spec.in_rest self.now.depth (below self.now.depth) (context_of context.now) place target cursor.old) result cursor.new }
+        ensures { Follows (spec.in_rest (strict self.now.depth) (below strict self.now.depth) (context_of context.now) place target cursor.old) result cursor.new }
     {
         cursor.take();
         let object = self.expression_below(cursor, ExpressionPart::Whole { no_in: false })?;
@@ -135,7 +135,7 @@ impl<
         found: Items<Declaration<Expression>>,
     ) -> Result<Held<Statement>, Stop>
         requires { Nests self.now.depth (G.pre self.now.statement) (G.post self.now.statement) }
-        ensures { Follows (for_rest_behind self.now.depth (below self.now.depth) (context_of context.now) place (first.Variables found) cursor.old) result cursor.new }
+        ensures { Follows (for_rest_behind (strict self.now.depth) (below strict self.now.depth) (context_of context.now) place (first.Variables found) cursor.old) result cursor.new }
     {
         cursor.expect(Symbol::Semicolon)?;
         let first = Held::new(self.alloc, ForFirst::Variables(found))?;
@@ -152,7 +152,7 @@ impl<
         mut found: Items<Declaration<Expression>>,
     ) -> Result<Held<Statement>, Stop>
         requires { Nests self.now.depth (G.pre self.now.statement) (G.post self.now.statement) }
-        ensures { Follows (variables_behind self.now.depth (below self.now.depth) (context_of context.now) place found cursor.old) result cursor.new }
+        ensures { Follows (variables_behind (strict self.now.depth) (below strict self.now.depth) (context_of context.now) place found cursor.old) result cursor.new }
     {
         if found.len() == 1 {
             return match cursor.symbol() {
@@ -175,7 +175,7 @@ impl<
         place: Place,
     ) -> Result<Held<Statement>, Stop>
         requires { Nests self.now.depth (G.pre self.now.statement) (G.post self.now.statement) }
-        ensures { Follows (spec.for_variables self.now.depth (below self.now.depth) (context_of context.now) place cursor.old) result cursor.new }
+        ensures { Follows (spec.for_variables (strict self.now.depth) (below strict self.now.depth) (context_of context.now) place cursor.old) result cursor.new }
     {
         cursor.take();
         let found = self.declarations(cursor, true)?;
@@ -191,7 +191,7 @@ impl<
         place: Place,
     ) -> Result<Held<Statement>, Stop>
         requires { Nests self.now.depth (G.pre self.now.statement) (G.post self.now.statement) }
-        ensures { Follows (spec.for_expression self.now.depth (below self.now.depth) (context_of context.now) place cursor.old) result cursor.new }
+        ensures { Follows (spec.for_expression (strict self.now.depth) (below strict self.now.depth) (context_of context.now) place cursor.old) result cursor.new }
     {
         let x = self.expression_below(cursor, ExpressionPart::Whole { no_in: true })?;
         match cursor.symbol() {
@@ -218,7 +218,7 @@ impl<
         place: Place,
     ) -> Result<Held<Statement>, Stop>
         requires { Nests self.now.depth (G.pre self.now.statement) (G.post self.now.statement) }
-        ensures { Follows (for_behind self.now.depth (below self.now.depth) (context_of context.now) place cursor.old) result cursor.new }
+        ensures { Follows (for_behind (strict self.now.depth) (below strict self.now.depth) (context_of context.now) place cursor.old) result cursor.new }
     {
         match cursor.symbol() {
             Symbol::Var => self.for_variables(cursor, context, place),
@@ -241,7 +241,7 @@ impl<
         labels: usize,
     ) -> Result<Held<Statement>, Stop>
         requires { Nests self.now.depth (G.pre self.now.statement) (G.post self.now.statement) }
-        ensures { Follows (spec.for_part self.now.depth (below self.now.depth) (context_of context.now) place labels cursor.old) result cursor.new }
+        ensures { Follows (spec.for_part (strict self.now.depth) (below strict self.now.depth) (context_of context.now) place labels cursor.old) result cursor.new }
     {
         cursor.opening(self.depth, Symbol::OpenParenthesis)?;
         let inner = loop_context(self.alloc, context, labels)?;

@@ -5,7 +5,7 @@ ghost use Rattle.ja_syntax.specs.declared.symbol.Symbol.TheVariants as k;
 ghost use Rattle.ja_grammar.specs.Contexts.{context_of};
 ghost use Rattle.ja_grammar.specs.Contexts as contexts;
 ghost use Rattle.ja_grammar.specs.Forms as forms;
-ghost use Rattle.ja_grammar.specs.Input.{Follows, head, next, separated, until};
+ghost use Rattle.ja_grammar.specs.Input.{Follows, head, next, separated, until, strict};
 ghost use Rattle.ja_grammar.specs.ReadExpression as expressions;
 ghost use Rattle.ja_grammar.specs.ReadStatement as spec;
 ghost use Rattle.ja_grammar.specs.ReadStatement.{below};
@@ -32,7 +32,7 @@ impl<
     #[tactic(auto, unfolding(ja_grammar::specs::ReadStatement::returned))]
     fn returned(&self, cursor: &mut Cursor<'_>) -> Result<Option<Held<Expression>>, Stop>
         requires { Nests self.now.depth (G.pre self.now.statement) (G.post self.now.statement) }
-        ensures { Follows (spec.returned self.now.depth (below self.now.depth) cursor.old) result cursor.new }
+        ensures { Follows (spec.returned (strict self.now.depth) (below strict self.now.depth) cursor.old) result cursor.new }
     {
         if ends_return(cursor) {
             return Ok(None);
@@ -47,7 +47,7 @@ impl<
         context: &Context<'_>,
     ) -> Result<Held<Statement>, Stop>
         requires { Nests self.now.depth (G.pre self.now.statement) (G.post self.now.statement) }
-        ensures { Follows (spec.return_by self.now.depth (below self.now.depth) context.now.in_function cursor.old) result cursor.new }
+        ensures { Follows (spec.return_by (strict self.now.depth) (below strict self.now.depth) context.now.in_function cursor.old) result cursor.new }
     {
         if !context.in_function {
             return Err(Stop::Refused(Refusal::Unexpected));
@@ -69,7 +69,7 @@ impl<
     #[tactic(auto, unfolding(ja_grammar::specs::ReadStatement::thrown))]
     fn thrown(&self, cursor: &mut Cursor<'_>) -> Result<Held<Expression>, Stop>
         requires { Nests self.now.depth (G.pre self.now.statement) (G.post self.now.statement) }
-        ensures { Follows (spec.thrown self.now.depth (below self.now.depth) cursor.old) result cursor.new }
+        ensures { Follows (spec.thrown (strict self.now.depth) (below strict self.now.depth) cursor.old) result cursor.new }
     {
         if cursor.line_before() {
             return Err(Stop::Refused(Refusal::Unexpected));
@@ -81,7 +81,7 @@ impl<
     #[tactic(auto, unfolding(ja_grammar::specs::ReadStatement::throw))]
     pub fn throw_statement(&self, cursor: &mut Cursor<'_>) -> Result<Held<Statement>, Stop>
         requires { Nests self.now.depth (G.pre self.now.statement) (G.post self.now.statement) }
-        ensures { Follows (spec.throw self.now.depth (below self.now.depth) cursor.old) result cursor.new }
+        ensures { Follows (spec.throw (strict self.now.depth) (below strict self.now.depth) cursor.old) result cursor.new }
     {
         let place = cursor.place();
         cursor.take();
@@ -105,7 +105,7 @@ impl<
         labels: usize,
     ) -> Result<Held<Statement>, Stop>
         requires { Nests self.now.depth (G.pre self.now.statement) (G.post self.now.statement) }
-        ensures { Follows (spec.labelled self.now.depth (below self.now.depth) (context_of context.now) labels cursor.old) result cursor.new }
+        ensures { Follows (spec.labelled (strict self.now.depth) (below strict self.now.depth) (context_of context.now) labels cursor.old) result cursor.new }
     {
         let name = cursor.name(self.alloc)?;
         let word = cursor.word();

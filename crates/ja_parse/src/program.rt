@@ -1,7 +1,7 @@
 //! The program (ES3 14), and how the parts of statements read one another.
 
 ghost use Rattle.ja_grammar.specs.Contexts.{context_of};
-ghost use Rattle.ja_grammar.specs.Input.{Follows};
+ghost use Rattle.ja_grammar.specs.Input.{Follows, strict};
 ghost use Rattle.ja_grammar.specs.ReadStatement as spec;
 ghost use Rattle.ja_grammar.specs.ReadStatement.{below};
 
@@ -24,7 +24,7 @@ fn statement_at(
     context: &Context<'_>,
     part: StatementPart,
 ) -> Result<Held<Statement>, Stop>
-    ensures { Follows (spec.statement_part depth (below depth) (context_of context.now) part cursor.old) result cursor.new }
+    ensures { Follows (spec.statement_part (strict depth) (below strict depth) (context_of context.now) part cursor.old) result cursor.new }
 {
     Grammar {
         alloc,
@@ -39,7 +39,7 @@ fn statement_at(
 /// before it. `Memory` comes only where memory was refused.
 #[tactic(auto, unfolding(ja_grammar::specs::ReadStatement::program))]
 pub fn read_program(alloc: Global, cursor: &mut Cursor<'_>) -> Result<Items<Statement>, Stop>
-    ensures { Follows (spec.program 200 cursor.old) result cursor.new }
+    ensures { Follows (spec.program strict 200 cursor.old) result cursor.new }
 {
     let context = program_context(alloc);
     Grammar {

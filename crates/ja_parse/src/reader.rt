@@ -2,7 +2,7 @@
 
 ghost use Rattle.std.specs.Prelude.{◌≡◌, ◌≢◌, ◌≤◌, ℕ, List, length, IfOk, IfErr, Err};
 ghost use Rattle.ja_grammar.specs.declared.fault.ParseFault.TheVariants as fault;
-ghost use Rattle.ja_grammar.specs.Input.{head};
+ghost use Rattle.ja_grammar.specs.Input.{head, strict};
 ghost use Rattle.ja_grammar.specs.Language.{Answers, Explains, Spells, max_levels, token_fault};
 ghost use Rattle.ja_grammar.specs.Language as spec;
 ghost use Rattle.ja_grammar.specs.ReadStatement.{program};
@@ -29,7 +29,9 @@ fn token_fault(place: Place, scope: Option<ScopeKind>) -> ParseFault
     }
 }
 
-/// What is answered to a refusal at the next token.
+/// What is answered to a refusal at the next token. `Broken`, `Operand` and `Alone` are answered at an
+/// earlier word: the one whose rule the next token breaks, the `++` or `--` whose operand is complete and
+/// no reference, and the `break` that has no label and nothing to leave.
 fn fault_at(why: Refusal, cursor: &Cursor<'_>) -> ParseFault
     ensures { result ≡ spec.fault_at why (head cursor.now) }
 {
@@ -47,6 +49,8 @@ fn fault_at(why: Refusal, cursor: &Cursor<'_>) -> ParseFault
         Refusal::Deep => ParseFault::Depth { place: own },
         Refusal::DeepLabel(place) => ParseFault::Depth { place },
         Refusal::Broken(place) => ParseFault::Syntax { place },
+        Refusal::Operand(place) => ParseFault::Syntax { place },
+        Refusal::Alone(place) => ParseFault::Syntax { place },
         Refusal::UnknownLabel(place) => ParseFault::Syntax { place },
     }
 }
@@ -57,7 +61,7 @@ fn fault_at(why: Refusal, cursor: &Cursor<'_>) -> ParseFault
 ///
 /// Those of `parse`, with the places that the tokens have.
 pub fn read(alloc: Global, tokens: &[Token]) -> Result<Items<Statement>, ParseFault>
-    ensures { Answers (program max_levels tokens.now) result }
+    ensures { Answers (program strict max_levels tokens.now) result }
 {
     let mut cursor = Cursor::new(tokens);
     match read_program(alloc, &mut cursor) {
@@ -73,11 +77,11 @@ pub fn read(alloc: Global, tokens: &[Token]) -> Result<Items<Statement>, ParseFa
 /// # Errors
 ///
 /// `Syntax`, `Scope` or `Depth` exactly where the text has no tree with at most 200 levels. The text is
-/// refused at the first token with which none goes on, or at its end. `Syntax` where a rule is broken by
-/// what stands from an earlier word on, at that word; else `Scope` where the token leaves the profile, at
-/// its place; `Depth` where more levels alone would do, at the place of the token that counts one too
-/// many; else `Syntax`, at the token's place or, where that is a jump with nothing to leave and an
-/// unknown label behind it, at that label. `Memory` where memory was refused.
+/// refused at the first token with which none goes on, or at its end, and by the rule that stands in the
+/// way, so by one kind and one place. `Syntax` where a rule of an earlier word is broken, at that word; else
+/// `Scope` where the token leaves the profile, at its place; `Depth` where more levels alone would do, at the
+/// place of the token that counts one too many; else `Syntax`, at the token's place or, where that is a jump
+/// with nothing to leave and an unknown label behind it, at that label. `Memory` where memory was refused.
 #[tactic(auto, using(ja_grammar::proofs::Theorem::answered_tree, ja_grammar::proofs::Theorem::answered_only, ja_grammar::proofs::Theorem::answered_fault, ja_grammar::proofs::Theorem::answered_none, ja_grammar::proofs::KeepsPrograms::spelled_keeps))]
 pub fn parse(alloc: Global, text: &str) -> Result<Tree, ParseFault>
     requires { length text.now ≤ 16777216 }
@@ -85,7 +89,6 @@ pub fn parse(alloc: Global, text: &str) -> Result<Tree, ParseFault>
     ensures only { IfOk result (λ tree. (levels : ℕ) (others : List StatementOf) → Spells levels (tokens text.now) others → others ≡ tree.statements) }
     ensures rules { IfOk result (λ tree. KeepsRules tree.statements) }
     ensures fault { IfErr result (Explains (tokens text.now)) }
-    ensures exact { IfErr result (λ why. Answers (program max_levels (tokens text.now)) (Err why)) }
     ensures none { IfErr result (λ why. why ≢ fault.Memory → (others : List StatementOf) → Spells max_levels (tokens text.now) others → ⊥) }
 {
     let Ok(tokens) = tokens(alloc, text) else {

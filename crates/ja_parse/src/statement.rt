@@ -5,7 +5,7 @@ ghost use Rattle.ja_syntax.specs.declared.symbol.Symbol.TheVariants as k;
 ghost use Rattle.ja_grammar.specs.Contexts.{context_of};
 ghost use Rattle.ja_grammar.specs.Contexts as contexts;
 ghost use Rattle.ja_grammar.specs.Forms as forms;
-ghost use Rattle.ja_grammar.specs.Input.{Follows, head, next, separated, until};
+ghost use Rattle.ja_grammar.specs.Input.{Follows, head, next, separated, until, strict};
 ghost use Rattle.ja_grammar.specs.ReadExpression as expressions;
 ghost use Rattle.ja_grammar.specs.ReadStatement as spec;
 ghost use Rattle.ja_grammar.specs.ReadStatement.{below};
@@ -38,7 +38,7 @@ impl<
         part: StatementPart,
     ) -> Result<Held<Statement>, Stop>
         requires { Nests self.now.depth (G.pre self.now.statement) (G.post self.now.statement) }
-        ensures { Follows (spec.headed self.now.depth (below self.now.depth) (context_of context.now) part cursor.old) result cursor.new }
+        ensures { Follows (spec.headed (strict self.now.depth) (below strict self.now.depth) (context_of context.now) part cursor.old) result cursor.new }
     {
         cursor.enter(self.depth)?;
         self.statement_below(cursor, context, part)
@@ -51,7 +51,7 @@ impl<
         outermost: bool,
     ) -> Result<Held<Statement>, Stop>
         requires { Nests self.now.depth (G.pre self.now.statement) (G.post self.now.statement) }
-        ensures { Follows (spec.function_statement self.now.depth (below self.now.depth) outermost cursor.old) result cursor.new }
+        ensures { Follows (spec.function_statement (strict self.now.depth) (below strict self.now.depth) outermost cursor.old) result cursor.new }
     {
         if !outermost {
             return Err(Stop::Refused(Refusal::Unexpected));
@@ -67,7 +67,7 @@ impl<
         context: &Context<'_>,
     ) -> Result<Held<Statement>, Stop>
         requires { Nests self.now.depth (G.pre self.now.statement) (G.post self.now.statement) }
-        ensures { Follows (spec.single_by self.now.depth (below self.now.depth) (context_of context.now) 0 false (head cursor.old) k.OpenBrace cursor.old) result cursor.new }
+        ensures { Follows (spec.single_by (strict self.now.depth) (below strict self.now.depth) (context_of context.now) 0 false (head cursor.old) k.OpenBrace cursor.old) result cursor.new }
     {
         let place = cursor.place();
         let body = self.block(cursor, context)?;
@@ -85,7 +85,7 @@ impl<
         outermost: bool,
     ) -> Result<Held<Statement>, Stop>
         requires { Nests self.now.depth (G.pre self.now.statement) (G.post self.now.statement) }
-        ensures { Follows (spec.single self.now.depth (below self.now.depth) (context_of context.now) labels outermost cursor.old) result cursor.new }
+        ensures { Follows (spec.single (strict self.now.depth) (below strict self.now.depth) (context_of context.now) labels outermost cursor.old) result cursor.new }
     {
         let place = cursor.place();
         match cursor.symbol() {
@@ -123,7 +123,7 @@ impl<
         part: StatementPart,
     ) -> Result<Held<Statement>, Stop>
         requires { Nests self.now.depth (G.pre self.now.statement) (G.post self.now.statement) }
-        ensures { Follows (spec.statement_part self.now.depth (below self.now.depth) (context_of context.now) part cursor.old) result cursor.new }
+        ensures { Follows (spec.statement_part (strict self.now.depth) (below strict self.now.depth) (context_of context.now) part cursor.old) result cursor.new }
     {
         match part {
             StatementPart::Whole { labels, outermost } => self.single(
@@ -145,7 +145,7 @@ impl<
         context: &Context<'_>,
     ) -> Result<Items<Statement>, Stop>
         requires { Nests self.now.depth (G.pre self.now.statement) (G.post self.now.statement) }
-        ensures { Follows (until spec.is_end (spec.single self.now.depth (below self.now.depth) (context_of context.now) 0 true) cursor.old) result cursor.new }
+        ensures { Follows (until spec.is_end (spec.single (strict self.now.depth) (below strict self.now.depth) (context_of context.now) 0 true) cursor.old) result cursor.new }
     {
         let mut found = Items::new(self.alloc);
         for _turn in 0..cursor.left() {

@@ -1,2 +1,3 @@
 pub mod Levels
 pub mod Operators
+pub mod Refusals

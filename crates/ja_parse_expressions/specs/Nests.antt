@@ -9,7 +9,7 @@ use Rattle.ja_grammar.specs.declared.fault.Stop.{Stop}
 use Rattle.ja_grammar.specs.declared.part.ExpressionPart.{ExpressionPart}
 use Rattle.ja_grammar.specs.declared.part.StatementPart.{StatementPart}
 use Rattle.ja_grammar.specs.Contexts.{context_of}
-use Rattle.ja_grammar.specs.Input.{Tokens, Follows}
+use Rattle.ja_grammar.specs.Input.{Tokens, Follows, strict}
 use Rattle.ja_grammar.specs.ReadExpression.{expression_part}
 use Rattle.ja_grammar.specs.ReadStatement.{below, statement_part}
 use Rattle.ja_parse_expressions.specs.declared.grammar.Piece.{Piece}
@@ -35,15 +35,15 @@ pub record Nests (depth : ℕ) (call : StatementCall) (result : StatementResult)
       → call alloc old d context part
   pub reads : (d : ℕ) → d < depth → (alloc : Global) (old new : MutBor Tokens) (context : Bor Stored) (part : StatementPart) (r : Result Statement Stop)
       → result alloc old d context part r new
-      → Follows (statement_part d (below d) (context_of context.now) part old.now) r new.now
+      → Follows (statement_part (strict d) (below strict d) (context_of context.now) part old.now) r new.now
 
 -- a function that reads the parts of expressions one level below, and functions, given one that reads statements
 pub record Reads {G : Type 0} (depth : ℕ) (statement : Bor G) (call : ExpressionCall G) (result : ExpressionResult G) : Type 0 where
   pub callable : 0 < depth → (alloc : Global) (old : MutBor Tokens) (part : ExpressionPart) → call alloc old (depth - 1) (of.Part part) statement
   pub reads : 0 < depth → (alloc : Global) (old new : MutBor Tokens) (part : ExpressionPart) (r : Result Expression Stop)
       → result alloc old (depth - 1) (of.Part part) statement r new
-      → Follows (expression_part (depth - 1) (below (depth - 1)) part old.now) r new.now
+      → Follows (expression_part (strict (depth - 1)) (below strict (depth - 1)) part old.now) r new.now
   pub function_callable : (alloc : Global) (old : MutBor Tokens) → call alloc old depth of.Function statement
   pub function_reads : (alloc : Global) (old new : MutBor Tokens) (r : Result Expression Stop)
       → result alloc old depth of.Function statement r new
-      → Follows (piece depth (below depth) of.Function old.now) r new.now
+      → Follows (piece (strict depth) (below strict depth) of.Function old.now) r new.now

@@ -3,7 +3,7 @@
 ghost use Rattle.std.specs.Prelude.{◌≡◌, zero};
 ghost use Rattle.ja_grammar.specs.declared.part.StatementPart.TheVariants as of_statement;
 ghost use Rattle.ja_grammar.specs.Contexts.{context_of};
-ghost use Rattle.ja_grammar.specs.Input.{Follows, until};
+ghost use Rattle.ja_grammar.specs.Input.{Follows, until, strict};
 ghost use Rattle.ja_grammar.specs.ReadExpression as spec;
 ghost use Rattle.ja_grammar.specs.ReadStatement.{below};
 ghost use Rattle.ja_parse_expressions.specs.Ends.{ends};
@@ -56,7 +56,7 @@ pub fn statement_below<
     part: StatementPart,
 ) -> Result<Held<Statement>, Stop>
     requires { Nests depth (G.pre statement.now) (G.post statement.now) }
-    ensures { Follows ((below depth).statement (context_of context.now) part cursor.old) result cursor.new }
+    ensures { Follows ((below strict depth).statement (context_of context.now) part cursor.old) result cursor.new }
 {
     if depth == 0 {
         return Err(Stop::Refused(Refusal::Deep));
@@ -84,7 +84,7 @@ pub fn statements_below<
     outermost: bool,
 ) -> Result<Items<Statement>, Stop>
     requires { Nests depth (G.pre statement.now) (G.post statement.now) }
-    ensures { Follows (until (ends end) ((below depth).statement (context_of context.now) (of_statement.Whole 0 outermost)) cursor.old) result cursor.new }
+    ensures { Follows (until (ends end) ((below strict depth).statement (context_of context.now) (of_statement.Whole 0 outermost)) cursor.old) result cursor.new }
 {
     let mut found = Items::new(alloc);
     for _turn in 0..cursor.left() {
@@ -118,7 +118,7 @@ fn function_body<
     statement: &G,
 ) -> Result<Items<Statement>, Stop>
     requires { Nests depth (G.pre statement.now) (G.post statement.now) }
-    ensures { Follows (spec.function_body depth (below depth) cursor.old) result cursor.new }
+    ensures { Follows (spec.function_body (strict depth) (below strict depth) cursor.old) result cursor.new }
 {
     cursor.opening(depth, Symbol::OpenBrace)?;
     let context = function_context(alloc);
@@ -155,7 +155,7 @@ pub fn function<
     required: bool,
 ) -> Result<FunctionTree, Stop>
     requires { Nests depth (G.pre statement.now) (G.post statement.now) }
-    ensures { Follows (spec.function depth (below depth) required cursor.old) result cursor.new }
+    ensures { Follows (spec.function (strict depth) (below strict depth) required cursor.old) result cursor.new }
 {
     let place = cursor.place();
     cursor.expect(Symbol::Function)?;

@@ -4,7 +4,7 @@ ghost use Rattle.std.specs.Prelude.{◌<◌, ◌≤◌, suc, not, is_none, Some,
 ghost use Rattle.ja_syntax.specs.References as references;
 ghost use Rattle.ja_syntax.specs.declared.symbol.Symbol.TheVariants as k;
 ghost use Rattle.ja_grammar.specs.Forms as forms;
-ghost use Rattle.ja_grammar.specs.Input.{Follows, head, separated, until};
+ghost use Rattle.ja_grammar.specs.Input.{Follows, head, separated, until, strict};
 ghost use Rattle.ja_grammar.specs.Operators as operators;
 ghost use Rattle.ja_grammar.specs.ReadExpression as spec;
 ghost use Rattle.ja_grammar.specs.ReadStatement.{below};
@@ -14,8 +14,8 @@ use crate::grammar::{Grammar, Piece};
 use ja_base::Place;
 use ja_cursor::{
     Cursor, Held, LEVELS, assign, assignment_operator, begins_property, begins_suffix,
-    binary_operator, chained, conditional, created, dotted, is_prefix, operated, postfix_of,
-    prefix_update, sequence, unary, unary_operator, update,
+    binary_operator, chained, conditional, created, dotted, is_prefix, operand_close, operated,
+    postfix_of, prefix_update, sequence, unary, unary_operator, update,
 };
 use ja_grammar::{ExpressionPart, Refusal, Stop};
 use ja_syntax::{
@@ -34,7 +34,7 @@ impl<F: Fn(Global, &mut Cursor<'_>, usize, Piece, &G) -> Result<Held<Expression>
     #[tactic(auto, unfolding(ja_grammar::specs::ReadExpression::chain_head))]
     fn chain_head(&self, cursor: &mut Cursor<'_>) -> Result<Held<Expression>, Stop>
         requires { Reads self.now.depth self.now.statement (F.pre self.now.read) (F.post self.now.read) }
-        ensures { Follows (spec.chain_head self.now.depth (below self.now.depth) cursor.old) result cursor.new }
+        ensures { Follows (spec.chain_head (strict self.now.depth) (below strict self.now.depth) cursor.old) result cursor.new }
     {
         match cursor.symbol() {
             Symbol::New => {
@@ -50,7 +50,7 @@ impl<F: Fn(Global, &mut Cursor<'_>, usize, Piece, &G) -> Result<Held<Expression>
     #[tactic(auto, unfolding(ja_grammar::specs::ReadExpression::indexed))]
     fn indexed(&self, cursor: &mut Cursor<'_>) -> Result<Suffix<Expression>, Stop>
         requires { Reads self.now.depth self.now.statement (F.pre self.now.read) (F.post self.now.read) }
-        ensures { Follows (spec.indexed self.now.depth (below self.now.depth) cursor.old) result cursor.new }
+        ensures { Follows (spec.indexed (strict self.now.depth) (below strict self.now.depth) cursor.old) result cursor.new }
     {
         let place = cursor.place();
         cursor.enter(self.depth)?;
@@ -66,7 +66,7 @@ impl<F: Fn(Global, &mut Cursor<'_>, usize, Piece, &G) -> Result<Held<Expression>
     #[tactic(auto, unfolding(ja_grammar::specs::ReadExpression::property_suffix))]
     fn property_suffix(&self, cursor: &mut Cursor<'_>) -> Result<Suffix<Expression>, Stop>
         requires { Reads self.now.depth self.now.statement (F.pre self.now.read) (F.post self.now.read) }
-        ensures { Follows (spec.property_suffix self.now.depth (below self.now.depth) cursor.old) result cursor.new }
+        ensures { Follows (spec.property_suffix (strict self.now.depth) (below strict self.now.depth) cursor.old) result cursor.new }
     {
         match cursor.symbol() {
             Symbol::Dot => dotted(self.alloc, cursor),
@@ -79,7 +79,7 @@ impl<F: Fn(Global, &mut Cursor<'_>, usize, Piece, &G) -> Result<Held<Expression>
     #[tactic(auto, unfolding(ja_grammar::specs::ReadExpression::arguments))]
     fn arguments(&self, cursor: &mut Cursor<'_>) -> Result<Items<Expression>, Stop>
         requires { Reads self.now.depth self.now.statement (F.pre self.now.read) (F.post self.now.read) }
-        ensures { Follows (spec.arguments self.now.depth (below self.now.depth) cursor.old) result cursor.new }
+        ensures { Follows (spec.arguments (strict self.now.depth) (below strict self.now.depth) cursor.old) result cursor.new }
     {
         cursor.enter(self.depth)?;
         self.arguments_list(cursor)
@@ -89,7 +89,7 @@ impl<F: Fn(Global, &mut Cursor<'_>, usize, Piece, &G) -> Result<Held<Expression>
     #[tactic(auto, unfolding(ja_grammar::specs::ReadExpression::any_suffix))]
     fn any_suffix(&self, cursor: &mut Cursor<'_>) -> Result<Suffix<Expression>, Stop>
         requires { Reads self.now.depth self.now.statement (F.pre self.now.read) (F.post self.now.read) }
-        ensures { Follows (spec.any_suffix self.now.depth (below self.now.depth) cursor.old) result cursor.new }
+        ensures { Follows (spec.any_suffix (strict self.now.depth) (below strict self.now.depth) cursor.old) result cursor.new }
     {
         match cursor.symbol() {
             Symbol::OpenParenthesis => {
@@ -104,7 +104,7 @@ impl<F: Fn(Global, &mut Cursor<'_>, usize, Piece, &G) -> Result<Held<Expression>
     /// Reads the suffixes of a member.
     fn property_suffixes(&self, cursor: &mut Cursor<'_>) -> Result<Items<Suffix<Expression>>, Stop>
         requires { Reads self.now.depth self.now.statement (F.pre self.now.read) (F.post self.now.read) }
-        ensures { Follows (until (λ found. not (forms.begins_property found)) (spec.property_suffix self.now.depth (below self.now.depth)) cursor.old) result cursor.new }
+        ensures { Follows (until (λ found. not (forms.begins_property found)) (spec.property_suffix (strict self.now.depth) (below strict self.now.depth)) cursor.old) result cursor.new }
     {
         let mut found = Items::new(self.alloc);
         for _turn in 0..cursor.left() {
@@ -120,7 +120,7 @@ impl<F: Fn(Global, &mut Cursor<'_>, usize, Piece, &G) -> Result<Held<Expression>
     /// Reads the suffixes of a member or call.
     fn suffixes(&self, cursor: &mut Cursor<'_>) -> Result<Items<Suffix<Expression>>, Stop>
         requires { Reads self.now.depth self.now.statement (F.pre self.now.read) (F.post self.now.read) }
-        ensures { Follows (until (λ found. not (forms.begins_suffix found)) (spec.any_suffix self.now.depth (below self.now.depth)) cursor.old) result cursor.new }
+        ensures { Follows (until (λ found. not (forms.begins_suffix found)) (spec.any_suffix (strict self.now.depth) (below strict self.now.depth)) cursor.old) result cursor.new }
     {
         let mut found = Items::new(self.alloc);
         for _turn in 0..cursor.left() {
@@ -137,7 +137,7 @@ impl<F: Fn(Global, &mut Cursor<'_>, usize, Piece, &G) -> Result<Held<Expression>
     #[tactic(auto, unfolding(ja_grammar::specs::ReadExpression::member))]
     fn member(&self, cursor: &mut Cursor<'_>) -> Result<Held<Expression>, Stop>
         requires { Reads self.now.depth self.now.statement (F.pre self.now.read) (F.post self.now.read) }
-        ensures { Follows (spec.member self.now.depth (below self.now.depth) cursor.old) result cursor.new }
+        ensures { Follows (spec.member (strict self.now.depth) (below strict self.now.depth) cursor.old) result cursor.new }
     {
         let head = self.chain_head(cursor)?;
         let suffixes = self.property_suffixes(cursor)?;
@@ -148,7 +148,7 @@ impl<F: Fn(Global, &mut Cursor<'_>, usize, Piece, &G) -> Result<Held<Expression>
     #[tactic(auto, unfolding(ja_grammar::specs::ReadExpression::created))]
     fn created(&self, cursor: &mut Cursor<'_>, place: Place) -> Result<Held<Expression>, Stop>
         requires { Reads self.now.depth self.now.statement (F.pre self.now.read) (F.post self.now.read) }
-        ensures { Follows (spec.created self.now.depth (below self.now.depth) place cursor.old) result cursor.new }
+        ensures { Follows (spec.created (strict self.now.depth) (below strict self.now.depth) place cursor.old) result cursor.new }
     {
         let callee = self.member(cursor)?;
         match cursor.symbol() {
@@ -164,7 +164,7 @@ impl<F: Fn(Global, &mut Cursor<'_>, usize, Piece, &G) -> Result<Held<Expression>
     #[tactic(auto, unfolding(ja_grammar::specs::ReadExpression::left_hand))]
     fn left_hand(&self, cursor: &mut Cursor<'_>) -> Result<Held<Expression>, Stop>
         requires { Reads self.now.depth self.now.statement (F.pre self.now.read) (F.post self.now.read) }
-        ensures { Follows (spec.left_hand self.now.depth (below self.now.depth) cursor.old) result cursor.new }
+        ensures { Follows (spec.left_hand (strict self.now.depth) (below strict self.now.depth) cursor.old) result cursor.new }
     {
         let head = self.chain_head(cursor)?;
         let suffixes = self.suffixes(cursor)?;
@@ -179,7 +179,7 @@ impl<F: Fn(Global, &mut Cursor<'_>, usize, Piece, &G) -> Result<Held<Expression>
         operator: UpdateOperator,
     ) -> Result<Held<Expression>, Stop>
         requires { Reads self.now.depth self.now.statement (F.pre self.now.read) (F.post self.now.read) }
-        ensures { Follows (spec.updated_behind self.now.depth (below self.now.depth) x (head cursor.old) operator (references.is_reference x) cursor.old) result cursor.new }
+        ensures { Follows (spec.updated_behind (strict self.now.depth) (below strict self.now.depth) x (head cursor.old) operator (references.is_reference x) cursor.old) result cursor.new }
     {
         if !is_reference(x.get()) {
             return Err(Stop::Refused(Refusal::Unexpected));
@@ -193,7 +193,7 @@ impl<F: Fn(Global, &mut Cursor<'_>, usize, Piece, &G) -> Result<Held<Expression>
     #[tactic(auto, unfolding(ja_grammar::specs::ReadExpression::postfix))]
     fn postfix(&self, cursor: &mut Cursor<'_>) -> Result<Held<Expression>, Stop>
         requires { Reads self.now.depth self.now.statement (F.pre self.now.read) (F.post self.now.read) }
-        ensures { Follows (spec.postfix self.now.depth (below self.now.depth) cursor.old) result cursor.new }
+        ensures { Follows (spec.postfix (strict self.now.depth) (below strict self.now.depth) cursor.old) result cursor.new }
     {
         let x = self.left_hand(cursor)?;
         match postfix_of(cursor) {
@@ -202,21 +202,18 @@ impl<F: Fn(Global, &mut Cursor<'_>, usize, Piece, &G) -> Result<Held<Expression>
         }
     }
 
-    /// Reads the operand of the `++` or `--` at `place` (11.4.4, 11.4.5).
-    #[tactic(auto, unfolding(ja_grammar::specs::ReadExpression::updated, ja_grammar::specs::ReadExpression::operand_close))]
+    /// Reads the operand of the `++` or `--` at `place` (11.4.4, 11.4.5). A prefix operator is refused as
+    /// `Broken` at `place`, and a complete operand as `operand_close` says.
+    #[tactic(auto, unfolding(ja_grammar::specs::ReadExpression::updated))]
     fn updated(&self, cursor: &mut Cursor<'_>, place: Place) -> Result<Held<Expression>, Stop>
         requires { Reads self.now.depth self.now.statement (F.pre self.now.read) (F.post self.now.read) }
-        ensures { Follows (spec.updated self.now.depth (below self.now.depth) place cursor.old) result cursor.new }
+        ensures { Follows (spec.updated (strict self.now.depth) (below strict self.now.depth) place cursor.old) result cursor.new }
     {
         if is_prefix(cursor.symbol()) {
             return Err(Stop::Refused(Refusal::Broken(place)));
         }
         let x = self.left_hand(cursor)?;
-        if is_reference(x.get()) && postfix_of(cursor).is_none() {
-            Ok(x)
-        } else {
-            Err(Stop::Refused(Refusal::Broken(place)))
-        }
+        operand_close(cursor, x, place)
     }
 
     /// Reads an operator before an operand, and that (11.4).
@@ -226,7 +223,7 @@ impl<F: Fn(Global, &mut Cursor<'_>, usize, Piece, &G) -> Result<Held<Expression>
         operator: UnaryOperator,
     ) -> Result<Held<Expression>, Stop>
         requires { Reads self.now.depth self.now.statement (F.pre self.now.read) (F.post self.now.read) }
-        ensures { Follows (spec.unary_by self.now.depth (below self.now.depth) (head cursor.old) (Some operator) None cursor.old) result cursor.new }
+        ensures { Follows (spec.unary_by (strict self.now.depth) (below strict self.now.depth) (head cursor.old) (Some operator) None cursor.old) result cursor.new }
     {
         let place = cursor.place();
         cursor.enter(self.depth)?;
@@ -241,7 +238,7 @@ impl<F: Fn(Global, &mut Cursor<'_>, usize, Piece, &G) -> Result<Held<Expression>
         operator: UpdateOperator,
     ) -> Result<Held<Expression>, Stop>
         requires { Reads self.now.depth self.now.statement (F.pre self.now.read) (F.post self.now.read) }
-        ensures { Follows (spec.unary_by self.now.depth (below self.now.depth) (head cursor.old) None (Some operator) cursor.old) result cursor.new }
+        ensures { Follows (spec.unary_by (strict self.now.depth) (below strict self.now.depth) (head cursor.old) None (Some operator) cursor.old) result cursor.new }
     {
         let place = cursor.place();
         cursor.enter(self.depth)?;
@@ -253,7 +250,7 @@ impl<F: Fn(Global, &mut Cursor<'_>, usize, Piece, &G) -> Result<Held<Expression>
     #[tactic(auto, unfolding(ja_grammar::specs::ReadExpression::unary))]
     fn unary(&self, cursor: &mut Cursor<'_>) -> Result<Held<Expression>, Stop>
         requires { Reads self.now.depth self.now.statement (F.pre self.now.read) (F.post self.now.read) }
-        ensures { Follows (spec.unary self.now.depth (below self.now.depth) cursor.old) result cursor.new }
+        ensures { Follows (spec.unary (strict self.now.depth) (below strict self.now.depth) cursor.old) result cursor.new }
     {
         match unary_operator(cursor.symbol()) {
             Some(operator) => self.operated_before(cursor, operator),
@@ -275,7 +272,7 @@ impl<F: Fn(Global, &mut Cursor<'_>, usize, Piece, &G) -> Result<Held<Expression>
     ) -> Result<Operation<Expression>, Stop>
         requires nests { Reads self.now.depth self.now.statement (F.pre self.now.read) (F.post self.now.read) }
         requires small { level < 10 }
-        ensures { Follows (spec.operation self.now.depth (below self.now.depth) no_in (suc level) (spec.binary self.now.depth (below self.now.depth) no_in level) cursor.old) result cursor.new }
+        ensures { Follows (spec.operation (strict self.now.depth) (below strict self.now.depth) no_in (suc level) (spec.binary (strict self.now.depth) (below strict self.now.depth) no_in level) cursor.old) result cursor.new }
     {
         let Some(operator) = binary_operator(no_in, level + 1, cursor.symbol()) else {
             return Err(Stop::Refused(Refusal::Unexpected));
@@ -300,7 +297,7 @@ impl<F: Fn(Global, &mut Cursor<'_>, usize, Piece, &G) -> Result<Held<Expression>
     ) -> Result<Items<Operation<Expression>>, Stop>
         requires nests { Reads self.now.depth self.now.statement (F.pre self.now.read) (F.post self.now.read) }
         requires small { level < 10 }
-        ensures { Follows (until (λ found. is_none (operators.binary_operator no_in (suc level) found)) (spec.operation self.now.depth (below self.now.depth) no_in (suc level) (spec.binary self.now.depth (below self.now.depth) no_in level)) cursor.old) result cursor.new }
+        ensures { Follows (until (λ found. is_none (operators.binary_operator no_in (suc level) found)) (spec.operation (strict self.now.depth) (below strict self.now.depth) no_in (suc level) (spec.binary (strict self.now.depth) (below strict self.now.depth) no_in level)) cursor.old) result cursor.new }
     {
         let mut found = Items::new(self.alloc);
         for _turn in 0..cursor.left() {
@@ -323,7 +320,7 @@ impl<F: Fn(Global, &mut Cursor<'_>, usize, Piece, &G) -> Result<Held<Expression>
     ) -> Result<Held<Expression>, Stop>
         requires nests { Reads self.now.depth self.now.statement (F.pre self.now.read) (F.post self.now.read) }
         requires small { level ≤ 10 }
-        ensures { Follows (spec.binary self.now.depth (below self.now.depth) no_in level cursor.old) result cursor.new }
+        ensures { Follows (spec.binary (strict self.now.depth) (below strict self.now.depth) no_in level cursor.old) result cursor.new }
     {
         let place = cursor.place();
         let mut x = self.unary(cursor)?;
@@ -343,7 +340,7 @@ impl<F: Fn(Global, &mut Cursor<'_>, usize, Piece, &G) -> Result<Held<Expression>
         x: Held<Expression>,
     ) -> Result<Held<Expression>, Stop>
         requires { Reads self.now.depth self.now.statement (F.pre self.now.read) (F.post self.now.read) }
-        ensures { Follows (spec.conditional_by self.now.depth (below self.now.depth) no_in place x k.Question cursor.old) result cursor.new }
+        ensures { Follows (spec.conditional_by (strict self.now.depth) (below strict self.now.depth) no_in place x k.Question cursor.old) result cursor.new }
     {
         cursor.enter(self.depth)?;
         let y = self.expression_below(cursor, ExpressionPart::Assignment { no_in })?;
@@ -356,7 +353,7 @@ impl<F: Fn(Global, &mut Cursor<'_>, usize, Piece, &G) -> Result<Held<Expression>
     #[tactic(auto, unfolding(ja_grammar::specs::ReadExpression::conditional))]
     fn conditional(&self, cursor: &mut Cursor<'_>, no_in: bool) -> Result<Held<Expression>, Stop>
         requires { Reads self.now.depth self.now.statement (F.pre self.now.read) (F.post self.now.read) }
-        ensures { Follows (spec.conditional self.now.depth (below self.now.depth) no_in cursor.old) result cursor.new }
+        ensures { Follows (spec.conditional (strict self.now.depth) (below strict self.now.depth) no_in cursor.old) result cursor.new }
     {
         let place = cursor.place();
         let x = self.binary(cursor, no_in, LEVELS)?;
@@ -375,7 +372,7 @@ impl<F: Fn(Global, &mut Cursor<'_>, usize, Piece, &G) -> Result<Held<Expression>
         operator: Option<BinaryOperator>,
     ) -> Result<Held<Expression>, Stop>
         requires { Reads self.now.depth self.now.statement (F.pre self.now.read) (F.post self.now.read) }
-        ensures { Follows (spec.assigned self.now.depth (below self.now.depth) no_in x (head cursor.old) operator (references.is_reference x) cursor.old) result cursor.new }
+        ensures { Follows (spec.assigned (strict self.now.depth) (below strict self.now.depth) no_in x (head cursor.old) operator (references.is_reference x) cursor.old) result cursor.new }
     {
         if !is_reference(x.get()) {
             return Err(Stop::Refused(Refusal::Unexpected));
@@ -390,7 +387,7 @@ impl<F: Fn(Global, &mut Cursor<'_>, usize, Piece, &G) -> Result<Held<Expression>
     #[tactic(auto, unfolding(ja_grammar::specs::ReadExpression::assignment))]
     pub fn assignment(&self, cursor: &mut Cursor<'_>, no_in: bool) -> Result<Held<Expression>, Stop>
         requires { Reads self.now.depth self.now.statement (F.pre self.now.read) (F.post self.now.read) }
-        ensures { Follows (spec.assignment self.now.depth (below self.now.depth) no_in cursor.old) result cursor.new }
+        ensures { Follows (spec.assignment (strict self.now.depth) (below strict self.now.depth) no_in cursor.old) result cursor.new }
     {
         let x = self.conditional(cursor, no_in)?;
         match assignment_operator(cursor.symbol()) {
@@ -402,7 +399,7 @@ impl<F: Fn(Global, &mut Cursor<'_>, usize, Piece, &G) -> Result<Held<Expression>
     /// Reads assignment expressions with commas between.
     fn assignments(&self, cursor: &mut Cursor<'_>, no_in: bool) -> Result<Items<Expression>, Stop>
         requires { Reads self.now.depth self.now.statement (F.pre self.now.read) (F.post self.now.read) }
-        ensures { Follows (separated (spec.assignment self.now.depth (below self.now.depth) no_in) cursor.old) result cursor.new }
+        ensures { Follows (separated (spec.assignment (strict self.now.depth) (below strict self.now.depth) no_in) cursor.old) result cursor.new }
     {
         let mut found = Items::new(self.alloc);
         let first = self.assignment(cursor, no_in)?;
@@ -422,7 +419,7 @@ impl<F: Fn(Global, &mut Cursor<'_>, usize, Piece, &G) -> Result<Held<Expression>
     #[tactic(auto, unfolding(ja_grammar::specs::ReadExpression::whole))]
     pub fn whole(&self, cursor: &mut Cursor<'_>, no_in: bool) -> Result<Held<Expression>, Stop>
         requires { Reads self.now.depth self.now.statement (F.pre self.now.read) (F.post self.now.read) }
-        ensures { Follows (spec.whole self.now.depth (below self.now.depth) no_in cursor.old) result cursor.new }
+        ensures { Follows (spec.whole (strict self.now.depth) (below strict self.now.depth) no_in cursor.old) result cursor.new }
     {
         let place = cursor.place();
         let found = self.assignments(cursor, no_in)?;
@@ -437,7 +434,7 @@ impl<F: Fn(Global, &mut Cursor<'_>, usize, Piece, &G) -> Result<Held<Expression>
         part: ExpressionPart,
     ) -> Result<Held<Expression>, Stop>
         requires { Reads self.now.depth self.now.statement (F.pre self.now.read) (F.post self.now.read) }
-        ensures { Follows (spec.expression_part self.now.depth (below self.now.depth) part cursor.old) result cursor.new }
+        ensures { Follows (spec.expression_part (strict self.now.depth) (below strict self.now.depth) part cursor.old) result cursor.new }
     {
         match part {
             ExpressionPart::Whole { no_in } => self.whole(cursor, no_in),

@@ -1,7 +1,7 @@
 //! The rules take the function that reads the parts one level below as a parameter, so that each is proved by
 //! itself.
 
-ghost use Rattle.ja_grammar.specs.Input.{Follows};
+ghost use Rattle.ja_grammar.specs.Input.{Follows, strict};
 ghost use Rattle.ja_grammar.specs.ReadStatement.{below};
 ghost use Rattle.ja_parse_expressions.specs.Nests.{Reads};
 
@@ -43,7 +43,7 @@ impl<F: Fn(Global, &mut Cursor<'_>, usize, Piece, &G) -> Result<Held<Expression>
         part: ExpressionPart,
     ) -> Result<Held<Expression>, Stop>
         requires { Reads self.now.depth self.now.statement (F.pre self.now.read) (F.post self.now.read) }
-        ensures { Follows ((below self.now.depth).expression part cursor.old) result cursor.new }
+        ensures { Follows ((below strict self.now.depth).expression part cursor.old) result cursor.new }
     {
         if self.depth == 0 {
             return Err(Stop::Refused(Refusal::Deep));

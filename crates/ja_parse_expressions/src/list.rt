@@ -3,7 +3,7 @@
 ghost use Rattle.std.specs.Prelude.{◌≡◌, zero, false, true, not, is_none};
 ghost use Rattle.ja_syntax.specs.declared.symbol.Symbol.TheVariants as k;
 ghost use Rattle.ja_grammar.specs.declared.part.ExpressionPart.TheVariants as of_expression;
-ghost use Rattle.ja_grammar.specs.Input.{Follows, listed, separated, until};
+ghost use Rattle.ja_grammar.specs.Input.{Follows, listed, separated, until, strict};
 ghost use Rattle.ja_grammar.specs.ReadExpression as spec;
 ghost use Rattle.ja_grammar.specs.ReadStatement.{below};
 ghost use Rattle.ja_parse_expressions.specs.Nests.{Reads};
@@ -23,7 +23,7 @@ impl<F: Fn(Global, &mut Cursor<'_>, usize, Piece, &G) -> Result<Held<Expression>
     /// Reads the elements of an array literal.
     pub fn elements(&self, cursor: &mut Cursor<'_>) -> Result<Items<Option<Expression>>, Stop>
         requires { Reads self.now.depth self.now.statement (F.pre self.now.read) (F.post self.now.read) }
-        ensures { Follows (until spec.is_close_bracket (spec.element self.now.depth (below self.now.depth)) cursor.old) result cursor.new }
+        ensures { Follows (until spec.is_close_bracket (spec.element (strict self.now.depth) (below strict self.now.depth)) cursor.old) result cursor.new }
     {
         let mut found = Items::new(self.alloc);
         for _turn in 0..cursor.left() {
@@ -42,7 +42,7 @@ impl<F: Fn(Global, &mut Cursor<'_>, usize, Piece, &G) -> Result<Held<Expression>
         cursor: &mut Cursor<'_>,
     ) -> Result<Items<Property<Expression>>, Stop>
         requires { Reads self.now.depth self.now.statement (F.pre self.now.read) (F.post self.now.read) }
-        ensures { Follows (separated (spec.property self.now.depth (below self.now.depth)) cursor.old) result cursor.new }
+        ensures { Follows (separated (spec.property (strict self.now.depth) (below strict self.now.depth)) cursor.old) result cursor.new }
     {
         let mut found = Items::new(self.alloc);
         let first = self.property(cursor)?;
@@ -62,7 +62,7 @@ impl<F: Fn(Global, &mut Cursor<'_>, usize, Piece, &G) -> Result<Held<Expression>
     #[tactic(auto, unfolding(ja_grammar::specs::Input::listed))]
     pub fn properties(&self, cursor: &mut Cursor<'_>) -> Result<Items<Property<Expression>>, Stop>
         requires { Reads self.now.depth self.now.statement (F.pre self.now.read) (F.post self.now.read) }
-        ensures { Follows (listed k.CloseBrace (spec.property self.now.depth (below self.now.depth)) cursor.old) result cursor.new }
+        ensures { Follows (listed k.CloseBrace (spec.property (strict self.now.depth) (below strict self.now.depth)) cursor.old) result cursor.new }
     {
         if cursor.sees(Symbol::CloseBrace) {
             cursor.take();
@@ -76,7 +76,7 @@ impl<F: Fn(Global, &mut Cursor<'_>, usize, Piece, &G) -> Result<Held<Expression>
     /// Reads arguments with commas between.
     fn arguments_between(&self, cursor: &mut Cursor<'_>) -> Result<Items<Expression>, Stop>
         requires { Reads self.now.depth self.now.statement (F.pre self.now.read) (F.post self.now.read) }
-        ensures { Follows (separated ((below self.now.depth).expression (of_expression.Assignment false)) cursor.old) result cursor.new }
+        ensures { Follows (separated ((below strict self.now.depth).expression (of_expression.Assignment false)) cursor.old) result cursor.new }
     {
         let mut found = Items::new(self.alloc);
         let first = self.expression_below(cursor, ExpressionPart::Assignment { no_in: false })?;
@@ -96,7 +96,7 @@ impl<F: Fn(Global, &mut Cursor<'_>, usize, Piece, &G) -> Result<Held<Expression>
     #[tactic(auto, unfolding(ja_grammar::specs::Input::listed))]
     pub fn arguments_list(&self, cursor: &mut Cursor<'_>) -> Result<Items<Expression>, Stop>
         requires { Reads self.now.depth self.now.statement (F.pre self.now.read) (F.post self.now.read) }
-        ensures { Follows (listed k.CloseParenthesis ((below self.now.depth).expression (of_expression.Assignment false)) cursor.old) result cursor.new }
+        ensures { Follows (listed k.CloseParenthesis ((below strict self.now.depth).expression (of_expression.Assignment false)) cursor.old) result cursor.new }
     {
         if cursor.sees(Symbol::CloseParenthesis) {
             cursor.take();

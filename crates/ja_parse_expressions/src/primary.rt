@@ -1,6 +1,6 @@
 //! Primary expressions (ES3 11.1).
 
-ghost use Rattle.ja_grammar.specs.Input.{Follows};
+ghost use Rattle.ja_grammar.specs.Input.{Follows, strict};
 ghost use Rattle.ja_grammar.specs.ReadExpression as spec;
 ghost use Rattle.ja_grammar.specs.ReadStatement.{below};
 ghost use Rattle.ja_parse_expressions.specs.Nests.{Reads};
@@ -23,7 +23,7 @@ impl<F: Fn(Global, &mut Cursor<'_>, usize, Piece, &G) -> Result<Held<Expression>
     #[tactic(auto, unfolding(ja_grammar::specs::ReadExpression::element))]
     pub fn element(&self, cursor: &mut Cursor<'_>) -> Result<Option<Expression>, Stop>
         requires { Reads self.now.depth self.now.statement (F.pre self.now.read) (F.post self.now.read) }
-        ensures { Follows (spec.element self.now.depth (below self.now.depth) cursor.old) result cursor.new }
+        ensures { Follows (spec.element (strict self.now.depth) (below strict self.now.depth) cursor.old) result cursor.new }
     {
         match cursor.symbol() {
             Symbol::Comma => {
@@ -41,7 +41,7 @@ impl<F: Fn(Global, &mut Cursor<'_>, usize, Piece, &G) -> Result<Held<Expression>
     #[tactic(auto, unfolding(ja_grammar::specs::ReadExpression::property))]
     pub fn property(&self, cursor: &mut Cursor<'_>) -> Result<Property<Expression>, Stop>
         requires { Reads self.now.depth self.now.statement (F.pre self.now.read) (F.post self.now.read) }
-        ensures { Follows (spec.property self.now.depth (below self.now.depth) cursor.old) result cursor.new }
+        ensures { Follows (spec.property (strict self.now.depth) (below strict self.now.depth) cursor.old) result cursor.new }
     {
         let place = cursor.place();
         let Some(name) = property_name(self.alloc, cursor)? else {
@@ -61,7 +61,7 @@ impl<F: Fn(Global, &mut Cursor<'_>, usize, Piece, &G) -> Result<Held<Expression>
     #[tactic(auto, unfolding(ja_grammar::specs::ReadExpression::array))]
     fn array(&self, cursor: &mut Cursor<'_>) -> Result<Held<Expression>, Stop>
         requires { Reads self.now.depth self.now.statement (F.pre self.now.read) (F.post self.now.read) }
-        ensures { Follows (spec.array self.now.depth (below self.now.depth) cursor.old) result cursor.new }
+        ensures { Follows (spec.array (strict self.now.depth) (below strict self.now.depth) cursor.old) result cursor.new }
     {
         let place = cursor.place();
         cursor.enter(self.depth)?;
@@ -74,7 +74,7 @@ impl<F: Fn(Global, &mut Cursor<'_>, usize, Piece, &G) -> Result<Held<Expression>
     #[tactic(auto, unfolding(ja_grammar::specs::ReadExpression::object))]
     fn object(&self, cursor: &mut Cursor<'_>) -> Result<Held<Expression>, Stop>
         requires { Reads self.now.depth self.now.statement (F.pre self.now.read) (F.post self.now.read) }
-        ensures { Follows (spec.object self.now.depth (below self.now.depth) cursor.old) result cursor.new }
+        ensures { Follows (spec.object (strict self.now.depth) (below strict self.now.depth) cursor.old) result cursor.new }
     {
         let place = cursor.place();
         cursor.enter(self.depth)?;
@@ -86,7 +86,7 @@ impl<F: Fn(Global, &mut Cursor<'_>, usize, Piece, &G) -> Result<Held<Expression>
     #[tactic(auto, unfolding(ja_grammar::specs::ReadExpression::parenthesized))]
     fn parenthesized(&self, cursor: &mut Cursor<'_>) -> Result<Held<Expression>, Stop>
         requires { Reads self.now.depth self.now.statement (F.pre self.now.read) (F.post self.now.read) }
-        ensures { Follows (spec.parenthesized self.now.depth (below self.now.depth) cursor.old) result cursor.new }
+        ensures { Follows (spec.parenthesized (strict self.now.depth) (below strict self.now.depth) cursor.old) result cursor.new }
     {
         cursor.enter(self.depth)?;
         let x = self.expression_below(cursor, ExpressionPart::Whole { no_in: false })?;
@@ -98,7 +98,7 @@ impl<F: Fn(Global, &mut Cursor<'_>, usize, Piece, &G) -> Result<Held<Expression>
     #[tactic(auto, unfolding(ja_grammar::specs::ReadExpression::primary))]
     pub fn primary(&self, cursor: &mut Cursor<'_>) -> Result<Held<Expression>, Stop>
         requires { Reads self.now.depth self.now.statement (F.pre self.now.read) (F.post self.now.read) }
-        ensures { Follows (spec.primary self.now.depth (below self.now.depth) cursor.old) result cursor.new }
+        ensures { Follows (spec.primary (strict self.now.depth) (below strict self.now.depth) cursor.old) result cursor.new }
     {
         match cursor.symbol() {
             Symbol::This => this_expression(self.alloc, cursor),

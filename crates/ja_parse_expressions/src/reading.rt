@@ -1,6 +1,6 @@
 //! How the parts of expressions read one another.
 
-ghost use Rattle.ja_grammar.specs.Input.{Follows};
+ghost use Rattle.ja_grammar.specs.Input.{Follows, strict};
 ghost use Rattle.ja_grammar.specs.ReadStatement.{below};
 ghost use Rattle.ja_parse_expressions.specs.Nests.{Nests};
 ghost use Rattle.ja_parse_expressions.specs.Pieces.{piece};
@@ -32,7 +32,7 @@ pub fn expression_at<
     statement: &G,
 ) -> Result<Held<Expression>, Stop>
     requires { Nests depth (G.pre statement.now) (G.post statement.now) }
-    ensures { Follows (piece depth (below depth) asked cursor.old) result cursor.new }
+    ensures { Follows (piece (strict depth) (below strict depth) asked cursor.old) result cursor.new }
 {
     match asked {
         Piece::Function => {

@@ -1,6 +1,6 @@
 -- What the parser answers to the tokens of a text in the language.
 use Rattle.std.proofs.Common.{◌≡◌, ℕ, true, List, Ok, Err, refl}
-use Rattle.ja_grammar.specs.Input.{Outcome, Done, Refused}
+use Rattle.ja_grammar.specs.Input.{strict, Outcome, Done, Refused}
 use Rattle.ja_grammar.specs.Language.{Answers, max_levels}
 use Rattle.ja_grammar.specs.ReadStatement.{program}
 use Rattle.ja_grammar.specs.declared.fault.ParseFault.{ParseFault}
@@ -20,10 +20,10 @@ only_memory (Done xs r) (Scope kind place) read h = absurd h
 only_memory (Done xs r) (Depth place) read h = absurd h
 only_memory (Refused why r) fault read h = absurd (cc)
 
-pub read_is : (text : List ℕ) (found : List Statement) → Answers (program max_levels (numbered 1 (tokens text))) (Ok found) → found ≡ tree_of text
+pub read_is : (text : List ℕ) (found : List Statement) → Answers (program strict max_levels (numbered 1 (tokens text))) (Ok found) → found ≡ tree_of text
 unfolding tree_of
-read_is text found h = found_is (program max_levels (numbered 1 (tokens text))) found h
+read_is text found h = found_is (program strict max_levels (numbered 1 (tokens text))) found h
 
-pub read_fails : (text : List ℕ) (fault : ParseFault) → is_text text ≡ true → Answers (program max_levels (numbered 1 (tokens text))) (Err fault) → fault ≡ Memory
+pub read_fails : (text : List ℕ) (fault : ParseFault) → is_text text ≡ true → Answers (program strict max_levels (numbered 1 (tokens text))) (Err fault) → fault ≡ Memory
 unfolding is_text
-read_fails text fault read h = only_memory (program max_levels (numbered 1 (tokens text))) fault read h
+read_fails text fault read h = only_memory (program strict max_levels (numbered 1 (tokens text))) fault read h

@@ -4,7 +4,7 @@ use Rattle.std.specs.List.{AllByRecursion, list_all, slice_get, sum_by, zip}
 use lib.Chars.{codes}
 use Rattle.ja_base.specs.declared.ids.ScopeKind.{ScopeKind}
 use Rattle.ja_base.specs.declared.ids.ScopeKind.TheVariants.{CodeMaker, Radix}
-use Rattle.ja_grammar.specs.Input.{Tokens, Outcome, Done, Refused}
+use Rattle.ja_grammar.specs.Input.{Tokens, strict, Outcome, Done, Refused}
 use Rattle.ja_grammar.specs.Language.{Spells, max_levels, Answers}
 use Rattle.ja_grammar.specs.ReadStatement.{program}
 use Rattle.ja_grammar.proofs.Theorem.{answered_tree}
@@ -36,13 +36,13 @@ pub texts_are_few : list_all (λ f. is_few f.1.now) FUNCTIONS ≡ true
 unfolding reading
 texts_are_few = refl
 
-spelled_by : (i : Tokens) (o : Outcome (List Statement)) → program max_levels i ≡ o → is_read o ≡ true → Spells max_levels i (statements_in o)
+spelled_by : (i : Tokens) (o : Outcome (List Statement)) → program strict max_levels i ≡ o → is_read o ≡ true → Spells max_levels i (statements_in o)
 spelled_by i (Done xs r) is read = answered_tree i xs (subst (λ o. Answers o (Ok xs)) (sym is) refl)
 spelled_by i (Refused why r) is read = absurd (cc)
 
 pub spelled : (text : List ℕ) → is_text text ≡ true → Spells max_levels (numbered 1 (tokens text)) (tree_of text)
 unfolding is_text tree_of
-spelled text read = spelled_by (numbered 1 (tokens text)) (program max_levels (numbered 1 (tokens text))) refl read
+spelled text read = spelled_by (numbered 1 (tokens text)) (program strict max_levels (numbered 1 (tokens text))) refl read
 
 -- ---- functions and names
 

@@ -1,6 +1,6 @@
 -- The trees of the built-in functions' texts.
 use Rattle.std.specs.Prelude.{ℕ, suc, Bool, true, false, ◌&&◌, nat_le, List, [], ◌∷◌, length}
-use Rattle.ja_grammar.specs.Input.{Outcome, Done, Refused}
+use Rattle.ja_grammar.specs.Input.{strict, Outcome, Done, Refused}
 use Rattle.ja_grammar.specs.Language.{max_levels}
 use Rattle.ja_grammar.specs.ReadStatement.{program}
 use Rattle.ja_lex.specs.declared.token.Token.{Token}
@@ -13,7 +13,7 @@ numbered n [] = []
 numbered n (t ∷ ts) = record t { place = record { line = 0; column = n } } ∷ numbered (suc n) ts
 
 abbrev pub outcome_of : List ℕ → Outcome (List Statement)
-outcome_of text = program max_levels (numbered 1 (tokens text))
+outcome_of text = program strict max_levels (numbered 1 (tokens text))
 
 abbrev pub is_read : Outcome (List Statement) → Bool
 is_read (Done statements rest) = true

@@ -1,5 +1,5 @@
 use Rattle.std.proofs.Common.{◌≡◌, ◌-◌}
-use Rattle.ja_grammar.specs.Input.{until}
+use Rattle.ja_grammar.specs.Input.{until, strict}
 use Rattle.ja_cursor.proofs.Turns.{until_from}
 use Rattle.ja_grammar.specs.ReadStatement.{below}
 use Rattle.ja_grammar.specs.declared.part.StatementPart.TheVariants as of_statement
@@ -8,4 +8,4 @@ use Rattle.ja_parse_expressions.specs.Ends.{ends}
 use Rattle.ja_parse_expressions.proofs.body.statements_below.Given as goal
 
 abbrev pub invariant-loop-turn : goal.invariant-loop-turn
-invariant-loop-turn g l = until (ends l.end) ((below l.depth).statement (context_of l.context) (of_statement.Whole 0 l.outermost)) l.fn.cursor ≡ until_from (ends l.end) ((below l.depth).statement (context_of l.context) (of_statement.Whole 0 l.outermost)) (l._turn-end - l._turn) l.found l.cursor
+invariant-loop-turn g l = until (ends l.end) ((below strict l.depth).statement (context_of l.context) (of_statement.Whole 0 l.outermost)) l.fn.cursor ≡ until_from (ends l.end) ((below strict l.depth).statement (context_of l.context) (of_statement.Whole 0 l.outermost)) (l._turn-end - l._turn) l.found l.cursor

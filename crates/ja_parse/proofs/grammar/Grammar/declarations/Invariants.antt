@@ -1,5 +1,5 @@
 use Rattle.std.proofs.Common.{◌≡◌, ◌-◌}
-use Rattle.ja_grammar.specs.Input.{separated}
+use Rattle.ja_grammar.specs.Input.{separated, strict}
 use Rattle.ja_cursor.proofs.Turns.{commas_from}
 use Rattle.ja_grammar.specs.ReadStatement.{below}
 use Rattle.ja_grammar.specs.ReadStatement as statements
@@ -7,4 +7,4 @@ use Rattle.ja_parse.specs.Clauses.{variable_value}
 use Rattle.ja_parse.proofs.grammar.Grammar.declarations.Given as goal
 
 abbrev pub invariant-loop-turn : goal.invariant-loop-turn
-invariant-loop-turn g l = separated (statements.variable (variable_value l.self.depth (below l.self.depth) l.in_head)) l.fn.cursor ≡ commas_from (statements.variable (variable_value l.self.depth (below l.self.depth) l.in_head)) (l._turn-end - l._turn) l.found l.cursor
+invariant-loop-turn g l = separated (statements.variable (strict l.self.depth) (variable_value (strict l.self.depth) (below strict l.self.depth) l.in_head)) l.fn.cursor ≡ commas_from (statements.variable (strict l.self.depth) (variable_value (strict l.self.depth) (below strict l.self.depth) l.in_head)) (l._turn-end - l._turn) l.found l.cursor

@@ -1,5 +1,5 @@
 use Rattle.std.proofs.Common.{◌≡◌, ◌-◌}
-use Rattle.ja_grammar.specs.Input.{until}
+use Rattle.ja_grammar.specs.Input.{until, strict}
 use Rattle.ja_cursor.proofs.Turns.{until_from}
 use Rattle.ja_grammar.specs.ReadStatement as statements
 use Rattle.ja_grammar.specs.ReadStatement.{below}
@@ -8,4 +8,4 @@ use Rattle.std.proofs.Common.{true}
 use Rattle.ja_parse.proofs.grammar.Grammar.program_statements.Given as goal
 
 abbrev pub invariant-loop-turn : goal.invariant-loop-turn
-invariant-loop-turn g l = until statements.is_end (statements.single l.self.depth (below l.self.depth) (context_of l.context) 0 true) l.fn.cursor ≡ until_from statements.is_end (statements.single l.self.depth (below l.self.depth) (context_of l.context) 0 true) (l._turn-end - l._turn) l.found l.cursor
+invariant-loop-turn g l = until statements.is_end (statements.single (strict l.self.depth) (below strict l.self.depth) (context_of l.context) 0 true) l.fn.cursor ≡ until_from statements.is_end (statements.single (strict l.self.depth) (below strict l.self.depth) (context_of l.context) 0 true) (l._turn-end - l._turn) l.found l.cursor

@@ -1,9 +1,9 @@
 use Rattle.std.proofs.Common.{◌≡◌, ◌-◌}
-use Rattle.ja_grammar.specs.Input.{separated}
+use Rattle.ja_grammar.specs.Input.{separated, strict}
 use Rattle.ja_cursor.proofs.Turns.{commas_from}
 use Rattle.ja_grammar.specs.ReadExpression as spec
 use Rattle.ja_grammar.specs.ReadStatement.{below}
 use Rattle.ja_parse_expressions.proofs.grammar.Grammar.properties_between.Given as goal
 
 abbrev pub invariant-loop-turn : goal.invariant-loop-turn
-invariant-loop-turn g l = separated (spec.property l.self.depth (below l.self.depth)) l.fn.cursor ≡ commas_from (spec.property l.self.depth (below l.self.depth)) (l._turn-end - l._turn) l.found l.cursor
+invariant-loop-turn g l = separated (spec.property (strict l.self.depth) (below strict l.self.depth)) l.fn.cursor ≡ commas_from (spec.property (strict l.self.depth) (below strict l.self.depth)) (l._turn-end - l._turn) l.found l.cursor

@@ -1,0 +1,27 @@
+//! What a refusal says determines it. The functions do nothing; their contracts are the laws.
+
+ghost use Rattle.std.specs.Prelude.{◌≡◌, ◌≢◌, ℕ, ◌++◌, codes, replicate};
+ghost use Rattle.ja_base.specs.declared.ids.ScopeKind.TheVariants as scope;
+ghost use Rattle.ja_lex.specs.Tokens.{tokens};
+ghost use Rattle.ja_grammar.specs.declared.fault.ParseFault.{ParseFault};
+ghost use Rattle.ja_grammar.specs.declared.fault.ParseFault.TheVariants.{Syntax, Scope, Depth};
+ghost use Rattle.ja_grammar.specs.Input.{Tokens};
+ghost use Rattle.ja_grammar.specs.Language.{IsRefused};
+
+/// Two refusals of the same tokens are the same: one kind and one place.
+pub fn refused_once()
+    ensures { (i : Tokens) (f g : ParseFault) → IsRefused i f → IsRefused i g → f ≡ g }
+{}
+
+/// What none of these texts is refused with: a `/` where no expression begins; `arguments` where no name is
+/// declared; what stands behind the complete operand of a `++`; a name that is no label; a `break` that may
+/// stand there; of 300 `(` another than the first that is too deep; and what is wrong behind one.
+pub fn others_are_wrong()
+    ensures division { IsRefused (tokens (codes "var a /b/")) (Scope scope.RegExp (record { line = 1; column = 7 })) → ⊥ }
+    ensures lookup { IsRefused (tokens (codes "a arguments")) (Scope scope.ArgumentsName (record { line = 1; column = 3 })) → ⊥ }
+    ensures operand { IsRefused (tokens (codes "++ 1 eval")) (Scope scope.Eval (record { line = 1; column = 6 })) → ⊥ }
+    ensures name { IsRefused (tokens (codes "(a:b)")) (Syntax (record { line = 1; column = 2 })) → ⊥ }
+    ensures jump { IsRefused (tokens (codes "for(;;){break 1}")) (Syntax (record { line = 1; column = 9 })) → ⊥ }
+    ensures deep { (n : ℕ) → n ≢ 201 → IsRefused (tokens (replicate 300 40)) (Depth (record { line = 1; column = n })) → ⊥ }
+    ensures deeper { IsRefused (tokens (replicate 201 40 ++ codes ")")) (Syntax (record { line = 1; column = 202 })) → ⊥ }
+{}
