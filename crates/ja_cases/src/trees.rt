@@ -69,7 +69,10 @@ pub fn put_fault(out: &mut Out, fault: ParseFault) {
             let _ = write!(out.text, "scope {kind:?} ");
             put_place(out, place);
         }
-        ParseFault::Depth { .. } => out.put("depth"),
+        ParseFault::Depth { place } => {
+            out.put("depth ");
+            put_place(out, place);
+        }
         ParseFault::Memory => out.put("memory"),
     }
 }
