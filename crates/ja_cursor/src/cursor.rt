@@ -24,7 +24,6 @@ pub struct Cursor<'a> {
 
 impl<'a> Model for Cursor<'a> {
     ghost use Rattle.std.specs.Prelude.{List};
-    ghost use Rattle.std.specs.Coded.{coded_list};
     ghost use Rattle.ja_lex.specs.declared.token.Token.{Token};
 
     ghost Value = { List Token };

@@ -12,7 +12,6 @@ mod names;
 mod refusing;
 mod scripted;
 
-pub use copies::copied;
 pub use device::Device;
 pub use devices::Devices;
 pub use fault::{CallFault, DevicesFault};

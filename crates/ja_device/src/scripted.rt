@@ -4,7 +4,7 @@ ghost use Rattle.ja_device.specs.Devices.{IsCalled, failed_after};
 ghost use Rattle.ja_device.specs.declared.fault.CallFault.TheVariants as fault;
 ghost use Rattle.ja_device.specs.Scripts.{AreOfKinds, answer_index, call_number};
 
-use crate::copies::{copied, copies};
+use crate::copies::copies;
 use crate::device::Device;
 use crate::fault::CallFault;
 use crate::heard::Heard;
@@ -92,8 +92,8 @@ impl Device for Scripted {
             return Err(CallFault::Failed);
         }
         let given = self.heard.len().min(self.answers.len() - 1);
-        let answer = copied(alloc, &self.answers[given])?;
-        let told = copied(alloc, &self.answers[given])?;
+        let answer = self.answers[given].copy(alloc)?;
+        let told = self.answers[given].copy(alloc)?;
         let args = copies(alloc, args)?;
         self.heard.push(Heard { args, answer: told })?;
         Ok(answer)

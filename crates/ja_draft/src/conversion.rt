@@ -1,12 +1,10 @@
 //! Nodes that set the next temporary.
 
-ghost use Rattle.std.specs.Prelude.{◌≡◌, IfOk, OnOk};
 ghost use Rattle.ja_draft.specs.Lines as lines;
 
 use crate::draft::Draft;
 use crate::scene::Scene;
 use ja_base::{Memory, Place, Reg};
-use ja_graph::renaming::copied;
 use ja_graph::{Hint, Node, UnaryOp};
 use ja_prim::Primitive;
 
@@ -33,7 +31,7 @@ pub fn literal(
 ) -> Result<Reg, Memory>
     ensures { lines.Gives (lines.with_const scene.now place prim.now draft.old) result draft.new }
 {
-    let prim = copied(scene.alloc, prim)?;
+    let prim = prim.copy(scene.alloc)?;
     let dst = constant(scene, place, prim, draft)?;
     Ok(dst)
 }

@@ -1,6 +1,6 @@
 //! The listing of a function, as it is written.
 
-ghost use Rattle.std.specs.Prelude.{◌≡◌, ◌≤◌, ◌<◌, ◌+◌, ◌∷◌, ◌++◌, [], length, min, map, OnOk, OnErr, IfOk, None, Some};
+ghost use Rattle.std.specs.Prelude.{◌≡◌, ◌≤◌, ◌<◌, ◌+◌, ◌∷◌, ◌++◌, [], length, min, OnOk, OnErr, IfOk, None, Some};
 ghost use Rattle.ja_listing.specs.declared.item.Item.TheVariants as item;
 ghost use Rattle.ja_listing.specs.Listing.{node_count, begins_with_node, block_of};
 ghost use Rattle.ja_draft.specs.Lines as lines;

@@ -1,6 +1,6 @@
 //! Blocks whose temporaries are moved.
 
-ghost use Rattle.std.specs.Prelude.{◌≡◌, ◌++◌, map, IfOk};
+ghost use Rattle.std.specs.Prelude.{◌≡◌, IfOk};
 ghost use Rattle.ja_draft.specs.Parts as spec;
 ghost use Rattle.ja_draft.specs.Copies as copies;
 

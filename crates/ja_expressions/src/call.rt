@@ -1,6 +1,6 @@
 //! Calls and `new` (ES3 11.2.2 to 11.2.4).
 
-ghost use Rattle.std.specs.Prelude.{◌≡◌, map, []};
+ghost use Rattle.std.specs.Prelude.{map, []};
 ghost use Rattle.ja_draft.specs.Lines as lines;
 ghost use Rattle.ja_expressions.specs.Expressions as expressions;
 ghost use Rattle.ja_expressions.specs.Calls as spec;

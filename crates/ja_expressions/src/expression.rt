@@ -1,6 +1,6 @@
 //! Expressions (ES3 11).
 
-ghost use Rattle.std.specs.Prelude.{◌≡◌, map};
+ghost use Rattle.std.specs.Prelude.{map};
 ghost use Rattle.std.specs.List.{fold};
 ghost use Rattle.ja_draft.specs.Lines as lines;
 ghost use Rattle.ja_draft.specs.Lines.{Listing, Valued};

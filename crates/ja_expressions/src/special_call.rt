@@ -1,6 +1,5 @@
 //! Calls of special forms, behind their arguments.
 
-ghost use Rattle.std.specs.Prelude.{◌≡◌};
 ghost use Rattle.ja_draft.specs.Lines as lines;
 ghost use Rattle.ja_expressions.specs.Specials as spec;
 

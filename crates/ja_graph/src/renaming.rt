@@ -8,7 +8,7 @@ ghost use Rattle.ja_graph.specs.Renaming.{Renaming, identity, renamed, renamed_a
 
 use crate::{Args, Node, Wrappers};
 use ja_base::{FnId, Memory, NameId, Reg, Seq, Site};
-use ja_prim::{Primitive, Text16};
+use ja_prim::Text16;
 use std::alloc::Global;
 
 /// A map of the numbers that nodes have. Contracts see four functions.
@@ -31,19 +31,6 @@ pub trait Renames {
     /// Where a site goes.
     fn site(&self, site: Site) -> Site
         ensures { result ≡ (renaming self.now).site site };
-}
-
-/// A copy of a primitive value, in memory of its own. The only error is that memory was refused.
-pub fn copied(alloc: Global, prim: &Primitive) -> Result<Primitive, Memory>
-    ensures { IfOk result (λ copy. copy ≡ prim.now) }
-{
-    Ok(match prim {
-        Primitive::Undefined => Primitive::Undefined,
-        Primitive::Null => Primitive::Null,
-        Primitive::Bool(value) => Primitive::Bool(*value),
-        Primitive::Number(number) => Primitive::Number(*number),
-        Primitive::Text(text) => Primitive::Text(text.copy(alloc)?),
-    })
 }
 
 /// Registers, each where it goes.
@@ -116,7 +103,7 @@ pub fn renamed<R: Renames>(alloc: Global, node: &Node, renaming: &R) -> Result<N
     match node {
         Node::Const { dst, prim } => Ok(Node::Const {
             dst: renaming.register(*dst),
-            prim: copied(alloc, prim)?,
+            prim: prim.copy(alloc)?,
         }),
         Node::Move { dst, src } => Ok(Node::Move {
             dst: renaming.register(*dst),

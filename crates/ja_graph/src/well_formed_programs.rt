@@ -1,6 +1,6 @@
 //! Whether a program is well formed.
 
-ghost use Rattle.std.specs.Prelude.{◌≡◌, ◌↔◌, ◌<◌, ◌≤◌, IsTrue, length};
+ghost use Rattle.std.specs.Prelude.{◌↔◌, ◌<◌, IsTrue};
 ghost use Rattle.ja_graph.specs.Parts as spec;
 ghost use Rattle.ja_graph.specs.WellFormed.{IsWellFormed};
 

@@ -1,8 +1,7 @@
 //! Whether the sites of nodes are numbered in order, and told as what they are.
 
-ghost use Rattle.std.specs.Prelude.{◌≡◌, ◌↔◌, ◌<◌, ◌≤◌, ◌∷◌, [], IsTrue, length, map};
+ghost use Rattle.std.specs.Prelude.{◌↔◌, ◌<◌, ◌∷◌, [], IsTrue, length, map};
 ghost use Rattle.std.specs.List.{AllByRecursion};
-ghost use Rattle.std.specs.Option.{option_to_list};
 ghost use Rattle.ja_graph.specs.Node.{makings};
 ghost use Rattle.ja_graph.specs.Parts as spec;
 ghost use Rattle.ja_graph.specs.WellFormed as graph;

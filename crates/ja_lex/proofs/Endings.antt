@@ -1,5 +1,5 @@
 -- The list of tokens ends once.
-use Rattle.std.proofs.Common.{◌≡◌, ◌≤◌, ℕ, zero, suc, ◌-◌, Bool, true, false, ◌==◌, if◌then◌else◌, List, [], ◌∷◌, length, arith, refl}
+use Rattle.std.proofs.Common.{◌≡◌, ℕ, zero, suc, ◌-◌, Bool, true, false, ◌==◌, if◌then◌else◌, List, [], ◌∷◌, refl}
 use Rattle.ja_lex.specs.declared.spot.Spot.{Spot}
 use Rattle.ja_lex.specs.declared.token.Token.{Token}
 use Rattle.ja_lex.specs.declared.element.Element.{Element}

@@ -1,5 +1,5 @@
 -- The longest mark is one of the marks, which are short, and none that stands there is longer.
-use Rattle.std.proofs.Common.{◌≡◌, ◌≢◌, ◌≤◌, ◌<◌, ◌⊎◌, inl, inr, ℕ, zero, suc, ◌+◌, Bool, true, false, ◌&&◌, ◌==◌, if◌then◌else◌, nat_le, List, [], ◌∷◌, ◌++◌, length, slice_index_or, arith, refl, sym, ap, ◌∙◌, subst}
+use Rattle.std.proofs.Common.{◌≡◌, ◌≢◌, ◌≤◌, ◌<◌, ◌⊎◌, inl, inr, ℕ, zero, suc, ◌+◌, Bool, true, ◌&&◌, nat_le, List, [], ◌∷◌, ◌++◌, length, slice_index_or, arith, refl, sym, ap, ◌∙◌, subst}
 use Rattle.std.specs.List.{list_all, Contains}
 use Rattle.std.proofs.lemmas.Bool.Decides.{nat_tests}
 use Rattle.ja_prim.specs.Texts.{max_units}
@@ -7,7 +7,7 @@ use Rattle.ja_lex.specs.declared.element.Element.TheVariants as element
 use Rattle.ja_lex.specs.declared.token.TokenFault.{TokenFault}
 use Rattle.ja_lex.specs.declared.token.TokenKind.TheVariants as kind
 use Rattle.ja_lex.specs.Laws.{IsLongestMark}
-use Rattle.ja_lex.specs.Marks.{begins_with, longer, longest, marks, mark_or, mark, bad, stranger}
+use Rattle.ja_lex.specs.Marks.{begins_with, longer, longest, marks, mark_or, mark, bad}
 
 -- ---- short marks
 

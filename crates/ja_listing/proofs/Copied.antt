@@ -1,8 +1,7 @@
 -- The nodes of a copy lead as those of its block.
-use Rattle.std.proofs.Common.{◌≡◌, ℕ, ◌+◌, ◌-◌, List, [], ◌∷◌, ◌++◌, length, map, zero, suc, Some, slice_get, refl, ap, sym, ◌∙◌, arith}
+use Rattle.std.proofs.Common.{◌≡◌, ℕ, ◌+◌, ◌-◌, List, [], ◌∷◌, ◌++◌, length, map, zero, suc, Some, slice_get, ap, sym, ◌∙◌, arith}
 use Rattle.ja_listing.specs.declared.item.Block.{Block}
 use Rattle.ja_listing.specs.declared.item.BlockNode.{BlockNode}
-use Rattle.ja_listing.specs.declared.item.Target.{Target}
 use Rattle.ja_listing.specs.declared.item.Item.{Item}
 use Rattle.ja_listing.specs.declared.item.Item.TheVariants as item
 use Rattle.ja_listing.specs.Listing.{node_count, led, jump_of, way_on, with_edges, nodes_from, block_of}

@@ -1,5 +1,5 @@
 -- The ways that a pass from the end of a listing finds, followed, are those of the listing.
-use Rattle.std.proofs.Common.{◌≡◌, ℕ, ◌+◌, ◌-◌, ◌==◌, Bool, true, false, cond, List, [], ◌∷◌, length, zero, suc, Option, Some, None, unwrap_or, ◌⊎◌, inl, inr, refl, ap, sym, ◌∙◌}
+use Rattle.std.proofs.Common.{◌≡◌, ℕ, ◌+◌, ◌-◌, ◌==◌, Bool, true, false, cond, List, [], ◌∷◌, length, zero, suc, Option, Some, None, unwrap_or, inl, inr, refl, ap, sym, ◌∙◌}
 use Rattle.std.specs.Option.{option_or, option_map_or}
 use Rattle.ja_listing.specs.declared.item.Spot.{Spot}
 use Rattle.ja_listing.specs.declared.item.Target.{Target}

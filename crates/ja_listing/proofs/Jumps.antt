@@ -1,5 +1,5 @@
 -- More jumps than a listing has lines lead no further.
-use Rattle.std.proofs.Common.{◌≡◌, ℕ, ◌+◌, ◌-◌, ◌≤◌, ◌==◌, Bool, true, false, cond, List, [], ◌∷◌, length, zero, suc, Option, Some, None, unwrap_or, ◌⊎◌, inl, inr, refl, ap, sym, ◌∙◌, arith}
+use Rattle.std.proofs.Common.{◌≡◌, ℕ, ◌+◌, ◌≤◌, ◌==◌, Bool, true, false, cond, List, [], ◌∷◌, length, zero, suc, Option, Some, None, unwrap_or, ◌⊎◌, inl, inr, refl, ap, sym, ◌∙◌, arith}
 use Rattle.std.specs.List.{AllByRecursion}
 use Rattle.std.specs.Option.{option_or, option_map_or}
 use Rattle.ja_listing.specs.declared.item.Spot.{Spot}
@@ -7,7 +7,7 @@ use Rattle.ja_listing.specs.declared.item.Target.{Target}
 use Rattle.ja_listing.specs.declared.item.Target.TheVariants as target
 use Rattle.ja_listing.specs.declared.item.Item.{Item}
 use Rattle.ja_listing.specs.declared.item.Item.TheVariants as item
-use Rattle.ja_listing.specs.Listing.{node_count, behind, led, goes, leads, jump_of, way_on}
+use Rattle.ja_listing.specs.Listing.{behind, led, goes, leads, jump_of, way_on}
 
 -- a target, or one that leads out because jumps weren't followed far enough
 abbrev pub Below : Target → Target → Type 0

@@ -1,7 +1,6 @@
 -- Lines come to their nodes.
-use Rattle.std.proofs.Common.{◌≡◌, ℕ, if◌then◌else◌, ◌+◌, ◌-◌, List, [], ◌∷◌, ◌++◌, length, map, suc, Option, Some, None, slice_get, refl, ap, sym, subst, ◌∙◌, append_assoc, length-append, arith}
+use Rattle.std.proofs.Common.{◌≡◌, ℕ, if◌then◌else◌, ◌+◌, ◌-◌, List, [], ◌∷◌, ◌++◌, length, map, suc, Some, None, slice_get, refl, ap, sym, subst, ◌∙◌, append_assoc, length-append, arith}
 use Rattle.std.proofs.lemmas.List.{length-map, map-append}
-use Rattle.ja_base.specs.declared.ids.Place.{Place}
 use Rattle.ja_graph.specs.declared.node.Node.{Node}
 use Rattle.ja_graph.specs.declared.node.Node.TheVariants.{Escape}
 use Rattle.ja_graph.specs.declared.node.NodeInfo.{NodeInfo}

@@ -1,10 +1,10 @@
 //! The nodes of a block with their edges, and the graph of a function.
 
-ghost use Rattle.std.specs.Prelude.{◌≡◌, ◌<◌, ◌^◌, ◌++◌, List, ◌∷◌, length, map, take, Option, IfOk, OnOk};
+ghost use Rattle.std.specs.Prelude.{◌≡◌, ◌<◌, ◌++◌, List, ◌∷◌, map, Option, IfOk, OnOk};
 ghost use Rattle.ja_listing.specs.declared.item.BlockNode.{BlockNode};
 ghost use Rattle.ja_listing.specs.declared.item.Item.{Item};
 ghost use Rattle.ja_listing.specs.declared.item.Item.TheVariants as item;
-ghost use Rattle.ja_listing.specs.Listing.{node_count, led, jump_of, edge, with_edges, nodes_from, block_of, closed, info_of, assembled};
+ghost use Rattle.ja_listing.specs.Listing.{node_count, led, jump_of, edge, with_edges, nodes_from, block_of, closed, assembled};
 ghost use Rattle.ja_listing.specs.Passes.{AreEdges, IsEnd, further, followed, landed, seen, ways_on};
 
 use crate::facts::{goes_on, more, node_count};

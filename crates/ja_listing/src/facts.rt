@@ -1,7 +1,7 @@
 //! What is known of lines and nodes.
 
 ghost use Rattle.std.specs.Prelude.{◌≡◌, ◌∷◌, ◌+◌, [], IfOk};
-ghost use Rattle.ja_listing.specs.Listing.{goes_on, node_count, begins_with_node};
+ghost use Rattle.ja_listing.specs.Listing.{goes_on, node_count};
 
 use crate::Item;
 use ja_base::Memory;

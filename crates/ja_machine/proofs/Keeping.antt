@@ -55,7 +55,7 @@ use Rattle.ja_machine.specs.Nodes
 use Rattle.ja_machine.specs.State.{IsObjectOf, IsValueOf, IsContentOf, IsState, enters_functions}
 use Rattle.ja_machine.proofs.Lists.{either_way, all_at, all_from, all_then}
 use Rattle.ja_machine.proofs.Heaps
-use Rattle.ja_machine.proofs.Heaps.{Grows, value_grows, content_grows}
+use Rattle.ja_machine.proofs.Heaps.{Grows, value_grows}
 use Rattle.ja_machine.proofs.Writing.{Hold}
 use Rattle.ja_machine.proofs.Growing.{IsKept, IsFitting, linked_of, linked-with_new, row, kept-with_new, kept-with_two, kept-define, kept-delete, kept-put}
 use Rattle.ja_machine.proofs.Nodes as program_nodes

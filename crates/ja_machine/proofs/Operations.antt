@@ -1,5 +1,5 @@
 -- The operations of the built-in functions take as many values as they say.
-use Rattle.std.proofs.Common.{◌≡◌, ◌⊎◌, ℕ, List, [], ◌∷◌, length, inl, inr, refl}
+use Rattle.std.proofs.Common.{◌≡◌, ◌⊎◌, List, [], ◌∷◌, length, inl, inr, refl}
 use Rattle.std.specs.List.{AllByRecursion}
 use Rattle.ja_machine.specs.declared.machine.Value.{Value}
 use Rattle.ja_machine.specs.declared.machine.Heap.{Heap}

@@ -1,5 +1,5 @@
 -- The step of each kind of node; what its registers hold comes last.
-use Rattle.std.specs.Prelude.{ℕ, Bool, true, false, not, ◌&&◌, if◌then◌else◌, List, [], ◌∷◌, map, filter, find, slice_get, Option, Some, None, is_some, unwrap_or, Result, Ok, Err}
+use Rattle.std.specs.Prelude.{ℕ, Bool, true, false, ◌&&◌, if◌then◌else◌, List, [], ◌∷◌, map, filter, find, slice_get, Option, Some, None, is_some, unwrap_or, Result, Ok, Err}
 use Rattle.std.specs.Option.{option_map, option_map_or}
 use lib.Chars.{codes}
 use Rattle.ja_base.specs.declared.ids.FnId.{FnId}

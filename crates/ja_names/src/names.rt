@@ -1,6 +1,6 @@
 //! The numbers of names.
 
-ghost use Rattle.std.specs.Prelude.{◌≡◌, ◌+◌, ◌<◌, ◌≤◌, ◌^◌, ◌++◌, [], length, IfOk, OnOk};
+ghost use Rattle.std.specs.Prelude.{◌≡◌, ◌+◌, ◌<◌, ◌≤◌, ◌^◌, [], length, IfOk, OnOk};
 ghost use Rattle.ja_names.specs.Names as spec;
 
 use indexmap::IndexSet;

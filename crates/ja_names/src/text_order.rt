@@ -7,7 +7,7 @@ ghost use Rattle.ja_names.specs.TextParts.{named_of};
 
 use crate::text_order_parts::{Named, Parts};
 use ja_base::Memory;
-use ja_prim::{Primitive, Text16};
+use ja_prim::Primitive;
 use ja_syntax::{
     Case, CatchOf, Declaration, Expression, ForFirst, ForTarget, FunctionTree, Initialiser, Name,
     Operation, Property, PropertyName, Statement, Suffix,

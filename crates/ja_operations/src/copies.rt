@@ -4,24 +4,7 @@ ghost use Rattle.std.specs.Prelude.{◌≡◌, IfOk};
 
 use ja_base::Memory;
 use ja_machine::{Content, Value};
-use ja_prim::Primitive;
 use std::alloc::Global;
-
-/// The same primitive value.
-pub fn copy_primitive(alloc: Global, value: &Primitive) -> Result<Primitive, Memory>
-    ensures { IfOk result (λ copy. copy ≡ value.now) }
-{
-    match value {
-        Primitive::Undefined => Ok(Primitive::Undefined),
-        Primitive::Null => Ok(Primitive::Null),
-        Primitive::Bool(truth) => Ok(Primitive::Bool(*truth)),
-        Primitive::Number(number) => Ok(Primitive::Number(*number)),
-        Primitive::Text(text) => {
-            let text = text.copy(alloc)?;
-            Ok(Primitive::Text(text))
-        }
-    }
-}
 
 /// The same value.
 pub fn copy_value(alloc: Global, value: &Value) -> Result<Value, Memory>
@@ -29,7 +12,7 @@ pub fn copy_value(alloc: Global, value: &Value) -> Result<Value, Memory>
 {
     match value {
         Value::Primitive(primitive) => {
-            let primitive = copy_primitive(alloc, primitive)?;
+            let primitive = primitive.copy(alloc)?;
             Ok(Value::Primitive(primitive))
         }
         Value::Object(address) => Ok(Value::Object(*address)),

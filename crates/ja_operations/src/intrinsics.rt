@@ -7,7 +7,6 @@ ghost use Rattle.ja_graph.specs.WellFormed.{arguments_taken};
 ghost use Rattle.ja_machine.specs.Intrinsics as spec;
 ghost use Rattle.ja_machine.specs.Values.{is_object};
 
-use crate::copies::copy_primitive;
 use crate::digits::radix_text;
 use ja_base::{Memory, ScopeKind};
 use ja_graph::Class;
@@ -85,7 +84,7 @@ fn value_of(alloc: Global, heap: &Heap, value: &Value) -> Result<Outcome, Memory
     };
     match &object.slots().value {
         None => Ok(Err(REFUSED)),
-        Some(internal) => Ok(Ok(copy_primitive(alloc, internal)?)),
+        Some(internal) => Ok(Ok(internal.copy(alloc)?)),
     }
 }
 

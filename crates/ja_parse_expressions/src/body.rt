@@ -1,6 +1,6 @@
 //! Functions with their bodies (ES3 13), and lists of statements one level below.
 
-ghost use Rattle.std.specs.Prelude.{◌≡◌, zero};
+ghost use Rattle.std.specs.Prelude.{◌≡◌};
 ghost use Rattle.ja_grammar.specs.declared.part.StatementPart.TheVariants as of_statement;
 ghost use Rattle.ja_grammar.specs.Contexts.{context_of};
 ghost use Rattle.ja_grammar.specs.Input.{Follows, until, strict};

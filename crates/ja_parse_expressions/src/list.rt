@@ -1,6 +1,6 @@
 //! Lists within expressions: the loops of the parser.
 
-ghost use Rattle.std.specs.Prelude.{◌≡◌, zero, false, true, not, is_none};
+ghost use Rattle.std.specs.Prelude.{false};
 ghost use Rattle.ja_syntax.specs.declared.symbol.Symbol.TheVariants as k;
 ghost use Rattle.ja_grammar.specs.declared.part.ExpressionPart.TheVariants as of_expression;
 ghost use Rattle.ja_grammar.specs.Input.{Follows, listed, separated, until, strict};

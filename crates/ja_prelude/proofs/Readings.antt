@@ -1,16 +1,14 @@
 -- What the functions of texts come to, by what the folds of their trees are: those of the definitions, or folds that compute.
-use Rattle.std.proofs.Common.{◌≡◌, ℕ, Bool, true, false, List, [], ◌∷◌, ◌++◌, map, filter, length, Option, None, refl, ap, ◌∙◌}
+use Rattle.std.proofs.Common.{◌≡◌, ℕ, Bool, true, List, [], map, filter, length, None, refl, ap, ◌∙◌}
 use Rattle.std.specs.List.{flat_map, fold, list_any}
-use Rattle.ja_graph.specs.declared.node.Node.{Node}
 use Rattle.ja_listing.specs.declared.item.Item.{Item}
-use Rattle.ja_listing.specs.Laws.{placed}
-use Rattle.ja_draft.specs.Lines.{Listing, Scene}
+use Rattle.ja_draft.specs.Lines.{Scene}
 use Rattle.ja_expressions.specs.References.{Form}
 use Rattle.ja_expressions.specs.Expressions.{form_step, form}
 use Rattle.ja_expressions.specs.Specials.{is_name}
 use Rattle.ja_names.specs.Names.{with_name}
 use Rattle.ja_names.specs.TextOrder as text
-use Rattle.ja_names.specs.TextOrder.{Named, Parts, if_function, if_name, in_statement, functions_in, names_in}
+use Rattle.ja_names.specs.TextOrder.{Named, Parts, if_function, if_name, in_statement, functions_in}
 use Rattle.ja_statements.specs.Statements.{Does, Clause, Expressions, statement_step, clause_step, does, list_all_statements}
 use Rattle.ja_statements.specs.Functions.{first_temporary, nothing_listed, with_entry, declare_functions, declare_variables, ended, unhandled, function_listing}
 use Rattle.ja_syntax.specs.Arguments as arguments
@@ -22,7 +20,6 @@ use Rattle.ja_syntax.specs.declared.tree.Expression.{Expression}
 use Rattle.ja_syntax.specs.declared.tree.Expression.TheOpen.{Statement-F, Case-F}
 use Rattle.ja_syntax.specs.declared.tree.Expression.TheFolds.{para-Statement, map-Statement, map-Case}
 use Rattle.ja_syntax.specs.declared.tree.FunctionOf.{FunctionOf}
-use Rattle.ja_syntax.specs.declared.tree.Name.{Name}
 use Rattle.ja_syntax.specs.declared.tree.Statement.{Statement}
 use Rattle.ja_prelude.proofs.Folds.{fold_levels, fold_levels_are, para_levels, para_levels_are}
 

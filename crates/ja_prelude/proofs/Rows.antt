@@ -22,7 +22,7 @@ use Rattle.ja_statements.specs.Functions.{function_listing}
 use Rattle.ja_syntax.specs.declared.tree.FunctionOf.{FunctionOf}
 use Rattle.ja_syntax.specs.declared.tree.Name.{Name}
 use Rattle.ja_syntax.specs.declared.tree.Statement.{Statement}
-use Rattle.ja_prelude.proofs.Readings.{Readings, defined, computing, computing_is, functions_by, names_by, scene_by, listing_by, functions_defined, listing_defined}
+use Rattle.ja_prelude.proofs.Readings.{Readings, defined, computing, computing_is, functions_by, names_by, scene_by, listing_by, listing_defined}
 use Rattle.ja_prelude.specs.Prelude.{prelude_statements, prelude_paths, prelude_names, prelude_bodies, nodes_of, by_path}
 
 -- how many parameters a function has, and its nodes

@@ -1,6 +1,6 @@
 //! The built-in functions, as each program has them.
 
-ghost use Rattle.std.specs.Prelude.{◌≡◌, ◌≤◌, true, length, map, IfOk};
+ghost use Rattle.std.specs.Prelude.{◌≡◌, ◌≤◌, true, map, IfOk};
 ghost use Rattle.std.specs.List.{AllByRecursion, list_all};
 ghost use Rattle.ja_graph.specs.WellFormed.{builtin_names};
 ghost use Rattle.ja_lower.specs.Lowering.{lowered_prelude};

@@ -1,5 +1,5 @@
 -- A block leads to spots around it alone, and so do its copies.
-use Rattle.std.proofs.Common.{◌≡◌, ◌<◌, ◌≤◌, ◌+◌, ◌-◌, ◌==◌, ℕ, zero, suc, nat_le, Bool, true, false, cond, if◌then◌else◌, List, [], ◌∷◌, ◌++◌, length, map, Option, Some, None, refl, ap, ◌∙◌, arith}
+use Rattle.std.proofs.Common.{◌≡◌, ◌<◌, ◌≤◌, ◌+◌, ◌-◌, ◌==◌, ℕ, zero, suc, nat_le, Bool, true, false, cond, List, [], ◌∷◌, length, map, Option, Some, None, refl, ap, arith}
 use Rattle.std.specs.List.{AllByRecursion}
 use Rattle.std.specs.Option.{option_or, option_map_or}
 use Rattle.std.proofs.lemmas.Bool.{leb-true, leb-false}
@@ -11,13 +11,13 @@ use Rattle.ja_listing.specs.declared.item.Target.{Target}
 use Rattle.ja_listing.specs.declared.item.Target.TheVariants as target
 use Rattle.ja_listing.specs.declared.item.Item.{Item}
 use Rattle.ja_listing.specs.declared.item.Item.TheVariants as item
-use Rattle.ja_listing.specs.Listing.{node_count, behind, led, goes, leads, jump_of, way_on, edge, goes_on, with_edges, nodes_from, block_of}
+use Rattle.ja_listing.specs.Listing.{behind, led, goes, leads, jump_of, way_on, edge, goes_on, with_edges, nodes_from, block_of}
 use Rattle.ja_draft.specs.Copies.{Template, moved_node, with_block}
 use Rattle.ja_draft.specs.Lines.{Listing, Scene}
-use Rattle.ja_ranges.specs.Spots.{same, times, OfSpot, OfTarget, OfTargets, OfBlock, OfEdges}
+use Rattle.ja_ranges.specs.Spots.{times, OfSpot, OfTarget, OfTargets, OfBlock, OfEdges}
 use Rattle.ja_ranges.proofs.LineRanges.{all_append}
-use Rattle.ja_ranges.proofs.SpotCounts.{one_if, free, free_from, free_below, IsBelow, block_map}
-use Rattle.ja_ranges.proofs.SpotLines.{Kept, KeptAt, copy}
+use Rattle.ja_ranges.proofs.SpotCounts.{one_if, free_from, free_below, IsBelow, block_map}
+use Rattle.ja_ranges.proofs.SpotLines.{KeptAt, copy}
 
 -- ---- where the edges of a block lead
 

@@ -1,5 +1,5 @@
 -- What expressions list keeps its spots.
-use Rattle.std.proofs.Common.{ℕ, ◌+◌, Bool, List, [], ◌∷◌, ◌++◌, map, length, Option, Some, None, inl, inr, refl, sym, subst}
+use Rattle.std.proofs.Common.{ℕ, ◌+◌, List, [], ◌∷◌, ◌++◌, map, length, Option, Some, None, inl, inr, refl, sym, subst}
 use Rattle.std.specs.Fmt.{decimal}
 use Rattle.std.specs.List.{AllByRecursion, fold}
 use lib.Chars.{codes}
@@ -29,7 +29,7 @@ use Rattle.ja_expressions.specs.declared.special.Special.{Special}
 use Rattle.ja_expressions.specs.declared.special.Special.TheVariants as special
 use Rattle.ja_expressions.specs.References.{Listed, Form, get_value, put_value, value_of, special_in, with_special_or_variable, with_name, with_member, with_element}
 use Rattle.ja_expressions.specs.Operators.{with_delete, get_softly, with_type, apply_unary, on_value, on_outcome, list_unary, update_outcome, list_update, on_defaults, on_defaults_backwards, on_numbers, on_loose, on_in, apply_binary, and_then, or_else, consequence, alternative, list_conditional, apply_operation, assign_to, assign_to_by, assign, assign_by}
-use Rattle.ja_expressions.specs.Literals.{Member, write_known, write_element, write_elements, write_length, list_array, property_text, write_member, write_members, list_object, make_function, list_named_function, list_function}
+use Rattle.ja_expressions.specs.Literals.{Member, write_known, write_element, write_elements, write_length, list_array, property_text, write_member, write_members, list_object, list_named_function, list_function}
 use Rattle.ja_expressions.specs.Specials.{list_special}
 use Rattle.ja_expressions.specs.Calls.{list_arguments, call_outcome, list_call, new_of, list_new}
 use Rattle.ja_expressions.specs.Expressions.{with_suffix, apply_operations, list_others, member_of, list_assignment, form_step, form}

@@ -1,5 +1,5 @@
 -- What a listing keeps of its spots while lines are added: each that is taken stands once or is pending, and lines lead to taken ones.
-use Rattle.std.proofs.Common.{◌≡◌, ◌<◌, ◌≤◌, ◌+◌, inl, inr, ℕ, List, [], ◌∷◌, ◌++◌, Option, Some, None, arith}
+use Rattle.std.proofs.Common.{◌≡◌, ◌<◌, ◌≤◌, ◌+◌, ℕ, List, [], ◌∷◌, ◌++◌, Option, Some, None, arith}
 use Rattle.std.specs.List.{AllByRecursion}
 use Rattle.ja_base.specs.declared.ids.Place.{Place}
 use Rattle.ja_graph.specs.declared.node.Node.{Node}

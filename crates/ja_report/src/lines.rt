@@ -1,24 +1,23 @@
 //! Writers of the lines of a table: values at entry, and states.
 
-ghost use Rattle.std.specs.Prelude.{◌≡◌, ◌<◌, ◌++◌, [], ◌∷◌, false, OnOk, IfOk, length, map, vec_len};
-ghost use Rattle.std.specs.List.{range_with_len};
+ghost use Rattle.std.specs.Prelude.{◌≡◌, ◌<◌, ◌++◌, [], ◌∷◌, false, OnOk, vec_len};
 ghost use Rattle.ja_graph.specs.WellFormed.{IsWellFormed};
 ghost use Rattle.ja_machine.specs.Frames.{registers_of};
 ghost use Rattle.ja_machine.specs.Machine.{program_function};
 ghost use Rattle.ja_model.specs.AbstractValue.{has_part};
 ghost use Rattle.ja_model.specs.AbstractState.{keys_of, labels_below};
 ghost use Rattle.ja_value.specs.Value.{value_of, property_of};
-ghost use Rattle.ja_state.specs.State.{object_of, state_of, entries_of};
-ghost use Rattle.ja_report.specs.Lines.{entry, point, owner_text, property_text, value_sites, is_undefined, register_line, register_lines, has_attrs, is_known, is_entry, property_line, object_lines, property_lines, mask_line, mask_lines, state_lines, entry_line, entry_lines};
+ghost use Rattle.ja_state.specs.State.{object_of, state_of};
+ghost use Rattle.ja_report.specs.Lines.{entry, point, owner_text, property_text, value_sites, is_undefined, register_line, register_lines, has_attrs, is_known, is_entry, property_line, object_lines, property_lines, mask_line, mask_lines, state_lines};
 ghost use Rattle.ja_report.specs.Output.{Adds};
 
 use crate::output::Output;
 use crate::texts::{push_attrs, push_key, push_register, push_site};
 use crate::values::{name_label, push_value, site_count};
-use ja_base::{Label, Memory, NameId, Reg, Site};
+use ja_base::{Label, Memory, Reg, Site};
 use ja_graph::Program;
-use ja_model::{AAttrs, Key, Mask, May, NumberPart, Slot, TextPart};
-use ja_state::{AObject, AState, DemandedEntries};
+use ja_model::{AAttrs, Key, Mask, May, NumberPart, TextPart};
+use ja_state::{AObject, AState};
 use ja_texts::push_number;
 use ja_value::{AProp, AValue};
 use std::alloc::Global;

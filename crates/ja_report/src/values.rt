@@ -1,6 +1,6 @@
 //! Writers of abstract values.
 
-ghost use Rattle.std.specs.Prelude.{◌≡◌, ◌≤◌, ◌++◌, [], ◌∷◌, OnOk, IfOk, List, ℕ, length, map, filter};
+ghost use Rattle.std.specs.Prelude.{◌≡◌, ◌++◌, [], ◌∷◌, OnOk, List, ℕ, length, map, filter};
 ghost use Rattle.ja_graph.specs.WellFormed.{IsWellFormed};
 ghost use Rattle.ja_model.specs.AbstractState.{labels_of};
 ghost use Rattle.ja_value.specs.Value.{labels_in, value_of};

@@ -1,8 +1,7 @@
-ghost use Rattle.std.specs.Prelude.{◌≡◌, ◌&&◌, ◌||◌, ◌++◌, ◌<◌, ℕ, [], map, filter, IfOk, if◌then◌else◌, vec_len};
+ghost use Rattle.std.specs.Prelude.{◌≡◌, ◌||◌, ◌<◌, ℕ, IfOk, if◌then◌else◌, vec_len};
 ghost use Rattle.std.specs.List.{list_any};
 ghost use Rattle.ja_base.specs.declared.ids.Label.{Label};
-ghost use Rattle.ja_machine.specs.Heap.{no_attrs};
-ghost use Rattle.ja_model.specs.AbstractValue.{Labels, join_attrs, unknown_attrs, of_attrs, join_properties, is_present};
+ghost use Rattle.ja_model.specs.AbstractValue.{join_attrs, unknown_attrs, join_properties, is_present};
 ghost use Rattle.ja_model.specs.AbstractState.{with_property};
 ghost use Rattle.ja_model.specs.Reading.{may_refuse, may_accept, demands_of_walk};
 ghost use Rattle.ja_model.specs.Transfer.{gives, put, strong_put, weak_put, written_labels, written, demands_of_read};

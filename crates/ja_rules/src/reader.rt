@@ -1,4 +1,4 @@
-ghost use Rattle.std.specs.Prelude.{◌≡◌, ◌||◌, IfOk, if◌then◌else◌};
+ghost use Rattle.std.specs.Prelude.{◌≡◌, IfOk};
 ghost use Rattle.std.specs.Option.{option_map_or};
 ghost use Rattle.ja_model.specs.AbstractValue.{no_property};
 ghost use Rattle.ja_model.specs.Reading.{demands_of_walk, demands_of_search, found, own, demands_of, origins, renamed, from_entry};

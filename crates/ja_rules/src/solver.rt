@@ -1,7 +1,7 @@
 ghost use Rattle.std.specs.Prelude.{◌≡◌, ◌≤◌, ◌+◌, true, false, length, IfOk, IfErr, OnOk, vec_len};
 ghost use Rattle.ja_graph.specs.Kinds.{AreBuilt};
 ghost use Rattle.ja_graph.specs.WellFormed.{IsWellFormed};
-ghost use Rattle.ja_model.specs.Table.{IsBuilt, IsClosed, IsItem, root, visited};
+ghost use Rattle.ja_model.specs.Table.{IsBuilt, IsClosed, IsItem, visited};
 ghost use Rattle.ja_model.specs.Sound.{CoversRuns};
 ghost use Rattle.ja_rules.specs.Readings.{table_of, Fits};
 ghost use Rattle.ja_rules.specs.Solving.{AreSettled, Explains, GoesOn, HasBuilt, IsSettled, step_at};

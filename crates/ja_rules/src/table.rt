@@ -14,7 +14,7 @@ ghost use Rattle.ja_model.specs.Table.{opening_table, joined_state, visited, vis
 ghost use Rattle.ja_state.specs.declared.state.AState.{AState};
 ghost use Rattle.ja_state.specs.State.{state_of, entries_of};
 
-use crate::{DemandList, Outcome, transfer};
+use crate::{DemandList, transfer};
 use ja_base::{Label, Memory, NameId, NodeId, Site};
 use ja_graph::{NodeInfo, ObjectSpec, Program, PropertySpec, SpecContent};
 use ja_model::{Item, Key, Slot};
@@ -31,7 +31,7 @@ pub struct ATable {
     pub entries: DemandedEntries,
 }
 
-ghost use Rattle.ja_rules.specs.Readings.{table_of, Fits, demands_in, states_in, with_given, with_all_given, given_by, HaveRegisters, HaveSameRegisters, HasStep, value_given, named_property, object_given, primitive_given, opened_property, opened_pair};
+ghost use Rattle.ja_rules.specs.Readings.{table_of, Fits, demands_in, states_in, with_all_given, given_by, HaveRegisters, HaveSameRegisters, HasStep, value_given, named_property, object_given, primitive_given, opened_property, opened_pair};
 
 // No state at any of so many nodes.
 fn no_states(alloc: Global, count: usize) -> Result<Vec<Option<AState>>, Memory>

@@ -8,7 +8,7 @@ ghost use Rattle.ja_rules.specs.Walking.{IsWalkOver, Meets, Ends, demands_at, de
 
 use crate::{DemandList, Reader, Walk};
 use ja_base::{Label, Memory};
-use ja_model::{Flags, Key, Slot};
+use ja_model::{Key, Slot};
 use ja_value::{AProp, AValue, LabelSet};
 use std::alloc::Global;
 

@@ -14,7 +14,7 @@ use crate::ended::{CallRecord, Ended, RunEnd};
 use crate::laws::answers_fit;
 use crate::told::told;
 use ja_base::{Memory, Seq};
-use ja_device::{CallFault, Device, Devices, copied};
+use ja_device::{CallFault, Device, Devices};
 use ja_graph::Program;
 use ja_machine::{Answer, End, Wants, never_stuck, steps_go_along_edges};
 use ja_step::{Conf, device_arguments, first_wanted, opening, step};
@@ -42,7 +42,7 @@ fn ask<D: Device>(
     let args = device_arguments(alloc, conf)?;
     match devices.call(alloc, which as usize, args.as_slice()) {
         Ok(answer) => {
-            let copy = copied(alloc, &answer)?;
+            let copy = answer.copy(alloc)?;
             calls.push(CallRecord {
                 device: which,
                 args,

@@ -1,5 +1,5 @@
 -- Labels and keys by number, and what is kept at numbers.
-use Rattle.std.specs.Prelude.{ℕ, ◌/◌, ◌%◌, ◌==◌, is_some, filter, List, Bool, Option}
+use Rattle.std.specs.Prelude.{ℕ, is_some, filter, List, Bool, Option}
 use Rattle.std.specs.Option.{option_map, option_and_then}
 use Rattle.std.specs.Ordering.{nat_cmp}
 use Rattle.std.specs.BTreeMap.{BTreeMap, get}

@@ -1,4 +1,4 @@
-ghost use Rattle.std.specs.Prelude.{◌≡◌, ◌≢◌, ◌==◌, ◌&&◌, ◌+◌, ◌-◌, ◌*◌, ℕ, nat_lt, nat_le, List, [], ◌∷◌, ◌++◌, map, filter, IfOk, OnErr, IsSome, Option, Some, None, is_some, true, false, if◌then◌else◌, unwrap_or};
+ghost use Rattle.std.specs.Prelude.{◌≡◌, ◌≢◌, ◌==◌, ◌&&◌, ◌+◌, ◌-◌, ◌*◌, ℕ, nat_lt, nat_le, [], ◌∷◌, ◌++◌, map, filter, IfOk, OnErr, IsSome, Option, Some, None, true, false, if◌then◌else◌, unwrap_or};
 ghost use Rattle.std.specs.Ordering.{nat_cmp};
 ghost use Rattle.std.specs.BTreeMap.{get};
 ghost use Rattle.ja_model.specs.AbstractValue.{same_label, no_property};

@@ -3,7 +3,7 @@ ghost use Rattle.std.specs.Option.{option_map};
 ghost use Rattle.std.specs.Ordering.{nat_cmp};
 ghost use Rattle.std.specs.BTreeMap.{get};
 ghost use Rattle.ja_model.specs.declared.abstraction.Mask.{Mask};
-ghost use Rattle.ja_model.specs.AbstractState.{join_masks, exactly_none};
+ghost use Rattle.ja_model.specs.AbstractState.{join_masks};
 ghost use Rattle.ja_value.specs.Labels.{mask_in};
 ghost use Rattle.ja_state.specs.Joined.{IsJoined};
 

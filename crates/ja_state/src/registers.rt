@@ -1,4 +1,4 @@
-ghost use Rattle.std.specs.Prelude.{◌≡◌, ◌≢◌, ◌==◌, ◌≤◌, ◌<◌, ℕ, IfOk, true, false, if◌then◌else◌, map, length, vec_len};
+ghost use Rattle.std.specs.Prelude.{◌≡◌, ◌≢◌, ◌==◌, ◌<◌, ℕ, IfOk, true, false, if◌then◌else◌, map, length, vec_len};
 ghost use Rattle.std.specs.List.{range_with_len};
 ghost use Rattle.ja_model.specs.AbstractValue.{join};
 ghost use Rattle.ja_model.specs.AbstractState.{entry_registers, aged};

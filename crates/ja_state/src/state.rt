@@ -1,8 +1,7 @@
-ghost use Rattle.std.specs.Prelude.{◌≡◌, ◌≢◌, ◌<◌, ◌≤◌, ◌*◌, ℕ, nat_lt, [], ◌∷◌, ◌++◌, IfOk, IfSome, OnErr, true, false, if◌then◌else◌, vec_len, filter};
+ghost use Rattle.std.specs.Prelude.{◌≡◌, ◌≢◌, ◌<◌, ◌≤◌, ◌*◌, nat_lt, [], ◌∷◌, ◌++◌, IfOk, IfSome, OnErr, true, false, if◌then◌else◌, vec_len, filter};
 ghost use Rattle.std.specs.Option.{option_map_or};
 ghost use Rattle.ja_base.specs.declared.ids.Label.{Label};
 ghost use Rattle.ja_model.specs.declared.abstraction.Key.{Key};
-ghost use Rattle.ja_model.specs.AbstractValue.{Labels, entry_property};
 ghost use Rattle.ja_model.specs.AbstractState.{entry_state, join_states, with_register, with_property, with_made, labels_below, sites_below, site_of};
 ghost use Rattle.ja_value.specs.Labels.{label_at};
 ghost use Rattle.ja_model.specs.Reading.{renamed};
@@ -38,7 +37,7 @@ impl Drop for AState {
 }
 
 impl AState {
-    ghost use Rattle.ja_state.specs.State.{state_of, property_at, mask_at, is_listed, is_masked, IsObjectAt};
+    ghost use Rattle.ja_state.specs.State.{state_of, mask_at, is_listed, is_masked, IsObjectAt};
 
     /// The state at the entry of the program, with this many registers.
     pub fn entry(alloc: Global, registers: usize) -> Result<AState, Memory>

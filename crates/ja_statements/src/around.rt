@@ -6,7 +6,7 @@ ghost use Rattle.ja_statements.specs.Statements as spec;
 ghost use Rattle.ja_statements.specs.Standing.{around_of, way_of};
 
 use crate::way::Way;
-use ja_base::{Memory, Reg};
+use ja_base::Memory;
 use ja_draft::{Draft, Scene};
 use ja_listing::Spot;
 use std::alloc::Global;

@@ -1,6 +1,6 @@
 //! The blocks of a `try` (ES3 12.14).
 
-ghost use Rattle.std.specs.Prelude.{◌≡◌, map};
+ghost use Rattle.std.specs.Prelude.{map};
 ghost use Rattle.ja_draft.specs.Lines as lines;
 ghost use Rattle.ja_statements.specs.Standing.{Guards, Keeps, around_of, guarded_at};
 ghost use Rattle.ja_statements.specs.Statements as spec;

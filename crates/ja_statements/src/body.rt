@@ -1,12 +1,12 @@
 //! The listing of a whole function (ES3 10.1, 13, 14).
 
-ghost use Rattle.std.specs.Prelude.{◌≡◌, ◌+◌, None, IfOk, length};
+ghost use Rattle.std.specs.Prelude.{◌≡◌, ◌+◌, None, IfOk};
 ghost use Rattle.ja_statements.specs.Functions as spec;
 ghost use Rattle.ja_draft.specs.Lines as lines;
 
 use crate::around::Around;
 use crate::statement_list::statements;
-use ja_base::{Memory, Place, Reg, Site};
+use ja_base::{Memory, Place, Site};
 use ja_draft::conversion::constant;
 use ja_draft::{Draft, Scene};
 use ja_expressions::literal::make_function;

@@ -1,6 +1,6 @@
 //! `if`, labels and `switch` (ES3 12.5, 12.11, 12.12).
 
-ghost use Rattle.std.specs.Prelude.{◌≡◌, map};
+ghost use Rattle.std.specs.Prelude.{map};
 ghost use Rattle.ja_expressions.specs.Expressions.{form};
 ghost use Rattle.ja_draft.specs.Lines as lines;
 ghost use Rattle.ja_statements.specs.Standing.{around_of};

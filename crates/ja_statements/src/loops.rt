@@ -1,6 +1,5 @@
 //! Loops (ES3 12.6).
 
-ghost use Rattle.std.specs.Prelude.{◌≡◌};
 ghost use Rattle.std.specs.Option.{option_map};
 ghost use Rattle.ja_expressions.specs.Expressions.{form};
 ghost use Rattle.ja_draft.specs.Lines as lines;

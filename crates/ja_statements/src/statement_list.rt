@@ -1,6 +1,6 @@
 //! Statements (ES3 12).
 
-ghost use Rattle.std.specs.Prelude.{◌≡◌, map};
+ghost use Rattle.std.specs.Prelude.{map};
 ghost use Rattle.ja_draft.specs.Lines as lines;
 ghost use Rattle.ja_statements.specs.Standing.{around_of};
 ghost use Rattle.ja_statements.specs.Statements as spec;

@@ -1,6 +1,6 @@
 //! What is listed of a statement beside the statements in it (ES3 12).
 
-ghost use Rattle.std.specs.Prelude.{◌≡◌, ◌+◌, ◌≤◌, map};
+ghost use Rattle.std.specs.Prelude.{map};
 ghost use Rattle.std.specs.Option.{option_map};
 ghost use Rattle.ja_expressions.specs.Expressions.{form};
 ghost use Rattle.ja_draft.specs.Lines as lines;

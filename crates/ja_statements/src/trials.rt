@@ -1,6 +1,5 @@
 //! What is listed of a `try` beside the statements in it (ES3 12.14).
 
-ghost use Rattle.std.specs.Prelude.{◌≡◌, ◌+◌};
 ghost use Rattle.ja_draft.specs.Lines as lines;
 ghost use Rattle.ja_statements.specs.Standing.{guarded_at};
 ghost use Rattle.ja_statements.specs.Statements as spec;

@@ -14,7 +14,6 @@ use ja_base::{FnId, Memory, Site};
 use ja_graph::{Class, GLOBAL, ObjectSpec, Program, SpecContent};
 use ja_heap::{Heap, Object};
 use ja_machine::{Addr, Content, Slots, Value};
-use ja_operations::copies::copy_primitive;
 use ja_operations::made::first_of;
 use ja_operations::messages::name_text;
 use ja_prim::Primitive;
@@ -36,7 +35,7 @@ fn opening_content(alloc: Global, content: &SpecContent) -> Result<Content, Memo
 {
     match content {
         SpecContent::Prim(primitive) => {
-            let copy = copy_primitive(alloc, primitive)?;
+            let copy = primitive.copy(alloc)?;
             Ok(Content::Value(Value::Primitive(copy)))
         }
         SpecContent::Object(site) => Ok(Content::Value(Value::Object(first_of(*site)))),
@@ -60,7 +59,7 @@ fn opening_value(alloc: Global, value: &Option<Primitive>) -> Result<Option<Prim
 {
     match value {
         Some(value) => {
-            let copy = copy_primitive(alloc, value)?;
+            let copy = value.copy(alloc)?;
             Ok(Some(copy))
         }
         None => Ok(None),

@@ -9,7 +9,6 @@ use crate::Conf;
 use ja_base::{Memory, Reg, ScopeKind, Seq};
 use ja_graph::NodeInfo;
 use ja_machine::{Answer, End, Value};
-use ja_operations::copies::copy_primitive;
 use ja_prim::Primitive;
 use std::alloc::Global;
 
@@ -46,7 +45,7 @@ pub fn device_arguments(alloc: Global, conf: &Conf) -> Result<Seq<Primitive>, Me
     let mut primitives = Vec::with_capacity(alloc, conf.frame.arguments.len())?;
     for value in &conf.frame.arguments {
         if let Value::Primitive(primitive) = value {
-            let primitive = copy_primitive(alloc, primitive)?;
+            let primitive = primitive.copy(alloc)?;
             primitives.push(primitive)?;
         }
     }

@@ -6,7 +6,7 @@ ghost use Rattle.ja_step.specs.Steps.{conf_of, event_of};
 use crate::Conf;
 use crate::wanted::node_of;
 use ja_base::Memory;
-use ja_graph::{Node, NodeInfo, Program};
+use ja_graph::Program;
 use ja_machine::{Answer, End};
 use std::alloc::Global;
 

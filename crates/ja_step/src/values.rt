@@ -11,7 +11,6 @@ use crate::Conf;
 use ja_base::{Memory, Reg, ScopeKind};
 use ja_graph::{BinaryOp, NodeInfo, UnaryOp};
 use ja_machine::{End, Value};
-use ja_operations::copies::copy_primitive;
 use ja_operations::operators::{binary, unary};
 use ja_prim::Primitive;
 use std::alloc::Global;
@@ -27,7 +26,7 @@ impl Conf {
     ) -> Result<Option<End>, Memory>
         ensures { IfOk result (λ end. leads_to self.old end self.new ≡ sets (standing self.old info.now) dst (value.Primitive primitive.now)) }
     {
-        let copy = copy_primitive(alloc, primitive)?;
+        let copy = primitive.copy(alloc)?;
         Ok(self.sets(info, dst, Value::Primitive(copy)))
     }
 

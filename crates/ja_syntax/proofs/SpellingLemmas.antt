@@ -4,7 +4,7 @@ use Rattle.ja_lex.specs.Marks.{marks}
 use Rattle.ja_syntax.specs.declared.symbol.Symbol.{Symbol}
 use Rattle.ja_syntax.specs.declared.symbol.Symbol.TheVariants as symbol
 use Rattle.ja_syntax.specs.Spelling.{texts, are_distinct, spellings, expected_spellings}
-use Rattle.ja_syntax.specs.Symbols.{keywords, refused_words, punctuators, same_symbol, future_words}
+use Rattle.ja_syntax.specs.Symbols.{keywords, refused_words, punctuators, same_symbol}
 
 pub same_marks : texts punctuators ≡ marks
 unfolding punctuators marks

@@ -7,7 +7,7 @@ ghost use Rattle.ja_syntax.specs.Mentions as mentions;
 
 use crate::symbols::names_arguments;
 use crate::tree::{
-    Case, CatchOf, Declaration, Expression, ForFirst, ForTarget, FunctionTree, Operation, Property,
+    Case, Declaration, Expression, ForFirst, ForTarget, FunctionTree, Operation, Property,
     Statement, Suffix,
 };
 

@@ -1,6 +1,6 @@
 //! What a function or the program declares before its statements run (ES3 10.1.3).
 
-ghost use Rattle.std.specs.Prelude.{◌≡◌, ◌++◌, map, IfOk, OnOk};
+ghost use Rattle.std.specs.Prelude.{◌≡◌, IfOk, OnOk};
 ghost use Rattle.std.specs.List.{flat_map, fold};
 ghost use Rattle.ja_syntax.specs.Hoisted.{with_name};
 ghost use Rattle.ja_syntax.specs.Hoisted as spec;

@@ -1,7 +1,7 @@
 //! What the grammar sees of a token, by tables of words and punctuators. Each table is cut by the
 //! length of its texts, so that a token is compared with few of them.
 
-ghost use Rattle.std.specs.Prelude.{◌≡◌, ◌==◌, List, ℕ, length, map, option_copied};
+ghost use Rattle.std.specs.Prelude.{◌≡◌, ◌==◌, length, map};
 ghost use Rattle.ja_syntax.specs.Lookups.{of_length};
 ghost use Rattle.ja_syntax.specs.Lookups as tables;
 ghost use Rattle.ja_syntax.specs.Symbols as spec;

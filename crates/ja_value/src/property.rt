@@ -5,7 +5,7 @@ ghost use Rattle.ja_model.specs.AbstractState.{aged_property};
 use crate::AValue;
 use ja_base::{Memory, Site};
 use ja_graph::Attrs;
-use ja_model::{AAttrs, Flags, May};
+use ja_model::{AAttrs, May};
 use std::alloc::Global;
 
 /// An abstract property: its value, and what is known of its attributes.

@@ -100,7 +100,7 @@ fn has_text(part: &TextPart) -> bool
 }
 
 impl AValue {
-    ghost use Rattle.ja_value.specs.Value.{value_of, labels_in};
+    ghost use Rattle.ja_value.specs.Value.{value_of};
 
     /// The value without a part.
     pub fn empty(alloc: Global) -> AValue

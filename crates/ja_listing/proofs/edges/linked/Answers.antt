@@ -1,7 +1,6 @@
 use Rattle.std.proofs.Common.{◌≡◌, ◌<◌, ◌++◌, ◌∷◌, [], List, vec_len, length, map, unwrap_or, ap, sym, subst, ◌∙◌, append_assoc, append-nil, length-append, arith}
 use Rattle.ja_listing.specs.declared.item.Item.{Item}
 use Rattle.ja_listing.specs.declared.item.Item.TheVariants as item
-use Rattle.ja_listing.specs.declared.item.Target.{Target}
 use Rattle.ja_listing.specs.declared.item.Target.TheVariants as target
 use Rattle.ja_listing.specs.Listing.{led, jump_of, way_on, with_edges, nodes_from}
 use Rattle.ja_listing.specs.Passes.{IsEnd, followed, seen, ways_on}

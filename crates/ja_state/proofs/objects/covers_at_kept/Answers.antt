@@ -1,6 +1,6 @@
-use Rattle.std.proofs.Common.{◌≡◌, sym, subst, ap, ◌∙◌}
+use Rattle.std.proofs.Common.{◌≡◌, sym, ap, ◌∙◌}
 use Rattle.ja_state.specs.declared.object.AObject.{AObject}
-use Rattle.ja_state.specs.State.{Keyed, object_of, object_in, join_keyed}
+use Rattle.ja_state.specs.State.{object_of, object_in, join_keyed}
 use Rattle.ja_state.proofs.MapLemmas.{each_turn, each_end}
 use Rattle.ja_state.proofs.objects.covers_at_kept.Goals as goal
 

@@ -1,4 +1,4 @@
-use Rattle.std.proofs.Common.{◌≡◌, sym, subst, ap, ◌∙◌}
+use Rattle.std.proofs.Common.{◌≡◌, subst}
 use Rattle.ja_state.specs.declared.object.AObject.{AObject}
 use Rattle.ja_state.specs.State.{Keyed, object_of, object_in, join_keyed}
 use Rattle.ja_state.proofs.MapLemmas.{each_turn, each_end}
