@@ -11,9 +11,11 @@ use Rattle.ja_grammar.specs.declared.fault.Refusal.{Refusal}
 use Rattle.ja_grammar.specs.declared.fault.Refusal.TheVariants as refusal
 use Rattle.ja_grammar.specs.Forms.{begins_suffix, is_label_behind}
 use Rattle.ja_grammar.specs.Input.{Tokens, symbol, next, head, behind, Outcome, Done, Refused, strict}
-use Rattle.ja_grammar.specs.Language.{max_levels, Spells, IsText, is_level, is_same, same_place, spared, without, AreReal, Follows, GoesOn, IsTextWithout, IsForbidden, NoSuffix, NoLabel, Stands, Because, fault_at, IsRefused, Explains, Answers}
+use Rattle.ja_grammar.specs.Answering.{Answers}
+use Rattle.ja_grammar.specs.Language.{max_levels, Spells, IsText, is_level, is_same, same_place, spared, without, AreReal, Follows, GoesOn, IsTextWithout, IsForbidden, NoSuffix, NoLabel, Stands, Because, fault_at, IsRefused, Explains}
 use Rattle.ja_grammar.specs.Productions.{At}
 use Rattle.ja_grammar.specs.ReadStatement.{program}
+use Rattle.ja_grammar.proofs.Real.{AreNamesReal, AreRealAfter, reals, names_front}
 use Rattle.ja_grammar.proofs.Good.{GoodAt, Refuses, Viable, Completes, CompletesWith, Any, Instead, added, lifted, elsewhere, is_jump}
 use Rattle.ja_grammar.proofs.Knot.{program_all, program_is, program_covers, strict_rules}
 use Rattle.ja_grammar.proofs.Known.{Known, known, last, last_behind, before_last}
@@ -150,13 +152,13 @@ module _ (law : PlaceLaw) where
   passes_all v t pass y other m h before = let s = stuck v t y other m h before pass.0 in let n = pass.1 s.0 s.1 s.2 in omega (arith, n, s.3)
 
   -- what is read can be completed
-  completed : (v : Tokens) (t : Token) → Passes v t → (c : Tokens) × (xs : List Statement) × (m : Tokens) × (program strict 202 (v ++ t ∷ c) ≡ Done xs m) × AreReal (v ++ t ∷ []) c
+  completed : (v : Tokens) (t : Token) → Passes v t → (c : Tokens) × (xs : List Statement) × (m : Tokens) × (program strict 202 (v ++ t ∷ c) ≡ Done xs m) × AreRealAfter (v ++ t ∷ []) c
   completed v t pass = go (program strict max_levels (v ++ t ∷ [])) refl
     where
-      go : (o : Outcome (List Statement)) → program strict max_levels (v ++ t ∷ []) ≡ o → (c : Tokens) × (xs : List Statement) × (m : Tokens) × (program strict 202 (v ++ t ∷ c) ≡ Done xs m) × AreReal (v ++ t ∷ []) c
+      go : (o : Outcome (List Statement)) → program strict max_levels (v ++ t ∷ []) ≡ o → (c : Tokens) × (xs : List Statement) × (m : Tokens) × (program strict 202 (v ++ t ∷ c) ≡ Done xs m) × AreRealAfter (v ++ t ∷ []) c
       go (Done xs m) h = ([], xs, m, refines_done (more_refines 2 max_levels (v ++ t ∷ [])) h, tt)
       go (Refused other (u ∷ m)) h = absurd (passes_all v t pass [] other (u ∷ m) h (omega arith))
-      go (Refused other []) h = (c.0 ++ [], c.1, [], read, subst (λ x. AreReal x (c.0 ++ [])) whole (subst (λ x. AreReal s.before x) (sym (append-nil c.0)) c.3))
+      go (Refused other []) h = (c.0 ++ [], c.1, [], read, subst (λ x. AreRealAfter x (c.0 ++ [])) whole (subst (λ x. AreRealAfter s.before x) (sym (append-nil c.0)) c.3))
         where
           s : Refuses [] (known refusal.Unexpected) (program strict max_levels) (program (without refusal.Unexpected) 202) (At k.End) Any (v ++ t ∷ []) other []
           s = at refusal.Unexpected (v ++ t ∷ []) other [] h
@@ -176,7 +178,7 @@ module _ (law : PlaceLaw) where
               ∙ c.4 [] end_of_nothing
 
   -- and so a text goes on with it, in which what stands before and it keep the levels
-  goes_on_with : (v : Tokens) (t : Token) → Passes v t → (w : Tokens) → (g : GoesOn v (t ∷ w)) × AreReal (v ++ t ∷ []) (behind g.more)
+  goes_on_with : (v : Tokens) (t : Token) → Passes v t → (w : Tokens) → (g : GoesOn v (t ∷ w)) × AreRealAfter (v ++ t ∷ []) (behind g.more)
   goes_on_with v t pass w = (
     record {
       more = t ∷ c.0;
@@ -189,7 +191,7 @@ module _ (law : PlaceLaw) where
     c.4,
   )
     where
-      c : (c : Tokens) × (xs : List Statement) × (m : Tokens) × (program strict 202 (v ++ t ∷ c) ≡ Done xs m) × AreReal (v ++ t ∷ []) c
+      c : (c : Tokens) × (xs : List Statement) × (m : Tokens) × (program strict 202 (v ++ t ∷ c) ≡ Done xs m) × AreRealAfter (v ++ t ∷ []) c
       c = completed v t pass
 
       late : ℕ
@@ -259,7 +261,7 @@ module _ (law : PlaceLaw) where
         go (Refines.refused c other n) = let c' = same_refused {A = List Statement} (IsLate late) (sym other ∙ stuck) c in few h.more h.same (sym (s.level h.more) ∙ c'.0) c'.1
 
     -- every token before it goes on
-    accepted : (v : Tokens) (t : Token) (w : Tokens) → before ≡ v ++ t ∷ w → (g : GoesOn v (t ∷ w)) × AreReal (v ++ t ∷ []) (behind g.more)
+    accepted : (v : Tokens) (t : Token) (w : Tokens) → before ≡ v ++ t ∷ w → (g : GoesOn v (t ∷ w)) × AreRealAfter (v ++ t ∷ []) (behind g.more)
     accepted v t w parts = goes_on_with v t (w ++ r, passes) w
       where
         here : i ≡ v ++ t ∷ (w ++ r)
@@ -269,7 +271,7 @@ module _ (law : PlaceLaw) where
         passes other x h = let n : length r ≡ length x = ap (λ o. length (rest_of o)) (sym e ∙ ap (program strict max_levels) here ∙ h) in let a = length-append w r in omega (arith, n, a)
 
     -- where levels are wanted, with more of them a text goes on
-    deep_text : is_level why ≡ true → (more : Tokens) × (head r ≡ head more) × IsText (before ++ more) × AreReal before (behind more)
+    deep_text : is_level why ≡ true → (more : Tokens) × (head r ≡ head more) × IsText (before ++ more) × AreRealAfter before (behind more)
     deep_text on = (g.0 ++ [], deep_head why (g.0 ++ []) on (g.3 [] end_of_nothing).0, text_read 202 (before ++ (g.0 ++ [])) g.1 [] read, deep_added why on)
       where
         s : Refuses [] (known refusal.Unexpected) (program strict max_levels) (program (without refusal.Unexpected) 202) (At k.End) Any i why r
@@ -278,13 +280,13 @@ module _ (law : PlaceLaw) where
         g : CompletesWith [] (program (without refusal.Unexpected) 202) (At k.End) Any s.before why r
         g = s.goes_on (ap (λ b. b || is_same refusal.Unexpected why) on)
 
-        real : AreReal before (added why (g.0 ++ []))
-        real = subst (λ x. AreReal x (added why (g.0 ++ []))) (one_place refusal.Unexpected i why r before e split) (subst (λ x. AreReal s.before (added why x)) (sym (append-nil g.0)) g.4)
+        real : AreRealAfter before (added why (g.0 ++ []))
+        real = subst (λ x. AreRealAfter x (added why (g.0 ++ []))) (one_place refusal.Unexpected i why r before e split) (subst (λ x. AreRealAfter s.before (added why x)) (sym (append-nil g.0)) g.4)
 
-        deep_added : (why' : Refusal) → is_level why' ≡ true → AreReal before (behind (g.0 ++ []))
+        deep_added : (why' : Refusal) → is_level why' ≡ true → AreRealAfter before (behind (g.0 ++ []))
         deep_added why' on' = by why real on
           where
-            by : (v : Refusal) → AreReal before (added v (g.0 ++ [])) → is_level v ≡ true → AreReal before (behind (g.0 ++ []))
+            by : (v : Refusal) → AreRealAfter before (added v (g.0 ++ [])) → is_level v ≡ true → AreRealAfter before (behind (g.0 ++ []))
             by refusal.Deep x on = x
             by (refusal.DeepLabel place) x on = x
             by _ x on = absurd (true≢false (sym on))
@@ -456,10 +458,13 @@ module _ (law : PlaceLaw) where
 
   -- ---- the rule that stands in the way
 
-  module _ (i : Tokens) (r before : Tokens) (split : i ≡ before ++ r) where
+  module _ (i : Tokens) (names : AreNamesReal i) (r before : Tokens) (split : i ≡ before ++ r) where
+    names_before : AreNamesReal before
+    names_before = names_front i before r split names
+
     -- without the rule a text goes on
-    goes_on : (why : Refusal) (e : program strict max_levels i ≡ Refused why r) → is_same why why ≡ true → (more : Tokens) × Instead why r more × IsTextWithout why (before ++ more) × AreReal before (added why more)
-    goes_on why e same = (g.0 ++ [], (g.3 [] end_of_nothing).0, (202, g.1, [], program_is (without why) (without_rules why) 202 (before ++ (g.0 ++ [])) g.1 [] read), subst (λ x. AreReal x (added why (g.0 ++ []))) (one_place why i why r before e split) (subst (λ x. AreReal s.before (added why x)) (sym (append-nil g.0)) g.4))
+    goes_on : (why : Refusal) (e : program strict max_levels i ≡ Refused why r) → is_same why why ≡ true → (more : Tokens) × Instead why r more × IsTextWithout why (before ++ more) × AreReal (added why more)
+    goes_on why e same = (g.0 ++ [], (g.3 [] end_of_nothing).0, (202, g.1, [], program_is (without why) (without_rules why) 202 (before ++ (g.0 ++ [])) g.1 [] read), reals before (added why (g.0 ++ [])) names_before real)
       where
         s : Refuses [] (known why) (program strict max_levels) (program (without why) 202) (At k.End) Any i why r
         s = at why i why r e
@@ -470,6 +475,9 @@ module _ (law : PlaceLaw) where
 
         g : CompletesWith [] (program (without why) 202) (At k.End) Any s.before why r
         g = s.goes_on (either (is_level why) (is_same why why) same)
+
+        real : AreRealAfter before (added why (g.0 ++ []))
+        real = subst (λ x. AreRealAfter x (added why (g.0 ++ []))) (one_place why i why r before e split) (subst (λ x. AreRealAfter s.before (added why x)) (sym (append-nil g.0)) g.4)
 
         read : program (without why) 202 (before ++ (g.0 ++ [])) ≡ Done g.1 []
         read = sym (ap (λ x. program (without why) 202 (x ++ (g.0 ++ []))) (one_place why i why r before e split)) ∙ (g.3 [] end_of_nothing).1
@@ -490,13 +498,15 @@ module _ (law : PlaceLaw) where
     because refusal.Unexpected e = λ O h. never O before r h (sym (stands_is i refusal.Unexpected r before e split O h))
     because refusal.RegExp e = let g = goes_on refusal.RegExp e refl in Stands.regexp g.0 (forbidden i refusal.RegExp r before e split refl) (sym g.1, g.3) g.2
     because refusal.Arguments e = let g = goes_on refusal.Arguments e refl in Stands.arguments g.0 (forbidden i refusal.Arguments r before e split refl) (sym g.1, g.3) g.2
-    because refusal.Deep e = let g = deep_text i refusal.Deep r before e split refl in Stands.deep g.0 (at refusal.Deep i refusal.Deep r e).right.1 (sym g.1, g.3) g.2
+    because refusal.Deep e =
+        let g = deep_text i refusal.Deep r before e split refl in
+        Stands.deep g.0 (at refusal.Deep i refusal.Deep r e).right.1 (sym g.1, reals before (behind g.0) names_before g.3) g.2
     because (refusal.DeepLabel place) e =
         let g = deep_text i (refusal.DeepLabel place) r before e split refl in
         let s = at refusal.Unexpected i (refusal.DeepLabel place) r e in
-        label s.before g.0 (one_place refusal.Unexpected i (refusal.DeepLabel place) r before e split) s.right (sym g.1, g.3) g.2
+        label s.before g.0 (one_place refusal.Unexpected i (refusal.DeepLabel place) r before e split) s.right (sym g.1, reals before (behind g.0) names_before g.3) g.2
       where
-        label : (w more : Tokens) → w ≡ before → Known (refusal.DeepLabel place) w r → Follows before more r → IsText (before ++ more) → Stands (refusal.DeepLabel place) before r
+        label : (w more : Tokens) → w ≡ before → Known (refusal.DeepLabel place) w r → Follows more r → IsText (before ++ more) → Stands (refusal.DeepLabel place) before r
         label [] more same h next text = absurd (let n = h.1 in omega (arith, n))
         label (t ∷ w) more same h next text = let f = before_last t w in Stands.deep_label f.0 (last (t ∷ w)) more (sym same ∙ f.1) h.2 h.0 next text
     because (refusal.Broken place) e = let g = goes_on (refusal.Broken place) e (same_place_refl place) in Stands.broken g.0 (forbidden i (refusal.Broken place) r before e split refl) (sym g.1, g.3) g.2
@@ -515,23 +525,28 @@ module _ (law : PlaceLaw) where
   -- ---- what is answered
 
   -- a refusal is right
-  explained : (i : Tokens) (why : Refusal) (r : Tokens) → program strict max_levels i ≡ Refused why r → IsRefused i (fault_at why (head r))
-  explained i why r e = record {
+  pub explained : (i : Tokens) → AreNamesReal i → (why : Refusal) (r : Tokens) → program strict max_levels i ≡ Refused why r → IsRefused i (fault_at why (head r))
+  explained i names why r e = record {
     before = s.before;
     rest = r;
     split = s.split;
-    first = record { goes_on = accepted i why r s.before e s.split; refused = refused_there i why r s.before e s.split };
+    first = record { goes_on = goes_on_so; refused = refused_there i why r s.before e s.split };
     why = why;
-    because = because i r s.before s.split why e;
+    because = because i names r s.before s.split why e;
     answer = refl;
   }
     where
       s : Refuses [] (known refusal.Unexpected) (program strict max_levels) (program (without refusal.Unexpected) 202) (At k.End) Any i why r
       s = at refusal.Unexpected i why r e
 
+      goes_on_so : (v : Tokens) (t : Token) (w : Tokens) → s.before ≡ v ++ t ∷ w → (g : GoesOn v (t ∷ w)) × AreReal (behind g.more)
+      goes_on_so v t w parts = let g = accepted i why r s.before e s.split v t w parts in
+          let here = s.split ∙ ap (λ x. x ++ r) (parts ∙ sym (append_assoc v (t ∷ []) w)) ∙ append_assoc (v ++ t ∷ []) w r in
+          (g.0, reals (v ++ t ∷ []) (behind g.0.more) (names_front i (v ++ t ∷ []) (w ++ r) here names) g.1)
+
   -- and it is the only one that is
-  pub refused_so : (i : Tokens) (fault : ParseFault) → IsRefused i fault → (why : Refusal) × (r : Tokens) × (program strict max_levels i ≡ Refused why r) × (fault ≡ fault_at why (head r))
-  refused_so i fault h = go (program strict max_levels i) refl
+  pub refused_so : (i : Tokens) → AreNamesReal i → (fault : ParseFault) → IsRefused i fault → (why : Refusal) × (r : Tokens) × (program strict max_levels i ≡ Refused why r) × (fault ≡ fault_at why (head r))
+  refused_so i names fault h = go (program strict max_levels i) refl
     where
       -- in a text every token goes on, and the end
       whole : (xs : List Statement) (r rest : Tokens) → program strict max_levels (h.before ++ rest) ≡ Done xs r → GoesOn h.before rest
@@ -574,7 +589,7 @@ module _ (law : PlaceLaw) where
               unexpected (refusal.UnknownLabel p) b none = absurd (none (refusal.UnknownLabel p) b)
 
               reason : (v : Refusal) → Because v h.before h.rest → why ≡ v
-              reason refusal.Unexpected b = unexpected why (because i r h.before split why e) (λ O x. b O (subst (λ y. Stands O h.before y) (sym same) x))
+              reason refusal.Unexpected b = unexpected why (because i names r h.before split why e) (λ O x. b O (subst (λ y. Stands O h.before y) (sym same) x))
               reason refusal.RegExp b = stands_is i why r h.before e split refusal.RegExp (subst (λ y. Stands refusal.RegExp h.before y) same b)
               reason refusal.Arguments b = stands_is i why r h.before e split refusal.Arguments (subst (λ y. Stands refusal.Arguments h.before y) same b)
               reason refusal.Deep b = stands_is i why r h.before e split refusal.Deep (subst (λ y. Stands refusal.Deep h.before y) same b)
@@ -601,11 +616,11 @@ module _ (law : PlaceLaw) where
                   absurd (h.first.refused (same_head h.before (p.0 ∷ p.1) h.rest (sym (ap head p.3)) (accepted i why r s.before e s.split h.before p.0 p.1 p.2).0))
 
   -- a refusal that is answered is right
-  pub answered_fault : (i : Tokens) (fault : ParseFault) → Answers (program strict max_levels i) (Err fault) → Explains i fault
-  answered_fault i fault h = go (program strict max_levels i) refl fault h
+  pub answered_fault : (i : Tokens) → AreNamesReal i → (fault : ParseFault) → Answers (program strict max_levels i) (Err fault) → Explains i fault
+  answered_fault i names fault h = go (program strict max_levels i) refl fault h
     where
       says : (fault : ParseFault) (why : Refusal) (r : Tokens) → fault ≡ fault_at why (head r) → program strict max_levels i ≡ Refused why r → IsRefused i fault
-      says fault why r h e = subst (λ f. IsRefused i f) (sym h) (explained i why r e)
+      says fault why r h e = subst (λ f. IsRefused i f) (sym h) (explained i names why r e)
 
       go : (o : Outcome (List Statement)) → program strict max_levels i ≡ o → (fault : ParseFault) → Answers o (Err fault) → Explains i fault
       go o e Memory h = tt
@@ -617,9 +632,9 @@ module _ (law : PlaceLaw) where
       go (Refused why r) e (Depth place) h = says (Depth place) why r h e
 
   -- two refusals that say so are the same
-  pub refused_once : (i : Tokens) (f g : ParseFault) → IsRefused i f → IsRefused i g → f ≡ g
-  refused_once i f g a b =
-      let x = refused_so i f a in let y = refused_so i g b in
+  pub refused_once : (i : Tokens) → AreNamesReal i → (f g : ParseFault) → IsRefused i f → IsRefused i g → f ≡ g
+  refused_once i names f g a b =
+      let x = refused_so i names f a in let y = refused_so i names g b in
       x.3 ∙ same_refused {A = List Statement} (λ v s. fault_at x.0 (head x.1) ≡ fault_at v (head s)) (sym x.2 ∙ y.2) refl ∙ sym y.3
 
 -- a tree that is answered is the text's

@@ -11,10 +11,10 @@ use Rattle.ja_grammar.specs.declared.part.ExpressionPart.{ExpressionPart}
 use Rattle.ja_grammar.specs.declared.part.ExpressionPart.TheVariants as part
 use Rattle.ja_grammar.specs.Forms.{name_of, is_prefix}
 use Rattle.ja_grammar.specs.Input.{Tokens, head, next, symbol, Done, and_then, look, Rules, strict}
-use Rattle.ja_grammar.specs.Language.{AreReal}
 use Rattle.ja_grammar.specs.Operators.{unary_operator, prefix_update}
 use Rattle.ja_grammar.specs.Productions.{HasRoom}
 use Rattle.ja_grammar.specs.ReadExpression.{Below, created, created_by, operand_close, updated, updated_by, expression_part}
+use Rattle.ja_grammar.proofs.Real.{AreRealAfter}
 use Rattle.ja_grammar.proofs.BinaryGood.{assignment_good, whole_good}
 use Rattle.ja_grammar.proofs.ChainGood.{IsReference, created_good, created_reads, parenthesis_ends_member}
 use Rattle.ja_grammar.proofs.Closing.{no_postfix_closes, no_suffix_closes}
@@ -59,7 +59,7 @@ module _ (g : Rules) (b : Below) where
       ∙ created_reads g b room place named tail
 
   -- tokens, real behind any, that are read as the part
-  pub expression_part_sample : {U : Tokens} → ((i : Tokens) → HasRoom g i) → (p : ExpressionPart) → (w : Tokens) × (v : Expression) × AreReal U w × ((tail : Tokens) → follow_of p tail → expression_part g b p (w ++ tail) ≡ Done v tail)
+  pub expression_part_sample : {U : Tokens} → ((i : Tokens) → HasRoom g i) → (p : ExpressionPart) → (w : Tokens) × (v : Expression) × AreRealAfter U w × ((tail : Tokens) → follow_of p tail → expression_part g b p (w ++ tail) ≡ Done v tail)
   unfolding expression_part
   expression_part_sample room (part.Whole no_in) = (name ∷ [], named, (name_real, tt), λ tail ends. whole_name g b no_in tail ends)
   expression_part_sample room (part.Assignment no_in) = (name ∷ [], named, (name_real, tt), λ tail ends. assignment_name g b no_in tail ends)

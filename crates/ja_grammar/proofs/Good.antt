@@ -7,8 +7,8 @@ use Rattle.ja_grammar.specs.declared.fault.Refusal.{Refusal}
 use Rattle.ja_grammar.specs.declared.fault.Refusal.TheVariants.{Unexpected, RegExp, Arguments, Deep, DeepLabel, Broken, Operand, Alone, UnknownLabel}
 use Rattle.ja_grammar.specs.Forms.{begins_suffix, is_label_behind}
 use Rattle.ja_grammar.specs.Input.{Tokens, symbol, head, behind, Outcome, Done, Refused, Parser, and_then, ◌>>=◌, pure, refuse, look}
-use Rattle.ja_grammar.specs.Language.{AreReal, is_level, is_same}
-use Rattle.ja_grammar.proofs.Real.{Covers, covers_front, covers_between, reals_more, real_append, real_behind, real_append_behind, real_append_second}
+use Rattle.ja_grammar.specs.Language.{is_level, is_same}
+use Rattle.ja_grammar.proofs.Real.{AreRealAfter, Covers, covers_front, covers_between, reals_more, real_append, real_behind, real_append_behind, real_append_second}
 
 -- ---- what is said
 
@@ -52,13 +52,13 @@ added (Alone place) x = x
 added (UnknownLabel place) x = behind (behind x)
 added _ x = behind x
 
-pub added_real : (U : Tokens) (why : Refusal) (c : Tokens) → AreReal U c → AreReal U (added why c)
+pub added_real : (U : Tokens) (why : Refusal) (c : Tokens) → AreRealAfter U c → AreRealAfter U (added why c)
 added_real U (Operand place) c h = h
 added_real U (Alone place) c h = h
 added_real U (UnknownLabel place) c h = real_behind U (behind c) (real_behind U c h)
 added_real U _ c h = real_behind U c h
 
-pub added_append : (U : Tokens) (why : Refusal) (c v : Tokens) → AreReal U (added why c) → AreReal U v → AreReal U (added why (c ++ v))
+pub added_append : (U : Tokens) (why : Refusal) (c v : Tokens) → AreRealAfter U (added why c) → AreRealAfter U v → AreRealAfter U (added why (c ++ v))
 added_append U (Operand place) c v h g = real_append U c v h g
 added_append U (Alone place) c v h g = real_append U c v h g
 added_append U (UnknownLabel place) c v h g = real_append_second U c v h g
@@ -77,7 +77,7 @@ pub record Reason (O : Refusal) : Type 1 where
 
 -- real tokens complete these ones, which stand behind U
 abbrev pub Completes : {A : Type 0} → Tokens → Parser A → Follow → (A → Type 0) → Tokens → Type 0
-Completes {A} U p F W w = (c : Tokens) × (a : A) × W a × AreReal (U ++ w) c × ((tail : Tokens) → F tail → p (w ++ (c ++ tail)) ≡ Done a tail)
+Completes {A} U p F W w = (c : Tokens) × (a : A) × W a × AreRealAfter (U ++ w) c × ((tail : Tokens) → F tail → p (w ++ (c ++ tail)) ≡ Done a tail)
 
 -- the same, where a token was taken at all
 abbrev pub Viable : {A : Type 0} → Tokens → Parser A → Follow → (A → Type 0) → Tokens → Type 0
@@ -86,17 +86,17 @@ Viable U p F W (t ∷ w) = Completes U p F W (t ∷ w)
 
 -- more tokens complete these ones, without the rule of the refusal; those that are none of the text's own are real
 abbrev pub CompletesWith : {A : Type 0} → Tokens → Parser A → Follow → (A → Type 0) → Tokens → Refusal → Tokens → Type 0
-CompletesWith {A} U p F W w why r = (c : Tokens) × (a : A) × W a × ((tail : Tokens) → F tail → Instead why r (c ++ tail) × (p (w ++ (c ++ tail)) ≡ Done a tail)) × AreReal (U ++ w) (added why c)
+CompletesWith {A} U p F W w why r = (c : Tokens) × (a : A) × W a × ((tail : Tokens) → F tail → Instead why r (c ++ tail) × (p (w ++ (c ++ tail)) ≡ Done a tail)) × AreRealAfter (U ++ w) (added why c)
 
 -- real tokens are read whole that begin with one with which the refusal is made too
 abbrev pub CompletesElsewhere : {A : Type 0} → Tokens → Parser A → Follow → (A → Type 0) → Refusal → Type 0
-CompletesElsewhere {A} U p F W why = (c : Tokens) × (a : A) × W a × ((tail : Tokens) → F tail → (elsewhere why (head (c ++ tail)) ≡ true) × (p (c ++ tail) ≡ Done a tail)) × AreReal U c
+CompletesElsewhere {A} U p F W why = (c : Tokens) × (a : A) × W a × ((tail : Tokens) → F tail → (elsewhere why (head (c ++ tail)) ≡ true) × (p (c ++ tail) ≡ Done a tail)) × AreRealAfter U c
 
 -- Tokens, real behind U, that `q` reads whole, where G follows, and with which F begins: what completes a production of which the rest is `q`.
 pub record Sample {A : Type 0} (U : Tokens) (q : Parser A) (F G : Follow) (W : A → Type 0) : Type 0 where
   pub more : Tokens
   pub value : A
-  pub real : AreReal U more
+  pub real : AreRealAfter U more
   pub fits : W value
   pub follows : (tail : Tokens) → G tail → F (more ++ tail)
   pub reads : (tail : Tokens) → G tail → q (more ++ tail) ≡ Done value tail
@@ -205,7 +205,7 @@ lifted_good {U} {O} J F W why q i on h c = record {
 
 module _ {A B : Type 0} (U : Tokens) (q : Parser A) (g : A → Parser B) (F G : Follow) (V : A → Type 0) (W : B → Type 0) where
   -- what is real behind U is so behind more tokens
-  sample_real : (w : Tokens) {x : Parser B} (s : Sample U x F G W) → AreReal (U ++ w) s.more
+  sample_real : (w : Tokens) {x : Parser B} (s : Sample U x F G W) → AreRealAfter (U ++ w) s.more
   sample_real w s = reals_more U (U ++ w) (covers_front U w) s.more s.real
 
   pub completes_first : ((a : A) → V a → Sample U (g a) F G W) → (w : Tokens) → Completes U q F V w → Completes U (q >>= g) G W w

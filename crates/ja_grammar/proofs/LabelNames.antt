@@ -1,5 +1,5 @@
 -- The labels of a context stand before it, so that they can be written again behind a `break`.
-use Rattle.std.proofs.Common.{◌≡◌, ◌≢◌, inr, ℕ, zero, suc, Bool, true, false, not, ◌&&◌, ◌||◌, ◌==◌, List, [], ◌∷◌, length, Some, unwrap_or, if◌then◌else◌, refl, sym, ap, ◌∙◌}
+use Rattle.std.proofs.Common.{◌≡◌, ◌≢◌, ℕ, zero, suc, Bool, true, false, not, ◌&&◌, ◌||◌, ◌==◌, List, [], ◌∷◌, length, Some, unwrap_or, if◌then◌else◌, refl, sym, ap, ◌∙◌}
 use Rattle.std.proofs.lemmas.Slice.Eq.{bytes_eq-Decides}
 use Rattle.std.specs.List.{list_all, list_any}
 use Rattle.std.specs.Str.{bytes_eq}
@@ -13,10 +13,11 @@ use Rattle.ja_syntax.specs.Symbols.{same_symbol, symbol_of, word_of, mark_symbol
 use Rattle.ja_grammar.specs.Contexts.{Label, Context, marked, loop_context, switch_context, labelled_context, has_label, may_break}
 use Rattle.ja_grammar.specs.Forms.{word, is_name, is_label_behind}
 use Rattle.ja_grammar.specs.Input.{Tokens, symbol}
-use Rattle.ja_grammar.specs.Language.{IsReal}
-use Rattle.ja_grammar.proofs.Levels.{AllNamed, AreNames}
+use Rattle.ja_grammar.proofs.Real.{IsRealAfter}
+use Rattle.ja_grammar.proofs.Levels.{IsNamed, AllNamed, AreNames}
 use Rattle.ja_grammar.proofs.Outcomes.{same_symbol_is}
-use Rattle.ja_grammar.proofs.SampleTokens.{token}
+use Rattle.ja_grammar.proofs.SampleTokens.{token, end_behind}
+use Rattle.ja_grammar.proofs.Words.{word_alone}
 
 -- two tests at once
 both_first : (a b : Bool) → (a && b) ≡ true → a ≡ true
@@ -85,12 +86,17 @@ labelled_names U c t is h = record { all = (([], t, U, refl, is, word_is_kind t 
 
 -- ---- a label where a `break` needs one
 
-pub break_label : (U : Tokens) (c : Context) → AreNames U c → may_break c ≡ true → c.in_breakable ≡ false → (u : Token) × IsReal U u × (is_label_behind u ≡ true) × (has_label c (word u) ≡ true)
+pub break_label : (U : Tokens) (c : Context) → AreNames U c → may_break c ≡ true → c.in_breakable ≡ false → (u : Token) × IsRealAfter U u × (is_label_behind u ≡ true) × (has_label c (word u) ≡ true)
 unfolding has_label is_label_behind word_of
 break_label U c names may off = go c.labels names.all (sym (ap (λ b. b || not (length c.labels == 0)) off) ∙ may)
   where
+    again : (text : List ℕ) → IsNamed U text → IsRealAfter U (token (Word text) text)
+    again text h = record {
+      real = λ names. let r = names h.0 h.1 h.2 h.3 h.4 in (text, [], end_behind (length text) ∷ [], word_alone r.0 r.1 h.1 r.2 text r.3 (sym h.5));
+    }
+
     go : (ls : List Label) → AllNamed U ls → not (length ls == 0) ≡ true
-        → (u : Token) × IsReal U u × (is_label_behind u ≡ true) × (list_any (λ l. bytes_eq l.name (word u)) ls ≡ true)
+        → (u : Token) × IsRealAfter U u × (is_label_behind u ≡ true) × (list_any (λ l. bytes_eq l.name (word u)) ls ≡ true)
     go [] h some = absurd (cc some)
     go (l ∷ ls) h some = let is = ap symbol_of h.0.5 ∙ h.0.4 in
-        (token (Word l.name) l.name, inr h.0, ap (λ κ. is_name κ && true) is, ap (λ b. b || list_any (λ m. bytes_eq m.name l.name) ls) ((bytes_eq-Decides l.name l.name).1 refl))
+        (token (Word l.name) l.name, again l.name h.0, ap (λ κ. is_name κ && true) is, ap (λ b. b || list_any (λ m. bytes_eq m.name l.name) ls) ((bytes_eq-Decides l.name l.name).1 refl))

@@ -16,8 +16,8 @@ use Rattle.ja_grammar.specs.declared.part.StatementPart.{StatementPart}
 use Rattle.ja_grammar.specs.Contexts.{Context, Label}
 use Rattle.ja_grammar.specs.Forms.{begins_suffix}
 use Rattle.ja_grammar.specs.Input.{Tokens, symbol, next, head, Done}
-use Rattle.ja_grammar.specs.Language.{AreReal}
 use Rattle.ja_grammar.specs.ReadExpression.{Below}
+use Rattle.ja_grammar.proofs.Real.{AreRealAfter}
 use Rattle.ja_grammar.proofs.Good.{Reason, Follow, Closed, elsewhere, GoodAt, Any}
 
 -- ---- what surely ends an expression, and a statement
@@ -108,8 +108,8 @@ pub record BelowGood {O : Refusal} (J : Reason O) (b c : Below) : Type 0 where
 
 -- tokens, real behind any, that are read as the part
 pub record BelowSamples (c : Below) : Type 0 where
-  pub expression : (p : ExpressionPart) → (w : Tokens) × (v : Expression) × AreReal [] w × ((tail : Tokens) → follow_of p tail → c.expression p (w ++ tail) ≡ Done v tail)
-  pub statement : (x : Context) (p : StatementPart) → (w : Tokens) × (v : Statement) × AreReal [] w × ((tail : Tokens) → EndsStatement tail → c.statement x p (w ++ tail) ≡ Done v tail)
+  pub expression : (p : ExpressionPart) → (w : Tokens) × (v : Expression) × AreRealAfter [] w × ((tail : Tokens) → follow_of p tail → c.expression p (w ++ tail) ≡ Done v tail)
+  pub statement : (x : Context) (p : StatementPart) → (w : Tokens) × (v : Statement) × AreRealAfter [] w × ((tail : Tokens) → EndsStatement tail → c.statement x p (w ++ tail) ≡ Done v tail)
 
 -- What is read behind a `new` doesn't depend on what follows, as long as that is no member or call.
 pub record Ahead (b : Below) : Type 0 where

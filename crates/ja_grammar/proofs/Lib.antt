@@ -60,3 +60,4 @@ pub mod Until
 pub mod Walks
 pub mod WithinExpressions
 pub mod WithinStatements
+pub mod Words

@@ -7,8 +7,8 @@ use Rattle.ja_syntax.specs.Symbols.{same_symbol}
 use Rattle.ja_grammar.specs.declared.fault.Refusal.TheVariants.{Unexpected}
 use Rattle.ja_grammar.specs.declared.fault.Refusal.{Refusal}
 use Rattle.ja_grammar.specs.Input.{Tokens, head, next, behind, symbol, Done, Parser, ◌>>◌, pure, look, expect, many, after_comma, separated, listed_by, listed}
-use Rattle.ja_grammar.specs.Language.{IsReal}
 use Rattle.ja_grammar.specs.Productions.{Rule, Is, NotAt, Led, Separated, Listed}
+use Rattle.ja_grammar.proofs.Real.{IsRealAfter}
 use Rattle.ja_grammar.proofs.Outcomes.{end_is, comma_not_end, none_not_some, some_value, cons_of, done_value, done_rest, same_symbol_true, same_symbol_false, same_symbol_is, same_symbol_other, expect_done, expect_inverse, bind_done, bind_inverse, same_done}
 use Rattle.ja_grammar.proofs.Shrinks.{ShrinksAt, TakesAt, Shrinks, Takes, takes_shrinks, pure_shrinks, take_takes, expect_takes, bind_shrinks, bind_takes, bind_takes_second, look_shrinks, look_takes}
 use Rattle.ja_grammar.proofs.Good.{Follow, Reason, Sample, GoodAt, Any, Closed, pure_good, bind_good, look_good}
@@ -108,7 +108,7 @@ pub listed_good : {U : Tokens} {A : Type 0} {F G : Follow} {W : A → Type 0} {O
     → ((i : Tokens) → GoodAt U J item next_item F W i)
     → Sample U next_item Any F W
     → ((tail : Tokens) → next tail ≡ close → F tail)
-    → (t : Token) → Is close t → IsReal U t
+    → (t : Token) → Is close t → IsRealAfter U t
     → ((r : Tokens) → NotAt close r → J.right Unexpected [] r)
     → (i : Tokens) → GoodAt U J (listed close item) (listed close next_item) G Any i
 unfolding listed
@@ -137,7 +137,7 @@ separated_sample item sample w follows other = bind_sample sample
     (λ x _. end_sample (x ∷ []) (w x) follows (λ tail h. many_end (comma_turn item) (x ∷ []) tail (no_comma item (x ∷ []) tail (other tail h))))
 
 -- the closing token t completes a list
-pub listed_sample : {U : Tokens} {A : Type 0} {F G : Follow} {W : List A → Type 0} (close : Symbol) (item : Parser A) (t : Token) → Is close t → IsReal U t → W []
+pub listed_sample : {U : Tokens} {A : Type 0} {F G : Follow} {W : List A → Type 0} (close : Symbol) (item : Parser A) (t : Token) → Is close t → IsRealAfter U t → W []
     → ((tail : Tokens) → G tail → F (t ∷ tail)) → Sample U (listed close item) F G W
 unfolding listed
 listed_sample close item t is real w starts = record {

@@ -1,8 +1,30 @@
--- Tokens that some text has, or that are spelled as a name before them.
-use Rattle.std.proofs.Common.{◌≡◌, ◌⊎◌, inl, inr, [], ◌∷◌, ◌++◌, refl, sym, ap, subst}
+-- Tokens that some text has, where the names before them are in some text.
+use Rattle.std.proofs.Common.{◌≡◌, ◌⊎◌, inl, inr, [], ◌∷◌, ◌++◌, refl, sym, ap, ◌∙◌, subst, append_assoc}
 use Rattle.ja_lex.specs.declared.token.Token.{Token}
-use Rattle.ja_grammar.specs.Input.{Tokens, behind}
+use Rattle.ja_syntax.specs.declared.symbol.Symbol.TheVariants as k
+use Rattle.ja_grammar.specs.Input.{Tokens, symbol, behind}
 use Rattle.ja_grammar.specs.Language.{IsReal, AreReal}
+
+-- some text has each of the names among these tokens
+abbrev pub AreNamesReal : Tokens → Type 0
+AreNamesReal U = (v : Tokens) (u : Token) (w : Tokens) → U ≡ v ++ u ∷ w → symbol u ≡ k.Name → IsReal u
+
+-- where it has, some text has this token
+pub record IsRealAfter (U : Tokens) (t : Token) : Type 0 where
+  pub real : AreNamesReal U → IsReal t
+
+-- and each of these
+abbrev pub AreRealAfter : Tokens → Tokens → Type 0
+AreRealAfter U [] = Unit {0}
+AreRealAfter U (t ∷ i) = IsRealAfter U t × AreRealAfter U i
+
+pub reals : (U i : Tokens) → AreNamesReal U → AreRealAfter U i → AreReal i
+reals U [] names h = tt
+reals U (t ∷ i) names h = (h.0.real names, reals U i names h.1)
+
+-- those of a front are
+pub names_front : (i v w : Tokens) → i ≡ v ++ w → AreNamesReal i → AreNamesReal v
+names_front i v w split names a u b e is = names a u (b ++ w) (split ∙ ap (λ x. x ++ w) e ∙ append_assoc a (u ∷ b) w) is
 
 -- ---- the tokens before
 
@@ -65,30 +87,30 @@ covers_nothing v u h = absurd h
 
 -- ---- what is real behind some tokens is so behind more
 
-pub real_more : (v w : Tokens) → Covers v w → (t : Token) → IsReal v t → IsReal w t
-real_more v w covers t (inl h) = inl h
-real_more v w covers t (inr h) =
-    let s = split_at h.1 w (covers h.1 (subst (λ x. Has h.1 x) (sym h.3) (has_between h.0 h.1 h.2))) in inr (s.0, h.1, s.1, s.2, h.4, h.5)
+pub real_more : (v w : Tokens) → Covers v w → (t : Token) → IsRealAfter v t → IsRealAfter w t
+real_more v w covers t h = record {
+  real = λ names. h.real (λ a u b e is. let s = split_at u w (covers u (subst (λ x. Has u x) (sym e) (has_between a u b))) in names s.0 u s.1 s.2 is);
+}
 
-pub reals_more : (v w : Tokens) → Covers v w → (c : Tokens) → AreReal v c → AreReal w c
+pub reals_more : (v w : Tokens) → Covers v w → (c : Tokens) → AreRealAfter v c → AreRealAfter w c
 reals_more v w covers [] h = tt
 reals_more v w covers (t ∷ c) h = (real_more v w covers t h.0, reals_more v w covers c h.1)
 
 -- ---- one behind the other
 
-pub real_append : (U v w : Tokens) → AreReal U v → AreReal U w → AreReal U (v ++ w)
+pub real_append : (U v w : Tokens) → AreRealAfter U v → AreRealAfter U w → AreRealAfter U (v ++ w)
 real_append U [] w h g = g
 real_append U (t ∷ v) w h g = (h.0, real_append U v w h.1 g)
 
-pub real_behind : (U v : Tokens) → AreReal U v → AreReal U (behind v)
+pub real_behind : (U v : Tokens) → AreRealAfter U v → AreRealAfter U (behind v)
 real_behind U [] h = tt
 real_behind U (t ∷ v) h = h.1
 
 -- the same, where the first token, or the first two, may be any
-pub real_append_behind : (U v w : Tokens) → AreReal U (behind v) → AreReal U w → AreReal U (behind (v ++ w))
+pub real_append_behind : (U v w : Tokens) → AreRealAfter U (behind v) → AreRealAfter U w → AreRealAfter U (behind (v ++ w))
 real_append_behind U [] w h g = real_behind U w g
 real_append_behind U (t ∷ v) w h g = real_append U v w h g
 
-pub real_append_second : (U v w : Tokens) → AreReal U (behind (behind v)) → AreReal U w → AreReal U (behind (behind (v ++ w)))
+pub real_append_second : (U v w : Tokens) → AreRealAfter U (behind (behind v)) → AreRealAfter U w → AreRealAfter U (behind (behind (v ++ w)))
 real_append_second U [] w h g = real_behind U (behind w) (real_behind U w g)
 real_append_second U (t ∷ v) w h g = real_append_behind U v w h g

@@ -9,14 +9,14 @@ use Rattle.ja_grammar.specs.declared.fault.Refusal.{Refusal}
 use Rattle.ja_grammar.specs.declared.fault.Refusal.TheVariants.{Unexpected, DeepLabel}
 use Rattle.ja_grammar.specs.declared.part.ExpressionPart.{ExpressionPart}
 use Rattle.ja_grammar.specs.Input.{Tokens, next, symbol, Done, Refused, Parser, and_then, ◌>>=◌, ◌>>◌, pure, refuse, take_token, enter, opening, expect, Rules, strict}
-use Rattle.ja_grammar.specs.Language.{IsReal, is_level, is_same}
+use Rattle.ja_grammar.specs.Language.{is_level, is_same}
 use Rattle.ja_grammar.specs.Productions.{Is, HasRoom}
 use Rattle.ja_grammar.specs.ReadExpression.{Below}
 use Rattle.ja_grammar.proofs.Agree.{BelowTakes}
 use Rattle.ja_grammar.proofs.Good.{Follow, Reason, Sample, GoodAt, Any, unexpected_stays, pure_good, refuse_good, bind_good, look_good}
 use Rattle.ja_grammar.proofs.Levels.{Reasons, Ahead, BelowGood, BelowSamples, follow_of}
 use Rattle.ja_grammar.proofs.Outcomes.{expect_done, enter_done, entered, same_symbol_true, same_symbol_is}
-use Rattle.ja_grammar.proofs.Real.{covers_nothing, reals_more}
+use Rattle.ja_grammar.proofs.Real.{IsRealAfter, covers_nothing, reals_more}
 use Rattle.ja_grammar.proofs.Strict.{room_strict}
 use Rattle.ja_grammar.proofs.Steps.{pure_sample, bind_sample, take_good, enter_good, expect_good}
 
@@ -36,11 +36,11 @@ pub record Roomier {O : Refusal} (J : Reason O) (d : ℕ) (g' : Rules) (b b' : B
 -- ---- samples
 
 -- one token and a value
-pub token_sample : {U : Tokens} {A : Type 0} {F : Follow} {W : A → Type 0} (k : Symbol) (t : Token) → Is k t → IsReal U t → ((tail : Tokens) → F (t ∷ tail)) → (a : A) → W a → Sample U (expect k >> pure a) F Any W
+pub token_sample : {U : Tokens} {A : Type 0} {F : Follow} {W : A → Type 0} (k : Symbol) (t : Token) → Is k t → IsRealAfter U t → ((tail : Tokens) → F (t ∷ tail)) → (a : A) → W a → Sample U (expect k >> pure a) F Any W
 token_sample k t is real starts a w = record { more = t ∷ []; value = a; real = (real, tt); fits = w; follows = λ tail _. starts tail; reads = λ tail _. ap (λ o. and_then o (λ _. pure a)) (expect_done k t tail is) }
 
 -- one token, and the rest
-pub expected_sample : {U : Tokens} {A : Type 0} {F G H : Follow} {W : A → Type 0} (f : Token → Parser A) (k : Symbol) (t : Token) → Is k t → IsReal U t → ((tail : Tokens) → F (t ∷ tail))
+pub expected_sample : {U : Tokens} {A : Type 0} {F G H : Follow} {W : A → Type 0} (f : Token → Parser A) (k : Symbol) (t : Token) → Is k t → IsRealAfter U t → ((tail : Tokens) → F (t ∷ tail))
     → Sample U (f t) G H W → Sample U (expect k >>= f) F H W
 expected_sample f k t is real starts s = record {
   more = t ∷ s.more;
@@ -101,7 +101,7 @@ module _ {U : Tokens} {O : Refusal} {J : Reason O} {d : ℕ} {g' : Rules} {b b' 
       go false e = subst (λ found. GoodAt U J (by (strict d) found) (by g' found) Any Any i) (sym e) (unexpected Any Any i)
 
   -- a sample of an opening token
-  pub opens_sample : {A : Type 0} {F G H : Follow} {W : A → Type 0} (f : Token → Parser A) (k : Symbol) (t : Token) → Is k t → IsReal U t → ((tail : Tokens) → F (t ∷ tail))
+  pub opens_sample : {A : Type 0} {F G H : Follow} {W : A → Type 0} (f : Token → Parser A) (k : Symbol) (t : Token) → Is k t → IsRealAfter U t → ((tail : Tokens) → F (t ∷ tail))
       → Sample U (f t) G H W → Sample U (opening g' k >>= f) F H W
   unfolding opening
   opens_sample f k t is real starts s = record {

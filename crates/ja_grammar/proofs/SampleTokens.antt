@@ -1,5 +1,5 @@
 -- The tokens that complete a text.
-use Rattle.std.proofs.Common.{◌≡◌, inl, ℕ, ◌+◌, false, List, [], ◌∷◌, length, refl}
+use Rattle.std.proofs.Common.{◌≡◌, ℕ, ◌+◌, false, List, [], ◌∷◌, length, refl}
 use Rattle.std.specs.Prelude.{codes}
 use Rattle.std.specs.Str.{chars}
 use Rattle.ja_lex.specs.declared.token.Token.{Token}
@@ -14,8 +14,8 @@ use Rattle.ja_syntax.specs.declared.symbol.Symbol.TheVariants as k
 use Rattle.ja_syntax.specs.Symbols.{is_arguments, names_arguments}
 use Rattle.ja_syntax.proofs.SymbolSamples as symbols
 use Rattle.ja_grammar.specs.Input.{Tokens}
-use Rattle.ja_grammar.specs.Language.{IsReal}
 use Rattle.ja_grammar.specs.Productions.{Is}
+use Rattle.ja_grammar.proofs.Real.{IsRealAfter}
 
 -- the token of this kind that a text of these characters begins with
 abbrev pub token : TokenKind → List ℕ → Token
@@ -30,8 +30,8 @@ abbrev pub Gives : List ℕ → Token → Type 0
 Gives text t = tokens text ≡ t ∷ end_behind (length text) ∷ []
 
 -- so some text has it
-given_real : {U : Tokens} (text : List ℕ) (t : Token) → Gives text t → IsReal U t
-given_real text t e = inl (text, [], end_behind (length text) ∷ [], e)
+given_real : {U : Tokens} (text : List ℕ) (t : Token) → Gives text t → IsRealAfter U t
+given_real text t e = record { real = λ names. (text, [], end_behind (length text) ∷ [], e) }
 
 -- ---- words
 
@@ -42,7 +42,7 @@ pub name_is : Is k.Name name
 unfolding name
 name_is = symbols.name_is
 
-pub name_real : {U : Tokens} → IsReal U name
+pub name_real : {U : Tokens} → IsRealAfter U name
 unfolding name tokens tokens_after chars first_element is_white is_terminator begins_comment begins_number begins_word is_part is_escape is_hexadecimal word after past ends_line
 name_real = given_real (codes "x") name refl
 
@@ -62,7 +62,7 @@ pub function_word_is : Is k.Function function_word
 unfolding function_word
 function_word_is = symbols.function_word_is
 
-pub function_word_real : {U : Tokens} → IsReal U function_word
+pub function_word_real : {U : Tokens} → IsRealAfter U function_word
 unfolding function_word tokens tokens_after chars first_element is_white is_terminator begins_comment begins_number begins_word is_part is_escape is_hexadecimal word after past ends_line
 function_word_real = given_real (codes "function") function_word refl
 
@@ -75,7 +75,7 @@ pub open_parenthesis_is : Is k.OpenParenthesis open_parenthesis
 unfolding open_parenthesis
 open_parenthesis_is = symbols.open_parenthesis_is
 
-pub open_parenthesis_real : {U : Tokens} → IsReal U open_parenthesis
+pub open_parenthesis_real : {U : Tokens} → IsRealAfter U open_parenthesis
 unfolding open_parenthesis tokens tokens_after chars first_element is_white is_terminator begins_comment begins_number begins_word is_part is_escape is_hexadecimal begins_string mark marks begins_with after past ends_line
 open_parenthesis_real = given_real (codes "(") open_parenthesis refl
 
@@ -86,7 +86,7 @@ pub close_parenthesis_is : Is k.CloseParenthesis close_parenthesis
 unfolding close_parenthesis
 close_parenthesis_is = symbols.close_parenthesis_is
 
-pub close_parenthesis_real : {U : Tokens} → IsReal U close_parenthesis
+pub close_parenthesis_real : {U : Tokens} → IsRealAfter U close_parenthesis
 unfolding close_parenthesis tokens tokens_after chars first_element is_white is_terminator begins_comment begins_number begins_word is_part is_escape is_hexadecimal begins_string mark marks begins_with after past ends_line
 close_parenthesis_real = given_real (codes ")") close_parenthesis refl
 
@@ -97,7 +97,7 @@ pub open_brace_is : Is k.OpenBrace open_brace
 unfolding open_brace
 open_brace_is = symbols.open_brace_is
 
-pub open_brace_real : {U : Tokens} → IsReal U open_brace
+pub open_brace_real : {U : Tokens} → IsRealAfter U open_brace
 unfolding open_brace tokens tokens_after chars first_element is_white is_terminator begins_comment begins_number begins_word is_part is_escape is_hexadecimal begins_string mark marks begins_with after past ends_line
 open_brace_real = given_real (codes "{") open_brace refl
 
@@ -108,7 +108,7 @@ pub close_brace_is : Is k.CloseBrace close_brace
 unfolding close_brace
 close_brace_is = symbols.close_brace_is
 
-pub close_brace_real : {U : Tokens} → IsReal U close_brace
+pub close_brace_real : {U : Tokens} → IsRealAfter U close_brace
 unfolding close_brace tokens tokens_after chars first_element is_white is_terminator begins_comment begins_number begins_word is_part is_escape is_hexadecimal begins_string mark marks begins_with after past ends_line
 close_brace_real = given_real (codes "}") close_brace refl
 
@@ -119,7 +119,7 @@ pub close_bracket_is : Is k.CloseBracket close_bracket
 unfolding close_bracket
 close_bracket_is = symbols.close_bracket_is
 
-pub close_bracket_real : {U : Tokens} → IsReal U close_bracket
+pub close_bracket_real : {U : Tokens} → IsRealAfter U close_bracket
 unfolding close_bracket tokens tokens_after chars first_element is_white is_terminator begins_comment begins_number begins_word is_part is_escape is_hexadecimal begins_string mark marks begins_with after past ends_line
 close_bracket_real = given_real (codes "]") close_bracket refl
 
@@ -130,7 +130,7 @@ pub dot_is : Is k.Dot dot
 unfolding dot
 dot_is = symbols.dot_is
 
-pub dot_real : {U : Tokens} → IsReal U dot
+pub dot_real : {U : Tokens} → IsRealAfter U dot
 unfolding dot tokens tokens_after chars first_element is_white is_terminator begins_comment begins_number begins_word is_part is_escape is_hexadecimal begins_string mark marks begins_with after past ends_line
 dot_real = given_real (codes ".") dot refl
 
@@ -141,7 +141,7 @@ pub comma_is : Is k.Comma comma
 unfolding comma
 comma_is = symbols.comma_is
 
-pub comma_real : {U : Tokens} → IsReal U comma
+pub comma_real : {U : Tokens} → IsRealAfter U comma
 unfolding comma tokens tokens_after chars first_element is_white is_terminator begins_comment begins_number begins_word is_part is_escape is_hexadecimal begins_string mark marks begins_with after past ends_line
 comma_real = given_real (codes ",") comma refl
 
@@ -152,7 +152,7 @@ pub colon_is : Is k.Colon colon
 unfolding colon
 colon_is = symbols.colon_is
 
-pub colon_real : {U : Tokens} → IsReal U colon
+pub colon_real : {U : Tokens} → IsRealAfter U colon
 unfolding colon tokens tokens_after chars first_element is_white is_terminator begins_comment begins_number begins_word is_part is_escape is_hexadecimal begins_string mark marks begins_with after past ends_line
 colon_real = given_real (codes ":") colon refl
 
@@ -163,7 +163,7 @@ pub semicolon_is : Is k.Semicolon semicolon
 unfolding semicolon
 semicolon_is = symbols.semicolon_is
 
-pub semicolon_real : {U : Tokens} → IsReal U semicolon
+pub semicolon_real : {U : Tokens} → IsRealAfter U semicolon
 unfolding semicolon tokens tokens_after chars first_element is_white is_terminator begins_comment begins_number begins_word is_part is_escape is_hexadecimal begins_string mark marks begins_with after past ends_line
 semicolon_real = given_real (codes ";") semicolon refl
 
@@ -176,7 +176,7 @@ pub while_word_is : Is k.While while_word
 unfolding while_word
 while_word_is = symbols.while_word_is
 
-pub while_word_real : {U : Tokens} → IsReal U while_word
+pub while_word_real : {U : Tokens} → IsRealAfter U while_word
 unfolding while_word tokens tokens_after chars first_element is_white is_terminator begins_comment begins_number begins_word is_part is_escape is_hexadecimal word after past ends_line
 while_word_real = given_real (codes "while") while_word refl
 
@@ -187,6 +187,6 @@ pub finally_word_is : Is k.Finally finally_word
 unfolding finally_word
 finally_word_is = symbols.finally_word_is
 
-pub finally_word_real : {U : Tokens} → IsReal U finally_word
+pub finally_word_real : {U : Tokens} → IsRealAfter U finally_word
 unfolding finally_word tokens tokens_after chars first_element is_white is_terminator begins_comment begins_number begins_word is_part is_escape is_hexadecimal word after past ends_line
 finally_word_real = given_real (codes "finally") finally_word refl

@@ -20,10 +20,10 @@ use Rattle.ja_grammar.specs.declared.part.StatementPart.{StatementPart}
 use Rattle.ja_grammar.specs.declared.part.StatementPart.TheVariants as part
 use Rattle.ja_grammar.specs.Contexts.{Context, loop_context}
 use Rattle.ja_grammar.specs.Input.{Tokens, next, behind, symbol, Parser, ◌>>=◌, ◌>>◌, pure, look, expect, separated, Rules, strict}
-use Rattle.ja_grammar.specs.Language.{IsReal}
 use Rattle.ja_grammar.specs.Productions.{Is}
 use Rattle.ja_grammar.specs.ReadExpression.{Below}
 use Rattle.ja_grammar.specs.ReadStatement.{variable, single, else_by, if_part, do_part, while_part, optional_by, optional, for_rest, in_rest, for_variables_by, for_variables, in_reference_by, for_expression_by, for_expression, for_by, for_part, statement_part}
+use Rattle.ja_grammar.proofs.Real.{IsRealAfter}
 use Rattle.ja_grammar.proofs.BlockGood.{brackets, bracketed_good, parenthesis_follows}
 use Rattle.ja_grammar.proofs.Good.{Reason, Sample, GoodAt, Any, pure_good, bind_good, look_good}
 use Rattle.ja_grammar.proofs.JumpGood.{semicolon_goes, ended_then_good, statement_sample}
@@ -74,7 +74,7 @@ module _ {U : Tokens} {O : Refusal} {J : Reason O} {d : ℕ} {g' : Rules} {b b' 
 
   -- ---- `for`
 
-  optional_good : 0 < d → (close : Symbol) → close ≢ k.End → (u : Token) → Is close u → IsReal U u → ((tail : Tokens) → EndsExpression (u ∷ tail)) → (i : Tokens)
+  optional_good : 0 < d → (close : Symbol) → close ≢ k.End → (u : Token) → Is close u → IsRealAfter U u → ((tail : Tokens) → EndsExpression (u ∷ tail)) → (i : Tokens)
       → GoodAt U J (optional (strict d) b close) (optional g' b' close) Any Any i
   unfolding optional
   optional_good some close more u is real follows i = look_good (λ t. optional_by (strict d) b close (same_symbol (symbol t) close)) (λ t. optional_by g' b' close (same_symbol (symbol t) close)) i (go (same_symbol (next i) close) refl)

@@ -14,10 +14,10 @@ use Rattle.ja_grammar.specs.declared.part.StatementPart.{StatementPart}
 use Rattle.ja_grammar.specs.declared.part.StatementPart.TheVariants as part
 use Rattle.ja_grammar.specs.Contexts.{Context, loop_context}
 use Rattle.ja_grammar.specs.Input.{Tokens, next, symbol, Done, Parser, and_then, ◌>>=◌, ◌>>◌, pure, look, opening, expect, Rules}
-use Rattle.ja_grammar.specs.Language.{IsReal, AreReal}
 use Rattle.ja_grammar.specs.Productions.{Is, At, HasRoom}
 use Rattle.ja_grammar.specs.ReadExpression.{Below, is_close_brace}
 use Rattle.ja_grammar.specs.ReadStatement.{ended_by, ended, inner, block, bracketed, single_by, single, else_by, if_part, do_part, while_part, optional_by, optional, for_rest, for_by, for_part, statement_part}
+use Rattle.ja_grammar.proofs.Real.{IsRealAfter, AreRealAfter}
 use Rattle.ja_grammar.proofs.Closing.{parenthesis_closes}
 use Rattle.ja_grammar.proofs.Good.{Follow, Sample, Any}
 use Rattle.ja_grammar.proofs.Levels.{EndsExpression, ends_block, EndsStatement}
@@ -95,7 +95,7 @@ pub any_after : {U : Tokens} {A : Type 0} {q : Parser A} {F H : Follow} {W : A �
 any_after s = record { more = s.more; value = s.value; real = s.real; fits = s.fits; follows = λ tail _. s.follows tail tt; reads = λ tail _. s.reads tail tt }
 
 -- an opening token, and the rest
-pub opened_sample : {U : Tokens} {A : Type 0} {G H : Follow} {W : A → Type 0} (g : Rules) → ((i : Tokens) → HasRoom g i) → (f : Token → Parser A) (κ : Symbol) (t : Token) → Is κ t → IsReal U t
+pub opened_sample : {U : Tokens} {A : Type 0} {G H : Follow} {W : A → Type 0} (g : Rules) → ((i : Tokens) → HasRoom g i) → (f : Token → Parser A) (κ : Symbol) (t : Token) → Is κ t → IsRealAfter U t
     → Sample U (f t) G H W → Sample U (opening g κ >>= f) Any H W
 opened_sample g room f κ t is real s = record {
   more = t ∷ s.more;
@@ -116,7 +116,7 @@ else_sample g b c place x y = end_sample (s.If x y None place) tt (λ tail ends.
     go tail _ other = refl
 
 -- a closing token, where an expression may stand
-pub optional_sample : {U : Tokens} {H : Follow} (g : Rules) (b : Below) (close : Symbol) (t : Token) → Is close t → IsReal U t → Sample U (optional g b close) Any H Any
+pub optional_sample : {U : Tokens} {H : Follow} (g : Rules) (b : Below) (close : Symbol) (t : Token) → Is close t → IsRealAfter U t → Sample U (optional g b close) Any H Any
 unfolding optional
 optional_sample g b close t is real = record {
   more = t ∷ [];
@@ -196,7 +196,7 @@ module _ {U : Tokens} (g : Rules) (b : Below) (room : (i : Tokens) → HasRoom g
 
   -- tokens, real behind any, that are read as the part
   pub statement_part_sample : (c : Context) (p : StatementPart)
-      → (w : Tokens) × (v : Statement) × AreReal U w × ((tail : Tokens) → EndsStatement tail → statement_part g b c p (w ++ tail) ≡ Done v tail)
+      → (w : Tokens) × (v : Statement) × AreRealAfter U w × ((tail : Tokens) → EndsStatement tail → statement_part g b c p (w ++ tail) ≡ Done v tail)
   unfolding statement_part
   statement_part_sample c (part.Whole labels outermost) = let r = single_sample {H = Any} g b c labels outermost in (r.more, r.value, r.real, λ tail _. r.reads tail tt)
   statement_part_sample c (part.If place) = let r = if_sample c place in (r.more, r.value, r.real, r.reads)

@@ -7,12 +7,12 @@ use Rattle.ja_syntax.specs.Symbols.{same_symbol}
 use Rattle.ja_grammar.specs.declared.fault.Refusal.{Refusal}
 use Rattle.ja_grammar.specs.declared.fault.Refusal.TheVariants.{Unexpected, Deep, DeepLabel}
 use Rattle.ja_grammar.specs.Input.{Tokens, head, next, behind, symbol, Outcome, Done, Refused, Parser, and_then, ◌>>=◌, pure, refuse, look, look_second, Rules, strict, unless, take_token, enter, expect}
-use Rattle.ja_grammar.specs.Language.{IsReal, AreReal, is_level, is_same}
+use Rattle.ja_grammar.specs.Language.{is_level, is_same}
 use Rattle.ja_grammar.specs.Productions.{Is, HasRoom}
 use Rattle.ja_grammar.proofs.Outcomes.{done_rest, same_done, same_refused, done_not_refused, refused_not_done, same_symbol_true, same_symbol_false, cons_of, rest_of, head_behind, expect_done, unless_reads, unless_refuses, enter_done}
 use Rattle.ja_grammar.proofs.Shrinks.{Within, Moves, split_within}
 use Rattle.ja_grammar.proofs.Good.{Follow, Reason, lifted, elsewhere, is_jump, Completes, CompletesWith, Viable, Sample, Stops, Refuses, GoodAt, unexpected_stays, refuse_good, lifted_good, like_good, look_good}
-use Rattle.ja_grammar.proofs.Real.{real_append}
+use Rattle.ja_grammar.proofs.Real.{IsRealAfter, AreRealAfter, real_append}
 use Rattle.ja_grammar.proofs.Strict.{strict_asks, strict_room, strict_room_label, strict_full, strict_full_label}
 
 -- ---- samples
@@ -37,19 +37,19 @@ bind_sample {U} {f = f} {F} {G} {H} {V} {W} first second = record {
     s = second first.value first.fits
 
 -- one token
-pub expect_sample : {U : Tokens} (k : Symbol) (t : Token) {F G : Follow} {W : Token → Type 0} → Is k t → IsReal U t → W t → ((tail : Tokens) → G tail → F (t ∷ tail)) → Sample U (expect k) F G W
+pub expect_sample : {U : Tokens} (k : Symbol) (t : Token) {F G : Follow} {W : Token → Type 0} → Is k t → IsRealAfter U t → W t → ((tail : Tokens) → G tail → F (t ∷ tail)) → Sample U (expect k) F G W
 expect_sample k t is real w starts = record { more = t ∷ []; value = t; real = (real, tt); fits = w; follows = starts; reads = λ tail ends. expect_done k t tail is }
 
 -- the next token, whatever it is
-pub take_sample : {U : Tokens} (t : Token) {F G : Follow} {W : Token → Type 0} → IsReal U t → W t → ((tail : Tokens) → G tail → F (t ∷ tail)) → Sample U take_token F G W
+pub take_sample : {U : Tokens} (t : Token) {F G : Follow} {W : Token → Type 0} → IsRealAfter U t → W t → ((tail : Tokens) → G tail → F (t ∷ tail)) → Sample U take_token F G W
 take_sample t real w starts = record { more = t ∷ []; value = t; real = (real, tt); fits = w; follows = starts; reads = λ tail ends. refl }
 
 -- a token that counts, with levels left
-pub enter_sample : {U : Tokens} (g : Rules) (t : Token) {F G : Follow} {W : Token → Type 0} → ((i : Tokens) → HasRoom g i) → IsReal U t → W t → ((tail : Tokens) → G tail → F (t ∷ tail)) → Sample U (enter g) F G W
+pub enter_sample : {U : Tokens} (g : Rules) (t : Token) {F G : Follow} {W : Token → Type 0} → ((i : Tokens) → HasRoom g i) → IsRealAfter U t → W t → ((tail : Tokens) → G tail → F (t ∷ tail)) → Sample U (enter g) F G W
 enter_sample g t room real w starts = record { more = t ∷ []; value = t; real = (real, tt); fits = w; follows = starts; reads = λ tail ends. enter_done g t tail (room (t ∷ tail)) }
 
 -- by the next token, which is t
-pub look_sample : {U : Tokens} {A : Type 0} (f : Token → Parser A) (t : Token) (c : Tokens) {F G : Follow} {W : A → Type 0} (a : A) → IsReal U t → AreReal U c → W a
+pub look_sample : {U : Tokens} {A : Type 0} (f : Token → Parser A) (t : Token) (c : Tokens) {F G : Follow} {W : A → Type 0} (a : A) → IsRealAfter U t → AreRealAfter U c → W a
     → ((tail : Tokens) → G tail → F (t ∷ c ++ tail)) → ((tail : Tokens) → G tail → f t (t ∷ c ++ tail) ≡ Done a tail) → Sample U (look f) F G W
 look_sample f t c a real reals w starts reads = record { more = t ∷ c; value = a; real = (real, reals); fits = w; follows = starts; reads = reads }
 

@@ -1,14 +1,17 @@
 -- What the answer to the tokens of a program says: its tree is the text's and the only one, and a refusal is right, and the only one that is.
 use Rattle.std.proofs.Common.{◌≡◌, ◌≢◌, ℕ, List, Ok, Err}
+use Rattle.ja_lex.specs.Tokens.{tokens}
 use Rattle.ja_syntax.specs.declared.tree.Statement.{Statement}
 use Rattle.ja_grammar.specs.declared.fault.ParseFault.{ParseFault}
 use Rattle.ja_grammar.specs.declared.fault.ParseFault.TheVariants.{Memory}
 use Rattle.ja_grammar.specs.declared.fault.Refusal.{Refusal}
 use Rattle.ja_grammar.specs.Input.{Tokens, head, Refused, strict}
-use Rattle.ja_grammar.specs.Language.{max_levels, Spells, fault_at, IsRefused, Explains, Answers}
+use Rattle.ja_grammar.specs.Answering.{Answers}
+use Rattle.ja_grammar.specs.Language.{max_levels, Spells, fault_at, IsRefused, Explains}
 use Rattle.ja_grammar.specs.ReadStatement.{program}
 use Rattle.ja_grammar.proofs.Explaining as laws
 use Rattle.ja_grammar.proofs.GoodKnot.{place_law}
+use Rattle.ja_grammar.proofs.Real.{AreNamesReal}
 
 pub answered_tree : (i : Tokens) (xs : List Statement) → Answers (program strict max_levels i) (Ok xs) → Spells max_levels i xs
 answered_tree = laws.answered_tree
@@ -16,17 +19,26 @@ answered_tree = laws.answered_tree
 pub answered_only : (i : Tokens) (xs : List Statement) → Answers (program strict max_levels i) (Ok xs) → (d : ℕ) (ys : List Statement) → Spells d i ys → ys ≡ xs
 answered_only i xs h d ys other = laws.one_tree max_levels d i xs ys (answered_tree i xs h) other
 
-pub answered_fault : (i : Tokens) (fault : ParseFault) → Answers (program strict max_levels i) (Err fault) → Explains i fault
-answered_fault = laws.answered_fault place_law
+-- some text has each token of a text
+names_real : (text : List ℕ) → AreNamesReal (tokens text)
+names_real text v u w split is = (text, v, w, split)
+
+pub answered_fault : (text : List ℕ) (fault : ParseFault) → Answers (program strict max_levels (tokens text)) (Err fault) → Explains (tokens text) fault
+answered_fault text = laws.answered_fault place_law (tokens text) (names_real text)
 
 pub answered_none : (i : Tokens) (fault : ParseFault) → Answers (program strict max_levels i) (Err fault) → fault ≢ Memory
     → (xs : List Statement) → Spells max_levels i xs → ⊥
 answered_none i fault h other = laws.answered_none i fault other h
 
+-- what reading comes to is a refusal
+pub refused_by : (text : List ℕ) (why : Refusal) (r : Tokens) → program strict max_levels (tokens text) ≡ Refused why r → IsRefused (tokens text) (fault_at why (head r))
+refused_by text = laws.explained place_law (tokens text) (names_real text)
+
 -- two refusals of one text are the same
-pub refused_once : (i : Tokens) (f g : ParseFault) → IsRefused i f → IsRefused i g → f ≡ g
-refused_once = laws.refused_once place_law
+pub refused_once : (text : List ℕ) (f g : ParseFault) → IsRefused (tokens text) f → IsRefused (tokens text) g → f ≡ g
+refused_once text = laws.refused_once place_law (tokens text) (names_real text)
 
 -- and each is the one to which reading comes
-pub refused_so : (i : Tokens) (fault : ParseFault) → IsRefused i fault → (why : Refusal) × (r : Tokens) × (program strict max_levels i ≡ Refused why r) × (fault ≡ fault_at why (head r))
-refused_so = laws.refused_so place_law
+pub refused_so : (text : List ℕ) (fault : ParseFault) → IsRefused (tokens text) fault
+    → (why : Refusal) × (r : Tokens) × (program strict max_levels (tokens text) ≡ Refused why r) × (fault ≡ fault_at why (head r))
+refused_so text = laws.refused_so place_law (tokens text) (names_real text)

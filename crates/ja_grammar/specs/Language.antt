@@ -1,5 +1,5 @@
 -- Which texts are in the language, and where any other one is refused.
-use Rattle.std.specs.Prelude.{◌≡◌, ◌⊎◌, ◌+◌, ℕ, nat_le, nat_lt, Bool, true, false, not, ◌&&◌, ◌||◌, ◌==◌, List, [], ◌∷◌, ◌++◌, length, Option, Some, None, Result, Ok, Err}
+use Rattle.std.specs.Prelude.{◌≡◌, ◌+◌, ℕ, nat_le, nat_lt, Bool, true, false, not, ◌&&◌, ◌||◌, ◌==◌, List, [], ◌∷◌, ◌++◌, length, Option, Some, None}
 use Rattle.ja_base.specs.declared.ids.Place.{Place}
 use Rattle.ja_base.specs.declared.ids.ScopeKind.{ScopeKind}
 use Rattle.ja_base.specs.declared.ids.ScopeKind.TheVariants as scope
@@ -13,7 +13,7 @@ use Rattle.ja_grammar.specs.declared.fault.ParseFault.TheVariants.{Syntax, Scope
 use Rattle.ja_grammar.specs.declared.fault.Refusal.{Refusal}
 use Rattle.ja_grammar.specs.declared.fault.Refusal.TheVariants as refusal
 use Rattle.ja_grammar.specs.Forms.{begins_suffix, is_label_behind}
-use Rattle.ja_grammar.specs.Input.{Tokens, symbol, next, head, behind, Rules, strict, Outcome, Done, Refused}
+use Rattle.ja_grammar.specs.Input.{Tokens, next, head, behind, Rules, strict}
 use Rattle.ja_grammar.specs.Productions.{At, NotAt}
 use Rattle.ja_grammar.specs.StatementGrammar.{IsProgram}
 
@@ -43,15 +43,14 @@ is_level _ = false
 unfoldable pub spared : ℕ → ℕ → ℕ → Rules
 spared late spare levels why i = strict levels why i || (is_level why && (nat_le levels spare && nat_lt late (length i)))
 
--- some text has this token, or it is spelled as a name among those before it
-abbrev pub IsReal : Tokens → Token → Type 0
-IsReal before t = ((text : List ℕ) × (v : Tokens) × (w : Tokens) × (tokens text ≡ v ++ t ∷ w))
-    ⊎ ((v : Tokens) × (u : Token) × (w : Tokens) × (before ≡ v ++ u ∷ w) × (symbol u ≡ k.Name) × (t.kind ≡ u.kind))
+-- some text has this token
+abbrev pub IsReal : Token → Type 0
+IsReal t = (text : List ℕ) × (v : Tokens) × (w : Tokens) × (tokens text ≡ v ++ t ∷ w)
 
--- each of these tokens is, behind those
-abbrev pub AreReal : Tokens → Tokens → Type 0
-AreReal before [] = Unit {0}
-AreReal before (t ∷ i) = IsReal before t × AreReal before i
+-- each of these tokens is in some text
+abbrev pub AreReal : Tokens → Type 0
+AreReal [] = Unit {0}
+AreReal (t ∷ i) = IsReal t × AreReal i
 
 -- Some text goes on behind these tokens with the next token of the rest, or ends there as the rest does. What comes behind that token may stand
 -- under more than 200 levels.
@@ -65,7 +64,7 @@ pub record GoesOn (before rest : Tokens) : Type 0 where
 
 -- The first token, or the end, with which no text goes on, whatever follows it; with each one before it a text goes on, by real tokens.
 pub record FirstRefused (before rest : Tokens) : Type 0 where
-  pub goes_on : (v : Tokens) (t : Token) (w : Tokens) → before ≡ v ++ t ∷ w → (g : GoesOn v (t ∷ w)) × AreReal (v ++ t ∷ []) (behind g.more)
+  pub goes_on : (v : Tokens) (t : Token) (w : Tokens) → before ≡ v ++ t ∷ w → (g : GoesOn v (t ∷ w)) × AreReal (behind g.more)
   pub refused : GoesOn before rest → ⊥
 
 -- ---- the reason: the rule without which a text goes on
@@ -105,36 +104,36 @@ abbrev pub NoLabel : Tokens → Type 0
 NoLabel rest = is_label_behind (head rest) ≡ false
 
 -- the same next token, and behind it real ones
-abbrev pub Follows : Tokens → Tokens → Tokens → Type 0
-Follows before more rest = (head more ≡ head rest) × AreReal before (behind more)
+abbrev pub Follows : Tokens → Tokens → Type 0
+Follows more rest = (head more ≡ head rest) × AreReal (behind more)
 
 -- the same next two tokens, and behind them real ones
-abbrev pub FollowsTwo : Tokens → Tokens → Tokens → Type 0
-FollowsTwo before more rest = (head more ≡ head rest) × (head (behind more) ≡ head (behind rest)) × AreReal before (behind (behind more))
+abbrev pub FollowsTwo : Tokens → Tokens → Type 0
+FollowsTwo more rest = (head more ≡ head rest) × (head (behind more) ≡ head (behind rest)) × AreReal (behind (behind more))
 
 -- A rule stands in the way: with the next token no text goes on, and without the rule one does.
 pub data Stands : Refusal → Tokens → Tokens → Type 0 where
   -- more levels would do; a label is too deep itself, and known by the `:` behind it
-  deep : {before rest : Tokens} (more : Tokens) → NotAt k.Colon rest → Follows before more rest → IsText (before ++ more) → Stands refusal.Deep before rest
+  deep : {before rest : Tokens} (more : Tokens) → NotAt k.Colon rest → Follows more rest → IsText (before ++ more) → Stands refusal.Deep before rest
   deep_label : {before rest : Tokens} {place : Place} (front : Tokens) (t : Token) (more : Tokens) → before ≡ front ++ t ∷ [] → t.place ≡ place → At k.Colon rest
-      → Follows before more rest → IsText (before ++ more) → Stands (refusal.DeepLabel place) before rest
+      → Follows more rest → IsText (before ++ more) → Stands (refusal.DeepLabel place) before rest
   -- if regular expressions were in the profile; if `arguments` could be declared
-  regexp : {before rest : Tokens} (more : Tokens) → IsForbidden before rest → Follows before more rest → IsTextWithout refusal.RegExp (before ++ more)
+  regexp : {before rest : Tokens} (more : Tokens) → IsForbidden before rest → Follows more rest → IsTextWithout refusal.RegExp (before ++ more)
       → Stands refusal.RegExp before rest
-  arguments : {before rest : Tokens} (more : Tokens) → IsForbidden before rest → Follows before more rest → IsTextWithout refusal.Arguments (before ++ more)
+  arguments : {before rest : Tokens} (more : Tokens) → IsForbidden before rest → Follows more rest → IsTextWithout refusal.Arguments (before ++ more)
       → Stands refusal.Arguments before rest
   -- but for a rule of the word at the place: that the operand of `++` and `--` is a reference, that a label is not inside itself, that the
   -- label of a `continue` is a loop's
-  broken : {before rest : Tokens} {place : Place} (more : Tokens) → IsForbidden before rest → Follows before more rest
+  broken : {before rest : Tokens} {place : Place} (more : Tokens) → IsForbidden before rest → Follows more rest
       → IsTextWithout (refusal.Broken place) (before ++ more) → Stands (refusal.Broken place) before rest
   -- the operand of the `++` or `--` at the place ends here: but for the rule on it, something that ends an operand could follow
-  operand : {before rest : Tokens} {place : Place} (more : Tokens) → NoSuffix rest → NoSuffix more → AreReal before more → IsForbidden before more
+  operand : {before rest : Tokens} {place : Place} (more : Tokens) → NoSuffix rest → NoSuffix more → AreReal more → IsForbidden before more
       → IsTextWithout (refusal.Operand place) (before ++ more) → Stands (refusal.Operand place) before rest
   -- no label follows the `break` at the place: if there were something to leave, something that is no label could follow
-  alone : {before rest : Tokens} {place : Place} (more : Tokens) → NoLabel rest → NoLabel more → AreReal before more → IsForbidden before more
+  alone : {before rest : Tokens} {place : Place} (more : Tokens) → NoLabel rest → NoLabel more → AreReal more → IsForbidden before more
       → IsTextWithout (refusal.Alone place) (before ++ more) → Stands (refusal.Alone place) before rest
   -- a jump where there is nothing to leave, and behind it a label that is none around
-  unknown : {before rest : Tokens} {place : Place} (more : Tokens) → IsForbidden before rest → FollowsTwo before more rest
+  unknown : {before rest : Tokens} {place : Place} (more : Tokens) → IsForbidden before rest → FollowsTwo more rest
       → IsTextWithout (refusal.UnknownLabel place) (before ++ more) → Stands (refusal.UnknownLabel place) before rest
 
 -- why the next token is refused: for one rule, or for none alone
@@ -175,11 +174,3 @@ pub record IsRefused (i : Tokens) (fault : ParseFault) : Type 0 where
 abbrev pub Explains : Tokens → ParseFault → Type 0
 Explains i Memory = Unit {0}
 Explains i fault = IsRefused i fault
-
--- the answer to an outcome, unless memory was refused
-abbrev pub Answers : Outcome (List Statement) → Result (List Statement) ParseFault → Type 0
-Answers outcome (Err Memory) = Unit {0}
-Answers (Done xs r) (Ok found) = found ≡ xs
-Answers (Done xs r) (Err fault) = ⊥
-Answers (Refused why r) (Ok found) = ⊥
-Answers (Refused why r) (Err fault) = fault ≡ fault_at why (head r)

@@ -1,3 +1,4 @@
+pub mod Answering
 pub mod Contexts
 pub mod ExpressionGrammar
 pub mod Forms

@@ -1,13 +1,6 @@
-//! Reads the tokens of a program into its tree (ES3 sections 11 to 14), by recursive descent.
+//! Reads a text into its tree (ES3 sections 7 and 11 to 14), or says where and why it is refused.
 #![tactic(auto)]
 
-mod block;
-mod choice;
-mod grammar;
-mod iteration;
-mod jump;
-mod program;
 mod reader;
-mod statement;
 
 pub use reader::{parse, read};

@@ -3,18 +3,19 @@
 ghost use Rattle.std.specs.Prelude.{◌≡◌, ◌≢◌, ◌≤◌, ℕ, List, length, IfOk, IfErr, Err};
 ghost use Rattle.ja_grammar.specs.declared.fault.ParseFault.TheVariants as fault;
 ghost use Rattle.ja_grammar.specs.Input.{head, strict};
-ghost use Rattle.ja_grammar.specs.Language.{Answers, Explains, Spells, max_levels, token_fault};
+ghost use Rattle.ja_grammar.specs.Answering.{Answers};
+ghost use Rattle.ja_grammar.specs.Language.{Explains, Spells, max_levels, token_fault};
 ghost use Rattle.ja_grammar.specs.Language as spec;
 ghost use Rattle.ja_grammar.specs.ReadStatement.{program};
 ghost use Rattle.ja_lex.specs.Tokens.{tokens};
 ghost use Rattle.ja_syntax.specs.Rules.{KeepsRules};
 ghost use Rattle.ja_syntax.specs.declared.tree.Statement.{Statement as StatementOf};
 
-use crate::program::read_program;
 use ja_base::{Place, ScopeKind};
 use ja_cursor::Cursor;
 use ja_grammar::{ParseFault, Refusal, Stop};
 use ja_lex::{Token, tokens};
+use ja_parse_statements::read_program;
 use ja_syntax::{Statement, Tree};
 use sqlite_items::Items;
 use std::alloc::Global;

@@ -1,11 +1,11 @@
 -- What the texts of the built-in functions come to, computed.
-use Rattle.std.proofs.Common.{◌≡◌, ◌≤◌, ◌==◌, ℕ, Bool, true, Ok, List, [], ◌∷◌, ◌++◌, map, length, Option, None, refl, ap, sym, subst, ◌∙◌, arith}
+use Rattle.std.proofs.Common.{◌≡◌, ◌≤◌, ◌==◌, ℕ, true, Ok, List, [], ◌∷◌, ◌++◌, map, length, Option, None, refl, ap, sym, subst, ◌∙◌, arith}
 use Rattle.std.specs.List.{AllByRecursion, list_all, slice_get, sum_by, zip}
 use lib.Chars.{codes}
-use Rattle.ja_base.specs.declared.ids.ScopeKind.{ScopeKind}
 use Rattle.ja_base.specs.declared.ids.ScopeKind.TheVariants.{CodeMaker, Radix}
 use Rattle.ja_grammar.specs.Input.{Tokens, strict, Outcome, Done, Refused}
-use Rattle.ja_grammar.specs.Language.{Spells, max_levels, Answers}
+use Rattle.ja_grammar.specs.Answering.{Answers}
+use Rattle.ja_grammar.specs.Language.{Spells, max_levels}
 use Rattle.ja_grammar.specs.ReadStatement.{program}
 use Rattle.ja_grammar.proofs.Theorem.{answered_tree}
 use Rattle.ja_graph.specs.Node.{function_in}
@@ -18,11 +18,11 @@ use Rattle.ja_lower.specs.declared.body.Body.{Body}
 use Rattle.ja_names.specs.TextOrder.{functions_in, names_in}
 use Rattle.ja_syntax.specs.declared.tree.Statement.{Statement}
 use Rattle.ja_prelude.specs.Reading.{numbered, is_read, statements_in, is_text, tree_of, is_few}
-use Rattle.ja_prelude.specs.Prelude.{prelude_statements, prelude_paths, prelude_names, prelude_bodies, parameter_counts, own_names, stops, Use, reads, calls, uses, by_path}
+use Rattle.ja_prelude.specs.Prelude.{prelude_statements, prelude_paths, prelude_names, prelude_bodies, parameter_counts, own_names, stops, reads, calls, uses, by_path}
 use Rattle.ja_prelude.specs.Table.{function_paths, lengths}
 use Rattle.ja_prelude.proofs.Allowed.{are_plain, all_allowed, all_alone}
 use Rattle.ja_prelude.proofs.Evaluating.{reading, listing}
-use Rattle.ja_prelude.proofs.Readings.{Readings, defined, computing, computing_is, functions_by, names_by}
+use Rattle.ja_prelude.proofs.Readings.{computing, computing_is, functions_by, names_by}
 use Rattle.ja_prelude.proofs.Rows.{Row, rows_by, bodies, rows_computed, size_of_row, by_path_of, by_path_computed, size_computed, parameters_computed}
 use Rattle.ja_prelude.specs.declared.texts.TheConstants.{FUNCTIONS}
 

@@ -1,8 +1,0 @@
-use Rattle.std.proofs.Common.{rules, arith}
-use Rattle.std.proofs.lemmas.Grind.{common_steps}
-use Rattle.ja_grammar.specs.ReadStatement.{variable}
-use Rattle.ja_parse.proofs.grammar.Grammar.variable.Goals as goal
-
-pub returns-in_err-name : goal.returns-in_err-name
-unfolding variable
-returns-in_err-name g c = let h = c.in_err-name.ensures c.args.self.now.depth in first_of (search rules, grind (arith, common_steps))

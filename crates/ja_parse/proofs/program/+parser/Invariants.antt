@@ -1,4 +1,0 @@
-use Rattle.ja_parse.proofs.program.+parser.Given as goal
-
-abbrev pub decreases-statement_at : goal.decreases-statement_at
-decreases-statement_at l = l.depth

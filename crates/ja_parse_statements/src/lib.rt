@@ -1,0 +1,12 @@
+//! Reads the tokens of a program into its statements (ES3 sections 12 to 14), by recursive descent.
+#![tactic(auto)]
+
+mod block;
+mod choice;
+mod grammar;
+mod iteration;
+mod jump;
+mod program;
+mod statement;
+
+pub use program::read_program;
