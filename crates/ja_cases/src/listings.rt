@@ -2,12 +2,12 @@
 
 use crate::out::{Out, add};
 use ja_base::{Memory, Place, Reg, Seq};
-use ja_draft::{Draft, Scene};
 use ja_graph::Node;
-use ja_listing::{Block, BlockNode, Item, Spot, Target, assembled};
-use ja_names::Names;
+use ja_lower_draft::{Draft, Scene};
+use ja_lower_listing::{Block, BlockNode, Item, Spot, Target, assembled};
+use ja_lower_names::Names;
+use ja_lower_statements::program_listing;
 use ja_prim::Primitive;
-use ja_statements::program_listing;
 use ja_syntax::Statement;
 use std::alloc::Global;
 

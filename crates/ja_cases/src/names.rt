@@ -1,5 +1,5 @@
 use crate::out::Out;
-use ja_names::{functions_in, names_in};
+use ja_lower_names::{functions_in, names_in};
 use ja_prim::Text16;
 use ja_syntax::{FunctionTree, Hoisted, Statement, hoist, mentions_arguments};
 

@@ -11,9 +11,9 @@ use Rattle.ja_graph.specs.declared.builtins.TheConstants.{GLOBAL}
 use Rattle.ja_graph.specs.declared.program.ObjectSpec.{ObjectSpec}
 use Rattle.ja_graph.specs.declared.program.PropertySpec.{PropertySpec}
 use Rattle.ja_graph.specs.declared.program.SiteInfo.{SiteInfo}
-use Rattle.ja_names.specs.Names.{number, with_name}
-use Rattle.ja_names.specs.TextOrder.{Named, names_in}
-use Rattle.ja_expressions.specs.Specials.{is_name}
+use Rattle.ja_lower_names.specs.Names.{number, with_name}
+use Rattle.ja_lower_names.specs.TextOrder.{Named, names_in}
+use Rattle.ja_lower_expressions.specs.Specials.{is_name}
 use Rattle.ja_lower.specs.Lowering.{device_names, names_of}
 use Rattle.ja_prelude.specs.Prelude.{prelude_names, prelude_statements}
 use Rattle.ja_prelude.specs.Table.{opening_objects}

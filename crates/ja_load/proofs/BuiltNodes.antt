@@ -15,17 +15,17 @@ use Rattle.ja_graph.specs.declared.node.Args.{Args}
 use Rattle.ja_graph.specs.declared.node.Args.TheVariants.{Registers}
 use Rattle.ja_graph.specs.declared.node.Node.{Node}
 use Rattle.ja_graph.specs.declared.node.Node.TheVariants as node
-use Rattle.ja_listing.specs.declared.item.Item.{Item}
-use Rattle.ja_draft.specs.Lines.{Listing, Scene, site, name_id, restarted, with_item, with_node, with_result, with_const}
-use Rattle.ja_expressions.specs.Calls.{list_arguments, with_call, call_outcome, list_call}
-use Rattle.ja_expressions.specs.Operators.{assign_to, assign}
-use Rattle.ja_expressions.specs.References.{Listed, Form, valued, get_value, put_value, value_of, special_in, with_special_or_variable, with_name}
-use Rattle.ja_expressions.specs.Specials.{special_of}
-use Rattle.ja_expressions.specs.declared.outcome.Outcome.{Outcome}
-use Rattle.ja_expressions.specs.declared.outcome.Outcome.TheVariants as outcome
-use Rattle.ja_names.specs.Names.{number}
-use Rattle.ja_ranges.specs.InRange.{OfNode}
-use Rattle.ja_ranges.proofs.LineRanges.{all_append}
+use Rattle.ja_lower_listing.specs.declared.item.Item.{Item}
+use Rattle.ja_lower_draft.specs.Lines.{Listing, Scene, site, name_id, restarted, with_item, with_node, with_result, with_const}
+use Rattle.ja_lower_expressions.specs.Calls.{list_arguments, with_call, call_outcome, list_call}
+use Rattle.ja_lower_expressions.specs.Operators.{assign_to, assign}
+use Rattle.ja_lower_expressions.specs.References.{Listed, Form, valued, get_value, put_value, value_of, special_in, with_special_or_variable, with_name}
+use Rattle.ja_lower_expressions.specs.Specials.{special_of}
+use Rattle.ja_lower_expressions.specs.declared.outcome.Outcome.{Outcome}
+use Rattle.ja_lower_expressions.specs.declared.outcome.Outcome.TheVariants as outcome
+use Rattle.ja_lower_names.specs.Names.{number}
+use Rattle.ja_lower_ranges.specs.InRange.{OfNode}
+use Rattle.ja_lower_ranges.proofs.LineRanges.{all_append}
 use Rattle.ja_lower.specs.Lowering.{shifting}
 use Rattle.ja_lower.proofs.NumberingLemmas.{name_kept}
 use Rattle.ja_load.specs.Built.{is_excluded}

@@ -12,7 +12,7 @@ use Rattle.ja_syntax.specs.declared.tree.Expression.{Expression}
 use Rattle.ja_syntax.specs.declared.tree.Expression.TheOpen.{Statement-F}
 use Rattle.ja_syntax.specs.declared.tree.Expression.TheFolds.{fold-roll-Statement, para-roll-Statement, ind-Statement, map-Statement}
 use Rattle.ja_syntax.specs.declared.tree.Expression.TheViews.{out-roll-Statement}
-use Rattle.ja_names.specs.TextOrder.{a_function, a_name, Parts, if_function, expression_step, statement_step, case_step, in_expression, in_statement, in_case, functions_in}
+use Rattle.ja_lower_names.specs.TextOrder.{a_function, a_name, Parts, if_function, expression_step, statement_step, case_step, in_expression, in_statement, in_case, functions_in}
 use Rattle.ja_graph.specs.Kinds.{is_built}
 use Rattle.ja_graph.specs.Node.{makings}
 use Rattle.ja_graph.specs.declared.node.Node.{Node}
@@ -21,16 +21,16 @@ use Rattle.ja_graph.specs.declared.node.Node.TheVariants as node
 use Rattle.ja_graph.specs.declared.node.NodeInfo.{NodeInfo}
 use Rattle.ja_graph.specs.declared.program.Function.{Function}
 use Rattle.ja_graph.specs.declared.program.SiteInfo.{SiteInfo}
-use Rattle.ja_listing.specs.declared.item.Item.{Item}
-use Rattle.ja_listing.specs.Listing.{begins_with_node}
-use Rattle.ja_draft.specs.Lines.{Listing, Scene, restarted, with_const}
-use Rattle.ja_expressions.specs.Expressions.{form}
-use Rattle.ja_statements.specs.Functions.{first_temporary, nothing_listed, declare_function, declare_function_of, declare_functions, declare_variables, with_body, unhandled, first_place, first_const, beginning_with_node, program_listing}
-use Rattle.ja_statements.specs.Statements.{Around, does, unlabelled, list_all_statements}
-use Rattle.ja_statements.proofs.StatementLemmas.{does_empty, does_expression}
-use Rattle.ja_ranges.specs.InRange.{OfNode}
-use Rattle.ja_ranges.proofs.CopyRanges.{assembled_keeps}
-use Rattle.ja_ranges.proofs.LineRanges.{all_append}
+use Rattle.ja_lower_listing.specs.declared.item.Item.{Item}
+use Rattle.ja_lower_listing.specs.Listing.{begins_with_node}
+use Rattle.ja_lower_draft.specs.Lines.{Listing, Scene, restarted, with_const}
+use Rattle.ja_lower_expressions.specs.Expressions.{form}
+use Rattle.ja_lower_statements.specs.Functions.{first_temporary, nothing_listed, declare_function, declare_function_of, declare_functions, declare_variables, with_body, unhandled, first_place, first_const, beginning_with_node, program_listing}
+use Rattle.ja_lower_statements.specs.Statements.{Around, does, unlabelled, list_all_statements}
+use Rattle.ja_lower_statements.proofs.StatementLemmas.{does_empty, does_expression}
+use Rattle.ja_lower_ranges.specs.InRange.{OfNode}
+use Rattle.ja_lower_ranges.proofs.CopyRanges.{assembled_keeps}
+use Rattle.ja_lower_ranges.proofs.LineRanges.{all_append}
 use Rattle.ja_lower.specs.declared.body.Body.{Body}
 use Rattle.ja_lower.specs.Lowering.{names_of, scene_of, program_body, function_body, bodies_of, numbered, function_of, functions_of, site_of, sites_of_nodes, sites_of, lowered}
 use Rattle.ja_lower.proofs.FunctionLemmas.{all-at, get-numbered}

@@ -21,7 +21,7 @@ use Rattle.ja_graph.specs.WellFormed.{IsBuiltin, IsContent, IsName, IsObjectWell
 use Rattle.ja_load.specs.Hosts.{device_info, device_object, device_property, device_sites, is_of_device, object_with_devices, opening_with, properties_with}
 use Rattle.ja_load.proofs.BuiltHosts.{IsBuiltIn, IsDevice, object-cases}
 use Rattle.ja_load.proofs.Places.{any-at, append-cases, find-at, found-at, get-behind, kept-at, map-at, mapped-at, number-at, number-there, numbered-at}
-use Rattle.ja_names.specs.Names.{number}
+use Rattle.ja_lower_names.specs.Names.{number}
 use Rattle.ja_prelude.proofs.ListLemmas.{all-append, all-at, element-at, eq_of, get-first, get-front, same_passes, some-same}
 use Rattle.ja_prelude.proofs.OpeningLemmas.{classes_are_told, objects_are_well_formed, sites_have_no_owner, sites_have_objects, sites_name_functions}
 use Rattle.ja_prelude.proofs.TableLemmas.{names_count, sites_count, table-count}

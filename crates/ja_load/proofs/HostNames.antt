@@ -6,7 +6,7 @@ use Rattle.ja_graph.specs.declared.builtins.TheConstants.{GLOBAL}
 use Rattle.ja_graph.specs.declared.program.ObjectSpec.{ObjectSpec}
 use Rattle.ja_graph.specs.declared.program.PropertySpec.{PropertySpec}
 use Rattle.ja_load.specs.Hosts.{is_of_device, object_with_devices, properties_with, property_named}
-use Rattle.ja_names.specs.Names.{number}
+use Rattle.ja_lower_names.specs.Names.{number}
 use Rattle.ja_prim.specs.declared.signature.Signature.{Signature}
 
 any_of : {X : Type 0} (f : X → NameId) (t : ℕ) (xs : List X) → list_any (λ (n : NameId). n.0 == t) (map f xs) ≡ list_any (λ x. (f x).0 == t) xs

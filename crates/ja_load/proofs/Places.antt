@@ -4,7 +4,7 @@ use Rattle.std.specs.Prelude.{IsSome}
 use Rattle.std.specs.List.{enumerate_from, find, list_any, position_or_len, slice_get}
 use Rattle.std.specs.Str.{bytes_eq}
 use Rattle.std.specs.Cmp.Lexicographic.{bytes_decides}
-use Rattle.ja_names.specs.Names.{number}
+use Rattle.ja_lower_names.specs.Names.{number}
 use Rattle.ja_prelude.proofs.ListLemmas.{some-same}
 
 -- what stands in one list behind another stands in the first, or so many places behind it in the second

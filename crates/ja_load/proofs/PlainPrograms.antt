@@ -29,9 +29,9 @@ use Rattle.ja_graph.specs.declared.program.PropertySpec.{PropertySpec}
 use Rattle.ja_graph.specs.declared.program.SiteInfo.{SiteInfo}
 use Rattle.ja_graph.specs.declared.program.SpecContent.{SpecContent}
 use Rattle.ja_graph.specs.declared.program.SpecContent.TheVariants as content
-use Rattle.ja_names.specs.Names.{number}
-use Rattle.ja_draft.specs.Lines.{Scene}
-use Rattle.ja_ranges.proofs.LineRanges.{all_append}
+use Rattle.ja_lower_names.specs.Names.{number}
+use Rattle.ja_lower_draft.specs.Lines.{Scene}
+use Rattle.ja_lower_ranges.proofs.LineRanges.{all_append}
 use Rattle.ja_lower.specs.declared.body.Body.{Body}
 use Rattle.ja_lower.specs.Limits.{function_count, IsWithin}
 use Rattle.ja_lower.specs.Lowering.{names_of, scene_of, program_body, bodies_of, numbered, functions_of, site_of, sites_of_nodes, sites_of, at_paths, prelude_bodies, lowered, device_bodies, device_names, lowered_with_prelude}

@@ -4,8 +4,8 @@ use Rattle.std.specs.Prelude.{String}
 use Rattle.std.specs.List.{AllByRecursion, slice_get, range_with_len}
 use Rattle.std.specs.declared.alloc.Global.{Global}
 use Rattle.ja_device.specs.Signatures.{AreSignatures}
-use Rattle.ja_names.specs.TextOrder.{Named, names_in}
-use Rattle.ja_expressions.specs.Specials.{is_name}
+use Rattle.ja_lower_names.specs.TextOrder.{Named, names_in}
+use Rattle.ja_lower_expressions.specs.Specials.{is_name}
 use Rattle.ja_graph.specs.declared.program.Function.{Function}
 use Rattle.ja_graph.specs.declared.program.Program.{Program}
 use Rattle.ja_graph.specs.declared.program.SiteInfo.{SiteInfo}

@@ -3,7 +3,7 @@ use Rattle.std.specs.Prelude.{ℕ, Bool, true, false, not, ◌+◌, ◌==◌, if
 use Rattle.std.specs.List.{enumerate_from, list_any}
 use Rattle.ja_base.specs.declared.ids.NameId.{NameId}
 use Rattle.ja_base.specs.declared.ids.Site.{Site}
-use Rattle.ja_names.specs.Names.{number}
+use Rattle.ja_lower_names.specs.Names.{number}
 use Rattle.ja_prim.specs.declared.signature.Signature.{Signature}
 use Rattle.ja_graph.specs.declared.builtins.TheConstants.{BUILTIN_CLASSES, FUNCTION_PROTOTYPE, GLOBAL, LENGTH}
 use Rattle.ja_graph.specs.declared.program.Class.TheVariants as class

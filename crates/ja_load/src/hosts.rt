@@ -4,7 +4,7 @@ ghost use Rattle.std.specs.Prelude.{◌≡◌, ◌≤◌, ◌++◌, ◌==◌, le
 ghost use Rattle.std.specs.List.{enumerate_from, list_any};
 ghost use Rattle.ja_graph.specs.declared.builtins.TheConstants.{GLOBAL};
 ghost use Rattle.ja_load.specs.Hosts as spec;
-ghost use Rattle.ja_names.specs.Names.{number as number_in};
+ghost use Rattle.ja_lower_names.specs.Names.{number as number_in};
 ghost use Rattle.ja_prelude.specs.Table.{opening_objects as table_objects};
 
 use ja_base::{FnId, Memory, NameId, Place, Seq, Site};

@@ -8,9 +8,9 @@ use Rattle.ja_graph.specs.declared.node.Node.TheVariants.{Device, Return, Escape
 use Rattle.ja_graph.specs.declared.program.Program.{Program}
 use Rattle.ja_graph.specs.Node.{register_set, name_in, function_in, makings, may_throw}
 use Rattle.ja_graph.specs.Renaming.{renamed}
-use Rattle.ja_listing.specs.declared.item.Item.{Item}
-use Rattle.ja_listing.specs.declared.item.Item.TheVariants as item
-use Rattle.ja_listing.specs.Listing.{node_count, behind, goes, leads, nodes_from, goes_on}
+use Rattle.ja_lower_listing.specs.declared.item.Item.{Item}
+use Rattle.ja_lower_listing.specs.declared.item.Item.TheVariants as item
+use Rattle.ja_lower_listing.specs.Listing.{node_count, behind, goes, leads, nodes_from, goes_on}
 use Rattle.ja_lower.specs.declared.body.Body.{Body}
 use Rattle.ja_lower.specs.Limits.{size_of_body, size_of_bodies}
 use Rattle.ja_lower.specs.Lowering.{numbered, sites_in, sites_of_nodes, sites_of, function_of, functions_of, device_register, device_body, device_bodies}

@@ -17,14 +17,14 @@ use Rattle.ja_graph.specs.Parts.{LastIsEscape}
 use Rattle.ja_graph.specs.Renaming.{renamed}
 use Rattle.ja_graph.specs.WellFormed.{IsRegister, IsDestination, IsName, IsFunction, IsAllowed, IsNodeWellFormed, IsFunctionWellFormed}
 use Rattle.ja_graph.proofs.RegisterLemmas.{first_stay, each_among}
-use Rattle.ja_listing.specs.declared.item.Item.{Item}
-use Rattle.ja_listing.specs.Listing.{assembled}
-use Rattle.ja_listing.specs.Laws.{EndsWithEscape, CopiesAreWhole, EdgesLeadInside}
-use Rattle.ja_listing.proofs.Kept.{assembled_ends}
-use Rattle.ja_listing.proofs.Inside.{assembled_inside}
-use Rattle.ja_ranges.specs.InRange.{Limits, IsInRange, IsOfTexts, AllInRange}
-use Rattle.ja_ranges.proofs.CopyRanges.{assembled_keeps}
-use Rattle.ja_ranges.specs.InRange.{IsDestination as IsDestinationWithin}
+use Rattle.ja_lower_listing.specs.declared.item.Item.{Item}
+use Rattle.ja_lower_listing.specs.Listing.{assembled}
+use Rattle.ja_lower_listing.specs.Laws.{EndsWithEscape, CopiesAreWhole, EdgesLeadInside}
+use Rattle.ja_lower_listing.proofs.Kept.{assembled_ends}
+use Rattle.ja_lower_listing.proofs.Inside.{assembled_inside}
+use Rattle.ja_lower_ranges.specs.InRange.{Limits, IsInRange, IsOfTexts, AllInRange}
+use Rattle.ja_lower_ranges.proofs.CopyRanges.{assembled_keeps}
+use Rattle.ja_lower_ranges.specs.InRange.{IsDestination as IsDestinationWithin}
 use Rattle.ja_lower.specs.declared.body.Body.{Body}
 use Rattle.ja_lower.specs.Lowering.{AreAllowed, shifting, site_count, numbered, sites_in, registers_of, function_of, functions_of, at_path, at_paths}
 use Rattle.ja_lower.proofs.NumberingLemmas.{sets_kept, named_kept, name_kept, function_kept, IsSited}

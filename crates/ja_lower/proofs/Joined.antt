@@ -3,9 +3,9 @@ use Rattle.std.proofs.Common.{◌≡◌, ℕ, suc, ◌+◌, ◌≤◌, Bool, tru
 use Rattle.std.specs.List.{fold, list_any}
 use Rattle.std.specs.Str.{bytes_eq}
 use Rattle.std.proofs.lemmas.List.Sums.{fold-append, sum_by-cons}
-use Rattle.ja_expressions.specs.Specials.{is_name}
-use Rattle.ja_names.specs.Names.{with_name}
-use Rattle.ja_names.specs.TextOrder.{Named, names_in}
+use Rattle.ja_lower_expressions.specs.Specials.{is_name}
+use Rattle.ja_lower_names.specs.Names.{with_name}
+use Rattle.ja_lower_names.specs.TextOrder.{Named, names_in}
 use Rattle.ja_syntax.specs.declared.tree.Statement.{Statement}
 use Rattle.ja_lower.specs.declared.body.Body.{Body}
 use Rattle.ja_lower.specs.Limits.{size_of_body, size_of_bodies}

@@ -3,8 +3,8 @@ use Rattle.std.proofs.Common.{◌≡◌, ◌≤◌, ◌+◌, ℕ, true, List, []
 use Rattle.std.proofs.lemmas.List.{length-map}
 use Rattle.std.proofs.lemmas.List.Sums.{sum_by-cons}
 use Rattle.std.specs.List.{fold, sum_by}
-use Rattle.ja_draft.specs.Lines.{Scene}
-use Rattle.ja_names.specs.TextOrder.{functions_in}
+use Rattle.ja_lower_draft.specs.Lines.{Scene}
+use Rattle.ja_lower_names.specs.TextOrder.{functions_in}
 use Rattle.ja_lower.specs.declared.body.Body.{Body}
 use Rattle.ja_lower.specs.Limits.{size_of_body, size_of_bodies}
 use Rattle.ja_lower.specs.Lowering.{scene_with, program_body, function_body, bodies_of, prelude_bodies, at_paths}

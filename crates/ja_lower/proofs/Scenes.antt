@@ -6,13 +6,13 @@ use Rattle.std.specs.Str.{bytes_eq}
 use Rattle.std.specs.Cmp.Lexicographic.{bytes_decides}
 use Rattle.ja_base.specs.declared.ids.NameId.{NameId}
 use Rattle.ja_base.specs.declared.ids.Place.{Place}
-use Rattle.ja_draft.specs.Lines.{Scene}
-use Rattle.ja_expressions.specs.Literals.{same_place}
-use Rattle.ja_expressions.specs.Specials.{is_name}
-use Rattle.ja_names.specs.Names.{number, with_name}
-use Rattle.ja_names.specs.TextOrder.{Named, Parts, a_function, a_name, in_name, if_function, if_name, in_statement, functions_in, names_in}
-use Rattle.ja_ranges.specs.Found.{HasName, HasFunctionAt, HasParts, HasText}
-use Rattle.ja_ranges.proofs.LineRanges.{name_in_range}
+use Rattle.ja_lower_draft.specs.Lines.{Scene}
+use Rattle.ja_lower_expressions.specs.Literals.{same_place}
+use Rattle.ja_lower_expressions.specs.Specials.{is_name}
+use Rattle.ja_lower_names.specs.Names.{number, with_name}
+use Rattle.ja_lower_names.specs.TextOrder.{Named, Parts, a_function, a_name, in_name, if_function, if_name, in_statement, functions_in, names_in}
+use Rattle.ja_lower_ranges.specs.Found.{HasName, HasFunctionAt, HasParts, HasText}
+use Rattle.ja_lower_ranges.proofs.LineRanges.{name_in_range}
 use Rattle.ja_syntax.specs.declared.tree.FunctionOf.{FunctionOf}
 use Rattle.ja_syntax.specs.declared.tree.Name.{Name}
 use Rattle.ja_syntax.specs.declared.tree.Statement.{Statement}

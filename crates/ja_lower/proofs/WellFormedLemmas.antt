@@ -7,15 +7,15 @@ use Rattle.ja_graph.specs.declared.program.Function.{Function}
 use Rattle.ja_graph.specs.declared.program.Program.{Program}
 use Rattle.ja_graph.specs.declared.program.SiteInfo.{SiteInfo}
 use Rattle.ja_graph.specs.WellFormed.{IsFunctionWellFormed, OwnedMaking, makings_from, IsSiteTold, NamesFunctions, node_count}
-use Rattle.ja_statements.specs.Functions.{program_listing, function_listing}
-use Rattle.ja_draft.specs.Lines.{Scene}
-use Rattle.ja_names.specs.Names.{number}
-use Rattle.ja_names.specs.TextOrder.{if_any, in_name, in_statement, functions_in}
-use Rattle.ja_ranges.specs.Found.{HasPart, HasText, HasFunction}
-use Rattle.ja_ranges.specs.InRange.{AllInRange, limits_of}
-use Rattle.ja_ranges.proofs.FunctionRanges.{program_copies, function_copies, program_in_range, function_in_range, program_ends, function_ends}
-use Rattle.ja_ranges.proofs.FunctionParts.{functions_found}
-use Rattle.ja_ranges.proofs.Inclusions.{all_first, all_second}
+use Rattle.ja_lower_statements.specs.Functions.{program_listing, function_listing}
+use Rattle.ja_lower_draft.specs.Lines.{Scene}
+use Rattle.ja_lower_names.specs.Names.{number}
+use Rattle.ja_lower_names.specs.TextOrder.{if_any, in_name, in_statement, functions_in}
+use Rattle.ja_lower_ranges.specs.Found.{HasPart, HasText, HasFunction}
+use Rattle.ja_lower_ranges.specs.InRange.{AllInRange, limits_of}
+use Rattle.ja_lower_ranges.proofs.FunctionRanges.{program_copies, function_copies, program_in_range, function_in_range, program_ends, function_ends}
+use Rattle.ja_lower_ranges.proofs.FunctionParts.{functions_found}
+use Rattle.ja_lower_ranges.proofs.Inclusions.{all_first, all_second}
 use Rattle.ja_syntax.specs.declared.tree.FunctionOf.{FunctionOf}
 use Rattle.ja_syntax.specs.declared.tree.Name.{Name}
 use Rattle.ja_syntax.specs.declared.tree.Statement.{Statement}

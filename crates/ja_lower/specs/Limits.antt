@@ -1,7 +1,7 @@
 -- What is too large to be lowered.
 use Rattle.std.specs.Prelude.{◌<◌, ◌≤◌, ◌+◌, ℕ, false, List, length}
 use Rattle.std.specs.List.{sum_by}
-use Rattle.ja_names.specs.TextOrder.{functions_in}
+use Rattle.ja_lower_names.specs.TextOrder.{functions_in}
 use Rattle.ja_lower.specs.declared.body.Body.{Body}
 use Rattle.ja_lower.specs.declared.fault.LowerFault.{LowerFault}
 use Rattle.ja_lower.specs.declared.fault.LowerFault.TheVariants.{Functions, Nodes, Names, Memory}

@@ -17,12 +17,12 @@ use Rattle.ja_graph.specs.declared.program.SiteInfo.{SiteInfo}
 use Rattle.ja_graph.specs.Node.{Making, registers_in, registers_with, function_in, makings}
 use Rattle.ja_graph.specs.Renaming.{Renaming, identity, renamed}
 use Rattle.ja_graph.specs.WellFormed.{IsAllowed}
-use Rattle.ja_listing.specs.Listing.{assembled}
-use Rattle.ja_statements.specs.Functions.{program_listing, function_listing}
-use Rattle.ja_draft.specs.Lines.{Scene}
-use Rattle.ja_expressions.specs.Specials.{is_name}
-use Rattle.ja_names.specs.Names.{number, with_name}
-use Rattle.ja_names.specs.TextOrder.{Named, functions_in, names_in}
+use Rattle.ja_lower_listing.specs.Listing.{assembled}
+use Rattle.ja_lower_statements.specs.Functions.{program_listing, function_listing}
+use Rattle.ja_lower_draft.specs.Lines.{Scene}
+use Rattle.ja_lower_expressions.specs.Specials.{is_name}
+use Rattle.ja_lower_names.specs.Names.{number, with_name}
+use Rattle.ja_lower_names.specs.TextOrder.{Named, functions_in, names_in}
 use Rattle.ja_lower.specs.declared.body.Body.{Body}
 use Rattle.ja_lower.specs.declared.lowered.Lowered.{Lowered}
 use Rattle.ja_syntax.specs.declared.tree.FunctionOf.{FunctionOf}

@@ -3,21 +3,21 @@
 ghost use Rattle.std.specs.Prelude.{◌≡◌, ◌≤◌, ◌+◌, ◌++◌, [], length, map, IfOk, IfErr, OnOk};
 ghost use Rattle.std.specs.List.{sum_by};
 ghost use Rattle.std.specs.Option.{option_map_or};
-ghost use Rattle.ja_names.specs.Names.{number};
-ghost use Rattle.ja_names.specs.TextOrder as text;
-ghost use Rattle.ja_listing.specs.Listing.{assembled};
+ghost use Rattle.ja_lower_names.specs.Names.{number};
+ghost use Rattle.ja_lower_names.specs.TextOrder as text;
+ghost use Rattle.ja_lower_listing.specs.Listing.{assembled};
 ghost use Rattle.ja_lower.specs.Limits.{size_of_body, size_of_bodies};
 ghost use Rattle.ja_lower.specs.Lowering as spec;
 ghost use Rattle.ja_lower.specs.Room.{Exceeds};
 
 use crate::{Body, LowerFault};
 use ja_base::{Memory, NameId, Place, Seq};
-use ja_draft::{Draft, Scene};
 use ja_graph::NodeInfo;
-use ja_listing::assembled;
-use ja_names::Names;
+use ja_lower_draft::{Draft, Scene};
+use ja_lower_listing::assembled;
+use ja_lower_names::Names;
+use ja_lower_statements::{function_listing, program_listing};
 use ja_prim::Text16;
-use ja_statements::{function_listing, program_listing};
 use ja_syntax::{FunctionTree, Name, Statement};
 use std::alloc::Global;
 
@@ -25,7 +25,7 @@ use std::alloc::Global;
 const MAX_NODES: usize = 65_536;
 
 /// The nodes of a listing, if there is room for them.
-#[tactic(auto, using(ja_listing::proofs::Kept::assembled_counted))]
+#[tactic(auto, using(ja_lower_listing::proofs::Kept::assembled_counted))]
 fn nodes_of(alloc: Global, listing: Draft, room: usize) -> Result<Seq<NodeInfo>, LowerFault>
     requires { room ≤ 65536 }
     ensures nodes { IfOk result (λ nodes. nodes ≡ assembled listing.items) }

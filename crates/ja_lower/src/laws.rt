@@ -11,7 +11,7 @@ ghost use Rattle.ja_lower.specs.Limits.{function_count, prelude_count, size_of, 
 ghost use Rattle.ja_lower.specs.Lowering.{AreAllowed, names_of, scene_with, prelude_names, prelude_bodies, first_names, followed_by, behind_devices, lowered, lowered_prelude, lowered_with_prelude};
 ghost use Rattle.ja_lower.specs.declared.lowered.Lowered.{Lowered};
 ghost use Rattle.ja_prim.specs.declared.signature.Signature.{Signature};
-ghost use Rattle.ja_ranges.specs.Found.{HasText};
+ghost use Rattle.ja_lower_ranges.specs.Found.{HasText};
 ghost use Rattle.ja_syntax.specs.declared.tree.Statement.{Statement};
 
 /// Each name and each function that a text looks up is found among those that it is lowered with, with or without special forms.

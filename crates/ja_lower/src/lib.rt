@@ -3,9 +3,9 @@
 
 ghost use Rattle.std.specs.Prelude.{◌≡◌, ◌<◌, ◌≤◌, ◌+◌, ◌^◌, length, map, filter, IfOk, IfErr, OnOk};
 ghost use Rattle.std.specs.List.{AllByRecursion, fold};
-ghost use Rattle.ja_expressions.specs.Specials.{is_name};
-ghost use Rattle.ja_names.specs.Names.{with_name};
-ghost use Rattle.ja_names.specs.TextParts.{named_of};
+ghost use Rattle.ja_lower_expressions.specs.Specials.{is_name};
+ghost use Rattle.ja_lower_names.specs.Names.{with_name};
+ghost use Rattle.ja_lower_names.specs.TextParts.{named_of};
 ghost use Rattle.ja_lower.specs.Limits.{Explains, ExplainsPrelude, IsWithin, IsPreludeWithin};
 ghost use Rattle.ja_lower.specs.Lowering as spec;
 ghost use Rattle.ja_lower.specs.Room.{HasTooMany};
@@ -27,8 +27,8 @@ pub use body::Body;
 pub use devices::device_functions;
 pub use fault::LowerFault;
 use ja_base::{Memory, Seq};
-use ja_expressions::special_of;
-use ja_names::{Named, Names, functions_in, names_in};
+use ja_lower_expressions::special_of;
+use ja_lower_names::{Named, Names, functions_in, names_in};
 use ja_prim::Text16;
 use ja_syntax::{Statement, Tree};
 pub use lowered::Lowered;
@@ -135,7 +135,7 @@ pub fn lower(
 }
 
 /// The names of a program with built-in functions: these, each once, and then those of the functions' texts. A variable that
-/// is in the table of special forms (`ja_expressions::SPECIALS`) is no name.
+/// is in the table of special forms (`ja_lower_expressions::SPECIALS`) is no name.
 #[tactic(auto)]
 pub fn prelude_names(
     alloc: Global,
@@ -150,7 +150,7 @@ pub fn prelude_names(
 }
 
 /// Lowers the functions of the texts of built-in functions, each by its path: as `lower`, but the names of the table of special
-/// forms (`ja_expressions::SPECIALS`) stand for these where they are variables, which then are no names of the program. The call of a
+/// forms (`ja_lower_expressions::SPECIALS`) stand for these where they are variables, which then are no names of the program. The call of a
 /// special form that doesn't have its arguments, or such a variable that isn't called, is undefined. The functions are numbered from
 /// `first_function` on, and nothing else of these texts is lowered.
 ///

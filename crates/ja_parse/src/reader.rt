@@ -12,9 +12,9 @@ ghost use Rattle.ja_syntax.specs.Rules.{KeepsRules};
 ghost use Rattle.ja_syntax.specs.declared.tree.Statement.{Statement as StatementOf};
 
 use ja_base::{Place, ScopeKind};
-use ja_cursor::Cursor;
 use ja_grammar::{ParseFault, Refusal, Stop};
 use ja_lex::{Token, tokens};
+use ja_parse_cursor::Cursor;
 use ja_parse_statements::read_program;
 use ja_syntax::{Statement, Tree};
 use sqlite_items::Items;

@@ -10,7 +10,7 @@ use Rattle.ja_grammar.specs.Forms.{operated}
 use Rattle.ja_grammar.specs.Input.{Rules, Tokens, Parser, Done, Refused, Follows, head, until}
 use Rattle.ja_grammar.specs.Operators.{binary_operator}
 use Rattle.ja_grammar.specs.ReadExpression.{Below, unary, binary, level, operation}
-use Rattle.ja_cursor.proofs.Turns.{same_error}
+use Rattle.ja_parse_cursor.proofs.Turns.{same_error}
 
 -- the operators of the level above one, with their right operands
 abbrev pub operations : Rules → Below → Bool → ℕ → Parser (List (Operation Expression))

@@ -9,10 +9,10 @@ ghost use Rattle.ja_grammar.specs.ReadStatement.{below};
 ghost use Rattle.ja_parse_expressions.specs.Ends.{ends};
 ghost use Rattle.ja_parse_expressions.specs.Nests.{Nests};
 
-use ja_cursor::{
+use ja_grammar::{Context, Refusal, StatementPart, Stop};
+use ja_parse_cursor::{
     Cursor, Held, ends_clause, function_context, function_name, is_close_brace, parameters,
 };
-use ja_grammar::{Context, Refusal, StatementPart, Stop};
 use ja_syntax::{FunctionTree, Statement, Symbol};
 use sqlite_items::Items;
 use std::alloc::Global;

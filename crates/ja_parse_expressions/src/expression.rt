@@ -12,12 +12,12 @@ ghost use Rattle.ja_parse_expressions.specs.Nests.{Reads};
 
 use crate::grammar::{Grammar, Piece};
 use ja_base::Place;
-use ja_cursor::{
+use ja_grammar::{ExpressionPart, Refusal, Stop};
+use ja_parse_cursor::{
     Cursor, Held, LEVELS, assign, assignment_operator, begins_property, begins_suffix,
     binary_operator, chained, conditional, created, dotted, is_prefix, operand_close, operated,
     postfix_of, prefix_update, sequence, unary, unary_operator, update,
 };
-use ja_grammar::{ExpressionPart, Refusal, Stop};
 use ja_syntax::{
     BinaryOperator, Expression, Operation, Suffix, Symbol, UnaryOperator, UpdateOperator,
     is_reference,

@@ -5,8 +5,8 @@ ghost use Rattle.ja_grammar.specs.Input.{Follows, strict};
 ghost use Rattle.ja_grammar.specs.ReadStatement.{below};
 ghost use Rattle.ja_parse_expressions.specs.Nests.{Reads};
 
-use ja_cursor::{Cursor, Held};
 use ja_grammar::{ExpressionPart, Refusal, Stop};
+use ja_parse_cursor::{Cursor, Held};
 use ja_syntax::Expression;
 use std::alloc::Global;
 

@@ -9,8 +9,8 @@ ghost use Rattle.ja_grammar.specs.ReadStatement.{below};
 ghost use Rattle.ja_parse_expressions.specs.Nests.{Reads};
 
 use crate::grammar::{Grammar, Piece};
-use ja_cursor::{Cursor, Held, is_close_bracket};
 use ja_grammar::{ExpressionPart, Stop};
+use ja_parse_cursor::{Cursor, Held, is_close_bracket};
 use ja_syntax::{Expression, Property, Symbol};
 use sqlite_items::Items;
 use std::alloc::Global;

@@ -6,11 +6,11 @@ ghost use Rattle.ja_grammar.specs.ReadStatement.{below};
 ghost use Rattle.ja_parse_expressions.specs.Nests.{Reads};
 
 use crate::grammar::{Grammar, Piece};
-use ja_cursor::{
+use ja_grammar::{ExpressionPart, Refusal, Stop};
+use ja_parse_cursor::{
     Cursor, Held, element_close, literal_expression, name_expression, property_name,
     this_expression,
 };
-use ja_grammar::{ExpressionPart, Refusal, Stop};
 use ja_syntax::{Expression, Property, Symbol};
 use std::alloc::Global;
 

@@ -7,8 +7,8 @@ ghost use Rattle.ja_parse_expressions.specs.Pieces.{piece};
 
 use crate::body::function;
 use crate::grammar::{Grammar, Piece};
-use ja_cursor::{Cursor, Held};
 use ja_grammar::{Context, StatementPart, Stop};
+use ja_parse_cursor::{Cursor, Held};
 use ja_syntax::{Expression, Statement};
 use std::alloc::Global;
 

@@ -12,7 +12,7 @@ use Rattle.ja_grammar.specs.Input.{Rules, Tokens, Outcome, Done, Refused, Follow
 use Rattle.ja_grammar.specs.ReadExpression.{Below}
 use Rattle.ja_grammar.specs.ReadStatement.{Clauses, clause_by, case, default}
 use Rattle.ja_parse_statements.specs.Clauses.{clauses_from, clauses_behind}
-use Rattle.ja_cursor.proofs.Turns.{one_more, no_more, same_error}
+use Rattle.ja_parse_cursor.proofs.Turns.{one_more, no_more, same_error}
 
 module _ (g : Rules) (b : Below) (c : Context) where
   pub clauses_start : (n : ℕ) (i : Tokens) → n ≡ length i → clauses_behind g b c i ≡ clauses_from g b c (n - 0) (record { defaulted = false; found = [] }) i

@@ -9,8 +9,8 @@ ghost use Rattle.ja_parse_statements.specs.Clauses.{variable_value};
 ghost use Rattle.ja_parse_expressions.specs.Nests.{Nests};
 
 use crate::grammar::Grammar;
-use ja_cursor::{Cursor, Held, declared, ended};
 use ja_grammar::{Context, ExpressionPart, StatementPart, Stop};
+use ja_parse_cursor::{Cursor, Held, declared, ended};
 use ja_parse_expressions::ListEnd;
 use ja_syntax::{Declaration, Expression, Initialiser, Statement, Symbol};
 use sqlite_items::Items;

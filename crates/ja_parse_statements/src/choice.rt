@@ -11,8 +11,8 @@ ghost use Rattle.ja_parse_statements.specs.Clauses.{clauses_behind, try_behind_c
 
 use crate::grammar::Grammar;
 use ja_base::Place;
-use ja_cursor::{Cursor, Held, declared, if_of, switch_context};
 use ja_grammar::{Context, ExpressionPart, Refusal, StatementPart, Stop};
+use ja_parse_cursor::{Cursor, Held, declared, if_of, switch_context};
 use ja_parse_expressions::ListEnd;
 use ja_syntax::{Case, CatchOf, Expression, Statement, Symbol};
 use sqlite_items::Items;

@@ -10,8 +10,8 @@ ghost use Rattle.ja_grammar.specs.ReadStatement.{below};
 ghost use Rattle.ja_parse_expressions.specs.Ends.{ends};
 ghost use Rattle.ja_parse_expressions.specs.Nests.{Nests};
 
-use ja_cursor::{Cursor, Held};
 use ja_grammar::{Context, ExpressionPart, Refusal, StatementPart, Stop};
+use ja_parse_cursor::{Cursor, Held};
 use ja_parse_expressions::{ListEnd, Piece, expression_at, statement_below, statements_below};
 use ja_syntax::{Expression, Statement};
 use sqlite_items::Items;

@@ -11,8 +11,8 @@ ghost use Rattle.ja_syntax.specs.declared.tree.ForFirst.TheVariants as first;
 
 use crate::grammar::Grammar;
 use ja_base::Place;
-use ja_cursor::{Cursor, Held, do_of, ended, for_in_of, for_of, loop_context, while_of};
 use ja_grammar::{Context, ExpressionPart, Refusal, StatementPart, Stop};
+use ja_parse_cursor::{Cursor, Held, do_of, ended, for_in_of, for_of, loop_context, while_of};
 use ja_syntax::{Declaration, Expression, ForFirst, ForTarget, Statement, Symbol, is_reference};
 use sqlite_items::Items;
 use std::alloc::Global;

@@ -8,8 +8,10 @@ ghost use Rattle.ja_grammar.specs.ReadStatement.{below};
 ghost use Rattle.ja_parse_expressions.specs.Nests.{Nests};
 
 use crate::grammar::Grammar;
-use ja_cursor::{Cursor, Held, ended, ends_return, label, labelled_context, labelled_of, taken};
 use ja_grammar::{Context, Refusal, StatementPart, Stop};
+use ja_parse_cursor::{
+    Cursor, Held, ended, ends_return, label, labelled_context, labelled_of, taken,
+};
 use ja_syntax::{Expression, Statement};
 use std::alloc::Global;
 

@@ -6,8 +6,8 @@ ghost use Rattle.ja_grammar.specs.ReadStatement as spec;
 ghost use Rattle.ja_grammar.specs.ReadStatement.{below};
 
 use crate::grammar::Grammar;
-use ja_cursor::{Cursor, Held, program_context};
 use ja_grammar::{Context, StatementPart, Stop};
+use ja_parse_cursor::{Cursor, Held, program_context};
 use ja_syntax::Statement;
 use sqlite_items::Items;
 use std::alloc::Global;

@@ -9,8 +9,10 @@ ghost use Rattle.ja_grammar.specs.ReadStatement.{below};
 ghost use Rattle.ja_parse_expressions.specs.Nests.{Nests};
 
 use crate::grammar::Grammar;
-use ja_cursor::{Cursor, Held, break_statement, continue_statement, empty_statement, is_label};
 use ja_grammar::{Context, Refusal, StatementPart, Stop};
+use ja_parse_cursor::{
+    Cursor, Held, break_statement, continue_statement, empty_statement, is_label,
+};
 use ja_parse_expressions::function;
 use ja_syntax::{Statement, Symbol};
 use sqlite_items::Items;

@@ -4,7 +4,7 @@ use Rattle.std.specs.List.{slice_get, fold, list_any}
 use Rattle.std.specs.Str.{bytes_eq}
 use Rattle.std.specs.Cmp.Lexicographic.{nat_list_eq_equiv}
 use mathlib.Core.Bool.{true≢false}
-use Rattle.ja_names.specs.Names.{with_name}
+use Rattle.ja_lower_names.specs.Names.{with_name}
 use Rattle.ja_graph.specs.WellFormed.{builtin_names}
 use Rattle.ja_prelude.proofs.TableLemmas.{names-once}
 

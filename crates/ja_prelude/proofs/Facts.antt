@@ -15,7 +15,7 @@ use Rattle.ja_lex.specs.Tokens.{tokens}
 use Rattle.ja_lower.specs.Limits.{prelude_count, prelude_size_of}
 use Rattle.ja_lower.specs.Lowering as lower
 use Rattle.ja_lower.specs.declared.body.Body.{Body}
-use Rattle.ja_names.specs.TextOrder.{functions_in, names_in}
+use Rattle.ja_lower_names.specs.TextOrder.{functions_in, names_in}
 use Rattle.ja_syntax.specs.declared.tree.Statement.{Statement}
 use Rattle.ja_prelude.specs.Reading.{numbered, is_read, statements_in, is_text, tree_of, is_few}
 use Rattle.ja_prelude.specs.Prelude.{prelude_statements, prelude_paths, prelude_names, prelude_bodies, parameter_counts, own_names, stops, reads, calls, uses, by_path}

@@ -1,16 +1,16 @@
 -- What the functions of texts come to, by what the folds of their trees are: those of the definitions, or folds that compute.
 use Rattle.std.proofs.Common.{◌≡◌, ℕ, Bool, true, List, [], map, filter, length, None, refl, ap, ◌∙◌}
 use Rattle.std.specs.List.{flat_map, fold, list_any}
-use Rattle.ja_listing.specs.declared.item.Item.{Item}
-use Rattle.ja_draft.specs.Lines.{Scene}
-use Rattle.ja_expressions.specs.References.{Form}
-use Rattle.ja_expressions.specs.Expressions.{form_step, form}
-use Rattle.ja_expressions.specs.Specials.{is_name}
-use Rattle.ja_names.specs.Names.{with_name}
-use Rattle.ja_names.specs.TextOrder as text
-use Rattle.ja_names.specs.TextOrder.{Named, Parts, if_function, if_name, in_statement, functions_in}
-use Rattle.ja_statements.specs.Statements.{Does, Clause, Expressions, statement_step, clause_step, does, list_all_statements}
-use Rattle.ja_statements.specs.Functions.{first_temporary, nothing_listed, with_entry, declare_functions, declare_variables, ended, unhandled, function_listing}
+use Rattle.ja_lower_listing.specs.declared.item.Item.{Item}
+use Rattle.ja_lower_draft.specs.Lines.{Scene}
+use Rattle.ja_lower_expressions.specs.References.{Form}
+use Rattle.ja_lower_expressions.specs.Expressions.{form_step, form}
+use Rattle.ja_lower_expressions.specs.Specials.{is_name}
+use Rattle.ja_lower_names.specs.Names.{with_name}
+use Rattle.ja_lower_names.specs.TextOrder as text
+use Rattle.ja_lower_names.specs.TextOrder.{Named, Parts, if_function, if_name, in_statement, functions_in}
+use Rattle.ja_lower_statements.specs.Statements.{Does, Clause, Expressions, statement_step, clause_step, does, list_all_statements}
+use Rattle.ja_lower_statements.specs.Functions.{first_temporary, nothing_listed, with_entry, declare_functions, declare_variables, ended, unhandled, function_listing}
 use Rattle.ja_syntax.specs.Arguments as arguments
 use Rattle.ja_syntax.specs.Arguments.{mentions_arguments}
 use Rattle.ja_syntax.specs.Hoisted as hoisted

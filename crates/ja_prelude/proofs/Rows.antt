@@ -7,18 +7,18 @@ use Rattle.ja_base.specs.declared.ids.Place.{Place}
 use Rattle.ja_graph.specs.WellFormed.{builtin_names}
 use Rattle.ja_graph.specs.declared.node.Node.{Node}
 use Rattle.ja_graph.specs.declared.node.NodeInfo.{NodeInfo}
-use Rattle.ja_listing.specs.declared.item.Item.{Item}
-use Rattle.ja_listing.specs.Laws.{placed}
-use Rattle.ja_listing.specs.Listing.{assembled}
-use Rattle.ja_listing.proofs.Kept.{assembled_kept}
-use Rattle.ja_draft.specs.Lines.{Scene}
+use Rattle.ja_lower_listing.specs.declared.item.Item.{Item}
+use Rattle.ja_lower_listing.specs.Laws.{placed}
+use Rattle.ja_lower_listing.specs.Listing.{assembled}
+use Rattle.ja_lower_listing.proofs.Kept.{assembled_kept}
+use Rattle.ja_lower_draft.specs.Lines.{Scene}
 use Rattle.ja_lower.specs.Limits.{size_of_body}
 use Rattle.ja_lower.specs.Lowering as lower
 use Rattle.ja_lower.specs.Lowering.{scene_with, function_body}
 use Rattle.ja_lower.specs.declared.body.Body.{Body}
-use Rattle.ja_names.specs.Names.{number}
-use Rattle.ja_names.specs.TextOrder.{functions_in, names_in}
-use Rattle.ja_statements.specs.Functions.{function_listing}
+use Rattle.ja_lower_names.specs.Names.{number}
+use Rattle.ja_lower_names.specs.TextOrder.{functions_in, names_in}
+use Rattle.ja_lower_statements.specs.Functions.{function_listing}
 use Rattle.ja_syntax.specs.declared.tree.FunctionOf.{FunctionOf}
 use Rattle.ja_syntax.specs.declared.tree.Name.{Name}
 use Rattle.ja_syntax.specs.declared.tree.Statement.{Statement}

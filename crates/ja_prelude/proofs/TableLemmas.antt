@@ -5,7 +5,7 @@ use Rattle.std.specs.Option.{is_some, is_none, option_and_then, option_map, opti
 use Rattle.std.specs.Str.{bytes_eq}
 use lib.Chars.{codes}
 use Rattle.ja_base.specs.declared.ids.Site.{Site}
-use Rattle.ja_names.specs.Names.{with_name}
+use Rattle.ja_lower_names.specs.Names.{with_name}
 use Rattle.ja_graph.specs.declared.builtins.TheConstants.{BUILTIN_CLASSES}
 use Rattle.ja_graph.specs.declared.program.ObjectSpec.{ObjectSpec}
 use Rattle.ja_graph.specs.declared.program.PropertySpec.{PropertySpec}

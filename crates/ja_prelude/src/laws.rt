@@ -10,7 +10,7 @@ ghost use Rattle.ja_graph.specs.WellFormed.{builtin_names};
 ghost use Rattle.ja_lex.specs.Tokens.{tokens};
 ghost use Rattle.ja_lower.specs.Limits.{prelude_count, prelude_size_of};
 ghost use Rattle.ja_lower.specs.Lowering as lower;
-ghost use Rattle.ja_names.specs.TextOrder.{functions_in};
+ghost use Rattle.ja_lower_names.specs.TextOrder.{functions_in};
 ghost use Rattle.ja_prelude.specs.Reading.{is_few, is_text, numbered, tree_of};
 ghost use Rattle.ja_prelude.specs.Prelude.{by_path, calls, own_names, parameter_counts, prelude_bodies, prelude_names, prelude_paths, prelude_statements, reads, stops, uses};
 ghost use Rattle.ja_prelude.specs.Table.{function_paths, lengths};

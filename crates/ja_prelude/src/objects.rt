@@ -5,7 +5,7 @@ ghost use Rattle.std.specs.List.{enumerate_from, flat_map, list_all};
 ghost use Rattle.std.specs.Option.{option_map};
 ghost use Rattle.ja_prim.specs.Texts.{is_short, max_units};
 ghost use Rattle.ja_graph.specs.WellFormed as graph;
-ghost use Rattle.ja_names.specs.Names.{number};
+ghost use Rattle.ja_lower_names.specs.Names.{number};
 ghost use Rattle.ja_prelude.specs.Table as spec;
 
 use crate::table::{BuiltinObject, Constant, Content, Entry, OPENING, Role, TableRow};

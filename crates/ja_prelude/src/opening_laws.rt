@@ -4,7 +4,7 @@
 ghost use Rattle.std.specs.Prelude.{◌≡◌, ◌+◌, ◌<◌, ◌≤◌, ◌⊎◌, ◌++◌, ℕ, List, [], Some, None, IsSome, length, slice_get, take};
 ghost use Rattle.std.specs.List.{AllByRecursion, fold};
 ghost use Rattle.ja_base.specs.declared.ids.Site.{Site};
-ghost use Rattle.ja_names.specs.Names.{with_name};
+ghost use Rattle.ja_lower_names.specs.Names.{with_name};
 ghost use Rattle.ja_graph.specs.Program.{object_spec};
 ghost use Rattle.ja_graph.specs.WellFormed.{IsBuiltin, IsObjectWellFormed, NamesFunctions, builtin_names};
 ghost use Rattle.ja_graph.specs.declared.builtins.TheConstants.{BUILTIN_CLASSES};

@@ -1,6 +1,6 @@
 use Rattle.std.proofs.Common.{◌≡◌, ◌≤◌, [], length, drop}
 use Rattle.std.specs.List.{fold}
-use Rattle.ja_names.specs.Names.{with_name}
+use Rattle.ja_lower_names.specs.Names.{with_name}
 use Rattle.ja_lower.proofs.names_of.Given as goal
 
 abbrev pub invariant-loop-text : goal.invariant-loop-text

@@ -1,6 +1,6 @@
 use Rattle.std.proofs.Common.{true, map, None, IfErr, ap, subst, ◌∙◌}
-use Rattle.ja_draft.specs.Lines.{Scene}
-use Rattle.ja_names.specs.TextOrder.{functions_in}
+use Rattle.ja_lower_draft.specs.Lines.{Scene}
+use Rattle.ja_lower_names.specs.TextOrder.{functions_in}
 use Rattle.ja_syntax.specs.declared.tree.FunctionOf.{FunctionOf}
 use Rattle.ja_syntax.specs.declared.tree.Statement.{Statement}
 use Rattle.ja_base.specs.declared.ids.Place.{Place}

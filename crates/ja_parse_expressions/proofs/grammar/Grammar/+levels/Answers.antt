@@ -4,7 +4,7 @@ use Rattle.ja_grammar.specs.Input.{strict}
 use Rattle.ja_grammar.specs.ReadExpression as spec
 use Rattle.ja_grammar.specs.ReadStatement.{below}
 use Rattle.ja_parse_expressions.proofs.Operators.{ends_at, binary_none, binary_up, binary_error_first, binary_error}
-use Rattle.ja_cursor.proofs.Turns.{passed, until_start, until_stop, until_none, until_more, until_error}
+use Rattle.ja_parse_cursor.proofs.Turns.{passed, until_start, until_stop, until_none, until_more, until_error}
 use Rattle.ja_parse_expressions.proofs.grammar.Grammar.+levels.Goals as goal
 
 pub binary-returns-in_err-x : goal.binary-returns-in_err-x

@@ -3,7 +3,7 @@ use Rattle.ja_grammar.specs.Input.{Done, until, strict}
 use Rattle.ja_grammar.specs.Operators.{binary_operator}
 use Rattle.ja_grammar.specs.ReadExpression as spec
 use Rattle.ja_grammar.specs.ReadStatement.{below}
-use Rattle.ja_cursor.proofs.Turns.{until_from}
+use Rattle.ja_parse_cursor.proofs.Turns.{until_from}
 use Rattle.ja_parse_expressions.proofs.grammar.Grammar.+levels.Given as goal
 
 abbrev pub decreases-binary : goal.decreases-binary

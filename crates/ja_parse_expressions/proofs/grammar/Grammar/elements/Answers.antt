@@ -1,5 +1,5 @@
 use Rattle.std.proofs.Common.{sym, ap, ◌∙◌}
-use Rattle.ja_cursor.proofs.Turns.{passed, until_start, until_stop, until_none, until_more, until_error}
+use Rattle.ja_parse_cursor.proofs.Turns.{passed, until_start, until_stop, until_none, until_more, until_error}
 use Rattle.ja_grammar.specs.Input.{strict}
 use Rattle.ja_grammar.specs.ReadExpression as spec
 use Rattle.ja_grammar.specs.ReadStatement.{below}

@@ -4,7 +4,7 @@ use Rattle.ja_grammar.specs.Contexts.{context_of}
 use Rattle.ja_grammar.specs.Input.{strict}
 use Rattle.ja_grammar.specs.ReadStatement.{below}
 use Rattle.ja_parse_statements.proofs.Cases.{clauses_start, clauses_close, clauses_none, clauses_case, clauses_case_error, clauses_default, clauses_default_error, clauses_twice, clauses_other}
-use Rattle.ja_cursor.proofs.Turns.{passed}
+use Rattle.ja_parse_cursor.proofs.Turns.{passed}
 use Rattle.ja_parse_statements.proofs.grammar.Grammar.clauses.Goals as goal
 
 pub loop-turn-init : goal.loop-turn-init

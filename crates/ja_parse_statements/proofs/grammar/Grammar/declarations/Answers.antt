@@ -1,4 +1,4 @@
-use Rattle.ja_cursor.proofs.Turns.{passed, commas_start, commas_error_first, commas_stop, commas_none, commas_more, commas_error}
+use Rattle.ja_parse_cursor.proofs.Turns.{passed, commas_start, commas_error_first, commas_stop, commas_none, commas_more, commas_error}
 use Rattle.ja_grammar.specs.Input.{strict}
 use Rattle.ja_grammar.specs.ReadStatement.{below}
 use Rattle.ja_grammar.specs.ReadStatement as statements

@@ -1,4 +1,4 @@
-use Rattle.ja_cursor.proofs.Turns.{passed, until_start, until_stop, until_none, until_more, until_error}
+use Rattle.ja_parse_cursor.proofs.Turns.{passed, until_start, until_stop, until_none, until_more, until_error}
 use Rattle.ja_grammar.specs.Input.{strict}
 use Rattle.ja_grammar.specs.ReadStatement as statements
 use Rattle.ja_grammar.specs.ReadStatement.{below}

@@ -1,6 +1,6 @@
 use Rattle.std.proofs.Common.{◌≡◌, ◌-◌}
 use Rattle.ja_grammar.specs.Input.{until, strict}
-use Rattle.ja_cursor.proofs.Turns.{until_from}
+use Rattle.ja_parse_cursor.proofs.Turns.{until_from}
 use Rattle.ja_grammar.specs.ReadStatement as statements
 use Rattle.ja_grammar.specs.ReadStatement.{below}
 use Rattle.ja_grammar.specs.Contexts.{context_of}

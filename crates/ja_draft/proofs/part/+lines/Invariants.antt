@@ -1,6 +1,0 @@
-use Rattle.std.proofs.Common.{◌≡◌, take}
-use Rattle.ja_draft.specs.Parts as spec
-use Rattle.ja_draft.proofs.part.+lines.Given as goal
-
-abbrev pub invariant-lines-loop-part : goal.invariant-lines-loop-part
-invariant-lines-loop-part l = l.items.items ≡ spec.lines_of (take l.part-index l.parts)

@@ -1,6 +1,0 @@
-use Rattle.std.proofs.Common.{◌-◌, length, drop}
-use Rattle.ja_listing.specs.Passes.{HasPassed}
-use Rattle.ja_listing.proofs.passes.passed.Given as goal
-
-abbrev pub invariant-loop-done : goal.invariant-loop-done
-invariant-loop-done l = HasPassed l.backward l.items (drop (length l.items - l.done) l.items)
