@@ -93,11 +93,12 @@ fn names(out: &mut Out, program: &mut Program) {
     out.line_of_bool("there are no signatures", program.signatures().is_empty());
     program.names = Seq::new(out.alloc);
     out.line_of_bool("there are no names", well_formed(program));
-    let name = Text16::from_units(Vec::new(out.alloc));
-    out.line_of_bool(
-        "the empty name has a number",
-        program.name_id(&name).is_some(),
-    );
+    if let Ok(name) = Text16::from_ascii(out.alloc, b"") {
+        out.line_of_bool(
+            "the empty name has a number",
+            program.name_id(&name).is_some(),
+        );
+    }
 }
 
 /// Whether the program of the empty text is well formed, and with a number changed.

@@ -10,7 +10,7 @@ pub(crate) fn copies(alloc: Global, values: &[Primitive]) -> Result<Seq<Primitiv
 {
     let mut list = Vec::with_capacity(alloc, values.len())?;
     for value in values {
-        list.push(value.copy(alloc)?)?;
+        list.push(value.copy()?)?;
     }
     Ok(Seq::from_vec(list))
 }

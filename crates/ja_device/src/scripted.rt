@@ -92,8 +92,8 @@ impl Device for Scripted {
             return Err(CallFault::Failed);
         }
         let given = self.heard.len().min(self.answers.len() - 1);
-        let answer = self.answers[given].copy(alloc)?;
-        let told = self.answers[given].copy(alloc)?;
+        let answer = self.answers[given].copy()?;
+        let told = self.answers[given].copy()?;
         let args = copies(alloc, args)?;
         self.heard.push(Heard { args, answer: told })?;
         Ok(answer)

@@ -103,7 +103,7 @@ pub fn renamed<R: Renames>(alloc: Global, node: &Node, renaming: &R) -> Result<N
     match node {
         Node::Const { dst, prim } => Ok(Node::Const {
             dst: renaming.register(*dst),
-            prim: prim.copy(alloc)?,
+            prim: prim.copy()?,
         }),
         Node::Move { dst, src } => Ok(Node::Move {
             dst: renaming.register(*dst),

@@ -33,7 +33,7 @@ impl Heap {
         };
         for (name, held) in &object.properties {
             if !held.attrs.dont_enum && !self.any_owns(nearer, name) {
-                names.push(name.copy(alloc)?)?;
+                names.push(name.copy()?)?;
             }
         }
         Ok(())

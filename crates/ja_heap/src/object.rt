@@ -103,7 +103,7 @@ impl Object {
             }
             None => {
                 let held = Held::new(Content::Value(v), NO_ATTRS);
-                self.properties.insert(name.copy(alloc)?, held)?;
+                self.properties.insert(name.copy()?, held)?;
                 Ok(())
             }
         }
@@ -129,7 +129,7 @@ impl Object {
             }
             None => {
                 let held = Held::new(content, attrs);
-                self.properties.insert(name.copy(alloc)?, held)?;
+                self.properties.insert(name.copy()?, held)?;
                 Ok(())
             }
         }
@@ -140,7 +140,7 @@ impl Object {
         ensures set { OnOk result (self.new ≡ record self.old { properties = objects.with_property self.old.properties (property_with name.now held) }) }
         ensures kept { OnErr result (self.new ≡ self.old) }
     {
-        self.properties.insert(name.copy(alloc)?, held)?;
+        self.properties.insert(name.copy()?, held)?;
         Ok(())
     }
 

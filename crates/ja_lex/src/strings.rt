@@ -10,7 +10,7 @@ use crate::marks::bad;
 use crate::token::{TokenFault, TokenKind};
 use ja_base::{ScopeKind, Seq};
 use ja_prim::{MAX_UNITS, Text16, push_character};
-use std::alloc::{AllocFailed, Global};
+use std::alloc::{AllocError, AllocFailed, Global};
 
 /// What stands between the quotes of a string literal: its units, whether it has an octal escape, and how many characters
 /// it is.
@@ -224,7 +224,7 @@ fn read_body(alloc: Global, quote: char, text: &[char]) -> Result<Option<Body>, 
 
 /// The string literal that the text begins with.
 #[tactic(auto, unfolding(crate::specs::Strings::string))]
-pub fn string(alloc: Global, text: &[char]) -> Result<Element, AllocFailed<u16>>
+pub fn string(alloc: Global, text: &[char]) -> Result<Element, AllocError>
     requires { length text.now ≤ 16777216 }
     ensures { IfOk result (λ e. e ≡ spec.string text.now) }
 {
@@ -244,7 +244,7 @@ pub fn string(alloc: Global, text: &[char]) -> Result<Element, AllocFailed<u16>>
                 Ok(bad(TokenFault::Scope(ScopeKind::TextLength)))
             } else {
                 Ok(Element::Token {
-                    kind: TokenKind::Text(Text16::from_units(units.into_vec())),
+                    kind: TokenKind::Text(Text16::from_units(alloc, units.into_vec())?),
                     length: length + 2,
                 })
             }

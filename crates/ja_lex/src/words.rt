@@ -7,11 +7,11 @@ use crate::marks::bad;
 use crate::token::{TokenFault, TokenKind};
 use ja_base::ScopeKind;
 use ja_prim::{MAX_UNITS, Text16};
-use std::alloc::{AllocFailed, Global};
+use std::alloc::{AllocError, Global};
 
 /// The identifier or reserved word that the text begins with, or its escape.
 #[tactic(auto, using(crate::proofs::Classed::all_part), unfolding(crate::specs::Words::word))]
-pub fn word(alloc: Global, text: &[char]) -> Result<Element, AllocFailed<u16>>
+pub fn word(alloc: Global, text: &[char]) -> Result<Element, AllocError>
     requires { length text.now ≤ 16777216 }
     ensures { IfOk result (λ e. e ≡ spec.word text.now) }
 {
@@ -24,7 +24,7 @@ pub fn word(alloc: Global, text: &[char]) -> Result<Element, AllocFailed<u16>>
     }
     let units = units(alloc, run(Class::Part, text))?;
     Ok(Element::Token {
-        kind: TokenKind::Word(Text16::from_units(units)),
+        kind: TokenKind::Word(Text16::from_units(alloc, units)?),
         length,
     })
 }

@@ -22,7 +22,7 @@ pub(crate) fn copied(alloc: Global, signatures: &[Signature]) -> Result<Seq<Sign
 {
     let mut copies = Vec::with_capacity(alloc, signatures.len())?;
     for signature in signatures {
-        let name = signature.name.copy(alloc)?;
+        let name = signature.name.copy()?;
         let kinds = signature.kinds;
         copies.push(Signature { name, kinds })?;
     }

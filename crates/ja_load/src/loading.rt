@@ -30,7 +30,7 @@ fn add_names(alloc: Global, names: &mut Vec<Text16>, signatures: &[Signature]) -
     ensures { OnOk result (names.new.items ≡ names.old.items ++ device_names signatures.now) }
 {
     for signature in signatures {
-        names.push(signature.name.copy(alloc)?)?;
+        names.push(signature.name.copy()?)?;
     }
     Ok(())
 }
@@ -46,7 +46,7 @@ fn names_before(
 {
     let mut names = Vec::new(alloc);
     for name in prelude.names.as_slice() {
-        names.push(name.copy(alloc)?)?;
+        names.push(name.copy()?)?;
     }
     add_names(alloc, &mut names, signatures)?;
     Ok(names)

@@ -45,8 +45,8 @@ fn name_of(alloc: Global, name: &Option<Name>) -> Result<Text16, Memory>
     ensures { IfOk result (λ text. text ≡ option_map_or (λ n. n.text) name.now []) }
 {
     match name {
-        None => Ok(Text16::from_units(Vec::new(alloc))),
-        Some(name) => Ok(name.text.copy(alloc)?),
+        None => Ok(Text16::from_units(alloc, Vec::new(alloc))?),
+        Some(name) => Ok(name.text.copy()?),
     }
 }
 
@@ -75,7 +75,7 @@ fn program_body(
     let listing = program_listing(scene, statements)?;
     let nodes = nodes_of(scene.alloc, listing, room)?;
     Ok(Body {
-        name: Text16::from_units(Vec::new(scene.alloc)),
+        name: Text16::from_units(scene.alloc, Vec::new(scene.alloc))?,
         parameters: Seq::new(scene.alloc),
         nodes,
     })
@@ -192,7 +192,7 @@ fn at_paths(alloc: Global, paths: &[Text16], bodies: Vec<Body>) -> Result<Vec<Bo
             return Ok(list);
         };
         list.push(Body {
-            name: path.copy(alloc)?,
+            name: path.copy()?,
             parameters: body.parameters,
             nodes: body.nodes,
         })?;

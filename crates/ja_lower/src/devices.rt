@@ -40,7 +40,7 @@ fn device_body(alloc: Global, which: u32, signature: &Signature) -> Result<Body,
     nodes.push(device_node(Node::Return { src: REGISTER }, 2))?;
     nodes.push(device_node(Node::Escape, 2))?;
     Ok(Body {
-        name: signature.name.copy(alloc)?,
+        name: signature.name.copy()?,
         parameters: Seq::new(alloc),
         nodes: Seq::from_vec(nodes),
     })

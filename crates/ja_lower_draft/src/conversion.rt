@@ -31,7 +31,7 @@ pub fn literal(
 ) -> Result<Reg, Memory>
     ensures { lines.Gives (lines.with_const scene.now place prim.now draft.old) result draft.new }
 {
-    let prim = prim.copy(scene.alloc)?;
+    let prim = prim.copy()?;
     let dst = constant(scene, place, prim, draft)?;
     Ok(dst)
 }

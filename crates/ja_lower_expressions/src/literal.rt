@@ -49,7 +49,7 @@ fn property_text(alloc: Global, name: &PropertyName) -> Result<Text16, Memory>
 {
     match name {
         PropertyName::Word(text) | PropertyName::Text(text) => {
-            let text = text.copy(alloc)?;
+            let text = text.copy()?;
             Ok(text)
         }
         PropertyName::Number(n) => number_text(alloc, *n),

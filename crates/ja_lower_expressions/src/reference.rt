@@ -147,7 +147,7 @@ pub(crate) fn member(
 ) -> Result<Outcome, Memory>
     ensures { spec.Comes (spec.with_member name.now place scene.now src draft.old) result draft.new }
 {
-    let name = name.copy(scene.alloc)?;
+    let name = name.copy()?;
     let key = constant(scene, place, Primitive::Text(name), draft)?;
     let object = object(scene, place, src, draft)?;
     Ok(Outcome::Member { object, key, place })

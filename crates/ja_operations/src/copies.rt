@@ -12,7 +12,7 @@ pub fn copy_value(alloc: Global, value: &Value) -> Result<Value, Memory>
 {
     match value {
         Value::Primitive(primitive) => {
-            let primitive = primitive.copy(alloc)?;
+            let primitive = primitive.copy()?;
             Ok(Value::Primitive(primitive))
         }
         Value::Object(address) => Ok(Value::Object(*address)),

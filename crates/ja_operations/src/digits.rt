@@ -49,7 +49,7 @@ pub(crate) fn radix_text(alloc: Global, number: Num, radix: u64) -> Result<Text1
             if n < 0 {
                 units.insert(0, 45)?;
             }
-            Ok(Text16::from_units(units))
+            Ok(Text16::from_units(alloc, units)?)
         }
     }
 }

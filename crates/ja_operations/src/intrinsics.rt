@@ -84,7 +84,7 @@ fn value_of(alloc: Global, heap: &Heap, value: &Value) -> Result<Outcome, Memory
     };
     match &object.slots().value {
         None => Ok(Err(REFUSED)),
-        Some(internal) => Ok(Ok(internal.copy(alloc)?)),
+        Some(internal) => Ok(Ok(internal.copy()?)),
     }
 }
 

@@ -174,7 +174,7 @@ pub fn text_object(alloc: Global, text: &Text16) -> Result<Object, Memory>
 {
     let name = Text16::from_ascii(alloc, b"length")?;
     let length = whole_number(text.units().len() as u64);
-    let value = Primitive::Text(text.copy(alloc)?);
+    let value = Primitive::Text(text.copy()?);
     let object = wrapper(alloc, Class::String, STRING_PROTOTYPE, value);
     object.with(alloc, &name, Content::Value(length), ALL_ATTRS)
 }

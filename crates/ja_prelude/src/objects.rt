@@ -96,7 +96,7 @@ fn primitive_of(alloc: Global, constant: &Constant) -> Result<Primitive, Memory>
         Constant::NaN => Primitive::Number(Num::NaN),
         Constant::False => Primitive::Bool(false),
         Constant::Number(n) => number_of(*n),
-        Constant::Empty => Primitive::Text(Text16::from_units(Vec::new(alloc))),
+        Constant::Empty => Primitive::Text(Text16::from_units(alloc, Vec::new(alloc))?),
         Constant::ErrorName(kind) => Primitive::Text(Text16::from_ascii(
             alloc,
             error_name(*kind).as_bytes(),

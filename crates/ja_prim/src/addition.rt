@@ -47,7 +47,7 @@ pub fn add(alloc: Global, a: &Prim, b: &Prim) -> Result<Prim, PrimFault>
 {
     if is_text(a) || is_text(b) {
         let units = joined_units(alloc, a, b)?;
-        let text = limited(units)?;
+        let text = limited(alloc, units)?;
         return Ok(Primitive::Text(text));
     }
     match sum(a, b) {

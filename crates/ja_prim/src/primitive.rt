@@ -1,7 +1,7 @@
 ghost use Rattle.std.specs.Prelude.{◌≡◌, IfOk};
 
 use crate::{Int, Text16};
-use std::alloc::{AllocError, Global};
+use std::alloc::AllocError;
 
 /// A number of the profile: NaN, or a whole number. Minus zero is zero.
 #[derive(Clone, Copy, Debug, PartialEq, Eq)]
@@ -21,8 +21,8 @@ pub enum Primitive {
 }
 
 impl Primitive {
-    /// The same value, in memory of its own. It fails where memory is refused.
-    pub fn copy(&self, alloc: Global) -> Result<Primitive, AllocError>
+    /// The same value; a text shares its units. It takes no memory, and fails where 2^64 - 1 texts share them.
+    pub fn copy(&self) -> Result<Primitive, AllocError>
         ensures { IfOk result (λ copy. copy ≡ self.now) }
     {
         Ok(match self {
@@ -30,7 +30,7 @@ impl Primitive {
             Primitive::Null => Primitive::Null,
             Primitive::Bool(truth) => Primitive::Bool(*truth),
             Primitive::Number(number) => Primitive::Number(*number),
-            Primitive::Text(text) => Primitive::Text(text.copy(alloc)?),
+            Primitive::Text(text) => Primitive::Text(text.copy()?),
         })
     }
 }

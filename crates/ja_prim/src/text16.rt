@@ -10,14 +10,15 @@ use crate::literals::text_to_number;
 use crate::{Num, PrimFault, Stop};
 use std::alloc::{AllocError, AllocFailed, Global};
 use std::marker::Model;
+use std::rc::Rc;
 
 /// The most units that a text of the profile may have.
 pub const MAX_UNITS: usize = 1_048_576;
 
-/// A text of at most 1,048,576 units of 16 bits. Contracts see the list of units.
+/// A text of at most 1,048,576 units of 16 bits. Contracts see the list of units. Copies share their units.
 #[derive(Drop)]
 pub struct Text16 {
-    units: Vec<u16>,
+    units: Rc<Vec<u16>>,
 }
 
 impl Model for Text16 {
@@ -26,18 +27,20 @@ impl Model for Text16 {
 
     ghost Value = { List ℕ };
 
-    ghost view = { λ t. t.units.items };
+    ghost view = { λ t. t.units.value.items };
 
-    ghost invariant = { λ t. length t.units.items ≤ max_units };
+    ghost invariant = { λ t. length t.units.value.items ≤ max_units };
 }
 
 impl Text16 {
-    /// The text of these units, in the vector's own memory.
-    pub fn from_units(units: Vec<u16>) -> Text16
+    /// The text of these units, in the vector's own memory. It fails where memory is refused.
+    pub fn from_units(alloc: Global, units: Vec<u16>) -> Result<Text16, AllocError>
         requires { length units.items ≤ max_units }
-        ensures { result ≡ units.items }
+        ensures { IfOk result (λ text. text ≡ units.items) }
     {
-        Text16 { units }
+        Ok(Text16 {
+            units: Rc::new(alloc, units)?,
+        })
     }
 
     /// The text of these units, in memory of its own. It fails where memory is refused.
@@ -45,7 +48,7 @@ impl Text16 {
         requires { length units.now ≤ max_units }
         ensures { IfOk result (λ text. text ≡ units.now) }
     {
-        Ok(Text16::from_units(Vec::from_slice(alloc, units)?))
+        Text16::from_units(alloc, Vec::from_slice(alloc, units)?)
     }
 
     /// The text with a unit for each byte. It fails where memory is refused.
@@ -53,7 +56,7 @@ impl Text16 {
         requires { length bytes.now ≤ max_units }
         ensures { IfOk result (λ text. text ≡ bytes.now) }
     {
-        Ok(Text16::from_units(ascii_units(alloc, bytes)?))
+        Text16::from_units(alloc, ascii_units(alloc, bytes)?)
     }
 
     /// The UTF-16 units of a text. `TextLength` comes exactly where there are more than 1,048,576, and `Memory` where
@@ -63,7 +66,7 @@ impl Text16 {
     {
         let characters = characters_of(alloc, text)?;
         let units = units_of(alloc, &characters)?;
-        limited(units)
+        limited(alloc, units)
     }
 
     /// The number that the text says (ES3 9.3.1).
@@ -73,11 +76,13 @@ impl Text16 {
         text_to_number(&self.units)
     }
 
-    /// The same text, in memory of its own. It fails where memory is refused.
-    pub fn copy(&self, alloc: Global) -> Result<Text16, AllocError>
+    /// The same text, which shares its units. It takes no memory, and fails where 2^64 - 1 texts share them.
+    pub fn copy(&self) -> Result<Text16, AllocError>
         ensures { IfOk result (λ text. text ≡ self.now) }
     {
-        Text16::from_slice(alloc, &self.units)
+        Ok(Text16 {
+            units: self.units.clone()?,
+        })
     }
 
     /// The units.
@@ -89,14 +94,15 @@ impl Text16 {
     }
 }
 
-/// The text of these units, or `TextLength` exactly where there are more than 1,048,576.
-pub fn limited(units: Vec<u16>) -> Result<Text16, PrimFault>
+/// The text of these units. `TextLength` comes exactly where there are more than 1,048,576, and `Memory` where memory is
+/// refused.
+pub fn limited(alloc: Global, units: Vec<u16>) -> Result<Text16, PrimFault>
     ensures { Answers (limited_text units.items) result }
 {
     if units.len() > MAX_UNITS {
         return Err(PrimFault::Stop(Stop::TextLength));
     }
-    Ok(Text16 { units })
+    Ok(Text16::from_units(alloc, units)?)
 }
 
 /// The characters of a text.

@@ -39,5 +39,5 @@ pub fn to_text(alloc: Global, a: &Prim) -> Result<Text16, Memory>
     ensures { IfOk result (λ text. text ≡ spec.to_text a.now) }
 {
     let units = text_units(alloc, a)?;
-    Ok(Text16::from_units(units))
+    Ok(Text16::from_units(alloc, units)?)
 }

@@ -96,7 +96,7 @@ impl Reader<'_> {
         if !is_given {
             return Ok(None);
         }
-        let state = self.with_error(error, prototype, Text16::from_units(message))?;
+        let state = self.with_error(error, prototype, Text16::from_units(self.alloc, message)?)?;
         Ok(Some((info.handler, state)))
     }
 

@@ -42,7 +42,7 @@ fn ask<D: Device>(
     let args = device_arguments(alloc, conf)?;
     match devices.call(alloc, which as usize, args.as_slice()) {
         Ok(answer) => {
-            let copy = answer.copy(alloc)?;
+            let copy = answer.copy()?;
             calls.push(CallRecord {
                 device: which,
                 args,

@@ -35,7 +35,7 @@ fn opening_content(alloc: Global, content: &SpecContent) -> Result<Content, Memo
 {
     match content {
         SpecContent::Prim(primitive) => {
-            let copy = primitive.copy(alloc)?;
+            let copy = primitive.copy()?;
             Ok(Content::Value(Value::Primitive(copy)))
         }
         SpecContent::Object(site) => Ok(Content::Value(Value::Object(first_of(*site)))),
@@ -59,7 +59,7 @@ fn opening_value(alloc: Global, value: &Option<Primitive>) -> Result<Option<Prim
 {
     match value {
         Some(value) => {
-            let copy = value.copy(alloc)?;
+            let copy = value.copy()?;
             Ok(Some(copy))
         }
         None => Ok(None),

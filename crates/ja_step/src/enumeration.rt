@@ -176,7 +176,7 @@ impl Conf {
             Answer::Tick => Ok(self.turns(info)),
             Answer::Pick(place) => match self.shown_at(list, *a, *place) {
                 Some(name) => {
-                    let name = name.copy(alloc)?;
+                    let name = name.copy()?;
                     self.takes(alloc, info, list, dst, name)
                 }
                 None => unreachable!(),

@@ -88,7 +88,7 @@ impl Conf {
         if message.len() > MAX_UNITS {
             return Ok(self.left_scope(info, ScopeKind::TextLength));
         }
-        let object = error_object(alloc, prototype, Text16::from_units(message))?;
+        let object = error_object(alloc, prototype, Text16::from_units(alloc, message)?)?;
         let thrown = self.heap.alloc(error, object)?;
         Ok(self.throws_value(info, Value::Object(thrown)))
     }

@@ -45,7 +45,7 @@ pub fn device_arguments(alloc: Global, conf: &Conf) -> Result<Seq<Primitive>, Me
     let mut primitives = Vec::with_capacity(alloc, conf.frame.arguments.len())?;
     for value in &conf.frame.arguments {
         if let Value::Primitive(primitive) = value {
-            let primitive = primitive.copy(alloc)?;
+            let primitive = primitive.copy()?;
             primitives.push(primitive)?;
         }
     }

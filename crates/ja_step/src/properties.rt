@@ -23,7 +23,7 @@ fn key_of(alloc: Global, value: Option<&Value>) -> Result<Option<Text16>, Memory
 {
     match value {
         Some(Value::Primitive(Primitive::Text(text))) => {
-            let text = text.copy(alloc)?;
+            let text = text.copy()?;
             Ok(Some(text))
         }
         Some(Value::Primitive(Primitive::Number(number))) => {

@@ -26,7 +26,7 @@ impl Conf {
     ) -> Result<Option<End>, Memory>
         ensures { IfOk result (λ end. leads_to self.old end self.new ≡ sets (standing self.old info.now) dst (value.Primitive primitive.now)) }
     {
-        let copy = primitive.copy(alloc)?;
+        let copy = primitive.copy()?;
         Ok(self.sets(info, dst, Value::Primitive(copy)))
     }
 

@@ -186,7 +186,7 @@ fn parameter_names(alloc: Global, parameters: &[Name]) -> Result<Seq<Text16>, Me
 {
     let mut names = Vec::new(alloc);
     for parameter in parameters {
-        names.push(parameter.text.copy(alloc)?)?;
+        names.push(parameter.text.copy()?)?;
     }
     Ok(Seq::from_vec(names))
 }

@@ -29,7 +29,7 @@ pub fn copy_text_part(alloc: Global, part: &TextPart) -> Result<TextPart, Memory
     match part {
         TextPart::Nothing => Ok(TextPart::Nothing),
         TextPart::One(text) => {
-            let text = text.copy(alloc)?;
+            let text = text.copy()?;
             Ok(TextPart::One(text))
         }
         TextPart::IndexText => Ok(TextPart::IndexText),
@@ -80,10 +80,10 @@ fn join_one(alloc: Global, text: &Text16, part: &TextPart) -> Result<TextPart, M
 {
     let class = class_of_text(text);
     match part {
-        TextPart::Nothing => Ok(TextPart::One(text.copy(alloc)?)),
+        TextPart::Nothing => Ok(TextPart::One(text.copy()?)),
         TextPart::One(other) => {
             if same_text(text, other) {
-                return Ok(TextPart::One(text.copy(alloc)?));
+                return Ok(TextPart::One(text.copy()?));
             }
             Ok(join_text_classes(&class, &class_of_text(other)))
         }

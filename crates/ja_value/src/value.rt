@@ -191,7 +191,7 @@ impl AValue {
             }
             Primitive::Number(Num::Whole(number)) => Ok(AValue::of_number(alloc, *number)),
             Primitive::Text(text) => {
-                let text = text.copy(alloc)?;
+                let text = text.copy()?;
                 Ok(AValue::of_text(alloc, text))
             }
         }
