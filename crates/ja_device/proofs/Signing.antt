@@ -7,11 +7,12 @@ use Rattle.std.proofs.lemmas.Bool.Decides.{nat_tests}
 use Rattle.std.proofs.lemmas.Grind.{common_steps}
 use Rattle.std.proofs.lemmas.List.{length-append, length-take, length-drop, length-map, map-append, map-set, take-map, drop-map, take_more}
 use Rattle.std.proofs.lemmas.Option.{same_Some, slice_get-map, slice_get_read, slice_get_within, get_or_from_slice_get}
+use Rattle.ja_base.proofs.Lists.{element_within}
 use borrow.Author.Count.{below_more}
 use Rattle.ja_prim.specs.declared.primitive.Primitive.{Primitive}
 use Rattle.ja_prim.specs.declared.signature.Kinds.{Kinds}
 use Rattle.ja_prim.specs.declared.signature.Signature.{Signature}
-use Rattle.ja_machine.proofs.Lists.{slice_get_some, all_from, all_at, all_append}
+use Rattle.ja_machine.proofs.Lists.{all_from, all_at, all_append}
 use Rattle.ja_device.specs.Devices.{Seen, signature_of, IsCalled, IsAsked, failed_after}
 use Rattle.ja_device.specs.Signatures.{is_fit, is_identifier, has_kind, AreSignatures, IsFirstAt, IsRefused, IsPosition, IsFaultBehind}
 use Rattle.ja_device.specs.declared.fault.CallFault.{CallFault}
@@ -103,7 +104,7 @@ none_has ss name none i t at same = none i (slice_get-map (λ (s : Signature). s
 one_has : (ss : List Signature) (name : List ℕ) (i : ℕ) → IsPosition (names_of ss) name (Some i) → (t : Signature) × (slice_get ss i ≡ Some t) × (t.name ≡ name)
 one_has ss name i first =
     let within : i < length (names_of ss) = slice_get_within (names_of ss) i name first.0 in
-    let there : (t : Signature) × (slice_get ss i ≡ Some t) = slice_get_some ss i (omega (arith, length-map ss (λ (s : Signature). s.name))) in
+    let there : (t : Signature) × (slice_get ss i ≡ Some t) = element_within ss i (omega (arith, length-map ss (λ (s : Signature). s.name))) in
     (there.0, there.1, same_Some there.0.name name (sym (slice_get-map (λ (s : Signature). s.name) ss i ∙ ap (option_map (λ (s : Signature). s.name)) there.1) ∙ first.0))
 
 -- ---- signatures

@@ -1,5 +1,6 @@
 -- The place laws of blocks, of expressions in parentheses, of `switch` and `try` (12.1, 12.11, 12.14).
 use Rattle.std.proofs.Common.{◌≡◌, ℕ, zero, suc, ◌<◌, ◌≤◌, Bool, true, false, List, [], ◌∷◌, length, Option, Some, None, refl, sym, ap, ◌∙◌, subst}
+use Rattle.ja_base.proofs.Options.{none_not_some}
 use Rattle.ja_lex.specs.declared.token.Token.{Token}
 use Rattle.ja_syntax.specs.declared.symbol.Symbol.{Symbol}
 use Rattle.ja_syntax.specs.declared.symbol.Symbol.TheVariants as k
@@ -22,7 +23,7 @@ use Rattle.ja_grammar.proofs.Good.{Follow, Reason, Sample, GoodAt, Any, pure_goo
 use Rattle.ja_grammar.proofs.LabelNames.{switch_names}
 use Rattle.ja_grammar.proofs.Levels.{EndsExpression, EndsStatement, AreNames}
 use Rattle.ja_grammar.proofs.Opening.{opening_inverse}
-use Rattle.ja_grammar.proofs.Outcomes.{end_is, none_not_some, done_value, expect_refused, refused_not_done}
+use Rattle.ja_grammar.proofs.Outcomes.{end_is, done_value, expect_refused, refused_not_done}
 use Rattle.ja_grammar.proofs.Roomier.{Roomier, token_sample, expected_sample, any_first, then_pure, expects, unexpected, closes_pure, opens, below_sample}
 use Rattle.ja_grammar.proofs.SampleTokens.{open_brace, open_brace_is, open_brace_real, close_parenthesis, close_parenthesis_is, close_parenthesis_real, close_brace, close_brace_is, close_brace_real, colon, colon_is, colon_real}
 use Rattle.ja_grammar.proofs.Shrinks.{bind_takes, pure_shrinks}

@@ -1,5 +1,6 @@
 -- What ends an expression is no operator, and begins nothing that goes on.
 use Rattle.std.proofs.Common.{◌≡◌, ◌≢◌, ℕ, Bool, true, false, Option, Some, None, refl, sym, ap, ◌∙◌}
+use Rattle.ja_base.proofs.Options.{none_not_some}
 use Rattle.ja_lex.specs.declared.token.Token.{Token}
 use Rattle.ja_syntax.specs.declared.symbol.Symbol.{Symbol}
 use Rattle.ja_syntax.specs.declared.symbol.Symbol.TheVariants as k
@@ -78,49 +79,46 @@ no_postfix_closes t h = go t.line_before
 
 -- ---- what is an operator or a literal is not the end, and what counts is no `:`
 
-none_some : {A : Type 0} {a : A} → None ≡ Some a → ⊥
-none_some h = cc h
-
 pub binary_more : (no_in : Bool) (level : ℕ) (κ : Symbol) (o : BinaryOperator) → binary_operator no_in level κ ≡ Some o → κ ≢ k.End
 unfolding binary_operator binary_of
-binary_more no_in level κ o h ends = none_some (sym (ap (binary_operator no_in level) ends) ∙ h)
+binary_more no_in level κ o h ends = none_not_some (sym (ap (binary_operator no_in level) ends) ∙ h)
 
 pub assignment_more : (κ : Symbol) (o : Option BinaryOperator) → assignment_operator κ ≡ Some o → κ ≢ k.End
 unfolding assignment_operator
-assignment_more κ o h ends = none_some (sym (ap assignment_operator ends) ∙ h)
+assignment_more κ o h ends = none_not_some (sym (ap assignment_operator ends) ∙ h)
 
 pub assignment_no_colon : (κ : Symbol) (o : Option BinaryOperator) → assignment_operator κ ≡ Some o → κ ≢ k.Colon
 unfolding assignment_operator
-assignment_no_colon κ o h colon = none_some (sym (ap assignment_operator colon) ∙ h)
+assignment_no_colon κ o h colon = none_not_some (sym (ap assignment_operator colon) ∙ h)
 
 pub unary_more : (κ : Symbol) (o : UnaryOperator) → unary_operator κ ≡ Some o → κ ≢ k.End
 unfolding unary_operator
-unary_more κ o h ends = none_some (sym (ap unary_operator ends) ∙ h)
+unary_more κ o h ends = none_not_some (sym (ap unary_operator ends) ∙ h)
 
 pub unary_no_colon : (κ : Symbol) (o : UnaryOperator) → unary_operator κ ≡ Some o → κ ≢ k.Colon
 unfolding unary_operator
-unary_no_colon κ o h colon = none_some (sym (ap unary_operator colon) ∙ h)
+unary_no_colon κ o h colon = none_not_some (sym (ap unary_operator colon) ∙ h)
 
 pub prefix_more : (κ : Symbol) (o : UpdateOperator) → prefix_update κ ≡ Some o → κ ≢ k.End
 unfolding prefix_update
-prefix_more κ o h ends = none_some (sym (ap prefix_update ends) ∙ h)
+prefix_more κ o h ends = none_not_some (sym (ap prefix_update ends) ∙ h)
 
 pub prefix_no_colon : (κ : Symbol) (o : UpdateOperator) → prefix_update κ ≡ Some o → κ ≢ k.Colon
 unfolding prefix_update
-prefix_no_colon κ o h colon = none_some (sym (ap prefix_update colon) ∙ h)
+prefix_no_colon κ o h colon = none_not_some (sym (ap prefix_update colon) ∙ h)
 
 pub postfix_more : (t : Token) (o : UpdateOperator) → postfix_of t ≡ Some o → symbol t ≢ k.End
 unfolding postfix_of postfix_update
 postfix_more t o h ends = go t.line_before (sym (ap (postfix_by t.line_before) ends) ∙ h)
   where
     go : (line : Bool) → postfix_by line k.End ≡ Some o → ⊥
-    go true h = none_some h
-    go false h = none_some h
+    go true h = none_not_some h
+    go false h = none_not_some h
 
 pub literal_more : (t : Token) (v : Primitive) → literal_of t ≡ Some v → symbol t ≢ k.End
 unfolding literal_of
-literal_more t v h ends = none_some (sym (ap (λ κ. literal_by κ t) ends) ∙ h)
+literal_more t v h ends = none_not_some (sym (ap (λ κ. literal_by κ t) ends) ∙ h)
 
 pub property_more : (t : Token) (x : PropertyName) → property_name t ≡ Some x → symbol t ≢ k.End
 unfolding property_name
-property_more t x h ends = none_some (sym (ap (λ κ. property_name_by κ t) ends) ∙ h)
+property_more t x h ends = none_not_some (sym (ap (λ κ. property_name_by κ t) ends) ∙ h)

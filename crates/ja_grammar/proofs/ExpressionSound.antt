@@ -1,6 +1,8 @@
 -- Every expression that is read is one of the grammar.
+use Rattle.std.proofs.lemmas.Bool.{not-true}
 use Rattle.std.proofs.Common.{◌≡◌, ◌≢◌, ◌⊎◌, inl, inr, ℕ, zero, suc, Bool, true, false, true≢false, not, is_none, subst, List, ◌∷◌, Option, Some, None, refl, sym, ap, ◌∙◌}
 use Rattle.ja_base.specs.declared.ids.Place.{Place}
+use Rattle.ja_base.proofs.Options.{none_by_test}
 use Rattle.ja_prim.specs.declared.primitive.Primitive.{Primitive}
 use Rattle.ja_lex.specs.declared.token.Token.{Token}
 use Rattle.ja_syntax.specs.declared.symbol.Symbol.{Symbol}
@@ -129,14 +131,6 @@ no_suffix_end = refl
 no_prefix : (κ : Symbol) → unary_operator κ ≡ None → prefix_update κ ≡ None → is_prefix κ ≡ false
 unfolding is_prefix
 no_prefix κ h h' = rw (h, h') refl
-
-not_true : (c : Bool) → not c ≡ true → c ≡ false
-not_true true h = sym h
-not_true false h = refl
-
-is_none_true : {A : Type 0} (o : Option A) → is_none o ≡ true → o ≡ None
-is_none_true None h = refl
-is_none_true (Some x) h = cc h
 
 module _ (g : Rules) (n : Nested) (b : Below) (takes : BelowTakes b) (a : Agrees n b) where
   -- a part, a closing token, and a value of the part
@@ -325,7 +319,7 @@ module _ (g : Rules) (n : Nested) (b : Below) (takes : BelowTakes b) (a : Agrees
       let t = bind_inverse (until (λ found. not (begins_property found)) (property_suffix g b)) (λ ss. pure (chained s.0 ss)) s.1 s.3 in
       same_done (λ x r. Member g n i x r) t.3 (Member.member (chain_head_is i s.0 s.1 s.2)
       (until_is (λ found. not (begins_property found)) (property_suffix g b) (PropertySuffix g n) (λ r. begins_property (next r) ≡ false) (property_suffix_takes g b takes) no_property_end
-      (λ i x r _ h. property_suffix_is i x r h) s.1 t.0 t.1 (not_true (begins_property (next t.1))) t.2))
+      (λ i x r _ h. property_suffix_is i x r h) s.1 t.0 t.1 (not-true (begins_property (next t.1))) t.2))
 
   pub created_is : (place : Place) (i : Tokens) (x : Expression) (r : Tokens) → created g b place i ≡ Done x r → Created g n place i x r
   unfolding created
@@ -346,7 +340,7 @@ module _ (g : Rules) (n : Nested) (b : Below) (takes : BelowTakes b) (a : Agrees
       let t = bind_inverse (until (λ found. not (begins_suffix found)) (any_suffix g b)) (λ ss. pure (chained s.0 ss)) s.1 s.3 in
       same_done (λ x r. LeftHand g n i x r) t.3 (LeftHand.left_hand (chain_head_is i s.0 s.1 s.2)
       (until_is (λ found. not (begins_suffix found)) (any_suffix g b) (AnySuffix g n) (λ r. begins_suffix (next r) ≡ false) (any_suffix_takes g b takes) no_suffix_end
-      (λ i x r _ h. any_suffix_is i x r h) s.1 t.0 t.1 (not_true (begins_suffix (next t.1))) t.2))
+      (λ i x r _ h. any_suffix_is i x r h) s.1 t.0 t.1 (not-true (begins_suffix (next t.1))) t.2))
 
   -- ---- operators before and behind an operand
 
@@ -427,7 +421,7 @@ module _ (g : Rules) (n : Nested) (b : Below) (takes : BelowTakes b) (a : Agrees
         let t = bind_inverse (until (λ found. is_none (binary_operator no_in l found)) (operation g b no_in l one)) (λ os. pure (operated (head i).place s.0 os)) s.1 s.3 in
         same_done (λ x r. Level no_in l One i x r) t.3 (Level.level (one_is i s.0 s.1 s.2)
         (until_is (λ found. is_none (binary_operator no_in l found)) (operation g b no_in l one) (Operand no_in l One) (λ r. binary_operator no_in l (next r) ≡ None)
-        (operation_takes g b takes no_in l one one_takes) (no_binary_end no_in l) (λ i x r _ h. operation_is l i x r h) s.1 t.0 t.1 (is_none_true (binary_operator no_in l (next t.1))) t.2))
+        (operation_takes g b takes no_in l one one_takes) (no_binary_end no_in l) (λ i x r _ h. operation_is l i x r h) s.1 t.0 t.1 (none_by_test (binary_operator no_in l (next t.1))) t.2))
 
   pub binary_is : (no_in : Bool) (l : ℕ) (i : Tokens) (x : Expression) (r : Tokens) → binary g b no_in l i ≡ Done x r → Binary g n no_in l i x r
   unfolding binary

@@ -3,6 +3,7 @@ use Rattle.std.proofs.Common.{◌≡◌, ℕ, zero, suc, Bool, true, false, ◌&
 use Rattle.std.specs.Cmp.Lexicographic.{nat_list_eq_equiv}
 use Rattle.std.specs.List.{list_any}
 use Rattle.std.specs.Str.{bytes_eq}
+use Rattle.ja_base.proofs.Tests.{or_right_true}
 use Rattle.ja_syntax.specs.Jumps.{Around, around_body, within, within_loop, within_switch, labelled, is_among}
 use Rattle.ja_grammar.specs.Contexts.{Label, Context, program_context, function_context, loop_context, switch_context, labelled_context, has_label, has_loop, marked}
 
@@ -36,10 +37,6 @@ names_marked zero ls = refl
 names_marked (suc n) [] = refl
 names_marked (suc n) (l ∷ ls) = ap (λ ns. l.name ∷ ns) (names_marked n ls)
 
-or_true : (x : Bool) {y : Bool} → y ≡ true → (x || y) ≡ true
-or_true true h = refl
-or_true false h = h
-
 -- the loops of a name
 abbrev loops_of : List ℕ → List Label → Bool
 loops_of name = list_any (λ (l : Label). l.is_loop && bytes_eq l.name name)
@@ -48,12 +45,12 @@ among_marked : (name : List ℕ) (loops : List (List ℕ)) (n : ℕ) (ls : List 
 unfolding marked is_among
 among_marked name loops zero ls known h = known h
 among_marked name loops (suc n) [] known h = absurd (cc h)
-among_marked name loops (suc n) (l ∷ ls) known h = go (among_marked name loops n ls (λ f. known (or_true (l.is_loop && bytes_eq l.name name) f))) (bytes_eq l.name name) refl h
+among_marked name loops (suc n) (l ∷ ls) known h = go (among_marked name loops n ls (λ f. known (or_right_true (l.is_loop && bytes_eq l.name name) f))) (bytes_eq l.name name) refl h
   where
     go : (loops_of name (marked n ls) ≡ true → is_among name (take n (names ls) ++ loops) ≡ true) → (b : Bool) → bytes_eq l.name name ≡ b → (b || loops_of name (marked n ls)) ≡ true
         → is_among name (l.name ∷ (take n (names ls) ++ loops)) ≡ true
     go again true e h = rw (nat_list_eq_equiv.symm name l.name ∙ e) refl
-    go again false e h = or_true (bytes_eq name l.name) (again h)
+    go again false e h = or_right_true (bytes_eq name l.name) (again h)
 
 -- ---- contexts
 
@@ -84,7 +81,7 @@ module _ (c : Context) (n : ℕ) (o : Bool) (a : Around) (m : Matches c n o a) w
 
   pub switch_matches : Matches (switch_context c) 0 false (within_switch a)
   unfolding within_switch has_loop
-  switch_matches = record { labels = m.labels; before = refl; loops = m.loops; in_loop = m.in_loop; breakable = or_true a.in_loop refl; in_function = m.in_function; top = λ h. absurd (cc h) }
+  switch_matches = record { labels = m.labels; before = refl; loops = m.loops; in_loop = m.in_loop; breakable = or_right_true a.in_loop refl; in_function = m.in_function; top = λ h. absurd (cc h) }
 
   pub labelled_matches : (name : List ℕ) → Matches (labelled_context c name) (suc n) false (labelled name a)
   unfolding labelled has_loop

@@ -2,6 +2,7 @@
 use Rattle.std.proofs.Common.{◌≡◌, ℕ, zero, suc, Bool, true, false, not, List, [], ◌∷◌, refl, ap, Option, Some, None}
 use Rattle.std.specs.List.{AllByRecursion}
 use Rattle.ja_base.specs.declared.ids.Place.{Place}
+use Rattle.ja_base.proofs.Lists.{all_weaker}
 use Rattle.ja_lex.specs.declared.token.TokenKind.{TokenKind}
 use Rattle.ja_lex.specs.declared.token.TokenKind.TheVariants as token
 use Rattle.ja_syntax.specs.declared.symbol.Symbol.TheVariants as k
@@ -30,7 +31,7 @@ use Rattle.ja_grammar.proofs.KeepsExpressions as make
 use Rattle.ja_grammar.proofs.KeepsExpressions.{ExpressionKeeps, StatementKeeps, ElementKeeps, PropertyKeeps, SuffixKeeps, OperationKeeps}
 use Rattle.ja_grammar.proofs.KeepsJumps.{WellIn}
 use Rattle.ja_grammar.proofs.KeepsContexts.{function_matches}
-use Rattle.ja_grammar.proofs.KeepsParts.{PartKeeps, NestedKeeps, many_keep, separated_keep, listed_keep, all_weaker, all_pass}
+use Rattle.ja_grammar.proofs.KeepsParts.{PartKeeps, NestedKeeps, many_keep, separated_keep, listed_keep, all_pass}
 use Rattle.ja_grammar.proofs.Strict.{strict_never}
 
 -- ---- declared names

@@ -56,11 +56,6 @@ module _ {X : Type 0} (One : Rule X) (P : X → Type 0) (each : (i : Tokens) (x 
   listed_keep close _ _ r (Listed.empty is) = tt
   listed_keep close i xs r (Listed.some {t = t} goes all is) = separated_keep i xs (t ∷ r) all
 
--- what holds of both parts of a fact holds of each
-pub all_weaker : {X : Type 0} (P Q : X → Type 0) → ((x : X) → P x → Q x) → (xs : List X) → AllByRecursion P xs → AllByRecursion Q xs
-all_weaker P Q h [] all = tt
-all_weaker P Q h (x ∷ xs) all = (h x all.0, all_weaker P Q h xs all.1)
-
 pub all_pass : {X : Type 0} (p : X → Bool) (xs : List X) → AllByRecursion (λ x. p x ≡ true) xs → list_all p xs ≡ true
 all_pass p [] all = refl
 all_pass p (x ∷ xs) all = rw (all.0) (all_pass p xs all.1)

@@ -2,6 +2,7 @@
 use Rattle.std.proofs.Common.{◌≡◌, ℕ, zero, suc, Bool, true, false, List, ◌∷◌, refl, Option, Some, None}
 use Rattle.std.proofs.lemmas.List.Elements.{All-from_recursion}
 use Rattle.ja_base.specs.declared.ids.Place.{Place}
+use Rattle.ja_base.proofs.Lists.{all_weaker}
 use Rattle.ja_syntax.specs.declared.symbol.Symbol.{Symbol}
 use Rattle.ja_syntax.specs.declared.symbol.Symbol.TheVariants as k
 use Rattle.ja_syntax.specs.declared.tree.Expression.{Expression}
@@ -25,7 +26,7 @@ use Rattle.ja_grammar.proofs.KeepsStatements.{OptionKeeps, FirstKeeps}
 use Rattle.ja_grammar.proofs.KeepsJumps as jumps
 use Rattle.ja_grammar.proofs.KeepsJumps.{WellIn}
 use Rattle.ja_grammar.proofs.KeepsContexts.{program_matches}
-use Rattle.ja_grammar.proofs.KeepsParts.{PartKeeps, NestedKeeps, many_keep, separated_keep, all_weaker}
+use Rattle.ja_grammar.proofs.KeepsParts.{PartKeeps, NestedKeeps, many_keep, separated_keep}
 use Rattle.ja_grammar.proofs.KeepsExpressionGrammar.{body_well, updated_is_reference, part_keeps}
 use Rattle.ja_grammar.proofs.KeepsStatementGrammar.{VariableKeeps, variable_keeps, declarations_keep, may_declare_them, bracketed_keeps, single_keeps}
 

@@ -2,6 +2,7 @@
 use Rattle.std.proofs.Common.{◌≡◌, ◌≤◌, ℕ, suc, Bool, true, false, List, [], ◌∷◌, length, refl, ap, ◌∙◌, Option, Some, None, is_none, arith}
 use Rattle.std.specs.List.{AllByRecursion, filter}
 use Rattle.ja_base.specs.declared.ids.Place.{Place}
+use Rattle.ja_base.proofs.Lists.{all_weaker}
 use Rattle.ja_syntax.specs.declared.symbol.Symbol.TheVariants as k
 use Rattle.ja_syntax.specs.declared.tree.Case.{Case, roll-Case}
 use Rattle.ja_syntax.specs.declared.tree.CatchOf.{CatchOf}
@@ -28,7 +29,7 @@ use Rattle.ja_grammar.proofs.KeepsStatements.{OptionKeeps, DeclarationKeeps}
 use Rattle.ja_grammar.proofs.KeepsJumps as jumps
 use Rattle.ja_grammar.proofs.KeepsJumps.{WellIn, CaseWellIn}
 use Rattle.ja_grammar.proofs.KeepsContexts.{Matches, label_is, within_matches, loop_matches, switch_matches, labelled_matches}
-use Rattle.ja_grammar.proofs.KeepsParts.{PartKeeps, NestedKeeps, many_keep, separated_keep, all_weaker, all_pass}
+use Rattle.ja_grammar.proofs.KeepsParts.{PartKeeps, NestedKeeps, many_keep, separated_keep, all_pass}
 use Rattle.ja_grammar.proofs.KeepsExpressionGrammar.{declared_may, function_keeps, assignment_keeps, whole_keeps}
 use Rattle.ja_grammar.proofs.Strict.{strict_never}
 

@@ -3,6 +3,7 @@ use Rattle.std.proofs.Common.{◌≡◌, ◌≢◌, ℕ, zero, suc, Bool, true, 
 use Rattle.std.proofs.lemmas.Slice.Eq.{bytes_eq-Decides}
 use Rattle.std.specs.List.{list_all, list_any}
 use Rattle.std.specs.Str.{bytes_eq}
+use Rattle.ja_base.proofs.Tests.{and_left_true, and_right_true}
 use Rattle.ja_lex.specs.declared.token.Token.{Token}
 use Rattle.ja_lex.specs.declared.token.TokenKind.{TokenKind}
 use Rattle.ja_lex.specs.declared.token.TokenKind.TheVariants.{Word, Number, Text, Mark, End, Bad}
@@ -19,15 +20,6 @@ use Rattle.ja_grammar.proofs.Outcomes.{same_symbol_is}
 use Rattle.ja_grammar.proofs.SampleTokens.{token, end_behind}
 use Rattle.ja_grammar.proofs.Words.{word_alone}
 
--- two tests at once
-both_first : (a b : Bool) → (a && b) ≡ true → a ≡ true
-both_first true b h = refl
-both_first false b h = cc h
-
-both_second : (a b : Bool) → (a && b) ≡ true → b ≡ true
-both_second true b h = h
-both_second false b h = cc h
-
 -- ---- a token whose symbol is a name is a word
 
 -- a table of other symbols gives no name
@@ -35,10 +27,10 @@ no_name : (table : List (List ℕ × Symbol)) → list_all (λ (e : List ℕ × 
     → not (same_symbol (unwrap_or (lookup table text) k.Foreign) k.Name) ≡ true
 unfolding same_symbol
 no_name [] h text = refl
-no_name (e ∷ es) h text = go (bytes_eq e.0 text) (no_name es (both_second (not (same_symbol e.1 k.Name)) _ h) text)
+no_name (e ∷ es) h text = go (bytes_eq e.0 text) (no_name es (and_right_true (not (same_symbol e.1 k.Name)) _ h) text)
   where
     go : (b : Bool) → not (same_symbol (unwrap_or (lookup es text) k.Foreign) k.Name) ≡ true → not (same_symbol (unwrap_or (if b then Some e.1 else lookup es text) k.Foreign) k.Name) ≡ true
-    go true rest = both_first (not (same_symbol e.1 k.Name)) _ h
+    go true rest = and_left_true (not (same_symbol e.1 k.Name)) _ h
     go false rest = rest
 
 -- no mark is a name

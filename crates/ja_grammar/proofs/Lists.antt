@@ -1,5 +1,6 @@
 -- Lists with commas between, and lists with a closing token.
 use Rattle.std.proofs.Common.{◌≡◌, ◌≢◌, suc, ◌≤◌, Bool, true, false, List, [], ◌∷◌, ◌++◌, length, Option, Some, None, refl, sym, ap, ◌∙◌, subst}
+use Rattle.ja_base.proofs.Options.{none_not_some}
 use Rattle.ja_lex.specs.declared.token.Token.{Token}
 use Rattle.ja_syntax.specs.declared.symbol.Symbol.{Symbol}
 use Rattle.ja_syntax.specs.declared.symbol.Symbol.TheVariants.{Comma, End}
@@ -9,7 +10,7 @@ use Rattle.ja_grammar.specs.declared.fault.Refusal.{Refusal}
 use Rattle.ja_grammar.specs.Input.{Tokens, head, next, behind, symbol, Done, Parser, ◌>>◌, pure, look, expect, many, after_comma, separated, listed_by, listed}
 use Rattle.ja_grammar.specs.Productions.{Rule, Is, NotAt, Led, Separated, Listed}
 use Rattle.ja_grammar.proofs.Real.{IsRealAfter}
-use Rattle.ja_grammar.proofs.Outcomes.{end_is, comma_not_end, none_not_some, some_value, cons_of, done_value, done_rest, same_symbol_true, same_symbol_false, same_symbol_is, same_symbol_other, expect_done, expect_inverse, bind_done, bind_inverse, same_done}
+use Rattle.ja_grammar.proofs.Outcomes.{end_is, comma_not_end, some_value, cons_of, done_value, done_rest, same_symbol_true, same_symbol_false, same_symbol_is, same_symbol_other, expect_done, expect_inverse, bind_done, bind_inverse, same_done}
 use Rattle.ja_grammar.proofs.Shrinks.{ShrinksAt, TakesAt, Shrinks, Takes, takes_shrinks, pure_shrinks, take_takes, expect_takes, bind_shrinks, bind_takes, bind_takes_second, look_shrinks, look_takes}
 use Rattle.ja_grammar.proofs.Good.{Follow, Reason, Sample, GoodAt, Any, Closed, pure_good, bind_good, look_good}
 use Rattle.ja_grammar.proofs.Steps.{pure_sample, bind_sample, end_sample, expect_sample, take_good, expect_good}

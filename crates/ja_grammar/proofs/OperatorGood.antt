@@ -1,4 +1,5 @@
 -- The place laws of operators before and behind an operand (11.3, 11.4).
+use Rattle.std.proofs.lemmas.Bool.{not-true}
 use Rattle.std.proofs.Common.{◌≡◌, ◌≢◌, ◌⊎◌, inl, inr, ℕ, suc, ◌≤◌, Bool, true, false, true≢false, not, ◌||◌, is_some, List, [], ◌∷◌, ◌++◌, length, Option, Some, None, refl, sym, ap, ◌∙◌, subst, arith}
 use Rattle.ja_base.specs.declared.ids.Place.{Place}
 use Rattle.ja_lex.specs.declared.token.Token.{Token}
@@ -30,10 +31,6 @@ use Rattle.ja_grammar.proofs.Roomier.{Roomier, then_pure, enters, lower, unexpec
 use Rattle.ja_grammar.proofs.Steps.{pure_sample, end_sample, unless_good}
 use Rattle.ja_grammar.proofs.Strict.{strict_asks}
 
-not_true : (c : Bool) → not c ≡ true → c ≡ false
-not_true false e = refl
-not_true true e = absurd (cc e)
-
 not_both : (c c' : Bool) → (c || c') ≡ true → c ≡ false → c' ≡ false → ⊥
 not_both c c' e off off' = true≢false (sym e ∙ ap (λ x. x || c') off ∙ off')
 
@@ -55,7 +52,7 @@ module _ (g : Rules) (b : Below) where
       let t = bind_inverse (until (λ found. not (begins_suffix found)) (any_suffix g b)) (λ ss. pure (chained s.0 ss)) s.1 s.3 in
       subst (λ m. begins_suffix (next m) ≡ false) (done_rest t.3)
       (many_last s.1 t.0 t.1 (until_is (λ found. not (begins_suffix found)) (any_suffix g b) (λ i x m. any_suffix g b i ≡ Done x m) (λ m. begins_suffix (next m) ≡ false) (any_suffix_takes g b takes) end_no_suffix
-      (λ i x m _ h. h) s.1 t.0 t.1 (not_true (begins_suffix (next t.1))) t.2))
+      (λ i x m _ h. h) s.1 t.0 t.1 (not-true (begins_suffix (next t.1))) t.2))
 
   -- a reference with no operator behind it is an operand
   pub operand_reads : (place : Place) (x : Expression) (r : Tokens) → IsReference x → postfix_of (head r) ≡ None → operand_close g b place x r ≡ Done x r
@@ -146,7 +143,7 @@ module _ {U : Tokens} {O : Refusal} {J : Reason O} {d : ℕ} {g' : Rules} {b b' 
     why = Operand place;
     level = refl;
     next_is = ap not stopped;
-    ahead = λ s y on. both s y (not_true (begins_suffix (next y)) on);
+    ahead = λ s y on. both s y (not-true (begins_suffix (next y)) on);
     refuses = λ y on. operand_refused (strict d) b place x y is (strict_asks d (Operand place) y refl);
     refuses_more = λ kept y on. operand_refused g' b' place x y is (h.asks (Operand place) refl y ∙ ap not kept);
     instead = λ y on. on;

@@ -77,10 +77,6 @@ same_symbol_false j k e = same_false the_type j k e
 pub comma_not_end : Comma ≢ End
 comma_not_end e = cc e
 
--- a turn that ends is none that goes on
-pub none_not_some : {A : Type 0} {a : A} → None ≡ Some a → ⊥
-none_not_some e = cc e
-
 -- the value of a turn that goes on
 pub some_value : {A : Type 0} {a b : A} → Some a ≡ Some b → a ≡ b
 some_value {A} {a} e = subst of e refl

@@ -1,11 +1,12 @@
 -- Items up to a symbol: the place laws of `until`. The end of the text is among the symbols that end it.
 use Rattle.std.proofs.Common.{◌≡◌, suc, ◌≤◌, Bool, true, false, List, [], ◌∷◌, ◌++◌, length, Option, Some, None, refl, sym, ap, ◌∙◌, subst}
+use Rattle.ja_base.proofs.Options.{none_not_some}
 use Rattle.ja_syntax.specs.declared.symbol.Symbol.{Symbol}
 use Rattle.ja_syntax.specs.declared.symbol.Symbol.TheVariants.{End}
 use Rattle.ja_grammar.specs.declared.fault.Refusal.{Refusal}
 use Rattle.ja_grammar.specs.Input.{Tokens, next, symbol, Done, Parser, and_then, pure, look, many, until_by, until}
 use Rattle.ja_grammar.specs.Productions.{Rule, Many}
-use Rattle.ja_grammar.proofs.Outcomes.{end_is, none_not_some, done_value}
+use Rattle.ja_grammar.proofs.Outcomes.{end_is, done_value}
 use Rattle.ja_grammar.proofs.Shrinks.{Takes, pure_shrinks, bind_takes}
 use Rattle.ja_grammar.proofs.Good.{Follow, Reason, Sample, GoodAt, Any, Closed, pure_good, bind_good, look_good}
 use Rattle.ja_grammar.proofs.Steps.{pure_sample, end_sample}

@@ -8,6 +8,7 @@ use Rattle.std.proofs.lemmas.Bool.Decides.{nat_tests}
 use Rattle.std.proofs.lemmas.List.Folds.{length-prefix_len}
 use Rattle.std.proofs.lemmas.List.Sums.{take_while-cons}
 use Rattle.std.proofs.lemmas.Str.{chars-IsAscii}
+use Rattle.ja_base.proofs.Tests.{or_left_false}
 use Rattle.ja_prim.specs.declared.primitive.Num.{Num}
 use Rattle.ja_prim.specs.declared.primitive.Num.TheVariants.{NaN, Whole}
 use Rattle.ja_prim.specs.declared.stop.Stop.{Stop}
@@ -100,10 +101,6 @@ mark_words cs = go (longest [] marks cs)
 
 -- ---- what is read as a word is one
 
-not_first : (b c : Bool) → (b || c) ≡ false → b ≡ false
-not_first true c h = h
-not_first false c h = refl
-
 word_words : (c : ℕ) (cs : List ℕ) → begins_number (c ∷ cs) ≡ false → begins_word (c ∷ cs) ≡ true → AreWords (word (c ∷ cs))
 unfolding word begins_number begins_word
 word_words c cs no_number begins =
@@ -119,7 +116,7 @@ word_words c cs no_number begins =
           others = take_while is_part cs;
           split = sym same ∙ (take_while-cons is_part c cs ∙ rw part refl);
           begins = part;
-          no_digit = not_first (is_digit c) _ no_number;
+          no_digit = or_left_false (is_digit c) _ no_number;
           parts = run_all is_part is_part (λ x h. h) cs;
           few = ap (λ (x : List ℕ). nat_lt max_units (length x)) (sym same) ∙ ap (nat_lt max_units) (length-prefix_len is_part (c ∷ cs)) ∙ few;
         }

@@ -1,18 +1,14 @@
 -- A program is well formed exactly where its parts are.
 use Rattle.std.proofs.Common.{◌≡◌, ◌<◌, List, [], ◌∷◌, length, Some, refl, arith}
 use Rattle.std.specs.List.{slice_get}
+use Rattle.ja_base.proofs.Lists.{first_element}
 use Rattle.ja_graph.specs.declared.program.Program.{Program}
 use Rattle.ja_graph.specs.Parts.{HasFunctions, HasSites, HasOpening, HasNames}
 use Rattle.ja_graph.specs.WellFormed.{IsWellFormed}
 
--- a list with elements has a first
-first_of : {X : Type 0} (xs : List X) → 0 < length xs → (x : X) × (slice_get xs 0 ≡ Some x)
-first_of [] some = absurd (omega arith)
-first_of (x ∷ xs) some = (x, refl)
-
 pub whole_from_parts : (p : Program) → HasFunctions p → HasSites p → HasOpening p → HasNames p → IsWellFormed p
 whole_from_parts p functions sites opening names =
-    let first = first_of p.functions (omega (arith, functions.text_among, functions.text_functions)) in
+    let first = first_element p.functions (omega (arith, functions.text_among, functions.text_functions)) in
     record {
       text = first.0;
       text_is = first.1;

@@ -1,4 +1,5 @@
 -- What stands in a string, by what was read of it and what is left.
+use Rattle.std.proofs.Math.Bool.{or-false}
 use Rattle.std.proofs.Common.{◌≡◌, ◌≤◌, ◌<◌, ℕ, zero, suc, ◌+◌, ◌-◌, max, Bool, true, false, ◌||◌, cond, eqb, Option, Some, None, List, [], ◌∷◌, ◌++◌, length, get_or, drop, append_assoc, add_assoc, arith, refl, ap, ◌∙◌}
 use Rattle.std.specs.Option.{option_map}
 use Rattle.std.proofs.lemmas.Bool.Decides.{nat_tests}
@@ -64,9 +65,5 @@ append_none : (units : List ℕ) → units ++ [] ≡ units
 append_none [] = refl
 append_none (u ∷ us) = ap (λ ws. u ∷ ws) (append_none us)
 
-or_false : (b : Bool) → b || false ≡ b
-or_false true = refl
-or_false false = refl
-
 pub closed_at : (units : List ℕ) (octal : Bool) (n : ℕ) → Some (record { units = units; octal = octal; length = n }) ≡ option_map (prefixed units octal n) (Some nothing)
-closed_at units octal n = ap Some (let e : n + 0 ≡ n = omega arith in rw (append_none units, or_false octal, e) refl)
+closed_at units octal n = ap Some (let e : n + 0 ≡ n = omega arith in rw (append_none units, or-false octal, e) refl)

@@ -2,6 +2,7 @@
 use Rattle.std.proofs.Common.{◌≡◌, ℕ, Bool, true, false, List, [], ◌∷◌, Option, Some, None, Ok, Err, if◌then◌else◌, refl, sym, subst}
 use Rattle.std.specs.List.{AllByRecursion}
 use Rattle.ja_base.specs.declared.ids.Place.{Place}
+use Rattle.ja_base.proofs.Lists.{all_append}
 use Rattle.ja_prim.specs.declared.primitive.Primitive.{Primitive}
 use Rattle.ja_prim.specs.declared.primitive.Primitive.TheVariants as primitive
 use Rattle.ja_syntax.specs.declared.tree.BinaryOperator.{BinaryOperator}
@@ -17,7 +18,6 @@ use Rattle.ja_syntax.specs.declared.tree.Expression.TheFolds.{fold-roll-Expressi
 use Rattle.ja_lower_names.specs.TextOrder.{Part, a_function, a_name, Parts, in_literal, expression_step, statement_step, case_step, in_expression, in_statement, in_case}
 use Rattle.ja_lower_expressions.specs.References.{Form}
 use Rattle.ja_lower_expressions.specs.Expressions.{apply_operations, form_step, form}
-use Rattle.ja_lower_ranges.proofs.LineRanges.{all_append}
 use Rattle.ja_load.specs.Built.{Read, is_excluded, behind, read_suffix, read_chain, read_update, is_logical, read_assignment, read_expression, read}
 use Rattle.ja_load.proofs.BuiltNodes.{IsBuiltForm, built_with_const, built_value_of, built_with_name, built_list_call, built_assign}
 

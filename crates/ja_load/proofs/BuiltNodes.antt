@@ -6,6 +6,7 @@ use Rattle.ja_base.specs.declared.ids.NameId.{NameId}
 use Rattle.ja_base.specs.declared.ids.Place.{Place}
 use Rattle.ja_base.specs.declared.ids.Reg.{Reg}
 use Rattle.ja_base.specs.declared.ids.Site.{Site}
+use Rattle.ja_base.proofs.Lists.{all_append}
 use Rattle.ja_prim.specs.declared.primitive.Primitive.{Primitive}
 use Rattle.ja_prim.specs.declared.primitive.Primitive.TheVariants as primitive
 use Rattle.ja_graph.specs.Kinds.{is_built}
@@ -25,7 +26,6 @@ use Rattle.ja_lower_expressions.specs.declared.outcome.Outcome.{Outcome}
 use Rattle.ja_lower_expressions.specs.declared.outcome.Outcome.TheVariants as outcome
 use Rattle.ja_lower_names.specs.Names.{number}
 use Rattle.ja_lower_ranges.specs.InRange.{OfNode}
-use Rattle.ja_lower_ranges.proofs.LineRanges.{all_append}
 use Rattle.ja_lower.specs.Lowering.{shifting}
 use Rattle.ja_lower.proofs.NumberingLemmas.{name_kept}
 use Rattle.ja_load.specs.Built.{is_excluded}

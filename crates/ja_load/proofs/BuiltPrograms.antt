@@ -3,6 +3,7 @@
 use Rattle.std.proofs.Common.{◌≡◌, ℕ, zero, suc, Bool, true, false, if◌then◌else◌, List, [], ◌∷◌, ◌++◌, map, Option, Some, None, Ok, Err, slice_get, refl, sym, ap, ◌∙◌, subst}
 use Rattle.std.specs.List.{AllByRecursion, flat_map}
 use Rattle.ja_base.specs.declared.ids.Place.{Place}
+use Rattle.ja_base.proofs.Lists.{all_append, all_at}
 use Rattle.ja_prim.specs.declared.primitive.Primitive.TheVariants as primitive
 use Rattle.ja_syntax.specs.Hoisted.{Texts, nothing, variables_step, variables_in_case, variables_of, once, hoisted_variables}
 use Rattle.ja_syntax.specs.declared.tree.Case.{Case}
@@ -30,10 +31,9 @@ use Rattle.ja_lower_statements.specs.Statements.{Around, does, unlabelled, list_
 use Rattle.ja_lower_statements.proofs.StatementLemmas.{does_empty, does_expression}
 use Rattle.ja_lower_ranges.specs.InRange.{OfNode}
 use Rattle.ja_lower_ranges.proofs.CopyRanges.{assembled_keeps}
-use Rattle.ja_lower_ranges.proofs.LineRanges.{all_append}
 use Rattle.ja_lower.specs.declared.body.Body.{Body}
 use Rattle.ja_lower.specs.Lowering.{names_of, scene_of, program_body, function_body, bodies_of, numbered, function_of, functions_of, site_of, sites_of_nodes, sites_of, lowered}
-use Rattle.ja_lower.proofs.FunctionLemmas.{all-at, get-numbered}
+use Rattle.ja_lower.proofs.FunctionLemmas.{get-numbered}
 use Rattle.ja_load.specs.Built.{Read, read, fault_of, unbuilt_layer, unbuilt_statement, first_of, unbuilt}
 use Rattle.ja_load.proofs.BuiltNodes.{IsBuilt, AllBuilt, IsBuiltListing, escape_built, return_built, renamed_built, built_restarted, built_with_node, built_with_const, built_value_of}
 use Rattle.ja_load.proofs.BuiltForms.{IsRead, IsName, HasNoFunction, expression_built}
@@ -198,7 +198,7 @@ module _ (hosts : List (List ℕ)) where
   pub numbered_built : (names : List (List ℕ)) (first : ℕ) (infos : List NodeInfo) (n : ℕ) (info : NodeInfo) → AllByRecursion (λ (i : NodeInfo). IsBuilt hosts names i.node) infos → slice_get (numbered first infos) n ≡ Some info → IsBuilt hosts names info.node
   numbered_built names first infos n info each is =
       let from = get-numbered first infos n info is in
-      let old = all-at (λ (i : NodeInfo). IsBuilt hosts names i.node) infos n from.1 each from.2 in
+      let old = all_at (λ (i : NodeInfo). IsBuilt hosts names i.node) infos n from.1 each from.2 in
       subst (λ (i : NodeInfo). IsBuilt hosts names i.node) from.3 (renamed_built hosts names from.0 from.1.node old)
 
   -- a text all of whose forms are built has no function besides the program

@@ -5,8 +5,9 @@ use Rattle.std.specs.List.{AllByRecursion, enumerate_from, find, slice_get}
 use Rattle.std.proofs.lemmas.Bool.{cases_lt}
 use Rattle.std.proofs.lemmas.List.{length-map}
 use Rattle.std.proofs.lemmas.List.FromFn.{length-enumerate_from}
-use Rattle.std.proofs.lemmas.Option.{slice_get_within}
+use Rattle.std.proofs.lemmas.Option.{slice_get_within, same_Some}
 use Rattle.ja_base.specs.declared.ids.Site.{Site}
+use Rattle.ja_base.proofs.Lists.{all_append, all_at, element_within}
 use Rattle.ja_device.specs.Signatures.{AreDistinct}
 use Rattle.ja_graph.specs.declared.builtins.TheConstants.{BUILTIN_CLASSES, FUNCTION_PROTOTYPE, GLOBAL, LENGTH}
 use Rattle.ja_graph.specs.declared.program.Class.{Class}
@@ -22,7 +23,7 @@ use Rattle.ja_load.specs.Hosts.{device_info, device_object, device_property, dev
 use Rattle.ja_load.proofs.BuiltHosts.{IsBuiltIn, IsDevice, object-cases}
 use Rattle.ja_load.proofs.Places.{any-at, append-cases, find-at, found-at, get-behind, kept-at, map-at, mapped-at, number-at, number-there, numbered-at}
 use Rattle.ja_lower_names.specs.Names.{number}
-use Rattle.ja_prelude.proofs.ListLemmas.{all-append, all-at, element-at, eq_of, get-first, get-front, same_passes, some-same}
+use Rattle.ja_prelude.proofs.ListLemmas.{eq_of, get-first, get-front, same_passes}
 use Rattle.ja_prelude.proofs.OpeningLemmas.{classes_are_told, objects_are_well_formed, sites_have_no_owner, sites_have_objects, sites_name_functions}
 use Rattle.ja_prelude.proofs.TableLemmas.{names_count, sites_count, table-count}
 use Rattle.ja_prelude.specs.Table.{builtin_sites, number_of, opening_objects}
@@ -33,7 +34,7 @@ use Rattle.ja_prim.specs.declared.signature.Signature.{Signature}
 -- names of one number are one
 one-name : (names : List (List ℕ)) (n m : ℕ) (t u : List ℕ) → slice_get names n ≡ Some t → slice_get names m ≡ Some u → (number names t).0 ≡ (number names u).0 → t ≡ u
 one-name names n m t u is also same =
-    some-same t u (sym (number-at names n t is) ∙ ap (slice_get names) same ∙ number-at names m u also)
+    same_Some t u (sym (number-at names n t is) ∙ ap (slice_get names) same ∙ number-at names m u also)
 
 -- ---- the objects that are there when a run begins
 
@@ -123,8 +124,8 @@ once-kept test (x ∷ qs) once j k q r is also same = at (test x) j k is also (o
 
     at : (b : Bool) (j k : ℕ) → slice_get (cond b (x ∷ filter test qs) (filter test qs)) j ≡ Some q → slice_get (cond b (x ∷ filter test qs) (filter test qs)) k ≡ Some r → ((m n : ℕ) (y z : PropertySpec) → slice_get (filter test qs) m ≡ Some y → slice_get (filter test qs) n ≡ Some z → y.name.0 ≡ z.name.0 → m ≡ n) → j ≡ k
     at true zero zero here there rest = refl
-    at true zero (suc k) here there rest = absurd (apart k q r (some-same x q here) there same)
-    at true (suc j) zero here there rest = absurd (apart j r q (some-same x r there) here (sym same))
+    at true zero (suc k) here there rest = absurd (apart k q r (same_Some x q here) there same)
+    at true (suc j) zero here there rest = absurd (apart j r q (same_Some x r there) here (sym same))
     at true (suc j) (suc k) here there rest = ap suc (rest j k q r here there same)
     at false j k here there rest = rest j k q r here there same
 
@@ -267,8 +268,8 @@ device-well_formed p own signatures others has i o device =
     let length_named : LENGTH.0 < length p.names = omega (arith, has.many, names_count) in
     let made : IsObjectWellFormed p i (device_object k) = record {
       site = within;
-      prototype = λ s e. subst (StandsBefore p i) (some-same FUNCTION_PROTOTYPE s e) (builtin-stands p signatures i FUNCTION_PROTOTYPE has.opening (omega arith) behind);
-      scope = λ s e. subst (StandsBefore p i) (some-same GLOBAL s e) (builtin-stands p signatures i GLOBAL has.opening (omega arith) behind);
+      prototype = λ s e. subst (StandsBefore p i) (same_Some FUNCTION_PROTOTYPE s e) (builtin-stands p signatures i FUNCTION_PROTOTYPE has.opening (omega arith) behind);
+      scope = λ s e. subst (StandsBefore p i) (same_Some GLOBAL s e) (builtin-stands p signatures i GLOBAL has.opening (omega arith) behind);
       names = λ j q is. let only = single j q is in subst (λ (r : PropertySpec). IsName p r.name) only.1 length_named;
       contents = λ j q is. let only = single j q is in subst (λ (r : PropertySpec). IsContent p r.content) only.1 tt;
       once = λ j l q r is also same. (single j q is).0 ∙ sym (single l r also).0;
@@ -276,7 +277,7 @@ device-well_formed p own signatures others has i o device =
     subst (IsObjectWellFormed p i) device.same made
   where
     single : (j : ℕ) (q : PropertySpec) → slice_get (device_object device.which).properties j ≡ Some q → (j ≡ 0) × (length_property ≡ q)
-    single zero q is = (refl, some-same length_property q is)
+    single zero q is = (refl, same_Some length_property q is)
     single (suc j) q is = absurd (cc)
 
 -- each object is well formed
@@ -300,7 +301,7 @@ sites_have_objects_with_devices p own signatures others has s before = at (cases
         subst (λ os. IsSome (find (λ (o : ObjectSpec). o.site.0 == s) os)) (sym has.opening) (find-at (λ (o : ObjectSpec). o.site.0 == s) (opening_with p.names signatures) found.0 (object_with_devices p.names signatures found.1) (builtin-at p.names signatures found.0 found.1 found.2) passes)
     at (inr behind) =
         let may = may-hold p own signatures others has in
-        let signature = element-at signatures (s - 43) (omega (arith, before, behind, may.objects)) in
+        let signature = element_within signatures (s - 43) (omega (arith, before, behind, may.objects)) in
         let passes : ((device_object (s - 43)).site.0 == s) ≡ true = same_passes (43 + (s - 43)) s (omega (arith, behind)) in
         subst (λ os. IsSome (find (λ (o : ObjectSpec). o.site.0 == s) os)) (sym has.opening) (find-at (λ (o : ObjectSpec). o.site.0 == s) (opening_with p.names signatures) (43 + (s - 43)) (device_object (s - 43)) (device-at p.names signatures (s - 43) signature.0 signature.1) passes)
 
@@ -330,7 +331,7 @@ each-device P first signatures each = at 0 signatures (λ k within. each k (omeg
 -- the functions that objects run are the program's
 pub functions_with_devices : (p : Program) (own : ℕ) (signatures : List Signature) (others : List SiteInfo) → HasDevices p own signatures others → AllByRecursion (NamesFunctions p) (builtin_sites (own + length signatures) ++ device_sites own signatures)
 functions_with_devices p own signatures others has =
-    all-append (NamesFunctions p) (builtin_sites (own + length signatures)) (device_sites own signatures) (sites_name_functions (own + length signatures) p has.functions) (each-device (NamesFunctions p) own signatures (λ k within. record { owner = tt; calls = (omega (arith, within, has.functions), tt); constructs = tt }))
+    all_append (NamesFunctions p) (builtin_sites (own + length signatures)) (device_sites own signatures) (sites_name_functions (own + length signatures) p has.functions) (each-device (NamesFunctions p) own signatures (λ k within. record { owner = tt; calls = (omega (arith, within, has.functions), tt); constructs = tt }))
 
 -- no site without a node has an owner
 pub unowned_with_devices : (p : Program) (own : ℕ) (signatures : List Signature) (others : List SiteInfo) → HasDevices p own signatures others → (s : ℕ) → s < length p.opening → (info : SiteInfo) → slice_get p.sites s ≡ Some info → info.owner ≡ None
@@ -339,4 +340,4 @@ unowned_with_devices p own signatures others has s before info is =
     let front = builtin_sites (own + length signatures) ++ device_sites own signatures in
     let within : s < length front = omega (arith, before, may.objects, length-append (builtin_sites (own + length signatures)) (device_sites own signatures), sites_count (own + length signatures), device_sites_count own signatures) in
     let found = get-first front others s info within (ap (λ infos. slice_get infos s) (sym has.sites) ∙ is) in
-    all-at (λ (i : SiteInfo). i.owner ≡ None) front s info (all-append (λ (i : SiteInfo). i.owner ≡ None) (builtin_sites (own + length signatures)) (device_sites own signatures) (sites_have_no_owner (own + length signatures)) (each-device (λ (i : SiteInfo). i.owner ≡ None) own signatures (λ k inside. refl))) found
+    all_at (λ (i : SiteInfo). i.owner ≡ None) front s info (all_append (λ (i : SiteInfo). i.owner ≡ None) (builtin_sites (own + length signatures)) (device_sites own signatures) (sites_have_no_owner (own + length signatures)) (each-device (λ (i : SiteInfo). i.owner ≡ None) own signatures (λ k inside. refl))) found

@@ -16,6 +16,8 @@ use Rattle.ja_base.specs.declared.ids.FnId.{FnId}
 use Rattle.ja_base.specs.declared.ids.NameId.{NameId}
 use Rattle.ja_base.specs.declared.ids.NodeId.{NodeId}
 use Rattle.ja_base.specs.declared.ids.Site.{Site}
+use Rattle.ja_base.proofs.Tests.{or_left_false, or_right_false}
+use Rattle.ja_base.proofs.Lists.{all_append, all_at}
 use Rattle.ja_prim.specs.declared.signature.Signature.{Signature}
 use Rattle.ja_graph.specs.Kinds.{AreBuilt, IsNamed, IsPlain, IsPlainContent, text_function}
 use Rattle.ja_graph.specs.Node.{Making, makings}
@@ -31,11 +33,10 @@ use Rattle.ja_graph.specs.declared.program.SpecContent.{SpecContent}
 use Rattle.ja_graph.specs.declared.program.SpecContent.TheVariants as content
 use Rattle.ja_lower_names.specs.Names.{number}
 use Rattle.ja_lower_draft.specs.Lines.{Scene}
-use Rattle.ja_lower_ranges.proofs.LineRanges.{all_append}
 use Rattle.ja_lower.specs.declared.body.Body.{Body}
 use Rattle.ja_lower.specs.Limits.{function_count, IsWithin}
 use Rattle.ja_lower.specs.Lowering.{names_of, scene_of, program_body, bodies_of, numbered, functions_of, site_of, sites_of_nodes, sites_of, at_paths, prelude_bodies, lowered, device_bodies, device_names, lowered_with_prelude}
-use Rattle.ja_lower.proofs.FunctionLemmas.{all-at, all-from}
+use Rattle.ja_lower.proofs.FunctionLemmas.{all-from}
 use Rattle.ja_prelude.specs.Prelude.{prelude_names, prelude_paths, prelude_statements}
 use Rattle.ja_prelude.specs.Table.{builtin_sites, is_global_name, opening_objects}
 use Rattle.ja_prelude.specs.Opening.{IsGlobalName}
@@ -109,22 +110,14 @@ at_number names text t at = found_passes (bytes_eq text) names t (find_at (bytes
 
 -- ---- what is excluded
 
-first_false : (a b : Bool) → (a || b) ≡ false → a ≡ false
-first_false true b h = absurd (cc)
-first_false false b h = refl
-
-second_false : (a b : Bool) → (a || b) ≡ false → b ≡ false
-second_false true b h = absurd (cc)
-second_false false b h = h
-
 not_global : (hosts : List (List ℕ)) (text : List ℕ) → is_excluded hosts text ≡ false → is_global_name text ≡ false
 unfolding is_excluded
 not_global hosts text included =
-    second_false (bytes_eq (codes "arguments") text) (is_global_name text) (first_false (bytes_eq (codes "arguments") text || is_global_name text) (list_any (bytes_eq text) hosts) included)
+    or_right_false (bytes_eq (codes "arguments") text) (is_global_name text) (or_left_false (bytes_eq (codes "arguments") text || is_global_name text) (list_any (bytes_eq text) hosts) included)
 
 not_device : (hosts : List (List ℕ)) (text : List ℕ) → is_excluded hosts text ≡ false → list_any (bytes_eq text) hosts ≡ false
 unfolding is_excluded
-not_device hosts text included = second_false (bytes_eq (codes "arguments") text || is_global_name text) (list_any (bytes_eq text) hosts) included
+not_device hosts text included = or_right_false (bytes_eq (codes "arguments") text || is_global_name text) (list_any (bytes_eq text) hosts) included
 
 -- ---- the parts of the program
 
@@ -227,7 +220,7 @@ module _ (text : String Global) (signatures : List Signature) (xs : List Stateme
 
     made : (s : Site) (info : SiteInfo) → slice_get the_program.sites s.0 ≡ Some info → info.owner ≡ Some text_function → IsPlain the_program s
     made s info at of_text other also =
-        let here = all-at IsPlainOfText (builtin_sites first_built_in ++ other_sites) s.0 info sites_plain (ap (λ ss. slice_get ss s.0) (sym program_sites) ∙ at) of_text in
+        let here = all_at IsPlainOfText (builtin_sites first_built_in ++ other_sites) s.0 info sites_plain (ap (λ ss. slice_get ss s.0) (sym program_sites) ∙ at) of_text in
         let same : info ≡ other = cc in
         subst IsUncalled same here
 

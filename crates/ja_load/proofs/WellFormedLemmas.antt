@@ -3,6 +3,7 @@ use Rattle.std.proofs.Common.{◌≡◌, ℕ, zero, suc, ◌+◌, ◌-◌, ◌*�
 use Rattle.std.specs.Prelude.{String}
 use Rattle.std.specs.List.{AllByRecursion, slice_get, range_with_len}
 use Rattle.std.specs.declared.alloc.Global.{Global}
+use Rattle.ja_base.proofs.Lists.{all_append, all_at, first_element}
 use Rattle.ja_device.specs.Signatures.{AreSignatures}
 use Rattle.ja_lower_names.specs.TextOrder.{Named, names_in}
 use Rattle.ja_lower_expressions.specs.Specials.{is_name}
@@ -47,19 +48,6 @@ pub record PreludeFacts : Type 0 where
   pub allowed : AreAllowed (lowering.prelude_bodies prelude_names prelude_statements)
 
 -- ---- lists
-
-first_element : {X : Type 0} (xs : List X) → 0 < length xs → (x : X) × (slice_get xs 0 ≡ Some x)
-first_element [] some = absurd (omega arith)
-first_element (x ∷ xs) some = (x, refl)
-
-all-at : {X : Type 0} (P : X → Type 0) (xs : List X) (i : ℕ) (x : X) → AllByRecursion P xs → slice_get xs i ≡ Some x → P x
-all-at P [] i x all is = absurd (cc)
-all-at P (y ∷ ys) zero x all is = let same : y ≡ x = cc in subst P same all.0
-all-at P (y ∷ ys) (suc i) x all is = all-at P ys i x all.1 is
-
-all-append : {X : Type 0} (P : X → Type 0) (xs ys : List X) → AllByRecursion P xs → AllByRecursion P ys → AllByRecursion P (xs ++ ys)
-all-append P [] ys left right = right
-all-append P (x ∷ xs) ys left right = (left.0, all-append P xs ys left.1 right)
 
 -- ---- the names
 
@@ -126,13 +114,13 @@ made_is_well_formed laws facts p signatures statements fit within registers few_
       text_functions = omega (arith, made.text_functions, count);
       value_first = omega (arith, made.value_first, count);
       text_first = omega (arith, made.text_first, count);
-      each = λ f fn is. laws.well_formed builtin_names prelude_paths prelude_statements signatures first statements p f fn paths_each facts.allowed made.functions made.names made.devices is (all-at (λ (fn : Function). fn.registers ≤ 262144) l.functions f fn registers (sym (ap (λ fns. slice_get fns f) made.functions) ∙ is));
+      each = λ f fn is. laws.well_formed builtin_names prelude_paths prelude_statements signatures first statements p f fn paths_each facts.allowed made.functions made.names made.devices is (all_at (λ (fn : Function). fn.registers ≤ 262144) l.functions f fn registers (sym (ap (λ fns. slice_get fns f) made.functions) ∙ is));
       few_nodes = omega (arith, nodes, ap node_count made.functions);
       objects = λ i o is. objects_with_devices p own signatures l.sites has i o is;
       all_objects = λ s before. sites_have_objects_with_devices p own signatures l.sites has s before;
       builtins = λ s c is. classes_with_devices p own signatures l.sites has s c is;
       unowned = λ s before info is. unowned_with_devices p own signatures l.sites has s before info is;
-      name_functions = subst (AllByRecursion (NamesFunctions p)) (sym made.sites) (all-append (NamesFunctions p) front_sites l.sites (functions_with_devices p own signatures l.sites has) (laws.name_functions builtin_names prelude_paths prelude_statements signatures first statements p paths_each made.functions));
+      name_functions = subst (AllByRecursion (NamesFunctions p)) (sym made.sites) (all_append (NamesFunctions p) front_sites l.sites (functions_with_devices p own signatures l.sites has) (laws.name_functions builtin_names prelude_paths prelude_statements signatures first statements p paths_each made.functions));
       sites = omega (arith, all_sites, objects);
       numbered =
           ap (λ fns. map (λ (m : OwnedMaking). m.making.site.0) (makings_from 0 fns)) made.functions

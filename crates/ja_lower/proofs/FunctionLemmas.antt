@@ -6,6 +6,7 @@ use Rattle.std.proofs.lemmas.List.{length-map}
 use Rattle.ja_base.specs.declared.ids.FnId.{FnId}
 use Rattle.ja_base.specs.declared.ids.NameId.{NameId}
 use Rattle.ja_base.specs.declared.ids.Reg.{Reg}
+use Rattle.ja_base.proofs.Lists.{all_at, all_left, all_right}
 use Rattle.ja_graph.specs.declared.node.Args.TheVariants as args
 use Rattle.ja_graph.specs.declared.node.Node.{Node}
 use Rattle.ja_graph.specs.declared.node.Node.TheVariants as node
@@ -30,19 +31,6 @@ use Rattle.ja_lower.specs.Lowering.{AreAllowed, shifting, site_count, numbered, 
 use Rattle.ja_lower.proofs.NumberingLemmas.{sets_kept, named_kept, name_kept, function_kept, IsSited}
 use Rattle.ja_lower.proofs.SiteLemmas.{MakesFunctions, length-numbered}
 
-pub all-at : {X : Type 0} (P : X → Type 0) (xs : List X) (n : ℕ) (x : X) → AllByRecursion P xs → slice_get xs n ≡ Some x → P x
-all-at P [] n x each is = absurd (cc)
-all-at P (y ∷ ys) zero x each is = subst P (cc) each.0
-all-at P (y ∷ ys) (suc n) x each is = all-at P ys n x each.1 is
-
-all-left : {X : Type 0} (P : X → Type 0) (xs ys : List X) → AllByRecursion P (xs ++ ys) → AllByRecursion P xs
-all-left P [] ys each = tt
-all-left P (x ∷ xs) ys each = (each.0, all-left P xs ys each.1)
-
-all-right : {X : Type 0} (P : X → Type 0) (xs ys : List X) → AllByRecursion P (xs ++ ys) → AllByRecursion P ys
-all-right P [] ys each = each
-all-right P (x ∷ xs) ys each = all-right P xs ys each.1
-
 pub all-map : {X Y : Type 0} (P : X → Type 0) (Q : Y → Type 0) (f : X → Y) (xs : List X) → ((x : X) → P x → Q (f x)) → AllByRecursion P xs → AllByRecursion Q (map f xs)
 all-map P Q f [] from each = tt
 all-map P Q f (x ∷ xs) from each = (from x each.0, all-map P Q f xs from each.1)
@@ -60,9 +48,9 @@ flat-at : (P : Reg → Type 0) (infos : List NodeInfo) (n : ℕ) (info : NodeInf
 flat-at P [] n info each is = absurd (cc)
 flat-at P (i ∷ infos) zero info each is =
     let same : i ≡ info = cc in
-    subst (λ (x : NodeInfo). AllByRecursion P (registers_in x.node)) same (all-left P (registers_in i.node) (flat_map (λ (x : NodeInfo). registers_in x.node) infos) each)
+    subst (λ (x : NodeInfo). AllByRecursion P (registers_in x.node)) same (all_left P (registers_in i.node) (flat_map (λ (x : NodeInfo). registers_in x.node) infos) each)
 flat-at P (i ∷ infos) (suc n) info each is =
-    flat-at P infos n info (all-right P (registers_in i.node) (flat_map (λ (x : NodeInfo). registers_in x.node) infos) each) is
+    flat-at P infos n info (all_right P (registers_in i.node) (flat_map (λ (x : NodeInfo). registers_in x.node) infos) each) is
 
 -- ---- registers
 
@@ -184,10 +172,10 @@ module _ (p : Program) (first : ℕ) (body : Body) (fits : FitsIn p body) where
   node_well_formed : (n from : ℕ) (old : NodeInfo) → slice_get body.nodes n ≡ Some old → IsNodeWellFormed p (function_of first body) (renumbered from old)
   node_well_formed n from old is =
       let fn = function_of first body in
-      let range = all-at (λ (info : NodeInfo). IsInRange limits info.node) body.nodes n old nodes_in_range is in
+      let range = all_at (λ (info : NodeInfo). IsInRange limits info.node) body.nodes n old nodes_in_range is in
       let registers = registers_each (length body.parameters) body.nodes n old is in
-      let set = all-left (IsRegister fn) (option_to_list (register_set old.node)) (registers_named old.node) registers in
-      let named = all-right (IsRegister fn) (option_to_list (register_set old.node)) (registers_named old.node) registers in
+      let set = all_left (IsRegister fn) (option_to_list (register_set old.node)) (registers_named old.node) registers in
+      let named = all_right (IsRegister fn) (option_to_list (register_set old.node)) (registers_named old.node) registers in
       let inside = edges n old is in
       let count = length-numbered first body.nodes in
       record {
@@ -195,7 +183,7 @@ module _ (p : Program) (first : ℕ) (body : Body) (fits : FitsIn p body) where
         names_registers = subst (AllByRecursion (IsRegister fn)) (sym (named_kept from old.node)) named;
         name = subst (λ o. AllByRecursion (IsName p) (option_to_list o)) (sym (name_kept from old.node)) (all-from (λ (n : NameId). n.0 < fits.names) (IsName p) (option_to_list (name_in old.node)) (λ n low. omega (arith, fits.few_names)) range.name);
         function = subst (λ o. AllByRecursion (IsFunction p) (option_to_list o)) (sym (function_kept from old.node)) (all-from (λ (f : FnId). f.0 ≤ fits.functions) (IsFunction p) (option_to_list (function_in old.node)) (λ f low. omega (arith, fits.few_functions)) range.function);
-        allowed = allowed_kept p body first from old.node (all-at (λ (info : NodeInfo). IsAllowed p (function_of 0 body) info.node) body.nodes n old fits.allowed is);
+        allowed = allowed_kept p body first from old.node (all_at (λ (info : NodeInfo). IsAllowed p (function_of 0 body) info.node) body.nodes n old fits.allowed is);
         next = omega (arith, inside.next, count);
         other = omega (arith, inside.other, count);
         handler = omega (arith, inside.handler, count);
@@ -236,7 +224,7 @@ get-functions first (body ∷ bodies) (suc f) fn is = get-functions (first + sit
 pub functions_well_formed : (p : Program) (first : ℕ) (bodies : List Body) → AllByRecursion (FitsIn p) bodies → p.functions ≡ functions_of first bodies → (f : ℕ) (fn : Function) → slice_get p.functions f ≡ Some fn → fn.registers ≤ 262144 → IsFunctionWellFormed p fn
 functions_well_formed p first bodies fit are f fn is few =
     let from = get-functions first bodies f fn (ap (λ fs. slice_get fs f) (sym are) ∙ is) in
-    let fits = all-at (FitsIn p) bodies f from.1 fit from.2 in
+    let fits = all_at (FitsIn p) bodies f from.1 fit from.2 in
     let low : registers_of (length from.1.parameters) from.1.nodes ≤ 262144 = subst (λ (g : Function). g.registers ≤ 262144) (sym from.3) few in
     subst (IsFunctionWellFormed p) from.3 (function_well_formed p from.0 from.1 fits low)
 

@@ -6,6 +6,7 @@ use Rattle.std.specs.Str.{bytes_eq}
 use Rattle.std.specs.Cmp.Lexicographic.{bytes_decides}
 use Rattle.ja_base.specs.declared.ids.NameId.{NameId}
 use Rattle.ja_base.specs.declared.ids.Place.{Place}
+use Rattle.ja_base.proofs.Tests.{or_right_true}
 use Rattle.ja_lower_draft.specs.Lines.{Scene}
 use Rattle.ja_lower_expressions.specs.Literals.{same_place}
 use Rattle.ja_lower_expressions.specs.Specials.{is_name}
@@ -71,14 +72,10 @@ same_number n = eq-eqb n n refl
 itself : (place : Place) → same_place place place ≡ true
 itself place = rw (same_number place.line, same_number place.column) refl
 
-or_later : (b : Bool) {c : Bool} → c ≡ true → (b || c) ≡ true
-or_later true found = refl
-or_later false found = found
-
 all_places : (places : List Place) → AllByRecursion (λ place. list_any (same_place place) places ≡ true) places
 all_places [] = tt
 all_places (p ∷ places) =
-    (rw (itself p) refl, all-from (λ q. list_any (same_place q) places ≡ true) (λ q. list_any (same_place q) (p ∷ places) ≡ true) places (λ q found. or_later (same_place q p) found) (all_places places))
+    (rw (itself p) refl, all-from (λ q. list_any (same_place q) places ≡ true) (λ q. list_any (same_place q) (p ∷ places) ≡ true) places (λ q found. or_right_true (same_place q p) found) (all_places places))
 
 -- ---- the parts of a text
 

@@ -4,6 +4,7 @@ use Rattle.std.specs.List.{AllByRecursion, slice_get, range_with_len, sum_by}
 use Rattle.std.specs.Option.{option_to_list}
 use Rattle.std.proofs.lemmas.List.{length-map}
 use Rattle.std.proofs.lemmas.List.Sums.{sum_by-cons}
+use Rattle.ja_base.proofs.Lists.{all_append}
 use Rattle.ja_graph.specs.declared.node.NodeInfo.{NodeInfo}
 use Rattle.ja_graph.specs.declared.program.Class.{Class}
 use Rattle.ja_graph.specs.declared.program.Class.TheVariants as class
@@ -16,10 +17,6 @@ use Rattle.ja_lower.specs.declared.body.Body.{Body}
 use Rattle.ja_lower.specs.Limits.{size_of_body}
 use Rattle.ja_lower.specs.Lowering.{shifting, site_count, numbered, sites_in, functions_of, run_by, site_of, sites_of_nodes, sites_of}
 use Rattle.ja_lower.proofs.NumberingLemmas.{shifted, makings_shifted, few_makings, IsSited, AreSited, sites_in-nil, sites_in-cons, count_of_nodes}
-
-pub all-append : {X : Type 0} (P : X → Type 0) (xs ys : List X) → AllByRecursion P xs → AllByRecursion P ys → AllByRecursion P (xs ++ ys)
-all-append P [] ys left right = right
-all-append P (x ∷ xs) ys left right = (left.0, all-append P xs ys left.1 right)
 
 -- ---- each site is told
 
@@ -57,7 +54,7 @@ told_nodes p f first (info ∷ infos) front back sites count sited =
     let split : p.sites ≡ front ++ (here ++ (rest ++ back)) = sites ∙ ap (λ xs. front ++ xs) (append_assoc here rest back) in
     let behind : p.sites ≡ (front ++ here) ++ (rest ++ back) = split ∙ sym (append_assoc front here (rest ++ back)) in
     let now : length (front ++ here) ≡ first + site_count info.node = omega (arith, length-append front here, length-map (makings info.node) (site_of f info)) in
-    all-append (IsSiteTold p) (map (owned f) (makings (renamed (shifting first) info.node))) (makings_of f (numbered (first + site_count info.node) infos)) (told_node p f first info front (rest ++ back) split count sited.0) (told_nodes p f (first + site_count info.node) infos (front ++ here) back behind now sited.1)
+    all_append (IsSiteTold p) (map (owned f) (makings (renamed (shifting first) info.node))) (makings_of f (numbered (first + site_count info.node) infos)) (told_node p f first info front (rest ++ back) split count sited.0) (told_nodes p f (first + site_count info.node) infos (front ++ here) back behind now sited.1)
 
 pub told_bodies : (p : Program) (f first : ℕ) (bodies : List Body) (front : List SiteInfo) → p.sites ≡ front ++ sites_of f bodies → length front ≡ first → AreSited bodies → AllByRecursion (IsSiteTold p) (makings_from f (functions_of first bodies))
 unfolding functions_of sites_of
@@ -67,7 +64,7 @@ told_bodies p f first (body ∷ bodies) front sites count sited =
     let rest = sites_of (suc f) bodies in
     let behind : p.sites ≡ (front ++ here) ++ rest = sites ∙ sym (append_assoc front here rest) in
     let now : length (front ++ here) ≡ first + sites_in body.nodes = omega (arith, length-append front here, count_of_nodes f body.nodes) in
-    all-append (IsSiteTold p) (makings_of f (numbered first body.nodes)) (makings_from (suc f) (functions_of (first + sites_in body.nodes) bodies)) (told_nodes p f first body.nodes front rest sites count sited.0) (told_bodies p (suc f) (first + sites_in body.nodes) bodies (front ++ here) behind now sited.1)
+    all_append (IsSiteTold p) (makings_of f (numbered first body.nodes)) (makings_from (suc f) (functions_of (first + sites_in body.nodes) bodies)) (told_nodes p f first body.nodes front rest sites count sited.0) (told_bodies p (suc f) (first + sites_in body.nodes) bodies (front ++ here) behind now sited.1)
 
 -- ---- each function that is told of a site is one of the program
 
@@ -90,13 +87,13 @@ named_nodes : (p : Program) (f : ℕ) (infos : List NodeInfo) → f < length p.f
 unfolding sites_of_nodes
 named_nodes p f [] low named = tt
 named_nodes p f (info ∷ infos) low named =
-    all-append (NamesFunctions p) (map (site_of f info) (makings info.node)) (sites_of_nodes f infos) (named_makings p f info (makings info.node) low named.0) (named_nodes p f infos low named.1)
+    all_append (NamesFunctions p) (map (site_of f info) (makings info.node)) (sites_of_nodes f infos) (named_makings p f info (makings info.node) low named.0) (named_nodes p f infos low named.1)
 
 pub named_bodies : (p : Program) (f : ℕ) (bodies : List Body) → f + length bodies ≤ length p.functions → AllByRecursion (λ (body : Body). AllByRecursion (MakesFunctions p) body.nodes) bodies → AllByRecursion (NamesFunctions p) (sites_of f bodies)
 unfolding sites_of
 named_bodies p f [] low named = tt
 named_bodies p f (body ∷ bodies) low named =
-    all-append (NamesFunctions p) (sites_of_nodes f body.nodes) (sites_of (suc f) bodies) (named_nodes p f body.nodes (omega (arith, low)) named.0) (named_bodies p (suc f) bodies (omega (arith, low)) named.1)
+    all_append (NamesFunctions p) (sites_of_nodes f body.nodes) (sites_of (suc f) bodies) (named_nodes p f body.nodes (omega (arith, low)) named.0) (named_bodies p (suc f) bodies (omega (arith, low)) named.1)
 
 -- ---- how many
 

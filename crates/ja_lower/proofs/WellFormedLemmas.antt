@@ -2,6 +2,7 @@
 use Rattle.std.proofs.Common.{◌≡◌, ℕ, ◌+◌, ◌*◌, ◌<◌, ◌≤◌, true, false, List, [], ◌∷◌, ◌++◌, length, map, Some, refl, sym, ap, ◌∙◌, subst, arith, length-append}
 use Rattle.std.specs.List.{AllByRecursion, flat_map, slice_get, range_with_len}
 use Rattle.std.proofs.lemmas.List.{length-map}
+use Rattle.ja_base.proofs.Lists.{all_append, all_left, all_right}
 use Rattle.ja_prim.specs.declared.signature.Signature.{Signature}
 use Rattle.ja_graph.specs.declared.program.Function.{Function}
 use Rattle.ja_graph.specs.declared.program.Program.{Program}
@@ -15,7 +16,6 @@ use Rattle.ja_lower_ranges.specs.Found.{HasPart, HasText, HasFunction}
 use Rattle.ja_lower_ranges.specs.InRange.{AllInRange, limits_of}
 use Rattle.ja_lower_ranges.proofs.FunctionRanges.{program_copies, function_copies, program_in_range, function_in_range, program_ends, function_ends}
 use Rattle.ja_lower_ranges.proofs.FunctionParts.{functions_found}
-use Rattle.ja_lower_ranges.proofs.Inclusions.{all_first, all_second}
 use Rattle.ja_syntax.specs.declared.tree.FunctionOf.{FunctionOf}
 use Rattle.ja_syntax.specs.declared.tree.Name.{Name}
 use Rattle.ja_syntax.specs.declared.tree.Statement.{Statement}
@@ -27,7 +27,7 @@ use Rattle.ja_lower.proofs.DeviceBodies.{devices_listed, devices_fit, length-dev
 use Rattle.ja_lower.proofs.Joined.{functions_append, sites_append, size-append, length-at_paths, size-at_paths, first_names_stay}
 use Rattle.ja_lower.proofs.NumberingLemmas.{IsSited, AreSited, numbers_of_bodies}
 use Rattle.ja_lower.proofs.Scenes.{scene_has_its_text, parameters_named}
-use Rattle.ja_lower.proofs.SiteLemmas.{MakesFunctions, all-append, told_bodies, named_bodies, few_sites, few_nodes}
+use Rattle.ja_lower.proofs.SiteLemmas.{MakesFunctions, told_bodies, named_bodies, few_sites, few_nodes}
 use Rattle.ja_lower.proofs.FunctionLemmas.{FitsIn, all-from, IsListed, functions_well_formed, length-functions, listed_named, listed_sited, paths_listed, preludes_fit, text_fits}
 
 -- ---- bodies
@@ -38,14 +38,14 @@ IsListedIn scene body = IsListed scene.specials (length scene.names) (length sce
 function_listed : (scene : Scene) (f : FunctionOf Statement) → HasFunction scene f → IsListedIn scene (function_body scene f)
 function_listed scene f has =
     let count : length f.parameters ≡ length (map (λ (p : Name). number scene.names p.text) f.parameters) = sym (length-map f.parameters (λ (p : Name). number scene.names p.text)) in
-    let inside = all_second (HasPart scene) (if_any in_name f.name) (flat_map in_name f.parameters ++ flat_map in_statement f.body) has.1 in
+    let inside = all_right (HasPart scene) (if_any in_name f.name) (flat_map in_name f.parameters ++ flat_map in_statement f.body) has.1 in
     record {
       listing = function_listing scene f;
       nodes = refl;
       in_range = subst (λ n. AllInRange (limits_of n scene) (function_listing scene f)) count (function_in_range scene f has);
       copies = function_copies scene f has;
       ends = function_ends scene f;
-      parameters = parameters_named scene f.parameters (all_first (HasPart scene) (flat_map in_name f.parameters) (flat_map in_statement f.body) inside);
+      parameters = parameters_named scene f.parameters (all_left (HasPart scene) (flat_map in_name f.parameters) (flat_map in_statement f.body) inside);
     }
 
 functions_listed : (scene : Scene) (fs : List (FunctionOf Statement)) → AllByRecursion (HasFunction scene) fs → AllByRecursion (IsListedIn scene) (map (function_body scene) fs)
@@ -147,7 +147,7 @@ module _ (names paths : List (List ℕ)) (prelude : List Statement) (signatures 
       let of_text = all-from (IsListedIn texts) AreOwn text (listed_sited texts.specials (length texts.names) (length texts.functions)) (text_listed before statements) in
       let of_devices = all-from (IsListed true 0 0) AreOwn (device_bodies signatures) (listed_sited true 0 0) (devices_listed signatures) in
       let of_prelude = all-from (IsListedIn own) AreOwn built_in (listed_sited own.specials (length own.names) (length own.functions)) (paths_listed own.specials (length own.names) (length own.functions) paths (own_bodies names prelude) (own_listed names prelude)) in
-      all-append AreOwn text others of_text (all-append AreOwn (device_bodies signatures) built_in of_devices of_prelude)
+      all_append AreOwn text others of_text (all_append AreOwn (device_bodies signatures) built_in of_devices of_prelude)
 
   count : length paths ≡ prelude_count prelude → length bodies ≡ function_count statements + length signatures + prelude_count prelude
   count path_each =
@@ -174,8 +174,8 @@ module _ (names paths : List (List ℕ)) (prelude : List Statement) (signatures 
         let of_devices = devices_fit p signatures (omega (arith, many_for_prelude)) asked in
         let own = prelude_scene names prelude in
         let of_prelude = preludes_fit p (length own.names) (length own.functions) paths (own_bodies names prelude) enough many_for_prelude (own_listed names prelude) allowed in
-        let of_others = all-append (FitsIn p) (device_bodies signatures) built_in of_devices of_prelude in
-        functions_well_formed p first bodies (all-append (FitsIn p) text others of_text of_others) (functions ∙ whole_functions) f fn is few
+        let of_others = all_append (FitsIn p) (device_bodies signatures) built_in of_devices of_prelude in
+        functions_well_formed p first bodies (all_append (FitsIn p) text others of_text of_others) (functions ∙ whole_functions) f fn is few
 
     name_functions : AllByRecursion (NamesFunctions p) whole.sites
     name_functions =
@@ -185,8 +185,8 @@ module _ (names paths : List (List ℕ)) (prelude : List Statement) (signatures 
         let of_text = all-from (IsListedIn texts) Makes text (λ body listed. listed_named p texts.specials (length texts.names) (length texts.functions) body many_for_text listed) (text_listed before statements) in
         let of_devices = all-from (IsListed true 0 0) Makes (device_bodies signatures) (λ body listed. listed_named p true 0 0 body (omega (arith, many_for_prelude)) listed) (devices_listed signatures) in
         let of_prelude = all-from (IsListedIn own) Makes built_in (λ body listed. listed_named p own.specials (length own.names) (length own.functions) body many_for_prelude listed) (paths_listed own.specials (length own.names) (length own.functions) paths (own_bodies names prelude) (own_listed names prelude)) in
-        let of_others = all-append Makes (device_bodies signatures) built_in of_devices of_prelude in
-        subst (AllByRecursion (NamesFunctions p)) (sym whole_sites) (named_bodies p 0 bodies (omega (arith, count_in, count path_each)) (all-append Makes text others of_text of_others))
+        let of_others = all_append Makes (device_bodies signatures) built_in of_devices of_prelude in
+        subst (AllByRecursion (NamesFunctions p)) (sym whole_sites) (named_bodies p 0 bodies (omega (arith, count_in, count path_each)) (all_append Makes text others of_text of_others))
 
   -- the parts: devices have no sites, so they stand before the built-in functions wherever sites are numbered from
   parts : (l : Lowered) → l ≡ lowered before first statements → whole ≡ followed_by l (behind_devices signatures (lowered_prelude names paths (first + length l.sites) (length l.functions + length signatures) prelude))

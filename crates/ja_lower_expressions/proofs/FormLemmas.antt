@@ -2,6 +2,7 @@
 use Rattle.std.proofs.Common.{◌≡◌, List, [], ◌∷◌, ◌∙◌, ap, sym, map, refl, Option, Some, None}
 use Rattle.std.specs.List.{fold}
 use Rattle.ja_base.specs.declared.ids.Place.{Place}
+use Rattle.ja_base.proofs.Lists.{map_after}
 use Rattle.ja_prim.specs.declared.primitive.Primitive.{Primitive}
 use Rattle.ja_syntax.specs.declared.tree.BinaryOperator.{BinaryOperator}
 use Rattle.ja_syntax.specs.declared.tree.UnaryOperator.{UnaryOperator}
@@ -29,10 +30,6 @@ use Rattle.ja_lower_expressions.specs.Expressions.{form, form_step, member_of, e
 map_alike : {A B : Type 0} (f g : A → B) → ((x : A) → f x ≡ g x) → (xs : List A) → map f xs ≡ map g xs
 map_alike f g h [] = refl
 map_alike f g h (x ∷ xs) = ap (λ y. y ∷ map f xs) (h x) ∙ ap (λ ys. g x ∷ ys) (map_alike f g h xs)
-
-map_after : {A B C : Type 0} (f : A → B) (k : B → C) (g : A → C) → ((x : A) → k (f x) ≡ g x) → (xs : List A) → map k (map f xs) ≡ map g xs
-map_after f k g h [] = refl
-map_after f k g h (x ∷ xs) = ap (λ y. y ∷ map k (map f xs)) (h x) ∙ ap (λ ys. g x ∷ ys) (map_after f k g h xs)
 
 module _ (g : Option Expression → Option Form) (empty : g None ≡ None) (full : (v : Expression) → g (Some v) ≡ Some (form v)) where
   element_is : (x : Option Expression) → g x ≡ element_of x

@@ -5,6 +5,7 @@ use lib.Chars.{codes}
 use Rattle.std.specs.List.{AllByRecursion}
 use Rattle.ja_base.specs.declared.ids.Place.{Place}
 use Rattle.ja_base.specs.declared.ids.Reg.{Reg}
+use Rattle.ja_base.proofs.Lists.{all_append}
 use Rattle.ja_prim.specs.declared.primitive.Primitive.TheVariants as primitive
 use Rattle.ja_syntax.specs.declared.tree.Name.{Name}
 use Rattle.ja_graph.specs.declared.node.Args.TheVariants.{Registers, Elements, Tail}
@@ -23,7 +24,7 @@ use Rattle.ja_lower_expressions.specs.Calls.{Arguments, list_arguments, with_cal
 use Rattle.ja_lower_names.specs.TextOrder.{Parts, if_any, in_name}
 use Rattle.ja_lower_ranges.specs.Found.{HasName, HasFunctionAt, HasParts}
 use Rattle.ja_lower_ranges.specs.InRange.{Limits, IsTemporary, limits_of}
-use Rattle.ja_lower_ranges.proofs.LineRanges.{all_append, name_in_range, function_in_range, some_function, sound_with_node, sound_with_result, sound_with_const, sound_with_copy, sound_with_text, sound_move_to_scope}
+use Rattle.ja_lower_ranges.proofs.LineRanges.{name_in_range, function_in_range, some_function, sound_with_node, sound_with_result, sound_with_const, sound_with_copy, sound_with_text, sound_move_to_scope}
 use Rattle.ja_lower_ranges.proofs.NodeRanges.{read_prop_in_range, write_prop_in_range, delete_prop_in_range, has_prop_in_range, new_object_in_range, make_function_in_range, push_scope_in_range, bind_in_range, call_in_range, new_in_range, spread_in_range, stop_in_range, tail_in_range, intrinsic_in_range}
 use Rattle.ja_lower_ranges.proofs.OperandRanges.{sound_get_value, sound_with_object, sound_value_of}
 use Rattle.ja_lower_ranges.proofs.Sound.{IsSound, IsSoundValued, IsSoundOutcome, IsSoundForm}

@@ -6,6 +6,7 @@ use Rattle.std.proofs.lemmas.Bool.{leb-true}
 use Rattle.std.proofs.lemmas.List.{length-map}
 use Rattle.ja_base.specs.declared.ids.Place.{Place}
 use Rattle.ja_base.specs.declared.ids.Reg.{Reg}
+use Rattle.ja_base.proofs.Lists.{all_append}
 use Rattle.ja_graph.specs.declared.node.Args.TheVariants as args
 use Rattle.ja_graph.specs.declared.node.Node.{Node}
 use Rattle.ja_graph.specs.declared.node.Node.TheVariants as node
@@ -26,7 +27,7 @@ use Rattle.ja_lower_draft.specs.Lines.{Listing, Scene}
 use Rattle.ja_lower_draft.specs.Copies.{Template, moved_register, moving, moves_with, moved_node, moved_block, with_block}
 use Rattle.ja_lower_statements.specs.Ways.{Way, of_loop, of_switch, of_label, of_catch, of_finally, Leaving, with_scope, copied_above, leave, restored, arrive, arrive_or, jump_to, leave_all}
 use Rattle.ja_lower_ranges.specs.InRange.{Limits, IsTemporary, IsDestination, IsOfTexts, IsOfTextsWithoutFunctions, IsInRange, OfNode, AllInRange}
-use Rattle.ja_lower_ranges.proofs.LineRanges.{all_append, sound_with_item, sound_with_jump, sound_move_to_scope}
+use Rattle.ja_lower_ranges.proofs.LineRanges.{sound_with_item, sound_with_jump, sound_move_to_scope}
 use Rattle.ja_lower_ranges.proofs.Sound.{IsSound, IsSoundBlock, AreSoundLines, IsSoundWay}
 
 -- ---- a moved node

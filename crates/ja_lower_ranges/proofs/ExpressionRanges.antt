@@ -2,6 +2,7 @@
 use Rattle.std.proofs.Common.{ℕ, List, [], ◌∷◌, ◌++◌, map, Option, Some, None, sym, subst}
 use Rattle.std.specs.List.{AllByRecursion, fold, flat_map}
 use Rattle.ja_base.specs.declared.ids.Place.{Place}
+use Rattle.ja_base.proofs.Lists.{all_left}
 use Rattle.ja_syntax.specs.declared.tree.BinaryOperator.{BinaryOperator}
 use Rattle.ja_syntax.specs.declared.tree.FunctionOf.{FunctionOf}
 use Rattle.ja_syntax.specs.declared.tree.Name.{Name}
@@ -21,7 +22,7 @@ use Rattle.ja_lower_names.specs.TextOrder.{Parts, a_function, one_variable, if_a
 use Rattle.ja_lower_names.proofs.TextOrderLemmas.{Expressions, expression_layer, expression_opened}
 use Rattle.ja_lower_ranges.specs.Found.{HasPart, HasParts}
 use Rattle.ja_lower_ranges.specs.InRange.{limits_of}
-use Rattle.ja_lower_ranges.proofs.Inclusions.{Includes, IncludesFunction, all_first, first_included, second_included, form_where}
+use Rattle.ja_lower_ranges.proofs.Inclusions.{Includes, IncludesFunction, first_included, second_included, form_where}
 use Rattle.ja_lower_ranges.proofs.LineRanges.{sound_with_const, sound_with_copy}
 use Rattle.ja_lower_ranges.proofs.OperandRanges.{sound_valued, sound_get_value, sound_with_name, sound_with_member, sound_with_element, sound_value_of, sound_list_unary, sound_list_update, sound_list_conditional, sound_apply_operation, sound_assign, sound_assign_by}
 use Rattle.ja_lower_ranges.proofs.CallRanges.{IsSoundElement, IsSoundMember, sound_list_array, sound_list_object, sound_list_function, sound_list_call, sound_list_new}
@@ -141,7 +142,7 @@ all_forms whole xs h = all_mapped whole (IsSoundForm whole) (λ (p : Expressions
 -- a function of a text and its name stand before its parameters and its body
 function_included : (whole : Parts) (f : FunctionOf Statement) (name : Option Name) (others : Parts) → Includes whole (a_function f ∷ (if_any in_name name ++ others)) → IncludesFunction whole name f.place
 function_included whole f name others h scene has =
-    ((h.found scene has).0, all_first (HasPart scene) (if_any in_name name) others (h.found scene has).1)
+    ((h.found scene has).0, all_left (HasPart scene) (if_any in_name name) others (h.found scene has).1)
 
 each_option : (P : Option Sound → Type 0) → P None → ((e : Sound) → P (Some e)) → (x : Option Sound) → P x
 each_option P empty full None = empty

@@ -3,6 +3,7 @@ use Rattle.std.proofs.Common.{ℕ, List, [], ◌∷◌, ◌++◌, map, Option, S
 use Rattle.std.specs.List.{AllByRecursion, flat_map}
 use Rattle.std.proofs.lemmas.Grind.{flat_map-append}
 use Rattle.ja_base.specs.declared.ids.Place.{Place}
+use Rattle.ja_base.proofs.Lists.{all_append, all_left, all_right}
 use Rattle.ja_prim.specs.declared.primitive.Primitive.{Primitive}
 use Rattle.ja_prim.specs.declared.primitive.Primitive.TheVariants as primitive
 use Rattle.ja_syntax.specs.declared.tree.Declaration.{Declaration}
@@ -24,8 +25,6 @@ use Rattle.ja_lower_draft.specs.Lines.{Scene}
 use Rattle.ja_lower_names.specs.TextOrder.{Parts, one_name, one_variable, if_any, in_literal, in_property_name, in_name, in_suffix, in_property, in_operation, in_declaration, expression_step, statement_step, case_step, in_expression, in_statement, in_case, function_parts, if_function, functions_in}
 use Rattle.ja_lower_names.proofs.TextOrderLemmas.{Expressions, Statements, Cases, expression_layer, statement_layer, case_layer, expression_opened, statement_opened, function_layer}
 use Rattle.ja_lower_ranges.specs.Found.{HasPart, HasParts, HasText, HasFunction}
-use Rattle.ja_lower_ranges.proofs.Inclusions.{all_first, all_second}
-use Rattle.ja_lower_ranges.proofs.LineRanges.{all_append}
 
 -- a scene that has parts has those of each function among them
 record Carries (scene : Scene) (parts : Parts) : Type 0 where
@@ -39,7 +38,7 @@ module _ (scene : Scene) where
   both first second h i = record {
     carried = λ has.
         subst (AllByRecursion (HasFunction scene)) (sym (flat_map-append if_function first second))
-        (all_append (HasFunction scene) (flat_map if_function first) (flat_map if_function second) (h.carried (all_first (HasPart scene) first second has)) (i.carried (all_second (HasPart scene) first second has)));
+        (all_append (HasFunction scene) (flat_map if_function first) (flat_map if_function second) (h.carried (all_left (HasPart scene) first second has)) (i.carried (all_right (HasPart scene) first second has)));
   }
 
   a_text : (text : List ℕ) → Carries scene (one_name text)

@@ -2,6 +2,7 @@
 use Rattle.std.proofs.Common.{◌≡◌, ℕ, ◌-◌, Bool, true, false, if◌then◌else◌, List, [], ◌∷◌, ◌++◌, map, length, Option, Some, None, refl, sym, ap, ◌∙◌, subst, arith}
 use Rattle.std.specs.List.{AllByRecursion, flat_map}
 use Rattle.ja_base.specs.declared.ids.Place.{Place}
+use Rattle.ja_base.proofs.Lists.{all_append, all_left, all_right}
 use Rattle.ja_prim.specs.declared.primitive.Primitive.TheVariants as primitive
 use Rattle.ja_graph.specs.declared.node.Node.TheVariants.{Declare, Return, Escape}
 use Rattle.ja_lower_listing.specs.declared.item.Item.{Item}
@@ -31,8 +32,8 @@ use Rattle.ja_lower_ranges.specs.InRange.{IsTemporary, AllInRange, limits_of}
 use Rattle.ja_lower_ranges.proofs.CallRanges.{sound_make_function}
 use Rattle.ja_lower_ranges.proofs.DoesRanges.{each_in_range}
 use Rattle.ja_lower_ranges.proofs.HoistedRanges.{hoisted_found}
-use Rattle.ja_lower_ranges.proofs.Inclusions.{as_parts, all_first, all_second}
-use Rattle.ja_lower_ranges.proofs.LineRanges.{all_append, name_in_range, some_function, sound_with_node, sound_restarted, sound_with_const}
+use Rattle.ja_lower_ranges.proofs.Inclusions.{as_parts}
+use Rattle.ja_lower_ranges.proofs.LineRanges.{name_in_range, some_function, sound_with_node, sound_restarted, sound_with_const}
 use Rattle.ja_lower_ranges.proofs.NodeRanges.{enter_in_range, bare_enter_in_range, bind_in_range, declare_in_range, return_in_range, escape_in_range}
 use Rattle.ja_lower_ranges.proofs.CopyRanges.{lines_in_range, copies_whole}
 use Rattle.ja_lower_ranges.proofs.Sound.{IsSound, IsSoundLine, AreSoundLines}
@@ -54,15 +55,15 @@ module _ (p : ℕ) (scene : Scene) where
   sound_declare_function : (x : Statement-F Expression Statement Case) (base : ℕ) (l : Listing) → HasParts scene (in_statement (roll-Statement x)) → IsTemporary (limits_of p scene) base → IsSound (limits_of p scene) l → IsSound (limits_of p scene) (declare_function scene x base l)
   sound_declare_function (Statement-F.Statement::Function f) base l has t s =
       let own = subst (HasParts scene) (ap in_statement (rolls-Function f) ∙ of_declared [] f) has in
-      sound_bind_function f.place f.name base l own.0 (all_first (HasPart scene) (if_any in_name f.name) (flat_map in_name f.parameters ++ flat_map in_statement f.body) own.1) t s
+      sound_bind_function f.place f.name base l own.0 (all_left (HasPart scene) (if_any in_name f.name) (flat_map in_name f.parameters ++ flat_map in_statement f.body) own.1) t s
   sound_declare_function x base l has t s = s
 
   sound_declare_functions : (xs : List Statement) (base : ℕ) (l : Listing) → HasText scene xs → IsTemporary (limits_of p scene) base → IsSound (limits_of p scene) l → IsSound (limits_of p scene) (declare_functions scene xs base l)
   unfolding declare_functions
   sound_declare_functions [] base l has t s = s
   sound_declare_functions (x ∷ xs) base l has t s =
-      let own = subst (λ y. HasParts scene (in_statement y)) (sym (roll-out-Statement x)) (all_first (HasPart scene) (in_statement x) (flat_map in_statement xs) has) in
-      sound_declare_functions xs base (declare_function_of scene x base l) (all_second (HasPart scene) (in_statement x) (flat_map in_statement xs) has) t (sound_declare_function (out-Statement x) base l own t s)
+      let own = subst (λ y. HasParts scene (in_statement y)) (sym (roll-out-Statement x)) (all_left (HasPart scene) (in_statement x) (flat_map in_statement xs) has) in
+      sound_declare_functions xs base (declare_function_of scene x base l) (all_right (HasPart scene) (in_statement x) (flat_map in_statement xs) has) t (sound_declare_function (out-Statement x) base l own t s)
 
   sound_declare_variables : (place : Place) (vs : List (List ℕ)) (l : Listing) → AllByRecursion (HasName scene) vs → IsSound (limits_of p scene) l → IsSound (limits_of p scene) (declare_variables scene place vs l)
   unfolding declare_variables
@@ -106,7 +107,7 @@ function_sound : (scene : Scene) (f : FunctionOf Statement) → HasFunction scen
 unfolding function_listing
 function_sound scene f has =
     let p = length f.parameters in
-    let body = all_second (HasPart scene) (flat_map in_name f.parameters) (flat_map in_statement f.body) (all_second (HasPart scene) (if_any in_name f.name) (flat_map in_name f.parameters ++ flat_map in_statement f.body) has.1) in
+    let body = all_right (HasPart scene) (flat_map in_name f.parameters) (flat_map in_statement f.body) (all_right (HasPart scene) (if_any in_name f.name) (flat_map in_name f.parameters ++ flat_map in_statement f.body) has.1) in
     let base = first_temporary p in
     let t : IsTemporary (limits_of p scene) base = omega arith in
     (sound_with_body p (unhandled scene) f.place f.body base _ body t

@@ -2,6 +2,7 @@
 use Rattle.std.proofs.Common.{◌≡◌, ℕ, Bool, true, false, not, cond, List, [], ◌∷◌, ◌++◌, map, Some, None, refl, sym, subst}
 use Rattle.std.specs.List.{AllByRecursion, filter, flat_map}
 use Rattle.std.specs.Str.{bytes_eq}
+use Rattle.ja_base.proofs.Lists.{all_append, all_left, all_right}
 use Rattle.ja_syntax.specs.Hoisted.{Texts, nothing, variables_step, variables_in_case, variables_of, case_variables, declared_names, once, hoisted_variables}
 use Rattle.ja_syntax.specs.declared.tree.Declaration.{Declaration}
 use Rattle.ja_syntax.specs.declared.tree.ForFirst.TheVariants as first
@@ -16,8 +17,6 @@ use Rattle.ja_lower_draft.specs.Lines.{Scene}
 use Rattle.ja_lower_names.specs.TextOrder.{Parts, if_any, in_name, in_initialiser, in_declaration, expression_step, statement_step, case_step, in_expression, in_statement, in_case}
 use Rattle.ja_lower_names.proofs.TextOrderLemmas.{Expressions, Statements, Cases, statement_layer, case_layer, statement_opened}
 use Rattle.ja_lower_ranges.specs.Found.{HasName, HasPart, HasParts, HasText}
-use Rattle.ja_lower_ranges.proofs.Inclusions.{all_first, all_second}
-use Rattle.ja_lower_ranges.proofs.LineRanges.{all_append}
 
 -- a scene that has the parts has each of the names
 record Tells (parts : Parts) (names : Texts) : Type 0 where
@@ -29,14 +28,14 @@ tells_nothing parts = record { told = λ scene has. tt }
 tells_both : (first second : Parts) (before behind : Texts) → Tells first before → Tells second behind → Tells (first ++ second) (before ++ behind)
 tells_both first second before behind h i = record {
   told = λ scene has.
-      all_append (HasName scene) before behind (h.told scene (all_first (HasPart scene) first second has)) (i.told scene (all_second (HasPart scene) first second has));
+      all_append (HasName scene) before behind (h.told scene (all_left (HasPart scene) first second has)) (i.told scene (all_right (HasPart scene) first second has));
 }
 
 tells_first : (first second : Parts) (names : Texts) → Tells first names → Tells (first ++ second) names
-tells_first first second names h = record { told = λ scene has. h.told scene (all_first (HasPart scene) first second has) }
+tells_first first second names h = record { told = λ scene has. h.told scene (all_left (HasPart scene) first second has) }
 
 tells_second : (first second : Parts) (names : Texts) → Tells second names → Tells (first ++ second) names
-tells_second first second names h = record { told = λ scene has. h.told scene (all_second (HasPart scene) first second has) }
+tells_second first second names h = record { told = λ scene has. h.told scene (all_right (HasPart scene) first second has) }
 
 tells_name : (n : Name) → Tells (in_name n) (n.text ∷ [])
 tells_name n = record { told = λ scene has. (has.0 refl, tt) }

@@ -2,6 +2,7 @@
 use Rattle.std.proofs.Common.{◌≡◌, List, [], ◌∷◌, ◌++◌, Option, refl, subst}
 use Rattle.std.specs.List.{AllByRecursion}
 use Rattle.ja_base.specs.declared.ids.Place.{Place}
+use Rattle.ja_base.proofs.Lists.{all_left, all_right}
 use Rattle.ja_lower_names.specs.TextOrder.{Parts, one_variable, if_any, in_name}
 use Rattle.ja_syntax.specs.declared.tree.Name.{Name}
 use Rattle.ja_lower_draft.specs.Lines.{Scene}
@@ -25,19 +26,11 @@ included_further first second = record { found = λ scene has. second.found scen
 abbrev pub IncludesFunction : Parts → Option Name → Place → Type 0
 IncludesFunction whole name place = (scene : Scene) → HasParts scene whole → HasFunctionAt scene place × HasParts scene (if_any in_name name)
 
-pub all_first : {X : Type 0} (P : X → Type 0) (xs ys : List X) → AllByRecursion P (xs ++ ys) → AllByRecursion P xs
-all_first P [] ys all = tt
-all_first P (x ∷ xs) ys all = (all.0, all_first P xs ys all.1)
-
-pub all_second : {X : Type 0} (P : X → Type 0) (xs ys : List X) → AllByRecursion P (xs ++ ys) → AllByRecursion P ys
-all_second P [] ys all = all
-all_second P (x ∷ xs) ys all = all_second P xs ys all.1
-
 pub first_included : {whole : Parts} (first second : Parts) → Includes whole (first ++ second) → Includes whole first
-first_included first second h = record { found = λ scene has. all_first (HasPart scene) first second (h.found scene has) }
+first_included first second h = record { found = λ scene has. all_left (HasPart scene) first second (h.found scene has) }
 
 pub second_included : {whole : Parts} (first second : Parts) → Includes whole (first ++ second) → Includes whole second
-second_included first second h = record { found = λ scene has. all_second (HasPart scene) first second (h.found scene has) }
+second_included first second h = record { found = λ scene has. all_right (HasPart scene) first second (h.found scene has) }
 
 -- a name is found where it is a variable, too
 pub variable_included : {whole : Parts} (n : Name) → Includes whole (in_name n) → Includes whole (one_variable n.text)

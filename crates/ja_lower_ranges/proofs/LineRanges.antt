@@ -4,6 +4,7 @@ use Rattle.std.specs.List.{AllByRecursion, list_any, position_or_len}
 use Rattle.std.specs.Str.{bytes_eq}
 use Rattle.ja_base.specs.declared.ids.Place.{Place}
 use Rattle.ja_base.specs.declared.ids.Reg.{Reg}
+use Rattle.ja_base.proofs.Lists.{all_append}
 use Rattle.ja_prim.specs.declared.primitive.Primitive.{Primitive}
 use Rattle.ja_graph.specs.declared.node.Hint.{Hint}
 use Rattle.ja_graph.specs.declared.node.Node.{Node}
@@ -20,10 +21,6 @@ use Rattle.ja_lower_ranges.proofs.NodeRanges.{const_in_range, convert_in_range, 
 use Rattle.ja_lower_ranges.proofs.Sound.{IsSound, IsSoundLine, IsSoundValued}
 
 -- ---- lists
-
-pub all_append : {X : Type 0} (P : X → Type 0) (xs ys : List X) → AllByRecursion P xs → AllByRecursion P ys → AllByRecursion P (xs ++ ys)
-all_append P [] ys first second = second
-all_append P (x ∷ xs) ys first second = (first.0, all_append P xs ys first.1 second)
 
 -- an element that passes has a place
 found_below : {X : Type 0} (p : X → Bool) (xs : List X) → list_any p xs ≡ true → position_or_len p xs < length xs

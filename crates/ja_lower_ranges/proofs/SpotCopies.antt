@@ -4,6 +4,7 @@ use Rattle.std.specs.List.{AllByRecursion}
 use Rattle.std.specs.Option.{option_or, option_map_or}
 use Rattle.std.proofs.lemmas.Bool.{leb-true, leb-false}
 use Rattle.ja_base.specs.declared.ids.Reg.{Reg}
+use Rattle.ja_base.proofs.Lists.{all_append}
 use Rattle.ja_graph.specs.Node.{may_throw}
 use Rattle.ja_lower_listing.specs.declared.item.BlockNode.{BlockNode}
 use Rattle.ja_lower_listing.specs.declared.item.Spot.{Spot}
@@ -15,7 +16,6 @@ use Rattle.ja_lower_listing.specs.Listing.{behind, led, goes, leads, jump_of, wa
 use Rattle.ja_lower_draft.specs.Copies.{Template, moved_node, with_block}
 use Rattle.ja_lower_draft.specs.Lines.{Listing, Scene}
 use Rattle.ja_lower_ranges.specs.Spots.{times, OfSpot, OfTarget, OfTargets, OfBlock, OfEdges}
-use Rattle.ja_lower_ranges.proofs.LineRanges.{all_append}
 use Rattle.ja_lower_ranges.proofs.SpotCounts.{one_if, free_from, free_below, IsBelow, block_map}
 use Rattle.ja_lower_ranges.proofs.SpotLines.{KeptAt, copy}
 

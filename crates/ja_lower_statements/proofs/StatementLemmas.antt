@@ -2,6 +2,7 @@
 use Rattle.std.proofs.Common.{◌≡◌, ℕ, List, [], ◌∷◌, map, refl, ap, sym, ◌∙◌, Option, Some, None}
 use Rattle.std.specs.Option.{option_map}
 use Rattle.ja_base.specs.declared.ids.Place.{Place}
+use Rattle.ja_base.proofs.Lists.{map_after}
 use Rattle.ja_syntax.specs.declared.tree.Name.{Name}
 use Rattle.ja_syntax.specs.declared.tree.FunctionOf.{FunctionOf}
 use Rattle.ja_syntax.specs.declared.tree.CatchOf.{CatchOf}
@@ -23,10 +24,6 @@ use Rattle.ja_lower_draft.specs.Lines.{Listing, restarted}
 use Rattle.ja_lower_expressions.specs.References.{Form, value_of}
 use Rattle.ja_lower_statements.specs.Statements.{Around, Does, Clause, Expressions, statement_level, clause_level, does, clause_of, declaration_of, initialiser_of, first_of, target_of, catch_of, label_text, list_all_statements, declare_all, list_if, list_if_alone, list_then, list_else, list_do, list_while, list_for, list_for_in, list_return, list_labelled, list_switch, list_throw, list_try}
 use Rattle.ja_lower_statements.specs.Ways.{break_target, continue_target, jump_to, leaving}
-
-map_after : {A B C : Type 0} (f : A → B) (k : B → C) (g : A → C) → ((x : A) → k (f x) ≡ g x) → (xs : List A) → map k (map f xs) ≡ map g xs
-map_after f k g h [] = refl
-map_after f k g h (x ∷ xs) = ap (λ y. y ∷ map k (map f xs)) (h x) ∙ ap (λ ys. g x ∷ ys) (map_after f k g h xs)
 
 abbrev clause : Case → Clause
 clause = para-Case (Unit {0}) Does Clause (λ x. tt) statement_level clause_level

@@ -10,6 +10,7 @@ use Rattle.std.proofs.lemmas.Option.{same_Some}
 use Rattle.ja_base.specs.declared.ids.FnId.{FnId}
 use Rattle.ja_base.specs.declared.ids.NodeId.{NodeId}
 use Rattle.ja_base.specs.declared.ids.Reg.{Reg}
+use Rattle.ja_base.proofs.Lists.{element_within, within_from_some}
 use Rattle.ja_graph.specs.declared.program.Function.{Function}
 use Rattle.ja_graph.specs.declared.program.Program.{Program}
 use Rattle.ja_graph.specs.WellFormed.{IsWellFormed, IsFunctionWellFormed, IsRegister, IsDestination, IsFunction, fixed_registers}
@@ -20,14 +21,14 @@ use Rattle.ja_machine.specs.declared.machine.Remaining.{Remaining}
 use Rattle.ja_machine.specs.declared.machine.Frame.{Frame}
 use Rattle.ja_machine.specs.Frames.{undefined, register_of, parameters_of, registers_of, object_or_undefined, argument, entry_registers, entered}
 use Rattle.ja_machine.specs.State.{IsObjectOf, IsValueOf, IsFrame, AreFrames}
-use Rattle.ja_machine.proofs.Lists.{slice_get-set_same, slice_get-set_other, slice_get-append_left, slice_get-append_replicate, slice_get-map_range, slice_get_some, within_from_some, is_some_from, all_at, all_append, all_map, all_of, all_replicate}
+use Rattle.ja_machine.proofs.Lists.{slice_get-set_same, slice_get-set_other, slice_get-append_left, slice_get-append_replicate, slice_get-map_range, is_some_from, all_at, all_append, all_map, all_of, all_replicate}
 use Rattle.ja_machine.proofs.Heaps.{Grows, value_grows}
 
 -- ---- registers
 
 -- a register of the frame holds its value
 pub register_held : (f : Frame) (r : Reg) → r.0 < length f.registers → slice_get f.registers r.0 ≡ Some (register_of f r)
-register_held f r l = let (v, e) = slice_get_some f.registers r.0 l in e ∙ ap Some (sym (ap (λ o. unwrap_or o undefined) e))
+register_held f r l = let (v, e) = element_within f.registers r.0 l in e ∙ ap Some (sym (ap (λ o. unwrap_or o undefined) e))
 
 -- .. which is one of the heap
 pub register_value : (p : Program) (h : Heap) (f : Frame) (k : IsFrame p h f) (r : Reg) → IsRegister k.function r → IsValueOf h (register_of f r)
@@ -127,7 +128,7 @@ behind_five u v w x y rest i =
 
 module _ (p : Program) (good : IsWellFormed p) (h : Heap) (steps : ℕ) (f : FnId) (receiver : Addr) (callee : Option Addr) (chain : Addr) (arguments : List Value) (fits : IsFunction p f) (receiver_there : IsObjectOf h receiver) (callee_there : (a : Addr) → callee ≡ Some a → IsObjectOf h a) (chain_there : IsObjectOf h chain) (values : AllByRecursion (IsValueOf h) arguments) where
   function_at : (fn : Function) × (slice_get p.functions f.0 ≡ Some fn)
-  function_at = slice_get_some p.functions f.0 fits
+  function_at = element_within p.functions f.0 fits
 
   -- as many registers as the function has, and the places of those that are set
   module _ (fn : Function) (fn_is : slice_get p.functions f.0 ≡ Some fn) where

@@ -4,6 +4,7 @@ use Rattle.std.specs.Prelude.{◌&&◌, ◌==◌}
 use Rattle.std.proofs.lemmas.Option.{same_Some}
 use Rattle.std.proofs.lemmas.Bool.{and_from, and_left, and_right, cases_eq, eq-eqb, ne_eqb, cond-true, cond-false}
 use Rattle.ja_base.specs.declared.ids.Site.{Site}
+use Rattle.ja_base.proofs.Lists.{all_weaker}
 use Rattle.ja_graph.specs.declared.attrs.Attrs.{Attrs}
 use Rattle.ja_graph.specs.declared.program.Program.{Program}
 use Rattle.ja_machine.specs.declared.machine.Addr.{Addr}
@@ -17,7 +18,7 @@ use Rattle.ja_machine.specs.Heap.{objects_of, count, size, object_at, with_new, 
 use Rattle.ja_machine.specs.Writes.{put, define, delete}
 use Rattle.ja_machine.specs.Machine.{class_of_site}
 use Rattle.ja_machine.specs.State.{IsObjectOf, IsValueOf, IsContentOf, IsHeap}
-use Rattle.ja_machine.proofs.Lists.{all_from, all_at, all_then, is_some_from}
+use Rattle.ja_machine.proofs.Lists.{all_from, all_at, is_some_from}
 use Rattle.ja_machine.proofs.Heaps
 use Rattle.ja_machine.proofs.Heaps.{Grows, content_grows}
 use Rattle.ja_machine.proofs.Writing.{Hold, IsRewritten, by_define, by_delete, by_put}
@@ -75,7 +76,7 @@ heap_of p h known held = record {
 
 -- what is held stays held in a heap that grows
 pub hold_grows : (h now : Heap) → Grows h now → (qs : List Property) → Hold (IsContentOf h) qs → Hold (IsContentOf now) qs
-hold_grows h now grows qs all = all_then (λ (q : Property). IsContentOf h q.content) (λ (q : Property). IsContentOf now q.content) (λ q k. content_grows h now grows q.content k) qs all
+hold_grows h now grows qs all = all_weaker (λ (q : Property). IsContentOf h q.content) (λ (q : Property). IsContentOf now q.content) (λ q k. content_grows h now grows q.content k) qs all
 
 -- ---- what a step leaves of a heap
 

@@ -7,6 +7,7 @@ use Rattle.std.proofs.lemmas.Bool.{cases_eq}
 use Rattle.std.proofs.lemmas.List.{set_past}
 use Rattle.std.proofs.lemmas.List.Sums.{sum_by-cons}
 use Rattle.ja_base.specs.declared.ids.Site.{Site}
+use Rattle.ja_base.proofs.Lists.{element_within, within_from_some}
 use Rattle.ja_machine.specs.declared.machine.Addr.{Addr}
 use Rattle.ja_machine.specs.declared.machine.Value.{Value}
 use Rattle.ja_machine.specs.declared.machine.Value.TheVariants as value
@@ -16,7 +17,7 @@ use Rattle.ja_machine.specs.declared.machine.Object.{Object}
 use Rattle.ja_machine.specs.declared.machine.Heap.{Heap}
 use Rattle.ja_machine.specs.Heap.{objects_of, count, size, object_at, with_new, new_address, with_object}
 use Rattle.ja_machine.specs.State.{IsObjectOf, IsValueOf, IsContentOf}
-use Rattle.ja_machine.proofs.Lists.{slice_get-set_same, slice_get-set_other, slice_get-append_left, slice_get-append_end, slice_get_some, within_from_some, is_some_from}
+use Rattle.ja_machine.proofs.Lists.{slice_get-set_same, slice_get-set_other, slice_get-append_left, slice_get-append_end, is_some_from}
 
 -- ---- addresses, and the objects of a site
 
@@ -38,7 +39,7 @@ ordinal-below h a there = within_from_some (objects_of h a.site) a.ordinal there
 
 -- .. and each ordinal below it is an object's
 pub object_from_ordinal : (h : Heap) (a : Addr) → a.ordinal < count h a.site → IsObjectOf h a
-object_from_ordinal h a l = let (o, e) = slice_get_some (objects_of h a.site) a.ordinal l in is_some_from (object_at h a) o e
+object_from_ordinal h a l = let (o, e) = element_within (objects_of h a.site) a.ordinal l in is_some_from (object_at h a) o e
 
 -- equal sites have the same objects
 pub objects-same_site : (h : Heap) (s t : Site) → s.0 ≡ t.0 → objects_of h s ≡ objects_of h t

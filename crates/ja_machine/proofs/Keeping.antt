@@ -11,6 +11,7 @@ use Rattle.ja_base.specs.declared.ids.Reg.{Reg}
 use Rattle.ja_base.specs.declared.ids.ScopeKind.{ScopeKind}
 use Rattle.ja_base.specs.declared.ids.ScopeKind.TheVariants as scope_kind
 use Rattle.ja_base.specs.declared.ids.Site.{Site}
+use Rattle.ja_base.proofs.Lists.{all_weaker}
 use Rattle.ja_prim.specs.declared.primitive.Primitive.{Primitive}
 use Rattle.ja_prim.specs.declared.primitive.Primitive.TheVariants as primitive
 use Rattle.ja_graph.specs.declared.builtins.TheConstants as builtins
@@ -53,7 +54,7 @@ use Rattle.ja_machine.specs.Calls.{site_of, function_called, function_constructi
 use Rattle.ja_machine.specs.Intrinsics.{Row, rows}
 use Rattle.ja_machine.specs.Nodes
 use Rattle.ja_machine.specs.State.{IsObjectOf, IsValueOf, IsContentOf, IsState, enters_functions}
-use Rattle.ja_machine.proofs.Lists.{either_way, all_at, all_from, all_then}
+use Rattle.ja_machine.proofs.Lists.{either_way, all_at, all_from}
 use Rattle.ja_machine.proofs.Heaps
 use Rattle.ja_machine.proofs.Heaps.{Grows, value_grows}
 use Rattle.ja_machine.proofs.Writing.{Hold}
@@ -317,7 +318,7 @@ module _ (p : Program) (good : IsWellFormed p) (s : Standing) (here : IsAt p s) 
       let now : Heap = with_new s.conf.heap site o in
       let fits : IsFitting p s.conf.heap site o = fitting p s.conf.heap m o made.each.0 refl tt tt there in
       let grown : Grows s.conf.heap now = Heaps.grows-with_new s.conf.heap site o (row p s.conf.heap site o (linked_of p s.conf.heap here.heap) fits) in
-      let values : AllByRecursion (IsValueOf now) s.top.arguments = all_then (IsValueOf s.conf.heap) (IsValueOf now) (λ v k. value_grows s.conf.heap now grown v k) s.top.arguments arguments_of_frame in
+      let values : AllByRecursion (IsValueOf now) s.top.arguments = all_weaker (IsValueOf s.conf.heap) (IsValueOf now) (λ v k. value_grows s.conf.heap now grown v k) s.top.arguments arguments_of_frame in
       standing.enters_scope_kept p good s here now (made_kept m o fits (hold-with_parameters now names [] s.top.arguments [] values tt)) (new_address s.conf.heap site) (made_there m o fits)
   enter_kept site outer names (Some list) there made =
       let a : Making = making site class.Activation in
@@ -333,7 +334,7 @@ module _ (p : Program) (good : IsWellFormed p) (s : Standing) (here : IsAt p s) 
       let grown : Grows s.conf.heap mid = Heaps.grows-with_new s.conf.heap site o (row p s.conf.heap site o (linked_of p s.conf.heap here.heap) fits_o) in
       let fits_q : IsFitting p mid list q = fitting p mid b q made.each.1.0 refl tt (grown (first_of builtins.OBJECT_PROTOTYPE) object_prototype) tt in
       let grows : Grows s.conf.heap now = both_grow a b made.first made.in_order o q fits_o fits_q in
-      let values : AllByRecursion (IsValueOf now) s.top.arguments = all_then (IsValueOf s.conf.heap) (IsValueOf now) (λ v k. value_grows s.conf.heap now grows v k) s.top.arguments arguments_of_frame in
+      let values : AllByRecursion (IsValueOf now) s.top.arguments = all_weaker (IsValueOf s.conf.heap) (IsValueOf now) (λ v k. value_grows s.conf.heap now grows v k) s.top.arguments arguments_of_frame in
       let list_there : IsObjectOf now (new_address s.conf.heap list) = second_there a b made.first made.in_order o q fits_o fits_q in
       let site_there : IsObjectOf now (new_address s.conf.heap site) = first_there a b made.first made.in_order o q fits_o fits_q in
       let new_o : Hold (IsContentOf now) o.properties = hold-with_property now bound own_arguments list_there (hold-with_parameters now names [] s.top.arguments flags values tt) in
@@ -414,7 +415,7 @@ module _ (p : Program) (good : IsWellFormed p) (s : Standing) (here : IsAt p s) 
         let now : Heap = with_new s.conf.heap site o in
         let fits : IsFitting p s.conf.heap site o = fitting p s.conf.heap m o made_object refl tt (callee_prototype_there p s.conf.heap here.heap good (object_in callee)) tt in
         let k : IsKept p s.conf.heap now = made_kept m o fits tt in
-        let values : AllByRecursion (IsValueOf now) (map (register_of s.top) arguments) = all_then (IsValueOf s.conf.heap) (IsValueOf now) (λ v of_heap. value_grows s.conf.heap now k.grows v of_heap) (map (register_of s.top) arguments) (registers_given p s.conf.heap here.heap s.top here.top arguments registers) in
+        let values : AllByRecursion (IsValueOf now) (map (register_of s.top) arguments) = all_weaker (IsValueOf s.conf.heap) (IsValueOf now) (λ v of_heap. value_grows s.conf.heap now k.grows v of_heap) (map (register_of s.top) arguments) (registers_given p s.conf.heap here.heap s.top here.top arguments registers) in
         standing.enters_kept p good s here now k is f (new_address s.conf.heap site) (object_in callee) (map (register_of s.top) arguments) (constructing_fits p good callee f constructing) (made_there m o fits) (λ a e. k.grows a (object_in_there p s.conf.heap here.heap callee callee_held a e)) values
 
     convert_kept : (dst : Reg) (to_kind : Hint) (other : Option Value) (x : Value) → Sets dst → Held x → Kept (convert_step p s dst to_kind other x)

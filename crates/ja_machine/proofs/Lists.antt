@@ -5,6 +5,7 @@ use Rattle.std.specs.List.{AllByRecursion, range_with_len}
 use Rattle.std.specs.Option.{is_some}
 use Rattle.std.proofs.lemmas.Bool.{false≢true}
 use Rattle.std.proofs.lemmas.Option.{same_Some}
+use Rattle.ja_base.proofs.Lists.{all_weaker}
 
 -- ---- what is read after a write
 
@@ -35,24 +36,7 @@ slice_get-append_end [] x ys (suc i) e = absurd (omega arith)
 slice_get-append_end (y ∷ xs) x ys zero e = absurd (omega arith)
 slice_get-append_end (y ∷ xs) x ys (suc i) e = slice_get-append_end xs x ys i (omega arith)
 
--- an index is within a list exactly if there is an entry
-pub slice_get_some : {X : Type 0} (xs : List X) (i : ℕ) → i < length xs → (x : X) × (slice_get xs i ≡ Some x)
-slice_get_some [] i h = absurd (omega arith)
-slice_get_some (x ∷ xs) zero h = (x, refl)
-slice_get_some (x ∷ xs) (suc i) h = slice_get_some xs i (omega arith)
-
--- .. and the other way round
-pub within_from_some : {X : Type 0} (xs : List X) (i : ℕ) → IsSome (slice_get xs i) → i < length xs
-within_from_some [] i h = absurd (false≢true h)
-within_from_some (x ∷ xs) zero h = omega arith
-within_from_some (x ∷ xs) (suc i) h = let r : i < length xs = within_from_some xs i h in omega arith
-
 -- ---- options
-
--- what is some has a value
-pub some_value : {X : Type 0} (o : Option X) → IsSome o → (x : X) × (o ≡ Some x)
-some_value None h = absurd (false≢true h)
-some_value (Some x) h = (x, refl)
 
 -- what has a value is some
 pub is_some_from : {X : Type 0} (o : Option X) (x : X) → o ≡ Some x → IsSome o
@@ -111,11 +95,6 @@ module _ {X : Type 0} (P : X → Type 0) where
   all_find test (y ∷ ys) x all e =
       either_way (λ o. o ≡ Some x → P x) (test y) (Some y) (find test ys) (λ k f. subst P (same_Some y x f) all.0) (λ k f. all_find test ys x all.1 f) e
 
--- what follows from it
-pub all_then : {X : Type 0} (P Q : X → Type 0) → ((x : X) → P x → Q x) → (xs : List X) → AllByRecursion P xs → AllByRecursion Q xs
-all_then P Q further [] all = tt
-all_then P Q further (x ∷ xs) all = (further x all.0, all_then P Q further xs all.1)
-
 -- .. for each entry mapped
 pub all_map : {X Y : Type 0} (P : X → Type 0) (Q : Y → Type 0) (f : X → Y) → ((x : X) → P x → Q (f x)) → (xs : List X) → AllByRecursion P xs → AllByRecursion Q (map f xs)
 all_map P Q f further [] all = tt
@@ -154,7 +133,7 @@ slice_get-map_range f a (suc n) (suc i) h = slice_get-map_range f (a + 1) n i (o
 pub range_within : (a n : ℕ) → AllByRecursion (λ x. (a ≤ x) × (x < a + n)) (range_with_len a n)
 range_within a zero = tt
 range_within a (suc n) =
-    ((omega arith, omega arith), all_then (λ x. (a + 1 ≤ x) × (x < a + 1 + n)) (λ x. (a ≤ x) × (x < a + suc n)) (λ x k. let low : a + 1 ≤ x = k.0 in let high : x < a + 1 + n = k.1 in (omega arith, omega arith)) (range_with_len (a + 1) n) (range_within (a + 1) n))
+    ((omega arith, omega arith), all_weaker (λ x. (a + 1 ≤ x) × (x < a + 1 + n)) (λ x. (a ≤ x) × (x < a + suc n)) (λ x k. let low : a + 1 ≤ x = k.0 in let high : x < a + 1 + n = k.1 in (omega arith, omega arith)) (range_with_len (a + 1) n) (range_within (a + 1) n))
 
 -- behind a list the first of equal entries
 pub slice_get-append_replicate : {X : Type 0} (xs : List X) (n : ℕ) (x : X) (i : ℕ) → i ≡ length xs → 0 < n → slice_get (xs ++ replicate n x) i ≡ Some x

@@ -8,6 +8,7 @@ use Rattle.std.proofs.lemmas.Bool.{cases_Bool, false≢true, eq-eqb, eqb-true, c
 use Rattle.std.proofs.lemmas.List.Sums.{sum_by-cons}
 use Rattle.std.proofs.lemmas.List.FromFn.{length-map-range_with_len}
 use Rattle.ja_base.specs.declared.ids.Site.{Site}
+use Rattle.ja_base.proofs.Lists.{within_from_some}
 use Rattle.ja_graph.specs.declared.program.ObjectSpec.{ObjectSpec}
 use Rattle.ja_graph.specs.declared.program.PropertySpec.{PropertySpec}
 use Rattle.ja_graph.specs.declared.program.SpecContent.{SpecContent}
@@ -22,7 +23,7 @@ use Rattle.ja_machine.specs.Heap.{objects_of, count, size, object_at, prototype_
 use Rattle.ja_machine.specs.Objects.{first_of}
 use Rattle.ja_machine.specs.Machine.{class_of_site, opening_content, opening_property, opening_object, opening_objects, opening_heap}
 use Rattle.ja_machine.specs.State.{IsObjectOf, IsContentOf, IsHeap}
-use Rattle.ja_machine.proofs.Lists.{is_some_from, within_from_some, slice_get-map_range, all_from, all_map}
+use Rattle.ja_machine.proofs.Lists.{is_some_from, slice_get-map_range, all_from, all_map}
 use Rattle.ja_machine.proofs.Heaps
 use Rattle.ja_machine.proofs.Heaps.{ordinal-below, object_from_ordinal}
 use Rattle.ja_machine.proofs.Writing.{Hold}

@@ -6,6 +6,7 @@ use Rattle.std.specs.Option.{option_and_then, option_map, option_map_or}
 use Rattle.std.proofs.lemmas.Bool.{false≢true, ltb-true}
 use Rattle.std.proofs.lemmas.Option.{same_Some, option_and_then_some}
 use Rattle.ja_base.specs.declared.ids.Reg.{Reg}
+use Rattle.ja_base.proofs.Lists.{element_within, within_from_some}
 use Rattle.ja_prim.specs.declared.primitive.Primitive.{Primitive}
 use Rattle.ja_graph.specs.declared.node.Node.{Node}
 use Rattle.ja_graph.specs.declared.node.Node.TheVariants as node
@@ -34,7 +35,7 @@ use Rattle.ja_machine.specs.Nodes.{shown, takes, pick, pick_step, device_step, n
 use Rattle.ja_machine.specs.Machine.{program_function, opening_heap, opening_state, pick_wanted, pick_wants, device_wants, node_wants, frames_want, wants, fits, frames_step, step, next_of, state_of}
 use Rattle.ja_machine.specs.State.{IsFrame, AreFrames, enters_functions, AreWaiting, IsLowest, below_top, IsState}
 use Rattle.ja_machine.specs.Runs.{AreStates, NeverStuck, ChainsEnd}
-use Rattle.ja_machine.proofs.Lists.{either_way, slice_get_some, within_from_some, is_some_from}
+use Rattle.ja_machine.proofs.Lists.{either_way, is_some_from}
 use Rattle.ja_machine.proofs.Chains.{prototypes_chained, scopes_chained}
 use Rattle.ja_machine.proofs.Opening.{heap-opening, none-opening}
 use Rattle.ja_machine.proofs.Nodes.{global_there}
@@ -97,7 +98,7 @@ module _ (p : Program) (good : IsWellFormed p) where
     picks : (list dst : Reg) (a : Addr) (i : ℕ) (ns : List (List ℕ)) → shown c.heap f list a ≡ ns → fits p (pick_wanted ns) (answers.Pick i) ≡ true → IsSome (pick s list dst a (answers.Pick i))
     picks list dst a i [] is fit = absurd (false≢true fit)
     picks list dst a i (n ∷ ns) is fit =
-        let (name, name_is) = slice_get_some (n ∷ ns) i (ltb-true i (length (n ∷ ns)) fit) in
+        let (name, name_is) = element_within (n ∷ ns) i (ltb-true i (length (n ∷ ns)) fit) in
         ap (λ r. is_some (option_map (takes s list dst) r)) (ap (λ (xs : List (List ℕ)). slice_get xs i) is ∙ name_is)
 
     no_device : (ns : List (List ℕ)) (q : Primitive) → fits p (pick_wanted ns) (answers.Device q) ≡ true → ⊥
@@ -143,7 +144,7 @@ module _ (p : Program) (good : IsWellFormed p) where
   -- a frame stands at a node
   stands : (c : Conf) (f : Frame) → IsFrame p c.heap f → (info : NodeInfo) × (node_at p f.function f.node ≡ Some info)
   stands c f k =
-      let (info, info_is) = slice_get_some k.function.nodes f.node.0 k.node_fits in
+      let (info, info_is) = element_within k.function.nodes f.node.0 k.node_fits in
       (info, ap (λ o. slice_get (option_map_or (λ (fn : Function). fn.nodes) o []) f.node.0) k.function_is ∙ info_is)
 
   frames_some : (c : Conf) (answer : Answer) (fs : List Frame) → AreFrames p c.heap fs → AreWaiting p (below_top fs) → IsLowest fs → fits p (frames_want p c.heap fs) answer ≡ true → IsSome (frames_step p c answer fs)

@@ -3,13 +3,14 @@ use Rattle.std.proofs.Common.{◌≡◌, length, Some, inl, inr, refl, sym, ap, 
 use Rattle.std.proofs.lemmas.Bool.{cases_lt}
 use Rattle.std.proofs.lemmas.Option.{same_Some}
 use Rattle.ja_base.specs.declared.ids.Site.{Site}
+use Rattle.ja_base.proofs.Options.{some_value}
 use Rattle.ja_machine.specs.declared.machine.Addr.{Addr}
 use Rattle.ja_machine.specs.declared.machine.Object.{Object}
 use Rattle.ja_machine.specs.declared.machine.Heap.{Heap}
 use Rattle.ja_machine.specs.Heap.{object_at, with_new, with_object}
 use Rattle.ja_machine.specs.State.{IsObjectOf}
 use Rattle.ja_machine.specs.Runs.{Stays}
-use Rattle.ja_machine.proofs.Lists.{some_value, is_some_from}
+use Rattle.ja_machine.proofs.Lists.{is_some_from}
 use Rattle.ja_machine.proofs.Heaps
 
 -- each object of the first heap stays in the second

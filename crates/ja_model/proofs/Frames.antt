@@ -7,6 +7,7 @@ use Rattle.std.proofs.lemmas.Bool.{false≢true, cases_eq, eq-eqb, ne_eqb, cond-
 use Rattle.ja_base.specs.declared.ids.FnId.{FnId}
 use Rattle.ja_base.specs.declared.ids.Reg.{Reg}
 use Rattle.ja_base.specs.declared.ids.NodeId.{NodeId}
+use Rattle.ja_base.proofs.Lists.{element_within}
 use Rattle.ja_graph.specs.declared.program.Function.{Function}
 use Rattle.ja_graph.specs.declared.program.Program.{Program}
 use Rattle.ja_graph.specs.Program.{global}
@@ -21,7 +22,7 @@ use Rattle.ja_machine.specs.Frames.{register_of, undefined, argument, with_resul
 use Rattle.ja_machine.specs.Objects.{first_of}
 use Rattle.ja_machine.specs.Machine.{program_function, opening_heap, next_of}
 use Rattle.ja_machine.specs.State.{IsValueOf, IsFrame, AreFrames, IsState}
-use Rattle.ja_machine.proofs.Lists.{slice_get-set_same, slice_get-set_other, slice_get_some}
+use Rattle.ja_machine.proofs.Lists.{slice_get-set_same, slice_get-set_other}
 use Rattle.ja_model.specs.AbstractValue.{AbstractValue}
 use Rattle.ja_model.specs.AbstractState.{AbstractState, with_register}
 use Rattle.ja_model.specs.Meaning.{Holds, has_value}
@@ -88,7 +89,7 @@ of_missing (j ∷ js) n (suc i) v e = of_missing js n i v e
 
 -- a register of the frame holds its value
 pub register_held : (f : Frame) (r : Reg) → r.0 < length f.registers → slice_get f.registers r.0 ≡ Some (register_of f r)
-register_held f r l = let (v, e) = slice_get_some f.registers r.0 l in e ∙ ap Some (sym (ap (λ o. unwrap_or o undefined) e))
+register_held f r l = let (v, e) = element_within f.registers r.0 l in e ∙ ap Some (sym (ap (λ o. unwrap_or o undefined) e))
 
 -- .. which the state has
 pub register_has : (p : Program) (e h : Heap) (f : Frame) (a : AbstractState) (r : Reg) → Holds p e h f a → r.0 < length f.registers → IsTrue (has_value h (a.register r.0) (register_of f r))

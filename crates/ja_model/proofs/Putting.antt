@@ -6,6 +6,7 @@ use Rattle.std.proofs.lemmas.Bool.{not-true, not-false, cond-false}
 use Rattle.ja_base.specs.declared.ids.NameId.{NameId}
 use Rattle.ja_base.specs.declared.ids.ScopeKind.{ScopeKind}
 use Rattle.ja_base.specs.declared.ids.ScopeKind.TheVariants as scope_kind
+use Rattle.ja_base.proofs.Options.{some_value}
 use Rattle.ja_prim.specs.declared.primitive.Primitive.TheVariants as primitive
 use Rattle.ja_graph.specs.declared.program.Program.{Program}
 use Rattle.ja_graph.specs.Program.{global}
@@ -23,7 +24,7 @@ use Rattle.ja_machine.specs.Objects.{first_of}
 use Rattle.ja_machine.specs.Events.{Standing, goes_on, left_scope}
 use Rattle.ja_machine.specs.Nodes.{name_text, not_taken, after_put, puts, is_array_at, write_ref_step}
 use Rattle.ja_machine.specs.State.{IsHeap, IsValueOf}
-use Rattle.ja_machine.proofs.Lists.{either_way, some_value}
+use Rattle.ja_machine.proofs.Lists.{either_way}
 use Rattle.ja_machine.proofs.Nodes.{global_there}
 use Rattle.ja_model.proofs.Nodes.{global_class}
 

@@ -10,6 +10,7 @@ use Rattle.ja_base.specs.declared.ids.NodeId.{NodeId}
 use Rattle.ja_base.specs.declared.ids.Reg.{Reg}
 use Rattle.ja_base.specs.declared.ids.ScopeKind.TheVariants.{TextLength}
 use Rattle.ja_base.specs.declared.ids.Site.{Site}
+use Rattle.ja_base.proofs.Lists.{all_weaker}
 use Rattle.ja_prim.specs.declared.primitive.Primitive.TheVariants as primitive
 use Rattle.ja_prim.specs.Texts.{is_short}
 use Rattle.ja_graph.specs.declared.node.Args.{Args}
@@ -43,7 +44,7 @@ use Rattle.ja_machine.specs.Nodes.{name_text, find_name, find_name_step, read, r
 use Rattle.ja_machine.specs.Machine.{program_function, opening_frame, opening_state, fits, wants, frames_step, step, next_of, state_of}
 use Rattle.ja_machine.specs.State.{IsHeap, IsValueOf, IsFrame, IsState}
 use Rattle.ja_machine.specs.Runs.{AreStates}
-use Rattle.ja_machine.proofs.Lists.{either_way, all_left, all_right, all_unmap, all_then}
+use Rattle.ja_machine.proofs.Lists.{either_way, all_left, all_right, all_unmap}
 use Rattle.ja_model.proofs.Nodes.{HasNodeSites, read_site, call_site, IsNodeInRange, node_of_text, in_range_at, sites_at}
 use Rattle.ja_model.proofs.Frames.{OnNext, OnStep, on_event, frame_of, register_of_heap, registers_are, of_missing}
 use Rattle.ja_model.proofs.Putting.{put_at_object, write_by}
@@ -104,7 +105,7 @@ module _ (p : Program) (good : IsWellFormed p) (built : AreBuilt p) where
   makes_plain : (n : NodeId) (info : NodeInfo) → node_at p program_function n ≡ Some info → MakesPlain info.node
   makes_plain n info at =
       let told : Told (map (owned 0) (makings info.node)) = told_of_node good.text.nodes n.0 info (node_of_text p good n info at) (told_of_function p.functions good.text good.text_is good.told) in
-      all_then (λ (m : Making). IsSiteTold p (owned 0 m)) (λ (m : Making). IsPlain p m.site) (λ m t. built.made m.site t.info t.info_is t.owner) (makings info.node) (all_unmap (IsSiteTold p) (owned 0) (makings info.node) told)
+      all_weaker (λ (m : Making). IsSiteTold p (owned 0 m)) (λ (m : Making). IsPlain p m.site) (λ m t. built.made m.site t.info t.info_is t.owner) (makings info.node) (all_unmap (IsSiteTold p) (owned 0) (makings info.node) told)
 
   read_plain_site : (dst base : Reg) (name : NameId) (error : Site) → MakesPlain (ReadRef dst base name error) → IsPlain p error
   unfolding makings

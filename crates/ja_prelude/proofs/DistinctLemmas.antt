@@ -3,6 +3,7 @@ use Rattle.std.proofs.Common.{◌≡◌, ℕ, zero, suc, ◌≤◌, Bool, true, 
 use Rattle.std.specs.List.{slice_get, fold, list_any}
 use Rattle.std.specs.Str.{bytes_eq}
 use Rattle.std.specs.Cmp.Lexicographic.{nat_list_eq_equiv}
+use Rattle.ja_base.proofs.Tests.{or_left_false, or_right_false}
 use mathlib.Core.Bool.{true≢false}
 use Rattle.ja_lower_names.specs.Names.{with_name}
 use Rattle.ja_graph.specs.WellFormed.{builtin_names}
@@ -13,26 +14,17 @@ abbrev Apart : List (List ℕ) → Type 0
 Apart [] = Unit {0}
 Apart (t ∷ ts) = (list_any (bytes_eq t) ts ≡ false) × Apart ts
 
--- a part of a disjunction that doesn't hold
-second_false : (a b : Bool) → (a || b) ≡ false → b ≡ false
-second_false true b h = absurd (cc)
-second_false false b h = h
-
-first_false : (a b : Bool) → (a || b) ≡ false → a ≡ false
-first_false true b h = absurd (cc)
-first_false false b h = refl
-
 -- a text is none of some, and not the one behind them
 none-push : (t u : List ℕ) (ts : List (List ℕ)) → list_any (bytes_eq t) ts ≡ false → bytes_eq t u ≡ false → list_any (bytes_eq t) (ts ++ u ∷ []) ≡ false
 none-push t u [] none differs = rw differs refl
 none-push t u (x ∷ ts) none differs =
-    rw (first_false (bytes_eq t x) (list_any (bytes_eq t) ts) none) (none-push t u ts (second_false (bytes_eq t x) (list_any (bytes_eq t) ts) none) differs)
+    rw (or_left_false (bytes_eq t x) (list_any (bytes_eq t) ts) none) (none-push t u ts (or_right_false (bytes_eq t x) (list_any (bytes_eq t) ts) none) differs)
 
 apart-push : (ts : List (List ℕ)) (u : List ℕ) → Apart ts → list_any (bytes_eq u) ts ≡ false → Apart (ts ++ u ∷ [])
 apart-push [] u apart none = (refl, tt)
 apart-push (t ∷ ts) u apart none =
-    let differs : bytes_eq t u ≡ false = nat_list_eq_equiv.symm t u ∙ first_false (bytes_eq u t) (list_any (bytes_eq u) ts) none in
-    (none-push t u ts apart.0 differs, apart-push ts u apart.1 (second_false (bytes_eq u t) (list_any (bytes_eq u) ts) none))
+    let differs : bytes_eq t u ≡ false = nat_list_eq_equiv.symm t u ∙ or_left_false (bytes_eq u t) (list_any (bytes_eq u) ts) none in
+    (none-push t u ts apart.0 differs, apart-push ts u apart.1 (or_right_false (bytes_eq u t) (list_any (bytes_eq u) ts) none))
 
 apart-with_name : (ts : List (List ℕ)) (u : List ℕ) → Apart ts → Apart (with_name ts u)
 apart-with_name ts u apart = at (list_any (bytes_eq u) ts) refl
@@ -81,8 +73,8 @@ names_distinct first us i j t is also =
 
 -- what none of some texts is passed by the one among them
 none-there : (u t : List ℕ) (ts us : List (List ℕ)) → list_any (bytes_eq u) (ts ++ t ∷ us) ≡ false → bytes_eq u t ≡ false
-none-there u t [] us none = first_false (bytes_eq u t) (list_any (bytes_eq u) us) none
-none-there u t (x ∷ ts) us none = none-there u t ts us (second_false (bytes_eq u x) (list_any (bytes_eq u) (ts ++ t ∷ us)) none)
+none-there u t [] us none = or_left_false (bytes_eq u t) (list_any (bytes_eq u) us) none
+none-there u t (x ∷ ts) us none = none-there u t ts us (or_right_false (bytes_eq u x) (list_any (bytes_eq u) (ts ++ t ∷ us)) none)
 
 -- a text is none of those before it
 none-before : (ts : List (List ℕ)) (t : List ℕ) (us : List (List ℕ)) → Apart (ts ++ t ∷ us) → list_any (bytes_eq t) ts ≡ false

@@ -3,14 +3,7 @@ use Rattle.std.proofs.Common.{◌≡◌, ℕ, zero, suc, ◌+◌, ◌<◌, Bool,
 use Rattle.std.specs.List.{AllByRecursion, find, list_all, range_with_len, slice_get}
 use Rattle.std.specs.Option.{is_none}
 use Rattle.std.proofs.lemmas.Bool.Decides.{nat_tests}
-
-pub and_first : (a b : Bool) → (a && b) ≡ true → a ≡ true
-and_first true b h = refl
-and_first false b h = h
-
-pub and_second : (a b : Bool) → (a && b) ≡ true → b ≡ true
-and_second true b h = h
-and_second false b h = absurd (cc)
+use Rattle.ja_base.proofs.Tests.{and_left_true, and_right_true}
 
 pub lt_of : (a b : ℕ) → nat_lt a b ≡ true → a < b
 lt_of a b h = grind (arith, nat_tests)
@@ -26,31 +19,17 @@ pub all-get : {X : Type 0} (test : X → Bool) (xs : List X) (i : ℕ) (x : X) �
 all-get test [] i x all is = absurd (cc)
 all-get test (y ∷ xs) zero x all is =
     let same : y ≡ x = cc in
-    subst (λ z. test z ≡ true) same (and_first (test y) (list_all test xs) all)
-all-get test (y ∷ xs) (suc i) x all is = all-get test xs i x (and_second (test y) (list_all test xs) all) is
+    subst (λ z. test z ≡ true) same (and_left_true (test y) (list_all test xs) all)
+all-get test (y ∷ xs) (suc i) x all is = all-get test xs i x (and_right_true (test y) (list_all test xs) all) is
 
 -- .. and so does what is found
 pub all-found : {X : Type 0} (test wanted : X → Bool) (xs : List X) (x : X) → list_all test xs ≡ true → find wanted xs ≡ Some x → test x ≡ true
 all-found test wanted [] x all is = absurd (cc)
-all-found test wanted (y ∷ xs) x all is = at (wanted y) is (all-found test wanted xs x (and_second (test y) (list_all test xs) all))
+all-found test wanted (y ∷ xs) x all is = at (wanted y) is (all-found test wanted xs x (and_right_true (test y) (list_all test xs) all))
   where
     at : (b : Bool) → cond b (Some y) (find wanted xs) ≡ Some x → (find wanted xs ≡ Some x → test x ≡ true) → test x ≡ true
-    at true found later = let same : y ≡ x = cc in subst (λ z. test z ≡ true) same (and_first (test y) (list_all test xs) all)
+    at true found later = let same : y ≡ x = cc in subst (λ z. test z ≡ true) same (and_left_true (test y) (list_all test xs) all)
     at false found later = later found
-
-pub all-append : {X : Type 0} (P : X → Type 0) (xs ys : List X) → AllByRecursion P xs → AllByRecursion P ys → AllByRecursion P (xs ++ ys)
-all-append P [] ys left right = right
-all-append P (x ∷ xs) ys left right = (left.0, all-append P xs ys left.1 right)
-
-pub all-at : {X : Type 0} (P : X → Type 0) (xs : List X) (i : ℕ) (x : X) → AllByRecursion P xs → slice_get xs i ≡ Some x → P x
-all-at P [] i x all is = absurd (cc)
-all-at P (y ∷ ys) zero x all is = let same : y ≡ x = cc in subst P same all.0
-all-at P (y ∷ ys) (suc i) x all is = all-at P ys i x all.1 is
-
-pub element-at : {X : Type 0} (xs : List X) (i : ℕ) → i < length xs → (x : X) × (slice_get xs i ≡ Some x)
-element-at [] i within = absurd (omega arith)
-element-at (x ∷ xs) zero within = (x, refl)
-element-at (x ∷ xs) (suc i) within = element-at xs i (omega (arith, within))
 
 -- the first elements stand in front
 pub get-front : {X : Type 0} (xs ys : List X) (i : ℕ) (x : X) → slice_get xs i ≡ Some x → slice_get (xs ++ ys) i ≡ Some x
@@ -63,23 +42,10 @@ get-first [] ys i x within is = absurd (omega arith)
 get-first (z ∷ xs) ys zero x within is = is
 get-first (z ∷ xs) ys (suc i) x within is = get-first xs ys i x (omega (arith, within)) is
 
-pub get-taken : {X : Type 0} (n : ℕ) (xs : List X) (i : ℕ) (x : X) → slice_get (take n xs) i ≡ Some x → slice_get xs i ≡ Some x
-get-taken zero xs i x is = absurd (cc)
-get-taken (suc n) [] i x is = absurd (cc)
-get-taken (suc n) (y ∷ xs) zero x is = is
-get-taken (suc n) (y ∷ xs) (suc i) x is = get-taken n xs i x is
-
 pub get-range : (a n i : ℕ) → i < n → slice_get (range_with_len a n) i ≡ Some (a + i)
 get-range a zero i within = absurd (omega arith)
 get-range a (suc n) zero within = ap Some (omega arith)
 get-range a (suc n) (suc i) within = get-range (a + 1) n i (omega (arith, within)) ∙ ap Some (omega arith)
-
-pub some-same : {X : Type 0} (x y : X) → Some x ≡ Some y → x ≡ y
-some-same x y h = cc
-
-pub none-is : {X : Type 0} (o : Option X) → is_none o ≡ true → o ≡ None
-none-is None h = refl
-none-is (Some x) h = absurd (cc)
 
 pub or-second : (a b : Bool) → (not a || b) ≡ true → a ≡ true → b ≡ true
 or-second true b h holds = h

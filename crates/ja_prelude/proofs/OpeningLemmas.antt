@@ -3,8 +3,11 @@ use Rattle.std.proofs.Common.{◌≡◌, ℕ, zero, suc, ◌+◌, ◌<◌, ◌�
 use Rattle.std.specs.Prelude.{IsSome}
 use Rattle.std.specs.List.{AllByRecursion, enumerate_from, find, flat_map, list_all, range_with_len, slice_get}
 use Rattle.std.specs.Option.{is_none, is_some, option_map, option_to_list}
-use Rattle.std.proofs.lemmas.Option.{slice_get_within, slice_get-map}
+use Rattle.std.proofs.lemmas.Option.{slice_get_within, slice_get-map, same_Some}
 use Rattle.ja_base.specs.declared.ids.Site.{Site}
+use Rattle.ja_base.proofs.Tests.{and_left_true, and_right_true}
+use Rattle.ja_base.proofs.Options.{none_by_test}
+use Rattle.ja_base.proofs.Lists.{all_append, all_at, element_within, element_taken}
 use Rattle.ja_graph.specs.declared.builtins.TheConstants.{BUILTIN_CLASSES}
 use Rattle.ja_graph.specs.declared.program.Class.{Class}
 use Rattle.ja_graph.specs.declared.program.ObjectSpec.{ObjectSpec}
@@ -18,7 +21,7 @@ use Rattle.ja_graph.specs.WellFormed.{IsBuiltin, IsFunction, IsObjectWellFormed,
 use Rattle.ja_graph.specs.Kinds.{IsPlain, IsPlainContent}
 use Rattle.ja_prelude.specs.Opening.{IsGlobalName}
 use Rattle.ja_prelude.specs.Table.{TableRow, builtin_sites, call_of, construct_of, function_of, opening_objects, row_with, site_of, sites_with, table_rows}
-use Rattle.ja_prelude.proofs.ListLemmas.{all-append, all-at, all-found, all-get, and_first, and_second, element-at, get-first, get-front, get-range, get-taken, lt_of, none-is, or-second, some-same}
+use Rattle.ja_prelude.proofs.ListLemmas.{all-found, all-get, get-first, get-front, get-range, lt_of, or-second}
 use Rattle.ja_prelude.proofs.ObjectLemmas.{below-at, object-well_formed}
 use Rattle.ja_prelude.proofs.TableLemmas.{are_objects, contents-plain, functions-below, is_below, is_global, is_plain, is_plain_content, is_plain_prototype, leads_to_plain, names_count, prototypes-plain, sites-classes, sites-plain, sites_count, table-count, table-inside, table-objects, table-sites}
 
@@ -51,7 +54,7 @@ classes_are_told first p others sites opening s c is =
 sites-all : (P : SiteInfo → Type 0) (test : TableRow → Bool) (first : ℕ) (table : List TableRow) → ((c : Class) (row : TableRow) → test row ≡ true → P (site_of first c row.path row.object.role)) → list_all test table ≡ true → (rows : List (ℕ × Class)) → AllByRecursion P (flat_map (sites_with first table) rows)
 sites-all P test first table each all [] = tt
 sites-all P test first table each all (site ∷ rows) =
-    all-append P (sites_with first table site) (flat_map (sites_with first table) rows) (at (row_with table site.0) refl) (sites-all P test first table each all rows)
+    all_append P (sites_with first table site) (flat_map (sites_with first table) rows) (at (row_with table site.0) refl) (sites-all P test first table each all rows)
   where
     at : (found : Option TableRow) → row_with table site.0 ≡ found → AllByRecursion P (option_to_list (option_map (λ (row : TableRow). site_of first site.1 row.path row.object.role) found))
     at None e = tt
@@ -70,8 +73,8 @@ sites_name_functions first p many =
     each : (c : Class) (row : TableRow) → (is_below 43 (call_of row.object.role) && is_below 43 (construct_of row.object.role)) ≡ true → NamesFunctions p (site_of first c row.path row.object.role)
     each c row below = record {
       owner = tt;
-      calls = functions-named first p (call_of row.object.role) many (and_first (is_below 43 (call_of row.object.role)) (is_below 43 (construct_of row.object.role)) below);
-      constructs = functions-named first p (construct_of row.object.role) many (and_second (is_below 43 (call_of row.object.role)) (is_below 43 (construct_of row.object.role)) below);
+      calls = functions-named first p (call_of row.object.role) many (and_left_true (is_below 43 (call_of row.object.role)) (is_below 43 (construct_of row.object.role)) below);
+      constructs = functions-named first p (construct_of row.object.role) many (and_right_true (is_below 43 (call_of row.object.role)) (is_below 43 (construct_of row.object.role)) below);
     }
 
 pub sites_have_no_owner : (first : ℕ) → AllByRecursion (λ (info : SiteInfo). info.owner ≡ None) (builtin_sites first)
@@ -87,7 +90,7 @@ here first p others sites s info before is =
 -- they have no owner
 pub sites_are_unowned : (first : ℕ) (p : Program) (others : List SiteInfo) → p.sites ≡ builtin_sites first ++ others → p.opening ≡ opening_objects → (s : ℕ) → s < length p.opening → (info : SiteInfo) → slice_get p.sites s ≡ Some info → info.owner ≡ None
 sites_are_unowned first p others sites opening s before info is =
-    all-at (λ (info : SiteInfo). info.owner ≡ None) (builtin_sites first) s info (sites_have_no_owner first) (here first p others sites s info (omega (arith, before, ap length opening, table-count)) is)
+    all_at (λ (info : SiteInfo). info.owner ≡ None) (builtin_sites first) s info (sites_have_no_owner first) (here first p others sites s info (omega (arith, before, ap length opening, table-count)) is)
 
 -- ---- objects that are no functions
 
@@ -99,16 +102,16 @@ same-plain : (first : ℕ) (s : ℕ) (info : SiteInfo) → s < 43 → slice_get 
 same-plain first s info before is =
     let told : slice_get (map has_none (builtin_sites first)) s ≡ Some (has_none info) = slice_get-map has_none (builtin_sites first) s ∙ ap (option_map has_none) is in
     let row : slice_get (map is_plain (range_with_len 0 43)) s ≡ Some (is_plain s) = slice_get-map is_plain (range_with_len 0 43) s ∙ ap (option_map is_plain) (get-range 0 43 s before ∙ ap Some (omega arith)) in
-    some-same (has_none info) (is_plain s) (sym told ∙ ap (λ bs. slice_get bs s) (sites-plain first) ∙ row)
+    same_Some (has_none info) (is_plain s) (sym told ∙ ap (λ bs. slice_get bs s) (sites-plain first) ∙ row)
 
 pub plain_site : (first : ℕ) (p : Program) (others : List SiteInfo) → p.sites ≡ builtin_sites first ++ others → (s : Site) → s.0 < 43 → is_plain s.0 ≡ true → IsPlain p s
 plain_site first p others sites s before plain info is =
     let none : has_none info ≡ true = same-plain first s.0 info before (here first p others sites s.0 info before is) ∙ plain in
-    (none-is info.calls (and_first (is_none info.calls) (is_none info.constructs) none), none-is info.constructs (and_second (is_none info.calls) (is_none info.constructs) none))
+    (none_by_test info.calls (and_left_true (is_none info.calls) (is_none info.constructs) none), none_by_test info.constructs (and_right_true (is_none info.calls) (is_none info.constructs) none))
 
 site-plain : (first : ℕ) (p : Program) (others : List SiteInfo) → p.sites ≡ builtin_sites first ++ others → (s : Site) → s.0 < 43 → IsPlain p s → is_plain s.0 ≡ true
 site-plain first p others sites s before plain =
-    let found = element-at (builtin_sites first) s.0 (omega (arith, before, sites_count first)) in
+    let found = element_within (builtin_sites first) s.0 (omega (arith, before, sites_count first)) in
     let none = plain found.0 (ap (λ xs. slice_get xs s.0) sites ∙ get-front (builtin_sites first) others s.0 found.0 found.1) in
     let calls : is_none found.0.calls ≡ true = ap is_none none.0 in
     let constructs : is_none found.0.constructs ≡ true = ap is_none none.1 in
@@ -128,18 +131,18 @@ prototypes_are_plain first p others sites opening i o s is plain prototype =
     let test = all-get (λ (o : ObjectSpec). not (is_plain o.site.0) || is_plain_prototype o.prototype) opening_objects i o prototypes-plain (sym (ap (λ os. slice_get os i) opening) ∙ is) in
     let passes = or-second (is_plain o.site.0) (is_plain_prototype o.prototype) test (site-plain first p others sites o.site (inside p i o opening is) plain) in
     let fits : (nat_lt s.0 43 && is_plain s.0) ≡ true = sym (ap is_plain_prototype prototype) ∙ passes in
-    plain_site first p others sites s (lt_of s.0 43 (and_first (nat_lt s.0 43) (is_plain s.0) fits)) (and_second (nat_lt s.0 43) (is_plain s.0) fits)
+    plain_site first p others sites s (lt_of s.0 43 (and_left_true (nat_lt s.0 43) (is_plain s.0) fits)) (and_right_true (nat_lt s.0 43) (is_plain s.0) fits)
 
 plain-content : (first : ℕ) (p : Program) (others : List SiteInfo) → p.sites ≡ builtin_sites first ++ others → (c : SpecContent) → is_plain_content c ≡ true → IsPlainContent p c
 plain-content first p others sites (content.Object s) fits =
-    plain_site first p others sites s (lt_of s.0 43 (and_first (nat_lt s.0 43) (is_plain s.0) fits)) (and_second (nat_lt s.0 43) (is_plain s.0) fits)
+    plain_site first p others sites s (lt_of s.0 43 (and_left_true (nat_lt s.0 43) (is_plain s.0) fits)) (and_right_true (nat_lt s.0 43) (is_plain s.0) fits)
 plain-content first p others sites (content.Prim value) fits = tt
 plain-content first p others sites content.Row fits = tt
 
 global-name : (p : Program) (q : PropertySpec) → take (length builtin_names) p.names ≡ builtin_names → (name : Option (List ℕ)) → slice_get builtin_names q.name.0 ≡ name → is_global name ≡ true → IsGlobalName p q
 global-name p q names None is global = absurd (cc)
 global-name p q names (Some t) is global =
-    (t, get-taken (length builtin_names) p.names q.name.0 t (ap (λ ns. slice_get ns q.name.0) names ∙ is), global)
+    (t, element_taken (length builtin_names) p.names q.name.0 t (ap (λ ns. slice_get ns q.name.0) names ∙ is), global)
 
 -- what is no function has no property that holds one, but under the name of a property of the global object or of its prototype
 pub contents_are_plain : (first : ℕ) (p : Program) (others : List SiteInfo) → p.sites ≡ builtin_sites first ++ others → p.opening ≡ opening_objects → take (length builtin_names) p.names ≡ builtin_names → (i j : ℕ) (o : ObjectSpec) (q : PropertySpec) → slice_get p.opening i ≡ Some o → IsPlain p o.site → slice_get o.properties j ≡ Some q → IsPlainContent p q.content ⊎ IsGlobalName p q

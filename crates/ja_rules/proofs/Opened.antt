@@ -7,6 +7,8 @@ use Rattle.std.proofs.lemmas.Bool.{cases_Bool, false≢true, true≢false, eqb-t
 use Rattle.ja_base.specs.declared.ids.Label.{Label}
 use Rattle.ja_base.specs.declared.ids.NameId.{NameId}
 use Rattle.ja_base.specs.declared.ids.Site.{Site}
+use Rattle.ja_base.proofs.Options.{some_value}
+use Rattle.ja_base.proofs.Lists.{element_within}
 use Rattle.ja_prim.specs.declared.primitive.Primitive.{Primitive}
 use Rattle.ja_graph.specs.declared.program.ObjectSpec.{ObjectSpec}
 use Rattle.ja_graph.specs.declared.attrs.Attrs.{Attrs}
@@ -24,7 +26,6 @@ use Rattle.ja_machine.specs.Heap.{object_at, count}
 use Rattle.ja_machine.specs.Objects.{first_of}
 use Rattle.ja_machine.specs.Nodes.{name_text}
 use Rattle.ja_machine.specs.Machine.{opening_content, opening_property, opening_object, opening_heap}
-use Rattle.ja_machine.proofs.Lists.{slice_get_some, some_value}
 use Rattle.ja_machine.proofs.Opening.{IsOpened, objects-opening, opened_at_address, count-opening}
 use Rattle.ja_model.specs.declared.abstraction.Slot.{Slot}
 use Rattle.ja_model.specs.declared.abstraction.Slot.TheVariants as slot
@@ -84,7 +85,7 @@ module _ (p : Program) (good : IsWellFormed p) where
   -- ---- names
 
   named_at : (n : NameId) → IsName p n → slice_get p.names n.0 ≡ Some (name_text p n)
-  named_at n h = let (t, at) = slice_get_some p.names n.0 h in at ∙ ap Some (sym (ap (λ o. unwrap_or o []) at))
+  named_at n h = let (t, at) = element_within p.names n.0 h in at ∙ ap Some (sym (ap (λ o. unwrap_or o []) at))
 
   -- texts of names are the same exactly if the names are
   same_name : (m n : NameId) → IsName p m → IsName p n → same_text (name_text p m) (name_text p n) ≡ (m.0 == n.0)

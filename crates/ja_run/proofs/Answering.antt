@@ -6,6 +6,7 @@ use Rattle.std.proofs.lemmas.Option.{same_Some}
 use Rattle.std.specs.List.{list_any}
 use Rattle.std.specs.Option.{option_and_then, option_map_or}
 use Rattle.ja_base.specs.declared.ids.Reg.{Reg}
+use Rattle.ja_base.proofs.Lists.{element_within}
 use Rattle.ja_prim.specs.declared.primitive.Primitive.{Primitive}
 use Rattle.ja_prim.specs.declared.signature.Signature.{Signature}
 use Rattle.ja_graph.specs.Program.{node_at}
@@ -29,7 +30,6 @@ use Rattle.ja_machine.specs.Frames.{register_of, with_result}
 use Rattle.ja_machine.specs.Machine.{pick_wanted, pick_wants, node_wants, frames_want, wants, is_of_kinds, fits, frames_step, step}
 use Rattle.ja_machine.specs.Nodes.{shown, node_step}
 use Rattle.ja_machine.specs.Values.{is_object}
-use Rattle.ja_machine.proofs.Lists.{slice_get_some}
 use Rattle.ja_step.specs.Given.{answer_to}
 use Rattle.ja_step.proofs.Stepped.{node_of_program}
 use Rattle.ja_run.specs.Run.{IsUnasked, AnswersFit}
@@ -151,6 +151,6 @@ pub answers_fit : (p : Program) → IsWellFormed p → AnswersFit p
 answers_fit p good = record {
   unasked = λ c. frames_fit p c.heap c.frames;
   asked = λ c which e.
-      let s = slice_get_some p.signatures which (among p c which good e) in
+      let s = element_within p.signatures which (among p c which good e) in
       (s.0, s.1, λ q kinds. kinds_fit p (wants p c) which s.0 q e s.1 kinds);
 }

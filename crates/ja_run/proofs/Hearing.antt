@@ -7,6 +7,7 @@ use Rattle.std.proofs.lemmas.Bool.Decides.{nat_tests}
 use Rattle.std.proofs.lemmas.List.{map-append}
 use Rattle.std.proofs.lemmas.List.Elements.{filter-append}
 use Rattle.std.proofs.lemmas.Option.{same_Some}
+use Rattle.ja_base.proofs.Lists.{set_same}
 use Rattle.ja_prim.specs.declared.primitive.Primitive.{Primitive}
 use Rattle.ja_prim.specs.declared.signature.Signature.{Signature}
 use Rattle.ja_device.specs.Devices.{Seen, AllSeen, IsAsked, hearing, signature_of}
@@ -101,11 +102,6 @@ module _ (calls : List CallRecord) (which : ℕ) (args : List Primitive) (q : Pr
       ∙ ap (λ (l : List Seen). record before { devices = l }) (sym heard)
 
 -- ---- no answer
-
-set_same : {X : Type 0} (xs : List X) (i : ℕ) (x : X) → slice_get xs i ≡ Some x → slice_set xs i x ≡ xs
-set_same [] i x there = refl
-set_same (y ∷ ys) zero x there = ap (λ (z : _). z ∷ ys) (sym (same_Some y x there))
-set_same (y ∷ ys) (suc i) x there = ap (λ (l : List _). y ∷ l) (set_same ys i x there)
 
 -- where memory was refused, nothing has changed
 pub not_asked : (before after : AllSeen) (which : ℕ) (args : List Primitive) → IsAsked before after which args (Err fault.Memory) → after ≡ before

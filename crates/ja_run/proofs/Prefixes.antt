@@ -3,6 +3,7 @@ use Rattle.std.proofs.Common.{◌≡◌, ◌<◌, ◌≤◌, ◌⊎◌, inl, inr
 use Rattle.std.proofs.lemmas.Bool.{cases_order}
 use Rattle.std.proofs.lemmas.List.{length-append, length-map}
 use Rattle.std.proofs.lemmas.Option.{same_Some}
+use Rattle.ja_base.proofs.Lists.{empty_by_length}
 use Rattle.ja_prim.specs.declared.primitive.Primitive.{Primitive}
 use Rattle.ja_graph.specs.declared.program.Program.{Program}
 use Rattle.ja_machine.specs.declared.machine.Conf.{Conf}
@@ -93,10 +94,6 @@ same_end p c k l made s t e f (inr x) (inr y) =
 
 -- ---- two runs, of which devices give in one what they give in the other, and maybe more
 
-empty : {X : Type 0} (xs : List X) → length xs ≡ 0 → xs ≡ []
-empty [] none = refl
-empty (x ∷ xs) none = absurd (omega (arith, none))
-
 module _ (p : Program) (calls longer_calls : List CallRecord) (more : List Primitive) (same : given_by longer_calls ≡ given_by calls ++ more) (m n : ℕ) (c d : Conf) (x : Leads p calls m c) (y : Leads p longer_calls n d) where
   abbrev given : List Primitive
   given = given_by calls
@@ -122,7 +119,7 @@ module _ (p : Program) (calls longer_calls : List CallRecord) (more : List Primi
       ap length same ∙ length-append given more in
       let answers_of : length longer_given ≡ length longer_calls = length-map longer_calls (λ (r : CallRecord). r.answer) in
       let answers : length given ≡ length calls = length-map calls (λ (r : CallRecord). r.answer) in
-      let none = empty more (omega (arith, lengths, given_lengths, answers_of, answers)) in
+      let none = empty_by_length more (omega (arith, lengths, given_lengths, answers_of, answers)) in
       same ∙ ap (λ (l : List Primitive). given ++ l) none ∙ append-nil given
 
   -- so it doesn't stop sooner

@@ -3,6 +3,7 @@ use Rattle.std.proofs.Common.{◌≡◌, inl, inr, ℕ, ◌+◌, ◌<◌, true, 
 use Rattle.std.specs.Prelude.{IsSome, slice_get, option_map, Result, Ok, Err, IfErr}
 use Rattle.std.proofs.lemmas.List.{length-map}
 use Rattle.std.proofs.lemmas.Option.{same_Some, slice_get-map, slice_get_within}
+use Rattle.ja_base.proofs.Options.{some_value}
 use Rattle.ja_prim.specs.declared.primitive.Primitive.{Primitive}
 use Rattle.ja_prim.specs.declared.signature.Signature.{Signature}
 use Rattle.ja_device.specs.Devices.{AllSeen, IsAsked, signature_of}
@@ -15,7 +16,6 @@ use Rattle.ja_machine.specs.declared.machine.Event.TheVariants as event
 use Rattle.ja_machine.specs.declared.machine.Wants.TheVariants as wanted
 use Rattle.ja_machine.specs.Machine.{opening_state, fits, is_of_kinds, wants, step}
 use Rattle.ja_machine.specs.Runs.{NeverStuck, AreSteps}
-use Rattle.ja_machine.proofs.Lists.{some_value}
 use Rattle.ja_step.specs.Given.{answer_to}
 use Rattle.ja_run.specs.declared.ended.CallRecord.{CallRecord}
 use Rattle.ja_run.specs.declared.running.Given.TheVariants as given

@@ -4,6 +4,7 @@ use Rattle.std.specs.Prelude.{slice_get, unwrap_or}
 use Rattle.std.specs.List.{AllByRecursion}
 use lib.Pointwise.{bytes_decides}
 use Rattle.ja_base.specs.declared.ids.NameId.{NameId}
+use Rattle.ja_base.proofs.Lists.{element_within}
 use Rattle.ja_prim.specs.Texts.{same_text}
 use Rattle.ja_graph.specs.declared.attrs.Attrs.{Attrs}
 use Rattle.ja_graph.specs.declared.program.ObjectSpec.{ObjectSpec}
@@ -15,7 +16,7 @@ use Rattle.ja_machine.specs.declared.machine.Property.{Property}
 use Rattle.ja_machine.specs.Machine.{opening_content, opening_property}
 use Rattle.ja_machine.specs.Nodes.{name_text}
 use Rattle.ja_machine.specs.Writes.{new_property, with_definition}
-use Rattle.ja_machine.proofs.Lists.{slice_get_some, all_from, all_map}
+use Rattle.ja_machine.proofs.Lists.{all_from, all_map}
 
 -- ---- properties
 
@@ -47,8 +48,8 @@ module _ (p : Program) (good : IsWellFormed p) where
   -- two names have other texts
   same_name : (m n : NameId) → IsName p m → IsName p n → same_text (name_text p m) (name_text p n) ≡ true → m.0 ≡ n.0
   same_name m n mine other same =
-      let t : (x : List ℕ) × (slice_get p.names m.0 ≡ Some x) = slice_get_some p.names m.0 mine in
-      let u : (x : List ℕ) × (slice_get p.names n.0 ≡ Some x) = slice_get_some p.names n.0 other in
+      let t : (x : List ℕ) × (slice_get p.names m.0 ≡ Some x) = element_within p.names m.0 mine in
+      let u : (x : List ℕ) × (slice_get p.names n.0 ≡ Some x) = element_within p.names n.0 other in
       let texts : name_text p m ≡ name_text p n = (bytes_decides (name_text p m) (name_text p n)).0 same in
       let left : name_text p m ≡ t.0 = ap (λ (o : Option (List ℕ)). unwrap_or o []) t.1 in
       let right : name_text p n ≡ u.0 = ap (λ (o : Option (List ℕ)). unwrap_or o []) u.1 in

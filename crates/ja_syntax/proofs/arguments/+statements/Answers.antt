@@ -1,12 +1,9 @@
+use Rattle.std.proofs.Math.Bool.{or-false}
 use Rattle.std.proofs.Common.{◌≡◌, ◌||◌, Bool, true, false, sym, ◌∙◌, ap, refl}
 use Rattle.std.specs.List.{list_any}
 use Rattle.ja_syntax.specs.Arguments.{in_statement}
 use Rattle.ja_syntax.proofs.ArgumentsInStatements.{in_try}
 use Rattle.ja_syntax.proofs.arguments.+statements.Goals as goal
-
-or_false : (b : Bool) → (b || false) ≡ b
-or_false true = refl
-or_false false = refl
 
 pub in_statement-returns-in-None-Some : goal.in_statement-returns-in-None-Some
 in_statement-returns-in-None-Some t c =
@@ -19,7 +16,7 @@ in_statement-returns-in-Some-None t c =
     let e = in_try c.in-Try.block c.in-Try.catch c.in-Try.finally c.in-Try.place in
     let no : list_any in_statement c.in-Try.block ≡ false = ap (list_any in_statement) (sym c.as_slice-in-Try.ensures) ∙ sym c.if-in_statements.ensures in
     let last : c.in_statements-in-Some-None.result ≡ list_any in_statement c.in-Some-None.catch.body = c.in_statements-in-Some-None.ensures ∙ ap (list_any in_statement) c.as_slice-in-Some-None.ensures in
-    rw (c.in-Try.is, e, no, c.in-Some-None.is-0, c.in-Some-None.is-1) (last ∙ sym (or_false (list_any in_statement c.in-Some-None.catch.body)))
+    rw (c.in-Try.is, e, no, c.in-Some-None.is-0, c.in-Some-None.is-1) (last ∙ sym (or-false (list_any in_statement c.in-Some-None.catch.body)))
 
 pub in_statement-returns-else-in_statements-2 : goal.in_statement-returns-else-in_statements-2
 in_statement-returns-else-in_statements-2 t c =
