@@ -6,9 +6,9 @@ ghost use Rattle.ja_prim.specs.Texts.{Answers};
 use crate::arithmetic::add_numbers;
 use crate::numbers::to_num;
 use crate::text16::limited;
-use crate::writing::text_units;
-use crate::{Num, Prim, PrimFault, Primitive, Stop};
-use std::alloc::{AllocError, Global};
+use crate::writing::to_text;
+use crate::{Memory, Num, Prim, PrimFault, Primitive, Stop};
+use std::alloc::Global;
 
 /// Whether a value is a text.
 fn is_text(a: &Prim) -> bool
@@ -20,13 +20,15 @@ fn is_text(a: &Prim) -> bool
     }
 }
 
-/// The units of the texts of two values, one behind the other.
-fn joined_units(alloc: Global, a: &Prim, b: &Prim) -> Result<Vec<u16>, AllocError>
+/// The units of the texts of two values, one behind the other, each copied once.
+fn joined_units(alloc: Global, a: &Prim, b: &Prim) -> Result<Vec<u16>, Memory>
     ensures { IfOk result (λ units. units.items ≡ to_text a.now ++ to_text b.now) }
 {
-    let mut units = text_units(alloc, a)?;
-    let others = text_units(alloc, b)?;
-    units.extend_from_slice(&others)?;
+    let first = to_text(alloc, a)?;
+    let second = to_text(alloc, b)?;
+    let mut units = Vec::with_capacity(alloc, first.units().len() + second.units().len())?;
+    units.extend_from_slice(first.units())?;
+    units.extend_from_slice(second.units())?;
     Ok(units)
 }
 

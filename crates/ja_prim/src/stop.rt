@@ -1,6 +1,7 @@
 ghost use Rattle.std.specs.Prelude.{◌≡◌};
 ghost use Rattle.ja_prim.specs.declared.stop.PrimFault.TheVariants.{Memory as NoMemory};
 
+use crate::Memory;
 use std::alloc::{AllocError, AllocFailed};
 
 /// Why an operation leaves the profile: its exact result isn't whole, or its magnitude is greater
@@ -19,6 +20,14 @@ pub enum PrimFault {
     Stop(Stop),
     /// Memory was refused.
     Memory,
+}
+
+impl From<Memory> for PrimFault {
+    ghost from_gives = { λ _ e. e ≡ NoMemory };
+
+    fn from(_: Memory) -> Self {
+        PrimFault::Memory
+    }
 }
 
 impl From<AllocError> for PrimFault {

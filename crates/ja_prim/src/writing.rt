@@ -33,11 +33,17 @@ pub fn text_units(alloc: Global, a: &Prim) -> Result<Vec<u16>, AllocError>
     }
 }
 
-/// The text of a value (ES3 9.8): of a number its decimal digits, with `-` before those of a negative one, or `NaN`. It
-/// fails where memory is refused.
+/// The text of a value (ES3 9.8): of a text the same, whose units are shared; of a number its
+/// decimal digits, with `-` before those of a negative one, or `NaN`. It fails where memory is
+/// refused.
 pub fn to_text(alloc: Global, a: &Prim) -> Result<Text16, Memory>
     ensures { IfOk result (λ text. text ≡ spec.to_text a.now) }
 {
-    let units = text_units(alloc, a)?;
-    Ok(Text16::from_units(alloc, units)?)
+    match a {
+        Primitive::Text(text) => Ok(text.copy()?),
+        _ => {
+            let units = text_units(alloc, a)?;
+            Ok(Text16::from_units(alloc, units)?)
+        }
+    }
 }
