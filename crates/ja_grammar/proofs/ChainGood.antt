@@ -19,7 +19,7 @@ use Rattle.ja_grammar.specs.Forms.{name_of, begins_property, begins_suffix, chai
 use Rattle.ja_grammar.specs.Input.{Tokens, head, next, symbol, Done, and_then, ◌>>◌, pure, look, expect, listed, listed_by, until, many, Rules, strict}
 use Rattle.ja_grammar.specs.Productions.{HasRoom}
 use Rattle.ja_grammar.specs.ReadExpression.{Below, chain_head, head_by, dotted, indexed, property_suffix, property_suffix_by, arguments, any_suffix, any_suffix_by, member, created, created_by, left_hand}
-use Rattle.ja_grammar.proofs.Closing.{bracket_closes, parenthesis_closes, no_suffix_closes}
+use Rattle.ja_grammar.proofs.Closing.{end_no_property, end_no_suffix, bracket_closes, parenthesis_closes, no_suffix_closes}
 use Rattle.ja_grammar.proofs.ExpressionTakes.{property_suffix_takes, any_suffix_takes}
 use Rattle.ja_grammar.proofs.Good.{Follow, Reason, Sample, GoodAt, Any, pure_good, bind_good, look_good, weaken_good}
 use Rattle.ja_grammar.proofs.Levels.{EndsExpression}
@@ -49,14 +49,6 @@ no_property found = not (begins_property found)
 
 abbrev no_suffix : Symbol → Bool
 no_suffix found = not (begins_suffix found)
-
-end_no_property : no_property k.End ≡ true
-unfolding begins_property
-end_no_property = refl
-
-end_no_suffix : no_suffix k.End ≡ true
-unfolding begins_suffix
-end_no_suffix = refl
 
 dot_suffix : (κ : Symbol) → κ ≡ k.Dot → no_suffix κ ≡ false
 unfolding begins_suffix

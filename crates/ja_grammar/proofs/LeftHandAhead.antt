@@ -20,13 +20,13 @@ use Rattle.ja_grammar.specs.Language.{is_level}
 use Rattle.ja_grammar.specs.Productions.{At}
 use Rattle.ja_grammar.specs.ReadExpression.{Below, is_close_brace, is_close_bracket, element, property, function_body, function, array, object, parenthesized, literal, literal_by, primary, primary_by, chain_head, head_by, dotted, indexed, property_suffix, property_suffix_by, arguments, any_suffix, any_suffix_by, member, created, created_by, left_hand}
 use Rattle.ja_grammar.proofs.ChainGood.{chain_head_good, member_good}
-use Rattle.ja_grammar.proofs.Closing.{brace_closes, parenthesis_closes, literal_more}
+use Rattle.ja_grammar.proofs.Closing.{end_no_property, end_no_suffix, brace_closes, parenthesis_closes, literal_more}
 use Rattle.ja_grammar.proofs.Ends.{split_one}
 use Rattle.ja_grammar.proofs.ExpressionTakes.{element_takes, property_takes, chain_head_takes, property_suffix_takes, any_suffix_takes}
 use Rattle.ja_grammar.proofs.Good.{Follow, Reason, Sample, GoodAt, Any, Closed, weaken_good}
-use Rattle.ja_grammar.proofs.Levels.{EndsExpression, EndsStatement, ends_block}
+use Rattle.ja_grammar.proofs.Levels.{EndsExpression}
 use Rattle.ja_grammar.proofs.Lists.{separated_good}
-use Rattle.ja_grammar.proofs.LiteralGood.{function_name_good, parameters_good, element_good, property_good, property_sample}
+use Rattle.ja_grammar.proofs.LiteralGood.{brace_ends_statement, function_name_good, parameters_good, element_good, property_good, property_sample}
 use Rattle.ja_grammar.proofs.Opening.{opening_inverse}
 use Rattle.ja_grammar.proofs.Outcomes.{same_done, done_value, done_rest, refused_not_done, cons_of, same_symbol_true, bind_inverse, then_is, expect_inverse, expect_done, unless_inverse, enter_inverse, enter_done, entered}
 use Rattle.ja_grammar.proofs.Roomier.{Roomier, enters, lower, expects, takes_one, opens, below_sample}
@@ -235,18 +235,6 @@ no_property _ h = refl
 no_arguments : begins_suffix k.OpenParenthesis ≡ false → ⊥
 unfolding begins_suffix
 no_arguments h = cc h
-
-end_no_property : not (begins_property k.End) ≡ true
-unfolding begins_property
-end_no_property = refl
-
-end_no_suffix : not (begins_suffix k.End) ≡ true
-unfolding begins_suffix
-end_no_suffix = refl
-
-brace_ends_statement : (tail : Tokens) → At k.CloseBrace tail → EndsStatement tail
-unfolding ends_block
-brace_ends_statement tail at = ap ends_block at
 
 -- a closing token, and then a value
 closes_sealed : {A : Type 0} (κ : Symbol) (a : A) (i : Tokens) → κ ≢ k.End → SealedAt (expect κ >> pure a) i

@@ -44,7 +44,7 @@ property_name_is = ap (λ κ. property_name_by κ name) name_is
 abbrev property_of : PropertyName → Token → Expression → Property Expression
 property_of x t v = record { name = x; value = v; place = t.place }
 
-brace_ends_statement : (tail : Tokens) → At k.CloseBrace tail → EndsStatement tail
+pub brace_ends_statement : (tail : Tokens) → At k.CloseBrace tail → EndsStatement tail
 unfolding ends_block
 brace_ends_statement tail at = ap ends_block at
 

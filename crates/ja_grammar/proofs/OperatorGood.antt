@@ -19,7 +19,7 @@ use Rattle.ja_grammar.specs.Productions.{Rule, Many}
 use Rattle.ja_grammar.specs.ReadExpression.{Below, chain_head, any_suffix, left_hand, postfix, postfix_by, updated_behind, operand_close, operand_by, updated, updated_by, unary, unary_by}
 use Rattle.ja_grammar.proofs.Agree.{BelowTakes}
 use Rattle.ja_grammar.proofs.ChainGood.{IsReference, left_hand_good, left_hand_good_reference}
-use Rattle.ja_grammar.proofs.Closing.{no_suffix_closes, no_postfix_closes, unary_more, unary_no_colon, prefix_more, prefix_no_colon, postfix_more}
+use Rattle.ja_grammar.proofs.Closing.{end_no_suffix, no_suffix_closes, no_postfix_closes, unary_more, unary_no_colon, prefix_more, prefix_no_colon, postfix_more}
 use Rattle.ja_grammar.proofs.Ends.{split_one}
 use Rattle.ja_grammar.proofs.ExpressionTakes.{any_suffix_takes, left_hand_takes}
 use Rattle.ja_grammar.proofs.Good.{Reason, CompletesWith, Sample, Stops, GoodAt, Closes, Any, pure_good, bind_good, bind_good_by, look_good}
@@ -38,10 +38,6 @@ not_both c c' e off off' = true≢false (sym e ∙ ap (λ x. x || c') off ∙ of
 many_last : {X : Type 0} {One : Rule X} {Stop : Tokens → Type 0} (i : Tokens) (xs : List X) (r : Tokens) → Many One Stop i xs r → Stop r
 many_last i xs r (Many.none h) = h
 many_last i xs r (Many.more {m = m} {xs = ys} h t) = many_last m ys r t
-
-end_no_suffix : not (begins_suffix k.End) ≡ true
-unfolding begins_suffix
-end_no_suffix = refl
 
 module _ (g : Rules) (b : Below) where
   -- behind a member or call stands no suffix

@@ -20,7 +20,7 @@ use Rattle.ja_grammar.specs.ReadExpression.{Below, assignment, whole}
 use Rattle.ja_grammar.specs.ReadStatement.{ended, variable, variables, expression_statement, labelled, labelled_or_expression, function_statement, headed, single_by, single}
 use Rattle.ja_grammar.proofs.BinaryGood.{assignment_good, assignment_sample, whole_good}
 use Rattle.ja_grammar.proofs.BlockGood.{block_good, switch_good}
-use Rattle.ja_grammar.proofs.Closing.{no_comma_closes}
+use Rattle.ja_grammar.proofs.Closing.{label_colon, no_comma_closes}
 use Rattle.ja_grammar.proofs.ExpressionSamples.{whole_of_name}
 use Rattle.ja_grammar.proofs.ExpressionTakes.{assignment_takes}
 use Rattle.ja_grammar.proofs.Good.{Follow, Reason, elsewhere, Completes, CompletesWith, Sample, Refuses, GoodAt, Any, pure_good, bind_good, look_good}
@@ -41,10 +41,6 @@ use Rattle.ja_grammar.proofs.Taken.{token_good}
 use Rattle.ja_grammar.proofs.TryGood.{try_good}
 
 -- a name and what follows it are a label only where a colon follows
-label_colon : (κ : Symbol) → is_label k.Name κ ≡ true → κ ≡ k.Colon
-label_colon k.Colon h = refl
-label_colon _ h = absurd (cc h)
-
 -- a name and a `;` are a statement
 name_reads : (g : Rules) (b : Below) (t : Token) → Is k.Name t → (tail : Tokens) → expression_statement g b (t ∷ semicolon ∷ tail) ≡ Done (s.Expression (e.Name (name_of t)) t.place) tail
 unfolding expression_statement

@@ -9,16 +9,12 @@ use Rattle.ja_grammar.specs.Input.{Tokens, head, next, behind, Outcome, Done, Pa
 use Rattle.ja_grammar.specs.Productions.{Is, HasRoom}
 use Rattle.ja_grammar.specs.ReadStatement.{enter_label}
 use Rattle.ja_grammar.proofs.Opening.{opening_inverse}
-use Rattle.ja_grammar.proofs.Outcomes.{same_done, cons_of, then_inverse, expect_inverse, unless_reads, unless_inverse, enter_done, entered}
+use Rattle.ja_grammar.proofs.Outcomes.{cons_of, then_inverse, expect_inverse, unless_reads, unless_inverse, enter_done, entered}
 use Rattle.ja_grammar.proofs.Shrinks.{TakesAt, behind_shrinks}
 
 -- the same outcome, its rest written otherwise
 pub moved : {A : Type 0} {o : Outcome A} {a : A} {i j : Tokens} → o ≡ Done a i → i ≡ j → o ≡ Done a j
 moved {o = o} {a = a} e h = subst (λ x. o ≡ Done a x) h e
-
--- the value and the rest are these
-pub finish : {A : Type 0} {a v : A} {i r : Tokens} (P : A → Tokens → Type 0) → Done a i ≡ Done v r → P a i → P v r
-finish P e h = same_done P e h
 
 -- the first part gave a value, and the rest of the rule went on
 pub after : {A B : Type 0} (o : Outcome A) {f : A → Parser B} {v : B} {r : Tokens} {P : Type 0} → and_then o f ≡ Done v r
