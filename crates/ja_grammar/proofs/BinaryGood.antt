@@ -76,7 +76,7 @@ module _ {U : Tokens} {O : Refusal} {J : Reason O} {d : ℕ} {g' : Rules} {b b' 
         (bind_good i h.reasons.closed (good i)
         (λ x r _. bind_good r h.reasons.closed
         (until_good (no_operator no_in l) (operation (strict d) b no_in l one) (operation g' b' no_in l next_one) h.reasons.closed (end_no_operator no_in l)
-        (operation_takes (strict d) b h.takes no_in l one takes) (operation_takes g' b' h.takes_more no_in l next_one takes') (λ i _. operation_good i) (ends_operations no_in l) r)
+        (operation_takes (strict d) h.takes no_in l takes) (operation_takes g' h.takes_more no_in l takes') (λ i _. operation_good i) (ends_operations no_in l) r)
         (λ os m _. pure_good J EndsExpression Any (operated (head i).place x os) m) (λ os _. pure_sample (operated (head i).place x os) tt))
         (λ x _. then_pure {W = Any} (operated (head i).place x) (until_sample (no_operator no_in l) (operation g' b' no_in l next_one) (ends_operations no_in l))))
       where
@@ -86,7 +86,7 @@ module _ {U : Tokens} {O : Refusal} {J : Reason O} {d : ℕ} {g' : Rules} {b b' 
   pub binary_good : (no_in : Bool) (l : ℕ) (i : Tokens) → GoodAt U J (binary (strict d) b no_in l) (binary g' b' no_in l) EndsExpression Any i
   unfolding binary
   binary_good no_in zero i = unary_good h i
-  binary_good no_in (suc l) i = level_good no_in (suc l) (binary (strict d) b no_in l) (binary g' b' no_in l) (binary_takes (strict d) b h.takes no_in l) (binary_takes g' b' h.takes_more no_in l)
+  binary_good no_in (suc l) i = level_good no_in (suc l) (binary (strict d) b no_in l) (binary g' b' no_in l) (binary_takes (strict d) h.takes no_in l) (binary_takes g' h.takes_more no_in l)
       (binary_good no_in l) (binary_sample g' b' no_in l) i
 
   -- ---- conditionals
@@ -150,6 +150,6 @@ module _ {U : Tokens} {O : Refusal} {J : Reason O} {d : ℕ} {g' : Rules} {b b' 
   whole_good no_in i = look_good (λ t. separated (assignment (strict d) b no_in) >>= (λ xs. pure (sequence t.place xs))) (λ t. separated (assignment g' b' no_in) >>= (λ xs. pure (sequence t.place xs))) i
       (bind_good i h.reasons.closed
       (separated_good {F = EndsExpression} {G = EndsExpression} (assignment (strict d) b no_in) (assignment g' b' no_in) h.reasons.closed
-      (λ i. takes_shrinks (assignment_takes (strict d) b h.takes no_in i)) (λ i. takes_shrinks (assignment_takes g' b' h.takes_more no_in i))
+      (λ i. takes_shrinks (assignment_takes (strict d) h.takes no_in i)) (λ i. takes_shrinks (assignment_takes g' h.takes_more no_in i))
       (assignment_good no_in) (assignment_sample g' b' no_in) (λ tail ends. ends) (λ tail ends. no_comma_closes (next tail) ends) i)
       (λ xs r _. pure_good J EndsExpression Any (sequence (head i).place xs) r) (λ xs _. pure_sample (sequence (head i).place xs) tt))

@@ -142,13 +142,13 @@ module _ (low g : Rules) (milder : Milder low g) (n : Nested) (b : Below) (takes
   array_all t u i r xs some many is =
       rw (
         enter_done g t i (room (t ∷ i) some),
-        until_all is_close_bracket (element g b) (Element n) (At k.CloseBracket) (element_takes g b takes) (λ r at. ap is_close_bracket at) element_starts element_all i xs (u ∷ r) many,
+        until_all is_close_bracket (element g b) (Element n) (At k.CloseBracket) (element_takes g takes) (λ r at. ap is_close_bracket at) element_starts element_all i xs (u ∷ r) many,
         expect_done k.CloseBracket u r is,
       ) refl
 
   object_all : (t : Token) (i r : Tokens) (xs : List (Property Expression)) → HasRoom low (t ∷ i) → Listed k.CloseBrace (OneProperty n) i xs r → object g b (t ∷ i) ≡ Done (e.Object xs t.place) r
   unfolding object
-  object_all t i r xs some list = rw (enter_done g t i (room (t ∷ i) some), listed_all (property g b) (OneProperty n) (property_takes g b takes) k.CloseBrace property_all i xs r list) refl
+  object_all t i r xs some list = rw (enter_done g t i (room (t ∷ i) some), listed_all (property g b) (OneProperty n) (property_takes g takes) k.CloseBrace property_all i xs r list) refl
 
   parenthesized_all : (t u : Token) (i r : Tokens) (x : Expression) → HasRoom low (t ∷ i) → n.expression (part.Whole false) i x (u ∷ r) → Is k.CloseParenthesis u → parenthesized g b (t ∷ i) ≡ Done x r
   unfolding parenthesized
@@ -249,7 +249,7 @@ module _ (low g : Rules) (milder : Milder low g) (n : Nested) (b : Below) (takes
   member_all i _ r (Member.member {m = m} {x = x} {ss = ss} one many) =
       rw (
         chain_head_all i x m one,
-        until_all (λ found. not (begins_property found)) (property_suffix g b) (PropertySuffix low n) (λ r. begins_property (next r) ≡ false) (property_suffix_takes g b takes)
+        until_all (λ found. not (begins_property found)) (property_suffix g b) (PropertySuffix low n) (λ r. begins_property (next r) ≡ false) (property_suffix_takes g takes)
             (λ r h. ap not h) (λ i x r h. ap not (property_suffix_starts i x r h)) property_suffix_all m ss r many,
       ) refl
 
@@ -268,7 +268,7 @@ module _ (low g : Rules) (milder : Milder low g) (n : Nested) (b : Below) (takes
   left_hand_all i _ r (LeftHand.left_hand {m = m} {x = x} {ss = ss} one many) =
       rw (
         chain_head_all i x m one,
-        until_all (λ found. not (begins_suffix found)) (any_suffix g b) (AnySuffix low n) (λ r. begins_suffix (next r) ≡ false) (any_suffix_takes g b takes)
+        until_all (λ found. not (begins_suffix found)) (any_suffix g b) (AnySuffix low n) (λ r. begins_suffix (next r) ≡ false) (any_suffix_takes g takes)
             (λ r h. ap not h) (λ i x r h. ap not (any_suffix_starts i x r h)) any_suffix_all m ss r many,
       ) refl
 
@@ -325,14 +325,14 @@ module _ (low g : Rules) (milder : Milder low g) (n : Nested) (b : Below) (takes
     level_all l i _ r (Level.level {m = m} {x = x} {os = os} h many) =
         rw (
           one_all i x m h,
-          until_all (λ found. is_none (binary_operator no_in l found)) (operation g b no_in l one) (Operand no_in l One) (λ r. binary_operator no_in l (next r) ≡ None) (operation_takes g b takes no_in l one one_takes)
+          until_all (λ found. is_none (binary_operator no_in l found)) (operation g b no_in l one) (Operand no_in l One) (λ r. binary_operator no_in l (next r) ≡ None) (operation_takes g takes no_in l one_takes)
               (λ r h. ap is_none h) (operation_starts l) (operation_all l) m os r many,
         ) refl
 
   pub binary_all : (no_in : Bool) (l : ℕ) (i : Tokens) (x : Expression) (r : Tokens) → Binary low n no_in l i x r → binary g b no_in l i ≡ Done x r
   unfolding binary
   binary_all no_in zero = unary_all
-  binary_all no_in (suc l) = level_all no_in (Binary low n no_in l) (binary g b no_in l) (binary_takes g b takes no_in l) (binary_all no_in l) (suc l)
+  binary_all no_in (suc l) = level_all no_in (Binary low n no_in l) (binary g b no_in l) (binary_takes g takes no_in l) (binary_all no_in l) (suc l)
 
   pub conditional_all : (no_in : Bool) (i : Tokens) (x : Expression) (r : Tokens) → Conditional low n no_in i x r → conditional g b no_in i ≡ Done x r
   unfolding conditional
@@ -355,7 +355,7 @@ module _ (low g : Rules) (milder : Milder low g) (n : Nested) (b : Below) (takes
   pub whole_all : (no_in : Bool) (i : Tokens) (x : Expression) (r : Tokens) → Whole low n no_in i x r → whole g b no_in i ≡ Done x r
   unfolding whole
   whole_all no_in i _ r (Whole.whole {xs = xs} list) =
-      rw (separated_all (assignment g b no_in) (Assignment low n no_in) (assignment_takes g b takes no_in) (assignment_all no_in) i xs r list) refl
+      rw (separated_all (assignment g b no_in) (Assignment low n no_in) (assignment_takes g takes no_in) (assignment_all no_in) i xs r list) refl
 
   -- each part
   pub expression_part_all : (p : ExpressionPart) (i : Tokens) (x : Expression) (r : Tokens) → ExpressionRule low n p i x r → expression_part g b p i ≡ Done x r

@@ -184,7 +184,7 @@ module _ (g : Rules) (n : Nested) (b : Below) (takes : BelowTakes b) (a : Agrees
       let u = bind_inverse (until is_close_bracket (element g b)) (λ xs. expect k.CloseBracket >> pure (e.Array xs (head i).place)) (behind i) h in
       let v = bind_inverse (expect k.CloseBracket) (λ _. pure (e.Array u.0 (head i).place)) u.1 u.3 in
       let w = expect_inverse k.CloseBracket u.1 (λ h. cc h) v.2 in
-      let many = until_is is_close_bracket (element g b) (Element n) (At k.CloseBracket) (element_takes g b takes) refl
+      let many = until_is is_close_bracket (element g b) (Element n) (At k.CloseBracket) (element_takes g takes) refl
       (λ i x r other h. element_is i x r (λ at. true≢false (sym (ap is_close_bracket at) ∙ other)) h) (behind i) u.0 u.1 (λ _. ap next w.0 ∙ w.1) u.2 in
       same_done (λ x r. Primary g n (head i ∷ behind i) x r) v.3
       (Primary.array is some (subst (λ j. Many (Element n) (At k.CloseBracket) (behind i) u.0 j) w.0 many) w.1))
@@ -194,7 +194,7 @@ module _ (g : Rules) (n : Nested) (b : Below) (takes : BelowTakes b) (a : Agrees
   object_is i x r is q = enter_first (λ j. Primary g n j x r) g (λ t. listed k.CloseBrace (property g b) >>= (λ xs. pure (e.Object xs t.place))) i (λ ends. cc (is, ends)) q (λ some h.
       let u = bind_inverse (listed k.CloseBrace (property g b)) (λ xs. pure (e.Object xs (head i).place)) (behind i) h in
       same_done (λ x r. Primary g n (head i ∷ behind i) x r) u.3
-      (Primary.object is some (listed_is (property g b) (OneProperty n) (property_takes g b takes) k.CloseBrace (λ h. cc h) property_is (behind i) u.0 u.1 u.2)))
+      (Primary.object is some (listed_is (property g b) (OneProperty n) (property_takes g takes) k.CloseBrace (λ h. cc h) property_is (behind i) u.0 u.1 u.2)))
 
   parenthesized_is : (i : Tokens) (x : Expression) (r : Tokens) → next i ≡ k.OpenParenthesis → parenthesized g b i ≡ Done x r → Primary g n i x r
   unfolding parenthesized
@@ -281,7 +281,7 @@ module _ (g : Rules) (n : Nested) (b : Below) (takes : BelowTakes b) (a : Agrees
       let s = bind_inverse (chain_head g b) (λ x. until (λ found. not (begins_property found)) (property_suffix g b) >>= (λ ss. pure (chained x ss))) i e in
       let t = bind_inverse (until (λ found. not (begins_property found)) (property_suffix g b)) (λ ss. pure (chained s.0 ss)) s.1 s.3 in
       same_done (λ x r. Member g n i x r) t.3 (Member.member (chain_head_is i s.0 s.1 s.2)
-      (until_is (λ found. not (begins_property found)) (property_suffix g b) (PropertySuffix g n) (λ r. begins_property (next r) ≡ false) (property_suffix_takes g b takes) end_no_property
+      (until_is (λ found. not (begins_property found)) (property_suffix g b) (PropertySuffix g n) (λ r. begins_property (next r) ≡ false) (property_suffix_takes g takes) end_no_property
       (λ i x r _ h. property_suffix_is i x r h) s.1 t.0 t.1 (not-true (begins_property (next t.1))) t.2))
 
   pub created_is : (place : Place) (i : Tokens) (x : Expression) (r : Tokens) → created g b place i ≡ Done x r → Created g n place i x r
@@ -302,7 +302,7 @@ module _ (g : Rules) (n : Nested) (b : Below) (takes : BelowTakes b) (a : Agrees
       let s = bind_inverse (chain_head g b) (λ x. until (λ found. not (begins_suffix found)) (any_suffix g b) >>= (λ ss. pure (chained x ss))) i e in
       let t = bind_inverse (until (λ found. not (begins_suffix found)) (any_suffix g b)) (λ ss. pure (chained s.0 ss)) s.1 s.3 in
       same_done (λ x r. LeftHand g n i x r) t.3 (LeftHand.left_hand (chain_head_is i s.0 s.1 s.2)
-      (until_is (λ found. not (begins_suffix found)) (any_suffix g b) (AnySuffix g n) (λ r. begins_suffix (next r) ≡ false) (any_suffix_takes g b takes) end_no_suffix
+      (until_is (λ found. not (begins_suffix found)) (any_suffix g b) (AnySuffix g n) (λ r. begins_suffix (next r) ≡ false) (any_suffix_takes g takes) end_no_suffix
       (λ i x r _ h. any_suffix_is i x r h) s.1 t.0 t.1 (not-true (begins_suffix (next t.1))) t.2))
 
   -- ---- operators before and behind an operand
@@ -384,12 +384,12 @@ module _ (g : Rules) (n : Nested) (b : Below) (takes : BelowTakes b) (a : Agrees
         let t = bind_inverse (until (λ found. is_none (binary_operator no_in l found)) (operation g b no_in l one)) (λ os. pure (operated (head i).place s.0 os)) s.1 s.3 in
         same_done (λ x r. Level no_in l One i x r) t.3 (Level.level (one_is i s.0 s.1 s.2)
         (until_is (λ found. is_none (binary_operator no_in l found)) (operation g b no_in l one) (Operand no_in l One) (λ r. binary_operator no_in l (next r) ≡ None)
-        (operation_takes g b takes no_in l one one_takes) (no_binary_end no_in l) (λ i x r _ h. operation_is l i x r h) s.1 t.0 t.1 (none_by_test (binary_operator no_in l (next t.1))) t.2))
+        (operation_takes g takes no_in l one_takes) (no_binary_end no_in l) (λ i x r _ h. operation_is l i x r h) s.1 t.0 t.1 (none_by_test (binary_operator no_in l (next t.1))) t.2))
 
   pub binary_is : (no_in : Bool) (l : ℕ) (i : Tokens) (x : Expression) (r : Tokens) → binary g b no_in l i ≡ Done x r → Binary g n no_in l i x r
   unfolding binary
   binary_is no_in zero = unary_is
-  binary_is no_in (suc l) = level_is no_in (Binary g n no_in l) (binary g b no_in l) (binary_takes g b takes no_in l) (binary_is no_in l) (suc l)
+  binary_is no_in (suc l) = level_is no_in (Binary g n no_in l) (binary g b no_in l) (binary_takes g takes no_in l) (binary_is no_in l) (suc l)
 
   pub conditional_is : (no_in : Bool) (i : Tokens) (x : Expression) (r : Tokens) → conditional g b no_in i ≡ Done x r → Conditional g n no_in i x r
   unfolding conditional
@@ -436,7 +436,7 @@ module _ (g : Rules) (n : Nested) (b : Below) (takes : BelowTakes b) (a : Agrees
   whole_is no_in i x r e =
       let s = bind_inverse (separated (assignment g b no_in)) (λ xs. pure (sequence (head i).place xs)) i e in
       same_done (λ x r. Whole g n no_in i x r) s.3
-      (Whole.whole (separated_is (assignment g b no_in) (Assignment g n no_in) (assignment_takes g b takes no_in) (assignment_is no_in) i s.0 s.1 s.2))
+      (Whole.whole (separated_is (assignment g b no_in) (Assignment g n no_in) (assignment_takes g takes no_in) (assignment_is no_in) i s.0 s.1 s.2))
 
   -- each part
   pub expression_part_is : (p : ExpressionPart) (i : Tokens) (x : Expression) (r : Tokens) → expression_part g b p i ≡ Done x r → ExpressionRule g n p i x r

@@ -58,6 +58,4 @@ pub mod TryGood
 pub mod Turns
 pub mod Until
 pub mod Walks
-pub mod WithinExpressions
-pub mod WithinStatements
 pub mod Words

@@ -5,23 +5,8 @@ use Rattle.ja_syntax.specs.declared.symbol.Symbol.TheVariants.{End}
 use Rattle.ja_grammar.specs.Input.{Tokens, next, symbol, Done, Parser, and_then, pure, look, after_turn, many_from, until_by, until, separated, listed}
 use Rattle.ja_grammar.specs.Productions.{Rule, Many, none, more, Separated, Listed}
 use Rattle.ja_grammar.proofs.Lists as lists
-pub use Rattle.ja_grammar.proofs.Lists.{separated_takes}
 use Rattle.ja_grammar.proofs.Outcomes.{same_done, done_value, done_rest, end_is, bind_inverse}
-use Rattle.ja_grammar.proofs.Shrinks.{ShrinksAt, Shrinks, Takes, takes_shrinks, pure_shrinks, bind_shrinks, look_shrinks}
-pub use Rattle.ja_grammar.proofs.Turns.{many_shrinks}
-
--- ---- how many tokens are left
-
-pub until_shrinks : {A : Type 0} (ends : Symbol → Bool) (item : Parser A) → Shrinks item → Shrinks (until ends item)
-unfolding until
-until_shrinks {A} ends item h i = many_shrinks (λ found. look (λ t. until_by item found (ends (symbol t)))) (λ found i. look_shrinks (λ t. until_by item found (ends (symbol t))) i (go found i (ends (next i)))) [] i
-  where
-    go : (found : List A) (i : Tokens) (b : Bool) → ShrinksAt (until_by item found b) i
-    go found i true = pure_shrinks None i
-    go found i false = bind_shrinks i (h i) (λ x r e. pure_shrinks (Some (found ++ x ∷ [])) r)
-
-pub listed_takes : {A : Type 0} (close : Symbol) (item : Parser A) → close ≢ End → Takes item → Takes (listed close item)
-listed_takes close item other takes = lists.listed_takes close item other (λ i. takes_shrinks (takes i))
+use Rattle.ja_grammar.proofs.Shrinks.{Shrinks, Takes, takes_shrinks}
 
 -- ---- turns
 
@@ -71,7 +56,7 @@ module _ {A : Type 0} (ends : Symbol → Bool) (item : Parser A) (One : Rule A) 
       → ((i : Tokens) (x : A) (r : Tokens) → One i x r → item i ≡ Done x r)
       → (i : Tokens) (xs : List A) (r : Tokens) → Many One Stop i xs r → until ends item i ≡ Done xs r
   unfolding until
-  until_all stops starts reads i xs r h = many_from_all turn One Stop (λ i x m one. (takes i).takes x m (reads i x m one)) at_stop at_item (length i) [] i xs r (le_refl (length i)) h
+  until_all stops starts reads i xs r h = many_from_all turn One Stop (λ i x m one. (takes i).leaves x m (reads i x m one)) at_stop at_item (length i) [] i xs r (le_refl (length i)) h
     where
       turn : List A → Parser (Option (List A))
       turn found = look (λ t. until_by item found (ends (symbol t)))
@@ -98,7 +83,7 @@ module _ {A : Type 0} (ends : Symbol → Bool) (item : Parser A) (One : Rule A) 
       step found i o m true at h = same_done (Turned One Ended found i) h (refl, at)
       step found i o m false at h =
           let s = bind_inverse item (λ x. pure (Some (found ++ x ∷ []))) i h in
-          same_done (Turned One Ended found i) s.3 (s.0, refl, reads i s.0 s.1 at s.2, (takes i).takes s.0 s.1 s.2)
+          same_done (Turned One Ended found i) s.3 (s.0, refl, reads i s.0 s.1 at s.2, (takes i).leaves s.0 s.1 s.2)
 
 -- ---- items between commas
 

@@ -11,10 +11,10 @@ use Rattle.ja_grammar.specs.Input.{Tokens, head, next, behind, symbol, Done, Par
 use Rattle.ja_grammar.specs.Productions.{Rule, Is, NotAt, Led, Separated, Listed}
 use Rattle.ja_grammar.proofs.Real.{IsRealAfter}
 use Rattle.ja_grammar.proofs.Outcomes.{end_is, comma_not_end, some_value, cons_of, done_value, done_rest, same_symbol_true, same_symbol_false, same_symbol_is, same_symbol_other, expect_done, expect_inverse, bind_done, bind_inverse, same_done}
-use Rattle.ja_grammar.proofs.Shrinks.{ShrinksAt, TakesAt, Shrinks, Takes, takes_shrinks, pure_shrinks, take_takes, expect_takes, bind_shrinks, bind_takes, bind_takes_second, look_shrinks, look_takes}
+use Rattle.ja_grammar.proofs.Shrinks.{Shrinks, comma_takes}
 use Rattle.ja_grammar.proofs.Good.{Follow, Reason, Sample, GoodAt, Any, Closed, pure_good, bind_good, look_good}
 use Rattle.ja_grammar.proofs.Steps.{pure_sample, bind_sample, end_sample, expect_sample, take_good, expect_good}
-use Rattle.ja_grammar.proofs.Turns.{Turns, OfSome, many_shrinks, many_good_with, many_end, many_all, many_is, folded_push}
+use Rattle.ja_grammar.proofs.Turns.{Turns, OfSome, many_good_with, many_end, many_all, many_is, folded_push}
 
 -- no comma is the end
 comma_more : (i : Tokens) → same_symbol (next i) Comma ≡ true → next i ≢ End
@@ -33,44 +33,13 @@ comma item found i h = ap (λ b. after_comma item found b i) (same_symbol_is (ne
 
 -- ---- tokens are left
 
--- a comma and an item are taken
-comma_takes : {A : Type 0} (item : Parser A) → Shrinks item → (found : List A) (i : Tokens) → next i ≢ End → TakesAt (after_comma item found true) i
-comma_takes item shrinks found i more = bind_takes i (take_takes i more) (λ t r e. bind_shrinks r (shrinks r) (λ x m e. pure_shrinks (Some (found ++ x ∷ [])) m))
-
--- a turn leaves no more tokens than there were
-comma_shrinks : {A : Type 0} (item : Parser A) → Shrinks item → (found : List A) → Shrinks (comma_turn item found)
-comma_shrinks item shrinks found i = look_shrinks (λ t. after_comma item found (same_symbol (symbol t) Comma)) i (go (same_symbol (next i) Comma) refl)
-  where
-    go : (b : Bool) → same_symbol (next i) Comma ≡ b → ShrinksAt (after_comma item found b) i
-    go true e = takes_shrinks (comma_takes item shrinks found i (comma_more i e))
-    go false e = pure_shrinks None i
-
 -- each turn that goes on takes a token
 comma_turns : {A : Type 0} (item : Parser A) → Shrinks item → Turns (comma_turn item)
 comma_turns {A} item shrinks = record { takes = λ found i b r e. go found i b r (same_symbol (next i) Comma) refl e; ends = λ found. no_comma item found [] (λ e. comma_not_end (sym e ∙ end_is)) }
   where
     go : (found : List A) (i : Tokens) (ys : List A) (r : Tokens) (b : Bool) → same_symbol (next i) Comma ≡ b → after_comma item found b i ≡ Done (Some ys) r → suc (length r) ≤ length i
-    go found i ys r true at e = (comma_takes item shrinks found i (comma_more i at)).takes (Some ys) r e
+    go found i ys r true at e = (comma_takes shrinks found i (same_symbol_true (next i) Comma at)).leaves (Some ys) r e
     go found i ys r false at e = absurd (none_not_some (done_value e))
-
--- items with commas leave no more tokens than there were
-pub separated_shrinks : {A : Type 0} (item : Parser A) → Shrinks item → Shrinks (separated item)
-unfolding separated
-separated_shrinks item shrinks i = bind_shrinks i (shrinks i) (λ x r e. many_shrinks (comma_turn item) (comma_shrinks item shrinks) (x ∷ []) r)
-
--- or fewer, where an item takes
-pub separated_takes : {A : Type 0} (item : Parser A) → Takes item → Takes (separated item)
-unfolding separated
-separated_takes item takes i = bind_takes i (takes i) (λ x r e. many_shrinks (comma_turn item) (comma_shrinks item (λ i. takes_shrinks (takes i))) (x ∷ []) r)
-
--- a list with its closing token takes
-pub listed_takes : {A : Type 0} (close : Symbol) (item : Parser A) → close ≢ End → Shrinks item → Takes (listed close item)
-unfolding listed
-listed_takes {A} close item more shrinks i = look_takes (λ t. listed_by close item (same_symbol (symbol t) close)) i (go (same_symbol (next i) close) refl)
-  where
-    go : (b : Bool) → same_symbol (next i) close ≡ b → TakesAt (listed_by close item b) i
-    go true e = bind_takes i (take_takes i (λ ends. more (sym (same_symbol_true (next i) close e) ∙ ends))) (λ t r e. pure_shrinks [] r)
-    go false e = bind_takes_second i (separated_shrinks item shrinks i) (λ xs r e. bind_takes r (expect_takes close more r) (λ t m e. pure_shrinks xs m))
 
 -- ---- the place
 

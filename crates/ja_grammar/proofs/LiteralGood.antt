@@ -163,7 +163,7 @@ module _ {U : Tokens} {O : Refusal} {J : Reason O} {d : ℕ} {g' : Rules} {b b' 
   unfolding array
   array_good i more other = bind_good i h.reasons.closed (enters h i more other)
       (λ t r q. bind_good r h.reasons.closed
-      (until_good is_close_bracket (element (strict d) b) (element g' b') h.reasons.closed refl (element_takes (strict d) b h.takes) (element_takes g' b' h.takes_more) (λ j _. element_good (room_strict d i (entered (strict d) i q)) j) (λ tail at. ap is_close_bracket at) r)
+      (until_good is_close_bracket (element (strict d) b) (element g' b') h.reasons.closed refl (element_takes (strict d) h.takes) (element_takes g' h.takes_more) (λ j _. element_good (room_strict d i (entered (strict d) i q)) j) (λ tail at. ap is_close_bracket at) r)
       (λ xs m _. closes_pure h k.CloseBracket (e.Array xs t.place) tt m (λ e. cc e))
       (λ xs _. rest t xs))
       (λ t _. any_first (bind_sample (until_sample {F = At k.CloseBracket} is_close_bracket (element g' b') (λ tail at. ap is_close_bracket at)) (λ xs _. rest t xs)))
@@ -208,7 +208,7 @@ module _ {U : Tokens} {O : Refusal} {J : Reason O} {d : ℕ} {g' : Rules} {b b' 
   object_good i more other = bind_good i h.reasons.closed (enters h i more other)
       (λ t r q. bind_good r h.reasons.closed
       (listed_good {F = EndsExpression} {G = Any} k.CloseBrace (property (strict d) b) (property g' b') (λ e. cc e) (λ e. cc e) h.reasons.closed
-      (λ i. takes_shrinks (property_takes (strict d) b h.takes i)) (λ i. takes_shrinks (property_takes g' b' h.takes_more i))
+      (λ i. takes_shrinks (property_takes (strict d) h.takes i)) (λ i. takes_shrinks (property_takes g' h.takes_more i))
       (property_good (room_strict d i (entered (strict d) i q))) property_sample (λ tail at. brace_closes (next tail) at) close_brace close_brace_is close_brace_real (λ r _. h.reasons.free Unexpected [] r refl) r)
       (λ xs m _. pure_good J Any Any (e.Object xs t.place) m)
       (λ xs _. pure_sample (e.Object xs t.place) tt))

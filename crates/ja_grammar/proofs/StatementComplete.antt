@@ -157,13 +157,13 @@ module _ (low g : Rules) (milder : Milder low g) (n : Nested) (b : Below) (T : B
   clauses_all c (suc m) cs a i xs r e room (Cases.case {t = t} {u = u} {i = j} {m = o} {l = l} {r = q} {x = x} {xs = ys} {cs = ds} at h is y' more) =
       let y : Case = roll-Case (record { test = Some x; body = ys; place = t.place }) in
       let reads : case g b c (t ∷ j) ≡ Done y l = case_all c t u j o x ys l h is y' in
-      let fewer : length l ≤ m = omega (arith, room, (case_takes g b T c (t ∷ j)).takes y l reads) in
+      let fewer : length l ≤ m = omega (arith, room, (case_takes g T c (t ∷ j)).leaves y l reads) in
       goes_on c m cs (with_case g b cs y) (t ∷ j) l y ds q (ap (λ κ. clause_by g b c cs κ (t ∷ j)) at ∙ rw reads refl) refl
       (clauses_all c m (with_case g b cs y) a l ds q e fewer more)
   clauses_all c (suc m) cs a i xs r e room (Cases.default {t = t} {u = u} {m = o} {l = l} {r = q} {xs = ys} {cs = ds} at is y' more) =
       let y : Case = roll-Case (record { test = None; body = ys; place = t.place }) in
       let reads : default g b c (t ∷ u ∷ o) ≡ Done y l = default_all c t u o ys l is y' in
-      let fewer : length l ≤ m = omega (arith, room, (default_takes g b T c (t ∷ u ∷ o)).takes y l reads) in
+      let fewer : length l ≤ m = omega (arith, room, (default_takes g T c (t ∷ u ∷ o)).leaves y l reads) in
       goes_on c m cs (with_default g b cs y) (t ∷ u ∷ o) l y ds q (ap (λ κ. clause_by g b c cs κ (t ∷ u ∷ o)) at ∙ ap (λ a. default_by g b c cs a (t ∷ u ∷ o)) e ∙ rw reads refl) refl
       (clauses_all c m (with_default g b cs y) true l ds q refl fewer more)
 
@@ -198,7 +198,7 @@ module _ (low g : Rules) (milder : Milder low g) (n : Nested) (b : Below) (T : B
   unfolding variables
   variables_all t i xs m r h e =
       rw (
-        separated_all (variable g (assignment g b false)) (Variable low (Assignment low n false)) (variable_takes g (assignment g b false) (assignment_takes g b T false))
+        separated_all (variable g (assignment g b false)) (Variable low (Assignment low n false)) (variable_takes g (assignment_takes g T false))
             (variable_all low g (assignment g b false) (Assignment low n false) (declared_all low g milder) (assignment_all low g milder n b T S A false)) i xs m h,
         ended_all m r e,
       ) refl
@@ -392,7 +392,7 @@ module _ (low g : Rules) (milder : Milder low g) (n : Nested) (b : Below) (T : B
   for_variables_all : (i : Tokens) (xs : List (Declaration Expression)) (r : Tokens) → Separated (Variable low (n.expression (of_expression.Assignment true))) i xs r
       → separated (variable g (assignment_below g b true)) i ≡ Done xs r
   for_variables_all i xs r h = separated_all (variable g (assignment_below g b true)) (Variable low (n.expression (of_expression.Assignment true)))
-      (variable_takes g (assignment_below g b true) (T.expression (of_expression.Assignment true)))
+      (variable_takes g (T.expression (of_expression.Assignment true)))
       (variable_all low g (assignment_below g b true) (n.expression (of_expression.Assignment true)) (declared_all low g milder) (A.expression_all (of_expression.Assignment true))) i xs r h
 
   -- what stands before the first `;`, and then the rest

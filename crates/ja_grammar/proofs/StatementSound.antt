@@ -180,7 +180,7 @@ module _ (g : Rules) (n : Nested) (b : Below) (T : BelowTakes b) (A : Agrees n b
 
       at_case : Again → (p : Option Clauses) (l : Tokens) (t : Token) (j : Tokens) → length (t ∷ j) ≤ suc m → Is k.Case t → clause_by g b c cs k.Case (t ∷ j) ≡ Done p l → Goes (t ∷ j) p l
       at_case again p l t j room is e = after (case g b c (t ∷ j)) e (λ x q got e. same_done (λ p l. Goes (t ∷ j) p l) e (λ f.
-          let fewer : length q ≤ m = omega (arith, room, (case_takes g b T c (t ∷ j)).takes x q got) in
+          let fewer : length q ≤ m = omega (arith, room, (case_takes g T c (t ∷ j)).leaves x q got) in
           let s = again (with_case g b cs x) q fewer f in
           (x ∷ s.0, s.1 ∙ append_assoc cs.found (x ∷ []) s.0, case_is c cs.defaulted t j x q s.0 r is got s.2)))
 
@@ -188,7 +188,7 @@ module _ (g : Rules) (n : Nested) (b : Below) (T : BelowTakes b) (A : Agrees n b
           → default_by g b c cs a (t ∷ j) ≡ Done p l → Goes (t ∷ j) p l
       at_default again p l t j room is true was e = absurd (refused_not_done e)
       at_default again p l t j room is false was e = after (default g b c (t ∷ j)) e (λ x q got e. same_done (λ p l. Goes (t ∷ j) p l) e (λ f.
-          let fewer : length q ≤ m = omega (arith, room, (default_takes g b T c (t ∷ j)).takes x q got) in
+          let fewer : length q ≤ m = omega (arith, room, (default_takes g T c (t ∷ j)).leaves x q got) in
           let s = again (with_default g b cs x) q fewer f in
           (x ∷ s.0, s.1 ∙ append_assoc cs.found (x ∷ []) s.0, subst (λ a. Cases n c a (t ∷ j) (x ∷ s.0) r) (sym was) (default_is c t j x q s.0 r is got s.2))))
 
@@ -285,7 +285,7 @@ module _ (g : Rules) (n : Nested) (b : Below) (T : BelowTakes b) (A : Agrees n b
     variables_is : (t : Token) (i : Tokens) (x : Statement) (r : Tokens) → Is k.Var t → variables g b (t ∷ i) ≡ Done x r → Is_single (t ∷ i) x r
     unfolding variables
     variables_is t i x r is e = after (separated (variable g (assignment g b false)) i) e (λ xs m got e. after (ended m) e (λ u l f e. same_done (λ x r. Is_single (t ∷ i) x r) e
-        (Single.variables is (separated_is (variable g (assignment g b false)) (Variable g (Assignment g n false)) (variable_takes g (assignment g b false) (assignment_takes g b T false))
+        (Single.variables is (separated_is (variable g (assignment g b false)) (Variable g (Assignment g n false)) (variable_takes g (assignment_takes g T false))
         (variable_is g (assignment g b false) (Assignment g n false) (assignment_is g n b T A false)) i xs m got) (ended_is m l u f))))
 
     expression_is : (i : Tokens) (x : Statement) (r : Tokens) → begins_statement (next i) ≡ false → is_label (next i) (next (behind i)) ≡ false → expression_statement g b i ≡ Done x r → Is_single i x r
@@ -461,7 +461,7 @@ module _ (g : Rules) (n : Nested) (b : Below) (T : BelowTakes b) (A : Agrees n b
         list_is : (xs : List (Declaration Expression)) (m : Tokens) → separated (variable g (assignment_below g b true)) i ≡ Done xs m
             → Separated (Variable g (n.expression (of_expression.Assignment true))) i xs m
         list_is xs m got = separated_is (variable g (assignment_below g b true)) (Variable g (n.expression (of_expression.Assignment true)))
-            (variable_takes g (assignment_below g b true) (T.expression (of_expression.Assignment true)))
+            (variable_takes g (T.expression (of_expression.Assignment true)))
             (variable_is g (assignment_below g b true) (n.expression (of_expression.Assignment true)) (A.expression_is (of_expression.Assignment true))) i xs m got
 
         rest : (xs : List (Declaration Expression)) (m : Tokens) → separated (variable g (assignment_below g b true)) i ≡ Done xs m

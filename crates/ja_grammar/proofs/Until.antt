@@ -7,7 +7,7 @@ use Rattle.ja_grammar.specs.declared.fault.Refusal.{Refusal}
 use Rattle.ja_grammar.specs.Input.{Tokens, next, symbol, Done, Parser, and_then, pure, look, many, until_by, until}
 use Rattle.ja_grammar.specs.Productions.{Rule, Many}
 use Rattle.ja_grammar.proofs.Outcomes.{end_is, done_value}
-use Rattle.ja_grammar.proofs.Shrinks.{Takes, pure_shrinks, bind_takes}
+use Rattle.ja_grammar.proofs.Shrinks.{Takes, value_leaves}
 use Rattle.ja_grammar.proofs.Good.{Follow, Reason, Sample, GoodAt, Any, Closed, pure_good, bind_good, look_good}
 use Rattle.ja_grammar.proofs.Steps.{pure_sample, end_sample}
 use Rattle.ja_grammar.proofs.Turns.{Turns, OfSome, many_good_with, many_end, many_goes}
@@ -29,7 +29,7 @@ until_turns {A} ends item last takes = record {
   where
     go : (found : List A) (i : Tokens) (ys : List A) (r : Tokens) (b : Bool) → until_by item found b i ≡ Done (Some ys) r → suc (length r) ≤ length i
     go found i ys r true e = absurd (none_not_some (done_value e))
-    go found i ys r false e = (bind_takes i (takes i) (λ x m _. pure_shrinks (Some (found ++ x ∷ [])) m)).takes (Some ys) r e
+    go found i ys r false e = (value_leaves _ (takes i)).leaves (Some ys) r e
 
 -- the list ends at once
 pub until_ends : {A : Type 0} (ends : Symbol → Bool) (item : Parser A) (found : List A) (r : Tokens) → ends (next r) ≡ true → many (until_turn ends item) found r ≡ Done found r
