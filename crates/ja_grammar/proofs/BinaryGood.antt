@@ -24,7 +24,7 @@ use Rattle.ja_grammar.proofs.Lists.{separated_good}
 use Rattle.ja_grammar.proofs.OperatorGood.{unary_good}
 use Rattle.ja_grammar.proofs.Roomier.{Roomier, expected_sample, then_pure, enters, lower, expects, takes_one, unexpected, below_sample}
 use Rattle.ja_grammar.proofs.SampleTokens.{name, name_real, colon, colon_is, colon_real}
-use Rattle.ja_grammar.proofs.Shrinks.{Takes, takes_shrinks}
+use Rattle.ja_grammar.proofs.Shrinks.{Takes}
 use Rattle.ja_grammar.proofs.Steps.{pure_sample, bind_sample, end_sample}
 use Rattle.ja_grammar.proofs.Until.{until_good, until_sample}
 
@@ -150,6 +150,6 @@ module _ {U : Tokens} {O : Refusal} {J : Reason O} {d : ℕ} {g' : Rules} {b b' 
   whole_good no_in i = look_good (λ t. separated (assignment (strict d) b no_in) >>= (λ xs. pure (sequence t.place xs))) (λ t. separated (assignment g' b' no_in) >>= (λ xs. pure (sequence t.place xs))) i
       (bind_good i h.reasons.closed
       (separated_good {F = EndsExpression} {G = EndsExpression} (assignment (strict d) b no_in) (assignment g' b' no_in) h.reasons.closed
-      (λ i. takes_shrinks (assignment_takes (strict d) h.takes no_in i)) (λ i. takes_shrinks (assignment_takes g' h.takes_more no_in i))
+      (assignment_takes (strict d) h.takes no_in) (assignment_takes g' h.takes_more no_in)
       (assignment_good no_in) (assignment_sample g' b' no_in) (λ tail ends. ends) (λ tail ends. no_comma_closes (next tail) ends) i)
       (λ xs r _. pure_good J EndsExpression Any (sequence (head i).place xs) r) (λ xs _. pure_sample (sequence (head i).place xs) tt))

@@ -28,7 +28,6 @@ use Rattle.ja_grammar.proofs.LiteralGood.{primary_good}
 use Rattle.ja_grammar.proofs.Outcomes.{expect_done, enter_done, same_symbol_is}
 use Rattle.ja_grammar.proofs.Roomier.{Roomier, token_sample, expected_sample, then_pure, enters, lower, expects, takes_one, unexpected, closes_pure, below_sample}
 use Rattle.ja_grammar.proofs.SampleTokens.{name, name_is, name_real, dot, dot_is, dot_real, open_parenthesis, open_parenthesis_is, open_parenthesis_real, close_parenthesis, close_parenthesis_is, close_parenthesis_real, close_bracket, close_bracket_is, close_bracket_real}
-use Rattle.ja_grammar.proofs.Shrinks.{takes_shrinks}
 use Rattle.ja_grammar.proofs.Steps.{pure_sample, bind_sample, end_sample}
 use Rattle.ja_grammar.proofs.Until.{until_turn, until_ends, until_goes, until_good_with}
 
@@ -129,7 +128,7 @@ module _ {U : Tokens} {O : Refusal} {J : Reason O} {d : ℕ} {g' : Rules} {b b' 
   unfolding arguments
   arguments_good i more other = bind_good i h.reasons.closed (enters h i more other)
       (λ t r q. listed_good {F = EndsExpression} k.CloseParenthesis (b.expression (part.Assignment false)) (b'.expression (part.Assignment false)) (λ e. cc e) (λ e. cc e) h.reasons.closed
-      (λ i. takes_shrinks (h.takes.expression (part.Assignment false) i)) (λ i. takes_shrinks (h.takes_more.expression (part.Assignment false) i))
+      (h.takes.expression (part.Assignment false)) (h.takes_more.expression (part.Assignment false))
       ((lower h i q).expression U (part.Assignment false)) (below_sample h (part.Assignment false)) (λ tail at. parenthesis_closes (next tail) at) close_parenthesis close_parenthesis_is close_parenthesis_real (λ r _. h.reasons.free Unexpected [] r refl) r)
       (λ t _. listed_sample k.CloseParenthesis (b'.expression (part.Assignment false)) close_parenthesis close_parenthesis_is close_parenthesis_real tt (λ tail _. tt))
 

@@ -30,7 +30,8 @@ use Rattle.ja_grammar.specs.Productions.{Rule, Is, At, HasRoom, Many, Listed}
 use Rattle.ja_grammar.specs.ReadExpression.{Below, declared, declared_by, declared_name, function_name, function_name_by, is_close_brace, is_close_bracket, element, element_by, element_close, element_close_by, property, property_by, function_body, parameters, function, array, object, parenthesized, literal, literal_by, primary, primary_by, chain_head, head_by, dotted, indexed, property_suffix, property_suffix_by, arguments, any_suffix, any_suffix_by, member, created, created_by, left_hand, postfix, postfix_by, updated_behind, operand_close, operand_by, updated, updated_by, unary, unary_by, operation, operation_by, level, binary, conditional, conditional_by, assigned, assignment, assignment_by, whole, expression_part}
 use Rattle.ja_grammar.proofs.Agree.{Milder, BelowTakes, Covers}
 use Rattle.ja_grammar.proofs.ExpressionTakes.{declared_takes, element_takes, property_takes, property_suffix_takes, any_suffix_takes, operation_takes, binary_takes, assignment_takes}
-use Rattle.ja_grammar.proofs.ListLaws.{until_all, separated_all, listed_all}
+use Rattle.ja_grammar.proofs.ListLaws.{until_all}
+use Rattle.ja_grammar.proofs.Lists.{separated_all, listed_all}
 use Rattle.ja_grammar.proofs.Opening.{opening_done}
 use Rattle.ja_grammar.proofs.Outcomes.{then_done, expect_done, unless_reads, enter_done}
 use Rattle.ja_grammar.proofs.Shrinks.{Takes}

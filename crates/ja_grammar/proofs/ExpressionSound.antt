@@ -38,7 +38,8 @@ use Rattle.ja_grammar.proofs.Agree.{BelowTakes, Agrees}
 use Rattle.ja_grammar.proofs.Closing.{assignment_more, binary_more, end_no_property, end_no_suffix, literal_more,
     postfix_more, prefix_more, property_more, unary_more}
 use Rattle.ja_grammar.proofs.ExpressionTakes.{declared_takes, element_takes, property_takes, property_suffix_takes, any_suffix_takes, operation_takes, binary_takes, assignment_takes}
-use Rattle.ja_grammar.proofs.ListLaws.{until_is, separated_is, listed_is}
+use Rattle.ja_grammar.proofs.ListLaws.{until_is}
+use Rattle.ja_grammar.proofs.Lists.{separated_is, listed_is}
 use Rattle.ja_grammar.proofs.Opening.{opening_inverse}
 use Rattle.ja_grammar.proofs.Outcomes.{same_done, refused_not_done, bind_inverse, cons_of, expect_inverse, expect_then, unless_inverse, entered, entered_token}
 use Rattle.ja_grammar.proofs.Shrinks.{Takes}

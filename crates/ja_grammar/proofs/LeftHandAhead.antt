@@ -30,7 +30,7 @@ use Rattle.ja_grammar.proofs.LiteralGood.{brace_ends_statement, function_name_go
 use Rattle.ja_grammar.proofs.Opening.{opening_inverse}
 use Rattle.ja_grammar.proofs.Outcomes.{same_done, done_value, done_rest, refused_not_done, cons_of, same_symbol_true, bind_inverse, then_is, expect_inverse, expect_done, unless_inverse, enter_inverse, enter_done, entered}
 use Rattle.ja_grammar.proofs.Roomier.{Roomier, enters, lower, expects, takes_one, opens, below_sample}
-use Rattle.ja_grammar.proofs.Shrinks.{Leaves, Shrinks, Takes, takes_shrinks}
+use Rattle.ja_grammar.proofs.Shrinks.{Leaves, Takes}
 use Rattle.ja_grammar.proofs.Strict.{strict_room, room_strict, strict_never}
 use Rattle.ja_grammar.proofs.Turns.{many_once}
 use Rattle.ja_grammar.proofs.Until.{until_turn, until_turns, until_ends, until_goes, until_good}
@@ -165,20 +165,20 @@ bind_kept {A = A} {B = B} {p = p} {f = f} {F = F} i first kept second = record {
 -- ---- lists
 
 -- a list with its closing token
-listed_sealed : {A : Type 0} {F : Follow} {W : A → Type 0} {O : Refusal} {J : Reason O} (close : Symbol) (item next_item : Parser A) → close ≢ k.End → close ≢ k.Comma → Closed J → Shrinks item → Shrinks next_item
+listed_sealed : {A : Type 0} {F : Follow} {W : A → Type 0} {O : Refusal} {J : Reason O} (close : Symbol) (item next_item : Parser A) → close ≢ k.End → close ≢ k.Comma → Closed J → Takes item → Takes next_item
     → ((i : Tokens) → GoodAt [] J item next_item F W i)
     → Sample [] next_item Any F W
     → ((tail : Tokens) → next tail ≡ close → F tail)
     → (i : Tokens) → SealedAt (listed close item) i
 unfolding listed
-listed_sealed {A} {J = J} close item next_item more other closed shrinks shrinks' good sample follows i = look_sealed (λ t. listed_by close item (same_symbol (symbol t) close)) i (go (same_symbol (next i) close) refl)
+listed_sealed {A} {J = J} close item next_item more other closed takes takes' good sample follows i = look_sealed (λ t. listed_by close item (same_symbol (symbol t) close)) i (go (same_symbol (next i) close) refl)
   where
     Closes : Follow
     Closes tail = next tail ≡ close
 
     go : (found : Bool) → same_symbol (next i) close ≡ found → SealedAt (listed_by close item found) i
     go true e = pure_sealed (λ _. []) i (take_sealed i (λ ends. more (sym (same_symbol_true (next i) close e) ∙ ends)))
-    go false e = bind_sealed {J = J} i (separated_good {G = Closes} item next_item closed shrinks shrinks' good sample follows (λ tail h comma. other (sym h ∙ comma)) i)
+    go false e = bind_sealed {J = J} i (separated_good {G = Closes} item next_item closed takes takes' good sample follows (λ tail h comma. other (sym h ∙ comma)) i)
         (λ xs r _. pure_sealed (λ _. xs) r (expect_sealed close r more))
 
 -- items up to a symbol, where F holds before it: each of them takes a token last
@@ -284,7 +284,7 @@ module _ {O : Refusal} {J : Reason O} {d : ℕ} {g' : Rules} {b b' : Below} (h :
   object_sealed i more other = bind_sealed i (enters h i more other)
       (λ t r q. pure_sealed (λ xs. e.Object xs t.place) r
       (listed_sealed {F = EndsExpression} {J = J} k.CloseBrace (property (strict d) b) (property g' b') (λ e. cc e) (λ e. cc e) h.reasons.closed
-      (λ i. takes_shrinks (property_takes (strict d) h.takes i)) (λ i. takes_shrinks (property_takes g' h.takes_more i))
+      (property_takes (strict d) h.takes) (property_takes g' h.takes_more)
       (property_good h (room i q)) (property_sample h) (λ tail at. brace_closes (next tail) at) r))
 
   -- ---- primary expressions
@@ -341,7 +341,7 @@ module _ {O : Refusal} {J : Reason O} {d : ℕ} {g' : Rules} {b b' : Below} (h :
   unfolding arguments
   arguments_sealed i more other = bind_sealed i (enters h i more other)
       (λ t r q. listed_sealed {F = EndsExpression} {J = J} k.CloseParenthesis (b.expression (part.Assignment false)) (b'.expression (part.Assignment false)) (λ e. cc e) (λ e. cc e) h.reasons.closed
-      (λ i. takes_shrinks (h.takes.expression (part.Assignment false) i)) (λ i. takes_shrinks (h.takes_more.expression (part.Assignment false) i))
+      (h.takes.expression (part.Assignment false)) (h.takes_more.expression (part.Assignment false))
       ((lower h i q).expression [] (part.Assignment false)) (below_sample h (part.Assignment false)) (λ tail at. parenthesis_closes (next tail) at) r)
 
   any_suffix_sealed : (i : Tokens) → SealedAt (any_suffix (strict d) b) i

@@ -1,12 +1,11 @@
 -- The laws of lists: what is read as a list is a list of the grammar, and every list of the grammar is read.
-use Rattle.std.proofs.Common.{◌≡◌, ◌≢◌, ℕ, zero, suc, ◌≤◌, Bool, true, false, List, [], ◌∷◌, ◌++◌, length, Option, Some, None, refl, sym, ap, ◌∙◌, subst, append_assoc, append-nil, le_refl, arith}
+use Rattle.std.proofs.Common.{◌≡◌, ℕ, zero, suc, ◌≤◌, Bool, true, false, List, [], ◌∷◌, ◌++◌, length, Option, Some, None, refl, sym, ap, ◌∙◌, subst, append_assoc, append-nil, le_refl, arith}
 use Rattle.ja_syntax.specs.declared.symbol.Symbol.{Symbol}
 use Rattle.ja_syntax.specs.declared.symbol.Symbol.TheVariants.{End}
-use Rattle.ja_grammar.specs.Input.{Tokens, next, symbol, Done, Parser, and_then, pure, look, after_turn, many_from, until_by, until, separated, listed}
-use Rattle.ja_grammar.specs.Productions.{Rule, Many, none, more, Separated, Listed}
-use Rattle.ja_grammar.proofs.Lists as lists
+use Rattle.ja_grammar.specs.Input.{Tokens, next, symbol, Done, Parser, and_then, pure, look, after_turn, many_from, until_by, until}
+use Rattle.ja_grammar.specs.Productions.{Rule, Many, none, more}
 use Rattle.ja_grammar.proofs.Outcomes.{same_done, done_value, done_rest, end_is, bind_inverse}
-use Rattle.ja_grammar.proofs.Shrinks.{Shrinks, Takes, takes_shrinks}
+use Rattle.ja_grammar.proofs.Shrinks.{Takes}
 
 -- ---- turns
 
@@ -84,27 +83,3 @@ module _ {A : Type 0} (ends : Symbol → Bool) (item : Parser A) (One : Rule A) 
       step found i o m false at h =
           let s = bind_inverse item (λ x. pure (Some (found ++ x ∷ []))) i h in
           same_done (Turned One Ended found i) s.3 (s.0, refl, reads i s.0 s.1 at s.2, (takes i).leaves s.0 s.1 s.2)
-
--- ---- items between commas
-
-module _ {A : Type 0} (item : Parser A) (One : Rule A) (takes : Takes item) where
-  shrinks : Shrinks item
-  shrinks i = takes_shrinks (takes i)
-
-  pub separated_all : ((i : Tokens) (x : A) (r : Tokens) → One i x r → item i ≡ Done x r)
-      → (i : Tokens) (xs : List A) (r : Tokens) → Separated One i xs r → separated item i ≡ Done xs r
-  separated_all = lists.separated_all {One = One} item shrinks
-
-  pub separated_is : ((i : Tokens) (x : A) (r : Tokens) → item i ≡ Done x r → One i x r)
-      → (i : Tokens) (xs : List A) (r : Tokens) → separated item i ≡ Done xs r → Separated One i xs r
-  separated_is = lists.separated_is {One = One} item shrinks
-
-  -- ---- the same, up to a closing token
-
-  pub listed_all : (close : Symbol) → ((i : Tokens) (x : A) (r : Tokens) → One i x r → item i ≡ Done x r)
-      → (i : Tokens) (xs : List A) (r : Tokens) → Listed close One i xs r → listed close item i ≡ Done xs r
-  listed_all close = lists.listed_all {One = One} close item shrinks
-
-  pub listed_is : (close : Symbol) → close ≢ End → ((i : Tokens) (x : A) (r : Tokens) → item i ≡ Done x r → One i x r)
-      → (i : Tokens) (xs : List A) (r : Tokens) → listed close item i ≡ Done xs r → Listed close One i xs r
-  listed_is close other = lists.listed_is {One = One} close item other shrinks

@@ -32,7 +32,7 @@ use Rattle.ja_grammar.proofs.Outcomes.{same_refused, done_not_refused, cons_of}
 use Rattle.ja_grammar.proofs.Real.{covers_front, reals_more}
 use Rattle.ja_grammar.proofs.Roomier.{Roomier, enters, lower, unexpected, takes_pure}
 use Rattle.ja_grammar.proofs.SampleTokens.{semicolon, semicolon_is, semicolon_real}
-use Rattle.ja_grammar.proofs.Shrinks.{Takes, Moves, takes_shrinks}
+use Rattle.ja_grammar.proofs.Shrinks.{Takes, Moves}
 use Rattle.ja_grammar.proofs.StatementSamples.{ended_then_sample, semicolon_reads, pure_after}
 use Rattle.ja_grammar.proofs.StatementTakes.{variable_takes}
 use Rattle.ja_grammar.proofs.Steps.{bind_sample, good_moves, look_second_good}
@@ -104,7 +104,7 @@ module _ {U : Tokens} {O : Refusal} {J : Reason O} {d : ℕ} {g' : Rules} {b b' 
   pub declarations_good : (value next_value : Parser Expression) → Takes value → Takes next_value → ((i : Tokens) → GoodAt U J value next_value EndsExpression Any i) → Sample U next_value Any EndsExpression Any
       → (i : Tokens) → GoodAt U J (separated (variable (strict d) value)) (separated (variable g' next_value)) EndsExpression Any i
   declarations_good value next_value takes takes' good sample i =
-      separated_good {F = EndsExpression} {G = EndsExpression} (variable (strict d) value) (variable g' next_value) h.reasons.closed (λ i. takes_shrinks (variable_takes (strict d) takes i)) (λ i. takes_shrinks (variable_takes g' takes' i))
+      separated_good {F = EndsExpression} {G = EndsExpression} (variable (strict d) value) (variable g' next_value) h.reasons.closed (variable_takes (strict d) takes) (variable_takes g' takes')
       (variable_good h value next_value good sample) (variable_sample g' next_value) (λ tail ends. ends) (λ tail ends. no_comma_closes (next tail) ends) i
 
   pub declarations_sample : (value : Parser Expression) → Sample U (separated (variable g' value)) Any EndsExpression Any

@@ -31,7 +31,8 @@ use Rattle.ja_grammar.specs.StatementGrammar.{Ended, Block, Bracketed, Variable,
 use Rattle.ja_grammar.proofs.Agree.{Milder, BelowTakes, Covers}
 use Rattle.ja_grammar.proofs.ExpressionComplete.{declared_all, function_all, assignment_all, whole_all}
 use Rattle.ja_grammar.proofs.ExpressionTakes.{assignment_takes}
-use Rattle.ja_grammar.proofs.ListLaws.{until_all, separated_all}
+use Rattle.ja_grammar.proofs.ListLaws.{until_all}
+use Rattle.ja_grammar.proofs.Lists.{separated_all}
 use Rattle.ja_grammar.proofs.Opening.{opening_done}
 use Rattle.ja_grammar.proofs.Outcomes.{same_symbol_is, same_symbol_other, expect_done, unless_reads, enter_done}
 use Rattle.ja_grammar.proofs.Starts.{ends_list, BelowStarts, no_close_brace, no_clause_end}
