@@ -13,9 +13,9 @@ use Rattle.ja_grammar.specs.declared.fault.Refusal.{Refusal}
 use Rattle.ja_grammar.specs.declared.part.ExpressionPart.TheVariants as part
 use Rattle.ja_grammar.specs.Forms.{operated, sequence}
 use Rattle.ja_grammar.specs.Input.{Tokens, head, next, symbol, Done, Parser, ◌>>=◌, pure, look, expect, until, separated, Rules, strict}
-use Rattle.ja_grammar.specs.Operators.{binary_of, binary_operator, levels, assignment_operator}
+use Rattle.ja_grammar.specs.Operators.{binary_operator, levels, assignment_operator}
 use Rattle.ja_grammar.specs.ReadExpression.{Below, operation, operation_by, level, binary, conditional, conditional_by, assigned, assignment, assignment_by, whole}
-use Rattle.ja_grammar.proofs.Closing.{no_comma_closes, no_binary_closes, no_assignment_closes, no_question_closes, colon_closes, binary_more, assignment_more, assignment_no_colon}
+use Rattle.ja_grammar.proofs.Closing.{end_no_operator, no_comma_closes, no_binary_closes, no_assignment_closes, no_question_closes, colon_closes, binary_more, assignment_more, assignment_no_colon}
 use Rattle.ja_grammar.proofs.ExpressionSamples.{named, binary_name, assignment_name, whole_name}
 use Rattle.ja_grammar.proofs.ExpressionTakes.{operation_takes, binary_takes, assignment_takes}
 use Rattle.ja_grammar.proofs.Good.{Reason, Sample, GoodAt, Any, pure_good, bind_good, look_good}
@@ -31,10 +31,6 @@ use Rattle.ja_grammar.proofs.Until.{until_good, until_sample}
 -- what ends the operations of a level
 abbrev no_operator : Bool → ℕ → Symbol → Bool
 no_operator no_in l found = is_none (binary_operator no_in l found)
-
-end_no_operator : (no_in : Bool) (l : ℕ) → no_operator no_in l k.End ≡ true
-unfolding binary_operator binary_of
-end_no_operator no_in l = refl
 
 ends_operations : (no_in : Bool) (l : ℕ) (tail : Tokens) → EndsExpression tail → no_operator no_in l (next tail) ≡ true
 ends_operations no_in l tail ends = ap is_none (no_binary_closes no_in l (next tail) ends)

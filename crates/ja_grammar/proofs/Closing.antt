@@ -1,5 +1,5 @@
 -- What ends an expression is no operator, and begins nothing that goes on.
-use Rattle.std.proofs.Common.{◌≡◌, ◌≢◌, ℕ, Bool, true, false, not, Option, Some, None, refl, sym, ap, ◌∙◌}
+use Rattle.std.proofs.Common.{◌≡◌, ◌≢◌, ℕ, Bool, true, false, not, is_none, Option, Some, None, refl, sym, ap, ◌∙◌}
 use Rattle.ja_base.proofs.Options.{none_not_some}
 use Rattle.ja_lex.specs.declared.token.Token.{Token}
 use Rattle.ja_syntax.specs.declared.symbol.Symbol.{Symbol}
@@ -123,7 +123,12 @@ pub property_more : (t : Token) (x : PropertyName) → property_name t ≡ Some 
 unfolding property_name
 property_more t x h ends = none_not_some (sym (ap (λ κ. property_name_by κ t) ends) ∙ h)
 
--- the end of a text begins no member, and no call
+-- the end of a text is no operator, and begins no member and no call
+pub end_no_operator : (no_in : Bool) (level : ℕ)
+    → is_none (binary_operator no_in level k.End) ≡ true
+unfolding binary_operator binary_of
+end_no_operator no_in level = refl
+
 pub end_no_property : not (begins_property k.End) ≡ true
 unfolding begins_property
 end_no_property = refl

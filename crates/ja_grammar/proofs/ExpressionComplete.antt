@@ -29,13 +29,14 @@ use Rattle.ja_grammar.specs.Operators.{binary_operator, levels, unary_operator, 
 use Rattle.ja_grammar.specs.Productions.{Rule, Is, At, HasRoom, Many, Listed}
 use Rattle.ja_grammar.specs.ReadExpression.{Below, declared, declared_by, declared_name, function_name, function_name_by, is_close_brace, is_close_bracket, element, element_by, element_close, element_close_by, property, property_by, function_body, parameters, function, array, object, parenthesized, literal, literal_by, primary, primary_by, chain_head, head_by, dotted, indexed, property_suffix, property_suffix_by, arguments, any_suffix, any_suffix_by, member, created, created_by, left_hand, postfix, postfix_by, updated_behind, operand_close, operand_by, updated, updated_by, unary, unary_by, operation, operation_by, level, binary, conditional, conditional_by, assigned, assignment, assignment_by, whole, expression_part}
 use Rattle.ja_grammar.proofs.Agree.{Milder, BelowTakes, Covers}
+use Rattle.ja_grammar.proofs.Closing.{end_no_operator, end_no_property, end_no_suffix}
 use Rattle.ja_grammar.proofs.ExpressionTakes.{declared_takes, element_takes, property_takes, property_suffix_takes, any_suffix_takes, operation_takes, binary_takes, assignment_takes}
-use Rattle.ja_grammar.proofs.ListLaws.{until_all}
 use Rattle.ja_grammar.proofs.Lists.{separated_all, listed_all}
 use Rattle.ja_grammar.proofs.Opening.{opening_done}
 use Rattle.ja_grammar.proofs.Outcomes.{then_done, expect_done, unless_reads, enter_done}
 use Rattle.ja_grammar.proofs.Shrinks.{Takes}
 use Rattle.ja_grammar.proofs.Starts.{BelowStarts, no_close_brace, no_close_bracket, not_the_end}
+use Rattle.ja_grammar.proofs.Until.{until_all}
 
 -- ---- names
 
@@ -114,10 +115,7 @@ module _ (low g : Rules) (milder : Milder low g) (n : Nested) (b : Below) (takes
 
   statements_all : (i : Tokens) (xs : List Statement) (r : Tokens) → Many (n.statement function_context (of_statement.Whole 0 true)) (At k.CloseBrace) i xs r
       → until is_close_brace (b.statement function_context (of_statement.Whole 0 true)) i ≡ Done xs r
-  statements_all = until_all is_close_brace (b.statement function_context p) (n.statement function_context p) (At k.CloseBrace) (takes.statement function_context p)
-      (λ r at. ap is_close_brace at)
-      (λ i x r one. no_close_brace (next i) (starts.statement function_context 0 true i x r (a.statement_all function_context p i x r one)))
-      (a.statement_all function_context p)
+  statements_all = until_all is_close_brace (b.statement function_context p) (n.statement function_context p) (At k.CloseBrace) (takes.statement function_context p) refl (λ r at. ap is_close_brace at) (λ i x r one. no_close_brace (next i) (starts.statement function_context 0 true i x r (a.statement_all function_context p i x r one))) (a.statement_all function_context p)
     where
       p : StatementPart
       p = of_statement.Whole 0 true
@@ -143,7 +141,7 @@ module _ (low g : Rules) (milder : Milder low g) (n : Nested) (b : Below) (takes
   array_all t u i r xs some many is =
       rw (
         enter_done g t i (room (t ∷ i) some),
-        until_all is_close_bracket (element g b) (Element n) (At k.CloseBracket) (element_takes g takes) (λ r at. ap is_close_bracket at) element_starts element_all i xs (u ∷ r) many,
+        until_all is_close_bracket (element g b) (Element n) (At k.CloseBracket) (element_takes g takes) refl (λ r at. ap is_close_bracket at) element_starts element_all i xs (u ∷ r) many,
         expect_done k.CloseBracket u r is,
       ) refl
 
@@ -250,8 +248,7 @@ module _ (low g : Rules) (milder : Milder low g) (n : Nested) (b : Below) (takes
   member_all i _ r (Member.member {m = m} {x = x} {ss = ss} one many) =
       rw (
         chain_head_all i x m one,
-        until_all (λ found. not (begins_property found)) (property_suffix g b) (PropertySuffix low n) (λ r. begins_property (next r) ≡ false) (property_suffix_takes g takes)
-            (λ r h. ap not h) (λ i x r h. ap not (property_suffix_starts i x r h)) property_suffix_all m ss r many,
+        until_all (λ found. not (begins_property found)) (property_suffix g b) (PropertySuffix low n) (λ r. begins_property (next r) ≡ false) (property_suffix_takes g takes) end_no_property (λ r h. ap not h) (λ i x r h. ap not (property_suffix_starts i x r h)) property_suffix_all m ss r many,
       ) refl
 
   pub created_all : (place : Place) (i : Tokens) (x : Expression) (r : Tokens) → Created low n place i x r → created g b place i ≡ Done x r
@@ -269,8 +266,7 @@ module _ (low g : Rules) (milder : Milder low g) (n : Nested) (b : Below) (takes
   left_hand_all i _ r (LeftHand.left_hand {m = m} {x = x} {ss = ss} one many) =
       rw (
         chain_head_all i x m one,
-        until_all (λ found. not (begins_suffix found)) (any_suffix g b) (AnySuffix low n) (λ r. begins_suffix (next r) ≡ false) (any_suffix_takes g takes)
-            (λ r h. ap not h) (λ i x r h. ap not (any_suffix_starts i x r h)) any_suffix_all m ss r many,
+        until_all (λ found. not (begins_suffix found)) (any_suffix g b) (AnySuffix low n) (λ r. begins_suffix (next r) ≡ false) (any_suffix_takes g takes) end_no_suffix (λ r h. ap not h) (λ i x r h. ap not (any_suffix_starts i x r h)) any_suffix_all m ss r many,
       ) refl
 
   -- ---- operators before and behind an operand
@@ -326,8 +322,7 @@ module _ (low g : Rules) (milder : Milder low g) (n : Nested) (b : Below) (takes
     level_all l i _ r (Level.level {m = m} {x = x} {os = os} h many) =
         rw (
           one_all i x m h,
-          until_all (λ found. is_none (binary_operator no_in l found)) (operation g b no_in l one) (Operand no_in l One) (λ r. binary_operator no_in l (next r) ≡ None) (operation_takes g takes no_in l one_takes)
-              (λ r h. ap is_none h) (operation_starts l) (operation_all l) m os r many,
+          until_all (λ found. is_none (binary_operator no_in l found)) (operation g b no_in l one) (Operand no_in l One) (λ r. binary_operator no_in l (next r) ≡ None) (operation_takes g takes no_in l one_takes) (end_no_operator no_in l) (λ r h. ap is_none h) (operation_starts l) (operation_all l) m os r many,
         ) refl
 
   pub binary_all : (no_in : Bool) (l : ℕ) (i : Tokens) (x : Expression) (r : Tokens) → Binary low n no_in l i x r → binary g b no_in l i ≡ Done x r

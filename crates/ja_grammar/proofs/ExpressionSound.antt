@@ -31,18 +31,18 @@ use Rattle.ja_grammar.specs.Contexts.{function_context}
 use Rattle.ja_grammar.specs.ExpressionGrammar.{Nested, Element, OneProperty, Declared, FunctionName, Function, Primary, Head, PropertySuffix, Arguments, AnySuffix, Member, Created, LeftHand, Postfix, Unary, Operand, Level, Binary, Conditional, Assignment, Whole, Updated, ExpressionRule}
 use Rattle.ja_grammar.specs.Forms.{name_of, literal_of, property_name, begins_property, begins_suffix, postfix_of, is_prefix, chained, operated, sequence}
 use Rattle.ja_grammar.specs.Input.{Tokens, head, next, behind, symbol, Done, Parser, expect, opening, ◌>>=◌, ◌>>◌, pure, look, take_token, enter, until, separated, listed, Rules}
-use Rattle.ja_grammar.specs.Operators.{binary_of, binary_operator, levels, unary_operator, prefix_update, assignment_operator}
+use Rattle.ja_grammar.specs.Operators.{binary_operator, levels, unary_operator, prefix_update, assignment_operator}
 use Rattle.ja_grammar.specs.Productions.{Rule, Is, At, NotAt, HasRoom, Many, Listed}
 use Rattle.ja_grammar.specs.ReadExpression.{Below, declared, declared_by, declared_name, function_name, function_name_by, is_close_brace, is_close_bracket, element, element_by, element_close, element_close_by, property, property_by, function_body, parameters, function, array, object, parenthesized, literal, literal_by, regular_expression, primary, primary_by, chain_head, head_by, dotted, indexed, property_suffix, property_suffix_by, arguments, any_suffix, any_suffix_by, member, created, created_by, left_hand, postfix, postfix_by, updated_behind, operand_close, operand_by, updated, updated_by, unary, unary_by, operation, operation_by, level, binary, conditional, conditional_by, assigned, assignment, assignment_by, whole, expression_part}
 use Rattle.ja_grammar.proofs.Agree.{BelowTakes, Agrees}
-use Rattle.ja_grammar.proofs.Closing.{assignment_more, binary_more, end_no_property, end_no_suffix, literal_more,
+use Rattle.ja_grammar.proofs.Closing.{assignment_more, binary_more, end_no_operator, end_no_property, end_no_suffix, literal_more,
     postfix_more, prefix_more, property_more, unary_more}
 use Rattle.ja_grammar.proofs.ExpressionTakes.{declared_takes, element_takes, property_takes, property_suffix_takes, any_suffix_takes, operation_takes, binary_takes, assignment_takes}
-use Rattle.ja_grammar.proofs.ListLaws.{until_is}
 use Rattle.ja_grammar.proofs.Lists.{separated_is, listed_is}
 use Rattle.ja_grammar.proofs.Opening.{opening_inverse}
 use Rattle.ja_grammar.proofs.Outcomes.{same_done, refused_not_done, bind_inverse, cons_of, expect_inverse, expect_then, unless_inverse, entered, entered_token}
 use Rattle.ja_grammar.proofs.Shrinks.{Takes}
+use Rattle.ja_grammar.proofs.Until.{until_is}
 
 -- ---- what must have been there
 
@@ -87,10 +87,6 @@ module _ (g : Rules) where
       go false _ is h = same_done (λ x r. FunctionName g false i x r) h (FunctionName.unnamed (λ at. cc (is, at)))
 
 -- ---- symbols
-
-no_binary_end : (no_in : Bool) (l : ℕ) → is_none (binary_operator no_in l k.End) ≡ true
-unfolding binary_operator binary_of
-no_binary_end no_in l = refl
 
 no_prefix : (κ : Symbol) → unary_operator κ ≡ None → prefix_update κ ≡ None → is_prefix κ ≡ false
 unfolding is_prefix
@@ -385,7 +381,7 @@ module _ (g : Rules) (n : Nested) (b : Below) (takes : BelowTakes b) (a : Agrees
         let t = bind_inverse (until (λ found. is_none (binary_operator no_in l found)) (operation g b no_in l one)) (λ os. pure (operated (head i).place s.0 os)) s.1 s.3 in
         same_done (λ x r. Level no_in l One i x r) t.3 (Level.level (one_is i s.0 s.1 s.2)
         (until_is (λ found. is_none (binary_operator no_in l found)) (operation g b no_in l one) (Operand no_in l One) (λ r. binary_operator no_in l (next r) ≡ None)
-        (operation_takes g takes no_in l one_takes) (no_binary_end no_in l) (λ i x r _ h. operation_is l i x r h) s.1 t.0 t.1 (none_by_test (binary_operator no_in l (next t.1))) t.2))
+        (operation_takes g takes no_in l one_takes) (end_no_operator no_in l) (λ i x r _ h. operation_is l i x r h) s.1 t.0 t.1 (none_by_test (binary_operator no_in l (next t.1))) t.2))
 
   pub binary_is : (no_in : Bool) (l : ℕ) (i : Tokens) (x : Expression) (r : Tokens) → binary g b no_in l i ≡ Done x r → Binary g n no_in l i x r
   unfolding binary

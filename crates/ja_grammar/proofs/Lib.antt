@@ -27,7 +27,6 @@ pub mod Known
 pub mod LabelNames
 pub mod LeftHandAhead
 pub mod Levels
-pub mod ListLaws
 pub mod Lists
 pub mod LiteralGood
 pub mod Opening

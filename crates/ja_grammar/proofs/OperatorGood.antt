@@ -1,6 +1,6 @@
 -- The place laws of operators before and behind an operand (11.3, 11.4).
 use Rattle.std.proofs.lemmas.Bool.{not-true}
-use Rattle.std.proofs.Common.{◌≡◌, ◌≢◌, ◌⊎◌, inl, inr, ℕ, suc, ◌≤◌, Bool, true, false, true≢false, not, ◌||◌, is_some, List, [], ◌∷◌, ◌++◌, length, Option, Some, None, refl, sym, ap, ◌∙◌, subst, arith}
+use Rattle.std.proofs.Common.{◌≡◌, ◌≢◌, ◌⊎◌, inl, inr, ℕ, suc, ◌≤◌, Bool, true, false, true≢false, not, ◌||◌, is_some, [], ◌∷◌, ◌++◌, length, Option, Some, None, refl, sym, ap, ◌∙◌, subst, arith}
 use Rattle.ja_base.specs.declared.ids.Place.{Place}
 use Rattle.ja_lex.specs.declared.token.Token.{Token}
 use Rattle.ja_syntax.specs.declared.symbol.Symbol.TheVariants as k
@@ -15,7 +15,6 @@ use Rattle.ja_grammar.specs.declared.part.ExpressionPart.TheVariants as part
 use Rattle.ja_grammar.specs.Forms.{begins_suffix, postfix_of, is_prefix, chained}
 use Rattle.ja_grammar.specs.Input.{Tokens, head, next, symbol, Done, Refused, Parser, and_then, ◌>>=◌, ◌>>◌, pure, look, take_token, enter, until, Rules, strict}
 use Rattle.ja_grammar.specs.Operators.{unary_operator, prefix_update}
-use Rattle.ja_grammar.specs.Productions.{Rule, Many}
 use Rattle.ja_grammar.specs.ReadExpression.{Below, chain_head, any_suffix, left_hand, postfix, postfix_by, updated_behind, operand_close, operand_by, updated, updated_by, unary, unary_by}
 use Rattle.ja_grammar.proofs.Agree.{BelowTakes}
 use Rattle.ja_grammar.proofs.ChainGood.{IsReference, left_hand_good, left_hand_good_reference}
@@ -25,7 +24,7 @@ use Rattle.ja_grammar.proofs.ExpressionTakes.{any_suffix_takes, left_hand_takes}
 use Rattle.ja_grammar.proofs.Good.{Reason, CompletesWith, Sample, Stops, GoodAt, Closes, Any, pure_good, bind_good, bind_good_by, look_good}
 use Rattle.ja_grammar.proofs.LeftHandAhead.{left_hand_ahead}
 use Rattle.ja_grammar.proofs.Levels.{EndsExpression, BelowGood, owed_reason}
-use Rattle.ja_grammar.proofs.ListLaws.{until_is}
+use Rattle.ja_grammar.proofs.Until.{many_last, until_is}
 use Rattle.ja_grammar.proofs.Outcomes.{done_rest, bind_inverse, take_inverse, enter_done, entered_token, unless_reads, unless_refuses}
 use Rattle.ja_grammar.proofs.Roomier.{Roomier, then_pure, enters, lower, unexpected, takes_pure, below_sample}
 use Rattle.ja_grammar.proofs.Steps.{pure_sample, end_sample, unless_good}
@@ -33,11 +32,6 @@ use Rattle.ja_grammar.proofs.Strict.{strict_asks}
 
 not_both : (c c' : Bool) → (c || c') ≡ true → c ≡ false → c' ≡ false → ⊥
 not_both c c' e off off' = true≢false (sym e ∙ ap (λ x. x || c') off ∙ off')
-
--- what ends a list
-many_last : {X : Type 0} {One : Rule X} {Stop : Tokens → Type 0} (i : Tokens) (xs : List X) (r : Tokens) → Many One Stop i xs r → Stop r
-many_last i xs r (Many.none h) = h
-many_last i xs r (Many.more {m = m} {xs = ys} h t) = many_last m ys r t
 
 module _ (g : Rules) (b : Below) where
   -- behind a member or call stands no suffix

@@ -31,13 +31,13 @@ use Rattle.ja_grammar.specs.StatementGrammar.{Ended, Block, Bracketed, Variable,
 use Rattle.ja_grammar.proofs.Agree.{Milder, BelowTakes, Covers}
 use Rattle.ja_grammar.proofs.ExpressionComplete.{declared_all, function_all, assignment_all, whole_all}
 use Rattle.ja_grammar.proofs.ExpressionTakes.{assignment_takes}
-use Rattle.ja_grammar.proofs.ListLaws.{until_all}
 use Rattle.ja_grammar.proofs.Lists.{separated_all}
 use Rattle.ja_grammar.proofs.Opening.{opening_done}
 use Rattle.ja_grammar.proofs.Outcomes.{same_symbol_is, same_symbol_other, expect_done, unless_reads, enter_done}
 use Rattle.ja_grammar.proofs.Starts.{ends_list, BelowStarts, no_close_brace, no_clause_end}
 use Rattle.ja_grammar.proofs.StatementTakes.{variable_takes, case_takes, default_takes}
 use Rattle.ja_grammar.proofs.Walks.{enter_label_done}
+use Rattle.ja_grammar.proofs.Until.{until_all}
 
 pub ended_all : (i r : Tokens) → Ended i r → ended i ≡ Done tt r
 unfolding ended
@@ -101,8 +101,7 @@ module _ (low g : Rules) (milder : Milder low g) (n : Nested) (b : Below) (T : B
   block_all c i xs r (Block.block {t = t} {u = u} {i = m} {r = q} {xs = ys} is some body close) =
       rw (
         opening_done g k.OpenBrace t m (room (t ∷ m) some) is,
-        until_all is_close_brace (inner g b c) (n.statement c (part.Whole 0 false)) (At k.CloseBrace) (T.statement c (part.Whole 0 false))
-            (λ r at. ap is_close_brace at) (λ i x r h. no_close_brace (next i) (inner_starts c i x r h)) (inner_all c) m ys (u ∷ q) body,
+        until_all is_close_brace (inner g b c) (n.statement c (part.Whole 0 false)) (At k.CloseBrace) (T.statement c (part.Whole 0 false)) refl (λ r at. ap is_close_brace at) (λ i x r h. no_close_brace (next i) (inner_starts c i x r h)) (inner_all c) m ys (u ∷ q) body,
         expect_done k.CloseBrace u q close,
       ) refl
 
@@ -117,10 +116,9 @@ module _ (low g : Rules) (milder : Milder low g) (n : Nested) (b : Below) (T : B
   returned_all i x r (Returned.value {i = j} {r = m} {x = y} goes h) = ap (λ a. returned_by g b a j) goes ∙ rw (whole_all low g milder n b T S A false j y m h) refl
 
   pub clause_all : (c : Context) (t : Token) (i : Tokens) (xs : List Statement) (r : Tokens) → Is k.Colon t → Clause n c i xs r → clause g b c (t ∷ i) ≡ Done xs r
-  unfolding clause
+  unfolding clause ends_clause
   clause_all c t i xs r is h = rw (expect_done k.Colon t i is)
-      (until_all ends_clause (inner g b c) (n.statement c (part.Whole 0 false)) (λ r. ends_clause (next r) ≡ true) (T.statement c (part.Whole 0 false))
-      (λ r at. at) (λ i x r h. no_clause_end (next i) (inner_starts c i x r h)) (inner_all c) i xs r h)
+      (until_all ends_clause (inner g b c) (n.statement c (part.Whole 0 false)) (λ r. ends_clause (next r) ≡ true) (T.statement c (part.Whole 0 false)) refl (λ r at. at) (λ i x r h. no_clause_end (next i) (inner_starts c i x r h)) (inner_all c) i xs r h)
 
   pub case_all : (c : Context) (t u : Token) (i m : Tokens) (x : Expression) (xs : List Statement) (r : Tokens) → n.expression (of_expression.Whole false) i x (u ∷ m)
       → Is k.Colon u → Clause n c m xs r → case g b c (t ∷ i) ≡ Done (roll-Case (record { test = Some x; body = xs; place = t.place })) r

@@ -33,11 +33,11 @@ use Rattle.ja_grammar.proofs.Agree.{BelowTakes, Agrees}
 use Rattle.ja_grammar.proofs.ExpressionSound.{declared_is, function_is, assignment_is, whole_is}
 use Rattle.ja_grammar.proofs.Closing.{label_colon}
 use Rattle.ja_grammar.proofs.ExpressionTakes.{assignment_takes}
-use Rattle.ja_grammar.proofs.ListLaws.{until_is}
 use Rattle.ja_grammar.proofs.Lists.{separated_is}
 use Rattle.ja_grammar.proofs.Outcomes.{same_done, end_is, done_value, done_rest, refused_not_done, then_inverse, same_symbol_true, same_symbol_false, unless_inverse}
 use Rattle.ja_grammar.proofs.StatementTakes.{variable_takes, case_takes, default_takes}
 use Rattle.ja_grammar.proofs.Walks.{moved, after, begins, after_opening, after_expect, after_open, after_enter, labelled_entered}
+use Rattle.ja_grammar.proofs.Until.{until_is}
 
 pub ended_is : (i r : Tokens) (x : Unit {0}) → ended i ≡ Done x r → Ended i r
 unfolding ended
