@@ -72,7 +72,9 @@ module _ {U : Tokens} {O : Refusal} {J : Reason O} {d : ℕ} {g' : Rules} {b b' 
         (bind_good i h.reasons.closed (good i)
         (λ x r _. bind_good r h.reasons.closed
         (until_good (no_operator no_in l) (operation (strict d) b no_in l one) (operation g' b' no_in l next_one) h.reasons.closed (end_no_operator no_in l)
-        (operation_takes (strict d) h.takes no_in l takes) (operation_takes g' h.takes_more no_in l takes') (λ i _. operation_good i) (ends_operations no_in l) r)
+        (operation_takes (strict d) h.takes no_in l takes)
+        (operation_takes g' h.takes_more no_in l takes') (λ i _. operation_good i)
+        (ends_operations no_in l) r)
         (λ os m _. pure_good J EndsExpression Any (operated (head i).place x os) m) (λ os _. pure_sample (operated (head i).place x os) tt))
         (λ x _. then_pure {W = Any} (operated (head i).place x) (until_sample (no_operator no_in l) (operation g' b' no_in l next_one) (ends_operations no_in l))))
       where
@@ -82,7 +84,9 @@ module _ {U : Tokens} {O : Refusal} {J : Reason O} {d : ℕ} {g' : Rules} {b b' 
   pub binary_good : (no_in : Bool) (l : ℕ) (i : Tokens) → GoodAt U J (binary (strict d) b no_in l) (binary g' b' no_in l) EndsExpression Any i
   unfolding binary
   binary_good no_in zero i = unary_good h i
-  binary_good no_in (suc l) i = level_good no_in (suc l) (binary (strict d) b no_in l) (binary g' b' no_in l) (binary_takes (strict d) h.takes no_in l) (binary_takes g' h.takes_more no_in l)
+  binary_good no_in (suc l) i =
+      level_good no_in (suc l) (binary (strict d) b no_in l) (binary g' b' no_in l)
+      (binary_takes (strict d) h.takes no_in l) (binary_takes g' h.takes_more no_in l)
       (binary_good no_in l) (binary_sample g' b' no_in l) i
 
   -- ---- conditionals

@@ -144,7 +144,10 @@ module _ {U : Tokens} {O : Refusal} {J : Reason O} {d : ℕ} {g' : Rules} {b b' 
   -- ---- chains
 
   members_good : (i : Tokens) → GoodAt U J (until no_property (property_suffix (strict d) b)) (until no_property (property_suffix g' b')) EndsMember Any i
-  members_good i = until_good_with no_property (property_suffix (strict d) b) (property_suffix g' b') h.reasons.closed end_no_property (property_suffix_takes (strict d) h.takes) (property_suffix_takes g' h.takes_more)
+  members_good i =
+      until_good_with no_property (property_suffix (strict d) b) (property_suffix g' b')
+      h.reasons.closed end_no_property (property_suffix_takes (strict d) h.takes)
+      (property_suffix_takes g' h.takes_more)
       (λ i _. property_suffix_good i) (λ found. end_sample {F = Any} found tt (λ tail ends. tt) (λ tail ends. until_ends no_property (property_suffix g' b') found tail (ap not ends))) i
 
   pub member_good : (i : Tokens) → GoodAt U J (member (strict d) b) (member g' b') EndsMember Any i
@@ -185,13 +188,18 @@ module _ {U : Tokens} {O : Refusal} {J : Reason O} {d : ℕ} {g' : Rules} {b b' 
     real = (dot_real, (name_real, tt));
     fits = ends_in_last found (name_of name) dot.place;
     follows = λ tail ends. tt;
-    reads = λ tail ends. until_goes no_suffix (any_suffix g' b') end_no_suffix (any_suffix_takes g' h.takes_more) found (dot ∷ name ∷ tail) tail (suffix.Member (name_of name) dot.place)
+    reads =
+        λ tail ends. until_goes no_suffix (any_suffix g' b') end_no_suffix
+        (any_suffix_takes g' h.takes_more) found (dot ∷ name ∷ tail) tail
+        (suffix.Member (name_of name) dot.place)
         (dot_suffix (symbol dot) dot_is) (member_reads g' b' tail)
         ∙ until_ends no_suffix (any_suffix g' b') (found ++ suffix.Member (name_of name) dot.place ∷ []) tail (ap not (no_suffix_closes (next tail) ends));
   }
 
   suffixes_good : (i : Tokens) → GoodAt U J (until no_suffix (any_suffix (strict d) b)) (until no_suffix (any_suffix g' b')) EndsExpression EndsInProperty i
-  suffixes_good i = until_good_with no_suffix (any_suffix (strict d) b) (any_suffix g' b') h.reasons.closed end_no_suffix (any_suffix_takes (strict d) h.takes) (any_suffix_takes g' h.takes_more)
+  suffixes_good i =
+      until_good_with no_suffix (any_suffix (strict d) b) (any_suffix g' b') h.reasons.closed
+      end_no_suffix (any_suffix_takes (strict d) h.takes) (any_suffix_takes g' h.takes_more)
       (λ i _. any_suffix_good i) suffixes_sample i
 
   -- what was taken can be completed into a reference

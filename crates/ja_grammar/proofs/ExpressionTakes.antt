@@ -19,22 +19,11 @@ use Rattle.ja_grammar.specs.declared.part.StatementPart.TheVariants as of_statem
 use Rattle.ja_grammar.specs.Contexts.{function_context}
 use Rattle.ja_grammar.specs.Forms.{literal_of, property_name, postfix_of, is_prefix}
 use Rattle.ja_grammar.specs.Input.{head, next, behind, Parser, Rules}
-use Rattle.ja_grammar.specs.Operators.{binary_operator, levels, unary_operator, prefix_update,
-    assignment_operator}
-use Rattle.ja_grammar.specs.ReadExpression.{Below, declared, declared_by, declared_name,
-    function_name, function_name_by, is_close_brace, is_close_bracket, element, element_by,
-    element_close, element_close_by, property, property_by, function_body, parameters, function,
-    array, object, parenthesized, literal, literal_by, primary, primary_by, chain_head, head_by,
-    dotted, indexed, property_suffix, property_suffix_by, arguments, any_suffix, any_suffix_by,
-    member, created, created_by, left_hand, postfix, postfix_by, updated_behind, operand_close,
-    operand_by, updated, updated_by, unary, unary_by, operation, operation_by, level, binary,
-    conditional, conditional_by, assigned, assignment, assignment_by, whole, expression_part}
+use Rattle.ja_grammar.specs.Operators.{binary_operator, levels, unary_operator, prefix_update, assignment_operator}
+use Rattle.ja_grammar.specs.ReadExpression.{Below, declared, declared_by, declared_name, function_name, function_name_by, is_close_brace, is_close_bracket, element, element_by, element_close, element_close_by, property, property_by, function_body, parameters, function, array, object, parenthesized, literal, literal_by, primary, primary_by, chain_head, head_by, dotted, indexed, property_suffix, property_suffix_by, arguments, any_suffix, any_suffix_by, member, created, created_by, left_hand, postfix, postfix_by, updated_behind, operand_close, operand_by, updated, updated_by, unary, unary_by, operation, operation_by, level, binary, conditional, conditional_by, assigned, assignment, assignment_by, whole, expression_part}
 use Rattle.ja_grammar.proofs.Agree.{BelowTakes}
 use Rattle.ja_grammar.proofs.Closing.{literal_more}
-use Rattle.ja_grammar.proofs.Shrinks.{Leaves, Takes, Shrinks, takes_shrinks, pure_shrinks,
-    refuse_leaves, behind_leaves, token_shrinks, token_takes, unless_leaves, enter_shrinks,
-    expect_shrinks, expect_takes, opening_takes, bind_leaves, value_leaves, until_shrinks,
-    separated_takes, listed_takes}
+use Rattle.ja_grammar.proofs.Shrinks.{Leaves, Takes, Shrinks, takes_shrinks, pure_shrinks, refuse_leaves, behind_leaves, token_shrinks, token_takes, unless_leaves, enter_shrinks, expect_shrinks, expect_takes, opening_takes, bind_leaves, value_leaves, until_shrinks, separated_takes, listed_takes}
 
 -- ---- names
 
@@ -198,7 +187,8 @@ module _ (g : Rules) {b : Below} (h : BelowTakes b) where
 
   pub created_by_shrinks : (place : Place) (x : Expression) (κ : Symbol)
       → Shrinks (created_by g b place x κ)
-  created_by_shrinks place x k.OpenParenthesis i = takes_shrinks (value_leaves _ (arguments_takes i))
+  created_by_shrinks place x k.OpenParenthesis i =
+      takes_shrinks (value_leaves _ (arguments_takes i))
   created_by_shrinks place x _ i = pure_shrinks
 
   created_takes : (place : Place) → Takes (created g b place)

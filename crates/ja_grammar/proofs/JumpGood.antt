@@ -440,7 +440,8 @@ module _ {O : Refusal} {J : Reason O} {d : ℕ} {g' : Rules} {b b' : Below} (h :
   label_moves : (c : Context) (i : Tokens) → next i ≡ k.Name → next (behind i) ≡ k.Colon → has_label c (word (head i)) ≡ false → Moves (label (strict d) b c) i
   unfolding label label_rest
   label_moves c i is at new = bind_moves i (take_moves i (λ ends. cc (is, ends)))
-      (λ t r e. same_done (λ t r. Leaves false (label_rest (strict d) b c t r) r) e (good_within (behind i) (new_good {U = []} h c i is at new)))
+      (λ t r e. same_done (λ t r. Leaves false (label_rest (strict d) b c t r) r) e
+      (good_within (behind i) (new_good {U = []} h c i is at new)))
 
   -- what a label that was read says
   label_reads : (c : Context) (i : Tokens) (t : Token) (r : Tokens) → label (strict d) b c i ≡ Done t r → (0 < d) × (head i ≡ t)

@@ -70,7 +70,12 @@ agrees rules asks (suc d) = record {
 pub program_covers : (low d : ℕ) → low ≤ d → (i : Tokens) (xs : List Statement) (r : Tokens) → IsProgram strict low i xs r → program strict d i ≡ Done xs r
 unfolding program
 program_covers low d more i xs r h =
-    until_all is_end (single (strict d) (below strict d) program_context 0 true) (Single (strict low) (nested strict low) program_context 0 true) (At End) (single_takes (strict d) (below_takes strict d) program_context 0 true) (same_symbol_refl End) (λ r at. same_symbol_is (next r) End at) (λ i x r one. no_end (next i) (single_starts (strict d) (below strict d) program_context 0 true i x r (reads i x r one))) reads i xs r h
+    until_all is_end (single (strict d) (below strict d) program_context 0 true)
+    (Single (strict low) (nested strict low) program_context 0 true) (At End)
+    (single_takes (strict d) (below_takes strict d) program_context 0 true)
+    (same_symbol_refl End) (λ r at. same_symbol_is (next r) End at)
+    (λ i x r one. no_end (next i) (single_starts (strict d) (below strict d) program_context 0
+    true i x r (reads i x r one))) reads i xs r h
   where
     reads : (i : Tokens) (x : Statement) (r : Tokens) → Single (strict low) (nested strict low) program_context 0 true i x r → single (strict d) (below strict d) program_context 0 true i ≡ Done x r
     reads = single_all (strict low) (strict d) (strict_milder low d more) (nested strict low) (below strict d) (below_takes strict d) (below_starts strict d) (covers low d more) program_context 0 true
@@ -79,7 +84,12 @@ program_covers low d more i xs r h =
 pub program_all : (rules : ℕ → Rules) → Asks rules → (d : ℕ) (i : Tokens) (xs : List Statement) (r : Tokens) → IsProgram rules d i xs r → program rules d i ≡ Done xs r
 unfolding program
 program_all rules asks d i xs r h =
-    until_all is_end (single (rules d) (below rules d) program_context 0 true) (Single (rules d) (nested rules d) program_context 0 true) (At End) (single_takes (rules d) (below_takes rules d) program_context 0 true) (same_symbol_refl End) (λ r at. same_symbol_is (next r) End at) (λ i x r one. no_end (next i) (single_starts (rules d) (below rules d) program_context 0 true i x r (reads i x r one))) reads i xs r h
+    until_all is_end (single (rules d) (below rules d) program_context 0 true)
+    (Single (rules d) (nested rules d) program_context 0 true) (At End)
+    (single_takes (rules d) (below_takes rules d) program_context 0 true) (same_symbol_refl End)
+    (λ r at. same_symbol_is (next r) End at)
+    (λ i x r one. no_end (next i) (single_starts (rules d) (below rules d) program_context 0
+    true i x r (reads i x r one))) reads i xs r h
   where
     reads : (i : Tokens) (x : Statement) (r : Tokens) → Single (rules d) (nested rules d) program_context 0 true i x r → single (rules d) (below rules d) program_context 0 true i ≡ Done x r
     reads = single_all (rules d) (rules d) (λ why i off. off) (nested rules d) (below rules d) (below_takes rules d) (below_starts rules d) (as_covers (agrees rules asks d)) program_context 0 true
@@ -88,6 +98,8 @@ program_all rules asks d i xs r h =
 pub program_is : (rules : ℕ → Rules) → Asks rules → (d : ℕ) (i : Tokens) (xs : List Statement) (r : Tokens) → program rules d i ≡ Done xs r → IsProgram rules d i xs r
 unfolding program
 program_is rules asks d i xs r e =
-    until_is is_end (single (rules d) (below rules d) program_context 0 true) (Single (rules d) (nested rules d) program_context 0 true) (At End) (single_takes (rules d) (below_takes rules d) program_context 0 true)
+    until_is is_end (single (rules d) (below rules d) program_context 0 true)
+    (Single (rules d) (nested rules d) program_context 0 true) (At End)
+    (single_takes (rules d) (below_takes rules d) program_context 0 true)
     (same_symbol_refl End) (λ i x r _ e. single_is (rules d) (nested rules d) (below rules d) (below_takes rules d) (agrees rules asks d) (asks d) program_context 0 true i x r e) i xs r
     (λ h. same_symbol_true (next r) End h) e

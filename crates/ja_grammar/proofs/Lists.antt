@@ -35,10 +35,15 @@ comma item found i h = ap (λ b. after_comma item found b i) (same_symbol_is (ne
 
 -- each turn that goes on takes a token
 comma_turns : {A : Type 0} (item : Parser A) → Takes item → Turns (comma_turn item)
-comma_turns {A} item takes = record { takes = λ found i b r e. go found i b r (same_symbol (next i) Comma) refl e; ends = λ found. no_comma item found [] (λ e. comma_not_end (sym e ∙ end_is)) }
+comma_turns {A} item takes =
+    record {
+      takes = λ found i b r e. go found i b r (same_symbol (next i) Comma) refl e;
+      ends = λ found. no_comma item found [] (λ e. comma_not_end (sym e ∙ end_is));
+    }
   where
     go : (found : List A) (i : Tokens) (ys : List A) (r : Tokens) (b : Bool) → same_symbol (next i) Comma ≡ b → after_comma item found b i ≡ Done (Some ys) r → suc (length r) ≤ length i
-    go found i ys r true at e = (comma_takes takes found i (same_symbol_true (next i) Comma at)).leaves (Some ys) r e
+    go found i ys r true at e =
+        (comma_takes takes found i (same_symbol_true (next i) Comma at)).leaves (Some ys) r e
     go found i ys r false at e = absurd (none_not_some (done_value e))
 
 -- ---- the place
@@ -58,15 +63,19 @@ comma_good {U} {A} {F} {W} {O} {J} item next_item closed good sample found i =
     go false e = subst (λ b. GoodAt U J (after_comma item found b) (after_comma next_item found b) F (OfSome Any) i) (sym e) (pure_good J F (OfSome Any) None i)
 
 -- Items with commas between: F may follow an item, and G the list.
-pub separated_good : {U : Tokens} {A : Type 0} {F G : Follow} {W : A → Type 0} {O : Refusal} {J : Reason O} (item next_item : Parser A) → Closed J → Takes item → Takes next_item
+pub separated_good : {U : Tokens} {A : Type 0} {F G : Follow} {W : A → Type 0} {O : Refusal}
+    {J : Reason O} (item next_item : Parser A) → Closed J → Takes item → Takes next_item
     → ((i : Tokens) → GoodAt U J item next_item F W i)
     → Sample U next_item Any F W
     → ((tail : Tokens) → G tail → F tail) → ((tail : Tokens) → G tail → NotAt Comma tail)
     → (i : Tokens) → GoodAt U J (separated item) (separated next_item) G Any i
 unfolding separated
-separated_good {U} {A} {F} {G} {W} {O} {J} item next_item closed takes takes' good sample follows other i =
+separated_good {U} {A} {F} {G} {W} {O} {J} item next_item closed takes takes' good sample follows
+    other i =
     bind_good i closed (good i)
-    (λ x r _. many_good_with (comma_turn item) (comma_turn next_item) closed (comma_turns item takes) (comma_turns next_item takes') (comma_good item next_item closed good sample)
+    (λ x r _. many_good_with (comma_turn item) (comma_turn next_item) closed
+    (comma_turns item takes) (comma_turns next_item takes')
+    (comma_good item next_item closed good sample)
     rest (x ∷ []) r)
     (λ x v. rest (x ∷ []) tt)
   where
@@ -74,7 +83,9 @@ separated_good {U} {A} {F} {G} {W} {O} {J} item next_item closed takes takes' go
     rest xs v = end_sample xs tt follows (λ tail h. many_end (comma_turn next_item) xs tail (no_comma next_item xs tail (other tail h)))
 
 -- Any number of items and a closing token, as t: F may follow an item, and anything may follow the list.
-pub listed_good : {U : Tokens} {A : Type 0} {F G : Follow} {W : A → Type 0} {O : Refusal} {J : Reason O} (close : Symbol) (item next_item : Parser A) → close ≢ End → close ≢ Comma → Closed J → Takes item → Takes next_item
+pub listed_good : {U : Tokens} {A : Type 0} {F G : Follow} {W : A → Type 0} {O : Refusal}
+    {J : Reason O} (close : Symbol) (item next_item : Parser A) → close ≢ End → close ≢ Comma
+    → Closed J → Takes item → Takes next_item
     → ((i : Tokens) → GoodAt U J item next_item F W i)
     → Sample U next_item Any F W
     → ((tail : Tokens) → next tail ≡ close → F tail)
@@ -82,7 +93,8 @@ pub listed_good : {U : Tokens} {A : Type 0} {F G : Follow} {W : A → Type 0} {O
     → ((r : Tokens) → NotAt close r → J.right Unexpected [] r)
     → (i : Tokens) → GoodAt U J (listed close item) (listed close next_item) G Any i
 unfolding listed
-listed_good {U} {A} {F} {G} {W} {O} {J} close item next_item more other closed takes takes' good sample follows t is real unexpected i =
+listed_good {U} {A} {F} {G} {W} {O} {J} close item next_item more other closed takes takes' good
+    sample follows t is real unexpected i =
     look_good (λ t. listed_by close item (same_symbol (symbol t) close)) (λ t. listed_by close next_item (same_symbol (symbol t) close)) i (go (same_symbol (next i) close) refl)
   where
     Closes : Tokens → Type 0
@@ -95,7 +107,8 @@ listed_good {U} {A} {F} {G} {W} {O} {J} close item next_item more other closed t
         (λ _ r _. pure_good J G Any [] r) (λ _ v. pure_sample [] tt))
     go false e = subst (λ b. GoodAt U J (listed_by close item b) (listed_by close next_item b) G Any i) (sym e)
         (bind_good i closed
-        (separated_good {G = Closes} item next_item closed takes takes' good sample follows (λ tail h k. other (sym h ∙ k)) i)
+        (separated_good {G = Closes} item next_item closed takes takes' good sample follows
+        (λ tail h k. other (sym h ∙ k)) i)
         (λ xs r _. bind_good r closed (expect_good J G Any close r more (unexpected r) (λ _. tt)) (λ _ m _. pure_good J G Any xs m) (λ _ v. pure_sample xs tt))
         (λ xs v. bind_sample {V = Any} (expect_sample close t is real tt (λ tail h. is)) (λ _ w. pure_sample xs tt)))
 
@@ -128,7 +141,9 @@ pub separated_all : {A : Type 0} (item : Parser A) (One : Rule A) → Takes item
 unfolding separated
 separated_all {A} item One takes all i xs r (Separated.separated {m = m} {x = x} {xs = ys} h t) =
     bind_done item _ (all i x m h)
-    (many_all (comma_turn item) push (comma_turns item takes) one (λ found r h. no_comma item found r h) (x ∷ []) m ys r t ∙ ap (λ ys. Done ys r) (folded_push (x ∷ []) ys))
+    (many_all (comma_turn item) push (comma_turns item takes) one
+    (λ found r h. no_comma item found r h) (x ∷ []) m ys r t
+    ∙ ap (λ ys. Done ys r) (folded_push (x ∷ []) ys))
   where
     push : List A → A → List A
     push found x = found ++ x ∷ []
@@ -143,7 +158,8 @@ pub separated_is : {A : Type 0} (item : Parser A) (One : Rule A) → Takes item
 unfolding separated
 separated_is {A} item One takes sound i xs r e =
     let s = bind_inverse item (λ x. many (comma_turn item) (x ∷ [])) i e in
-    let t = many_is {Stop = NotAt Comma} (comma_turn item) push (comma_turns item takes) one stop (s.0 ∷ []) s.1 xs r s.3 in
+    let t = many_is {Stop = NotAt Comma} (comma_turn item) push (comma_turns item takes) one stop
+    (s.0 ∷ []) s.1 xs r s.3 in
     subst (λ ys. Separated One i ys r) (sym (t.2 ∙ folded_push (s.0 ∷ []) t.0)) (Separated.separated (sound i s.0 s.1 s.2) t.1)
   where
     push : List A → A → List A
@@ -173,10 +189,12 @@ pub listed_all : {A : Type 0} (item : Parser A) (One : Rule A) → Takes item �
     → ((i : Tokens) (x : A) (r : Tokens) → One i x r → item i ≡ Done x r)
     → (i : Tokens) (xs : List A) (r : Tokens) → Listed close One i xs r → listed close item i ≡ Done xs r
 unfolding listed
-listed_all {A} item One takes close all i xs r (Listed.empty {t = t} is) = ap (λ b. listed_by close item b i) (same_symbol_is (symbol t) close is)
+listed_all {A} item One takes close all i xs r (Listed.empty {t = t} is) =
+    ap (λ b. listed_by close item b i) (same_symbol_is (symbol t) close is)
 listed_all {A} item One takes close all i xs r (Listed.some {t = t} other h is) =
     ap (λ b. listed_by close item b i) (same_symbol_other (next i) close other)
-    ∙ bind_done (separated item) _ (separated_all item One takes all i xs (t ∷ r) h) (bind_done (expect close) _ (expect_done close t r is) refl)
+    ∙ bind_done (separated item) _ (separated_all item One takes all i xs (t ∷ r) h)
+    (bind_done (expect close) _ (expect_done close t r is) refl)
 
 -- what is read is a list of the grammar with its closing token
 pub listed_is : {A : Type 0} (item : Parser A) (One : Rule A) → Takes item → (close : Symbol)
@@ -195,4 +213,6 @@ listed_is {A} item One takes close more sound i xs r e = go (same_symbol (next i
         let t = bind_inverse (expect close) (λ _. pure s.0) s.1 s.3 in
         let u = expect_inverse close s.1 more t.2 in
         same_done (λ ys m. Listed close One i ys m) t.3
-        (Listed.some (same_symbol_false (next i) close at) (subst (λ j. Separated One i s.0 j) u.0 (separated_is item One takes sound i s.0 s.1 s.2)) u.1)
+        (Listed.some (same_symbol_false (next i) close at)
+        (subst (λ j. Separated One i s.0 j) u.0
+        (separated_is item One takes sound i s.0 s.1 s.2)) u.1)

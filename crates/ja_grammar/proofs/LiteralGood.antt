@@ -91,7 +91,9 @@ module _ {U : Tokens} {O : Refusal} {J : Reason O} {d : ℕ} {g' : Rules} {b b' 
   pub parameters_good : (i : Tokens) → GoodAt U J (parameters (strict d) b) (parameters g' b') Any Any i
   unfolding parameters
   parameters_good i = bind_good i h.reasons.closed (opens h k.OpenParenthesis i (λ e. cc e) (λ e. cc e))
-      (λ t r _. listed_good {F = Any} {W = Any} k.CloseParenthesis (declared (strict d)) (declared g') (λ e. cc e) (λ e. cc e) h.reasons.closed (declared_takes (strict d)) (declared_takes g')
+      (λ t r _. listed_good {F = Any} {W = Any} k.CloseParenthesis (declared (strict d))
+      (declared g') (λ e. cc e) (λ e. cc e) h.reasons.closed (declared_takes (strict d))
+      (declared_takes g')
       declared_good (declared_sample g') (λ tail at. tt) close_parenthesis close_parenthesis_is close_parenthesis_real (λ r _. h.reasons.free Unexpected [] r refl) r)
       (λ t _. listed_sample k.CloseParenthesis (declared g') close_parenthesis close_parenthesis_is close_parenthesis_real tt (λ tail _. tt))
 
@@ -162,7 +164,10 @@ module _ {U : Tokens} {O : Refusal} {J : Reason O} {d : ℕ} {g' : Rules} {b b' 
   unfolding array
   array_good i more other = bind_good i h.reasons.closed (enters h i more other)
       (λ t r q. bind_good r h.reasons.closed
-      (until_good is_close_bracket (element (strict d) b) (element g' b') h.reasons.closed refl (element_takes (strict d) h.takes) (element_takes g' h.takes_more) (λ j _. element_good (room_strict d i (entered (strict d) i q)) j) (λ tail at. ap is_close_bracket at) r)
+      (until_good is_close_bracket (element (strict d) b) (element g' b') h.reasons.closed refl
+      (element_takes (strict d) h.takes) (element_takes g' h.takes_more)
+      (λ j _. element_good (room_strict d i (entered (strict d) i q)) j)
+      (λ tail at. ap is_close_bracket at) r)
       (λ xs m _. closes_pure h k.CloseBracket (e.Array xs t.place) tt m (λ e. cc e))
       (λ xs _. rest t xs))
       (λ t _. any_first (bind_sample (until_sample {F = At k.CloseBracket} is_close_bracket (element g' b') (λ tail at. ap is_close_bracket at)) (λ xs _. rest t xs)))

@@ -41,7 +41,9 @@ module _ (g : Rules) (b : Below) where
       let s = bind_inverse (chain_head g b) (λ x. until (λ found. not (begins_suffix found)) (any_suffix g b) >>= (λ ss. pure (chained x ss))) i q in
       let t = bind_inverse (until (λ found. not (begins_suffix found)) (any_suffix g b)) (λ ss. pure (chained s.0 ss)) s.1 s.3 in
       subst (λ m. begins_suffix (next m) ≡ false) (done_rest t.3)
-      (many_last s.1 t.0 t.1 (until_is (λ found. not (begins_suffix found)) (any_suffix g b) (λ i x m. any_suffix g b i ≡ Done x m) (λ m. begins_suffix (next m) ≡ false) (any_suffix_takes g takes) end_no_suffix
+      (many_last s.1 t.0 t.1 (until_is (λ found. not (begins_suffix found)) (any_suffix g b)
+      (λ i x m. any_suffix g b i ≡ Done x m) (λ m. begins_suffix (next m) ≡ false)
+      (any_suffix_takes g takes) end_no_suffix
       (λ i x m _ h. h) s.1 t.0 t.1 (not-true (begins_suffix (next t.1))) t.2))
 
   -- a reference with no operator behind it is an operand

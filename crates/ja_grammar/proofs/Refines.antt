@@ -117,11 +117,15 @@ opened g k i {t} {r} e = go (same_symbol (next i) k) e
 
 -- ---- lists
 
-module _ {A : Type 0} {C : Lenient} (turn turn' : A → Parser (Option A)) (h : (a : A) (i : Tokens) → Refines C (turn a i) (turn' a i)) (within : (a : A) → Shrinks (turn' a)) where
+module _ {A : Type 0} {C : Lenient} (turn turn' : A → Parser (Option A))
+    (h : (a : A) (i : Tokens) → Refines C (turn a i) (turn' a i))
+    (within : (a : A) → Shrinks (turn' a)) where
   pub many_from_refines : (n : ℕ) (a : A) (i : Tokens) → Refines C (many_from turn n a i) (many_from turn' n a i)
   unfolding many_from
   many_from_refines zero a i = same refl
-  many_from_refines (suc n) a i = bind_refines (h a i) (λ o r _. go (many_from_refines n) o r) (λ o r. after_turn_shrinks (many_from_shrinks within n) a o r)
+  many_from_refines (suc n) a i =
+      bind_refines (h a i) (λ o r _. go (many_from_refines n) o r)
+      (λ o r. after_turn_shrinks (many_from_shrinks within n) a o r)
     where
       go : ((b : A) (r : Tokens) → Refines C (many_from turn n b r) (many_from turn' n b r)) → (o : Option A) (r : Tokens)
           → Refines C (after_turn a (many_from turn n) o r) (after_turn a (many_from turn' n) o r)
@@ -132,11 +136,14 @@ module _ {A : Type 0} {C : Lenient} (turn turn' : A → Parser (Option A)) (h : 
   many_refines a i = many_from_refines (length i) a i
 
 module _ {A : Type 0} {C : Lenient} {c : Bool} (item item' : Parser A)
-    (h : (i : Tokens) → Refines C (item i) (item' i)) (within : (i : Tokens) → Leaves c (item' i) i) where
+    (h : (i : Tokens) → Refines C (item i) (item' i))
+    (within : (i : Tokens) → Leaves c (item' i) i) where
   pub until_refines : (ends : Symbol → Bool) (i : Tokens) → Refines C (until ends item i) (until ends item' i)
   unfolding until
   until_refines ends i =
-      many_refines (λ found. look (λ t. until_by item found (ends (symbol t)))) (λ found. look (λ t. until_by item' found (ends (symbol t)))) (λ found j. go found j (ends (next j))) (until_turn_shrinks within ends) [] i
+      many_refines (λ found. look (λ t. until_by item found (ends (symbol t))))
+      (λ found. look (λ t. until_by item' found (ends (symbol t))))
+      (λ found j. go found j (ends (next j))) (until_turn_shrinks within ends) [] i
     where
       go : (found : List A) (j : Tokens) (x : Bool) → Refines C (until_by item found x j) (until_by item' found x j)
       go found j true = same refl
@@ -145,7 +152,9 @@ module _ {A : Type 0} {C : Lenient} {c : Bool} (item item' : Parser A)
   pub separated_refines : (i : Tokens) → Refines C (separated item i) (separated item' i)
   unfolding separated
   separated_refines i = bind_refines (h i) (λ x r _. many_refines (λ found. look (λ t. after_comma item found (same_symbol (symbol t) Comma)))
-      (λ found. look (λ t. after_comma item' found (same_symbol (symbol t) Comma))) (λ found j. go found j (same_symbol (next j) Comma)) (comma_turn_shrinks within) (x ∷ []) r)
+      (λ found. look (λ t. after_comma item' found (same_symbol (symbol t) Comma)))
+      (λ found j. go found j (same_symbol (next j) Comma)) (comma_turn_shrinks within) (x ∷ [])
+      r)
       (λ x r. many_shrinks (comma_turn_shrinks within) (x ∷ []) r)
     where
       go : (found : List A) (j : Tokens) (x : Bool) → Refines C (after_comma item found x j) (after_comma item' found x j)
@@ -158,4 +167,5 @@ module _ {A : Type 0} {C : Lenient} {c : Bool} (item item' : Parser A)
     where
       go : (x : Bool) → Refines C (listed_by close item x i) (listed_by close item' x i)
       go true = same refl
-      go false = tail_refines (separated_refines i) (λ xs r. value_leaves _ (expect_shrinks close r))
+      go false =
+          tail_refines (separated_refines i) (λ xs r. value_leaves _ (expect_shrinks close r))

@@ -40,4 +40,6 @@ module _ (C : Lenient) (rules rules' : ℕ → Rules) (k : ℕ)
   pub program_refines : (d : ℕ) (i : Tokens) → Refines C (program rules d i) (program rules' (d + k) i)
   unfolding program
   program_refines d i = until_refines (single (rules d) (below rules d) program_context 0 true) (single (rules' (d + k)) (below rules' (d + k)) program_context 0 true)
-      (single_refines (below_refines d) program_context 0 true) (single_takes (rules' (d + k)) (below_takes rules' (d + k)) program_context 0 true) is_end i
+      (single_refines (below_refines d) program_context 0 true)
+      (single_takes (rules' (d + k)) (below_takes rules' (d + k)) program_context 0 true) is_end
+      i

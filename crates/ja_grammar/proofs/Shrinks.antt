@@ -1,7 +1,5 @@
 -- How many tokens are left: what each step of a rule leaves, and each list.
-use Rattle.std.proofs.Common.{◌≡◌, ◌≢◌, ℕ, zero, suc, ◌≤◌, Bool, true, false, ◌||◌, List, [],
-    ◌∷◌, ◌++◌, length, Option, Some, None, if◌then◌else◌, refl, sym, ap, ◌∙◌, subst, le_refl,
-    le_trans, suc-le-suc, le-add_left, lt-suc_self, le_of_lt, arith}
+use Rattle.std.proofs.Common.{◌≡◌, ◌≢◌, ℕ, zero, suc, ◌≤◌, Bool, true, false, ◌||◌, List, [], ◌∷◌, ◌++◌, length, Option, Some, None, if◌then◌else◌, refl, sym, ap, ◌∙◌, subst, le_refl, le_trans, suc-le-suc, le-add_left, lt-suc_self, le_of_lt, arith}
 use Rattle.std.proofs.lemmas.List.{length-append}
 use Rattle.ja_syntax.specs.declared.symbol.Symbol.{Symbol}
 use Rattle.ja_syntax.specs.declared.symbol.Symbol.TheVariants.{End, Comma}
@@ -242,4 +240,5 @@ bind_moves {A} {B} {p} {f} i first second = record { moves = go (p i) refl first
 
 -- a token that is not the end is taken
 pub take_moves : (i : Tokens) → next i ≢ End → Moves take_token i
-take_moves i more = record { moves = (token_takes {a = head i} more).leaves (head i) (behind i) refl }
+take_moves i more =
+    record { moves = (token_takes {a = head i} more).leaves (head i) (behind i) refl }

@@ -104,7 +104,9 @@ module _ {U : Tokens} {O : Refusal} {J : Reason O} {d : ℕ} {g' : Rules} {b b' 
   pub declarations_good : (value next_value : Parser Expression) → Takes value → Takes next_value → ((i : Tokens) → GoodAt U J value next_value EndsExpression Any i) → Sample U next_value Any EndsExpression Any
       → (i : Tokens) → GoodAt U J (separated (variable (strict d) value)) (separated (variable g' next_value)) EndsExpression Any i
   declarations_good value next_value takes takes' good sample i =
-      separated_good {F = EndsExpression} {G = EndsExpression} (variable (strict d) value) (variable g' next_value) h.reasons.closed (variable_takes (strict d) takes) (variable_takes g' takes')
+      separated_good {F = EndsExpression} {G = EndsExpression} (variable (strict d) value)
+      (variable g' next_value) h.reasons.closed (variable_takes (strict d) takes)
+      (variable_takes g' takes')
       (variable_good h value next_value good sample) (variable_sample g' next_value) (λ tail ends. ends) (λ tail ends. no_comma_closes (next tail) ends) i
 
   pub declarations_sample : (value : Parser Expression) → Sample U (separated (variable g' value)) Any EndsExpression Any
@@ -114,7 +116,9 @@ module _ {U : Tokens} {O : Refusal} {J : Reason O} {d : ℕ} {g' : Rules} {b b' 
   unfolding variables
   variables_good i is = token_good (rest (strict d) b) (rest g' b') i h.reasons.closed (λ ends. cc (is, ends))
       (bind_good (behind i) h.reasons.closed
-      (declarations_good (assignment (strict d) b false) (assignment g' b' false) (assignment_takes (strict d) h.takes false) (assignment_takes g' h.takes_more false) (assignment_good h false) (assignment_sample g' b' false) (behind i))
+      (declarations_good (assignment (strict d) b false) (assignment g' b' false)
+      (assignment_takes (strict d) h.takes false) (assignment_takes g' h.takes_more false)
+      (assignment_good h false) (assignment_sample g' b' false) (behind i))
       (λ xs m _. ended_then_good h (s.Variables xs (head i).place) m)
       (λ xs _. ended_then_sample (s.Variables xs (head i).place) semicolon_goes))
       (bind_sample (declarations_sample (assignment g' b' false)) (λ xs _. ended_then_sample (s.Variables xs (head i).place) semicolon_goes))

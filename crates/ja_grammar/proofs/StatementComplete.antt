@@ -101,7 +101,10 @@ module _ (low g : Rules) (milder : Milder low g) (n : Nested) (b : Below) (T : B
   block_all c i xs r (Block.block {t = t} {u = u} {i = m} {r = q} {xs = ys} is some body close) =
       rw (
         opening_done g k.OpenBrace t m (room (t ∷ m) some) is,
-        until_all is_close_brace (inner g b c) (n.statement c (part.Whole 0 false)) (At k.CloseBrace) (T.statement c (part.Whole 0 false)) refl (λ r at. ap is_close_brace at) (λ i x r h. no_close_brace (next i) (inner_starts c i x r h)) (inner_all c) m ys (u ∷ q) body,
+        until_all is_close_brace (inner g b c) (n.statement c (part.Whole 0 false))
+            (At k.CloseBrace) (T.statement c (part.Whole 0 false)) refl
+            (λ r at. ap is_close_brace at) (λ i x r h.
+            no_close_brace (next i) (inner_starts c i x r h)) (inner_all c) m ys (u ∷ q) body,
         expect_done k.CloseBrace u q close,
       ) refl
 
@@ -118,7 +121,9 @@ module _ (low g : Rules) (milder : Milder low g) (n : Nested) (b : Below) (T : B
   pub clause_all : (c : Context) (t : Token) (i : Tokens) (xs : List Statement) (r : Tokens) → Is k.Colon t → Clause n c i xs r → clause g b c (t ∷ i) ≡ Done xs r
   unfolding clause ends_clause
   clause_all c t i xs r is h = rw (expect_done k.Colon t i is)
-      (until_all ends_clause (inner g b c) (n.statement c (part.Whole 0 false)) (λ r. ends_clause (next r) ≡ true) (T.statement c (part.Whole 0 false)) refl (λ r at. at) (λ i x r h. no_clause_end (next i) (inner_starts c i x r h)) (inner_all c) i xs r h)
+      (until_all ends_clause (inner g b c) (n.statement c (part.Whole 0 false))
+      (λ r. ends_clause (next r) ≡ true) (T.statement c (part.Whole 0 false)) refl (λ r at. at)
+      (λ i x r h. no_clause_end (next i) (inner_starts c i x r h)) (inner_all c) i xs r h)
 
   pub case_all : (c : Context) (t u : Token) (i m : Tokens) (x : Expression) (xs : List Statement) (r : Tokens) → n.expression (of_expression.Whole false) i x (u ∷ m)
       → Is k.Colon u → Clause n c m xs r → case g b c (t ∷ i) ≡ Done (roll-Case (record { test = Some x; body = xs; place = t.place })) r
@@ -162,7 +167,11 @@ module _ (low g : Rules) (milder : Milder low g) (n : Nested) (b : Below) (T : B
   clauses_all c (suc m) cs a i xs r e room (Cases.default {t = t} {u = u} {m = o} {l = l} {r = q} {xs = ys} {cs = ds} at is y' more) =
       let y : Case = roll-Case (record { test = None; body = ys; place = t.place }) in
       let reads : default g b c (t ∷ u ∷ o) ≡ Done y l = default_all c t u o ys l is y' in
-      let fewer : length l ≤ m = omega (arith, room, (default_takes g T c (t ∷ u ∷ o)).leaves y l reads) in
+      let fewer : length l ≤ m = omega (
+        arith,
+        room,
+        (default_takes g T c (t ∷ u ∷ o)).leaves y l reads,
+      ) in
       goes_on c m cs (with_default g b cs y) (t ∷ u ∷ o) l y ds q (ap (λ κ. clause_by g b c cs κ (t ∷ u ∷ o)) at ∙ ap (λ a. default_by g b c cs a (t ∷ u ∷ o)) e ∙ rw reads refl) refl
       (clauses_all c m (with_default g b cs y) true l ds q refl fewer more)
 
@@ -197,7 +206,8 @@ module _ (low g : Rules) (milder : Milder low g) (n : Nested) (b : Below) (T : B
   unfolding variables
   variables_all t i xs m r h e =
       rw (
-        separated_all (variable g (assignment g b false)) (Variable low (Assignment low n false)) (variable_takes g (assignment_takes g T false))
+        separated_all (variable g (assignment g b false)) (Variable low (Assignment low n false))
+            (variable_takes g (assignment_takes g T false))
             (variable_all low g (assignment g b false) (Assignment low n false) (declared_all low g milder) (assignment_all low g milder n b T S A false)) i xs m h,
         ended_all m r e,
       ) refl

@@ -21,29 +21,15 @@ use Rattle.ja_grammar.specs.declared.fault.Refusal.TheVariants.{DeepLabel, Broke
 use Rattle.ja_grammar.specs.declared.part.ExpressionPart.TheVariants as of_expression
 use Rattle.ja_grammar.specs.declared.part.StatementPart.{StatementPart}
 use Rattle.ja_grammar.specs.declared.part.StatementPart.TheVariants as part
-use Rattle.ja_grammar.specs.Contexts.{Context, loop_context, switch_context, labelled_context,
-    has_label, has_loop, may_break}
+use Rattle.ja_grammar.specs.Contexts.{Context, loop_context, switch_context, labelled_context, has_label, has_loop, may_break}
 use Rattle.ja_grammar.specs.Forms.{word, is_label, is_label_behind, ends_return, ends_clause}
-use Rattle.ja_grammar.specs.Input.{Tokens, head, next, behind, symbol, Parser, ◌>>◌, pure, look,
-    expect, Rules}
+use Rattle.ja_grammar.specs.Input.{Tokens, head, next, behind, symbol, Parser, ◌>>◌, pure, look, expect, Rules}
 use Rattle.ja_grammar.specs.ReadExpression.{Below, is_close_brace}
-use Rattle.ja_grammar.specs.ReadStatement.{ended_by, ended, variable_by, variable, labelled_by,
-    unlabelled_by, target_by, jump_target, without_target, enter_label, Clauses, block, bracketed,
-    variables, expression_statement, untargeted, continue, continue_by, break, break_by, returned,
-    returned_by, return, return_by, thrown, thrown_by, throw, label, label_by, labelled, clause,
-    case, default, default_by, clause_by, cases, switch, catch, finally, finally_by, handlers_by,
-    try, labelled_or_expression, function_statement, headed, single_by, single, else_by, if_part,
-    do_part, while_part, optional, optional_by, for_rest, in_rest, for_variables,
-    for_variables_by, in_reference_by, for_expression, for_expression_by, for_by, for_part,
-    statement_part, below}
+use Rattle.ja_grammar.specs.ReadStatement.{ended_by, ended, variable_by, variable, labelled_by, unlabelled_by, target_by, jump_target, without_target, enter_label, Clauses, block, bracketed, variables, expression_statement, untargeted, continue, continue_by, break, break_by, returned, returned_by, return, return_by, thrown, thrown_by, throw, label, label_by, labelled, clause, case, default, default_by, clause_by, cases, switch, catch, finally, finally_by, handlers_by, try, labelled_or_expression, function_statement, headed, single_by, single, else_by, if_part, do_part, while_part, optional, optional_by, for_rest, in_rest, for_variables, for_variables_by, in_reference_by, for_expression, for_expression_by, for_by, for_part, statement_part, below}
 use Rattle.ja_grammar.proofs.Agree.{BelowTakes}
-use Rattle.ja_grammar.proofs.ExpressionTakes.{declared_takes, function_takes, assignment_takes,
-    whole_takes, expression_part_takes}
+use Rattle.ja_grammar.proofs.ExpressionTakes.{declared_takes, function_takes, assignment_takes, whole_takes, expression_part_takes}
 use Rattle.ja_grammar.proofs.Outcomes.{same_symbol_true}
-use Rattle.ja_grammar.proofs.Shrinks.{Leaves, Takes, Shrinks, takes_shrinks, pure_shrinks,
-    refuse_leaves, behind_leaves, behind_takes, token_shrinks, token_takes, unless_leaves,
-    enter_shrinks, expect_shrinks, expect_takes, opening_takes, bind_leaves, value_leaves,
-    many_shrinks, until_shrinks, separated_takes}
+use Rattle.ja_grammar.proofs.Shrinks.{Leaves, Takes, Shrinks, takes_shrinks, pure_shrinks, refuse_leaves, behind_leaves, behind_takes, token_shrinks, token_takes, unless_leaves, enter_shrinks, expect_shrinks, expect_takes, opening_takes, bind_leaves, value_leaves, many_shrinks, until_shrinks, separated_takes}
 
 pub ended_shrinks : Shrinks ended
 unfolding ended

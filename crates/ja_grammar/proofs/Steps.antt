@@ -186,7 +186,8 @@ second_refused {U} {O} {A} J F W why p q i jump level nowhere reads reads' goes 
 }
 
 -- what stops leaves no more tokens than there were
-pub good_within : {U : Tokens} {O : Refusal} {A : Type 0} {J : Reason O} {p q : Parser A} {F : Follow} {W : A → Type 0} (i : Tokens) → GoodAt U J p q F W i → Leaves false (p i) i
+pub good_within : {U : Tokens} {O : Refusal} {A : Type 0} {J : Reason O} {p q : Parser A}
+    {F : Follow} {W : A → Type 0} (i : Tokens) → GoodAt U J p q F W i → Leaves false (p i) i
 good_within {A = A} {p = p} i h = shrinks_by (go (p i) refl)
   where
     go : (o : Outcome A) → p i ≡ o → length (rest_of o) ≤ length i

@@ -18,8 +18,10 @@ use Rattle.ja_grammar.proofs.Real.{AreNamesReal}
 pub answered_tree : (i : Tokens) (xs : List Statement) → Answers (program strict max_levels i) (Ok xs) → Spells max_levels i xs
 answered_tree i xs h = go (program strict max_levels i) refl h
   where
-    go : (o : Outcome (List Statement)) → program strict max_levels i ≡ o → Answers o (Ok xs) → Spells max_levels i xs
-    go (Done ys r) e h = (r, program_is strict strict_rules max_levels i xs r (e ∙ ap (λ z. Done z r) (sym h)))
+    go : (o : Outcome (List Statement)) → program strict max_levels i ≡ o → Answers o (Ok xs)
+        → Spells max_levels i xs
+    go (Done ys r) e h =
+        (r, program_is strict strict_rules max_levels i xs r (e ∙ ap (λ z. Done z r) (sym h)))
     go (Refused why r) e h = absurd h
 
 pub answered_only : (i : Tokens) (xs : List Statement) → Answers (program strict max_levels i) (Ok xs) → (d : ℕ) (ys : List Statement) → Spells d i ys → ys ≡ xs

@@ -89,11 +89,13 @@ module _ {A : Type 0} (ends : Symbol → Bool) (item : Parser A) (One : Rule A)
   pub until_all : ((r : Tokens) → Stop r → ends (next r) ≡ true)
       → ((i : Tokens) (x : A) (r : Tokens) → One i x r → ends (next i) ≡ false)
       → ((i : Tokens) (x : A) (r : Tokens) → One i x r → item i ≡ Done x r)
-      → (i : Tokens) (xs : List A) (r : Tokens) → Many One Stop i xs r → until ends item i ≡ Done xs r
+      → (i : Tokens) (xs : List A) (r : Tokens) → Many One Stop i xs r
+      → until ends item i ≡ Done xs r
   unfolding until
   until_all stops starts reads i xs r h =
       many_all {Stop = Stop} (until_turn ends item) (λ found x. found ++ x ∷ [])
-      (until_turns ends item last takes) goes (λ found r s. ap (λ b. until_by item found b r) (stops r s))
+      (until_turns ends item last takes) goes
+      (λ found r s. ap (λ b. until_by item found b r) (stops r s))
       [] i xs r h ∙ ap (λ ys. Done ys r) (folded_push [] xs)
     where
       goes : (found : List A) (i : Tokens) (x : A) (m : Tokens) → One i x m
@@ -108,8 +110,9 @@ module _ {A : Type 0} (ends : Symbol → Bool) (item : Parser A) (One : Rule A)
   unfolding until
   until_is reads i xs r stop e =
       let s = many_is {One = One} {Stop = Ended} (until_turn ends item) (λ found x. found ++ x ∷ [])
-          (until_turns ends item last takes) (λ found i ys m h. goes found i ys m (ends (next i)) refl h)
-          (λ found i m h. stops found i m (ends (next i)) refl h) [] i xs r e in
+      (until_turns ends item last takes) (λ found i ys m h.
+      goes found i ys m (ends (next i)) refl h)
+      (λ found i m h. stops found i m (ends (next i)) refl h) [] i xs r e in
       subst (λ ys. Many One Stop i ys r) (sym (s.2 ∙ folded_push [] s.0))
       (many_stop i s.0 r (stop (many_last i s.0 r s.1)) s.1)
     where
@@ -121,9 +124,11 @@ module _ {A : Type 0} (ends : Symbol → Bool) (item : Parser A) (One : Rule A)
           → (x : A) × One i x m × (ys ≡ found ++ x ∷ [])
       goes found i ys m true at h = absurd (none_not_some (done_value h))
       goes found i ys m false at h =
-          let s = bind_inverse item (λ x. pure (Some (found ++ x ∷ []))) i h in
-          (s.0, subst (One i s.0) (done_rest s.3) (reads i s.0 s.1 at s.2),
-          sym (some_value (done_value s.3)))
+          let s = bind_inverse item (λ x. pure (Some (found ++ x ∷ []))) i h in (
+            s.0,
+            subst (One i s.0) (done_rest s.3) (reads i s.0 s.1 at s.2),
+            sym (some_value (done_value s.3)),
+          )
 
       stops : (found : List A) (i m : Tokens) (b : Bool) → ends (next i) ≡ b
           → until_by item found b i ≡ Done None m → (i ≡ m) × Ended m
