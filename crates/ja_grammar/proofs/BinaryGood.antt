@@ -13,9 +13,9 @@ use Rattle.ja_grammar.specs.declared.fault.Refusal.{Refusal}
 use Rattle.ja_grammar.specs.declared.part.ExpressionPart.TheVariants as part
 use Rattle.ja_grammar.specs.Forms.{operated, sequence}
 use Rattle.ja_grammar.specs.Input.{Tokens, head, next, symbol, Done, Parser, ◌>>=◌, pure, look, expect, until, separated, Rules, strict}
-use Rattle.ja_grammar.specs.Operators.{binary_of, binary_operator, levels, assignment_operator}
+use Rattle.ja_grammar.specs.Operators.{binary_operator, levels, assignment_operator}
 use Rattle.ja_grammar.specs.ReadExpression.{Below, operation, operation_by, level, binary, conditional, conditional_by, assigned, assignment, assignment_by, whole}
-use Rattle.ja_grammar.proofs.Closing.{no_comma_closes, no_binary_closes, no_assignment_closes, no_question_closes, colon_closes, binary_more, assignment_more, assignment_no_colon}
+use Rattle.ja_grammar.proofs.Closing.{end_no_operator, no_comma_closes, no_binary_closes, no_assignment_closes, no_question_closes, colon_closes, binary_more, assignment_more, assignment_no_colon}
 use Rattle.ja_grammar.proofs.ExpressionSamples.{named, binary_name, assignment_name, whole_name}
 use Rattle.ja_grammar.proofs.ExpressionTakes.{operation_takes, binary_takes, assignment_takes}
 use Rattle.ja_grammar.proofs.Good.{Reason, Sample, GoodAt, Any, pure_good, bind_good, look_good}
@@ -24,17 +24,13 @@ use Rattle.ja_grammar.proofs.Lists.{separated_good}
 use Rattle.ja_grammar.proofs.OperatorGood.{unary_good}
 use Rattle.ja_grammar.proofs.Roomier.{Roomier, expected_sample, then_pure, enters, lower, expects, takes_one, unexpected, below_sample}
 use Rattle.ja_grammar.proofs.SampleTokens.{name, name_real, colon, colon_is, colon_real}
-use Rattle.ja_grammar.proofs.Shrinks.{Takes, takes_shrinks}
+use Rattle.ja_grammar.proofs.Shrinks.{Takes}
 use Rattle.ja_grammar.proofs.Steps.{pure_sample, bind_sample, end_sample}
 use Rattle.ja_grammar.proofs.Until.{until_good, until_sample}
 
 -- what ends the operations of a level
 abbrev no_operator : Bool → ℕ → Symbol → Bool
 no_operator no_in l found = is_none (binary_operator no_in l found)
-
-end_no_operator : (no_in : Bool) (l : ℕ) → no_operator no_in l k.End ≡ true
-unfolding binary_operator binary_of
-end_no_operator no_in l = refl
 
 ends_operations : (no_in : Bool) (l : ℕ) (tail : Tokens) → EndsExpression tail → no_operator no_in l (next tail) ≡ true
 ends_operations no_in l tail ends = ap is_none (no_binary_closes no_in l (next tail) ends)
@@ -76,7 +72,9 @@ module _ {U : Tokens} {O : Refusal} {J : Reason O} {d : ℕ} {g' : Rules} {b b' 
         (bind_good i h.reasons.closed (good i)
         (λ x r _. bind_good r h.reasons.closed
         (until_good (no_operator no_in l) (operation (strict d) b no_in l one) (operation g' b' no_in l next_one) h.reasons.closed (end_no_operator no_in l)
-        (operation_takes (strict d) b h.takes no_in l one takes) (operation_takes g' b' h.takes_more no_in l next_one takes') (λ i _. operation_good i) (ends_operations no_in l) r)
+        (operation_takes (strict d) h.takes no_in l takes)
+        (operation_takes g' h.takes_more no_in l takes') (λ i _. operation_good i)
+        (ends_operations no_in l) r)
         (λ os m _. pure_good J EndsExpression Any (operated (head i).place x os) m) (λ os _. pure_sample (operated (head i).place x os) tt))
         (λ x _. then_pure {W = Any} (operated (head i).place x) (until_sample (no_operator no_in l) (operation g' b' no_in l next_one) (ends_operations no_in l))))
       where
@@ -86,7 +84,9 @@ module _ {U : Tokens} {O : Refusal} {J : Reason O} {d : ℕ} {g' : Rules} {b b' 
   pub binary_good : (no_in : Bool) (l : ℕ) (i : Tokens) → GoodAt U J (binary (strict d) b no_in l) (binary g' b' no_in l) EndsExpression Any i
   unfolding binary
   binary_good no_in zero i = unary_good h i
-  binary_good no_in (suc l) i = level_good no_in (suc l) (binary (strict d) b no_in l) (binary g' b' no_in l) (binary_takes (strict d) b h.takes no_in l) (binary_takes g' b' h.takes_more no_in l)
+  binary_good no_in (suc l) i =
+      level_good no_in (suc l) (binary (strict d) b no_in l) (binary g' b' no_in l)
+      (binary_takes (strict d) h.takes no_in l) (binary_takes g' h.takes_more no_in l)
       (binary_good no_in l) (binary_sample g' b' no_in l) i
 
   -- ---- conditionals
@@ -150,6 +150,6 @@ module _ {U : Tokens} {O : Refusal} {J : Reason O} {d : ℕ} {g' : Rules} {b b' 
   whole_good no_in i = look_good (λ t. separated (assignment (strict d) b no_in) >>= (λ xs. pure (sequence t.place xs))) (λ t. separated (assignment g' b' no_in) >>= (λ xs. pure (sequence t.place xs))) i
       (bind_good i h.reasons.closed
       (separated_good {F = EndsExpression} {G = EndsExpression} (assignment (strict d) b no_in) (assignment g' b' no_in) h.reasons.closed
-      (λ i. takes_shrinks (assignment_takes (strict d) b h.takes no_in i)) (λ i. takes_shrinks (assignment_takes g' b' h.takes_more no_in i))
+      (assignment_takes (strict d) h.takes no_in) (assignment_takes g' h.takes_more no_in)
       (assignment_good no_in) (assignment_sample g' b' no_in) (λ tail ends. ends) (λ tail ends. no_comma_closes (next tail) ends) i)
       (λ xs r _. pure_good J EndsExpression Any (sequence (head i).place xs) r) (λ xs _. pure_sample (sequence (head i).place xs) tt))

@@ -26,7 +26,7 @@ use Rattle.ja_grammar.proofs.Opening.{opening_inverse}
 use Rattle.ja_grammar.proofs.Outcomes.{end_is, done_value, expect_refused, refused_not_done}
 use Rattle.ja_grammar.proofs.Roomier.{Roomier, token_sample, expected_sample, any_first, then_pure, expects, unexpected, closes_pure, opens, below_sample}
 use Rattle.ja_grammar.proofs.SampleTokens.{open_brace, open_brace_is, open_brace_real, close_parenthesis, close_parenthesis_is, close_parenthesis_real, close_brace, close_brace_is, close_brace_real, colon, colon_is, colon_real}
-use Rattle.ja_grammar.proofs.Shrinks.{bind_takes, pure_shrinks}
+use Rattle.ja_grammar.proofs.Shrinks.{value_leaves}
 use Rattle.ja_grammar.proofs.StatementSamples.{brace_ends, block_sample, bracketed_sample, opened_sample}
 use Rattle.ja_grammar.proofs.StatementTakes.{case_takes, default_takes}
 use Rattle.ja_grammar.proofs.Steps.{pure_sample, bind_sample, end_sample}
@@ -85,12 +85,12 @@ module _ (g : Rules) (b : Below) (c : Context) (takes : BelowTakes b) where
     where
       defaults : (cs : Clauses) (i : Tokens) (ds : Clauses) (r : Tokens) (a : Bool) → default_by g b c cs a i ≡ Done (Some ds) r → suc (length r) ≤ length i
       defaults cs i ds r true e = absurd (refused_not_done e)
-      defaults cs i ds r false e = (bind_takes i (default_takes g b takes c i) (λ x m _. pure_shrinks (Some (with_default g b cs x)) m)).takes (Some ds) r e
+      defaults cs i ds r false e = (value_leaves _ (default_takes g takes c i)).leaves (Some ds) r e
 
       go : (cs : Clauses) (i : Tokens) (ds : Clauses) (r : Tokens) (κ : Symbol) → next i ≡ κ → last_by g b c cs κ i ≡ Done (Some ds) r → suc (length r) ≤ length i
       go cs i ds r k.End is e = absurd (none_not_some (done_value e))
       go cs i ds r k.CloseBrace is e = absurd (none_not_some (done_value e))
-      go cs i ds r k.Case is e = (bind_takes i (case_takes g b takes c i) (λ x m _. pure_shrinks (Some (with_case g b cs x)) m)).takes (Some ds) r e
+      go cs i ds r k.Case is e = (value_leaves _ (case_takes g takes c i)).leaves (Some ds) r e
       go cs i ds r k.Default is e = defaults cs i ds r cs.defaulted e
       go cs i ds r _ is e = absurd (refused_not_done e)
 

@@ -19,7 +19,7 @@ use Rattle.ja_grammar.specs.Forms.{name_of, begins_property, begins_suffix, chai
 use Rattle.ja_grammar.specs.Input.{Tokens, head, next, symbol, Done, and_then, ◌>>◌, pure, look, expect, listed, listed_by, until, many, Rules, strict}
 use Rattle.ja_grammar.specs.Productions.{HasRoom}
 use Rattle.ja_grammar.specs.ReadExpression.{Below, chain_head, head_by, dotted, indexed, property_suffix, property_suffix_by, arguments, any_suffix, any_suffix_by, member, created, created_by, left_hand}
-use Rattle.ja_grammar.proofs.Closing.{bracket_closes, parenthesis_closes, no_suffix_closes}
+use Rattle.ja_grammar.proofs.Closing.{end_no_property, end_no_suffix, bracket_closes, parenthesis_closes, no_suffix_closes}
 use Rattle.ja_grammar.proofs.ExpressionTakes.{property_suffix_takes, any_suffix_takes}
 use Rattle.ja_grammar.proofs.Good.{Follow, Reason, Sample, GoodAt, Any, pure_good, bind_good, look_good, weaken_good}
 use Rattle.ja_grammar.proofs.Levels.{EndsExpression}
@@ -28,7 +28,6 @@ use Rattle.ja_grammar.proofs.LiteralGood.{primary_good}
 use Rattle.ja_grammar.proofs.Outcomes.{expect_done, enter_done, same_symbol_is}
 use Rattle.ja_grammar.proofs.Roomier.{Roomier, token_sample, expected_sample, then_pure, enters, lower, expects, takes_one, unexpected, closes_pure, below_sample}
 use Rattle.ja_grammar.proofs.SampleTokens.{name, name_is, name_real, dot, dot_is, dot_real, open_parenthesis, open_parenthesis_is, open_parenthesis_real, close_parenthesis, close_parenthesis_is, close_parenthesis_real, close_bracket, close_bracket_is, close_bracket_real}
-use Rattle.ja_grammar.proofs.Shrinks.{takes_shrinks}
 use Rattle.ja_grammar.proofs.Steps.{pure_sample, bind_sample, end_sample}
 use Rattle.ja_grammar.proofs.Until.{until_turn, until_ends, until_goes, until_good_with}
 
@@ -49,14 +48,6 @@ no_property found = not (begins_property found)
 
 abbrev no_suffix : Symbol → Bool
 no_suffix found = not (begins_suffix found)
-
-end_no_property : no_property k.End ≡ true
-unfolding begins_property
-end_no_property = refl
-
-end_no_suffix : no_suffix k.End ≡ true
-unfolding begins_suffix
-end_no_suffix = refl
 
 dot_suffix : (κ : Symbol) → κ ≡ k.Dot → no_suffix κ ≡ false
 unfolding begins_suffix
@@ -137,7 +128,7 @@ module _ {U : Tokens} {O : Refusal} {J : Reason O} {d : ℕ} {g' : Rules} {b b' 
   unfolding arguments
   arguments_good i more other = bind_good i h.reasons.closed (enters h i more other)
       (λ t r q. listed_good {F = EndsExpression} k.CloseParenthesis (b.expression (part.Assignment false)) (b'.expression (part.Assignment false)) (λ e. cc e) (λ e. cc e) h.reasons.closed
-      (λ i. takes_shrinks (h.takes.expression (part.Assignment false) i)) (λ i. takes_shrinks (h.takes_more.expression (part.Assignment false) i))
+      (h.takes.expression (part.Assignment false)) (h.takes_more.expression (part.Assignment false))
       ((lower h i q).expression U (part.Assignment false)) (below_sample h (part.Assignment false)) (λ tail at. parenthesis_closes (next tail) at) close_parenthesis close_parenthesis_is close_parenthesis_real (λ r _. h.reasons.free Unexpected [] r refl) r)
       (λ t _. listed_sample k.CloseParenthesis (b'.expression (part.Assignment false)) close_parenthesis close_parenthesis_is close_parenthesis_real tt (λ tail _. tt))
 
@@ -153,7 +144,10 @@ module _ {U : Tokens} {O : Refusal} {J : Reason O} {d : ℕ} {g' : Rules} {b b' 
   -- ---- chains
 
   members_good : (i : Tokens) → GoodAt U J (until no_property (property_suffix (strict d) b)) (until no_property (property_suffix g' b')) EndsMember Any i
-  members_good i = until_good_with no_property (property_suffix (strict d) b) (property_suffix g' b') h.reasons.closed end_no_property (property_suffix_takes (strict d) b h.takes) (property_suffix_takes g' b' h.takes_more)
+  members_good i =
+      until_good_with no_property (property_suffix (strict d) b) (property_suffix g' b')
+      h.reasons.closed end_no_property (property_suffix_takes (strict d) h.takes)
+      (property_suffix_takes g' h.takes_more)
       (λ i _. property_suffix_good i) (λ found. end_sample {F = Any} found tt (λ tail ends. tt) (λ tail ends. until_ends no_property (property_suffix g' b') found tail (ap not ends))) i
 
   pub member_good : (i : Tokens) → GoodAt U J (member (strict d) b) (member g' b') EndsMember Any i
@@ -194,13 +188,18 @@ module _ {U : Tokens} {O : Refusal} {J : Reason O} {d : ℕ} {g' : Rules} {b b' 
     real = (dot_real, (name_real, tt));
     fits = ends_in_last found (name_of name) dot.place;
     follows = λ tail ends. tt;
-    reads = λ tail ends. until_goes no_suffix (any_suffix g' b') end_no_suffix (any_suffix_takes g' b' h.takes_more) found (dot ∷ name ∷ tail) tail (suffix.Member (name_of name) dot.place)
+    reads =
+        λ tail ends. until_goes no_suffix (any_suffix g' b') end_no_suffix
+        (any_suffix_takes g' h.takes_more) found (dot ∷ name ∷ tail) tail
+        (suffix.Member (name_of name) dot.place)
         (dot_suffix (symbol dot) dot_is) (member_reads g' b' tail)
         ∙ until_ends no_suffix (any_suffix g' b') (found ++ suffix.Member (name_of name) dot.place ∷ []) tail (ap not (no_suffix_closes (next tail) ends));
   }
 
   suffixes_good : (i : Tokens) → GoodAt U J (until no_suffix (any_suffix (strict d) b)) (until no_suffix (any_suffix g' b')) EndsExpression EndsInProperty i
-  suffixes_good i = until_good_with no_suffix (any_suffix (strict d) b) (any_suffix g' b') h.reasons.closed end_no_suffix (any_suffix_takes (strict d) b h.takes) (any_suffix_takes g' b' h.takes_more)
+  suffixes_good i =
+      until_good_with no_suffix (any_suffix (strict d) b) (any_suffix g' b') h.reasons.closed
+      end_no_suffix (any_suffix_takes (strict d) h.takes) (any_suffix_takes g' h.takes_more)
       (λ i _. any_suffix_good i) suffixes_sample i
 
   -- what was taken can be completed into a reference

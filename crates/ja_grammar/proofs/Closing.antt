@@ -1,5 +1,5 @@
 -- What ends an expression is no operator, and begins nothing that goes on.
-use Rattle.std.proofs.Common.{◌≡◌, ◌≢◌, ℕ, Bool, true, false, Option, Some, None, refl, sym, ap, ◌∙◌}
+use Rattle.std.proofs.Common.{◌≡◌, ◌≢◌, ℕ, Bool, true, false, not, is_none, Option, Some, None, refl, sym, ap, ◌∙◌}
 use Rattle.ja_base.proofs.Options.{none_not_some}
 use Rattle.ja_lex.specs.declared.token.Token.{Token}
 use Rattle.ja_syntax.specs.declared.symbol.Symbol.{Symbol}
@@ -9,7 +9,7 @@ use Rattle.ja_syntax.specs.declared.tree.UnaryOperator.{UnaryOperator}
 use Rattle.ja_syntax.specs.declared.tree.UpdateOperator.{UpdateOperator}
 use Rattle.ja_prim.specs.declared.primitive.Primitive.{Primitive}
 use Rattle.ja_syntax.specs.declared.tree.PropertyName.{PropertyName}
-use Rattle.ja_grammar.specs.Forms.{begins_suffix, literal_of, literal_by, postfix_of, postfix_by, property_name, property_name_by}
+use Rattle.ja_grammar.specs.Forms.{begins_property, begins_suffix, is_label, literal_of, literal_by, postfix_of, postfix_by, property_name, property_name_by}
 use Rattle.ja_grammar.specs.Input.{symbol}
 use Rattle.ja_grammar.specs.Operators.{binary_of, binary_operator, unary_operator, prefix_update, postfix_update, assignment_operator}
 use Rattle.ja_grammar.proofs.Levels.{closes}
@@ -122,3 +122,21 @@ literal_more t v h ends = none_not_some (sym (ap (λ κ. literal_by κ t) ends) 
 pub property_more : (t : Token) (x : PropertyName) → property_name t ≡ Some x → symbol t ≢ k.End
 unfolding property_name
 property_more t x h ends = none_not_some (sym (ap (λ κ. property_name_by κ t) ends) ∙ h)
+
+-- the end of a text is no operator, and begins no member and no call
+pub end_no_operator : (no_in : Bool) (level : ℕ)
+    → is_none (binary_operator no_in level k.End) ≡ true
+unfolding binary_operator binary_of
+end_no_operator no_in level = refl
+
+pub end_no_property : not (begins_property k.End) ≡ true
+unfolding begins_property
+end_no_property = refl
+
+pub end_no_suffix : not (begins_suffix k.End) ≡ true
+unfolding begins_suffix
+end_no_suffix = refl
+
+pub label_colon : (κ : Symbol) → is_label k.Name κ ≡ true → κ ≡ k.Colon
+label_colon k.Colon h = refl
+label_colon _ h = cc h

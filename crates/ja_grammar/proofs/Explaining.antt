@@ -1,5 +1,5 @@
 -- What a refusal of the whole program says: where it stands, by which rule, and that no other refusal of the text says so.
-use Rattle.std.proofs.Common.{◌≡◌, ◌≢◌, ◌⊎◌, inl, inr, ℕ, zero, suc, ◌+◌, ◌<◌, ◌≤◌, Bool, true, false, true≢false, not, ◌&&◌, ◌||◌, ◌==◌, List, [], ◌∷◌, ◌++◌, length, Ok, Err, refl, sym, ap, ◌∙◌, subst, append_assoc, append-nil, arith, eqb-true, eq-eqb}
+use Rattle.std.proofs.Common.{◌≡◌, ◌≢◌, ◌⊎◌, inl, inr, ℕ, zero, suc, ◌+◌, ◌<◌, ◌≤◌, Bool, true, false, true≢false, not, ◌&&◌, ◌||◌, ◌==◌, List, [], ◌∷◌, ◌++◌, length, Err, refl, sym, ap, ◌∙◌, subst, append_assoc, append-nil, arith, eqb-true, eq-eqb}
 use Rattle.std.proofs.lemmas.List.{length-append}
 use Rattle.ja_base.specs.declared.ids.Place.{Place}
 use Rattle.ja_lex.specs.declared.token.Token.{Token}
@@ -636,14 +636,6 @@ module _ (law : PlaceLaw) where
   refused_once i names f g a b =
       let x = refused_so i names f a in let y = refused_so i names g b in
       x.3 ∙ same_refused {A = List Statement} (λ v s. fault_at x.0 (head x.1) ≡ fault_at v (head s)) (sym x.2 ∙ y.2) refl ∙ sym y.3
-
--- a tree that is answered is the text's
-pub answered_tree : (i : Tokens) (xs : List Statement) → Answers (program strict max_levels i) (Ok xs) → Spells max_levels i xs
-answered_tree i xs h = go (program strict max_levels i) refl h
-  where
-    go : (o : Outcome (List Statement)) → program strict max_levels i ≡ o → Answers o (Ok xs) → Spells max_levels i xs
-    go (Done ys r) e h = (r, program_is strict strict_rules max_levels i xs r (e ∙ ap (λ z. Done z r) (sym h)))
-    go (Refused why r) e h = absurd h
 
 -- a text has one tree
 pub one_tree : (d e : ℕ) (i : Tokens) (xs ys : List Statement) → Spells d i xs → Spells e i ys → ys ≡ xs

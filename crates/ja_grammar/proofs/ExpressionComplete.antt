@@ -29,12 +29,14 @@ use Rattle.ja_grammar.specs.Operators.{binary_operator, levels, unary_operator, 
 use Rattle.ja_grammar.specs.Productions.{Rule, Is, At, HasRoom, Many, Listed}
 use Rattle.ja_grammar.specs.ReadExpression.{Below, declared, declared_by, declared_name, function_name, function_name_by, is_close_brace, is_close_bracket, element, element_by, element_close, element_close_by, property, property_by, function_body, parameters, function, array, object, parenthesized, literal, literal_by, primary, primary_by, chain_head, head_by, dotted, indexed, property_suffix, property_suffix_by, arguments, any_suffix, any_suffix_by, member, created, created_by, left_hand, postfix, postfix_by, updated_behind, operand_close, operand_by, updated, updated_by, unary, unary_by, operation, operation_by, level, binary, conditional, conditional_by, assigned, assignment, assignment_by, whole, expression_part}
 use Rattle.ja_grammar.proofs.Agree.{Milder, BelowTakes, Covers}
+use Rattle.ja_grammar.proofs.Closing.{end_no_operator, end_no_property, end_no_suffix}
 use Rattle.ja_grammar.proofs.ExpressionTakes.{declared_takes, element_takes, property_takes, property_suffix_takes, any_suffix_takes, operation_takes, binary_takes, assignment_takes}
-use Rattle.ja_grammar.proofs.ListLaws.{until_all, separated_all, listed_all}
+use Rattle.ja_grammar.proofs.Lists.{separated_all, listed_all}
 use Rattle.ja_grammar.proofs.Opening.{opening_done}
 use Rattle.ja_grammar.proofs.Outcomes.{then_done, expect_done, unless_reads, enter_done}
 use Rattle.ja_grammar.proofs.Shrinks.{Takes}
 use Rattle.ja_grammar.proofs.Starts.{BelowStarts, no_close_brace, no_close_bracket, not_the_end}
+use Rattle.ja_grammar.proofs.Until.{until_all}
 
 -- ---- names
 
@@ -113,10 +115,11 @@ module _ (low g : Rules) (milder : Milder low g) (n : Nested) (b : Below) (takes
 
   statements_all : (i : Tokens) (xs : List Statement) (r : Tokens) → Many (n.statement function_context (of_statement.Whole 0 true)) (At k.CloseBrace) i xs r
       → until is_close_brace (b.statement function_context (of_statement.Whole 0 true)) i ≡ Done xs r
-  statements_all = until_all is_close_brace (b.statement function_context p) (n.statement function_context p) (At k.CloseBrace) (takes.statement function_context p)
-      (λ r at. ap is_close_brace at)
-      (λ i x r one. no_close_brace (next i) (starts.statement function_context 0 true i x r (a.statement_all function_context p i x r one)))
-      (a.statement_all function_context p)
+  statements_all =
+      until_all is_close_brace (b.statement function_context p) (n.statement function_context p)
+      (At k.CloseBrace) (takes.statement function_context p) refl (λ r at. ap is_close_brace at)
+      (λ i x r one. no_close_brace (next i) (starts.statement function_context 0 true i x r
+      (a.statement_all function_context p i x r one))) (a.statement_all function_context p)
     where
       p : StatementPart
       p = of_statement.Whole 0 true
@@ -142,13 +145,20 @@ module _ (low g : Rules) (milder : Milder low g) (n : Nested) (b : Below) (takes
   array_all t u i r xs some many is =
       rw (
         enter_done g t i (room (t ∷ i) some),
-        until_all is_close_bracket (element g b) (Element n) (At k.CloseBracket) (element_takes g b takes) (λ r at. ap is_close_bracket at) element_starts element_all i xs (u ∷ r) many,
+        until_all is_close_bracket (element g b) (Element n) (At k.CloseBracket)
+            (element_takes g takes) refl (λ r at. ap is_close_bracket at) element_starts element_all
+            i xs (u ∷ r) many,
         expect_done k.CloseBracket u r is,
       ) refl
 
   object_all : (t : Token) (i r : Tokens) (xs : List (Property Expression)) → HasRoom low (t ∷ i) → Listed k.CloseBrace (OneProperty n) i xs r → object g b (t ∷ i) ≡ Done (e.Object xs t.place) r
   unfolding object
-  object_all t i r xs some list = rw (enter_done g t i (room (t ∷ i) some), listed_all (property g b) (OneProperty n) (property_takes g b takes) k.CloseBrace property_all i xs r list) refl
+  object_all t i r xs some list =
+      rw (
+        enter_done g t i (room (t ∷ i) some),
+        listed_all (property g b) (OneProperty n) (property_takes g takes) k.CloseBrace property_all i
+            xs r list,
+      ) refl
 
   parenthesized_all : (t u : Token) (i r : Tokens) (x : Expression) → HasRoom low (t ∷ i) → n.expression (part.Whole false) i x (u ∷ r) → Is k.CloseParenthesis u → parenthesized g b (t ∷ i) ≡ Done x r
   unfolding parenthesized
@@ -249,8 +259,10 @@ module _ (low g : Rules) (milder : Milder low g) (n : Nested) (b : Below) (takes
   member_all i _ r (Member.member {m = m} {x = x} {ss = ss} one many) =
       rw (
         chain_head_all i x m one,
-        until_all (λ found. not (begins_property found)) (property_suffix g b) (PropertySuffix low n) (λ r. begins_property (next r) ≡ false) (property_suffix_takes g b takes)
-            (λ r h. ap not h) (λ i x r h. ap not (property_suffix_starts i x r h)) property_suffix_all m ss r many,
+        until_all (λ found. not (begins_property found)) (property_suffix g b)
+            (PropertySuffix low n) (λ r. begins_property (next r) ≡ false)
+            (property_suffix_takes g takes) end_no_property (λ r h. ap not h)
+            (λ i x r h. ap not (property_suffix_starts i x r h)) property_suffix_all m ss r many,
       ) refl
 
   pub created_all : (place : Place) (i : Tokens) (x : Expression) (r : Tokens) → Created low n place i x r → created g b place i ≡ Done x r
@@ -268,8 +280,10 @@ module _ (low g : Rules) (milder : Milder low g) (n : Nested) (b : Below) (takes
   left_hand_all i _ r (LeftHand.left_hand {m = m} {x = x} {ss = ss} one many) =
       rw (
         chain_head_all i x m one,
-        until_all (λ found. not (begins_suffix found)) (any_suffix g b) (AnySuffix low n) (λ r. begins_suffix (next r) ≡ false) (any_suffix_takes g b takes)
-            (λ r h. ap not h) (λ i x r h. ap not (any_suffix_starts i x r h)) any_suffix_all m ss r many,
+        until_all (λ found. not (begins_suffix found)) (any_suffix g b) (AnySuffix low n)
+            (λ r. begins_suffix (next r) ≡ false) (any_suffix_takes g takes) end_no_suffix
+            (λ r h. ap not h) (λ i x r h. ap not (any_suffix_starts i x r h)) any_suffix_all m ss r
+            many,
       ) refl
 
   -- ---- operators before and behind an operand
@@ -325,14 +339,18 @@ module _ (low g : Rules) (milder : Milder low g) (n : Nested) (b : Below) (takes
     level_all l i _ r (Level.level {m = m} {x = x} {os = os} h many) =
         rw (
           one_all i x m h,
-          until_all (λ found. is_none (binary_operator no_in l found)) (operation g b no_in l one) (Operand no_in l One) (λ r. binary_operator no_in l (next r) ≡ None) (operation_takes g b takes no_in l one one_takes)
+          until_all (λ found. is_none (binary_operator no_in l found)) (operation g b no_in l one)
+              (Operand no_in l One) (λ r. binary_operator no_in l (next r) ≡ None)
+              (operation_takes g takes no_in l one_takes) (end_no_operator no_in l)
               (λ r h. ap is_none h) (operation_starts l) (operation_all l) m os r many,
         ) refl
 
   pub binary_all : (no_in : Bool) (l : ℕ) (i : Tokens) (x : Expression) (r : Tokens) → Binary low n no_in l i x r → binary g b no_in l i ≡ Done x r
   unfolding binary
   binary_all no_in zero = unary_all
-  binary_all no_in (suc l) = level_all no_in (Binary low n no_in l) (binary g b no_in l) (binary_takes g b takes no_in l) (binary_all no_in l) (suc l)
+  binary_all no_in (suc l) =
+      level_all no_in (Binary low n no_in l) (binary g b no_in l) (binary_takes g takes no_in l)
+      (binary_all no_in l) (suc l)
 
   pub conditional_all : (no_in : Bool) (i : Tokens) (x : Expression) (r : Tokens) → Conditional low n no_in i x r → conditional g b no_in i ≡ Done x r
   unfolding conditional
@@ -355,7 +373,8 @@ module _ (low g : Rules) (milder : Milder low g) (n : Nested) (b : Below) (takes
   pub whole_all : (no_in : Bool) (i : Tokens) (x : Expression) (r : Tokens) → Whole low n no_in i x r → whole g b no_in i ≡ Done x r
   unfolding whole
   whole_all no_in i _ r (Whole.whole {xs = xs} list) =
-      rw (separated_all (assignment g b no_in) (Assignment low n no_in) (assignment_takes g b takes no_in) (assignment_all no_in) i xs r list) refl
+      rw (separated_all (assignment g b no_in) (Assignment low n no_in)
+      (assignment_takes g takes no_in) (assignment_all no_in) i xs r list) refl
 
   -- each part
   pub expression_part_all : (p : ExpressionPart) (i : Tokens) (x : Expression) (r : Tokens) → ExpressionRule low n p i x r → expression_part g b p i ≡ Done x r

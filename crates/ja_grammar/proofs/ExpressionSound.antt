@@ -29,17 +29,19 @@ use Rattle.ja_grammar.specs.declared.part.StatementPart.{StatementPart}
 use Rattle.ja_grammar.specs.declared.part.StatementPart.TheVariants as of_statement
 use Rattle.ja_grammar.specs.Contexts.{function_context}
 use Rattle.ja_grammar.specs.ExpressionGrammar.{Nested, Element, OneProperty, Declared, FunctionName, Function, Primary, Head, PropertySuffix, Arguments, AnySuffix, Member, Created, LeftHand, Postfix, Unary, Operand, Level, Binary, Conditional, Assignment, Whole, Updated, ExpressionRule}
-use Rattle.ja_grammar.specs.Forms.{name_of, literal_of, literal_by as literal_value, property_name, property_name_by, postfix_by as postfix_value, begins_property, begins_suffix, postfix_of, is_prefix, chained, operated, sequence}
+use Rattle.ja_grammar.specs.Forms.{name_of, literal_of, property_name, begins_property, begins_suffix, postfix_of, is_prefix, chained, operated, sequence}
 use Rattle.ja_grammar.specs.Input.{Tokens, head, next, behind, symbol, Done, Parser, expect, opening, ◌>>=◌, ◌>>◌, pure, look, take_token, enter, until, separated, listed, Rules}
-use Rattle.ja_grammar.specs.Operators.{binary_of, postfix_update, binary_operator, levels, unary_operator, prefix_update, assignment_operator}
+use Rattle.ja_grammar.specs.Operators.{binary_operator, levels, unary_operator, prefix_update, assignment_operator}
 use Rattle.ja_grammar.specs.Productions.{Rule, Is, At, NotAt, HasRoom, Many, Listed}
 use Rattle.ja_grammar.specs.ReadExpression.{Below, declared, declared_by, declared_name, function_name, function_name_by, is_close_brace, is_close_bracket, element, element_by, element_close, element_close_by, property, property_by, function_body, parameters, function, array, object, parenthesized, literal, literal_by, regular_expression, primary, primary_by, chain_head, head_by, dotted, indexed, property_suffix, property_suffix_by, arguments, any_suffix, any_suffix_by, member, created, created_by, left_hand, postfix, postfix_by, updated_behind, operand_close, operand_by, updated, updated_by, unary, unary_by, operation, operation_by, level, binary, conditional, conditional_by, assigned, assignment, assignment_by, whole, expression_part}
 use Rattle.ja_grammar.proofs.Agree.{BelowTakes, Agrees}
+use Rattle.ja_grammar.proofs.Closing.{assignment_more, binary_more, end_no_operator, end_no_property, end_no_suffix, literal_more, postfix_more, prefix_more, property_more, unary_more}
 use Rattle.ja_grammar.proofs.ExpressionTakes.{declared_takes, element_takes, property_takes, property_suffix_takes, any_suffix_takes, operation_takes, binary_takes, assignment_takes}
-use Rattle.ja_grammar.proofs.ListLaws.{until_is, separated_is, listed_is}
+use Rattle.ja_grammar.proofs.Lists.{separated_is, listed_is}
 use Rattle.ja_grammar.proofs.Opening.{opening_inverse}
 use Rattle.ja_grammar.proofs.Outcomes.{same_done, refused_not_done, bind_inverse, cons_of, expect_inverse, expect_then, unless_inverse, entered, entered_token}
 use Rattle.ja_grammar.proofs.Shrinks.{Takes}
+use Rattle.ja_grammar.proofs.Until.{until_is}
 
 -- ---- what must have been there
 
@@ -85,49 +87,6 @@ module _ (g : Rules) where
 
 -- ---- symbols
 
-property_not_end : (t : Token) (name : PropertyName) → property_name t ≡ Some name → symbol t ≢ k.End
-unfolding property_name
-property_not_end t name known ends = cc (sym known ∙ ap (λ κ. property_name_by κ t) ends)
-
-literal_not_end : (t : Token) (value : Primitive) → literal_of t ≡ Some value → symbol t ≢ k.End
-unfolding literal_of
-literal_not_end t value known ends = cc (sym known ∙ ap (λ κ. literal_value κ t) ends)
-
-postfix_not_end : (t : Token) (o : UpdateOperator) → postfix_of t ≡ Some o → symbol t ≢ k.End
-unfolding postfix_of postfix_update
-postfix_not_end t o known ends = go t.line_before (sym known ∙ ap (postfix_value t.line_before) ends)
-  where
-    go : (c : Bool) → Some o ≡ postfix_value c k.End → ⊥
-    go true h = cc h
-    go false h = cc h
-
-unary_not_end : (κ : Symbol) (o : UnaryOperator) → unary_operator κ ≡ Some o → κ ≢ k.End
-unfolding unary_operator
-unary_not_end κ o known ends = cc (sym known ∙ ap unary_operator ends)
-
-prefix_not_end : (κ : Symbol) (o : UpdateOperator) → prefix_update κ ≡ Some o → κ ≢ k.End
-unfolding prefix_update
-prefix_not_end κ o known ends = cc (sym known ∙ ap prefix_update ends)
-
-assignment_not_end : (κ : Symbol) (o : Option BinaryOperator) → assignment_operator κ ≡ Some o → κ ≢ k.End
-unfolding assignment_operator
-assignment_not_end κ o known ends = cc (sym known ∙ ap assignment_operator ends)
-
-no_binary_end : (no_in : Bool) (l : ℕ) → is_none (binary_operator no_in l k.End) ≡ true
-unfolding binary_operator binary_of
-no_binary_end no_in l = refl
-
-binary_not_end : (no_in : Bool) (l : ℕ) (κ : Symbol) (o : BinaryOperator) → binary_operator no_in l κ ≡ Some o → κ ≢ k.End
-binary_not_end no_in l κ o known ends = true≢false (sym (no_binary_end no_in l) ∙ ap (λ x. is_none (binary_operator no_in l x)) (sym ends) ∙ ap is_none known)
-
-no_property_end : not (begins_property k.End) ≡ true
-unfolding begins_property
-no_property_end = refl
-
-no_suffix_end : not (begins_suffix k.End) ≡ true
-unfolding begins_suffix
-no_suffix_end = refl
-
 no_prefix : (κ : Symbol) → unary_operator κ ≡ None → prefix_update κ ≡ None → is_prefix κ ≡ false
 unfolding is_prefix
 no_prefix κ h h' = rw (h, h') refl
@@ -167,7 +126,8 @@ module _ (g : Rules) (n : Nested) (b : Below) (takes : BelowTakes b) (a : Agrees
     where
       go : (o : Option PropertyName) → property_name (head i) ≡ o → property_by g b (head i) o i ≡ Done x r → OneProperty n i x r
       go None known h = absurd (refused_not_done h)
-      go (Some name) known h = first (λ j. OneProperty n j x r) i (property_not_end (head i) name known)
+      go (Some name) known h =
+          first (λ j. OneProperty n j x r) i (property_more (head i) name known)
           (expect_then (λ j. OneProperty n (head i ∷ j) x r) k.Colon (λ _. b.expression (part.Assignment false) >>= (λ x. pure (record { name = name; value = x; place = (head i).place }))) (λ h. cc h) (behind i) h
           (λ u m colon h.
           let s = bind_inverse (b.expression (part.Assignment false)) (λ x. pure (record { name = name; value = x; place = (head i).place })) m h in
@@ -221,7 +181,8 @@ module _ (g : Rules) (n : Nested) (b : Below) (takes : BelowTakes b) (a : Agrees
       let u = bind_inverse (until is_close_bracket (element g b)) (λ xs. expect k.CloseBracket >> pure (e.Array xs (head i).place)) (behind i) h in
       let v = bind_inverse (expect k.CloseBracket) (λ _. pure (e.Array u.0 (head i).place)) u.1 u.3 in
       let w = expect_inverse k.CloseBracket u.1 (λ h. cc h) v.2 in
-      let many = until_is is_close_bracket (element g b) (Element n) (At k.CloseBracket) (element_takes g b takes) refl
+      let many = until_is is_close_bracket (element g b) (Element n) (At k.CloseBracket)
+      (element_takes g takes) refl
       (λ i x r other h. element_is i x r (λ at. true≢false (sym (ap is_close_bracket at) ∙ other)) h) (behind i) u.0 u.1 (λ _. ap next w.0 ∙ w.1) u.2 in
       same_done (λ x r. Primary g n (head i ∷ behind i) x r) v.3
       (Primary.array is some (subst (λ j. Many (Element n) (At k.CloseBracket) (behind i) u.0 j) w.0 many) w.1))
@@ -231,7 +192,8 @@ module _ (g : Rules) (n : Nested) (b : Below) (takes : BelowTakes b) (a : Agrees
   object_is i x r is q = enter_first (λ j. Primary g n j x r) g (λ t. listed k.CloseBrace (property g b) >>= (λ xs. pure (e.Object xs t.place))) i (λ ends. cc (is, ends)) q (λ some h.
       let u = bind_inverse (listed k.CloseBrace (property g b)) (λ xs. pure (e.Object xs (head i).place)) (behind i) h in
       same_done (λ x r. Primary g n (head i ∷ behind i) x r) u.3
-      (Primary.object is some (listed_is (property g b) (OneProperty n) (property_takes g b takes) k.CloseBrace (λ h. cc h) property_is (behind i) u.0 u.1 u.2)))
+      (Primary.object is some (listed_is (property g b) (OneProperty n) (property_takes g takes)
+      k.CloseBrace (λ h. cc h) property_is (behind i) u.0 u.1 u.2)))
 
   parenthesized_is : (i : Tokens) (x : Expression) (r : Tokens) → next i ≡ k.OpenParenthesis → parenthesized g b i ≡ Done x r → Primary g n i x r
   unfolding parenthesized
@@ -245,7 +207,9 @@ module _ (g : Rules) (n : Nested) (b : Below) (takes : BelowTakes b) (a : Agrees
     where
       go : (o : Option Primitive) → literal_of (head i) ≡ o → literal_by g b (head i) o i ≡ Done x r → Primary g n i x r
       go None known h = absurd (refused_not_done h)
-      go (Some value) known h = first (λ j. Primary g n j x r) i (literal_not_end (head i) value known) (same_done (λ x r. Primary g n (head i ∷ behind i) x r) h (Primary.literal known))
+      go (Some value) known h =
+          first (λ j. Primary g n j x r) i (literal_more (head i) value known)
+          (same_done (λ x r. Primary g n (head i ∷ behind i) x r) h (Primary.literal known))
 
   pub primary_is : (i : Tokens) (x : Expression) (r : Tokens) → primary g b i ≡ Done x r → Primary g n i x r
   unfolding primary
@@ -318,7 +282,8 @@ module _ (g : Rules) (n : Nested) (b : Below) (takes : BelowTakes b) (a : Agrees
       let s = bind_inverse (chain_head g b) (λ x. until (λ found. not (begins_property found)) (property_suffix g b) >>= (λ ss. pure (chained x ss))) i e in
       let t = bind_inverse (until (λ found. not (begins_property found)) (property_suffix g b)) (λ ss. pure (chained s.0 ss)) s.1 s.3 in
       same_done (λ x r. Member g n i x r) t.3 (Member.member (chain_head_is i s.0 s.1 s.2)
-      (until_is (λ found. not (begins_property found)) (property_suffix g b) (PropertySuffix g n) (λ r. begins_property (next r) ≡ false) (property_suffix_takes g b takes) no_property_end
+      (until_is (λ found. not (begins_property found)) (property_suffix g b) (PropertySuffix g n)
+      (λ r. begins_property (next r) ≡ false) (property_suffix_takes g takes) end_no_property
       (λ i x r _ h. property_suffix_is i x r h) s.1 t.0 t.1 (not-true (begins_property (next t.1))) t.2))
 
   pub created_is : (place : Place) (i : Tokens) (x : Expression) (r : Tokens) → created g b place i ≡ Done x r → Created g n place i x r
@@ -339,7 +304,8 @@ module _ (g : Rules) (n : Nested) (b : Below) (takes : BelowTakes b) (a : Agrees
       let s = bind_inverse (chain_head g b) (λ x. until (λ found. not (begins_suffix found)) (any_suffix g b) >>= (λ ss. pure (chained x ss))) i e in
       let t = bind_inverse (until (λ found. not (begins_suffix found)) (any_suffix g b)) (λ ss. pure (chained s.0 ss)) s.1 s.3 in
       same_done (λ x r. LeftHand g n i x r) t.3 (LeftHand.left_hand (chain_head_is i s.0 s.1 s.2)
-      (until_is (λ found. not (begins_suffix found)) (any_suffix g b) (AnySuffix g n) (λ r. begins_suffix (next r) ≡ false) (any_suffix_takes g b takes) no_suffix_end
+      (until_is (λ found. not (begins_suffix found)) (any_suffix g b) (AnySuffix g n)
+      (λ r. begins_suffix (next r) ≡ false) (any_suffix_takes g takes) end_no_suffix
       (λ i x r _ h. any_suffix_is i x r h) s.1 t.0 t.1 (not-true (begins_suffix (next t.1))) t.2))
 
   -- ---- operators before and behind an operand
@@ -354,7 +320,8 @@ module _ (g : Rules) (n : Nested) (b : Below) (takes : BelowTakes b) (a : Agrees
           → updated_behind g b y (head m) o c m ≡ Done x r → Postfix g n i x r
       reference_by y m one o known false is h = absurd (refused_not_done h)
       reference_by y m one o known true is h = same_done (λ x r. Postfix g n i x r) h
-          (Postfix.updated (subst (λ j. LeftHand g n i y j) (cons_of m (postfix_not_end (head m) o known)) one) known is)
+          (Postfix.updated (subst (λ j. LeftHand g n i y j)
+          (cons_of m (postfix_more (head m) o known)) one) known is)
 
       go : (y : Expression) (m : Tokens) → LeftHand g n i y m → (o : Option UpdateOperator) → postfix_of (head m) ≡ o → postfix_by g b y (head m) o m ≡ Done x r → Postfix g n i x r
       go y m one None known h = same_done (λ x r. Postfix g n i x r) h (Postfix.plain one known)
@@ -366,11 +333,16 @@ module _ (g : Rules) (n : Nested) (b : Below) (takes : BelowTakes b) (a : Agrees
     where
       go : (o : Option UnaryOperator) → unary_operator (next i) ≡ o → (u : Option UpdateOperator) → prefix_update (next i) ≡ u → unary_by g b (head i) o u i ≡ Done x r → Unary g n i x r
       go (Some o) known u other h =
-          enter_first (λ j. Unary g n j x r) g (λ _. b.expression part.Unary >>= (λ x. pure (e.Unary o x (head i).place))) i (unary_not_end (next i) o known) h (λ some h.
+          enter_first (λ j. Unary g n j x r) g
+          (λ _. b.expression part.Unary >>= (λ x. pure (e.Unary o x (head i).place))) i
+          (unary_more (next i) o known) h (λ some h.
           let s = bind_inverse (b.expression part.Unary) (λ x. pure (e.Unary o x (head i).place)) (behind i) h in
           same_done (λ x r. Unary g n (head i ∷ behind i) x r) s.3 (Unary.operator known some (a.expression_is part.Unary (behind i) s.0 s.1 s.2)))
       go None other (Some o) known h =
-          enter_first (λ j. Unary g n j x r) g (λ _. b.expression (part.Updated (head i).place) >>= (λ x. pure (e.Update o x (head i).place))) i (prefix_not_end (next i) o known) h (λ some h.
+          enter_first (λ j. Unary g n j x r) g
+          (λ _. b.expression (part.Updated (head i).place) >>=
+          (λ x. pure (e.Update o x (head i).place))) i (prefix_more (next i) o known) h
+          (λ some h.
           let s = bind_inverse (b.expression (part.Updated (head i).place)) (λ x. pure (e.Update o x (head i).place)) (behind i) h in
           same_done (λ x r. Unary g n (head i ∷ behind i) x r) s.3 (Unary.update known some (a.expression_is (part.Updated (head i).place) (behind i) s.0 s.1 s.2)))
       go None other None other' h = Unary.operand (no_prefix (next i) other other') (postfix_is i x r h)
@@ -387,7 +359,7 @@ module _ (g : Rules) (n : Nested) (b : Below) (takes : BelowTakes b) (a : Agrees
       close other y m one true is None known h = same_done (λ x r. Updated g n place i x r) h (Updated.updated other one is known)
       close other y m one true is (Some o) known h =
           let s = unless_inverse g (refusal.Broken place) (take_token >> pure (e.Update o y (head m).place)) m h in
-          let there = cons_of m (postfix_not_end (head m) o known) in
+          let there = cons_of m (postfix_more (head m) o known) in
           same_done (λ x r. Updated g n place i x r) s.1
           (Updated.behind other (subst (λ j. LeftHand g n i y j) there one) is known (subst (λ j. g (refusal.Broken place) j ≡ false) there s.0))
 
@@ -411,7 +383,7 @@ module _ (g : Rules) (n : Nested) (b : Below) (takes : BelowTakes b) (a : Agrees
         go None known h = absurd (refused_not_done h)
         go (Some o) known h =
             let s = bind_inverse one (λ x. pure (record { operator = o; right = x; place = (head i).place })) (behind i) h in
-            first (λ j. Operand no_in l One j x r) i (binary_not_end no_in l (next i) o known)
+            first (λ j. Operand no_in l One j x r) i (binary_more no_in l (next i) o known)
             (same_done (λ x r. Operand no_in l One (head i ∷ behind i) x r) s.3 (Operand.operand known (one_is (behind i) s.0 s.1 s.2)))
 
     pub level_is : (l : ℕ) (i : Tokens) (x : Expression) (r : Tokens) → level g b no_in l one i ≡ Done x r → Level no_in l One i x r
@@ -421,12 +393,16 @@ module _ (g : Rules) (n : Nested) (b : Below) (takes : BelowTakes b) (a : Agrees
         let t = bind_inverse (until (λ found. is_none (binary_operator no_in l found)) (operation g b no_in l one)) (λ os. pure (operated (head i).place s.0 os)) s.1 s.3 in
         same_done (λ x r. Level no_in l One i x r) t.3 (Level.level (one_is i s.0 s.1 s.2)
         (until_is (λ found. is_none (binary_operator no_in l found)) (operation g b no_in l one) (Operand no_in l One) (λ r. binary_operator no_in l (next r) ≡ None)
-        (operation_takes g b takes no_in l one one_takes) (no_binary_end no_in l) (λ i x r _ h. operation_is l i x r h) s.1 t.0 t.1 (none_by_test (binary_operator no_in l (next t.1))) t.2))
+        (operation_takes g takes no_in l one_takes) (end_no_operator no_in l)
+        (λ i x r _ h. operation_is l i x r h) s.1 t.0 t.1
+        (none_by_test (binary_operator no_in l (next t.1))) t.2))
 
   pub binary_is : (no_in : Bool) (l : ℕ) (i : Tokens) (x : Expression) (r : Tokens) → binary g b no_in l i ≡ Done x r → Binary g n no_in l i x r
   unfolding binary
   binary_is no_in zero = unary_is
-  binary_is no_in (suc l) = level_is no_in (Binary g n no_in l) (binary g b no_in l) (binary_takes g b takes no_in l) (binary_is no_in l) (suc l)
+  binary_is no_in (suc l) =
+      level_is no_in (Binary g n no_in l) (binary g b no_in l) (binary_takes g takes no_in l)
+      (binary_is no_in l) (suc l)
 
   pub conditional_is : (no_in : Bool) (i : Tokens) (x : Expression) (r : Tokens) → conditional g b no_in i ≡ Done x r → Conditional g n no_in i x r
   unfolding conditional
@@ -459,7 +435,7 @@ module _ (g : Rules) (n : Nested) (b : Below) (takes : BelowTakes b) (a : Agrees
       reference_by y m one o known false is h = absurd (refused_not_done h)
       reference_by y m one o known true is h =
           enter_first (λ j. Conditional g n no_in i y j → Assignment g n no_in i x r) g (λ _. b.expression (part.Assignment no_in) >>= (λ z. pure (e.Assign y o z (head m).place))) m
-          (assignment_not_end (next m) o known) h (λ some h one.
+          (assignment_more (next m) o known) h (λ some h one.
           let t = bind_inverse (b.expression (part.Assignment no_in)) (λ z. pure (e.Assign y o z (head m).place)) (behind m) h in
           same_done (λ x r. Assignment g n no_in i x r) t.3 (Assignment.assigned one known is some (a.expression_is (part.Assignment no_in) (behind m) t.0 t.1 t.2))) one
 
@@ -473,7 +449,8 @@ module _ (g : Rules) (n : Nested) (b : Below) (takes : BelowTakes b) (a : Agrees
   whole_is no_in i x r e =
       let s = bind_inverse (separated (assignment g b no_in)) (λ xs. pure (sequence (head i).place xs)) i e in
       same_done (λ x r. Whole g n no_in i x r) s.3
-      (Whole.whole (separated_is (assignment g b no_in) (Assignment g n no_in) (assignment_takes g b takes no_in) (assignment_is no_in) i s.0 s.1 s.2))
+      (Whole.whole (separated_is (assignment g b no_in) (Assignment g n no_in)
+      (assignment_takes g takes no_in) (assignment_is no_in) i s.0 s.1 s.2))
 
   -- each part
   pub expression_part_is : (p : ExpressionPart) (i : Tokens) (x : Expression) (r : Tokens) → expression_part g b p i ≡ Done x r → ExpressionRule g n p i x r

@@ -1,296 +1,304 @@
--- Every rule of expressions takes a token.
-use Rattle.std.proofs.Common.{◌≡◌, ◌≢◌, ℕ, zero, suc, Bool, true, false, not, [], Option, Some, None, is_none, refl}
+-- Every rule of expressions takes a token, or at least adds none, and so where it is refused.
+use Rattle.std.proofs.Common.{◌≡◌, ℕ, zero, suc, Bool, true, false, Option, Some, None, refl}
 use Rattle.ja_base.specs.declared.ids.Place.{Place}
-use Rattle.ja_prim.specs.declared.primitive.Num.TheVariants.{Whole}
 use Rattle.ja_prim.specs.declared.primitive.Primitive.{Primitive}
-use Rattle.ja_prim.specs.declared.primitive.Primitive.TheVariants as primitive
+use Rattle.ja_lex.specs.declared.token.Token.{Token}
 use Rattle.ja_syntax.specs.declared.symbol.Symbol.{Symbol}
 use Rattle.ja_syntax.specs.declared.symbol.Symbol.TheVariants as k
 use Rattle.ja_syntax.specs.declared.tree.BinaryOperator.{BinaryOperator}
 use Rattle.ja_syntax.specs.declared.tree.Expression.{Expression}
-use Rattle.ja_syntax.specs.declared.tree.Expression.TheVariants as e
 use Rattle.ja_syntax.specs.declared.tree.PropertyName.{PropertyName}
-use Rattle.ja_syntax.specs.declared.tree.PropertyName.TheVariants as of_property
-use Rattle.ja_syntax.specs.declared.tree.Suffix.TheVariants as suffix
 use Rattle.ja_syntax.specs.declared.tree.UnaryOperator.{UnaryOperator}
 use Rattle.ja_syntax.specs.declared.tree.UpdateOperator.{UpdateOperator}
 use Rattle.ja_syntax.specs.References.{is_reference}
-use Rattle.ja_syntax.specs.Symbols.{is_arguments, units_of, number_of}
-use Rattle.ja_grammar.specs.declared.fault.Refusal.TheVariants.{Unexpected, RegExp, Arguments, Broken, Operand}
+use Rattle.ja_syntax.specs.Symbols.{is_arguments}
+use Rattle.ja_grammar.specs.declared.fault.Refusal.TheVariants.{RegExp, Arguments, Broken, Operand}
 use Rattle.ja_grammar.specs.declared.part.ExpressionPart.{ExpressionPart}
 use Rattle.ja_grammar.specs.declared.part.ExpressionPart.TheVariants as part
 use Rattle.ja_grammar.specs.declared.part.StatementPart.TheVariants as of_statement
 use Rattle.ja_grammar.specs.Contexts.{function_context}
-use Rattle.ja_grammar.specs.Forms.{word, name_of, literal_of, literal_by as literal_value, property_name, property_name_by, begins_property, begins_suffix, postfix_of, is_prefix, chained, operated, sequence}
-use Rattle.ja_grammar.specs.Input.{Tokens, head, next, symbol, Parser, ◌>>=◌, pure, refuse, look, take_token, until, separated, Rules}
+use Rattle.ja_grammar.specs.Forms.{literal_of, property_name, postfix_of, is_prefix}
+use Rattle.ja_grammar.specs.Input.{head, next, behind, Parser, Rules}
 use Rattle.ja_grammar.specs.Operators.{binary_operator, levels, unary_operator, prefix_update, assignment_operator}
 use Rattle.ja_grammar.specs.ReadExpression.{Below, declared, declared_by, declared_name, function_name, function_name_by, is_close_brace, is_close_bracket, element, element_by, element_close, element_close_by, property, property_by, function_body, parameters, function, array, object, parenthesized, literal, literal_by, primary, primary_by, chain_head, head_by, dotted, indexed, property_suffix, property_suffix_by, arguments, any_suffix, any_suffix_by, member, created, created_by, left_hand, postfix, postfix_by, updated_behind, operand_close, operand_by, updated, updated_by, unary, unary_by, operation, operation_by, level, binary, conditional, conditional_by, assigned, assignment, assignment_by, whole, expression_part}
 use Rattle.ja_grammar.proofs.Agree.{BelowTakes}
-use Rattle.ja_grammar.proofs.ListLaws.{until_shrinks, separated_takes, listed_takes}
-use Rattle.ja_grammar.proofs.Opening.{opening_takes}
-use Rattle.ja_grammar.proofs.Shrinks.{ShrinksAt, TakesAt, Shrinks, Takes, takes_shrinks, pure_shrinks, refuse_takes, take_takes, take_shrinks, expect_takes, enter_takes, enter_shrinks, unless_shrinks, unless_takes, bind_shrinks, bind_takes, bind_takes_second, look_shrinks, look_takes}
-
-refuse_shrinks : {A : Type 0} (i : Tokens) → ShrinksAt (refuse {A = A} Unexpected) i
-refuse_shrinks i = takes_shrinks (refuse_takes Unexpected i)
-
--- the token that is next, and then a value
-take_pure : {A : Type 0} (a : A) (i : Tokens) → next i ≢ k.End → TakesAt (take_token >>= (λ _. pure a)) i
-take_pure a i more = bind_takes i (take_takes i more) (λ t r _. pure_shrinks a r)
+use Rattle.ja_grammar.proofs.Closing.{literal_more}
+use Rattle.ja_grammar.proofs.Shrinks.{Leaves, Takes, Shrinks, takes_shrinks, pure_shrinks, refuse_leaves, behind_leaves, token_shrinks, token_takes, unless_leaves, enter_shrinks, expect_shrinks, expect_takes, opening_takes, bind_leaves, value_leaves, until_shrinks, separated_takes, listed_takes}
 
 -- ---- names
 
-pub declared_takes : (g : Rules) → Takes (declared g)
-unfolding declared
-declared_takes g i = look_takes (λ t. declared_by g t (symbol t)) i (go (next i) refl)
-  where
-    named : (b : Bool) → next i ≡ k.Name → TakesAt (declared_name g (head i) b) i
-    named true is = unless_takes g Arguments i (take_pure (name_of (head i)) i (λ ends. cc (is, ends)))
-    named false is = take_pure (name_of (head i)) i (λ ends. cc (is, ends))
+module _ (g : Rules) where
+  pub declared_takes : Takes (declared g)
+  unfolding declared
+  declared_takes i = go (next i) refl
+    where
+      named : (x : Bool) → next i ≡ k.Name → Leaves true (declared_name g (head i) x i) i
+      named true is = unless_leaves g Arguments (token_takes (λ ends. cc (is, ends)))
+      named false is = token_takes (λ ends. cc (is, ends))
 
-    go : (κ : Symbol) → next i ≡ κ → TakesAt (declared_by g (head i) κ) i
-    go k.Name is = named (is_arguments (head i).kind) is
-    go _ is = refuse_takes Unexpected i
+      go : (κ : Symbol) → next i ≡ κ → Leaves true (declared_by g (head i) κ i) i
+      go k.Name is = named (is_arguments (head i).kind) is
+      go _ is = refuse_leaves
 
-pub function_name_shrinks : (g : Rules) (required : Bool) → Shrinks (function_name g required)
-unfolding function_name
-function_name_shrinks g required i = look_shrinks (λ t. function_name_by g required (symbol t)) i (go required (next i))
-  where
-    go : (required : Bool) (κ : Symbol) → ShrinksAt (function_name_by g required κ) i
-    go required k.Name = bind_shrinks i (takes_shrinks (declared_takes g i)) (λ x r _. pure_shrinks (Some x) r)
-    go true _ = refuse_shrinks i
-    go false _ = pure_shrinks None i
+  pub function_name_shrinks : (required : Bool) → Shrinks (function_name g required)
+  unfolding function_name
+  function_name_shrinks required i = go required (next i)
+    where
+      go : (required : Bool) (κ : Symbol) → Leaves false (function_name_by g required κ i) i
+      go required k.Name = value_leaves _ (takes_shrinks (declared_takes i))
+      go true _ = refuse_leaves
+      go false _ = pure_shrinks
 
-module _ (g : Rules) (b : Below) (h : BelowTakes b) where
+module _ (g : Rules) {b : Below} (h : BelowTakes b) where
   -- ---- array and object literals, functions
 
-  element_close_shrinks : (x : Expression) → Shrinks (element_close g b x)
+  pub element_close_shrinks : (x : Expression) → Shrinks (element_close g b x)
   unfolding element_close
-  element_close_shrinks x i = look_shrinks (λ t. element_close_by g b x (symbol t)) i (go (next i))
+  element_close_shrinks x i = go (next i)
     where
-      go : (κ : Symbol) → ShrinksAt (element_close_by g b x κ) i
-      go k.Comma = bind_shrinks i (take_shrinks i) (λ t r _. pure_shrinks (Some x) r)
-      go k.CloseBracket = pure_shrinks (Some x) i
-      go _ = refuse_shrinks i
+      go : (κ : Symbol) → Leaves false (element_close_by g b x κ i) i
+      go k.Comma = token_shrinks
+      go k.CloseBracket = pure_shrinks
+      go _ = refuse_leaves
 
   pub element_takes : Takes (element g b)
   unfolding element
-  element_takes i = look_takes (λ t. element_by g b (symbol t)) i (go (next i) refl)
+  element_takes i = go (next i) refl
     where
-      go : (κ : Symbol) → next i ≡ κ → TakesAt (element_by g b κ) i
-      go k.Comma is = take_pure None i (λ ends. cc (is, ends))
-      go _ is = bind_takes i (h.expression (part.Assignment false) i) (λ x r _. element_close_shrinks x r)
+      go : (κ : Symbol) → next i ≡ κ → Leaves true (element_by g b κ i) i
+      go k.Comma is = token_takes (λ ends. cc (is, ends))
+      go _ is = bind_leaves (h.expression (part.Assignment false) i) element_close_shrinks
 
   pub property_takes : Takes (property g b)
-  unfolding property property_name
-  property_takes i = look_takes (λ t. property_by g b t (property_name t)) i (go (next i) refl)
+  unfolding property
+  property_takes i = go (property_name (head i))
     where
-      known : (name : PropertyName) → next i ≢ k.End → TakesAt (property_by g b (head i) (Some name)) i
-      known name more = bind_takes i (take_takes i more) (λ t r _. bind_shrinks r (takes_shrinks (expect_takes k.Colon (λ h. cc h) r)) (λ u s _.
-          bind_shrinks s (takes_shrinks (h.expression (part.Assignment false) s)) (λ x l _. pure_shrinks (record { name = name; value = x; place = (head i).place }) l)))
+      go : (o : Option PropertyName) → Leaves true (property_by g b (head i) o i) i
+      go None = refuse_leaves
+      go (Some name) = behind_leaves (bind_leaves (expect_shrinks k.Colon (behind i))
+          (λ t r. value_leaves _ (h.expression (part.Assignment false) r)))
 
-      go : (κ : Symbol) → next i ≡ κ → TakesAt (property_by g b (head i) (property_name_by κ (head i))) i
-      go k.Name is = known (of_property.Word (word (head i))) (λ ends. cc (is, ends))
-      go k.Text is = known (of_property.Text (units_of (head i).kind)) (λ ends. cc (is, ends))
-      go k.Number is = known (of_property.Number (number_of (head i).kind)) (λ ends. cc (is, ends))
-      go _ is = refuse_takes Unexpected i
-
-  parameters_shrinks : Shrinks (parameters g b)
-  unfolding parameters
-  parameters_shrinks i = bind_shrinks i (takes_shrinks (opening_takes g k.OpenParenthesis (λ h. cc h) i)) (λ t r _. takes_shrinks (listed_takes k.CloseParenthesis (declared g) (λ h. cc h) (declared_takes g) r))
-
-  function_body_shrinks : Shrinks (function_body g b)
+  pub function_body_takes : Takes (function_body g b)
   unfolding function_body
-  function_body_shrinks i = bind_shrinks i (takes_shrinks (opening_takes g k.OpenBrace (λ h. cc h) i)) (λ t r _.
-      bind_shrinks r (until_shrinks is_close_brace (b.statement function_context (of_statement.Whole 0 true)) (λ i. takes_shrinks (h.statement function_context (of_statement.Whole 0 true) i)) r) (λ body s _.
-      bind_shrinks s (takes_shrinks (expect_takes k.CloseBrace (λ h. cc h) s)) (λ u l _. pure_shrinks body l)))
+  function_body_takes i = bind_leaves (opening_takes g k.OpenBrace (λ e. cc e) i) (λ t r.
+      bind_leaves (until_shrinks (h.statement function_context (of_statement.Whole 0 true))
+      is_close_brace r) (λ body s. value_leaves _ (expect_shrinks k.CloseBrace s)))
+
+  pub parameters_takes : Takes (parameters g b)
+  unfolding parameters
+  parameters_takes i = bind_leaves (opening_takes g k.OpenParenthesis (λ e. cc e) i)
+      (λ t. listed_takes (declared_takes g) k.CloseParenthesis (λ e. cc e))
 
   pub function_takes : (required : Bool) → Takes (function g b required)
   unfolding function
-  function_takes required i = bind_takes i (expect_takes k.Function (λ h. cc h) i) (λ t r _.
-      bind_shrinks r (function_name_shrinks g required r) (λ name s _. bind_shrinks s (parameters_shrinks s) (λ xs l _.
-      bind_shrinks l (function_body_shrinks l) (λ body m _. pure_shrinks (record { name = name; parameters = xs; body = body; place = t.place }) m))))
+  function_takes required i = bind_leaves (expect_shrinks k.Function i) (λ t r.
+      bind_leaves (function_name_shrinks g required r) (λ name s.
+      bind_leaves (parameters_takes s) (λ xs l. value_leaves _ (function_body_takes l))))
 
   -- ---- primary expressions
 
-  array_takes : (i : Tokens) → next i ≢ k.End → TakesAt (array g b) i
+  array_takes : Takes (array g b)
   unfolding array
-  array_takes i more = bind_takes i (enter_takes g i more) (λ t r _.
-      bind_shrinks r (until_shrinks is_close_bracket (element g b) (λ i. takes_shrinks (element_takes i)) r) (λ xs s _.
-      bind_shrinks s (takes_shrinks (expect_takes k.CloseBracket (λ h. cc h) s)) (λ u l _. pure_shrinks (e.Array xs t.place) l)))
+  array_takes i = bind_leaves (enter_shrinks g i) (λ t r.
+      bind_leaves (until_shrinks element_takes is_close_bracket r) (λ xs s.
+      value_leaves _ (expect_takes k.CloseBracket (λ e. cc e) s)))
 
-  object_takes : (i : Tokens) → next i ≢ k.End → TakesAt (object g b) i
+  object_takes : Takes (object g b)
   unfolding object
-  object_takes i more = bind_takes i (enter_takes g i more) (λ t r _.
-      bind_shrinks r (takes_shrinks (listed_takes k.CloseBrace (property g b) (λ h. cc h) property_takes r)) (λ xs s _. pure_shrinks (e.Object xs t.place) s))
+  object_takes i = bind_leaves (enter_shrinks g i) (λ t r.
+      value_leaves _ (listed_takes property_takes k.CloseBrace (λ e. cc e) r))
 
   parenthesized_takes : Takes (parenthesized g b)
   unfolding parenthesized
-  parenthesized_takes i = bind_takes_second i (enter_shrinks g i) (λ t r _. bind_takes r (h.expression (part.Whole false) r) (λ x s _.
-      bind_shrinks s (takes_shrinks (expect_takes k.CloseParenthesis (λ h. cc h) s)) (λ u l _. pure_shrinks x l)))
+  parenthesized_takes i = bind_leaves (enter_shrinks g i) (λ t r.
+      bind_leaves (h.expression (part.Whole false) r) (λ x s.
+      value_leaves _ (expect_shrinks k.CloseParenthesis s)))
 
   literal_takes : Takes (literal g b)
-  unfolding literal literal_of
-  literal_takes i = look_takes (λ t. literal_by g b t (literal_of t)) i (go (next i) refl)
+  unfolding literal
+  literal_takes i = go (literal_of (head i)) refl
     where
-      known : (value : Primitive) → next i ≢ k.End → TakesAt (literal_by g b (head i) (Some value)) i
-      known value more = take_pure (e.Literal value (head i).place) i more
-
-      go : (κ : Symbol) → next i ≡ κ → TakesAt (literal_by g b (head i) (literal_value κ (head i))) i
-      go k.Null is = known primitive.Null (λ ends. cc (is, ends))
-      go k.True is = known (primitive.Bool true) (λ ends. cc (is, ends))
-      go k.False is = known (primitive.Bool false) (λ ends. cc (is, ends))
-      go k.Number is = known (primitive.Number (Whole (number_of (head i).kind))) (λ ends. cc (is, ends))
-      go k.Text is = known (primitive.Text (units_of (head i).kind)) (λ ends. cc (is, ends))
-      go _ is = refuse_takes Unexpected i
+      go : (o : Option Primitive) → literal_of (head i) ≡ o
+          → Leaves true (literal_by g b (head i) o i) i
+      go None is = refuse_leaves
+      go (Some value) is = token_takes (literal_more (head i) value is)
 
   pub primary_takes : Takes (primary g b)
   unfolding primary
-  primary_takes i = look_takes (λ t. primary_by g b t (symbol t)) i (go (next i) refl)
+  primary_takes i = go (next i) refl
     where
-      go : (κ : Symbol) → next i ≡ κ → TakesAt (primary_by g b (head i) κ) i
-      go k.This is = take_pure (e.This (head i).place) i (λ ends. cc (is, ends))
-      go k.Name is = take_pure (e.Name (name_of (head i))) i (λ ends. cc (is, ends))
-      go k.OpenBracket is = array_takes i (λ ends. cc (is, ends))
-      go k.OpenBrace is = object_takes i (λ ends. cc (is, ends))
+      go : (κ : Symbol) → next i ≡ κ → Leaves true (primary_by g b (head i) κ i) i
+      go k.This is = token_takes (λ ends. cc (is, ends))
+      go k.Name is = token_takes (λ ends. cc (is, ends))
+      go k.OpenBracket is = array_takes i
+      go k.OpenBrace is = object_takes i
       go k.OpenParenthesis is = parenthesized_takes i
-      go k.Function is = bind_takes i (function_takes false i) (λ f r _. pure_shrinks (e.Function f) r)
-      go k.Divide is = unless_takes g RegExp i (take_pure (e.This (head i).place) i (λ ends. cc (is, ends)))
-      go k.DivideAssign is = unless_takes g RegExp i (take_pure (e.This (head i).place) i (λ ends. cc (is, ends)))
+      go k.Function is = value_leaves _ (function_takes false i)
+      go k.Divide is = unless_leaves g RegExp (token_takes (λ ends. cc (is, ends)))
+      go k.DivideAssign is = unless_leaves g RegExp (token_takes (λ ends. cc (is, ends)))
       go _ is = literal_takes i
 
   -- ---- members and calls
 
   pub chain_head_takes : Takes (chain_head g b)
   unfolding chain_head
-  chain_head_takes i = look_takes (λ t. head_by g b t (symbol t)) i (go (next i))
+  chain_head_takes i = go (next i)
     where
-      go : (κ : Symbol) → TakesAt (head_by g b (head i) κ) i
-      go k.New = bind_takes_second i (enter_shrinks g i) (λ t r _. h.expression (part.Created (head i).place) r)
+      go : (κ : Symbol) → Leaves true (head_by g b (head i) κ i) i
+      go k.New = bind_leaves (enter_shrinks g i) (λ t. h.expression (part.Created (head i).place))
       go _ = primary_takes i
 
+  dotted_takes : Takes (dotted g b)
+  unfolding dotted
+  dotted_takes i = behind_leaves (value_leaves _ (expect_takes k.Name (λ e. cc e) (behind i)))
+
+  indexed_takes : Takes (indexed g b)
+  unfolding indexed
+  indexed_takes i = bind_leaves (enter_shrinks g i) (λ t r.
+      bind_leaves (h.expression (part.Whole false) r) (λ x s.
+      value_leaves _ (expect_shrinks k.CloseBracket s)))
+
   pub property_suffix_takes : Takes (property_suffix g b)
-  unfolding property_suffix dotted indexed
-  property_suffix_takes i = look_takes (λ t. property_suffix_by g b (symbol t)) i (go (next i) refl)
+  unfolding property_suffix
+  property_suffix_takes i = go (next i)
     where
-      go : (κ : Symbol) → next i ≡ κ → TakesAt (property_suffix_by g b κ) i
-      go k.Dot is = bind_takes i (take_takes i (λ ends. cc (is, ends))) (λ t r _. bind_shrinks r (takes_shrinks (expect_takes k.Name (λ h. cc h) r)) (λ u s _.
-          pure_shrinks (suffix.Member (name_of u) t.place) s))
-      go k.OpenBracket is = bind_takes_second i (enter_shrinks g i) (λ t r _. bind_takes r (h.expression (part.Whole false) r) (λ x s _.
-          bind_shrinks s (takes_shrinks (expect_takes k.CloseBracket (λ h. cc h) s)) (λ u l _. pure_shrinks (suffix.Index x t.place) l)))
-      go _ is = refuse_takes Unexpected i
+      go : (κ : Symbol) → Leaves true (property_suffix_by g b κ i) i
+      go k.Dot = dotted_takes i
+      go k.OpenBracket = indexed_takes i
+      go _ = refuse_leaves
 
   arguments_takes : Takes (arguments g b)
   unfolding arguments
-  arguments_takes i = bind_takes_second i (enter_shrinks g i) (λ t r _. listed_takes k.CloseParenthesis (b.expression (part.Assignment false)) (λ h. cc h) (h.expression (part.Assignment false)) r)
+  arguments_takes i = bind_leaves (enter_shrinks g i)
+      (λ t. listed_takes (h.expression (part.Assignment false)) k.CloseParenthesis (λ e. cc e))
 
   pub any_suffix_takes : Takes (any_suffix g b)
   unfolding any_suffix
-  any_suffix_takes i = look_takes (λ t. any_suffix_by g b t (symbol t)) i (go (next i))
+  any_suffix_takes i = go (next i)
     where
-      go : (κ : Symbol) → TakesAt (any_suffix_by g b (head i) κ) i
-      go k.OpenParenthesis = bind_takes i (arguments_takes i) (λ xs r _. pure_shrinks (suffix.Call xs (head i).place) r)
+      go : (κ : Symbol) → Leaves true (any_suffix_by g b (head i) κ i) i
+      go k.OpenParenthesis = value_leaves _ (arguments_takes i)
       go _ = property_suffix_takes i
 
-  pub member_takes : Takes (member g b)
+  member_takes : Takes (member g b)
   unfolding member
-  member_takes i = bind_takes i (chain_head_takes i) (λ x r _. bind_shrinks r (until_shrinks (λ found. not (begins_property found)) (property_suffix g b) (λ i. takes_shrinks (property_suffix_takes i)) r) (λ ss s _.
-      pure_shrinks (chained x ss) s))
+  member_takes i = bind_leaves (chain_head_takes i)
+      (λ x r. value_leaves _ (until_shrinks property_suffix_takes _ r))
 
-  pub created_takes : (place : Place) → Takes (created g b place)
+  pub created_by_shrinks : (place : Place) (x : Expression) (κ : Symbol)
+      → Shrinks (created_by g b place x κ)
+  created_by_shrinks place x k.OpenParenthesis i =
+      takes_shrinks (value_leaves _ (arguments_takes i))
+  created_by_shrinks place x _ i = pure_shrinks
+
+  created_takes : (place : Place) → Takes (created g b place)
   unfolding created
-  created_takes place i = bind_takes i (member_takes i) (λ x r _. look_shrinks (λ t. created_by g b place x (symbol t)) r (go x r (next r)))
-    where
-      go : (x : Expression) (r : Tokens) (κ : Symbol) → ShrinksAt (created_by g b place x κ) r
-      go x r k.OpenParenthesis = bind_shrinks r (takes_shrinks (arguments_takes r)) (λ xs s _. pure_shrinks (e.New x xs place) s)
-      go x r _ = pure_shrinks (e.New x [] place) r
+  created_takes place i =
+      bind_leaves (member_takes i) (λ x r. created_by_shrinks place x (next r) r)
 
   pub left_hand_takes : Takes (left_hand g b)
   unfolding left_hand
-  left_hand_takes i = bind_takes i (chain_head_takes i) (λ x r _. bind_shrinks r (until_shrinks (λ found. not (begins_suffix found)) (any_suffix g b) (λ i. takes_shrinks (any_suffix_takes i)) r) (λ ss s _.
-      pure_shrinks (chained x ss) s))
+  left_hand_takes i = bind_leaves (chain_head_takes i)
+      (λ x r. value_leaves _ (until_shrinks any_suffix_takes _ r))
 
   -- ---- operators
 
-  pub postfix_takes : Takes (postfix g b)
-  unfolding postfix
-  postfix_takes i = bind_takes i (left_hand_takes i) (λ x r _. look_shrinks (λ t. postfix_by g b x t (postfix_of t)) r (go x r (postfix_of (head r))))
-    where
-      behind_by : (x : Expression) (r : Tokens) (o : UpdateOperator) (c : Bool) → ShrinksAt (updated_behind g b x (head r) o c) r
-      behind_by x r o false = refuse_shrinks r
-      behind_by x r o true = bind_shrinks r (take_shrinks r) (λ t s _. pure_shrinks (e.Update o x (head r).place) s)
+  updated_behind_shrinks : (x : Expression) (t : Token) (o : UpdateOperator) (c : Bool)
+      → Shrinks (updated_behind g b x t o c)
+  updated_behind_shrinks x t o false i = refuse_leaves
+  updated_behind_shrinks x t o true i = token_shrinks
 
-      go : (x : Expression) (r : Tokens) (o : Option UpdateOperator) → ShrinksAt (postfix_by g b x (head r) o) r
-      go x r None = pure_shrinks x r
-      go x r (Some o) = behind_by x r o (is_reference x)
+  pub postfix_by_shrinks : (x : Expression) (t : Token) (o : Option UpdateOperator)
+      → Shrinks (postfix_by g b x t o)
+  postfix_by_shrinks x t None i = pure_shrinks
+  postfix_by_shrinks x t (Some o) i = updated_behind_shrinks x t o (is_reference x) i
+
+  postfix_takes : Takes (postfix g b)
+  unfolding postfix
+  postfix_takes i = bind_leaves (left_hand_takes i)
+      (λ x r. postfix_by_shrinks x (head r) (postfix_of (head r)) r)
 
   pub unary_takes : Takes (unary g b)
   unfolding unary
-  unary_takes i = look_takes (λ t. unary_by g b t (unary_operator (symbol t)) (prefix_update (symbol t))) i (go (unary_operator (next i)) (prefix_update (next i)))
+  unary_takes i = go (unary_operator (next i)) (prefix_update (next i))
     where
-      go : (o : Option UnaryOperator) (update : Option UpdateOperator) → TakesAt (unary_by g b (head i) o update) i
-      go (Some o) update = bind_takes_second i (enter_shrinks g i) (λ t r _. bind_takes r (h.expression part.Unary r) (λ x s _. pure_shrinks (e.Unary o x (head i).place) s))
-      go None (Some o) = bind_takes_second i (enter_shrinks g i) (λ t r _. bind_takes r (h.expression (part.Updated (head i).place) r) (λ x s _. pure_shrinks (e.Update o x (head i).place) s))
+      go : (o : Option UnaryOperator) (update : Option UpdateOperator)
+          → Leaves true (unary_by g b (head i) o update i) i
+      go (Some o) update = bind_leaves (enter_shrinks g i)
+          (λ t r. value_leaves _ (h.expression part.Unary r))
+      go None (Some o) = bind_leaves (enter_shrinks g i)
+          (λ t r. value_leaves _ (h.expression (part.Updated (head i).place) r))
       go None None = postfix_takes i
 
-  pub updated_takes : (place : Place) → Takes (updated g b place)
-  unfolding updated operand_close
-  updated_takes place i = look_takes (λ t. updated_by g b place (is_prefix (symbol t))) i (go (is_prefix (next i)))
+  pub operand_close_shrinks : (place : Place) (x : Expression) → Shrinks (operand_close g b place x)
+  unfolding operand_close
+  operand_close_shrinks place x i = go (is_reference x) (postfix_of (head i))
     where
-      close : (x : Expression) (r : Tokens) (c : Bool) (found : Option UpdateOperator) → ShrinksAt (operand_by g b place x (head r) c found) r
-      close x r true None = pure_shrinks x r
-      close x r true (Some o) = unless_shrinks g (Broken place) r (bind_shrinks r (take_shrinks r) (λ t s _. pure_shrinks (e.Update o x (head r).place) s))
-      close x r false found = unless_shrinks g (Operand place) r (pure_shrinks x r)
+      go : (c : Bool) (o : Option UpdateOperator)
+          → Leaves false (operand_by g b place x (head i) c o i) i
+      go false o = unless_leaves g (Operand place) pure_shrinks
+      go true None = pure_shrinks
+      go true (Some o) = unless_leaves g (Broken place) token_shrinks
 
-      go : (c : Bool) → TakesAt (updated_by g b place c) i
-      go true = unless_takes g (Broken place) i (unary_takes i)
-      go false = bind_takes i (left_hand_takes i) (λ x r _. look_shrinks (λ t. operand_by g b place x t (is_reference x) (postfix_of t)) r (close x r (is_reference x) (postfix_of (head r))))
-
-  pub operation_takes : (no_in : Bool) (l : ℕ) (one : Parser Expression) → Takes one → Takes (operation g b no_in l one)
-  unfolding operation
-  operation_takes no_in l one takes i = look_takes (λ t. operation_by g b one t (binary_operator no_in l (symbol t))) i (go (binary_operator no_in l (next i)))
+  updated_takes : (place : Place) → Takes (updated g b place)
+  unfolding updated
+  updated_takes place i = go (is_prefix (next i))
     where
-      go : (o : Option BinaryOperator) → TakesAt (operation_by g b one (head i) o) i
-      go None = refuse_takes Unexpected i
-      go (Some o) = bind_takes_second i (take_shrinks i) (λ t r _. bind_takes r (takes r) (λ x s _. pure_shrinks (record { operator = o; right = x; place = (head i).place }) s))
+      go : (c : Bool) → Leaves true (updated_by g b place c i) i
+      go true = unless_leaves g (Broken place) (unary_takes i)
+      go false = bind_leaves (left_hand_takes i) (operand_close_shrinks place)
 
-  pub level_takes : (no_in : Bool) (l : ℕ) (one : Parser Expression) → Takes one → Takes (level g b no_in l one)
-  unfolding level
-  level_takes no_in l one takes i = look_takes (λ t. one >>= (λ x. until (λ found. is_none (binary_operator no_in l found)) (operation g b no_in l one) >>= (λ os. pure (operated t.place x os)))) i
-      (bind_takes i (takes i) (λ x r _. bind_shrinks r (until_shrinks (λ found. is_none (binary_operator no_in l found)) (operation g b no_in l one) (λ i. takes_shrinks (operation_takes no_in l one takes i)) r) (λ os s _.
-      pure_shrinks (operated (head i).place x os) s)))
+  module _ (no_in : Bool) (l : ℕ) {one : Parser Expression} (takes : Takes one) where
+    pub operation_takes : Takes (operation g b no_in l one)
+    unfolding operation
+    operation_takes i = go (binary_operator no_in l (next i))
+      where
+        go : (o : Option BinaryOperator) → Leaves true (operation_by g b one (head i) o i) i
+        go None = refuse_leaves
+        go (Some o) = behind_leaves (value_leaves _ (takes (behind i)))
+
+    level_takes : Takes (level g b no_in l one)
+    unfolding level
+    level_takes i =
+        bind_leaves (takes i) (λ x r. value_leaves _ (until_shrinks operation_takes _ r))
 
   pub binary_takes : (no_in : Bool) (l : ℕ) → Takes (binary g b no_in l)
   unfolding binary
   binary_takes no_in zero = unary_takes
-  binary_takes no_in (suc l) = level_takes no_in (suc l) (binary g b no_in l) (binary_takes no_in l)
+  binary_takes no_in (suc l) = level_takes no_in (suc l) (binary_takes no_in l)
 
-  pub conditional_takes : (no_in : Bool) → Takes (conditional g b no_in)
+  pub conditional_by_shrinks : (no_in : Bool) (place : Place) (x : Expression) (κ : Symbol)
+      → Shrinks (conditional_by g b no_in place x κ)
+  conditional_by_shrinks no_in place x k.Question i = takes_shrinks (bind_leaves
+      (enter_shrinks g i) (λ t r. bind_leaves (h.expression (part.Assignment no_in) r) (λ y l.
+      bind_leaves (expect_shrinks k.Colon l) (λ u m.
+      value_leaves _ (h.expression (part.Assignment no_in) m)))))
+  conditional_by_shrinks no_in place x _ i = pure_shrinks
+
+  conditional_takes : (no_in : Bool) → Takes (conditional g b no_in)
   unfolding conditional
-  conditional_takes no_in i = look_takes (λ t. binary g b no_in levels >>= (λ x. look (λ u. conditional_by g b no_in t.place x (symbol u)))) i
-      (bind_takes i (binary_takes no_in levels i) (λ x r _. look_shrinks (λ u. conditional_by g b no_in (head i).place x (symbol u)) r (go x r (next r))))
-    where
-      go : (x : Expression) (r : Tokens) (κ : Symbol) → ShrinksAt (conditional_by g b no_in (head i).place x κ) r
-      go x r k.Question = bind_shrinks r (enter_shrinks g r) (λ t s _. bind_shrinks s (takes_shrinks (h.expression (part.Assignment no_in) s)) (λ y l _.
-          bind_shrinks l (takes_shrinks (expect_takes k.Colon (λ h. cc h) l)) (λ u m _. bind_shrinks m (takes_shrinks (h.expression (part.Assignment no_in) m)) (λ z j _.
-          pure_shrinks (e.Conditional x y z (head i).place) j))))
-      go x r _ = pure_shrinks x r
+  conditional_takes no_in i = bind_leaves (binary_takes no_in levels i)
+      (λ x r. conditional_by_shrinks no_in (head i).place x (next r) r)
+
+  assigned_shrinks : (no_in : Bool) (x : Expression) (t : Token) (o : Option BinaryOperator)
+      (c : Bool) → Shrinks (assigned g b no_in x t o c)
+  assigned_shrinks no_in x t o false i = refuse_leaves
+  assigned_shrinks no_in x t o true i = takes_shrinks (bind_leaves (enter_shrinks g i)
+      (λ u r. value_leaves _ (h.expression (part.Assignment no_in) r)))
+
+  pub assignment_by_shrinks : (no_in : Bool) (x : Expression) (t : Token)
+      (o : Option (Option BinaryOperator)) → Shrinks (assignment_by g b no_in x t o)
+  assignment_by_shrinks no_in x t None i = pure_shrinks
+  assignment_by_shrinks no_in x t (Some o) i = assigned_shrinks no_in x t o (is_reference x) i
 
   pub assignment_takes : (no_in : Bool) → Takes (assignment g b no_in)
   unfolding assignment
-  assignment_takes no_in i = bind_takes i (conditional_takes no_in i) (λ x r _. look_shrinks (λ t. assignment_by g b no_in x t (assignment_operator (symbol t))) r (go x r (assignment_operator (next r))))
-    where
-      behind_by : (x : Expression) (r : Tokens) (o : Option BinaryOperator) (c : Bool) → ShrinksAt (assigned g b no_in x (head r) o c) r
-      behind_by x r o false = refuse_shrinks r
-      behind_by x r o true = bind_shrinks r (enter_shrinks g r) (λ t s _. bind_shrinks s (takes_shrinks (h.expression (part.Assignment no_in) s)) (λ y l _. pure_shrinks (e.Assign x o y (head r).place) l))
-
-      go : (x : Expression) (r : Tokens) (o : Option (Option BinaryOperator)) → ShrinksAt (assignment_by g b no_in x (head r) o) r
-      go x r None = pure_shrinks x r
-      go x r (Some o) = behind_by x r o (is_reference x)
+  assignment_takes no_in i = bind_leaves (conditional_takes no_in i)
+      (λ x r. assignment_by_shrinks no_in x (head r) (assignment_operator (next r)) r)
 
   pub whole_takes : (no_in : Bool) → Takes (whole g b no_in)
   unfolding whole
-  whole_takes no_in i = look_takes (λ t. separated (assignment g b no_in) >>= (λ xs. pure (sequence t.place xs))) i
-      (bind_takes i (separated_takes (assignment g b no_in) (assignment_takes no_in) i) (λ xs r _. pure_shrinks (sequence (head i).place xs) r))
+  whole_takes no_in i = value_leaves _ (separated_takes (assignment_takes no_in) i)
 
   -- each part
   pub expression_part_takes : (p : ExpressionPart) → Takes (expression_part g b p)

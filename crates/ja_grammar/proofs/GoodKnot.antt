@@ -15,7 +15,6 @@ use Rattle.ja_grammar.proofs.Explaining.{PlaceLaw}
 use Rattle.ja_grammar.proofs.ExpressionGood.{expression_part_good, expression_part_sample}
 use Rattle.ja_grammar.proofs.ExpressionSamples.{named, whole_name}
 use Rattle.ja_grammar.proofs.Good.{Sample, Any, weaken_good}
-use Rattle.ja_grammar.proofs.Knot.{below_takes}
 use Rattle.ja_grammar.proofs.Known.{known, known_reasons}
 use Rattle.ja_grammar.proofs.LeftHandAhead.{created_ahead}
 use Rattle.ja_grammar.proofs.Levels.{EndsExpression, Ahead, BelowGood, BelowSamples}
@@ -25,7 +24,7 @@ use Rattle.ja_grammar.proofs.SampleTokens.{name, name_real}
 use Rattle.ja_grammar.proofs.SingleGood.{single_good}
 use Rattle.ja_grammar.proofs.StatementGood.{statement_part_good}
 use Rattle.ja_grammar.proofs.StatementSamples.{end_ends, statement_part_sample}
-use Rattle.ja_grammar.proofs.StatementTakes.{single_takes}
+use Rattle.ja_grammar.proofs.StatementTakes.{single_takes, below_takes}
 use Rattle.ja_grammar.proofs.Strict.{strict_asks, strict_room, strict_room_label}
 use Rattle.ja_grammar.proofs.Until.{until_good}
 
@@ -98,6 +97,7 @@ below_laws O (suc d) (suc d') more some =
 pub place_law : PlaceLaw
 unfolding program
 place_law O i = until_good is_end (single (strict max_levels) (below strict max_levels) program_context 0 true) (single (without O 202) (below (without O) 202) program_context 0 true) (known_reasons O).closed (same_symbol_refl End)
-    (single_takes (strict max_levels) (below strict max_levels) (below_takes strict max_levels) program_context 0 true) (single_takes (without O 202) (below (without O) 202) (below_takes (without O) 202) program_context 0 true)
+    (single_takes (strict max_levels) (below_takes strict max_levels) program_context 0 true)
+    (single_takes (without O 202) (below_takes (without O) 202) program_context 0 true)
     (λ i _. weaken_good i (λ tail at. end_ends (next tail) at) (λ x w. w) (λ why w r j. j) (single_good (roomier O max_levels 202 (omega arith) (below_laws O max_levels 202 (omega arith))) program_context (record { all = tt }) 0 true i))
     (λ tail at. same_symbol_is (next tail) End at) i

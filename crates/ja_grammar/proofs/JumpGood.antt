@@ -31,7 +31,7 @@ use Rattle.ja_grammar.proofs.Outcomes.{same_done, bind_inverse, done_value, rest
 use Rattle.ja_grammar.proofs.Real.{Has, covers_nothing, covers_first, reals_more}
 use Rattle.ja_grammar.proofs.Roomier.{Roomier, then_pure, unexpected, takes_pure, takes_one}
 use Rattle.ja_grammar.proofs.SampleTokens.{name, name_real, name_line, colon, colon_real, semicolon, semicolon_is, semicolon_real}
-use Rattle.ja_grammar.proofs.Shrinks.{Within, Moves, bind_moves, take_moves}
+use Rattle.ja_grammar.proofs.Shrinks.{Leaves, Moves, bind_moves, take_moves}
 use Rattle.ja_grammar.proofs.StatementSamples.{ended_then_sample, semicolon_reads}
 use Rattle.ja_grammar.proofs.Steps.{pure_sample, bind_sample, end_sample, take_good, unless_good, level_good, second_refused, good_within}
 use Rattle.ja_grammar.proofs.Strict.{strict_asks, strict_never, room_strict_label}
@@ -440,7 +440,8 @@ module _ {O : Refusal} {J : Reason O} {d : ℕ} {g' : Rules} {b b' : Below} (h :
   label_moves : (c : Context) (i : Tokens) → next i ≡ k.Name → next (behind i) ≡ k.Colon → has_label c (word (head i)) ≡ false → Moves (label (strict d) b c) i
   unfolding label label_rest
   label_moves c i is at new = bind_moves i (take_moves i (λ ends. cc (is, ends)))
-      (λ t r e. same_done (λ t r. Within (label_rest (strict d) b c t) r) e (good_within (behind i) (new_good {U = []} h c i is at new)))
+      (λ t r e. same_done (λ t r. Leaves false (label_rest (strict d) b c t r) r) e
+      (good_within (behind i) (new_good {U = []} h c i is at new)))
 
   -- what a label that was read says
   label_reads : (c : Context) (i : Tokens) (t : Token) (r : Tokens) → label (strict d) b c i ≡ Done t r → (0 < d) × (head i ≡ t)

@@ -20,17 +20,17 @@ use Rattle.ja_grammar.specs.Language.{is_level}
 use Rattle.ja_grammar.specs.Productions.{At}
 use Rattle.ja_grammar.specs.ReadExpression.{Below, is_close_brace, is_close_bracket, element, property, function_body, function, array, object, parenthesized, literal, literal_by, primary, primary_by, chain_head, head_by, dotted, indexed, property_suffix, property_suffix_by, arguments, any_suffix, any_suffix_by, member, created, created_by, left_hand}
 use Rattle.ja_grammar.proofs.ChainGood.{chain_head_good, member_good}
-use Rattle.ja_grammar.proofs.Closing.{brace_closes, parenthesis_closes, literal_more}
+use Rattle.ja_grammar.proofs.Closing.{end_no_property, end_no_suffix, brace_closes, parenthesis_closes, literal_more}
 use Rattle.ja_grammar.proofs.Ends.{split_one}
 use Rattle.ja_grammar.proofs.ExpressionTakes.{element_takes, property_takes, chain_head_takes, property_suffix_takes, any_suffix_takes}
 use Rattle.ja_grammar.proofs.Good.{Follow, Reason, Sample, GoodAt, Any, Closed, weaken_good}
-use Rattle.ja_grammar.proofs.Levels.{EndsExpression, EndsStatement, ends_block}
+use Rattle.ja_grammar.proofs.Levels.{EndsExpression}
 use Rattle.ja_grammar.proofs.Lists.{separated_good}
-use Rattle.ja_grammar.proofs.LiteralGood.{function_name_good, parameters_good, element_good, property_good, property_sample}
+use Rattle.ja_grammar.proofs.LiteralGood.{brace_ends_statement, function_name_good, parameters_good, element_good, property_good, property_sample}
 use Rattle.ja_grammar.proofs.Opening.{opening_inverse}
 use Rattle.ja_grammar.proofs.Outcomes.{same_done, done_value, done_rest, refused_not_done, cons_of, same_symbol_true, bind_inverse, then_is, expect_inverse, expect_done, unless_inverse, enter_inverse, enter_done, entered}
 use Rattle.ja_grammar.proofs.Roomier.{Roomier, enters, lower, expects, takes_one, opens, below_sample}
-use Rattle.ja_grammar.proofs.Shrinks.{TakesAt, Shrinks, Takes, takes_shrinks}
+use Rattle.ja_grammar.proofs.Shrinks.{Leaves, Takes}
 use Rattle.ja_grammar.proofs.Strict.{strict_room, room_strict, strict_never}
 use Rattle.ja_grammar.proofs.Turns.{many_once}
 use Rattle.ja_grammar.proofs.Until.{until_turn, until_turns, until_ends, until_goes, until_good}
@@ -134,8 +134,13 @@ then_kept {F = F} {p = p} f i h = record {
 }
 
 -- by the next token, of what takes one
-look_kept : {A : Type 0} {F : Follow} (f : Token → Parser A) (i : Tokens) → KeptAt F (f (head i)) i → TakesAt (look f) i → KeptAt F (look f) i
-look_kept {A} {F} f i h takes = record { keeps = λ a r e ends. let s = h.keeps a r e ends in go a r (takes.takes a r e) s.before s.split s.same }
+look_kept : {A : Type 0} {F : Follow} (f : Token → Parser A) (i : Tokens) → KeptAt F (f (head i)) i
+    → Leaves true (f (head i) i) i → KeptAt F (look f) i
+look_kept {A} {F} f i h takes =
+    record {
+      keeps = λ a r e ends. let s = h.keeps a r e ends in
+          go a r (takes.leaves a r e) s.before s.split s.same;
+    }
   where
     go : (a : A) (r : Tokens) → suc (length r) ≤ length i → (w : Tokens) → i ≡ w ++ r → ((x : Tokens) → F x → f (head i) (w ++ x) ≡ Done a x) → Keeps F (look f) i a r
     go a r fewer [] split same = absurd (let n = ap length split in omega (arith, fewer, n))
@@ -165,20 +170,26 @@ bind_kept {A = A} {B = B} {p = p} {f = f} {F = F} i first kept second = record {
 -- ---- lists
 
 -- a list with its closing token
-listed_sealed : {A : Type 0} {F : Follow} {W : A → Type 0} {O : Refusal} {J : Reason O} (close : Symbol) (item next_item : Parser A) → close ≢ k.End → close ≢ k.Comma → Closed J → Shrinks item → Shrinks next_item
+listed_sealed : {A : Type 0} {F : Follow} {W : A → Type 0} {O : Refusal} {J : Reason O}
+    (close : Symbol) (item next_item : Parser A) → close ≢ k.End → close ≢ k.Comma → Closed J
+    → Takes item → Takes next_item
     → ((i : Tokens) → GoodAt [] J item next_item F W i)
     → Sample [] next_item Any F W
     → ((tail : Tokens) → next tail ≡ close → F tail)
     → (i : Tokens) → SealedAt (listed close item) i
 unfolding listed
-listed_sealed {A} {J = J} close item next_item more other closed shrinks shrinks' good sample follows i = look_sealed (λ t. listed_by close item (same_symbol (symbol t) close)) i (go (same_symbol (next i) close) refl)
+listed_sealed {A} {J = J} close item next_item more other closed takes takes' good sample follows
+    i = look_sealed (λ t. listed_by close item (same_symbol (symbol t) close)) i
+    (go (same_symbol (next i) close) refl)
   where
     Closes : Follow
     Closes tail = next tail ≡ close
 
     go : (found : Bool) → same_symbol (next i) close ≡ found → SealedAt (listed_by close item found) i
     go true e = pure_sealed (λ _. []) i (take_sealed i (λ ends. more (sym (same_symbol_true (next i) close e) ∙ ends)))
-    go false e = bind_sealed {J = J} i (separated_good {G = Closes} item next_item closed shrinks shrinks' good sample follows (λ tail h comma. other (sym h ∙ comma)) i)
+    go false e =
+        bind_sealed {J = J} i (separated_good {G = Closes} item next_item closed takes takes' good
+        sample follows (λ tail h comma. other (sym h ∙ comma)) i)
         (λ xs r _. pure_sealed (λ _. xs) r (expect_sealed close r more))
 
 -- items up to a symbol, where F holds before it: each of them takes a token last
@@ -214,7 +225,9 @@ until_kept {A} {F} ends item last takes sealed stops found i = by (length i) fou
         go xs r e f false at =
             then_is (until_turn ends item found) (after_turn found all) i (sym (many_once (until_turn ends item) (until_turns ends item last takes) found i) ∙ e) (λ o n q _.
             then_is item (λ x. pure (Some (found ++ x ∷ []))) i (sym (ap (λ b. until_by item found b i) at) ∙ q) (λ x m q _.
-            goes found i at ((sealed i).seals x m q) ((again (found ++ x ∷ []) m ((takes i).takes x m q)).keeps xs r (sym (until_goes ends item last takes found i m x at q) ∙ e) f)))
+            goes found i at ((sealed i).seals x m q)
+            ((again (found ++ x ∷ []) m ((takes i).leaves x m q)).keeps xs r
+            (sym (until_goes ends item last takes found i m x at q) ∙ e) f)))
 
     by : (n : ℕ) (found : List A) (i : Tokens) → length i ≤ n → KeptAt F (all found) i
     by zero found i few = turned found i (λ ys m fewer. absurd (omega (arith, few, fewer)))
@@ -235,18 +248,6 @@ no_property _ h = refl
 no_arguments : begins_suffix k.OpenParenthesis ≡ false → ⊥
 unfolding begins_suffix
 no_arguments h = cc h
-
-end_no_property : not (begins_property k.End) ≡ true
-unfolding begins_property
-end_no_property = refl
-
-end_no_suffix : not (begins_suffix k.End) ≡ true
-unfolding begins_suffix
-end_no_suffix = refl
-
-brace_ends_statement : (tail : Tokens) → At k.CloseBrace tail → EndsStatement tail
-unfolding ends_block
-brace_ends_statement tail at = ap ends_block at
 
 -- a closing token, and then a value
 closes_sealed : {A : Type 0} (κ : Symbol) (a : A) (i : Tokens) → κ ≢ k.End → SealedAt (expect κ >> pure a) i
@@ -288,7 +289,9 @@ module _ {O : Refusal} {J : Reason O} {d : ℕ} {g' : Rules} {b b' : Below} (h :
   unfolding array
   array_sealed i more other = bind_sealed i (enters h i more other)
       (λ t r q. bind_sealed r
-      (until_good is_close_bracket (element (strict d) b) (element g' b') h.reasons.closed refl (element_takes (strict d) b h.takes) (element_takes g' b' h.takes_more) (λ j _. element_good h (room i q) j) (λ tail at. ap is_close_bracket at) r)
+      (until_good is_close_bracket (element (strict d) b) (element g' b') h.reasons.closed refl
+      (element_takes (strict d) h.takes) (element_takes g' h.takes_more)
+      (λ j _. element_good h (room i q) j) (λ tail at. ap is_close_bracket at) r)
       (λ xs m _. closes_sealed k.CloseBracket (e.Array xs t.place) m (λ e. cc e)))
 
   object_sealed : (i : Tokens) → next i ≢ k.End → next i ≢ k.Colon → SealedAt (object (strict d) b) i
@@ -296,7 +299,7 @@ module _ {O : Refusal} {J : Reason O} {d : ℕ} {g' : Rules} {b b' : Below} (h :
   object_sealed i more other = bind_sealed i (enters h i more other)
       (λ t r q. pure_sealed (λ xs. e.Object xs t.place) r
       (listed_sealed {F = EndsExpression} {J = J} k.CloseBrace (property (strict d) b) (property g' b') (λ e. cc e) (λ e. cc e) h.reasons.closed
-      (λ i. takes_shrinks (property_takes (strict d) b h.takes i)) (λ i. takes_shrinks (property_takes g' b' h.takes_more i))
+      (property_takes (strict d) h.takes) (property_takes g' h.takes_more)
       (property_good h (room i q)) (property_sample h) (λ tail at. brace_closes (next tail) at) r))
 
   -- ---- primary expressions
@@ -353,7 +356,7 @@ module _ {O : Refusal} {J : Reason O} {d : ℕ} {g' : Rules} {b b' : Below} (h :
   unfolding arguments
   arguments_sealed i more other = bind_sealed i (enters h i more other)
       (λ t r q. listed_sealed {F = EndsExpression} {J = J} k.CloseParenthesis (b.expression (part.Assignment false)) (b'.expression (part.Assignment false)) (λ e. cc e) (λ e. cc e) h.reasons.closed
-      (λ i. takes_shrinks (h.takes.expression (part.Assignment false) i)) (λ i. takes_shrinks (h.takes_more.expression (part.Assignment false) i))
+      (h.takes.expression (part.Assignment false)) (h.takes_more.expression (part.Assignment false))
       ((lower h i q).expression [] (part.Assignment false)) (below_sample h (part.Assignment false)) (λ tail at. parenthesis_closes (next tail) at) r)
 
   any_suffix_sealed : (i : Tokens) → SealedAt (any_suffix (strict d) b) i
@@ -376,7 +379,9 @@ module _ {O : Refusal} {J : Reason O} {d : ℕ} {g' : Rules} {b b' : Below} (h :
 
   chain_head_kept : (i : Tokens) → KeptAt NoSuffix (chain_head (strict d) b) i
   unfolding chain_head
-  chain_head_kept i = look_kept (λ t. head_by (strict d) b t (symbol t)) i (go (next i) refl) (chain_head_takes (strict d) b h.takes i)
+  chain_head_kept i =
+      look_kept (λ t. head_by (strict d) b t (symbol t)) i (go (next i) refl)
+      (chain_head_takes (strict d) h.takes i)
     where
       go : (κ : Symbol) → next i ≡ κ → KeptAt NoSuffix (head_by (strict d) b (head i) κ) i
       go k.New is = bind_kept i (enters h i (λ ends. cc (is, ends)) (λ other. cc (is, other))) (sealed_kept (enter_sealed d i (λ ends. cc (is, ends)))) (λ t r q. created_below (room i q) (head i).place r)
@@ -384,12 +389,16 @@ module _ {O : Refusal} {J : Reason O} {d : ℕ} {g' : Rules} {b b' : Below} (h :
 
   members_kept : (i : Tokens) → KeptAt NoSuffix (until (λ found. not (begins_property found)) (property_suffix (strict d) b)) i
   unfolding until
-  members_kept i = until_kept (λ found. not (begins_property found)) (property_suffix (strict d) b) end_no_property (property_suffix_takes (strict d) b h.takes) property_suffix_sealed
+  members_kept i =
+      until_kept (λ found. not (begins_property found)) (property_suffix (strict d) b)
+      end_no_property (property_suffix_takes (strict d) h.takes) property_suffix_sealed
       (λ x ends. ap not (no_property (next x) ends)) [] i
 
   suffixes_kept : (i : Tokens) → KeptAt NoSuffix (until (λ found. not (begins_suffix found)) (any_suffix (strict d) b)) i
   unfolding until
-  suffixes_kept i = until_kept (λ found. not (begins_suffix found)) (any_suffix (strict d) b) end_no_suffix (any_suffix_takes (strict d) b h.takes) any_suffix_sealed (λ x ends. ap not ends) [] i
+  suffixes_kept i =
+      until_kept (λ found. not (begins_suffix found)) (any_suffix (strict d) b) end_no_suffix
+      (any_suffix_takes (strict d) h.takes) any_suffix_sealed (λ x ends. ap not ends) [] i
 
   member_kept : (i : Tokens) → KeptAt NoSuffix (member (strict d) b) i
   unfolding member

@@ -27,7 +27,6 @@ pub mod Known
 pub mod LabelNames
 pub mod LeftHandAhead
 pub mod Levels
-pub mod ListLaws
 pub mod Lists
 pub mod LiteralGood
 pub mod Opening
@@ -58,6 +57,4 @@ pub mod TryGood
 pub mod Turns
 pub mod Until
 pub mod Walks
-pub mod WithinExpressions
-pub mod WithinStatements
 pub mod Words

@@ -11,10 +11,10 @@ use Rattle.ja_grammar.specs.Input.{Tokens, head, next, behind, symbol, Done, Par
 use Rattle.ja_grammar.specs.Productions.{Rule, Is, NotAt, Led, Separated, Listed}
 use Rattle.ja_grammar.proofs.Real.{IsRealAfter}
 use Rattle.ja_grammar.proofs.Outcomes.{end_is, comma_not_end, some_value, cons_of, done_value, done_rest, same_symbol_true, same_symbol_false, same_symbol_is, same_symbol_other, expect_done, expect_inverse, bind_done, bind_inverse, same_done}
-use Rattle.ja_grammar.proofs.Shrinks.{ShrinksAt, TakesAt, Shrinks, Takes, takes_shrinks, pure_shrinks, take_takes, expect_takes, bind_shrinks, bind_takes, bind_takes_second, look_shrinks, look_takes}
+use Rattle.ja_grammar.proofs.Shrinks.{Takes, comma_takes}
 use Rattle.ja_grammar.proofs.Good.{Follow, Reason, Sample, GoodAt, Any, Closed, pure_good, bind_good, look_good}
 use Rattle.ja_grammar.proofs.Steps.{pure_sample, bind_sample, end_sample, expect_sample, take_good, expect_good}
-use Rattle.ja_grammar.proofs.Turns.{Turns, OfSome, many_shrinks, many_good_with, many_end, many_all, many_is, folded_push}
+use Rattle.ja_grammar.proofs.Turns.{Turns, OfSome, many_good_with, many_end, many_all, many_is, folded_push}
 
 -- no comma is the end
 comma_more : (i : Tokens) → same_symbol (next i) Comma ≡ true → next i ≢ End
@@ -33,44 +33,18 @@ comma item found i h = ap (λ b. after_comma item found b i) (same_symbol_is (ne
 
 -- ---- tokens are left
 
--- a comma and an item are taken
-comma_takes : {A : Type 0} (item : Parser A) → Shrinks item → (found : List A) (i : Tokens) → next i ≢ End → TakesAt (after_comma item found true) i
-comma_takes item shrinks found i more = bind_takes i (take_takes i more) (λ t r e. bind_shrinks r (shrinks r) (λ x m e. pure_shrinks (Some (found ++ x ∷ [])) m))
-
--- a turn leaves no more tokens than there were
-comma_shrinks : {A : Type 0} (item : Parser A) → Shrinks item → (found : List A) → Shrinks (comma_turn item found)
-comma_shrinks item shrinks found i = look_shrinks (λ t. after_comma item found (same_symbol (symbol t) Comma)) i (go (same_symbol (next i) Comma) refl)
-  where
-    go : (b : Bool) → same_symbol (next i) Comma ≡ b → ShrinksAt (after_comma item found b) i
-    go true e = takes_shrinks (comma_takes item shrinks found i (comma_more i e))
-    go false e = pure_shrinks None i
-
 -- each turn that goes on takes a token
-comma_turns : {A : Type 0} (item : Parser A) → Shrinks item → Turns (comma_turn item)
-comma_turns {A} item shrinks = record { takes = λ found i b r e. go found i b r (same_symbol (next i) Comma) refl e; ends = λ found. no_comma item found [] (λ e. comma_not_end (sym e ∙ end_is)) }
+comma_turns : {A : Type 0} (item : Parser A) → Takes item → Turns (comma_turn item)
+comma_turns {A} item takes =
+    record {
+      takes = λ found i b r e. go found i b r (same_symbol (next i) Comma) refl e;
+      ends = λ found. no_comma item found [] (λ e. comma_not_end (sym e ∙ end_is));
+    }
   where
     go : (found : List A) (i : Tokens) (ys : List A) (r : Tokens) (b : Bool) → same_symbol (next i) Comma ≡ b → after_comma item found b i ≡ Done (Some ys) r → suc (length r) ≤ length i
-    go found i ys r true at e = (comma_takes item shrinks found i (comma_more i at)).takes (Some ys) r e
+    go found i ys r true at e =
+        (comma_takes takes found i (same_symbol_true (next i) Comma at)).leaves (Some ys) r e
     go found i ys r false at e = absurd (none_not_some (done_value e))
-
--- items with commas leave no more tokens than there were
-pub separated_shrinks : {A : Type 0} (item : Parser A) → Shrinks item → Shrinks (separated item)
-unfolding separated
-separated_shrinks item shrinks i = bind_shrinks i (shrinks i) (λ x r e. many_shrinks (comma_turn item) (comma_shrinks item shrinks) (x ∷ []) r)
-
--- or fewer, where an item takes
-pub separated_takes : {A : Type 0} (item : Parser A) → Takes item → Takes (separated item)
-unfolding separated
-separated_takes item takes i = bind_takes i (takes i) (λ x r e. many_shrinks (comma_turn item) (comma_shrinks item (λ i. takes_shrinks (takes i))) (x ∷ []) r)
-
--- a list with its closing token takes
-pub listed_takes : {A : Type 0} (close : Symbol) (item : Parser A) → close ≢ End → Shrinks item → Takes (listed close item)
-unfolding listed
-listed_takes {A} close item more shrinks i = look_takes (λ t. listed_by close item (same_symbol (symbol t) close)) i (go (same_symbol (next i) close) refl)
-  where
-    go : (b : Bool) → same_symbol (next i) close ≡ b → TakesAt (listed_by close item b) i
-    go true e = bind_takes i (take_takes i (λ ends. more (sym (same_symbol_true (next i) close e) ∙ ends))) (λ t r e. pure_shrinks [] r)
-    go false e = bind_takes_second i (separated_shrinks item shrinks i) (λ xs r e. bind_takes r (expect_takes close more r) (λ t m e. pure_shrinks xs m))
 
 -- ---- the place
 
@@ -89,15 +63,19 @@ comma_good {U} {A} {F} {W} {O} {J} item next_item closed good sample found i =
     go false e = subst (λ b. GoodAt U J (after_comma item found b) (after_comma next_item found b) F (OfSome Any) i) (sym e) (pure_good J F (OfSome Any) None i)
 
 -- Items with commas between: F may follow an item, and G the list.
-pub separated_good : {U : Tokens} {A : Type 0} {F G : Follow} {W : A → Type 0} {O : Refusal} {J : Reason O} (item next_item : Parser A) → Closed J → Shrinks item → Shrinks next_item
+pub separated_good : {U : Tokens} {A : Type 0} {F G : Follow} {W : A → Type 0} {O : Refusal}
+    {J : Reason O} (item next_item : Parser A) → Closed J → Takes item → Takes next_item
     → ((i : Tokens) → GoodAt U J item next_item F W i)
     → Sample U next_item Any F W
     → ((tail : Tokens) → G tail → F tail) → ((tail : Tokens) → G tail → NotAt Comma tail)
     → (i : Tokens) → GoodAt U J (separated item) (separated next_item) G Any i
 unfolding separated
-separated_good {U} {A} {F} {G} {W} {O} {J} item next_item closed shrinks shrinks' good sample follows other i =
+separated_good {U} {A} {F} {G} {W} {O} {J} item next_item closed takes takes' good sample follows
+    other i =
     bind_good i closed (good i)
-    (λ x r _. many_good_with (comma_turn item) (comma_turn next_item) closed (comma_turns item shrinks) (comma_turns next_item shrinks') (comma_good item next_item closed good sample)
+    (λ x r _. many_good_with (comma_turn item) (comma_turn next_item) closed
+    (comma_turns item takes) (comma_turns next_item takes')
+    (comma_good item next_item closed good sample)
     rest (x ∷ []) r)
     (λ x v. rest (x ∷ []) tt)
   where
@@ -105,7 +83,9 @@ separated_good {U} {A} {F} {G} {W} {O} {J} item next_item closed shrinks shrinks
     rest xs v = end_sample xs tt follows (λ tail h. many_end (comma_turn next_item) xs tail (no_comma next_item xs tail (other tail h)))
 
 -- Any number of items and a closing token, as t: F may follow an item, and anything may follow the list.
-pub listed_good : {U : Tokens} {A : Type 0} {F G : Follow} {W : A → Type 0} {O : Refusal} {J : Reason O} (close : Symbol) (item next_item : Parser A) → close ≢ End → close ≢ Comma → Closed J → Shrinks item → Shrinks next_item
+pub listed_good : {U : Tokens} {A : Type 0} {F G : Follow} {W : A → Type 0} {O : Refusal}
+    {J : Reason O} (close : Symbol) (item next_item : Parser A) → close ≢ End → close ≢ Comma
+    → Closed J → Takes item → Takes next_item
     → ((i : Tokens) → GoodAt U J item next_item F W i)
     → Sample U next_item Any F W
     → ((tail : Tokens) → next tail ≡ close → F tail)
@@ -113,7 +93,8 @@ pub listed_good : {U : Tokens} {A : Type 0} {F G : Follow} {W : A → Type 0} {O
     → ((r : Tokens) → NotAt close r → J.right Unexpected [] r)
     → (i : Tokens) → GoodAt U J (listed close item) (listed close next_item) G Any i
 unfolding listed
-listed_good {U} {A} {F} {G} {W} {O} {J} close item next_item more other closed shrinks shrinks' good sample follows t is real unexpected i =
+listed_good {U} {A} {F} {G} {W} {O} {J} close item next_item more other closed takes takes' good
+    sample follows t is real unexpected i =
     look_good (λ t. listed_by close item (same_symbol (symbol t) close)) (λ t. listed_by close next_item (same_symbol (symbol t) close)) i (go (same_symbol (next i) close) refl)
   where
     Closes : Tokens → Type 0
@@ -126,7 +107,8 @@ listed_good {U} {A} {F} {G} {W} {O} {J} close item next_item more other closed s
         (λ _ r _. pure_good J G Any [] r) (λ _ v. pure_sample [] tt))
     go false e = subst (λ b. GoodAt U J (listed_by close item b) (listed_by close next_item b) G Any i) (sym e)
         (bind_good i closed
-        (separated_good {G = Closes} item next_item closed shrinks shrinks' good sample follows (λ tail h k. other (sym h ∙ k)) i)
+        (separated_good {G = Closes} item next_item closed takes takes' good sample follows
+        (λ tail h k. other (sym h ∙ k)) i)
         (λ xs r _. bind_good r closed (expect_good J G Any close r more (unexpected r) (λ _. tt)) (λ _ m _. pure_good J G Any xs m) (λ _ v. pure_sample xs tt))
         (λ xs v. bind_sample {V = Any} (expect_sample close t is real tt (λ tail h. is)) (λ _ w. pure_sample xs tt)))
 
@@ -153,13 +135,15 @@ listed_sample close item t is real w starts = record {
 -- ---- what is read
 
 -- items of the grammar are read
-pub separated_all : {A : Type 0} {One : Rule A} (item : Parser A) → Shrinks item
+pub separated_all : {A : Type 0} (item : Parser A) (One : Rule A) → Takes item
     → ((i : Tokens) (x : A) (r : Tokens) → One i x r → item i ≡ Done x r)
     → (i : Tokens) (xs : List A) (r : Tokens) → Separated One i xs r → separated item i ≡ Done xs r
 unfolding separated
-separated_all {A} {One} item shrinks all i xs r (Separated.separated {m = m} {x = x} {xs = ys} h t) =
+separated_all {A} item One takes all i xs r (Separated.separated {m = m} {x = x} {xs = ys} h t) =
     bind_done item _ (all i x m h)
-    (many_all (comma_turn item) push (comma_turns item shrinks) one (λ found r h. no_comma item found r h) (x ∷ []) m ys r t ∙ ap (λ ys. Done ys r) (folded_push (x ∷ []) ys))
+    (many_all (comma_turn item) push (comma_turns item takes) one
+    (λ found r h. no_comma item found r h) (x ∷ []) m ys r t
+    ∙ ap (λ ys. Done ys r) (folded_push (x ∷ []) ys))
   where
     push : List A → A → List A
     push found x = found ++ x ∷ []
@@ -168,13 +152,14 @@ separated_all {A} {One} item shrinks all i xs r (Separated.separated {m = m} {x 
     one found i x m (Led.led {t = t} {i = j} is h) = comma item found i is ∙ bind_done item _ (all j x m h) refl
 
 -- what is read is items of the grammar
-pub separated_is : {A : Type 0} {One : Rule A} (item : Parser A) → Shrinks item
+pub separated_is : {A : Type 0} (item : Parser A) (One : Rule A) → Takes item
     → ((i : Tokens) (x : A) (r : Tokens) → item i ≡ Done x r → One i x r)
     → (i : Tokens) (xs : List A) (r : Tokens) → separated item i ≡ Done xs r → Separated One i xs r
 unfolding separated
-separated_is {A} {One} item shrinks sound i xs r e =
+separated_is {A} item One takes sound i xs r e =
     let s = bind_inverse item (λ x. many (comma_turn item) (x ∷ [])) i e in
-    let t = many_is {Stop = NotAt Comma} (comma_turn item) push (comma_turns item shrinks) one stop (s.0 ∷ []) s.1 xs r s.3 in
+    let t = many_is {Stop = NotAt Comma} (comma_turn item) push (comma_turns item takes) one stop
+    (s.0 ∷ []) s.1 xs r s.3 in
     subst (λ ys. Separated One i ys r) (sym (t.2 ∙ folded_push (s.0 ∷ []) t.0)) (Separated.separated (sound i s.0 s.1 s.2) t.1)
   where
     push : List A → A → List A
@@ -200,21 +185,24 @@ separated_is {A} {One} item shrinks sound i xs r e =
         go false at h = (done_rest h, subst (NotAt Comma) (done_rest h) (same_symbol_false (next i) Comma at))
 
 -- a list of the grammar with its closing token is read
-pub listed_all : {A : Type 0} {One : Rule A} (close : Symbol) (item : Parser A) → Shrinks item
+pub listed_all : {A : Type 0} (item : Parser A) (One : Rule A) → Takes item → (close : Symbol)
     → ((i : Tokens) (x : A) (r : Tokens) → One i x r → item i ≡ Done x r)
     → (i : Tokens) (xs : List A) (r : Tokens) → Listed close One i xs r → listed close item i ≡ Done xs r
 unfolding listed
-listed_all {A} {One} close item shrinks all i xs r (Listed.empty {t = t} is) = ap (λ b. listed_by close item b i) (same_symbol_is (symbol t) close is)
-listed_all {A} {One} close item shrinks all i xs r (Listed.some {t = t} other h is) =
+listed_all {A} item One takes close all i xs r (Listed.empty {t = t} is) =
+    ap (λ b. listed_by close item b i) (same_symbol_is (symbol t) close is)
+listed_all {A} item One takes close all i xs r (Listed.some {t = t} other h is) =
     ap (λ b. listed_by close item b i) (same_symbol_other (next i) close other)
-    ∙ bind_done (separated item) _ (separated_all item shrinks all i xs (t ∷ r) h) (bind_done (expect close) _ (expect_done close t r is) refl)
+    ∙ bind_done (separated item) _ (separated_all item One takes all i xs (t ∷ r) h)
+    (bind_done (expect close) _ (expect_done close t r is) refl)
 
 -- what is read is a list of the grammar with its closing token
-pub listed_is : {A : Type 0} {One : Rule A} (close : Symbol) (item : Parser A) → close ≢ End → Shrinks item
+pub listed_is : {A : Type 0} (item : Parser A) (One : Rule A) → Takes item → (close : Symbol)
+    → close ≢ End
     → ((i : Tokens) (x : A) (r : Tokens) → item i ≡ Done x r → One i x r)
     → (i : Tokens) (xs : List A) (r : Tokens) → listed close item i ≡ Done xs r → Listed close One i xs r
 unfolding listed
-listed_is {A} {One} close item more shrinks sound i xs r e = go (same_symbol (next i) close) refl e
+listed_is {A} item One takes close more sound i xs r e = go (same_symbol (next i) close) refl e
   where
     go : (b : Bool) → same_symbol (next i) close ≡ b → listed_by close item b i ≡ Done xs r → Listed close One i xs r
     go true at h =
@@ -225,4 +213,6 @@ listed_is {A} {One} close item more shrinks sound i xs r e = go (same_symbol (ne
         let t = bind_inverse (expect close) (λ _. pure s.0) s.1 s.3 in
         let u = expect_inverse close s.1 more t.2 in
         same_done (λ ys m. Listed close One i ys m) t.3
-        (Listed.some (same_symbol_false (next i) close at) (subst (λ j. Separated One i s.0 j) u.0 (separated_is item shrinks sound i s.0 s.1 s.2)) u.1)
+        (Listed.some (same_symbol_false (next i) close at)
+        (subst (λ j. Separated One i s.0 j) u.0
+        (separated_is item One takes sound i s.0 s.1 s.2)) u.1)

@@ -30,7 +30,6 @@ use Rattle.ja_grammar.proofs.Opening.{opening_inverse}
 use Rattle.ja_grammar.proofs.Outcomes.{entered}
 use Rattle.ja_grammar.proofs.Roomier.{Roomier, token_sample, expected_sample, any_first, then_pure, enters, lower, expects, takes_one, unexpected, takes_pure, closes_pure, opens, opens_sample, below_sample}
 use Rattle.ja_grammar.proofs.SampleTokens.{name, name_is, name_real, function_word, function_word_is, function_word_real, open_parenthesis, open_parenthesis_is, open_parenthesis_real, close_parenthesis, close_parenthesis_is, close_parenthesis_real, open_brace, open_brace_is, open_brace_real, close_brace, close_brace_is, close_brace_real, close_bracket, close_bracket_is, close_bracket_real, colon, colon_is, colon_real}
-use Rattle.ja_grammar.proofs.Shrinks.{takes_shrinks}
 use Rattle.ja_grammar.proofs.Steps.{pure_sample, bind_sample, end_sample, unless_good}
 use Rattle.ja_grammar.proofs.Strict.{room_strict}
 use Rattle.ja_grammar.proofs.Until.{until_good, until_sample}
@@ -44,7 +43,7 @@ property_name_is = ap (λ κ. property_name_by κ name) name_is
 abbrev property_of : PropertyName → Token → Expression → Property Expression
 property_of x t v = record { name = x; value = v; place = t.place }
 
-brace_ends_statement : (tail : Tokens) → At k.CloseBrace tail → EndsStatement tail
+pub brace_ends_statement : (tail : Tokens) → At k.CloseBrace tail → EndsStatement tail
 unfolding ends_block
 brace_ends_statement tail at = ap ends_block at
 
@@ -92,7 +91,9 @@ module _ {U : Tokens} {O : Refusal} {J : Reason O} {d : ℕ} {g' : Rules} {b b' 
   pub parameters_good : (i : Tokens) → GoodAt U J (parameters (strict d) b) (parameters g' b') Any Any i
   unfolding parameters
   parameters_good i = bind_good i h.reasons.closed (opens h k.OpenParenthesis i (λ e. cc e) (λ e. cc e))
-      (λ t r _. listed_good {F = Any} {W = Any} k.CloseParenthesis (declared (strict d)) (declared g') (λ e. cc e) (λ e. cc e) h.reasons.closed (λ i. takes_shrinks (declared_takes (strict d) i)) (λ i. takes_shrinks (declared_takes g' i))
+      (λ t r _. listed_good {F = Any} {W = Any} k.CloseParenthesis (declared (strict d))
+      (declared g') (λ e. cc e) (λ e. cc e) h.reasons.closed (declared_takes (strict d))
+      (declared_takes g')
       declared_good (declared_sample g') (λ tail at. tt) close_parenthesis close_parenthesis_is close_parenthesis_real (λ r _. h.reasons.free Unexpected [] r refl) r)
       (λ t _. listed_sample k.CloseParenthesis (declared g') close_parenthesis close_parenthesis_is close_parenthesis_real tt (λ tail _. tt))
 
@@ -163,7 +164,10 @@ module _ {U : Tokens} {O : Refusal} {J : Reason O} {d : ℕ} {g' : Rules} {b b' 
   unfolding array
   array_good i more other = bind_good i h.reasons.closed (enters h i more other)
       (λ t r q. bind_good r h.reasons.closed
-      (until_good is_close_bracket (element (strict d) b) (element g' b') h.reasons.closed refl (element_takes (strict d) b h.takes) (element_takes g' b' h.takes_more) (λ j _. element_good (room_strict d i (entered (strict d) i q)) j) (λ tail at. ap is_close_bracket at) r)
+      (until_good is_close_bracket (element (strict d) b) (element g' b') h.reasons.closed refl
+      (element_takes (strict d) h.takes) (element_takes g' h.takes_more)
+      (λ j _. element_good (room_strict d i (entered (strict d) i q)) j)
+      (λ tail at. ap is_close_bracket at) r)
       (λ xs m _. closes_pure h k.CloseBracket (e.Array xs t.place) tt m (λ e. cc e))
       (λ xs _. rest t xs))
       (λ t _. any_first (bind_sample (until_sample {F = At k.CloseBracket} is_close_bracket (element g' b') (λ tail at. ap is_close_bracket at)) (λ xs _. rest t xs)))
@@ -208,7 +212,7 @@ module _ {U : Tokens} {O : Refusal} {J : Reason O} {d : ℕ} {g' : Rules} {b b' 
   object_good i more other = bind_good i h.reasons.closed (enters h i more other)
       (λ t r q. bind_good r h.reasons.closed
       (listed_good {F = EndsExpression} {G = Any} k.CloseBrace (property (strict d) b) (property g' b') (λ e. cc e) (λ e. cc e) h.reasons.closed
-      (λ i. takes_shrinks (property_takes (strict d) b h.takes i)) (λ i. takes_shrinks (property_takes g' b' h.takes_more i))
+      (property_takes (strict d) h.takes) (property_takes g' h.takes_more)
       (property_good (room_strict d i (entered (strict d) i q))) property_sample (λ tail at. brace_closes (next tail) at) close_brace close_brace_is close_brace_real (λ r _. h.reasons.free Unexpected [] r refl) r)
       (λ xs m _. pure_good J Any Any (e.Object xs t.place) m)
       (λ xs _. pure_sample (e.Object xs t.place) tt))

@@ -1,5 +1,5 @@
 -- The step that takes an opening token: it has its symbol, and it counts.
-use Rattle.std.proofs.Common.{◌≡◌, ◌≢◌, Bool, true, false, ◌∷◌, length, if◌then◌else◌, refl, sym, ap, ◌∙◌, arith}
+use Rattle.std.proofs.Common.{◌≡◌, ◌≢◌, Bool, true, false, ◌∷◌, if◌then◌else◌, refl, sym, ap, ◌∙◌}
 use Rattle.ja_lex.specs.declared.token.Token.{Token}
 use Rattle.ja_syntax.specs.declared.symbol.Symbol.{Symbol}
 use Rattle.ja_syntax.specs.declared.symbol.Symbol.TheVariants.{End}
@@ -8,7 +8,6 @@ use Rattle.ja_grammar.specs.declared.fault.Refusal.TheVariants.{Unexpected}
 use Rattle.ja_grammar.specs.Input.{Tokens, next, symbol, Done, Refused, enter, opening, Rules}
 use Rattle.ja_grammar.specs.Productions.{Is, HasRoom}
 use Rattle.ja_grammar.proofs.Outcomes.{refused_not_done, same_symbol_is, same_symbol_true, enter_done, enter_inverse}
-use Rattle.ja_grammar.proofs.Shrinks.{Takes}
 
 -- with levels left, the token is taken
 pub opening_done : (g : Rules) (k : Symbol) (t : Token) (r : Tokens) → HasRoom g (t ∷ r) → Is k t → opening g k (t ∷ r) ≡ Done t r
@@ -25,6 +24,3 @@ opening_inverse g k i {t} {r} unlike e = go (same_symbol (next i) k) refl e
         let s = enter_inverse g i (λ ends. unlike (sym is ∙ ends)) h in
         (s.0, s.1, sym (ap next s.1) ∙ is)
     go false at h = absurd (refused_not_done h)
-
-pub opening_takes : (g : Rules) (k : Symbol) → k ≢ End → Takes (opening g k)
-opening_takes g k unlike i = record { takes = λ t r e. let s = opening_inverse g k i unlike e in omega (arith, ap length s.1) }

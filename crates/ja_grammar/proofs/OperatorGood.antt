@@ -1,6 +1,6 @@
 -- The place laws of operators before and behind an operand (11.3, 11.4).
 use Rattle.std.proofs.lemmas.Bool.{not-true}
-use Rattle.std.proofs.Common.{◌≡◌, ◌≢◌, ◌⊎◌, inl, inr, ℕ, suc, ◌≤◌, Bool, true, false, true≢false, not, ◌||◌, is_some, List, [], ◌∷◌, ◌++◌, length, Option, Some, None, refl, sym, ap, ◌∙◌, subst, arith}
+use Rattle.std.proofs.Common.{◌≡◌, ◌≢◌, ◌⊎◌, inl, inr, ℕ, suc, ◌≤◌, Bool, true, false, true≢false, not, ◌||◌, is_some, [], ◌∷◌, ◌++◌, length, Option, Some, None, refl, sym, ap, ◌∙◌, subst, arith}
 use Rattle.ja_base.specs.declared.ids.Place.{Place}
 use Rattle.ja_lex.specs.declared.token.Token.{Token}
 use Rattle.ja_syntax.specs.declared.symbol.Symbol.TheVariants as k
@@ -15,17 +15,16 @@ use Rattle.ja_grammar.specs.declared.part.ExpressionPart.TheVariants as part
 use Rattle.ja_grammar.specs.Forms.{begins_suffix, postfix_of, is_prefix, chained}
 use Rattle.ja_grammar.specs.Input.{Tokens, head, next, symbol, Done, Refused, Parser, and_then, ◌>>=◌, ◌>>◌, pure, look, take_token, enter, until, Rules, strict}
 use Rattle.ja_grammar.specs.Operators.{unary_operator, prefix_update}
-use Rattle.ja_grammar.specs.Productions.{Rule, Many}
 use Rattle.ja_grammar.specs.ReadExpression.{Below, chain_head, any_suffix, left_hand, postfix, postfix_by, updated_behind, operand_close, operand_by, updated, updated_by, unary, unary_by}
 use Rattle.ja_grammar.proofs.Agree.{BelowTakes}
 use Rattle.ja_grammar.proofs.ChainGood.{IsReference, left_hand_good, left_hand_good_reference}
-use Rattle.ja_grammar.proofs.Closing.{no_suffix_closes, no_postfix_closes, unary_more, unary_no_colon, prefix_more, prefix_no_colon, postfix_more}
+use Rattle.ja_grammar.proofs.Closing.{end_no_suffix, no_suffix_closes, no_postfix_closes, unary_more, unary_no_colon, prefix_more, prefix_no_colon, postfix_more}
 use Rattle.ja_grammar.proofs.Ends.{split_one}
 use Rattle.ja_grammar.proofs.ExpressionTakes.{any_suffix_takes, left_hand_takes}
 use Rattle.ja_grammar.proofs.Good.{Reason, CompletesWith, Sample, Stops, GoodAt, Closes, Any, pure_good, bind_good, bind_good_by, look_good}
 use Rattle.ja_grammar.proofs.LeftHandAhead.{left_hand_ahead}
 use Rattle.ja_grammar.proofs.Levels.{EndsExpression, BelowGood, owed_reason}
-use Rattle.ja_grammar.proofs.ListLaws.{until_is}
+use Rattle.ja_grammar.proofs.Until.{many_last, until_is}
 use Rattle.ja_grammar.proofs.Outcomes.{done_rest, bind_inverse, take_inverse, enter_done, entered_token, unless_reads, unless_refuses}
 use Rattle.ja_grammar.proofs.Roomier.{Roomier, then_pure, enters, lower, unexpected, takes_pure, below_sample}
 use Rattle.ja_grammar.proofs.Steps.{pure_sample, end_sample, unless_good}
@@ -33,15 +32,6 @@ use Rattle.ja_grammar.proofs.Strict.{strict_asks}
 
 not_both : (c c' : Bool) → (c || c') ≡ true → c ≡ false → c' ≡ false → ⊥
 not_both c c' e off off' = true≢false (sym e ∙ ap (λ x. x || c') off ∙ off')
-
--- what ends a list
-many_last : {X : Type 0} {One : Rule X} {Stop : Tokens → Type 0} (i : Tokens) (xs : List X) (r : Tokens) → Many One Stop i xs r → Stop r
-many_last i xs r (Many.none h) = h
-many_last i xs r (Many.more {m = m} {xs = ys} h t) = many_last m ys r t
-
-end_no_suffix : not (begins_suffix k.End) ≡ true
-unfolding begins_suffix
-end_no_suffix = refl
 
 module _ (g : Rules) (b : Below) where
   -- behind a member or call stands no suffix
@@ -51,7 +41,9 @@ module _ (g : Rules) (b : Below) where
       let s = bind_inverse (chain_head g b) (λ x. until (λ found. not (begins_suffix found)) (any_suffix g b) >>= (λ ss. pure (chained x ss))) i q in
       let t = bind_inverse (until (λ found. not (begins_suffix found)) (any_suffix g b)) (λ ss. pure (chained s.0 ss)) s.1 s.3 in
       subst (λ m. begins_suffix (next m) ≡ false) (done_rest t.3)
-      (many_last s.1 t.0 t.1 (until_is (λ found. not (begins_suffix found)) (any_suffix g b) (λ i x m. any_suffix g b i ≡ Done x m) (λ m. begins_suffix (next m) ≡ false) (any_suffix_takes g b takes) end_no_suffix
+      (many_last s.1 t.0 t.1 (until_is (λ found. not (begins_suffix found)) (any_suffix g b)
+      (λ i x m. any_suffix g b i ≡ Done x m) (λ m. begins_suffix (next m) ≡ false)
+      (any_suffix_takes g takes) end_no_suffix
       (λ i x m _ h. h) s.1 t.0 t.1 (not-true (begins_suffix (next t.1))) t.2))
 
   -- a reference with no operator behind it is an operand
@@ -148,7 +140,7 @@ module _ {U : Tokens} {O : Refusal} {J : Reason O} {d : ℕ} {g' : Rules} {b b' 
     refuses_more = λ kept y on. operand_refused g' b' place x y is (h.asks (Operand place) refl y ∙ ap not kept);
     instead = λ y on. on;
     goes_on = λ out. ([], x, tt, λ tail ends. (ap not (no_suffix_closes (next tail) ends), operand_whole g' b' place x tail is (h.asks (Operand place) refl tail ∙ ap not out)), tt);
-    right = λ w split. right w ((left_hand_takes (strict d) b h.takes i).takes x m q) split;
+    right = λ w split. right w ((left_hand_takes (strict d) h.takes i).leaves x m q) split;
   }
     where
       stopped : begins_suffix (next m) ≡ false

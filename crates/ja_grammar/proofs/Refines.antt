@@ -13,9 +13,9 @@ use Rattle.ja_grammar.specs.Input.{Tokens, next, symbol, behind, Outcome, Done, 
 use Rattle.ja_grammar.specs.Language.{is_level}
 use Rattle.ja_grammar.specs.Productions.{HasRoom}
 use Rattle.ja_grammar.specs.ReadExpression.{Below}
+use Rattle.ja_grammar.proofs.Agree.{BelowTakes}
 use Rattle.ja_grammar.proofs.Outcomes.{refused_not_done, entered, rest_of}
-use Rattle.ja_grammar.proofs.Shrinks.{Within, behind_shrinks, pure_within, value_within, expect_within, after_turn_within, many_from_within, until_turn_within, comma_turn_within, commas_within}
-use Rattle.ja_grammar.proofs.WithinExpressions.{BelowWithin}
+use Rattle.ja_grammar.proofs.Shrinks.{Leaves, Shrinks, behind_shrinks, pure_shrinks, value_leaves, expect_shrinks, after_turn_shrinks, many_from_shrinks, until_turn_shrinks, comma_turn_shrinks, many_shrinks}
 
 -- which refusals the second reading doesn't make: by the refusal and the tokens that are left
 abbrev pub Lenient : Type 1
@@ -40,13 +40,14 @@ pub record RefinesBelow (C : Lenient) (g g' : Rules) (b b' : Below) : Type 0 whe
   pub expression : (i : Tokens) → HasRoom g i → (p : ExpressionPart) (j : Tokens) → Refines C (b.expression p j) (b'.expression p j)
   pub statement : (why : Refusal) (i : Tokens) → is_level why ≡ true → g why i ≡ false → (c : Context) (p : StatementPart) (j : Tokens)
       → Refines C (b.statement c p j) (b'.statement c p j)
-  pub within : BelowWithin b'
+  pub takes : BelowTakes b'
 
 -- ---- steps
 
 -- one after the other
-pub bind_refines : {A B : Type 0} {C : Lenient} {o u : Outcome A} {f h : A → Parser B}
-    → Refines C o u → ((a : A) (r : Tokens) → o ≡ Done a r → Refines C (f a r) (h a r)) → ((a : A) (r : Tokens) → Within (h a) r) → Refines C (and_then o f) (and_then u h)
+pub bind_refines : {A B : Type 0} {C : Lenient} {o u : Outcome A} {f h : A → Parser B} {c : Bool}
+    → Refines C o u → ((a : A) (r : Tokens) → o ≡ Done a r → Refines C (f a r) (h a r))
+    → ((a : A) (r : Tokens) → Leaves c (h a r) r) → Refines C (and_then o f) (and_then u h)
 bind_refines {A} {B} {C} {o} {u} {f} {h} (same e) second within = subst (λ x. Refines C (and_then o f) (and_then x h)) e (go o second)
   where
     go : (x : Outcome A) → ((a : A) (r : Tokens) → x ≡ Done a r → Refines C (f a r) (h a r)) → Refines C (and_then x f) (and_then x h)
@@ -64,12 +65,14 @@ then_refines (Done a r) second = second a r refl
 then_refines (Refused why r) second = same refl
 
 -- the same behind
-pub tail_refines : {A B : Type 0} {C : Lenient} {o u : Outcome A} {f : A → Parser B} → Refines C o u → ((a : A) (r : Tokens) → Within (f a) r) → Refines C (and_then o f) (and_then u f)
+pub tail_refines : {A B : Type 0} {C : Lenient} {o u : Outcome A} {f : A → Parser B} {c : Bool}
+    → Refines C o u → ((a : A) (r : Tokens) → Leaves c (f a r) r)
+    → Refines C (and_then o f) (and_then u f)
 tail_refines h within = bind_refines h (λ a r _. same refl) within
 
 -- a value behind
 pub value_refines : {A B : Type 0} {C : Lenient} {o u : Outcome A} (f : A → B) → Refines C o u → Refines C (and_then o (λ a. pure (f a))) (and_then u (λ a. pure (f a)))
-value_refines f h = tail_refines h (λ a r. pure_within (f a) r)
+value_refines f h = tail_refines h (λ a r. pure_shrinks)
 
 -- by a rule
 pub unless_refines : {A : Type 0} {C : Lenient} (g g' : Rules) (why : Refusal) (i : Tokens) {o u : Outcome A} → Asks C g g' why i
@@ -114,11 +117,15 @@ opened g k i {t} {r} e = go (same_symbol (next i) k) e
 
 -- ---- lists
 
-module _ {A : Type 0} {C : Lenient} (turn turn' : A → Parser (Option A)) (h : (a : A) (i : Tokens) → Refines C (turn a i) (turn' a i)) (within : (a : A) (i : Tokens) → Within (turn' a) i) where
+module _ {A : Type 0} {C : Lenient} (turn turn' : A → Parser (Option A))
+    (h : (a : A) (i : Tokens) → Refines C (turn a i) (turn' a i))
+    (within : (a : A) → Shrinks (turn' a)) where
   pub many_from_refines : (n : ℕ) (a : A) (i : Tokens) → Refines C (many_from turn n a i) (many_from turn' n a i)
   unfolding many_from
   many_from_refines zero a i = same refl
-  many_from_refines (suc n) a i = bind_refines (h a i) (λ o r _. go (many_from_refines n) o r) (λ o r. after_turn_within (many_from turn' n) (many_from_within turn' within n) a o r)
+  many_from_refines (suc n) a i =
+      bind_refines (h a i) (λ o r _. go (many_from_refines n) o r)
+      (λ o r. after_turn_shrinks (many_from_shrinks within n) a o r)
     where
       go : ((b : A) (r : Tokens) → Refines C (many_from turn n b r) (many_from turn' n b r)) → (o : Option A) (r : Tokens)
           → Refines C (after_turn a (many_from turn n) o r) (after_turn a (many_from turn' n) o r)
@@ -128,11 +135,15 @@ module _ {A : Type 0} {C : Lenient} (turn turn' : A → Parser (Option A)) (h : 
   pub many_refines : (a : A) (i : Tokens) → Refines C (many turn a i) (many turn' a i)
   many_refines a i = many_from_refines (length i) a i
 
-module _ {A : Type 0} {C : Lenient} (item item' : Parser A) (h : (i : Tokens) → Refines C (item i) (item' i)) (within : (i : Tokens) → Within item' i) where
+module _ {A : Type 0} {C : Lenient} {c : Bool} (item item' : Parser A)
+    (h : (i : Tokens) → Refines C (item i) (item' i))
+    (within : (i : Tokens) → Leaves c (item' i) i) where
   pub until_refines : (ends : Symbol → Bool) (i : Tokens) → Refines C (until ends item i) (until ends item' i)
   unfolding until
   until_refines ends i =
-      many_refines (λ found. look (λ t. until_by item found (ends (symbol t)))) (λ found. look (λ t. until_by item' found (ends (symbol t)))) (λ found j. go found j (ends (next j))) (until_turn_within item' within ends) [] i
+      many_refines (λ found. look (λ t. until_by item found (ends (symbol t))))
+      (λ found. look (λ t. until_by item' found (ends (symbol t))))
+      (λ found j. go found j (ends (next j))) (until_turn_shrinks within ends) [] i
     where
       go : (found : List A) (j : Tokens) (x : Bool) → Refines C (until_by item found x j) (until_by item' found x j)
       go found j true = same refl
@@ -141,8 +152,10 @@ module _ {A : Type 0} {C : Lenient} (item item' : Parser A) (h : (i : Tokens) �
   pub separated_refines : (i : Tokens) → Refines C (separated item i) (separated item' i)
   unfolding separated
   separated_refines i = bind_refines (h i) (λ x r _. many_refines (λ found. look (λ t. after_comma item found (same_symbol (symbol t) Comma)))
-      (λ found. look (λ t. after_comma item' found (same_symbol (symbol t) Comma))) (λ found j. go found j (same_symbol (next j) Comma)) (comma_turn_within item' within) (x ∷ []) r)
-      (λ x r. commas_within item' within (x ∷ []) r)
+      (λ found. look (λ t. after_comma item' found (same_symbol (symbol t) Comma)))
+      (λ found j. go found j (same_symbol (next j) Comma)) (comma_turn_shrinks within) (x ∷ [])
+      r)
+      (λ x r. many_shrinks (comma_turn_shrinks within) (x ∷ []) r)
     where
       go : (found : List A) (j : Tokens) (x : Bool) → Refines C (after_comma item found x j) (after_comma item' found x j)
       go found j false = same refl
@@ -154,4 +167,5 @@ module _ {A : Type 0} {C : Lenient} (item item' : Parser A) (h : (i : Tokens) �
     where
       go : (x : Bool) → Refines C (listed_by close item x i) (listed_by close item' x i)
       go true = same refl
-      go false = tail_refines (separated_refines i) (λ xs r. value_within _ r (expect_within close r))
+      go false =
+          tail_refines (separated_refines i) (λ xs r. value_leaves _ (expect_shrinks close r))

@@ -9,7 +9,7 @@ use Rattle.ja_grammar.specs.ReadStatement.{single, below, is_end, program}
 use Rattle.ja_grammar.proofs.Refines.{Lenient, Refines, AsksEach, RefinesBelow, until_refines}
 use Rattle.ja_grammar.proofs.RefinesExpressions.{expression_part_refines}
 use Rattle.ja_grammar.proofs.RefinesStatements.{single_refines, statement_part_refines}
-use Rattle.ja_grammar.proofs.WithinStatements.{single_within, below_within}
+use Rattle.ja_grammar.proofs.StatementTakes.{single_takes, below_takes}
 
 module _ (C : Lenient) (rules rules' : ℕ → Rules) (k : ℕ)
     (asks : (d : ℕ) (why : Refusal) (i : Tokens) → (rules d why i ≡ rules' (d + k) why i) ⊎ ((rules d why i ≡ true) × (rules' (d + k) why i ≡ false) × C why i))
@@ -22,7 +22,7 @@ module _ (C : Lenient) (rules rules' : ℕ → Rules) (k : ℕ)
     asks = each;
     expression = λ i room p j. expression_part_refines h p j;
     statement = λ why i level room c p j. statement_part_refines h c p j;
-    within = below_within rules' (suc e);
+    takes = below_takes rules' (suc e);
   }
 
   -- the parts below every number of levels
@@ -31,7 +31,7 @@ module _ (C : Lenient) (rules rules' : ℕ → Rules) (k : ℕ)
     asks = asks zero;
     expression = λ i room p j. absurd (true≢false (sym (full Deep i refl) ∙ room));
     statement = λ why i level room c p j. absurd (true≢false (sym (full why i level) ∙ room));
-    within = below_within rules' (zero + k);
+    takes = below_takes rules' (zero + k);
   }
   below_refines (suc d) = subst (λ e. RefinesBelow C (rules (suc d)) (rules' e) (below rules (suc d)) (below rules' e)) (sym (suc-add d k))
       (step d (d + k) (subst (λ e. AsksEach C (rules (suc d)) (rules' e)) (suc-add d k) (asks (suc d))) (below_refines d))
@@ -40,4 +40,6 @@ module _ (C : Lenient) (rules rules' : ℕ → Rules) (k : ℕ)
   pub program_refines : (d : ℕ) (i : Tokens) → Refines C (program rules d i) (program rules' (d + k) i)
   unfolding program
   program_refines d i = until_refines (single (rules d) (below rules d) program_context 0 true) (single (rules' (d + k)) (below rules' (d + k)) program_context 0 true)
-      (single_refines (below_refines d) program_context 0 true) (single_within (rules' (d + k)) (below_within rules' (d + k)) program_context 0 true) is_end i
+      (single_refines (below_refines d) program_context 0 true)
+      (single_takes (rules' (d + k)) (below_takes rules' (d + k)) program_context 0 true) is_end
+      i

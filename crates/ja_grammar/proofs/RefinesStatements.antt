@@ -29,10 +29,10 @@ use Rattle.ja_grammar.specs.ReadStatement.{ended, variable_by, variable, labelle
 use Rattle.ja_grammar.proofs.Outcomes.{entered, bind_inverse, unless_inverse}
 use Rattle.ja_grammar.proofs.Refines.{Lenient, Refines, same, AsksEach, RefinesBelow, bind_refines, then_refines, tail_refines, value_refines, unless_refines, enter_refines, opening_refines, opened, many_refines, until_refines, separated_refines}
 use Rattle.ja_grammar.proofs.RefinesExpressions.{declared_refines, function_refines, assignment_refines, whole_refines}
-use Rattle.ja_grammar.proofs.Shrinks.{Within, bind_within, value_within, behind_shrinks, expect_within, many_within, until_within}
+use Rattle.ja_grammar.proofs.Shrinks.{Takes, bind_leaves, value_leaves, behind_shrinks, expect_shrinks, many_shrinks, until_shrinks}
 use Rattle.ja_grammar.proofs.Walks.{labelled_entered}
-use Rattle.ja_grammar.proofs.WithinExpressions.{declared_within, assignment_within}
-use Rattle.ja_grammar.proofs.WithinStatements.{ended_then, closed, variable_by_within, variable_within, enter_label_within, inner_within, block_within, bracketed_within, clause_within, clause_turn_within, cases_within, finally_by_within, handlers_by_within, single_within, else_by_within, optional_within, for_variables_by_within, for_expression_by_within, for_by_within}
+use Rattle.ja_grammar.proofs.ExpressionTakes.{declared_takes, assignment_takes}
+use Rattle.ja_grammar.proofs.StatementTakes.{ended_then, closed, variable_by_shrinks, variable_takes, enter_label_shrinks, block_takes, bracketed_takes, clause_takes, clause_turn_shrinks, cases_takes, finally_by_shrinks, handlers_by_takes, single_takes, else_by_shrinks, optional_takes, for_variables_by_takes, for_expression_by_takes, for_by_takes}
 
 -- the end of a statement
 pub ended_refines : {C : Lenient} (i : Tokens) → Refines C (ended i) (ended i)
@@ -41,10 +41,13 @@ ended_refines i = same refl
 -- ---- names and labels
 
 module _ {C : Lenient} {g g' : Rules} (asks : AsksEach C g g') where
-  pub variable_refines : (value value' : Parser Expression) → ((i : Tokens) → Refines C (value i) (value' i)) → ((i : Tokens) → Within value' i)
+  pub variable_refines : (value value' : Parser Expression)
+      → ((i : Tokens) → Refines C (value i) (value' i)) → Takes value'
       → (i : Tokens) → Refines C (variable g value i) (variable g' value' i)
   unfolding variable
-  variable_refines value value' h within i = bind_refines (declared_refines asks i) (λ x r _. go x r (next r)) (λ x r. record { within = (variable_by_within value' within x (next r) r).within })
+  variable_refines value value' h within i =
+      bind_refines (declared_refines asks i) (λ x r _. go x r (next r))
+      (λ x r. variable_by_shrinks within x (head r) (next r) r)
     where
       go : (x : Name) (r : Tokens) (κ : Symbol) → Refines C (variable_by value x (head r) κ r) (variable_by value' x (head r) κ r)
       go x r k.Assign = value_refines _ (h (behind r))
@@ -91,21 +94,27 @@ module _ {C : Lenient} {g g' : Rules} {b b' : Below} (h : RefinesBelow C g g' b 
   pub block_refines : (c : Context) (i : Tokens) → Refines C (block g b c i) (block g' b' c i)
   unfolding block
   block_refines c i = bind_refines (opens k.OpenBrace i) (λ t r e.
-      tail_refines (until_refines (inner g b c) (inner g' b' c) (lower i (room_of k.OpenBrace i e) c (part.Whole 0 false)) (inner_within g' h.within c) is_close_brace r)
-      (λ xs m. closed k.CloseBrace xs m)) (λ t r. bind_within r (until_within (inner g' b' c) (inner_within g' h.within c) is_close_brace r) (λ xs m _. closed k.CloseBrace xs m))
+      tail_refines (until_refines (inner g b c) (inner g' b' c)
+      (lower i (room_of k.OpenBrace i e) c (part.Whole 0 false))
+      (h.takes.statement c (part.Whole 0 false)) is_close_brace r)
+      (λ xs m. closed k.CloseBrace xs m)) (λ t r.
+      bind_leaves (until_shrinks (h.takes.statement c (part.Whole 0 false)) is_close_brace r)
+      (λ xs m. closed k.CloseBrace xs m))
 
   pub bracketed_refines : (i : Tokens) → Refines C (bracketed g b i) (bracketed g' b' i)
   unfolding bracketed
   bracketed_refines i = bind_refines (opens k.OpenParenthesis i) (λ t r e.
       tail_refines (h.expression i (room_of k.OpenParenthesis i e) (of_expression.Whole false) r) (λ x m. closed k.CloseParenthesis x m))
-      (λ t r. bind_within r (h.within.expression (of_expression.Whole false) r) (λ x m _. closed k.CloseParenthesis x m))
+      (λ t r. bind_leaves (h.takes.expression (of_expression.Whole false) r)
+      (λ x m. closed k.CloseParenthesis x m))
 
   pub variables_refines : (i : Tokens) → Refines C (variables g b i) (variables g' b' i)
   unfolding variables
   variables_refines i =
       tail_refines (separated_refines (variable g (assignment g b false)) (variable g' (assignment g' b' false))
-      (variable_refines h.asks (assignment g b false) (assignment g' b' false) (assignment_refines h false) (assignment_within g' h.within false))
-      (variable_within g' (assignment g' b' false) (assignment_within g' h.within false)) (behind i)) (λ xs m. ended_then _ m)
+      (variable_refines h.asks (assignment g b false) (assignment g' b' false)
+      (assignment_refines h false) (assignment_takes g' h.takes false))
+      (variable_takes g' (assignment_takes g' h.takes false)) (behind i)) (λ xs m. ended_then _ m)
 
   pub expression_statement_refines : (i : Tokens) → Refines C (expression_statement g b i) (expression_statement g' b' i)
   unfolding expression_statement
@@ -169,7 +178,7 @@ module _ {C : Lenient} {g g' : Rules} {b b' : Below} (h : RefinesBelow C g g' b 
     where
       go : (a : Bool) → Refines C (label_by g b (head i) a (behind i)) (label_by g' b' (head i) a (behind i))
       go true = unless_refines g g' (Broken (head i).place) (behind i) (h.asks (Broken (head i).place) (behind i)) (λ _. enter_label_refines h.asks (head i).place (behind i))
-          (enter_label_within g' (head i).place (behind i)).within
+          (enter_label_shrinks g' (head i).place (behind i)).within
       go false = enter_label_refines h.asks (head i).place (behind i)
 
   -- a label that was read had a level left
@@ -187,18 +196,25 @@ module _ {C : Lenient} {g g' : Rules} {b b' : Below} (h : RefinesBelow C g g' b 
   unfolding labelled
   labelled_refines c labels i = bind_refines (label_refines c i) (λ t r e.
       value_refines _ (h.statement (DeepLabel (head i).place) (behind i) refl (label_room c i e) (labelled_context c (word t)) (part.Whole (suc labels) false) r))
-      (λ t r. value_within _ r (h.within.statement (labelled_context c (word t)) (part.Whole (suc labels) false) r))
+      (λ t r. value_leaves _ (h.takes.statement (labelled_context c (word t))
+      (part.Whole (suc labels) false) r))
 
   -- ---- `switch` and `try`
 
   -- the parts of a `switch`, where its brace was entered
   pub clause_refines : (i : Tokens) → HasRoom g i → (c : Context) (j : Tokens) → Refines C (clause g b c j) (clause g' b' c j)
   unfolding clause
-  clause_refines i room c j = then_refines (expect k.Colon j) (λ t r _. until_refines (inner g b c) (inner g' b' c) (lower i room c (part.Whole 0 false)) (inner_within g' h.within c) ends_clause r)
+  clause_refines i room c j =
+      then_refines (expect k.Colon j) (λ t r _.
+      until_refines (inner g b c) (inner g' b' c) (lower i room c (part.Whole 0 false))
+      (h.takes.statement c (part.Whole 0 false)) ends_clause r)
 
   pub case_refines : (i : Tokens) → HasRoom g i → (c : Context) (j : Tokens) → Refines C (case g b c j) (case g' b' c j)
   unfolding case
-  case_refines i room c j = bind_refines (h.expression i room (of_expression.Whole false) (behind j)) (λ x m _. value_refines _ (clause_refines i room c m)) (λ x m. value_within _ m (clause_within g' h.within c m))
+  case_refines i room c j =
+      bind_refines (h.expression i room (of_expression.Whole false) (behind j))
+      (λ x m _. value_refines _ (clause_refines i room c m))
+      (λ x m. value_leaves _ (clause_takes g' h.takes c m))
 
   pub default_refines : (i : Tokens) → HasRoom g i → (c : Context) (j : Tokens) → Refines C (default g b c j) (default g' b' c j)
   unfolding default
@@ -217,21 +233,26 @@ module _ {C : Lenient} {g g' : Rules} {b b' : Below} (h : RefinesBelow C g g' b 
   pub cases_refines : (c : Context) (i : Tokens) → Refines C (cases g b c i) (cases g' b' c i)
   unfolding cases
   cases_refines c i = bind_refines (opens k.OpenBrace i) (λ t r e. tail_refines (many_refines (λ cs. look (λ t. clause_by g b c cs (symbol t))) (λ cs. look (λ t. clause_by g' b' c cs (symbol t)))
-      (λ cs j. clause_turn_refines i (room_of k.OpenBrace i e) c cs (next j) j) (clause_turn_within g' h.within c) (record { defaulted = false; found = [] }) r) (λ cs m. closed k.CloseBrace cs.found m))
-      (λ t r. bind_within r (many_within (λ cs. look (λ t. clause_by g' b' c cs (symbol t))) (clause_turn_within g' h.within c) (record { defaulted = false; found = [] }) r)
-      (λ cs m _. closed k.CloseBrace cs.found m))
+      (λ cs j. clause_turn_refines i (room_of k.OpenBrace i e) c cs (next j) j)
+      (clause_turn_shrinks g' h.takes c) (record { defaulted = false; found = [] }) r)
+      (λ cs m. closed k.CloseBrace cs.found m))
+      (λ t r. bind_leaves (many_shrinks (clause_turn_shrinks g' h.takes c)
+      (record { defaulted = false; found = [] }) r) (λ cs m. closed k.CloseBrace cs.found m))
 
   pub switch_refines : (c : Context) (i : Tokens) → Refines C (switch g b c i) (switch g' b' c i)
   unfolding switch
   switch_refines c i = bind_refines (bracketed_refines (behind i)) (λ x m _. value_refines _ (cases_refines (switch_context c) m))
-      (λ x m. value_within _ m (cases_within g' h.within (switch_context c) m))
+      (λ x m. value_leaves _ (cases_takes g' h.takes (switch_context c) m))
 
   pub catch_refines : (c : Context) (i : Tokens) → Refines C (catch g b c i) (catch g' b' c i)
   unfolding catch
   catch_refines c i = bind_refines (opens k.OpenParenthesis (behind i)) (λ u m _. bind_refines (declared_refines h.asks m) (λ x l _.
       then_refines (expect k.CloseParenthesis l) (λ v j _. value_refines _ (block_refines c j)))
-      (λ x l. bind_within l (expect_within k.CloseParenthesis l) (λ v j _. value_within _ j (block_within g' h.within c j))))
-      (λ u m. bind_within m (declared_within g' m) (λ x l _. bind_within l (expect_within k.CloseParenthesis l) (λ v j _. value_within _ j (block_within g' h.within c j))))
+      (λ x l. bind_leaves (expect_shrinks k.CloseParenthesis l)
+      (λ v j. value_leaves _ (block_takes g' h.takes c j))))
+      (λ u m. bind_leaves (declared_takes g' m)
+      (λ x l. bind_leaves (expect_shrinks k.CloseParenthesis l)
+      (λ v j. value_leaves _ (block_takes g' h.takes c j))))
 
   pub finally_refines : (c : Context) (i : Tokens) → Refines C (finally g b c i) (finally g' b' c i)
   unfolding finally
@@ -240,14 +261,16 @@ module _ {C : Lenient} {g g' : Rules} {b b' : Below} (h : RefinesBelow C g g' b 
   pub try_refines : (c : Context) (i : Tokens) → Refines C (try g b c i) (try g' b' c i)
   unfolding try
   try_refines c i = bind_refines (block_refines c (behind i)) (λ xs m _. handlers (head i) xs m (next m))
-      (λ xs m. record { within = (handlers_by_within g' h.within c (head i) xs (next m) m).within })
+      (λ xs m. handlers_by_takes g' h.takes c (head i) xs (next m) m)
     where
       last : (t : Token) (xs : List Statement) (x : CatchOf Statement) (i : Tokens) (κ : Symbol) → Refines C (finally_by g b c t xs x κ i) (finally_by g' b' c t xs x κ i)
       last t xs x i k.Finally = value_refines _ (finally_refines c i)
       last t xs x i _ = same refl
 
       handlers : (t : Token) (xs : List Statement) (i : Tokens) (κ : Symbol) → Refines C (handlers_by g b c t xs κ i) (handlers_by g' b' c t xs κ i)
-      handlers t xs i k.Catch = bind_refines (catch_refines c i) (λ x m _. last t xs x m (next m)) (λ x m. record { within = (finally_by_within g' h.within c t xs x (next m) m).within })
+      handlers t xs i k.Catch =
+          bind_refines (catch_refines c i) (λ x m _. last t xs x m (next m))
+          (λ x m. finally_by_shrinks g' h.takes c t xs x (next m) m)
       handlers t xs i k.Finally = value_refines _ (finally_refines c i)
       handlers t xs i _ = same refl
 
@@ -266,7 +289,9 @@ module _ {C : Lenient} {g g' : Rules} {b b' : Below} (h : RefinesBelow C g g' b 
       function false = same refl
 
       words : (p : StatementPart) → Refines C (headed g b c p i) (headed g' b' c p i)
-      words p = bind_refines (enters i) (λ t r e. lower i (entered g i e) c p r) (λ t r. h.within.statement c p r)
+      words p =
+          bind_refines (enters i) (λ t r e. lower i (entered g i e) c p r)
+          (λ t r. h.takes.statement c p r)
 
       go : (κ : Symbol) → Refines C (single_by g b c labels outermost (head i) κ i) (single_by g' b' c labels outermost (head i) κ i)
       go k.OpenBrace = value_refines _ (block_refines c i)
@@ -291,23 +316,29 @@ module _ {C : Lenient} {g g' : Rules} {b b' : Below} (h : RefinesBelow C g g' b 
   pub if_part_refines : (c : Context) (place : Place) (i : Tokens) → Refines C (if_part g b c place i) (if_part g' b' c place i)
   unfolding if_part
   if_part_refines c place i = bind_refines (bracketed_refines i) (λ x m _. bind_refines (single_refines c 0 false m) (λ y l _. go x y l (next l))
-      (λ y l. record { within = (else_by_within g' h.within c place x y (next l) l).within }))
-      (λ x m. bind_within m (single_within g' h.within c 0 false m) (λ y l _. record { within = (else_by_within g' h.within c place x y (next l) l).within }))
+      (λ y l. else_by_shrinks g' h.takes c place x y (next l) l))
+      (λ x m. bind_leaves (single_takes g' h.takes c 0 false m)
+      (λ y l. else_by_shrinks g' h.takes c place x y (next l) l))
     where
       go : (x : Expression) (y : Statement) (i : Tokens) (κ : Symbol) → Refines C (else_by g b c place x y κ i) (else_by g' b' c place x y κ i)
-      go x y i k.Else = bind_refines (enters i) (λ t m e. value_refines _ (lower i (entered g i e) c (part.Whole 0 false) m)) (λ t m. value_within _ m (inner_within g' h.within c m))
+      go x y i k.Else =
+          bind_refines (enters i) (λ t m e. value_refines _
+          (lower i (entered g i e) c (part.Whole 0 false) m))
+          (λ t m. value_leaves _ (h.takes.statement c (part.Whole 0 false) m))
       go x y i _ = same refl
 
   pub do_part_refines : (c : Context) (place : Place) (labels : ℕ) (i : Tokens) → Refines C (do_part g b c place labels i) (do_part g' b' c place labels i)
   unfolding do_part
   do_part_refines c place labels i = bind_refines (single_refines (loop_context c labels) 0 false i) (λ x m _. then_refines (expect k.While m) (λ t l _.
       tail_refines (bracketed_refines l) (λ y j. ended_then (s.Do x y place) j)))
-      (λ x m. bind_within m (expect_within k.While m) (λ t l _. bind_within l (bracketed_within g' h.within l) (λ y j _. ended_then (s.Do x y place) j)))
+      (λ x m. bind_leaves (expect_shrinks k.While m)
+      (λ t l. bind_leaves (bracketed_takes g' h.takes l)
+      (λ y j. ended_then (s.Do x y place) j)))
 
   pub while_part_refines : (c : Context) (place : Place) (labels : ℕ) (i : Tokens) → Refines C (while_part g b c place labels i) (while_part g' b' c place labels i)
   unfolding while_part
   while_part_refines c place labels i = bind_refines (bracketed_refines i) (λ x m _. value_refines _ (single_refines (loop_context c labels) 0 false m))
-      (λ x m. value_within _ m (single_within g' h.within (loop_context c labels) 0 false m))
+      (λ x m. value_leaves _ (single_takes g' h.takes (loop_context c labels) 0 false m))
 
   -- the parts of a `for`, where its parenthesis was entered
   pub optional_refines : (i : Tokens) → HasRoom g i → (close : Symbol) (j : Tokens) → Refines C (optional g b close j) (optional g' b' close j)
@@ -322,14 +353,18 @@ module _ {C : Lenient} {g g' : Rules} {b b' : Below} (h : RefinesBelow C g g' b 
       → Refines C (for_rest g b c place x j) (for_rest g' b' c place x j)
   unfolding for_rest
   for_rest_refines i room c place x j = bind_refines (optional_refines i room k.Semicolon j) (λ y m _. bind_refines (optional_refines i room k.CloseParenthesis m) (λ z l _.
-      value_refines _ (single_refines c 0 false l)) (λ z l. value_within _ l (single_within g' h.within c 0 false l)))
-      (λ y m. bind_within m (optional_within g' h.within k.CloseParenthesis m) (λ z l _. value_within _ l (single_within g' h.within c 0 false l)))
+      value_refines _ (single_refines c 0 false l))
+      (λ z l. value_leaves _ (single_takes g' h.takes c 0 false l)))
+      (λ y m. bind_leaves (optional_takes g' h.takes k.CloseParenthesis (λ e. cc e) m)
+      (λ z l. value_leaves _ (single_takes g' h.takes c 0 false l)))
 
   pub in_rest_refines : (i : Tokens) → HasRoom g i → (c : Context) (place : Place) (x : ForTarget Expression) (j : Tokens)
       → Refines C (in_rest g b c place x j) (in_rest g' b' c place x j)
   unfolding in_rest
   in_rest_refines i room c place x j = bind_refines (h.expression i room (of_expression.Whole false) (behind j)) (λ y m _. then_refines (expect k.CloseParenthesis m) (λ u l _.
-      value_refines _ (single_refines c 0 false l))) (λ y m. bind_within m (expect_within k.CloseParenthesis m) (λ u l _. value_within _ l (single_within g' h.within c 0 false l)))
+      value_refines _ (single_refines c 0 false l)))
+      (λ y m. bind_leaves (expect_shrinks k.CloseParenthesis m)
+      (λ u l. value_leaves _ (single_takes g' h.takes c 0 false l)))
 
   pub for_variables_by_refines : (i : Tokens) → HasRoom g i → (c : Context) (place : Place) (xs : List (Declaration Expression)) (κ : Symbol) (j : Tokens)
       → Refines C (for_variables_by g b c place xs κ j) (for_variables_by g' b' c place xs κ j)
@@ -340,9 +375,12 @@ module _ {C : Lenient} {g g' : Rules} {b b' : Below} (h : RefinesBelow C g g' b 
   unfolding for_variables
   for_variables_refines i room c place j =
       bind_refines (separated_refines (variable g (assignment_below g b true)) (variable g' (assignment_below g' b' true))
-      (variable_refines h.asks (assignment_below g b true) (assignment_below g' b' true) (h.expression i room (of_expression.Assignment true)) (h.within.expression (of_expression.Assignment true)))
-      (variable_within g' (assignment_below g' b' true) (h.within.expression (of_expression.Assignment true))) (behind j))
-      (λ xs m _. for_variables_by_refines i room c place xs (next m) m) (λ xs m. record { within = (for_variables_by_within g' h.within c place xs (next m) m).within })
+      (variable_refines h.asks (assignment_below g b true) (assignment_below g' b' true)
+      (h.expression i room (of_expression.Assignment true))
+      (h.takes.expression (of_expression.Assignment true)))
+      (variable_takes g' (h.takes.expression (of_expression.Assignment true))) (behind j))
+      (λ xs m _. for_variables_by_refines i room c place xs (next m) m)
+      (λ xs m. for_variables_by_takes g' h.takes c place xs (next m) m)
 
   pub for_expression_by_refines : (i : Tokens) → HasRoom g i → (c : Context) (place : Place) (x : Expression) (κ : Symbol) (j : Tokens)
       → Refines C (for_expression_by g b c place x κ j) (for_expression_by g' b' c place x κ j)
@@ -356,7 +394,7 @@ module _ {C : Lenient} {g g' : Rules} {b b' : Below} (h : RefinesBelow C g g' b 
   pub for_expression_refines : (i : Tokens) → HasRoom g i → (c : Context) (place : Place) (j : Tokens) → Refines C (for_expression g b c place j) (for_expression g' b' c place j)
   unfolding for_expression
   for_expression_refines i room c place j = bind_refines (h.expression i room (of_expression.Whole true) j) (λ x m _. for_expression_by_refines i room c place x (next m) m)
-      (λ x m. record { within = (for_expression_by_within g' h.within c place x (next m) m).within })
+      (λ x m. for_expression_by_takes g' h.takes c place x (next m) m)
 
   pub for_by_refines : (i : Tokens) → HasRoom g i → (c : Context) (place : Place) (κ : Symbol) (j : Tokens) → Refines C (for_by g b c place κ j) (for_by g' b' c place κ j)
   for_by_refines i room c place k.Var j = for_variables_refines i room c place j
@@ -366,7 +404,7 @@ module _ {C : Lenient} {g g' : Rules} {b b' : Below} (h : RefinesBelow C g g' b 
   pub for_part_refines : (c : Context) (place : Place) (labels : ℕ) (i : Tokens) → Refines C (for_part g b c place labels i) (for_part g' b' c place labels i)
   unfolding for_part
   for_part_refines c place labels i = bind_refines (opens k.OpenParenthesis i) (λ t r e. for_by_refines i (room_of k.OpenParenthesis i e) (loop_context c labels) place (next r) r)
-      (λ t r. record { within = (for_by_within g' h.within (loop_context c labels) place (next r) r).within })
+      (λ t r. for_by_takes g' h.takes (loop_context c labels) place (next r) r)
 
   -- each part
   pub statement_part_refines : (c : Context) (p : StatementPart) (i : Tokens) → Refines C (statement_part g b c p i) (statement_part g' b' c p i)

@@ -20,7 +20,7 @@ use Rattle.ja_grammar.specs.ReadExpression.{Below, assignment, whole}
 use Rattle.ja_grammar.specs.ReadStatement.{ended, variable, variables, expression_statement, labelled, labelled_or_expression, function_statement, headed, single_by, single}
 use Rattle.ja_grammar.proofs.BinaryGood.{assignment_good, assignment_sample, whole_good}
 use Rattle.ja_grammar.proofs.BlockGood.{block_good, switch_good}
-use Rattle.ja_grammar.proofs.Closing.{no_comma_closes}
+use Rattle.ja_grammar.proofs.Closing.{label_colon, no_comma_closes}
 use Rattle.ja_grammar.proofs.ExpressionSamples.{whole_of_name}
 use Rattle.ja_grammar.proofs.ExpressionTakes.{assignment_takes}
 use Rattle.ja_grammar.proofs.Good.{Follow, Reason, elsewhere, Completes, CompletesWith, Sample, Refuses, GoodAt, Any, pure_good, bind_good, look_good}
@@ -32,7 +32,7 @@ use Rattle.ja_grammar.proofs.Outcomes.{same_refused, done_not_refused, cons_of}
 use Rattle.ja_grammar.proofs.Real.{covers_front, reals_more}
 use Rattle.ja_grammar.proofs.Roomier.{Roomier, enters, lower, unexpected, takes_pure}
 use Rattle.ja_grammar.proofs.SampleTokens.{semicolon, semicolon_is, semicolon_real}
-use Rattle.ja_grammar.proofs.Shrinks.{Takes, Moves, takes_shrinks}
+use Rattle.ja_grammar.proofs.Shrinks.{Takes, Moves}
 use Rattle.ja_grammar.proofs.StatementSamples.{ended_then_sample, semicolon_reads, pure_after}
 use Rattle.ja_grammar.proofs.StatementTakes.{variable_takes}
 use Rattle.ja_grammar.proofs.Steps.{bind_sample, good_moves, look_second_good}
@@ -41,10 +41,6 @@ use Rattle.ja_grammar.proofs.Taken.{token_good}
 use Rattle.ja_grammar.proofs.TryGood.{try_good}
 
 -- a name and what follows it are a label only where a colon follows
-label_colon : (κ : Symbol) → is_label k.Name κ ≡ true → κ ≡ k.Colon
-label_colon k.Colon h = refl
-label_colon _ h = absurd (cc h)
-
 -- a name and a `;` are a statement
 name_reads : (g : Rules) (b : Below) (t : Token) → Is k.Name t → (tail : Tokens) → expression_statement g b (t ∷ semicolon ∷ tail) ≡ Done (s.Expression (e.Name (name_of t)) t.place) tail
 unfolding expression_statement
@@ -108,7 +104,9 @@ module _ {U : Tokens} {O : Refusal} {J : Reason O} {d : ℕ} {g' : Rules} {b b' 
   pub declarations_good : (value next_value : Parser Expression) → Takes value → Takes next_value → ((i : Tokens) → GoodAt U J value next_value EndsExpression Any i) → Sample U next_value Any EndsExpression Any
       → (i : Tokens) → GoodAt U J (separated (variable (strict d) value)) (separated (variable g' next_value)) EndsExpression Any i
   declarations_good value next_value takes takes' good sample i =
-      separated_good {F = EndsExpression} {G = EndsExpression} (variable (strict d) value) (variable g' next_value) h.reasons.closed (λ i. takes_shrinks (variable_takes (strict d) value takes i)) (λ i. takes_shrinks (variable_takes g' next_value takes' i))
+      separated_good {F = EndsExpression} {G = EndsExpression} (variable (strict d) value)
+      (variable g' next_value) h.reasons.closed (variable_takes (strict d) takes)
+      (variable_takes g' takes')
       (variable_good h value next_value good sample) (variable_sample g' next_value) (λ tail ends. ends) (λ tail ends. no_comma_closes (next tail) ends) i
 
   pub declarations_sample : (value : Parser Expression) → Sample U (separated (variable g' value)) Any EndsExpression Any
@@ -118,7 +116,9 @@ module _ {U : Tokens} {O : Refusal} {J : Reason O} {d : ℕ} {g' : Rules} {b b' 
   unfolding variables
   variables_good i is = token_good (rest (strict d) b) (rest g' b') i h.reasons.closed (λ ends. cc (is, ends))
       (bind_good (behind i) h.reasons.closed
-      (declarations_good (assignment (strict d) b false) (assignment g' b' false) (assignment_takes (strict d) b h.takes false) (assignment_takes g' b' h.takes_more false) (assignment_good h false) (assignment_sample g' b' false) (behind i))
+      (declarations_good (assignment (strict d) b false) (assignment g' b' false)
+      (assignment_takes (strict d) h.takes false) (assignment_takes g' h.takes_more false)
+      (assignment_good h false) (assignment_sample g' b' false) (behind i))
       (λ xs m _. ended_then_good h (s.Variables xs (head i).place) m)
       (λ xs _. ended_then_sample (s.Variables xs (head i).place) semicolon_goes))
       (bind_sample (declarations_sample (assignment g' b' false)) (λ xs _. ended_then_sample (s.Variables xs (head i).place) semicolon_goes))

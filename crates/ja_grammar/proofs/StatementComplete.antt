@@ -31,12 +31,13 @@ use Rattle.ja_grammar.specs.StatementGrammar.{Ended, Block, Bracketed, Variable,
 use Rattle.ja_grammar.proofs.Agree.{Milder, BelowTakes, Covers}
 use Rattle.ja_grammar.proofs.ExpressionComplete.{declared_all, function_all, assignment_all, whole_all}
 use Rattle.ja_grammar.proofs.ExpressionTakes.{assignment_takes}
-use Rattle.ja_grammar.proofs.ListLaws.{until_all, separated_all}
+use Rattle.ja_grammar.proofs.Lists.{separated_all}
 use Rattle.ja_grammar.proofs.Opening.{opening_done}
 use Rattle.ja_grammar.proofs.Outcomes.{same_symbol_is, same_symbol_other, expect_done, unless_reads, enter_done}
 use Rattle.ja_grammar.proofs.Starts.{ends_list, BelowStarts, no_close_brace, no_clause_end}
 use Rattle.ja_grammar.proofs.StatementTakes.{variable_takes, case_takes, default_takes}
 use Rattle.ja_grammar.proofs.Walks.{enter_label_done}
+use Rattle.ja_grammar.proofs.Until.{until_all}
 
 pub ended_all : (i r : Tokens) → Ended i r → ended i ≡ Done tt r
 unfolding ended
@@ -100,8 +101,10 @@ module _ (low g : Rules) (milder : Milder low g) (n : Nested) (b : Below) (T : B
   block_all c i xs r (Block.block {t = t} {u = u} {i = m} {r = q} {xs = ys} is some body close) =
       rw (
         opening_done g k.OpenBrace t m (room (t ∷ m) some) is,
-        until_all is_close_brace (inner g b c) (n.statement c (part.Whole 0 false)) (At k.CloseBrace) (T.statement c (part.Whole 0 false))
-            (λ r at. ap is_close_brace at) (λ i x r h. no_close_brace (next i) (inner_starts c i x r h)) (inner_all c) m ys (u ∷ q) body,
+        until_all is_close_brace (inner g b c) (n.statement c (part.Whole 0 false))
+            (At k.CloseBrace) (T.statement c (part.Whole 0 false)) refl
+            (λ r at. ap is_close_brace at) (λ i x r h.
+            no_close_brace (next i) (inner_starts c i x r h)) (inner_all c) m ys (u ∷ q) body,
         expect_done k.CloseBrace u q close,
       ) refl
 
@@ -116,10 +119,11 @@ module _ (low g : Rules) (milder : Milder low g) (n : Nested) (b : Below) (T : B
   returned_all i x r (Returned.value {i = j} {r = m} {x = y} goes h) = ap (λ a. returned_by g b a j) goes ∙ rw (whole_all low g milder n b T S A false j y m h) refl
 
   pub clause_all : (c : Context) (t : Token) (i : Tokens) (xs : List Statement) (r : Tokens) → Is k.Colon t → Clause n c i xs r → clause g b c (t ∷ i) ≡ Done xs r
-  unfolding clause
+  unfolding clause ends_clause
   clause_all c t i xs r is h = rw (expect_done k.Colon t i is)
-      (until_all ends_clause (inner g b c) (n.statement c (part.Whole 0 false)) (λ r. ends_clause (next r) ≡ true) (T.statement c (part.Whole 0 false))
-      (λ r at. at) (λ i x r h. no_clause_end (next i) (inner_starts c i x r h)) (inner_all c) i xs r h)
+      (until_all ends_clause (inner g b c) (n.statement c (part.Whole 0 false))
+      (λ r. ends_clause (next r) ≡ true) (T.statement c (part.Whole 0 false)) refl (λ r at. at)
+      (λ i x r h. no_clause_end (next i) (inner_starts c i x r h)) (inner_all c) i xs r h)
 
   pub case_all : (c : Context) (t u : Token) (i m : Tokens) (x : Expression) (xs : List Statement) (r : Tokens) → n.expression (of_expression.Whole false) i x (u ∷ m)
       → Is k.Colon u → Clause n c m xs r → case g b c (t ∷ i) ≡ Done (roll-Case (record { test = Some x; body = xs; place = t.place })) r
@@ -157,13 +161,17 @@ module _ (low g : Rules) (milder : Milder low g) (n : Nested) (b : Below) (T : B
   clauses_all c (suc m) cs a i xs r e room (Cases.case {t = t} {u = u} {i = j} {m = o} {l = l} {r = q} {x = x} {xs = ys} {cs = ds} at h is y' more) =
       let y : Case = roll-Case (record { test = Some x; body = ys; place = t.place }) in
       let reads : case g b c (t ∷ j) ≡ Done y l = case_all c t u j o x ys l h is y' in
-      let fewer : length l ≤ m = omega (arith, room, (case_takes g b T c (t ∷ j)).takes y l reads) in
+      let fewer : length l ≤ m = omega (arith, room, (case_takes g T c (t ∷ j)).leaves y l reads) in
       goes_on c m cs (with_case g b cs y) (t ∷ j) l y ds q (ap (λ κ. clause_by g b c cs κ (t ∷ j)) at ∙ rw reads refl) refl
       (clauses_all c m (with_case g b cs y) a l ds q e fewer more)
   clauses_all c (suc m) cs a i xs r e room (Cases.default {t = t} {u = u} {m = o} {l = l} {r = q} {xs = ys} {cs = ds} at is y' more) =
       let y : Case = roll-Case (record { test = None; body = ys; place = t.place }) in
       let reads : default g b c (t ∷ u ∷ o) ≡ Done y l = default_all c t u o ys l is y' in
-      let fewer : length l ≤ m = omega (arith, room, (default_takes g b T c (t ∷ u ∷ o)).takes y l reads) in
+      let fewer : length l ≤ m = omega (
+        arith,
+        room,
+        (default_takes g T c (t ∷ u ∷ o)).leaves y l reads,
+      ) in
       goes_on c m cs (with_default g b cs y) (t ∷ u ∷ o) l y ds q (ap (λ κ. clause_by g b c cs κ (t ∷ u ∷ o)) at ∙ ap (λ a. default_by g b c cs a (t ∷ u ∷ o)) e ∙ rw reads refl) refl
       (clauses_all c m (with_default g b cs y) true l ds q refl fewer more)
 
@@ -198,7 +206,8 @@ module _ (low g : Rules) (milder : Milder low g) (n : Nested) (b : Below) (T : B
   unfolding variables
   variables_all t i xs m r h e =
       rw (
-        separated_all (variable g (assignment g b false)) (Variable low (Assignment low n false)) (variable_takes g (assignment g b false) (assignment_takes g b T false))
+        separated_all (variable g (assignment g b false)) (Variable low (Assignment low n false))
+            (variable_takes g (assignment_takes g T false))
             (variable_all low g (assignment g b false) (Assignment low n false) (declared_all low g milder) (assignment_all low g milder n b T S A false)) i xs m h,
         ended_all m r e,
       ) refl
@@ -392,7 +401,7 @@ module _ (low g : Rules) (milder : Milder low g) (n : Nested) (b : Below) (T : B
   for_variables_all : (i : Tokens) (xs : List (Declaration Expression)) (r : Tokens) → Separated (Variable low (n.expression (of_expression.Assignment true))) i xs r
       → separated (variable g (assignment_below g b true)) i ≡ Done xs r
   for_variables_all i xs r h = separated_all (variable g (assignment_below g b true)) (Variable low (n.expression (of_expression.Assignment true)))
-      (variable_takes g (assignment_below g b true) (T.expression (of_expression.Assignment true)))
+      (variable_takes g (T.expression (of_expression.Assignment true)))
       (variable_all low g (assignment_below g b true) (n.expression (of_expression.Assignment true)) (declared_all low g milder) (A.expression_all (of_expression.Assignment true))) i xs r h
 
   -- what stands before the first `;`, and then the rest

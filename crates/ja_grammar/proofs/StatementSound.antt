@@ -31,21 +31,25 @@ use Rattle.ja_grammar.specs.ReadStatement.{ended_by, ended, variable_by, variabl
 use Rattle.ja_grammar.specs.StatementGrammar.{Ended, Block, Bracketed, Variable, Target, Untargeted, Returned, Clause, Cases, Catch, Finally, Single, If, Do, While, Optional, First, For, StatementRule}
 use Rattle.ja_grammar.proofs.Agree.{BelowTakes, Agrees}
 use Rattle.ja_grammar.proofs.ExpressionSound.{declared_is, function_is, assignment_is, whole_is}
+use Rattle.ja_grammar.proofs.Closing.{label_colon}
 use Rattle.ja_grammar.proofs.ExpressionTakes.{assignment_takes}
-use Rattle.ja_grammar.proofs.ListLaws.{until_is, separated_is}
-use Rattle.ja_grammar.proofs.Outcomes.{end_is, done_value, done_rest, refused_not_done, then_inverse, same_symbol_true, same_symbol_false, unless_inverse}
+use Rattle.ja_grammar.proofs.Lists.{separated_is}
+use Rattle.ja_grammar.proofs.Outcomes.{same_done, end_is, done_value, done_rest, refused_not_done, then_inverse, same_symbol_true, same_symbol_false, unless_inverse}
 use Rattle.ja_grammar.proofs.StatementTakes.{variable_takes, case_takes, default_takes}
-use Rattle.ja_grammar.proofs.Walks.{moved, finish, after, begins, after_opening, after_expect, after_open, after_enter, labelled_entered}
+use Rattle.ja_grammar.proofs.Walks.{moved, after, begins, after_opening, after_expect, after_open, after_enter, labelled_entered}
+use Rattle.ja_grammar.proofs.Until.{until_is}
 
 pub ended_is : (i r : Tokens) (x : Unit {0}) → ended i ≡ Done x r → Ended i r
 unfolding ended
 ended_is i r x e = go (next i) (new_line i) refl refl e
   where
     go : (κ : Symbol) (l : Bool) → next i ≡ κ → new_line i ≡ l → ended_by κ l i ≡ Done x r → Ended i r
-    go k.Semicolon l h line e = begins (λ j. Done tt (behind j) ≡ Done x r → Ended j r) k.Semicolon i (λ z. cc z) h (λ t m is e. finish (λ x r. Ended (t ∷ m) r) e (Ended.semicolon is)) e
-    go k.CloseBrace l h line e = finish (λ x r. Ended i r) e (Ended.before_brace h)
-    go k.End l h line e = finish (λ x r. Ended i r) e (Ended.at_end h)
-    go _ true h line e = finish (λ x r. Ended i r) e (Ended.at_line line (λ z. cc (h, z)))
+    go k.Semicolon l h line e =
+        begins (λ j. Done tt (behind j) ≡ Done x r → Ended j r) k.Semicolon i (λ z. cc z) h
+        (λ t m is e. same_done (λ x r. Ended (t ∷ m) r) e (Ended.semicolon is)) e
+    go k.CloseBrace l h line e = same_done (λ x r. Ended i r) e (Ended.before_brace h)
+    go k.End l h line e = same_done (λ x r. Ended i r) e (Ended.at_end h)
+    go _ true h line e = same_done (λ x r. Ended i r) e (Ended.at_line line (λ z. cc (h, z)))
     go _ false h line e = absurd (refused_not_done e)
 
 pub variable_is : (g : Rules) (value : Parser Expression) (Value : Rule Expression) → ((i : Tokens) (x : Expression) (r : Tokens) → value i ≡ Done x r → Value i x r)
@@ -55,8 +59,12 @@ variable_is g value Value reads i v r e = after (declared g i) e (λ x m got e. 
   where
     go : (x : Name) (m : Tokens) → declared g i ≡ Done x m → (κ : Symbol) → next m ≡ κ → variable_by value x (head m) κ m ≡ Done v r → Variable g Value i v r
     go x m got k.Assign h e = begins (λ j. declared g i ≡ Done x j → variable_by value x (head j) k.Assign j ≡ Done v r → Variable g Value i v r) k.Assign m (λ z. cc z) h
-        (λ t q is got e. after (value q) e (λ y l f e. finish (λ v r. Variable g Value i v r) e (Variable.initialised (declared_is g i x (t ∷ q) got) is (reads q y l f)))) got e
-    go x m got _ h e = finish (λ v r. Variable g Value i v r) e (Variable.alone (declared_is g i x m got) (λ z. cc (h, z)))
+        (λ t q is got e. after (value q) e (λ y l f e.
+        same_done (λ v r. Variable g Value i v r) e
+        (Variable.initialised (declared_is g i x (t ∷ q) got) is (reads q y l f)))) got e
+    go x m got _ h e =
+        same_done (λ v r. Variable g Value i v r) e
+        (Variable.alone (declared_is g i x m got) (λ z. cc (h, z)))
 
 label_is_name : (t : Token) → is_label_behind t ≡ true → symbol t ≡ k.Name
 unfolding is_label_behind
@@ -80,27 +88,26 @@ jump_target_is g allowed known alone place i x r e = go (is_label_behind (head i
         let s = unless_inverse g (Broken place) (take_token >> pure (Some (name_of (head i)))) i e in
         begins (λ j. is_label_behind (head j) ≡ true → allowed (word (head j)) ≡ false → known (word (head j)) ≡ true → g (Broken place) j ≡ false
         → Done (Some (name_of (head j))) (behind j) ≡ Done x r → Is_target j x r) k.Name i (λ z. cc z) (label_is_name (head i) is)
-        (λ t m _ is bad ok off e. finish (λ x r. Is_target (t ∷ m) x r) e (Target.known is bad ok off)) is bad ok s.0 s.1
+        (λ t m _ is bad ok off e. same_done (λ x r. Is_target (t ∷ m) x r) e
+        (Target.known is bad ok off)) is bad ok s.0 s.1
     other false is bad ok e = absurd (refused_not_done e)
 
     labelled : (a : Bool) → is_label_behind (head i) ≡ true → allowed (word (head i)) ≡ a → labelled_by g place (head i) a (known (word (head i))) i ≡ Done x r → Is_target i x r
     labelled true is ok e = begins (λ j. is_label_behind (head j) ≡ true → allowed (word (head j)) ≡ true → Done (Some (name_of (head j))) (behind j) ≡ Done x r → Is_target j x r)
-        k.Name i (λ z. cc z) (label_is_name (head i) is) (λ t m _ is ok e. finish (λ x r. Is_target (t ∷ m) x r) e (Target.labelled is ok)) is ok e
+        k.Name i (λ z. cc z) (label_is_name (head i) is)
+        (λ t m _ is ok e. same_done (λ x r. Is_target (t ∷ m) x r) e (Target.labelled is ok)) is
+        ok e
     labelled false is bad e = other (known (word (head i))) is bad refl e
 
     unlabelled : (a : Bool) → is_label_behind (head i) ≡ false → alone ≡ a → unlabelled_by g place a i ≡ Done x r → Is_target i x r
-    unlabelled true none ok e = finish (λ x r. Is_target i x r) e (Target.unlabelled ok none)
+    unlabelled true none ok e = same_done (λ x r. Is_target i x r) e (Target.unlabelled ok none)
     unlabelled false none bad e =
         let s = unless_inverse g (Alone place) (pure None) i e in
-        finish (λ x r. Is_target i x r) s.1 (Target.alone bad none s.0)
+        same_done (λ x r. Is_target i x r) s.1 (Target.alone bad none s.0)
 
     go : (a : Bool) → is_label_behind (head i) ≡ a → target_by g allowed known alone place (head i) a i ≡ Done x r → Is_target i x r
     go true h e = labelled (allowed (word (head i))) h refl e
     go false h e = unlabelled alone h refl e
-
-colon_is : (κ : Symbol) → is_label k.Name κ ≡ true → κ ≡ k.Colon
-colon_is k.Colon h = refl
-colon_is _ h = cc h
 
 -- a list of one
 one_only : {X : Type 0} {One : Rule X} (i : Tokens) (x : X) (r : Tokens) → Separated One i (x ∷ []) r → One i x r
@@ -114,7 +121,7 @@ module _ (g : Rules) (n : Nested) (b : Below) (T : BelowTakes b) (A : Agrees n b
   unfolding block
   block_is c i xs r e = after_opening g k.OpenBrace (λ i. Block g n c i xs r) i (λ z. cc z) e (λ t m is some e.
       after (until is_close_brace (inner g b c) m) e (λ ys l got e. after_expect k.CloseBrace l (λ z. cc z) e (λ u q at close e.
-      finish (λ xs r. Block g n c (t ∷ m) xs r) e (Block.block is some
+      same_done (λ xs r. Block g n c (t ∷ m) xs r) e (Block.block is some
       (until_is is_close_brace (inner g b c) (n.statement c (part.Whole 0 false)) (At k.CloseBrace) (T.statement c (part.Whole 0 false)) refl
       (λ i x r _ e. inner_is c i x r e) m ys (u ∷ q) (λ _. close) (moved got at)) close))))
 
@@ -122,15 +129,20 @@ module _ (g : Rules) (n : Nested) (b : Below) (T : BelowTakes b) (A : Agrees n b
   unfolding bracketed
   bracketed_is i x r e = after_opening g k.OpenParenthesis (λ i. Bracketed g n i x r) i (λ z. cc z) e (λ t m is some e.
       after (whole_below g b false m) e (λ y l got e. after_expect k.CloseParenthesis l (λ z. cc z) e (λ u q at close e.
-      finish (λ x r. Bracketed g n (t ∷ m) x r) e (Bracketed.bracketed is some (A.expression_is (of_expression.Whole false) m y (u ∷ q) (moved got at)) close))))
+      same_done (λ x r. Bracketed g n (t ∷ m) x r) e
+      (Bracketed.bracketed is some (A.expression_is (of_expression.Whole false) m y (u ∷ q)
+      (moved got at)) close))))
 
   pub returned_is : (i : Tokens) (x : Option Expression) (r : Tokens) → returned g b i ≡ Done x r → Returned g n i x r
   unfolding returned
   returned_is i x r e = go (ends_return (head i)) refl e
     where
       go : (a : Bool) → ends_return (head i) ≡ a → returned_by g b a i ≡ Done x r → Returned g n i x r
-      go true h e = finish (λ x r. Returned g n i x r) e (Returned.nothing h)
-      go false h e = after (whole g b false i) e (λ y m got e. finish (λ x r. Returned g n i x r) e (Returned.value h (whole_is g n b T A false i y m got)))
+      go true h e = same_done (λ x r. Returned g n i x r) e (Returned.nothing h)
+      go false h e =
+          after (whole g b false i) e (λ y m got e.
+          same_done (λ x r. Returned g n i x r) e
+          (Returned.value h (whole_is g n b T A false i y m got)))
 
   -- the colon of a clause, and its statements
   pub clause_is : (c : Context) (i : Tokens) (xs : List Statement) (r : Tokens) → clause g b c i ≡ Done xs r
@@ -150,14 +162,16 @@ module _ (g : Rules) (n : Nested) (b : Below) (T : BelowTakes b) (A : Agrees n b
       → Cases n c a (t ∷ i) (x ∷ xs) r
   unfolding case
   case_is c a t i x l xs r is e = after (whole_below g b false i) e (λ y m got e. after (clause g b c m) e (λ ys j f e. let s = clause_is c m ys j f in
-      finish (λ x l. Cases n c a l xs r → Cases n c a (t ∷ i) (x ∷ xs) r) e (λ more. Cases.case is (A.expression_is (of_expression.Whole false) i y (s.0 ∷ s.1) (moved got s.2)) s.3 s.4 more)))
+      same_done (λ x l. Cases n c a l xs r → Cases n c a (t ∷ i) (x ∷ xs) r) e
+      (λ more. Cases.case is (A.expression_is (of_expression.Whole false) i y (s.0 ∷ s.1)
+      (moved got s.2)) s.3 s.4 more)))
 
   -- a `default`, and the clauses behind it
   default_is : (c : Context) (t : Token) (i : Tokens) (x : Case) (l : Tokens) (xs : List Case) (r : Tokens) → Is k.Default t → default g b c (t ∷ i) ≡ Done x l → Cases n c true l xs r
       → Cases n c false (t ∷ i) (x ∷ xs) r
   unfolding default
   default_is c t i x l xs r is e = after (clause g b c i) e (λ ys j f e. let s = clause_is c i ys j f in
-      finish (λ x l. Cases n c true l xs r → Cases n c false (t ∷ i) (x ∷ xs) r) e
+      same_done (λ x l. Cases n c true l xs r → Cases n c false (t ∷ i) (x ∷ xs) r) e
       (λ more. subst (λ i. Cases n c false (t ∷ i) (roll-Case (record { test = None; body = ys; place = t.place }) ∷ xs) r) (sym s.2) (Cases.default is s.3 s.4 more)))
 
   -- the clauses behind those that were found
@@ -182,21 +196,31 @@ module _ (g : Rules) (n : Nested) (b : Below) (T : BelowTakes b) (A : Agrees n b
       Goes i p l = after_turn cs (many_from (turn c) m) p l ≡ Done o (u ∷ r) → Found c cs o i r
 
       at_case : Again → (p : Option Clauses) (l : Tokens) (t : Token) (j : Tokens) → length (t ∷ j) ≤ suc m → Is k.Case t → clause_by g b c cs k.Case (t ∷ j) ≡ Done p l → Goes (t ∷ j) p l
-      at_case again p l t j room is e = after (case g b c (t ∷ j)) e (λ x q got e. finish (λ p l. Goes (t ∷ j) p l) e (λ f.
-          let fewer : length q ≤ m = omega (arith, room, (case_takes g b T c (t ∷ j)).takes x q got) in
+      at_case again p l t j room is e =
+          after (case g b c (t ∷ j)) e (λ x q got e. same_done (λ p l. Goes (t ∷ j) p l) e (λ f.
+          let fewer : length q ≤ m = omega (
+            arith,
+            room,
+            (case_takes g T c (t ∷ j)).leaves x q got,
+          ) in
           let s = again (with_case g b cs x) q fewer f in
           (x ∷ s.0, s.1 ∙ append_assoc cs.found (x ∷ []) s.0, case_is c cs.defaulted t j x q s.0 r is got s.2)))
 
       at_default : Again → (p : Option Clauses) (l : Tokens) (t : Token) (j : Tokens) → length (t ∷ j) ≤ suc m → Is k.Default t → (a : Bool) → cs.defaulted ≡ a
           → default_by g b c cs a (t ∷ j) ≡ Done p l → Goes (t ∷ j) p l
       at_default again p l t j room is true was e = absurd (refused_not_done e)
-      at_default again p l t j room is false was e = after (default g b c (t ∷ j)) e (λ x q got e. finish (λ p l. Goes (t ∷ j) p l) e (λ f.
-          let fewer : length q ≤ m = omega (arith, room, (default_takes g b T c (t ∷ j)).takes x q got) in
+      at_default again p l t j room is false was e =
+          after (default g b c (t ∷ j)) e (λ x q got e. same_done (λ p l. Goes (t ∷ j) p l) e (λ f.
+          let fewer : length q ≤ m = omega (
+            arith,
+            room,
+            (default_takes g T c (t ∷ j)).leaves x q got,
+          ) in
           let s = again (with_default g b cs x) q fewer f in
           (x ∷ s.0, s.1 ∙ append_assoc cs.found (x ∷ []) s.0, subst (λ a. Cases n c a (t ∷ j) (x ∷ s.0) r) (sym was) (default_is c t j x q s.0 r is got s.2))))
 
       go : Again → (p : Option Clauses) (l : Tokens) (κ : Symbol) → next i ≡ κ → clause_by g b c cs κ i ≡ Done p l → Goes i p l
-      go again p l k.CloseBrace h e = finish (λ p l. Goes i p l) e (λ f.
+      go again p l k.CloseBrace h e = same_done (λ p l. Goes i p l) e (λ f.
           ([], ap (λ o. o.found) (sym (done_value f)) ∙ sym (append-nil cs.found), subst (λ j. Cases n c cs.defaulted j [] r) (sym (done_rest f)) (Cases.close close)))
       go again p l k.Case h e = begins (λ i. length i ≤ suc m → clause_by g b c cs k.Case i ≡ Done p l → Goes i p l) k.Case i (λ z. cc z) h
           (λ t j is room e. at_case again p l t j room is e) room e
@@ -209,15 +233,24 @@ module _ (g : Rules) (n : Nested) (b : Below) (T : BelowTakes b) (A : Agrees n b
   unfolding cases
   cases_is c i xs r e = after_open g k.OpenBrace i (λ z. cc z) e (λ t m at is some e.
       after (many (turn c) (record { defaulted = false; found = [] }) m) e (λ o l got e. after_expect k.CloseBrace l (λ z. cc z) e (λ u q behind close e.
-      let f = clauses_is c (length m) (record { defaulted = false; found = [] }) m o u q (le_refl (length m)) close (moved got behind) in
-      (t, m, at, is, some, finish (λ xs r. Cases n c false m xs r) e (subst (λ ys. Cases n c false m ys q) (sym f.1) f.2)))))
+      let f = clauses_is c (length m) (record { defaulted = false; found = [] }) m o u q (le_refl (length m)) close (moved got behind) in (
+        t,
+        m,
+        at,
+        is,
+        some,
+        same_done (λ xs r. Cases n c false m xs r) e
+            (subst (λ ys. Cases n c false m ys q) (sym f.1) f.2),
+      ))))
 
   pub catch_is : (c : Context) (i : Tokens) (x : CatchOf Statement) (r : Tokens) → next i ≡ k.Catch → catch g b c i ≡ Done x r → Catch g n c i x r
   unfolding catch
   catch_is c i x r h e = begins (λ i. catch g b c i ≡ Done x r → Catch g n c i x r) k.Catch i (λ z. cc z) h (λ t m at e.
       after_opening g k.OpenParenthesis (λ m. Catch g n c (t ∷ m) x r) m (λ z. cc z) e (λ u q is some e.
       after (declared g q) e (λ y l got e. after_expect k.CloseParenthesis l (λ z. cc z) e (λ v o behind close e. after (block g b c o) e (λ xs p f e.
-      finish (λ x r. Catch g n c (t ∷ u ∷ q) x r) e (Catch.caught at is some (declared_is g q y (v ∷ o) (moved got behind)) close (block_is c o xs p f))))))) e
+      same_done (λ x r. Catch g n c (t ∷ u ∷ q) x r) e
+      (Catch.caught at is some (declared_is g q y (v ∷ o) (moved got behind)) close
+      (block_is c o xs p f))))))) e
 
   pub finally_is : (c : Context) (i : Tokens) (xs : List Statement) (r : Tokens) → next i ≡ k.Finally → finally g b c i ≡ Done xs r → Finally g n c i xs r
   unfolding finally
@@ -277,7 +310,9 @@ module _ (g : Rules) (n : Nested) (b : Below) (T : BelowTakes b) (A : Agrees n b
       go true is false known off e =
           begins (λ j. is_label_behind (head j) ≡ true → has_label c (word (head j)) ≡ false → g (UnknownLabel (head j).place) (t ∷ j) ≡ false → rest (head j) (behind j) ≡ Done x r → Jumps j)
           k.Name i (λ z. cc z) (label_is_name (head i) is) (λ u m _ is known off e. after (ended m) e (λ z l got e.
-          finish (λ x r. (y : Name) × Untargeted g c (t ∷ u ∷ m) y r × (jump (Some y) ≡ x)) e (name_of u, Untargeted.untargeted is known off (ended_is m l z got), refl))) is known off e
+          same_done (λ x r. (y : Name) × Untargeted g c (t ∷ u ∷ m) y r × (jump (Some y) ≡ x)) e
+          (name_of u, Untargeted.untargeted is known off (ended_is m l z got), refl))) is known
+          off e
 
   -- ---- a statement
 
@@ -287,13 +322,18 @@ module _ (g : Rules) (n : Nested) (b : Below) (T : BelowTakes b) (A : Agrees n b
 
     variables_is : (t : Token) (i : Tokens) (x : Statement) (r : Tokens) → Is k.Var t → variables g b (t ∷ i) ≡ Done x r → Is_single (t ∷ i) x r
     unfolding variables
-    variables_is t i x r is e = after (separated (variable g (assignment g b false)) i) e (λ xs m got e. after (ended m) e (λ u l f e. finish (λ x r. Is_single (t ∷ i) x r) e
-        (Single.variables is (separated_is (variable g (assignment g b false)) (Variable g (Assignment g n false)) (variable_takes g (assignment g b false) (assignment_takes g b T false))
+    variables_is t i x r is e =
+        after (separated (variable g (assignment g b false)) i) e
+        (λ xs m got e. after (ended m) e (λ u l f e. same_done (λ x r. Is_single (t ∷ i) x r) e
+        (Single.variables is (separated_is (variable g (assignment g b false))
+        (Variable g (Assignment g n false)) (variable_takes g (assignment_takes g T false))
         (variable_is g (assignment g b false) (Assignment g n false) (assignment_is g n b T A false)) i xs m got) (ended_is m l u f))))
 
     expression_is : (i : Tokens) (x : Statement) (r : Tokens) → begins_statement (next i) ≡ false → is_label (next i) (next (behind i)) ≡ false → expression_statement g b i ≡ Done x r → Is_single i x r
     unfolding expression_statement
-    expression_is i x r plain unlabelled e = after (whole g b false i) e (λ y m got e. after (ended m) e (λ u l f e. finish (λ x r. Is_single i x r) e
+    expression_is i x r plain unlabelled e =
+        after (whole g b false i) e (λ y m got e.
+        after (ended m) e (λ u l f e. same_done (λ x r. Is_single i x r) e
         (Single.expression plain unlabelled (whole_is g n b T A false i y m got) (ended_is m l u f))))
 
     continue_is : (t : Token) (i : Tokens) (x : Statement) (r : Tokens) → Is k.Continue t → continue g b c (t ∷ i) ≡ Done x r → Is_single (t ∷ i) x r
@@ -301,7 +341,9 @@ module _ (g : Rules) (n : Nested) (b : Below) (T : BelowTakes b) (A : Agrees n b
     continue_is t i x r is e = go c.in_loop refl e
       where
         go : (a : Bool) → c.in_loop ≡ a → continue_by g b c a (t ∷ i) ≡ Done x r → Is_single (t ∷ i) x r
-        go true ok e = after (jump_target g (has_loop c) (has_label c) true t.place i) e (λ y m got e. after (ended m) e (λ u l f e. finish (λ x r. Is_single (t ∷ i) x r) e
+        go true ok e =
+            after (jump_target g (has_loop c) (has_label c) true t.place i) e
+            (λ y m got e. after (ended m) e (λ u l f e. same_done (λ x r. Is_single (t ∷ i) x r) e
             (Single.continue is ok (jump_target_is g (has_loop c) (has_label c) true t.place i y m got) (ended_is m l u f))))
         go false none e = let f = untargeted_is (λ y. s.Continue y t.place) c t i x r e in subst (λ x. Is_single (t ∷ i) x r) f.2 (Single.continue_untargeted is none f.1)
 
@@ -310,7 +352,9 @@ module _ (g : Rules) (n : Nested) (b : Below) (T : BelowTakes b) (A : Agrees n b
     break_is t i x r is e = go (may_break c) refl e
       where
         go : (a : Bool) → may_break c ≡ a → break_by g b c a (t ∷ i) ≡ Done x r → Is_single (t ∷ i) x r
-        go true ok e = after (jump_target g (has_label c) (has_label c) c.in_breakable t.place i) e (λ y m got e. after (ended m) e (λ u l f e. finish (λ x r. Is_single (t ∷ i) x r) e
+        go true ok e =
+            after (jump_target g (has_label c) (has_label c) c.in_breakable t.place i) e
+            (λ y m got e. after (ended m) e (λ u l f e. same_done (λ x r. Is_single (t ∷ i) x r) e
             (Single.break is ok (jump_target_is g (has_label c) (has_label c) c.in_breakable t.place i y m got) (ended_is m l u f))))
         go false none e = let f = untargeted_is (λ y. s.Break y t.place) c t i x r e in subst (λ x. Is_single (t ∷ i) x r) f.2 (Single.break_untargeted is none f.1)
 
@@ -319,7 +363,9 @@ module _ (g : Rules) (n : Nested) (b : Below) (T : BelowTakes b) (A : Agrees n b
     return_is t i x r is e = go c.in_function refl e
       where
         go : (a : Bool) → c.in_function ≡ a → return_by g b a (t ∷ i) ≡ Done x r → Is_single (t ∷ i) x r
-        go true ok e = after (returned g b i) e (λ y m got e. after (ended m) e (λ u l f e. finish (λ x r. Is_single (t ∷ i) x r) e
+        go true ok e =
+            after (returned g b i) e (λ y m got e.
+            after (ended m) e (λ u l f e. same_done (λ x r. Is_single (t ∷ i) x r) e
             (Single.return is ok (returned_is i y m got) (ended_is m l u f))))
         go false ok e = absurd (refused_not_done e)
 
@@ -333,19 +379,23 @@ module _ (g : Rules) (n : Nested) (b : Below) (T : BelowTakes b) (A : Agrees n b
     unfolding labelled
     labelled_is t i x r is h e = begins (λ i. labelled g b c labels (t ∷ i) ≡ Done x r → Is_single (t ∷ i) x r) k.Colon i (λ z. cc z) h (λ u m colon e.
         after (label g b c (t ∷ u ∷ m)) e (λ v l got e. let new = label_is c t u m v l got in
-        finish (λ v l. (b.statement (labelled_context c (word v)) (part.Whole (suc labels) false) >>= (λ y. pure (s.Labelled (name_of v) y))) l ≡ Done x r → Is_single (t ∷ u ∷ m) x r) new.2
-        (λ e. after (b.statement (labelled_context c (word t)) (part.Whole (suc labels) false) m) e (λ y q f e. finish (λ x r. Is_single (t ∷ u ∷ m) x r) e
+        same_done (λ v l. (b.statement (labelled_context c (word v)) (part.Whole (suc labels) false)
+        >>= (λ y. pure (s.Labelled (name_of v) y))) l ≡ Done x r → Is_single (t ∷ u ∷ m) x r)
+        new.2
+        (λ e. after (b.statement (labelled_context c (word t)) (part.Whole (suc labels) false) m) e
+        (λ y q f e. same_done (λ x r. Is_single (t ∷ u ∷ m) x r) e
         (label_single t u m y q is colon new.0 new.1 (A.statement_is (labelled_context c (word t)) (part.Whole (suc labels) false) m y q f)))) e)) e
 
     switch_is : (t : Token) (i : Tokens) (x : Statement) (r : Tokens) → Is k.Switch t → switch g b c (t ∷ i) ≡ Done x r → Is_single (t ∷ i) x r
     unfolding switch
     switch_is t i x r is e = after (bracketed g b i) e (λ y m got e. after (cases g b (switch_context c) m) e (λ cs l f e. let s = cases_is (switch_context c) m cs l f in
-        finish (λ x r. Is_single (t ∷ i) x r) e (Single.switch is (bracketed_is i y (s.0 ∷ s.1) (moved got s.2)) s.3 s.4 s.5)))
+        same_done (λ x r. Is_single (t ∷ i) x r) e
+        (Single.switch is (bracketed_is i y (s.0 ∷ s.1) (moved got s.2)) s.3 s.4 s.5)))
 
     throw_is : (t : Token) (i : Tokens) (x : Statement) (r : Tokens) → Is k.Throw t → throw g b (t ∷ i) ≡ Done x r → Is_single (t ∷ i) x r
     unfolding throw
     throw_is t i x r is e = after (thrown g b i) e (λ y m got e. after (ended m) e (λ u l f e. let s = thrown_is i y m got in
-        finish (λ x r. Is_single (t ∷ i) x r) e (Single.throw is s.0 s.1 (ended_is m l u f))))
+        same_done (λ x r. Is_single (t ∷ i) x r) e (Single.throw is s.0 s.1 (ended_is m l u f))))
 
     try_is : (t : Token) (i : Tokens) (x : Statement) (r : Tokens) → Is k.Try t → try g b c (t ∷ i) ≡ Done x r → Is_single (t ∷ i) x r
     unfolding try
@@ -353,24 +403,36 @@ module _ (g : Rules) (n : Nested) (b : Below) (T : BelowTakes b) (A : Agrees n b
       where
         last : (xs : List Statement) (m : Tokens) (y : CatchOf Statement) (l : Tokens) → Block g n c i xs m → Catch g n c m y l → (κ : Symbol) → next l ≡ κ
             → finally_by g b c t xs y κ l ≡ Done x r → Is_single (t ∷ i) x r
-        last xs m y l h got k.Finally at e = after (finally g b c l) e (λ ys q f e. finish (λ x r. Is_single (t ∷ i) x r) e (Single.try_both is h got (finally_is c l ys q at f)))
-        last xs m y l h got _ at e = finish (λ x r. Is_single (t ∷ i) x r) e (Single.try_catch is h got (λ z. cc (at, z)))
+        last xs m y l h got k.Finally at e =
+            after (finally g b c l) e (λ ys q f e.
+            same_done (λ x r. Is_single (t ∷ i) x r) e
+            (Single.try_both is h got (finally_is c l ys q at f)))
+        last xs m y l h got _ at e =
+            same_done (λ x r. Is_single (t ∷ i) x r) e (Single.try_catch is h got (λ z. cc (at, z)))
 
         handlers : (xs : List Statement) (m : Tokens) → Block g n c i xs m → (κ : Symbol) → next m ≡ κ → handlers_by g b c t xs κ m ≡ Done x r → Is_single (t ∷ i) x r
         handlers xs m h k.Catch at e = after (catch g b c m) e (λ y l got e. last xs m y l h (catch_is c m y l at got) (next l) refl e)
-        handlers xs m h k.Finally at e = after (finally g b c m) e (λ ys q f e. finish (λ x r. Is_single (t ∷ i) x r) e (Single.try_finally is h (finally_is c m ys q at f)))
+        handlers xs m h k.Finally at e =
+            after (finally g b c m) e (λ ys q f e.
+            same_done (λ x r. Is_single (t ∷ i) x r) e
+            (Single.try_finally is h (finally_is c m ys q at f)))
         handlers xs m h _ at e = absurd (refused_not_done e)
 
     function_statement_is : (i : Tokens) (x : Statement) (r : Tokens) (a : Bool) → outermost ≡ a → function_statement g b a i ≡ Done x r → Is_single i x r
-    function_statement_is i x r true ok e = after (function g b true i) e (λ f m got e. finish (λ x r. Is_single i x r) e (Single.function ok (function_is g n b T A true i f m got)))
+    function_statement_is i x r true ok e =
+        after (function g b true i) e (λ f m got e.
+        same_done (λ x r. Is_single i x r) e (Single.function ok
+        (function_is g n b T A true i f m got)))
     function_statement_is i x r false ok e = absurd (refused_not_done e)
 
     -- tokens of which the first is t
     begun_is : (t : Token) (i : Tokens) (x : Statement) (r : Tokens) (κ : Symbol) → symbol t ≡ κ → single_by g b c labels outermost t κ (t ∷ i) ≡ Done x r → Is_single (t ∷ i) x r
     unfolding begins_statement
-    begun_is t i x r k.OpenBrace h e = after (block g b c (t ∷ i)) e (λ xs m got e. finish (λ x r. Is_single (t ∷ i) x r) e (Single.block (block_is c (t ∷ i) xs m got)))
+    begun_is t i x r k.OpenBrace h e =
+        after (block g b c (t ∷ i)) e (λ xs m got e.
+        same_done (λ x r. Is_single (t ∷ i) x r) e (Single.block (block_is c (t ∷ i) xs m got)))
     begun_is t i x r k.Var h e = variables_is t i x r h e
-    begun_is t i x r k.Semicolon h e = finish (λ x r. Is_single (t ∷ i) x r) e (Single.empty h)
+    begun_is t i x r k.Semicolon h e = same_done (λ x r. Is_single (t ∷ i) x r) e (Single.empty h)
     begun_is t i x r k.If h e = after_enter g t i (λ _. b.statement c (part.If t.place)) e (λ some e. Single.if h some (A.statement_is c (part.If t.place) i x r e))
     begun_is t i x r k.Do h e = after_enter g t i (λ _. b.statement c (part.Do t.place labels)) e (λ some e. Single.do_while h some (A.statement_is c (part.Do t.place labels) i x r e))
     begun_is t i x r k.While h e = after_enter g t i (λ _. b.statement c (part.While t.place labels)) e (λ some e. Single.while h some (A.statement_is c (part.While t.place labels) i x r e))
@@ -385,7 +447,9 @@ module _ (g : Rules) (n : Nested) (b : Below) (T : BelowTakes b) (A : Agrees n b
     begun_is t i x r k.Name h e = named (is_label (symbol t) (next i)) refl e
       where
         named : (a : Bool) → is_label (symbol t) (next i) ≡ a → labelled_or_expression g b c labels a (t ∷ i) ≡ Done x r → Is_single (t ∷ i) x r
-        named true is e = labelled_is t i x r h (colon_is (next i) (ap (λ κ. is_label κ (next i)) (sym h) ∙ is)) e
+        named true is e =
+            labelled_is t i x r h (label_colon (next i)
+            (ap (λ κ. is_label κ (next i)) (sym h) ∙ is)) e
         named false other e = expression_is (t ∷ i) x r (ap begins_statement h) other e
     begun_is t i x r _ h e = expression_is (t ∷ i) x r (ap begins_statement h) (ap (λ κ. is_label κ (next i)) h) e
 
@@ -405,19 +469,25 @@ module _ (g : Rules) (n : Nested) (b : Below) (T : BelowTakes b) (A : Agrees n b
           → else_by g b c place x y κ l ≡ Done v r → If g n c place i v r
       go x m got y l f k.Else h e = begins (λ l. single g b c 0 false m ≡ Done y l → else_by g b c place x y k.Else l ≡ Done v r → If g n c place i v r) k.Else l (λ z. cc z) h
           (λ t q is f e. after_enter g t q (λ _. inner g b c >>= (λ z. pure (s.If x y (Some z) place))) e (λ some e. after (inner g b c q) e (λ z j w e.
-          finish (λ v r. If g n c place i v r) e (If.both got (single_is c 0 false m y (t ∷ q) f) is some (inner_is c q z j w))))) f e
-      go x m got y l f _ h e = finish (λ v r. If g n c place i v r) e (If.alone got (single_is c 0 false m y l f) (λ z. cc (h, z)))
+          same_done (λ v r. If g n c place i v r) e
+          (If.both got (single_is c 0 false m y (t ∷ q) f) is some (inner_is c q z j w))))) f e
+      go x m got y l f _ h e =
+          same_done (λ v r. If g n c place i v r) e
+          (If.alone got (single_is c 0 false m y l f) (λ z. cc (h, z)))
 
   pub do_part_is : (c : Context) (place : Place) (labels : ℕ) (i : Tokens) (x : Statement) (r : Tokens) → do_part g b c place labels i ≡ Done x r → Do g n c place labels i x r
   unfolding do_part
   do_part_is c place labels i v r e = after (single g b (loop_context c labels) 0 false i) e (λ x m got e. after_expect k.While m (λ z. cc z) e (λ t l at is e.
-      after (bracketed g b l) e (λ y j f e. after (ended j) e (λ u q h e. finish (λ v r. Do g n c place labels i v r) e
+      after (bracketed g b l) e (λ y j f e. after (ended j) e
+      (λ u q h e. same_done (λ v r. Do g n c place labels i v r) e
       (Do.do_while (single_is (loop_context c labels) 0 false i x (t ∷ l) (moved got at)) is (bracketed_is l y j f) (ended_is j q u h))))))
 
   pub while_part_is : (c : Context) (place : Place) (labels : ℕ) (i : Tokens) (x : Statement) (r : Tokens) → while_part g b c place labels i ≡ Done x r → While g n c place labels i x r
   unfolding while_part
   while_part_is c place labels i v r e = after (bracketed g b i) e (λ x m got e. after (single g b (loop_context c labels) 0 false m) e (λ y l f e.
-      finish (λ v r. While g n c place labels i v r) e (While.while (bracketed_is i x m got) (single_is (loop_context c labels) 0 false m y l f))))
+      same_done (λ v r. While g n c place labels i v r) e
+      (While.while (bracketed_is i x m got)
+      (single_is (loop_context c labels) 0 false m y l f))))
 
   pub optional_is : (close : Symbol) → close ≢ k.End → (i : Tokens) (x : Option Expression) (r : Tokens) → optional g b close i ≡ Done x r → Optional n close i x r
   unfolding optional
@@ -425,8 +495,10 @@ module _ (g : Rules) (n : Nested) (b : Below) (T : BelowTakes b) (A : Agrees n b
     where
       go : (a : Bool) → same_symbol (next i) close ≡ a → optional_by g b close a i ≡ Done v r → Optional n close i v r
       go true h e = begins (λ i. optional_by g b close true i ≡ Done v r → Optional n close i v r) close i more (same_symbol_true (next i) close h)
-          (λ t m is e. finish (λ v r. Optional n close (t ∷ m) v r) e (Optional.absent is)) e
-      go false h e = after (whole_below g b false i) e (λ x m got e. after_expect close m more e (λ t l at is e. finish (λ v r. Optional n close i v r) e
+          (λ t m is e. same_done (λ v r. Optional n close (t ∷ m) v r) e (Optional.absent is)) e
+      go false h e =
+          after (whole_below g b false i) e (λ x m got e.
+          after_expect close m more e (λ t l at is e. same_done (λ v r. Optional n close i v r) e
           (Optional.present (same_symbol_false (next i) close h) (A.expression_is (of_expression.Whole false) i x (t ∷ l) (moved got at)) is)))
 
   -- what stands behind the first `;` of a `for`
@@ -455,7 +527,9 @@ module _ (g : Rules) (n : Nested) (b : Below) (T : BelowTakes b) (A : Agrees n b
     -- what was read before the first `;`
     first_is : (i m : Tokens) (x : ForFirst Expression) → HasRoom g (t ∷ i) → First g n i x m → for_rest g b inside place x m ≡ Done v r → Is_for i v r
     unfolding Is_for
-    first_is i m x some h e = after_rest inside place x m v r e (λ y z w l o q f got body e. finish (λ v r. For g n c place labels (t ∷ i) v r) e (For.for open_is some h f got body))
+    first_is i m x some h e =
+        after_rest inside place x m v r e (λ y z w l o q f got body e.
+        same_done (λ v r. For g n c place labels (t ∷ i) v r) e (For.for open_is some h f got body))
 
     for_variables_is : (u : Token) (i : Tokens) → HasRoom g (t ∷ u ∷ i) → Is k.Var u → for_variables g b inside place (u ∷ i) ≡ Done v r → Is_for (u ∷ i) v r
     unfolding for_variables Is_for
@@ -464,7 +538,7 @@ module _ (g : Rules) (n : Nested) (b : Below) (T : BelowTakes b) (A : Agrees n b
         list_is : (xs : List (Declaration Expression)) (m : Tokens) → separated (variable g (assignment_below g b true)) i ≡ Done xs m
             → Separated (Variable g (n.expression (of_expression.Assignment true))) i xs m
         list_is xs m got = separated_is (variable g (assignment_below g b true)) (Variable g (n.expression (of_expression.Assignment true)))
-            (variable_takes g (assignment_below g b true) (T.expression (of_expression.Assignment true)))
+            (variable_takes g (T.expression (of_expression.Assignment true)))
             (variable_is g (assignment_below g b true) (n.expression (of_expression.Assignment true)) (A.expression_is (of_expression.Assignment true))) i xs m got
 
         rest : (xs : List (Declaration Expression)) (m : Tokens) → separated (variable g (assignment_below g b true)) i ≡ Done xs m
@@ -475,7 +549,10 @@ module _ (g : Rules) (n : Nested) (b : Below) (T : BelowTakes b) (A : Agrees n b
             → for_variables_by g b inside place xs κ m ≡ Done v r → For g n c place labels (t ∷ u ∷ i) v r
         go [] m got κ h e = rest [] m got e
         go (x ∷ []) m got k.In h e = begins (λ m. separated (variable g (assignment_below g b true)) i ≡ Done (x ∷ []) m → in_rest g b inside place (target.Variable x) m ≡ Done v r → For g n c place labels (t ∷ u ∷ i) v r)
-            k.In m (λ z. cc z) h (λ w l is got e. after_in inside place (target.Variable x) w l v r e (λ y o z j q f close body e. finish (λ v r. For g n c place labels (t ∷ u ∷ i) v r) e
+            k.In m (λ z. cc z) h (λ w l is got e.
+            after_in inside place (target.Variable x) w l v r e
+            (λ y o z j q f close body e. same_done
+            (λ v r. For g n c place labels (t ∷ u ∷ i) v r) e
             (For.in_variable open_is some var (one_only i x (w ∷ l) (list_is (x ∷ []) (w ∷ l) got)) is f close body))) got e
         go (x ∷ []) m got _ h e = rest (x ∷ []) m got e
         go (x ∷ y ∷ xs) m got κ h e = rest (x ∷ y ∷ xs) m got e
@@ -486,7 +563,9 @@ module _ (g : Rules) (n : Nested) (b : Below) (T : BelowTakes b) (A : Agrees n b
       where
         reference : (x : Expression) (w : Token) (l : Tokens) → whole_below g b true i ≡ Done x (w ∷ l) → Is k.In w → (a : Bool) → is_reference x ≡ a
             → in_reference_by g b inside place x a (w ∷ l) ≡ Done v r → For g n c place labels (t ∷ i) v r
-        reference x w l got is true ok e = after_in inside place (target.Reference x) w l v r e (λ y o z j q f close body e. finish (λ v r. For g n c place labels (t ∷ i) v r) e
+        reference x w l got is true ok e =
+            after_in inside place (target.Reference x) w l v r e
+            (λ y o z j q f close body e. same_done (λ v r. For g n c place labels (t ∷ i) v r) e
             (For.in_reference open_is some other empty (A.expression_is (of_expression.Whole true) i x (w ∷ l) got) is ok f close body))
         reference x w l got is false ok e = absurd (refused_not_done e)
 

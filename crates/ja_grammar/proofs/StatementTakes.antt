@@ -1,5 +1,6 @@
--- Every rule of statements takes a token, or at least adds none.
-use Rattle.std.proofs.Common.{◌≡◌, ◌≢◌, ℕ, suc, Bool, true, false, List, [], ◌∷◌, Option, Some, None, refl, sym, ◌∙◌}
+-- Every rule of statements takes a token, or at least adds none, and so where it is refused; and so
+-- at every number of levels.
+use Rattle.std.proofs.Common.{◌≡◌, ◌≢◌, ℕ, zero, suc, Bool, true, false, List, [], ◌∷◌, Option, refl, sym, ◌∙◌}
 use Rattle.ja_base.specs.declared.ids.Place.{Place}
 use Rattle.ja_lex.specs.declared.token.Token.{Token}
 use Rattle.ja_syntax.specs.declared.symbol.Symbol.{Symbol}
@@ -16,330 +17,363 @@ use Rattle.ja_syntax.specs.declared.tree.Statement.{Statement}
 use Rattle.ja_syntax.specs.declared.tree.Statement.TheVariants as s
 use Rattle.ja_syntax.specs.References.{is_reference}
 use Rattle.ja_syntax.specs.Symbols.{same_symbol}
-use Rattle.ja_grammar.specs.declared.fault.Refusal.TheVariants.{Unexpected, DeepLabel, Broken, Alone}
+use Rattle.ja_grammar.specs.declared.fault.Refusal.TheVariants.{DeepLabel, Broken, Alone}
 use Rattle.ja_grammar.specs.declared.part.ExpressionPart.TheVariants as of_expression
 use Rattle.ja_grammar.specs.declared.part.StatementPart.{StatementPart}
 use Rattle.ja_grammar.specs.declared.part.StatementPart.TheVariants as part
 use Rattle.ja_grammar.specs.Contexts.{Context, loop_context, switch_context, labelled_context, has_label, has_loop, may_break}
-use Rattle.ja_grammar.specs.Forms.{word, name_of, is_label, is_label_behind, ends_return, ends_clause}
-use Rattle.ja_grammar.specs.Input.{Tokens, head, next, behind, Parser, ◌>>◌, pure, enter, expect, Rules}
+use Rattle.ja_grammar.specs.Forms.{word, is_label, is_label_behind, ends_return, ends_clause}
+use Rattle.ja_grammar.specs.Input.{Tokens, head, next, behind, symbol, Parser, ◌>>◌, pure, look, expect, Rules}
 use Rattle.ja_grammar.specs.ReadExpression.{Below, is_close_brace}
-use Rattle.ja_grammar.specs.ReadStatement.{ended_by, ended, variable_by, variable, labelled_by, unlabelled_by, target_by, jump_target, without_target, enter_label, Clauses, inner, block, bracketed, variables, expression_statement, untargeted, continue, continue_by, break, break_by, returned, returned_by, return, return_by, thrown, thrown_by, throw, label, label_by, labelled, clause, case, default, default_by, clause_by, cases, switch, catch, finally, finally_by, handlers_by, try, labelled_or_expression, function_statement, headed, single_by, single, else_by, if_part, do_part, while_part, optional, optional_by, for_rest, in_rest, for_variables, for_variables_by, in_reference_by, for_expression, for_expression_by, for_by, for_part, statement_part}
+use Rattle.ja_grammar.specs.ReadStatement.{ended_by, ended, variable_by, variable, labelled_by, unlabelled_by, target_by, jump_target, without_target, enter_label, Clauses, block, bracketed, variables, expression_statement, untargeted, continue, continue_by, break, break_by, returned, returned_by, return, return_by, thrown, thrown_by, throw, label, label_by, labelled, clause, case, default, default_by, clause_by, cases, switch, catch, finally, finally_by, handlers_by, try, labelled_or_expression, function_statement, headed, single_by, single, else_by, if_part, do_part, while_part, optional, optional_by, for_rest, in_rest, for_variables, for_variables_by, in_reference_by, for_expression, for_expression_by, for_by, for_part, statement_part, below}
 use Rattle.ja_grammar.proofs.Agree.{BelowTakes}
-use Rattle.ja_grammar.proofs.ExpressionTakes.{declared_takes, function_takes, assignment_takes, whole_takes}
-use Rattle.ja_grammar.proofs.ListLaws.{many_shrinks, until_shrinks, separated_takes}
-use Rattle.ja_grammar.proofs.Opening.{opening_takes}
+use Rattle.ja_grammar.proofs.ExpressionTakes.{declared_takes, function_takes, assignment_takes, whole_takes, expression_part_takes}
 use Rattle.ja_grammar.proofs.Outcomes.{same_symbol_true}
-use Rattle.ja_grammar.proofs.Shrinks.{ShrinksAt, TakesAt, Shrinks, Takes, takes_shrinks, pure_shrinks, refuse_takes, take_takes, take_shrinks, expect_takes, enter_shrinks, unless_shrinks, unless_takes, bind_shrinks, bind_takes, bind_takes_second}
-use Rattle.ja_grammar.proofs.Walks.{same_takes, behind_takes}
+use Rattle.ja_grammar.proofs.Shrinks.{Leaves, Takes, Shrinks, takes_shrinks, pure_shrinks, refuse_leaves, behind_leaves, behind_takes, token_shrinks, token_takes, unless_leaves, enter_shrinks, expect_shrinks, expect_takes, opening_takes, bind_leaves, value_leaves, many_shrinks, until_shrinks, separated_takes}
 
 pub ended_shrinks : Shrinks ended
 unfolding ended
-ended_shrinks i = record { shrinks = (go (next i) (head i).line_before).shrinks }
+ended_shrinks i = go (next i) (head i).line_before
   where
-    go : (κ : Symbol) (line : Bool) → ShrinksAt (ended_by κ line) i
-    go k.Semicolon line = bind_shrinks i (take_shrinks i) (λ t r _. pure_shrinks tt r)
-    go k.CloseBrace line = pure_shrinks tt i
-    go k.End line = pure_shrinks tt i
-    go _ true = pure_shrinks tt i
-    go _ false = takes_shrinks (refuse_takes Unexpected i)
-
-pub variable_takes : (g : Rules) (value : Parser Expression) → Takes value → Takes (variable g value)
-unfolding variable
-variable_takes g value takes i = bind_takes i (declared_takes g i) (λ x r _. record { shrinks = (go x r (next r)).shrinks })
-  where
-    go : (x : Name) (r : Tokens) (κ : Symbol) → ShrinksAt (variable_by value x (head r) κ) r
-    go x r k.Assign = takes_shrinks (behind_takes r (bind_takes _ (takes (behind r)) (λ y m _. pure_shrinks _ m)) refl)
-    go x r _ = pure_shrinks _ r
-
-pub jump_target_shrinks : (g : Rules) (allowed known : List ℕ → Bool) (alone : Bool) (place : Place) → Shrinks (jump_target g allowed known alone place)
-unfolding jump_target
-jump_target_shrinks g allowed known alone place i = record { shrinks = (go (is_label_behind (head i))).shrinks }
-  where
-    labelled : (a b : Bool) → ShrinksAt (labelled_by g place (head i) a b) i
-    labelled true b = bind_shrinks i (take_shrinks i) (λ t r _. pure_shrinks (Some (name_of (head i))) r)
-    labelled false true = unless_shrinks g (Broken place) i (bind_shrinks i (take_shrinks i) (λ t r _. pure_shrinks (Some (name_of (head i))) r))
-    labelled false false = takes_shrinks (refuse_takes Unexpected i)
-
-    unlabelled : (a : Bool) → ShrinksAt (unlabelled_by g place a) i
-    unlabelled true = pure_shrinks None i
-    unlabelled false = unless_shrinks g (Alone place) i (pure_shrinks None i)
-
-    go : (a : Bool) → ShrinksAt (target_by g allowed known alone place (head i) a) i
-    go true = labelled (allowed (word (head i))) (known (word (head i)))
-    go false = unlabelled alone
-
-pub enter_label_shrinks : (g : Rules) (place : Place) → Shrinks (enter_label g place)
-unfolding enter_label
-enter_label_shrinks g place i = unless_shrinks g (DeepLabel place) i (take_shrinks i)
-
-pub enter_label_takes : (g : Rules) (place : Place) (i : Tokens) → next i ≢ k.End → TakesAt (enter_label g place) i
-unfolding enter_label
-enter_label_takes g place i more = unless_takes g (DeepLabel place) i (take_takes i more)
-
--- no symbol but the end's is the end
-unlike : (i : Tokens) {κ : Symbol} → next i ≡ κ → κ ≢ k.End → next i ≢ k.End
-unlike i is other ends = other (sym is ∙ ends)
-
--- a token of this symbol, and then the value
-closed : {A : Type 0} (κ : Symbol) → κ ≢ k.End → (a : A) → Shrinks (expect κ >> pure a)
-closed κ more a i = bind_shrinks i (takes_shrinks (expect_takes κ more i)) (λ t r _. pure_shrinks a r)
+    go : (κ : Symbol) (line : Bool) → Leaves false (ended_by κ line i) i
+    go k.Semicolon line = token_shrinks
+    go k.CloseBrace line = pure_shrinks
+    go k.End line = pure_shrinks
+    go _ true = pure_shrinks
+    go _ false = refuse_leaves
 
 -- the end of a statement, and then the statement
-ended_then : {A : Type 0} (a : A) → Shrinks (ended >> pure a)
-ended_then a i = bind_shrinks i (ended_shrinks i) (λ t r _. pure_shrinks a r)
+pub ended_then : {A : Type 0} (a : A) → Shrinks (ended >> pure a)
+ended_then a i = value_leaves _ (ended_shrinks i)
 
--- a token that counts, and then a part that takes
-entered_takes : {A : Type 0} (g : Rules) (p : Parser A) → Takes p → Takes (enter g >> p)
-entered_takes g p takes i = bind_takes_second i (enter_shrinks g i) (λ t r _. takes r)
+-- a token of this symbol, and then a value
+pub closed : {A : Type 0} (κ : Symbol) (a : A) → Shrinks (expect κ >> pure a)
+closed κ a i = value_leaves _ (expect_shrinks κ i)
 
-module _ (g : Rules) (b : Below) (h : BelowTakes b) where
-  inner_shrinks : (c : Context) → Shrinks (inner g b c)
-  inner_shrinks c i = takes_shrinks (h.statement c (part.Whole 0 false) i)
+-- ---- names and labels
 
+pub variable_by_shrinks : {value : Parser Expression} → Takes value → (x : Name) (t : Token)
+    (κ : Symbol) → Shrinks (variable_by value x t κ)
+variable_by_shrinks takes x t k.Assign i =
+    behind_leaves (value_leaves _ (takes_shrinks (takes (behind i))))
+variable_by_shrinks takes x t _ i = pure_shrinks
+
+module _ (g : Rules) where
+  pub variable_takes : {value : Parser Expression} → Takes value → Takes (variable g value)
+  unfolding variable
+  variable_takes takes i = bind_leaves (declared_takes g i)
+      (λ x r. variable_by_shrinks takes x (head r) (next r) r)
+
+  jump_target_shrinks : (allowed known : List ℕ → Bool) (alone : Bool) (place : Place)
+      → Shrinks (jump_target g allowed known alone place)
+  unfolding jump_target
+  jump_target_shrinks allowed known alone place i = go (is_label_behind (head i))
+    where
+      named : (a c : Bool) → Leaves false (labelled_by g place (head i) a c i) i
+      named true c = token_shrinks
+      named false true = unless_leaves g (Broken place) token_shrinks
+      named false false = refuse_leaves
+
+      unnamed : (a : Bool) → Leaves false (unlabelled_by g place a i) i
+      unnamed true = pure_shrinks
+      unnamed false = unless_leaves g (Alone place) pure_shrinks
+
+      go : (a : Bool) → Leaves false (target_by g allowed known alone place (head i) a i) i
+      go true = named (allowed (word (head i))) (known (word (head i)))
+      go false = unnamed alone
+
+  pub enter_label_shrinks : (place : Place) → Shrinks (enter_label g place)
+  unfolding enter_label
+  enter_label_shrinks place i = unless_leaves g (DeepLabel place) token_shrinks
+
+module _ (g : Rules) {b : Below} (h : BelowTakes b) where
   pub block_takes : (c : Context) → Takes (block g b c)
   unfolding block
-  block_takes c i = bind_takes i (opening_takes g k.OpenBrace (λ e. cc e) i) (λ t r _. bind_shrinks r (until_shrinks is_close_brace (inner g b c) (inner_shrinks c) r)
-      (λ xs m _. closed k.CloseBrace (λ e. cc e) xs m))
+  block_takes c i = bind_leaves (opening_takes g k.OpenBrace (λ e. cc e) i) (λ t r.
+      bind_leaves (until_shrinks (h.statement c (part.Whole 0 false)) is_close_brace r)
+      (λ xs. closed k.CloseBrace _))
 
   pub bracketed_takes : Takes (bracketed g b)
   unfolding bracketed
-  bracketed_takes i = bind_takes i (opening_takes g k.OpenParenthesis (λ e. cc e) i) (λ t r _. bind_shrinks r (takes_shrinks (h.expression (of_expression.Whole false) r))
-      (λ x m _. closed k.CloseParenthesis (λ e. cc e) x m))
+  bracketed_takes i = bind_leaves (opening_takes g k.OpenParenthesis (λ e. cc e) i) (λ t r.
+      bind_leaves (h.expression (of_expression.Whole false) r) (λ x. closed k.CloseParenthesis _))
 
-  pub variables_takes : Takes (variables g b)
+  variables_takes : Takes (variables g b)
   unfolding variables
-  variables_takes i = behind_takes i (bind_takes (behind i) (separated_takes _ (variable_takes g _ (assignment_takes g b h false)) (behind i)) (λ xs m _. ended_then _ m)) refl
+  variables_takes i = behind_leaves (bind_leaves
+      (separated_takes (variable_takes g (assignment_takes g h false)) (behind i))
+      (λ xs. ended_then _))
 
-  pub expression_statement_takes : Takes (expression_statement g b)
+  expression_statement_takes : Takes (expression_statement g b)
   unfolding expression_statement
-  expression_statement_takes i = same_takes i (bind_takes i (whole_takes g b h false i) (λ x m _. ended_then (s.Expression x (head i).place) m)) refl
+  expression_statement_takes i = bind_leaves (whole_takes g h false i) (λ x. ended_then _)
 
   -- ---- jumps
 
   -- the word of a jump, which is not the end, and the token behind it
-  pub untargeted_takes : (jump : Option Name → Statement) (c : Context) (u : Token) (i : Tokens) → next i ≢ k.End → TakesAt (untargeted g b jump c u) i
-  untargeted_takes jump c u i more = unless_takes g (without_target c u) i (bind_takes i (take_takes i more) (λ t r _. bind_shrinks r (take_shrinks r) (λ v m _. ended_then (jump (Some (name_of u))) m)))
+  untargeted_takes : (jump : Option Name → Statement) (c : Context) (u : Token) (i : Tokens)
+      → next i ≢ k.End → Leaves true (untargeted g b jump c u i) i
+  untargeted_takes jump c u i more = unless_leaves g (without_target c u)
+      (behind_takes more (behind_leaves (ended_then _ (behind (behind i)))))
 
-  pub continue_takes : (c : Context) (i : Tokens) → next i ≢ k.End → TakesAt (continue g b c) i
+  continue_takes : (c : Context) (i : Tokens) → next i ≢ k.End → Leaves true (continue g b c i) i
   unfolding continue
   continue_takes c i more = go c.in_loop
     where
-      go : (a : Bool) → TakesAt (continue_by g b c a) i
-      go true = bind_takes i (take_takes i more) (λ t r _. bind_shrinks r (jump_target_shrinks g (has_loop c) (has_label c) true t.place r) (λ x m _. ended_then (s.Continue x t.place) m))
-      go false = same_takes i (untargeted_takes (λ x. s.Continue x (head i).place) c (head (behind i)) i more) refl
+      go : (a : Bool) → Leaves true (continue_by g b c a i) i
+      go true = behind_takes more (bind_leaves (jump_target_shrinks g (has_loop c) (has_label c)
+          true (head i).place (behind i)) (λ x. ended_then _))
+      go false =
+          untargeted_takes (λ x. s.Continue x (head i).place) c (head (behind i)) i more
 
-  pub break_takes : (c : Context) (i : Tokens) → next i ≢ k.End → TakesAt (break g b c) i
+  break_takes : (c : Context) (i : Tokens) → next i ≢ k.End → Leaves true (break g b c i) i
   unfolding break
   break_takes c i more = go (may_break c)
     where
-      go : (a : Bool) → TakesAt (break_by g b c a) i
-      go true = bind_takes i (take_takes i more) (λ t r _. bind_shrinks r (jump_target_shrinks g (has_label c) (has_label c) c.in_breakable t.place r) (λ x m _. ended_then (s.Break x t.place) m))
-      go false = same_takes i (untargeted_takes (λ x. s.Break x (head i).place) c (head (behind i)) i more) refl
+      go : (a : Bool) → Leaves true (break_by g b c a i) i
+      go true = behind_takes more (bind_leaves (jump_target_shrinks g (has_label c) (has_label c)
+          c.in_breakable (head i).place (behind i)) (λ x. ended_then _))
+      go false = untargeted_takes (λ x. s.Break x (head i).place) c (head (behind i)) i more
 
-  pub returned_shrinks : Shrinks (returned g b)
+  returned_shrinks : Shrinks (returned g b)
   unfolding returned
-  returned_shrinks i = record { shrinks = (go (ends_return (head i))).shrinks }
+  returned_shrinks i = go (ends_return (head i))
     where
-      go : (a : Bool) → ShrinksAt (returned_by g b a) i
-      go true = pure_shrinks None i
-      go false = takes_shrinks (bind_takes i (whole_takes g b h false i) (λ x m _. pure_shrinks (Some x) m))
+      go : (a : Bool) → Leaves false (returned_by g b a i) i
+      go true = pure_shrinks
+      go false = value_leaves _ (takes_shrinks (whole_takes g h false i))
 
-  pub return_takes : (c : Context) (i : Tokens) → next i ≢ k.End → TakesAt (return g b c) i
+  return_takes : (c : Context) (i : Tokens) → next i ≢ k.End → Leaves true (return g b c i) i
   unfolding return
   return_takes c i more = go c.in_function
     where
-      go : (a : Bool) → TakesAt (return_by g b a) i
-      go true = bind_takes i (take_takes i more) (λ t r _. bind_shrinks r (returned_shrinks r) (λ x m _. ended_then (s.Return x t.place) m))
-      go false = refuse_takes Unexpected i
+      go : (a : Bool) → Leaves true (return_by g b a i) i
+      go true = behind_takes more (bind_leaves (returned_shrinks (behind i)) (λ x. ended_then _))
+      go false = refuse_leaves
 
-  pub thrown_takes : Takes (thrown g b)
+  thrown_takes : Takes (thrown g b)
   unfolding thrown
-  thrown_takes i = record { takes = (go (head i).line_before).takes }
+  thrown_takes i = go (head i).line_before
     where
-      go : (a : Bool) → TakesAt (thrown_by g b a) i
-      go true = refuse_takes Unexpected i
-      go false = whole_takes g b h false i
+      go : (a : Bool) → Leaves true (thrown_by g b a i) i
+      go true = refuse_leaves
+      go false = whole_takes g h false i
 
-  pub throw_takes : Takes (throw g b)
+  throw_takes : Takes (throw g b)
   unfolding throw
-  throw_takes i = bind_takes_second i (take_shrinks i) (λ t r _. bind_takes r (thrown_takes r) (λ x m _. ended_then (s.Throw x t.place) m))
+  throw_takes i = behind_leaves (bind_leaves (thrown_takes (behind i)) (λ x. ended_then _))
 
   -- ---- labels
 
-  pub label_shrinks : (c : Context) → Shrinks (label g b c)
+  label_shrinks : (c : Context) → Shrinks (label g b c)
   unfolding label
-  label_shrinks c i = bind_shrinks i (take_shrinks i) (λ t r _. bind_shrinks r (go t r (has_label c (word t))) (λ _ m _. pure_shrinks t m))
+  label_shrinks c i = behind_leaves (value_leaves (λ _. head i) (go (has_label c (word (head i)))))
     where
-      go : (t : Token) (r : Tokens) (a : Bool) → ShrinksAt (label_by g b t a) r
-      go t r true = unless_shrinks g (Broken t.place) r (enter_label_shrinks g t.place r)
-      go t r false = enter_label_shrinks g t.place r
+      place : Place
+      place = (head i).place
 
-  pub labelled_takes : (c : Context) (labels : ℕ) → Takes (labelled g b c labels)
+      go : (a : Bool) → Leaves false (label_by g b (head i) a (behind i)) (behind i)
+      go true = unless_leaves g (Broken place) (enter_label_shrinks g place (behind i))
+      go false = enter_label_shrinks g place (behind i)
+
+  labelled_takes : (c : Context) (labels : ℕ) → Takes (labelled g b c labels)
   unfolding labelled
-  labelled_takes c labels i = bind_takes_second i (label_shrinks c i) (λ t r _. bind_takes r (h.statement (labelled_context c (word t)) (part.Whole (suc labels) false) r) (λ x m _. pure_shrinks _ m))
+  labelled_takes c labels i = bind_leaves (label_shrinks c i) (λ t r.
+      value_leaves _ (h.statement (labelled_context c (word t)) (part.Whole (suc labels) false) r))
 
   -- ---- `switch` and `try`
 
   pub clause_takes : (c : Context) → Takes (clause g b c)
   unfolding clause
-  clause_takes c i = bind_takes i (expect_takes k.Colon (λ e. cc e) i) (λ t r _. until_shrinks ends_clause (inner g b c) (inner_shrinks c) r)
+  clause_takes c i = bind_leaves (expect_takes k.Colon (λ e. cc e) i)
+      (λ t. until_shrinks (h.statement c (part.Whole 0 false)) ends_clause)
 
   pub case_takes : (c : Context) → Takes (case g b c)
   unfolding case
-  case_takes c i = behind_takes i (bind_takes (behind i) (h.expression (of_expression.Whole false) (behind i)) (λ x m _. bind_shrinks m (takes_shrinks (clause_takes c m)) (λ xs l _. pure_shrinks _ l))) refl
+  case_takes c i = behind_leaves (bind_leaves (h.expression (of_expression.Whole false) (behind i))
+      (λ x m. value_leaves _ (clause_takes c m)))
 
   pub default_takes : (c : Context) → Takes (default g b c)
   unfolding default
-  default_takes c i = behind_takes i (bind_takes (behind i) (clause_takes c (behind i)) (λ xs l _. pure_shrinks _ l)) refl
+  default_takes c i = behind_leaves (value_leaves _ (clause_takes c (behind i)))
 
-  pub clause_turn_shrinks : (c : Context) (cs : Clauses) (κ : Symbol) → Shrinks (clause_by g b c cs κ)
-  clause_turn_shrinks c cs k.CloseBrace i = pure_shrinks None i
-  clause_turn_shrinks c cs k.Case i = takes_shrinks (bind_takes i (case_takes c i) (λ x m _. pure_shrinks _ m))
-  clause_turn_shrinks c cs k.Default i = go cs.defaulted
+  clause_by_shrinks : (c : Context) (cs : Clauses) (κ : Symbol) → Shrinks (clause_by g b c cs κ)
+  clause_by_shrinks c cs k.CloseBrace i = pure_shrinks
+  clause_by_shrinks c cs k.Case i = value_leaves _ (takes_shrinks (case_takes c i))
+  clause_by_shrinks c cs k.Default i = go cs.defaulted
     where
-      go : (a : Bool) → ShrinksAt (default_by g b c cs a) i
-      go true = takes_shrinks (refuse_takes Unexpected i)
-      go false = takes_shrinks (bind_takes i (default_takes c i) (λ x m _. pure_shrinks _ m))
-  clause_turn_shrinks c cs _ i = takes_shrinks (refuse_takes Unexpected i)
+      go : (a : Bool) → Leaves false (default_by g b c cs a i) i
+      go true = refuse_leaves
+      go false = value_leaves _ (takes_shrinks (default_takes c i))
+  clause_by_shrinks c cs _ i = refuse_leaves
+
+  pub clause_turn_shrinks : (c : Context) (cs : Clauses)
+      → Shrinks (look (λ t. clause_by g b c cs (symbol t)))
+  clause_turn_shrinks c cs i = clause_by_shrinks c cs (next i) i
 
   pub cases_takes : (c : Context) → Takes (cases g b c)
   unfolding cases
-  cases_takes c i = bind_takes i (opening_takes g k.OpenBrace (λ e. cc e) i) (λ t r _. bind_shrinks r (many_shrinks _ (λ cs j. record { shrinks = (clause_turn_shrinks c cs (next j) j).shrinks }) _ r)
-      (λ cs m _. closed k.CloseBrace (λ e. cc e) cs.found m))
+  cases_takes c i = bind_leaves (opening_takes g k.OpenBrace (λ e. cc e) i) (λ t r.
+      bind_leaves (many_shrinks (clause_turn_shrinks c) _ r) (λ cs. closed k.CloseBrace _))
 
-  pub switch_takes : (c : Context) → Takes (switch g b c)
+  switch_takes : (c : Context) → Takes (switch g b c)
   unfolding switch
-  switch_takes c i = behind_takes i (bind_takes (behind i) (bracketed_takes (behind i)) (λ x m _. bind_shrinks m (takes_shrinks (cases_takes (switch_context c) m)) (λ cs l _. pure_shrinks _ l))) refl
+  switch_takes c i = behind_leaves (bind_leaves (bracketed_takes (behind i))
+      (λ x m. value_leaves _ (cases_takes (switch_context c) m)))
 
-  pub catch_takes : (c : Context) → Takes (catch g b c)
+  catch_takes : (c : Context) → Takes (catch g b c)
   unfolding catch
-  catch_takes c i = behind_takes i (bind_takes (behind i) (opening_takes g k.OpenParenthesis (λ e. cc e) (behind i)) (λ u m _. bind_shrinks m (takes_shrinks (declared_takes g m))
-      (λ x l _. bind_shrinks l (takes_shrinks (expect_takes k.CloseParenthesis (λ e. cc e) l)) (λ v j _. bind_shrinks j (takes_shrinks (block_takes c j)) (λ xs q _. pure_shrinks _ q))))) refl
+  catch_takes c i = behind_leaves (bind_leaves
+      (opening_takes g k.OpenParenthesis (λ e. cc e) (behind i)) (λ u m.
+      bind_leaves (declared_takes g m) (λ x l. bind_leaves (expect_shrinks k.CloseParenthesis l)
+      (λ v j. value_leaves _ (block_takes c j)))))
 
-  pub finally_takes : (c : Context) → Takes (finally g b c)
+  finally_takes : (c : Context) → Takes (finally g b c)
   unfolding finally
-  finally_takes c i = bind_takes_second i (take_shrinks i) (λ t r _. block_takes c r)
+  finally_takes c i = behind_leaves (block_takes c (behind i))
 
-  pub try_takes : (c : Context) → Takes (try g b c)
+  pub finally_by_shrinks : (c : Context) (t : Token) (xs : List Statement) (x : CatchOf Statement)
+      (κ : Symbol) → Shrinks (finally_by g b c t xs x κ)
+  finally_by_shrinks c t xs x k.Finally i = value_leaves _ (takes_shrinks (finally_takes c i))
+  finally_by_shrinks c t xs x _ i = pure_shrinks
+
+  pub handlers_by_takes : (c : Context) (t : Token) (xs : List Statement) (κ : Symbol)
+      → Takes (handlers_by g b c t xs κ)
+  handlers_by_takes c t xs k.Catch i = bind_leaves (catch_takes c i)
+      (λ x m. finally_by_shrinks c t xs x (next m) m)
+  handlers_by_takes c t xs k.Finally i = value_leaves _ (finally_takes c i)
+  handlers_by_takes c t xs _ i = refuse_leaves
+
+  try_takes : (c : Context) → Takes (try g b c)
   unfolding try
-  try_takes c i = bind_takes_second i (take_shrinks i) (λ t r _. bind_takes r (block_takes c r) (λ xs m _. record { shrinks = (handlers t xs m (next m)).shrinks }))
-    where
-      last : (t : Token) (xs : List Statement) (x : CatchOf Statement) (i : Tokens) (κ : Symbol) → ShrinksAt (finally_by g b c t xs x κ) i
-      last t xs x i k.Finally = takes_shrinks (bind_takes i (finally_takes c i) (λ ys m _. pure_shrinks _ m))
-      last t xs x i _ = pure_shrinks _ i
-
-      handlers : (t : Token) (xs : List Statement) (i : Tokens) (κ : Symbol) → ShrinksAt (handlers_by g b c t xs κ) i
-      handlers t xs i k.Catch = takes_shrinks (bind_takes i (catch_takes c i) (λ x m _. record { shrinks = (last t xs x m (next m)).shrinks }))
-      handlers t xs i k.Finally = takes_shrinks (bind_takes i (finally_takes c i) (λ ys m _. pure_shrinks _ m))
-      handlers t xs i _ = takes_shrinks (refuse_takes Unexpected i)
+  try_takes c i = behind_leaves (bind_leaves (block_takes c (behind i))
+      (λ xs m. handlers_by_takes c (head i) xs (next m) m))
 
   -- ---- a statement
 
-  pub single_takes : (c : Context) (labels : ℕ) (outermost : Bool) → Takes (single g b c labels outermost)
+  pub single_takes : (c : Context) (labels : ℕ) (outermost : Bool)
+      → Takes (single g b c labels outermost)
   unfolding single
-  single_takes c labels outermost i = record { takes = (go (next i) refl).takes }
+  single_takes c labels outermost i = go (next i) refl
     where
-      named : (a : Bool) → TakesAt (labelled_or_expression g b c labels a) i
+      named : (a : Bool) → Leaves true (labelled_or_expression g b c labels a i) i
       named true = labelled_takes c labels i
       named false = expression_statement_takes i
 
-      function : (a : Bool) → TakesAt (function_statement g b a) i
-      function true = bind_takes i (function_takes g b h true i) (λ f m _. pure_shrinks (s.Function f) m)
-      function false = refuse_takes Unexpected i
+      function : (a : Bool) → Leaves true (function_statement g b a i) i
+      function true = value_leaves _ (function_takes g h true i)
+      function false = refuse_leaves
 
-      words : (p : StatementPart) → TakesAt (headed g b c p) i
-      words p = entered_takes g (b.statement c p) (h.statement c p) i
+      words : (p : StatementPart) → Leaves true (headed g b c p i) i
+      words p = bind_leaves (enter_shrinks g i) (λ t. h.statement c p)
 
-      go : (κ : Symbol) → next i ≡ κ → TakesAt (single_by g b c labels outermost (head i) κ) i
-      go k.OpenBrace e = bind_takes i (block_takes c i) (λ xs m _. pure_shrinks _ m)
+      go : (κ : Symbol) → next i ≡ κ → Leaves true (single_by g b c labels outermost (head i) κ i) i
+      go k.OpenBrace e = value_leaves _ (block_takes c i)
       go k.Var e = variables_takes i
-      go k.Semicolon e = bind_takes i (take_takes i (unlike i e (λ x. cc x))) (λ t m _. pure_shrinks (s.Empty (head i).place) m)
+      go k.Semicolon e = token_takes (λ ends. cc (e, ends))
       go k.If e = words (part.If (head i).place)
       go k.Do e = words (part.Do (head i).place labels)
       go k.While e = words (part.While (head i).place labels)
       go k.For e = words (part.For (head i).place labels)
-      go k.Continue e = continue_takes c i (unlike i e (λ x. cc x))
-      go k.Break e = break_takes c i (unlike i e (λ x. cc x))
-      go k.Return e = return_takes c i (unlike i e (λ x. cc x))
+      go k.Continue e = continue_takes c i (λ ends. cc (e, ends))
+      go k.Break e = break_takes c i (λ ends. cc (e, ends))
+      go k.Return e = return_takes c i (λ ends. cc (e, ends))
       go k.Switch e = switch_takes c i
       go k.Throw e = throw_takes i
       go k.Try e = try_takes c i
       go k.Function e = function outermost
-      go k.Name e = record { takes = (named (is_label (next i) (next (behind i)))).takes }
+      go k.Name e = named (is_label (next i) (next (behind i)))
       go _ e = expression_statement_takes i
 
   -- ---- behind a word that counts
 
-  pub if_part_takes : (c : Context) (place : Place) → Takes (if_part g b c place)
+  pub else_by_shrinks : (c : Context) (place : Place) (x : Expression) (y : Statement) (κ : Symbol)
+      → Shrinks (else_by g b c place x y κ)
+  else_by_shrinks c place x y k.Else i = takes_shrinks (bind_leaves (enter_shrinks g i)
+      (λ t r. value_leaves _ (h.statement c (part.Whole 0 false) r)))
+  else_by_shrinks c place x y _ i = pure_shrinks
+
+  if_part_takes : (c : Context) (place : Place) → Takes (if_part g b c place)
   unfolding if_part
-  if_part_takes c place i = bind_takes i (bracketed_takes i) (λ x m _. bind_shrinks m (takes_shrinks (single_takes c 0 false m)) (λ y l _. record { shrinks = (go x y l (next l)).shrinks }))
-    where
-      go : (x : Expression) (y : Statement) (i : Tokens) (κ : Symbol) → ShrinksAt (else_by g b c place x y κ) i
-      go x y i k.Else = bind_shrinks i (enter_shrinks g i) (λ t m _. bind_shrinks m (inner_shrinks c m) (λ z l _. pure_shrinks (s.If x y (Some z) place) l))
-      go x y i _ = pure_shrinks _ i
+  if_part_takes c place i = bind_leaves (bracketed_takes i) (λ x m.
+      bind_leaves (single_takes c 0 false m) (λ y l. else_by_shrinks c place x y (next l) l))
 
-  pub do_part_takes : (c : Context) (place : Place) (labels : ℕ) → Takes (do_part g b c place labels)
+  do_part_takes : (c : Context) (place : Place) (labels : ℕ) → Takes (do_part g b c place labels)
   unfolding do_part
-  do_part_takes c place labels i = bind_takes i (single_takes (loop_context c labels) 0 false i) (λ x m _. bind_shrinks m (takes_shrinks (expect_takes k.While (λ e. cc e) m))
-      (λ t l _. bind_shrinks l (takes_shrinks (bracketed_takes l)) (λ y j _. ended_then (s.Do x y place) j)))
+  do_part_takes c place labels i = bind_leaves (single_takes (loop_context c labels) 0 false i)
+      (λ x m. bind_leaves (expect_shrinks k.While m) (λ t l.
+      bind_leaves (bracketed_takes l) (λ y. ended_then _)))
 
-  pub while_part_takes : (c : Context) (place : Place) (labels : ℕ) → Takes (while_part g b c place labels)
+  while_part_takes : (c : Context) (place : Place) (labels : ℕ)
+      → Takes (while_part g b c place labels)
   unfolding while_part
-  while_part_takes c place labels i = bind_takes i (bracketed_takes i) (λ x m _. bind_shrinks m (takes_shrinks (single_takes (loop_context c labels) 0 false m)) (λ y l _. pure_shrinks _ l))
+  while_part_takes c place labels i = bind_leaves (bracketed_takes i)
+      (λ x m. value_leaves _ (single_takes (loop_context c labels) 0 false m))
 
   pub optional_takes : (close : Symbol) → close ≢ k.End → Takes (optional g b close)
   unfolding optional
-  optional_takes close more i = record { takes = (go (same_symbol (next i) close) refl).takes }
+  optional_takes close more i = go (same_symbol (next i) close) refl
     where
-      go : (a : Bool) → same_symbol (next i) close ≡ a → TakesAt (optional_by g b close a) i
-      go true e = bind_takes i (take_takes i (unlike i (same_symbol_true (next i) close e) more)) (λ t m _. pure_shrinks None m)
-      go false e = bind_takes i (h.expression (of_expression.Whole false) i) (λ x m _. closed close more (Some x) m)
+      go : (a : Bool) → same_symbol (next i) close ≡ a → Leaves true (optional_by g b close a i) i
+      go true e = token_takes (λ ends. more (sym (same_symbol_true (next i) close e) ∙ ends))
+      go false e = bind_leaves (h.expression (of_expression.Whole false) i) (λ x. closed close _)
 
-  pub for_rest_takes : (c : Context) (place : Place) (x : ForFirst Expression) → Takes (for_rest g b c place x)
+  for_rest_takes : (c : Context) (place : Place) (x : ForFirst Expression)
+      → Takes (for_rest g b c place x)
   unfolding for_rest
-  for_rest_takes c place x i = bind_takes i (optional_takes k.Semicolon (λ e. cc e) i) (λ y m _. bind_shrinks m (takes_shrinks (optional_takes k.CloseParenthesis (λ e. cc e) m))
-      (λ z l _. bind_shrinks l (takes_shrinks (single_takes c 0 false l)) (λ w j _. pure_shrinks _ j)))
+  for_rest_takes c place x i = bind_leaves (optional_takes k.Semicolon (λ e. cc e) i) (λ y m.
+      bind_leaves (optional_takes k.CloseParenthesis (λ e. cc e) m)
+      (λ z l. value_leaves _ (single_takes c 0 false l)))
 
-  pub in_rest_takes : (c : Context) (place : Place) (x : ForTarget Expression) → Takes (in_rest g b c place x)
+  in_rest_takes : (c : Context) (place : Place) (x : ForTarget Expression)
+      → Takes (in_rest g b c place x)
   unfolding in_rest
-  in_rest_takes c place x i = behind_takes i (bind_takes (behind i) (h.expression (of_expression.Whole false) (behind i))
-      (λ y m _. bind_shrinks m (takes_shrinks (expect_takes k.CloseParenthesis (λ e. cc e) m)) (λ u l _. bind_shrinks l (takes_shrinks (single_takes c 0 false l)) (λ z j _. pure_shrinks _ j)))) refl
+  in_rest_takes c place x i = behind_leaves (bind_leaves
+      (h.expression (of_expression.Whole false) (behind i)) (λ y m.
+      bind_leaves (expect_shrinks k.CloseParenthesis m)
+      (λ u l. value_leaves _ (single_takes c 0 false l))))
 
   -- a `;`, and what stands behind it
-  semicolon_takes : (c : Context) (place : Place) (x : ForFirst Expression) → Takes (expect k.Semicolon >> for_rest g b c place x)
-  semicolon_takes c place x i = bind_takes i (expect_takes k.Semicolon (λ e. cc e) i) (λ t r _. takes_shrinks (for_rest_takes c place x r))
+  semicolon_takes : (c : Context) (place : Place) (x : ForFirst Expression)
+      → Takes (expect k.Semicolon >> for_rest g b c place x)
+  semicolon_takes c place x i =
+      bind_leaves (expect_shrinks k.Semicolon i) (λ t. for_rest_takes c place x)
 
-  pub for_variables_by_takes : (c : Context) (place : Place) (xs : List (Declaration Expression)) (κ : Symbol) → Takes (for_variables_by g b c place xs κ)
+  pub for_variables_by_takes : (c : Context) (place : Place) (xs : List (Declaration Expression))
+      (κ : Symbol) → Takes (for_variables_by g b c place xs κ)
   for_variables_by_takes c place (x ∷ []) k.In i = in_rest_takes c place (target.Variable x) i
   for_variables_by_takes c place xs _ i = semicolon_takes c place (first.Variables xs) i
 
-  pub for_variables_takes : (c : Context) (place : Place) → Takes (for_variables g b c place)
+  for_variables_takes : (c : Context) (place : Place) → Takes (for_variables g b c place)
   unfolding for_variables
-  for_variables_takes c place i = bind_takes_second i (take_shrinks i) (λ t r _. bind_takes r (separated_takes _ (variable_takes g _ (h.expression (of_expression.Assignment true))) r)
-      (λ xs m _. record { shrinks = (takes_shrinks (for_variables_by_takes c place xs (next m) m)).shrinks }))
+  for_variables_takes c place i = behind_leaves (bind_leaves
+      (separated_takes (variable_takes g (h.expression (of_expression.Assignment true))) (behind i))
+      (λ xs m. for_variables_by_takes c place xs (next m) m))
 
-  pub for_expression_by_takes : (c : Context) (place : Place) (x : Expression) (κ : Symbol) → Takes (for_expression_by g b c place x κ)
+  pub for_expression_by_takes : (c : Context) (place : Place) (x : Expression) (κ : Symbol)
+      → Takes (for_expression_by g b c place x κ)
   for_expression_by_takes c place x k.In i = go (is_reference x)
     where
-      go : (a : Bool) → TakesAt (in_reference_by g b c place x a) i
+      go : (a : Bool) → Leaves true (in_reference_by g b c place x a i) i
       go true = in_rest_takes c place (target.Reference x) i
-      go false = refuse_takes Unexpected i
+      go false = refuse_leaves
   for_expression_by_takes c place x _ i = semicolon_takes c place (first.Expression x) i
 
-  pub for_expression_takes : (c : Context) (place : Place) → Takes (for_expression g b c place)
+  for_expression_takes : (c : Context) (place : Place) → Takes (for_expression g b c place)
   unfolding for_expression
-  for_expression_takes c place i = bind_takes i (h.expression (of_expression.Whole true) i) (λ x m _. record { shrinks = (takes_shrinks (for_expression_by_takes c place x (next m) m)).shrinks })
+  for_expression_takes c place i = bind_leaves (h.expression (of_expression.Whole true) i)
+      (λ x m. for_expression_by_takes c place x (next m) m)
 
   pub for_by_takes : (c : Context) (place : Place) (κ : Symbol) → Takes (for_by g b c place κ)
   for_by_takes c place k.Var i = for_variables_takes c place i
-  for_by_takes c place k.Semicolon i = bind_takes_second i (take_shrinks i) (λ t r _. for_rest_takes c place first.Nothing r)
+  for_by_takes c place k.Semicolon i =
+      behind_leaves (for_rest_takes c place first.Nothing (behind i))
   for_by_takes c place _ i = for_expression_takes c place i
 
-  pub for_part_takes : (c : Context) (place : Place) (labels : ℕ) → Takes (for_part g b c place labels)
+  for_part_takes : (c : Context) (place : Place) (labels : ℕ) → Takes (for_part g b c place labels)
   unfolding for_part
-  for_part_takes c place labels i = bind_takes i (opening_takes g k.OpenParenthesis (λ e. cc e) i)
-      (λ t r _. record { shrinks = (takes_shrinks (for_by_takes (loop_context c labels) place (next r) r)).shrinks })
+  for_part_takes c place labels i = bind_leaves (opening_takes g k.OpenParenthesis (λ e. cc e) i)
+      (λ t r. for_by_takes (loop_context c labels) place (next r) r)
 
   -- each part
   pub statement_part_takes : (c : Context) (p : StatementPart) → Takes (statement_part g b c p)
@@ -349,3 +383,15 @@ module _ (g : Rules) (b : Below) (h : BelowTakes b) where
   statement_part_takes c (part.Do place labels) = do_part_takes c place labels
   statement_part_takes c (part.While place labels) = while_part_takes c place labels
   statement_part_takes c (part.For place labels) = for_part_takes c place labels
+
+-- the parts below every number of levels
+pub below_takes : (rules : ℕ → Rules) (d : ℕ) → BelowTakes (below rules d)
+unfolding below
+below_takes rules zero = record {
+  expression = λ p i. refuse_leaves;
+  statement = λ c p i. refuse_leaves;
+}
+below_takes rules (suc d) = record {
+  expression = expression_part_takes (rules d) (below_takes rules d);
+  statement = statement_part_takes (rules d) (below_takes rules d);
+}

@@ -10,7 +10,7 @@ use Rattle.ja_grammar.specs.Input.{Tokens, head, next, behind, symbol, Outcome, 
 use Rattle.ja_grammar.specs.Language.{is_level, is_same}
 use Rattle.ja_grammar.specs.Productions.{Is, HasRoom}
 use Rattle.ja_grammar.proofs.Outcomes.{done_rest, same_done, same_refused, done_not_refused, refused_not_done, same_symbol_true, same_symbol_false, cons_of, rest_of, head_behind, expect_done, unless_reads, unless_refuses, enter_done}
-use Rattle.ja_grammar.proofs.Shrinks.{Within, Moves, split_within}
+use Rattle.ja_grammar.proofs.Shrinks.{Leaves, Moves, shrinks_by, split_within}
 use Rattle.ja_grammar.proofs.Good.{Follow, Reason, lifted, elsewhere, is_jump, Completes, CompletesWith, Viable, Sample, Stops, Refuses, GoodAt, unexpected_stays, refuse_good, lifted_good, like_good, look_good}
 use Rattle.ja_grammar.proofs.Real.{IsRealAfter, AreRealAfter, real_append}
 use Rattle.ja_grammar.proofs.Strict.{strict_asks, strict_room, strict_room_label, strict_full, strict_full_label}
@@ -186,8 +186,9 @@ second_refused {U} {O} {A} J F W why p q i jump level nowhere reads reads' goes 
 }
 
 -- what stops leaves no more tokens than there were
-pub good_within : {U : Tokens} {O : Refusal} {A : Type 0} {J : Reason O} {p q : Parser A} {F : Follow} {W : A → Type 0} (i : Tokens) → GoodAt U J p q F W i → Within p i
-good_within {A = A} {p = p} i h = record { within = go (p i) refl }
+pub good_within : {U : Tokens} {O : Refusal} {A : Type 0} {J : Reason O} {p q : Parser A}
+    {F : Follow} {W : A → Type 0} (i : Tokens) → GoodAt U J p q F W i → Leaves false (p i) i
+good_within {A = A} {p = p} i h = shrinks_by (go (p i) refl)
   where
     go : (o : Outcome A) → p i ≡ o → length (rest_of o) ≤ length i
     go (Done a r) e = let s = h.done a r e in split_within s.before r s.split

@@ -1,20 +1,28 @@
 -- What the answer to the tokens of a program says: its tree is the text's and the only one, and a refusal is right, and the only one that is.
-use Rattle.std.proofs.Common.{◌≡◌, ◌≢◌, ℕ, List, Ok, Err}
+use Rattle.std.proofs.Common.{◌≡◌, ◌≢◌, ◌∙◌, refl, sym, ap, ℕ, List, Ok, Err}
 use Rattle.ja_lex.specs.Tokens.{tokens}
 use Rattle.ja_syntax.specs.declared.tree.Statement.{Statement}
 use Rattle.ja_grammar.specs.declared.fault.ParseFault.{ParseFault}
 use Rattle.ja_grammar.specs.declared.fault.ParseFault.TheVariants.{Memory}
 use Rattle.ja_grammar.specs.declared.fault.Refusal.{Refusal}
-use Rattle.ja_grammar.specs.Input.{Tokens, head, Refused, strict}
+use Rattle.ja_grammar.specs.Input.{Tokens, head, Outcome, Done, Refused, strict}
 use Rattle.ja_grammar.specs.Answering.{Answers}
 use Rattle.ja_grammar.specs.Language.{max_levels, Spells, fault_at, IsRefused, Explains}
 use Rattle.ja_grammar.specs.ReadStatement.{program}
 use Rattle.ja_grammar.proofs.Explaining as laws
 use Rattle.ja_grammar.proofs.GoodKnot.{place_law}
+use Rattle.ja_grammar.proofs.Knot.{program_is, strict_rules}
 use Rattle.ja_grammar.proofs.Real.{AreNamesReal}
 
+-- a tree that is answered is the text's
 pub answered_tree : (i : Tokens) (xs : List Statement) → Answers (program strict max_levels i) (Ok xs) → Spells max_levels i xs
-answered_tree = laws.answered_tree
+answered_tree i xs h = go (program strict max_levels i) refl h
+  where
+    go : (o : Outcome (List Statement)) → program strict max_levels i ≡ o → Answers o (Ok xs)
+        → Spells max_levels i xs
+    go (Done ys r) e h =
+        (r, program_is strict strict_rules max_levels i xs r (e ∙ ap (λ z. Done z r) (sym h)))
+    go (Refused why r) e h = absurd h
 
 pub answered_only : (i : Tokens) (xs : List Statement) → Answers (program strict max_levels i) (Ok xs) → (d : ℕ) (ys : List Statement) → Spells d i ys → ys ≡ xs
 answered_only i xs h d ys other = laws.one_tree max_levels d i xs ys (answered_tree i xs h) other

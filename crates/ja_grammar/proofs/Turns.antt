@@ -4,7 +4,6 @@ use Rattle.ja_grammar.specs.declared.fault.Refusal.{Refusal}
 use Rattle.ja_grammar.specs.Input.{Tokens, Outcome, Done, Refused, Parser, and_then, ◌>>=◌, after_turn, many_from, many}
 use Rattle.ja_grammar.specs.Productions.{Rule, Many}
 use Rattle.ja_grammar.proofs.Outcomes.{done_value, done_rest, bind_inverse}
-use Rattle.ja_grammar.proofs.Shrinks.{ShrinksAt, Shrinks, bind_shrinks, pure_shrinks}
 use Rattle.ja_grammar.proofs.Good.{Follow, Reason, Sample, GoodAt, Closed, pure_good, bind_good}
 use Rattle.ja_grammar.proofs.Steps.{end_sample}
 
@@ -54,22 +53,6 @@ many_end turn a (t ∷ r) e = rw e refl
 -- a list goes on where a turn does
 pub many_goes : {A : Type 0} (turn : A → Parser (Option A)) → Turns turn → (a b : A) (i m : Tokens) → turn a i ≡ Done (Some b) m → many turn a i ≡ many turn b m
 many_goes turn T a b i m e = many_once turn T a i ∙ ap (λ o. and_then o (after_turn a (many turn))) e
-
--- ---- tokens are left
-
--- whatever the count of turns
-from_shrinks : {A : Type 0} (turn : A → Parser (Option A)) → ((a : A) → Shrinks (turn a)) → (n : ℕ) (a : A) (i : Tokens) → ShrinksAt (many_from turn n a) i
-unfolding many_from
-from_shrinks turn shrinks zero a i = pure_shrinks a i
-from_shrinks {A} turn shrinks (suc n) a i = bind_shrinks i (shrinks a i) (go (from_shrinks turn shrinks n))
-  where
-    go : ((b : A) (r : Tokens) → ShrinksAt (many_from turn n b) r) → (o : Option A) (r : Tokens) → turn a i ≡ Done o r → ShrinksAt (after_turn a (many_from turn n) o) r
-    go ih None r e = pure_shrinks a r
-    go ih (Some b) r e = ih b r
-
--- a list leaves no more tokens than there were
-pub many_shrinks : {A : Type 0} (turn : A → Parser (Option A)) → ((a : A) → Shrinks (turn a)) → (a : A) → Shrinks (many turn a)
-many_shrinks turn shrinks a i = record { shrinks = (from_shrinks turn shrinks (length i) a i).shrinks }
 
 -- ---- the place
 

@@ -1,5 +1,5 @@
 -- From a reading that gave a value to what each of its parts gave, part by part; and entering a label.
-use Rattle.std.proofs.Common.{◌≡◌, ◌≢◌, false, ◌∷◌, sym, ap, ◌∙◌, subst, le_trans}
+use Rattle.std.proofs.Common.{◌≡◌, ◌≢◌, false, ◌∷◌, sym, ap, ◌∙◌, subst}
 use Rattle.ja_base.specs.declared.ids.Place.{Place}
 use Rattle.ja_lex.specs.declared.token.Token.{Token}
 use Rattle.ja_syntax.specs.declared.symbol.Symbol.{Symbol}
@@ -9,16 +9,11 @@ use Rattle.ja_grammar.specs.Input.{Tokens, head, next, behind, Outcome, Done, Pa
 use Rattle.ja_grammar.specs.Productions.{Is, HasRoom}
 use Rattle.ja_grammar.specs.ReadStatement.{enter_label}
 use Rattle.ja_grammar.proofs.Opening.{opening_inverse}
-use Rattle.ja_grammar.proofs.Outcomes.{same_done, cons_of, then_inverse, expect_inverse, unless_reads, unless_inverse, enter_done, entered}
-use Rattle.ja_grammar.proofs.Shrinks.{TakesAt, behind_shrinks}
+use Rattle.ja_grammar.proofs.Outcomes.{cons_of, then_inverse, expect_inverse, unless_reads, unless_inverse, enter_done, entered}
 
 -- the same outcome, its rest written otherwise
 pub moved : {A : Type 0} {o : Outcome A} {a : A} {i j : Tokens} → o ≡ Done a i → i ≡ j → o ≡ Done a j
 moved {o = o} {a = a} e h = subst (λ x. o ≡ Done a x) h e
-
--- the value and the rest are these
-pub finish : {A : Type 0} {a v : A} {i r : Tokens} (P : A → Tokens → Type 0) → Done a i ≡ Done v r → P a i → P v r
-finish P e h = same_done P e h
 
 -- the first part gave a value, and the rest of the rule went on
 pub after : {A B : Type 0} (o : Outcome A) {f : A → Parser B} {v : B} {r : Tokens} {P : Type 0} → and_then o f ≡ Done v r
@@ -68,14 +63,6 @@ after_enter g t i f e go =
     let s = then_inverse (enter g (t ∷ i)) f e in
     let room = entered g (t ∷ i) s.2 in
     go room (sym (ap (λ o. and_then o f) (enter_done g t i room)) ∙ e)
-
--- what takes a token behind the next one takes a token
-pub behind_takes : {A : Type 0} {p q : Parser A} (i : Tokens) → TakesAt q (behind i) → p i ≡ q (behind i) → TakesAt p i
-behind_takes i h e = record { takes = λ a r at. le_trans (h.takes a r (sym e ∙ at)) (behind_shrinks i) }
-
--- what reads the same here takes as much
-pub same_takes : {A : Type 0} {p q : Parser A} (i : Tokens) → TakesAt q i → p i ≡ q i → TakesAt p i
-same_takes i h e = record { takes = λ a r at. h.takes a r (sym e ∙ at) }
 
 -- ---- the `:` of a label
 
