@@ -398,6 +398,30 @@ const ERRORS: [Row; 28] = [
     ),
 ];
 
+/// The constants, whose values the tool doesn't have (15.1.1, 15.7.3, 15.8.1), beside a property
+/// that is merely hidden.
+const CONSTANTS: [Row; 10] = [
+    (b"Math.PI = 3; throw Math.PI;", "end scope Row 1:24\n"),
+    (
+        b"Math.PI = function () { throw 1; }; Math.PI();",
+        "end scope Row 1:41\n",
+    ),
+    (b"throw delete Math.PI;", "end uncaught false\n"),
+    (b"delete Math.PI; Math.PI;", "end scope Row 1:21\n"),
+    (
+        b"Number.MAX_VALUE = 1; Number.MAX_VALUE;",
+        "end scope Row 1:29\n",
+    ),
+    (b"throw delete Number.MAX_VALUE;", "end uncaught false\n"),
+    (b"throw delete Infinity;", "end uncaught false\n"),
+    (b"Infinity = 1; throw Infinity;", "end uncaught 1\n"),
+    (b"Math.abs = 1; throw Math.abs;", "end uncaught 1\n"),
+    (
+        b"delete Math.abs; throw Math.abs;",
+        "end uncaught undefined\n",
+    ),
+];
+
 /// `String` and `Boolean` with their prototypes.
 const TEXTS_AND_TRUTHS: [Row; 42] = [
     // String: 15.5
@@ -712,6 +736,10 @@ fn errors(alloc: Global) -> Option<&'static str> {
     first_wrong(alloc, &ERRORS)
 }
 
+fn constants(alloc: Global) -> Option<&'static str> {
+    first_wrong(alloc, &CONSTANTS)
+}
+
 fn texts_and_truths(alloc: Global) -> Option<&'static str> {
     first_wrong(alloc, &TEXTS_AND_TRUTHS)
 }
@@ -730,6 +758,7 @@ fn built_ins(rt: HostRuntime) {
     assert_eq!(rt; objects(alloc), None);
     assert_eq!(rt; functions(alloc), None);
     assert_eq!(rt; errors(alloc), None);
+    assert_eq!(rt; constants(alloc), None);
     assert_eq!(rt; texts_and_truths(alloc), None);
     assert_eq!(rt; numbers(alloc), None);
     assert_eq!(rt; others(alloc), None);
