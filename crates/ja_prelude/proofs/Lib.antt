@@ -1,5 +1,6 @@
 pub mod Allowed
 pub mod Answering
+pub mod Described
 pub mod DistinctLemmas
 pub mod Evaluating
 pub mod Facts

@@ -1,4 +1,5 @@
 pub mod Opening
 pub mod Table
+pub mod Described
 pub mod Reading
 pub mod Prelude
