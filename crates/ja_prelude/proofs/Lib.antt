@@ -11,3 +11,4 @@ pub mod OpeningLemmas
 pub mod Readings
 pub mod Rows
 pub mod TableLemmas
+pub mod Templates

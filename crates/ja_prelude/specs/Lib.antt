@@ -3,3 +3,4 @@ pub mod Table
 pub mod Described
 pub mod Reading
 pub mod Prelude
+pub mod Texts

@@ -14,6 +14,7 @@ ghost use Rattle.ja_lower_names.specs.TextOrder.{functions_in};
 ghost use Rattle.ja_prelude.specs.Reading.{is_few, is_text, numbered, tree_of};
 ghost use Rattle.ja_prelude.specs.Prelude.{by_path, calls, own_names, parameter_counts, prelude_bodies, prelude_names, prelude_paths, prelude_statements, reads, stops, uses};
 ghost use Rattle.ja_prelude.specs.Table.{function_paths, lengths};
+ghost use Rattle.ja_prelude.specs.Texts.{error_kinds, error_texts, texts_at};
 ghost use Rattle.ja_prelude.specs.declared.texts.TheConstants.{FUNCTIONS};
 
 /// Each text is in the language and short, and its tree is that of the grammar.
@@ -65,6 +66,14 @@ pub fn nodes_are_allowed()
 #[tactic(auto, using(crate::proofs::Facts::stops_are))]
 pub fn stops_are_told()
     ensures { by_path stops prelude_bodies ≡ (codes "Function", CodeMaker) ∷ (codes "Function", CodeMaker) ∷ (codes "Number.prototype.toString", Radix) ∷ [] }
+{}
+
+/// The functions of errors have one text, but for the name of the kind: what a call makes and what
+/// `new` makes is an error of the function's own kind with its message (15.11.1.1, 15.11.2.1,
+/// 15.11.7.2, 15.11.7.4).
+#[tactic(auto, using(crate::proofs::Templates::errors))]
+pub fn errors_are_made_alike()
+    ensures { texts_at error_kinds ≡ error_texts }
 {}
 
 /// What the functions read of their `this`, and where they call a function on it: the default value of an object comes of both methods,
