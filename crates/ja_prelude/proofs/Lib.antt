@@ -12,3 +12,4 @@ pub mod Readings
 pub mod Rows
 pub mod TableLemmas
 pub mod Templates
+pub mod Trees

@@ -11,10 +11,11 @@ ghost use Rattle.ja_lex.specs.Tokens.{tokens};
 ghost use Rattle.ja_lower.specs.Limits.{prelude_count, prelude_size_of};
 ghost use Rattle.ja_lower.specs.Lowering as lower;
 ghost use Rattle.ja_lower_names.specs.TextOrder.{functions_in};
-ghost use Rattle.ja_prelude.specs.Reading.{is_few, is_text, numbered, tree_of};
+ghost use Rattle.ja_syntax.specs.declared.tree.Statement.{Statement};
+ghost use Rattle.ja_prelude.specs.Reading.{AreSpelled, is_few, is_text, numbered, tree_of};
 ghost use Rattle.ja_prelude.specs.Prelude.{by_path, calls, own_names, parameter_counts, prelude_bodies, prelude_names, prelude_paths, prelude_statements, reads, stops, uses};
 ghost use Rattle.ja_prelude.specs.Table.{function_paths, lengths};
-ghost use Rattle.ja_prelude.specs.Texts.{error_kinds, error_texts, texts_at};
+ghost use Rattle.ja_prelude.specs.Texts.{error_kinds, error_texts, prelude_texts, texts_at};
 ghost use Rattle.ja_prelude.specs.declared.texts.TheConstants.{FUNCTIONS};
 
 /// Each text is in the language and short, and its tree is that of the grammar.
@@ -23,6 +24,20 @@ pub fn texts_are_read()
     ensures read { list_all (λ f. is_text f.1.now) FUNCTIONS ≡ true }
     ensures few { list_all (λ f. is_few f.1.now) FUNCTIONS ≡ true }
     ensures spelled { (text : List ℕ) → is_text text ≡ true → Spells max_levels (numbered 1 (tokens text)) (tree_of text) }
+{}
+
+/// A text in the language has no other tree by the grammar, whatever the number of levels.
+pub fn texts_have_one_tree()
+    ensures { (text : List ℕ) → is_text text ≡ true → (levels : ℕ) (statements : List Statement)
+        → Spells levels (numbered 1 (tokens text)) statements → statements ≡ tree_of text }
+{}
+
+/// The built-in functions are the trees that the grammar gives to their texts, one behind the
+/// other, and it gives them no others.
+pub fn trees_are_the_grammars()
+    ensures trees { AreSpelled prelude_texts prelude_statements }
+    ensures no_others { (statements : List Statement) → AreSpelled prelude_texts statements
+        → statements ≡ prelude_statements }
 {}
 
 /// Each text is one function, in which no other stands, and there is a path for each.
