@@ -4,3 +4,4 @@ pub mod Described
 pub mod Reading
 pub mod Prelude
 pub mod Texts
+pub mod Uses

@@ -13,9 +13,10 @@ ghost use Rattle.ja_lower.specs.Lowering as lower;
 ghost use Rattle.ja_lower_names.specs.TextOrder.{functions_in};
 ghost use Rattle.ja_syntax.specs.declared.tree.Statement.{Statement};
 ghost use Rattle.ja_prelude.specs.Reading.{AreSpelled, is_few, is_text, numbered, tree_of};
-ghost use Rattle.ja_prelude.specs.Prelude.{by_path, calls, own_names, parameter_counts, prelude_bodies, prelude_names, prelude_paths, prelude_statements, reads, stops, uses};
+ghost use Rattle.ja_prelude.specs.Prelude.{by_path, own_names, parameter_counts, prelude_bodies, prelude_names, prelude_paths, prelude_statements, stops};
 ghost use Rattle.ja_prelude.specs.Table.{function_paths, lengths};
 ghost use Rattle.ja_prelude.specs.Texts.{error_kinds, error_texts, prelude_texts, texts_at};
+ghost use Rattle.ja_prelude.specs.Uses.{uses, uses_told};
 ghost use Rattle.ja_prelude.specs.declared.texts.TheConstants.{FUNCTIONS};
 
 /// Each text is in the language and short, and its tree is that of the grammar.
@@ -91,9 +92,11 @@ pub fn errors_are_made_alike()
     ensures { texts_at error_kinds ≡ error_texts }
 {}
 
-/// What the functions read of their `this`, and where they call a function on it: the default value of an object comes of both methods,
-/// in the order of the hint (8.6.2.6).
+/// What the functions do with their `this`, in the order of their texts. A default value comes of
+/// both methods, in the order of the hint (8.6.2.6): each is read of the object and, where it is an
+/// object, called on it; what this call gives is returned where it is no object; and behind both a
+/// TypeError is thrown.
 #[tactic(auto, using(crate::proofs::Facts::uses_are))]
 pub fn uses_are_told()
-    ensures { by_path uses prelude_bodies ≡ (codes "Error.prototype.toString", reads (codes "name")) ∷ (codes "Error.prototype.toString", reads (codes "message")) ∷ (codes "%valueFirst", reads (codes "valueOf")) ∷ (codes "%valueFirst", calls) ∷ (codes "%valueFirst", reads (codes "toString")) ∷ (codes "%valueFirst", calls) ∷ (codes "%textFirst", reads (codes "toString")) ∷ (codes "%textFirst", calls) ∷ (codes "%textFirst", reads (codes "valueOf")) ∷ (codes "%textFirst", calls) ∷ [] }
+    ensures { by_path uses prelude_bodies ≡ uses_told }
 {}
