@@ -18,8 +18,9 @@ use Rattle.ja_lower.specs.declared.body.Body.{Body}
 use Rattle.ja_lower_names.specs.TextOrder.{functions_in, names_in}
 use Rattle.ja_syntax.specs.declared.tree.Statement.{Statement}
 use Rattle.ja_prelude.specs.Reading.{numbered, is_read, statements_in, is_text, tree_of, is_few}
-use Rattle.ja_prelude.specs.Prelude.{prelude_statements, prelude_paths, prelude_names, prelude_bodies, parameter_counts, own_names, stops, reads, calls, uses, by_path}
+use Rattle.ja_prelude.specs.Prelude.{prelude_statements, prelude_paths, prelude_names, prelude_bodies, parameter_counts, own_names, stops, by_path}
 use Rattle.ja_prelude.specs.Table.{function_paths, lengths}
+use Rattle.ja_prelude.specs.Uses.{uses, uses_told}
 use Rattle.ja_prelude.proofs.Allowed.{are_plain, all_allowed, all_alone}
 use Rattle.ja_prelude.proofs.Evaluating.{reading, listing}
 use Rattle.ja_prelude.proofs.Readings.{computing, computing_is, functions_by, names_by}
@@ -104,21 +105,11 @@ stopping = refl
 pub stops_are : by_path stops prelude_bodies ≡ (codes "Function", CodeMaker) ∷ (codes "Function", CodeMaker) ∷ (codes "Number.prototype.toString", Radix) ∷ []
 stops_are = by_path_computed stops ∙ stopping
 
-using : by_path_of uses prelude_paths (rows_by computing) ≡
-    (codes "Error.prototype.toString", reads (codes "name")) ∷ (codes "Error.prototype.toString", reads (codes "message"))
-    ∷ (codes "%valueFirst", reads (codes "valueOf")) ∷ (codes "%valueFirst", calls)
-    ∷ (codes "%valueFirst", reads (codes "toString")) ∷ (codes "%valueFirst", calls)
-    ∷ (codes "%textFirst", reads (codes "toString")) ∷ (codes "%textFirst", calls)
-    ∷ (codes "%textFirst", reads (codes "valueOf")) ∷ (codes "%textFirst", calls) ∷ []
+using : by_path_of uses prelude_paths (rows_by computing) ≡ uses_told
 unfolding reading listing
 using = refl
 
-pub uses_are : by_path uses prelude_bodies ≡
-    (codes "Error.prototype.toString", reads (codes "name")) ∷ (codes "Error.prototype.toString", reads (codes "message"))
-    ∷ (codes "%valueFirst", reads (codes "valueOf")) ∷ (codes "%valueFirst", calls)
-    ∷ (codes "%valueFirst", reads (codes "toString")) ∷ (codes "%valueFirst", calls)
-    ∷ (codes "%textFirst", reads (codes "toString")) ∷ (codes "%textFirst", calls)
-    ∷ (codes "%textFirst", reads (codes "valueOf")) ∷ (codes "%textFirst", calls) ∷ []
+pub uses_are : by_path uses prelude_bodies ≡ uses_told
 uses_are = by_path_computed uses ∙ using
 
 parametrised : map (λ (x : List ℕ × Row). x.1.parameters) (zip prelude_paths (rows_by computing)) ≡ 0 ∷ 1 ∷ 1 ∷ 1 ∷ 1 ∷ 1 ∷ 1 ∷ 1 ∷ 1 ∷ 1 ∷ 1 ∷ 1 ∷ 1 ∷ 1 ∷ 1 ∷ 1 ∷ 1 ∷ 1 ∷ 1 ∷ 1 ∷ 1 ∷ 1 ∷ 1 ∷ 1 ∷ 1 ∷ 1 ∷ 1 ∷ 0 ∷ 0 ∷ 1 ∷ 1 ∷ 1 ∷ 2 ∷ 1 ∷ 0 ∷ 0 ∷ 0 ∷ 0 ∷ 1 ∷ 0 ∷ 0 ∷ 0 ∷ 0 ∷ []

@@ -1,5 +1,6 @@
 pub mod Allowed
 pub mod Answering
+pub mod Described
 pub mod DistinctLemmas
 pub mod Evaluating
 pub mod Facts
@@ -10,3 +11,5 @@ pub mod OpeningLemmas
 pub mod Readings
 pub mod Rows
 pub mod TableLemmas
+pub mod Templates
+pub mod Trees

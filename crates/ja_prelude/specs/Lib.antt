@@ -1,4 +1,7 @@
 pub mod Opening
 pub mod Table
+pub mod Described
 pub mod Reading
 pub mod Prelude
+pub mod Texts
+pub mod Uses

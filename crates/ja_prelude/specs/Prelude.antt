@@ -1,21 +1,17 @@
 -- The built-in functions as each program has them, and what is read of their nodes.
-use Rattle.std.specs.Prelude.{ℕ, ◌==◌, Bool, false, if◌then◌else◌, List, [], ◌∷◌, ◌++◌, map, length, Option, Some}
-use Rattle.std.specs.List.{flat_map, find, list_any}
-use Rattle.std.specs.Option.{option_to_list}
+use Rattle.std.specs.Prelude.{ℕ, List, [], ◌∷◌, ◌++◌, map, length}
+use Rattle.std.specs.List.{flat_map}
 use lib.Chars.{codes}
-use Rattle.ja_base.specs.declared.ids.Reg.{Reg}
 use Rattle.ja_base.specs.declared.ids.ScopeKind.{ScopeKind}
-use Rattle.ja_graph.specs.Node.{register_set}
 use Rattle.ja_graph.specs.WellFormed.{builtin_names}
 use Rattle.ja_graph.specs.declared.node.Node.{Node}
-use Rattle.ja_graph.specs.declared.node.Node.TheVariants.{Const, Move, ReadProp, Call, Stop}
+use Rattle.ja_graph.specs.declared.node.Node.TheVariants.{Stop}
 use Rattle.ja_graph.specs.declared.node.NodeInfo.{NodeInfo}
 use Rattle.ja_lower.specs.Lowering as lower
 use Rattle.ja_lower.specs.declared.body.Body.{Body}
 use Rattle.ja_prelude.specs.Reading.{tree_of}
 use Rattle.ja_prelude.specs.declared.prelude.Prelude.{Prelude}
 use Rattle.ja_prelude.specs.declared.texts.TheConstants.{FUNCTIONS}
-use Rattle.ja_prim.specs.declared.primitive.Primitive.TheVariants as primitive
 use Rattle.ja_syntax.specs.declared.tree.Statement.{Statement}
 
 -- the trees of the texts: each is one function
@@ -62,37 +58,6 @@ stop_at node = []
 
 abbrev pub stops : List Node → List ScopeKind
 stops nodes = flat_map stop_at nodes
-
--- what a function does with its `this`: it reads a property, or calls a function on it
-pub data Use : Type 0 where
-  reads : List ℕ → Use
-  calls : Use
-
--- a node sets a register
-abbrev pub sets : Reg → Node → Bool
-sets r node = list_any (λ (s : Reg). s.0 == r.0) (option_to_list (register_set node))
-
--- what a register holds by the node that sets it: a text, and `this`, which is register 1
-abbrev pub text_of : Option Node → List (List ℕ)
-text_of (Some (Const dst (primitive.Text text))) = text ∷ []
-text_of _ = []
-
-abbrev pub is_this : Option Node → Bool
-is_this (Some (Move dst src)) = src.0 == 1
-is_this _ = false
-
--- the use of a node behind others, the nearest of which is the first
-abbrev pub use_at : List Node → Node → List Use
-use_at before (ReadProp dst object key) = if is_this (find (sets object) before) then map reads (text_of (find (sets key) before)) else []
-use_at before (Call dst callee receiver args error) = if is_this (find (sets receiver) before) then calls ∷ [] else []
-use_at before node = []
-
-abbrev pub uses_behind : List Node → List Node → List Use
-uses_behind before [] = []
-uses_behind before (node ∷ nodes) = use_at before node ++ uses_behind (node ∷ before) nodes
-
-abbrev pub uses : List Node → List Use
-uses nodes = uses_behind [] nodes
 
 -- something of the nodes of each function, with the function's path
 abbrev pub by_path : {A : Type 0} → (List Node → List A) → List Body → List (List ℕ × A)

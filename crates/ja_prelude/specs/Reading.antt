@@ -1,7 +1,10 @@
--- The trees of the built-in functions' texts.
-use Rattle.std.specs.Prelude.{ℕ, suc, Bool, true, false, ◌&&◌, nat_le, List, [], ◌∷◌, length}
+-- The trees of the built-in functions' texts. They are written as what reading comes to, so that
+-- they compute. `trees_are_the_grammars` of laws.rt says that by the grammar the texts are these
+-- statements (`AreSpelled`), and no others: so nothing of reading has to be believed.
+use Rattle.std.specs.Prelude.{◌≡◌, ℕ, suc, Bool, true, false, ◌&&◌, nat_le}
+use Rattle.std.specs.Prelude.{List, [], ◌∷◌, ◌++◌, length}
 use Rattle.ja_grammar.specs.Input.{strict, Outcome, Done, Refused}
-use Rattle.ja_grammar.specs.Language.{max_levels}
+use Rattle.ja_grammar.specs.Language.{Spells, max_levels}
 use Rattle.ja_grammar.specs.ReadStatement.{program}
 use Rattle.ja_lex.specs.declared.token.Token.{Token}
 use Rattle.ja_lex.specs.Tokens.{tokens}
@@ -29,6 +32,17 @@ is_text text = is_read (outcome_of text)
 
 unfoldable pub tree_of : List ℕ → List Statement
 tree_of text = statements_in (outcome_of text)
+
+-- by the grammar, a text is these statements
+abbrev pub IsSpelled : List ℕ → List Statement → Type 0
+IsSpelled text statements = Spells max_levels (numbered 1 (tokens text)) statements
+
+-- .. and texts, one behind the other, are these
+abbrev pub AreSpelled : List (List ℕ) → List Statement → Type 0
+AreSpelled [] statements = statements ≡ []
+AreSpelled (text ∷ texts) statements =
+    (tree : List Statement) × (others : List Statement)
+    × IsSpelled text tree × AreSpelled texts others × (statements ≡ tree ++ others)
 
 -- a text of few bytes and tokens
 abbrev pub is_few : List ℕ → Bool

@@ -285,13 +285,32 @@ prototype_told row =
     else if is_word row.path (words "EvalError.prototype RangeError.prototype ReferenceError.prototype SyntaxError.prototype TypeError.prototype URIError.prototype") then codes "Error.prototype" ∷ []
     else codes "Object.prototype" ∷ []
 
--- The attributes of a property of the object with this path. The value of `length` of an array is kept, and so are the two values of
--- the global object; `length` of any other object, `prototype`, and NaN of Number are fixed; any other property is only hidden.
+-- the constants: their values don't change (15.7.3, 15.8.1)
+abbrev pub constants : List (List ℕ)
+constants =
+    words "Number.MAX_VALUE Number.MIN_VALUE Number.NaN"
+    ++ words "Number.NEGATIVE_INFINITY Number.POSITIVE_INFINITY"
+    ++ words "Math.E Math.LN10 Math.LN2 Math.LOG2E Math.LOG10E Math.PI Math.SQRT1_2 Math.SQRT2"
+
+abbrev pub hidden : Attrs
+hidden = record { read_only = false; dont_enum = true; dont_delete = false }
+
+abbrev pub kept : Attrs
+kept = record { read_only = false; dont_enum = true; dont_delete = true }
+
+abbrev pub fixed : Attrs
+fixed = record { read_only = true; dont_enum = true; dont_delete = true }
+
+-- The attributes of a property of the object with this path. The three values of the global object
+-- (15.1.1) and the `length` of an array (15.4.5.2) are kept; the `length` of any other object
+-- (15.3.5.1, 15.5.5.1), `prototype` (15.2.3.1) and the constants are fixed; any other property is
+-- only hidden (15).
 abbrev pub attrs_told : List ℕ → List ℕ → Attrs
 attrs_told path name =
-    if is_word (member path name) (words "NaN undefined Array.prototype.length") then record { read_only = false; dont_enum = true; dont_delete = true }
-    else if is_word name (words "length prototype") || bytes_eq (member path name) (codes "Number.NaN") then record { read_only = true; dont_enum = true; dont_delete = true }
-    else record { read_only = false; dont_enum = true; dont_delete = false }
+    if is_word (member path name) (words "NaN Infinity undefined Array.prototype.length") then kept
+    else if is_word name (words "length prototype") then fixed
+    else if is_word (member path name) constants then fixed
+    else hidden
 
 -- names of properties of the object with this path
 pub record NamesAt : Type 0 where

@@ -11,9 +11,12 @@ ghost use Rattle.ja_lex.specs.Tokens.{tokens};
 ghost use Rattle.ja_lower.specs.Limits.{prelude_count, prelude_size_of};
 ghost use Rattle.ja_lower.specs.Lowering as lower;
 ghost use Rattle.ja_lower_names.specs.TextOrder.{functions_in};
-ghost use Rattle.ja_prelude.specs.Reading.{is_few, is_text, numbered, tree_of};
-ghost use Rattle.ja_prelude.specs.Prelude.{by_path, calls, own_names, parameter_counts, prelude_bodies, prelude_names, prelude_paths, prelude_statements, reads, stops, uses};
+ghost use Rattle.ja_syntax.specs.declared.tree.Statement.{Statement};
+ghost use Rattle.ja_prelude.specs.Reading.{AreSpelled, is_few, is_text, numbered, tree_of};
+ghost use Rattle.ja_prelude.specs.Prelude.{by_path, own_names, parameter_counts, prelude_bodies, prelude_names, prelude_paths, prelude_statements, stops};
 ghost use Rattle.ja_prelude.specs.Table.{function_paths, lengths};
+ghost use Rattle.ja_prelude.specs.Texts.{error_kinds, error_texts, prelude_texts, texts_at};
+ghost use Rattle.ja_prelude.specs.Uses.{uses, uses_told};
 ghost use Rattle.ja_prelude.specs.declared.texts.TheConstants.{FUNCTIONS};
 
 /// Each text is in the language and short, and its tree is that of the grammar.
@@ -22,6 +25,20 @@ pub fn texts_are_read()
     ensures read { list_all (λ f. is_text f.1.now) FUNCTIONS ≡ true }
     ensures few { list_all (λ f. is_few f.1.now) FUNCTIONS ≡ true }
     ensures spelled { (text : List ℕ) → is_text text ≡ true → Spells max_levels (numbered 1 (tokens text)) (tree_of text) }
+{}
+
+/// A text in the language has no other tree by the grammar, whatever the number of levels.
+pub fn texts_have_one_tree()
+    ensures { (text : List ℕ) → is_text text ≡ true → (levels : ℕ) (statements : List Statement)
+        → Spells levels (numbered 1 (tokens text)) statements → statements ≡ tree_of text }
+{}
+
+/// The built-in functions are the trees that the grammar gives to their texts, one behind the
+/// other, and it gives them no others.
+pub fn trees_are_the_grammars()
+    ensures trees { AreSpelled prelude_texts prelude_statements }
+    ensures no_others { (statements : List Statement) → AreSpelled prelude_texts statements
+        → statements ≡ prelude_statements }
 {}
 
 /// Each text is one function, in which no other stands, and there is a path for each.
@@ -67,9 +84,19 @@ pub fn stops_are_told()
     ensures { by_path stops prelude_bodies ≡ (codes "Function", CodeMaker) ∷ (codes "Function", CodeMaker) ∷ (codes "Number.prototype.toString", Radix) ∷ [] }
 {}
 
-/// What the functions read of their `this`, and where they call a function on it: the default value of an object comes of both methods,
-/// in the order of the hint (8.6.2.6).
+/// The functions of errors have one text, but for the name of the kind: what a call makes and what
+/// `new` makes is an error of the function's own kind with its message (15.11.1.1, 15.11.2.1,
+/// 15.11.7.2, 15.11.7.4).
+#[tactic(auto, using(crate::proofs::Templates::errors))]
+pub fn errors_are_made_alike()
+    ensures { texts_at error_kinds ≡ error_texts }
+{}
+
+/// What the functions do with their `this`, in the order of their texts. A default value comes of
+/// both methods, in the order of the hint (8.6.2.6): each is read of the object and, where it is an
+/// object, called on it; what this call gives is returned where it is no object; and behind both a
+/// TypeError is thrown.
 #[tactic(auto, using(crate::proofs::Facts::uses_are))]
 pub fn uses_are_told()
-    ensures { by_path uses prelude_bodies ≡ (codes "Error.prototype.toString", reads (codes "name")) ∷ (codes "Error.prototype.toString", reads (codes "message")) ∷ (codes "%valueFirst", reads (codes "valueOf")) ∷ (codes "%valueFirst", calls) ∷ (codes "%valueFirst", reads (codes "toString")) ∷ (codes "%valueFirst", calls) ∷ (codes "%textFirst", reads (codes "toString")) ∷ (codes "%textFirst", calls) ∷ (codes "%textFirst", reads (codes "valueOf")) ∷ (codes "%textFirst", calls) ∷ [] }
+    ensures { by_path uses prelude_bodies ≡ uses_told }
 {}

@@ -7,6 +7,7 @@ ghost use Rattle.std.specs.Str.{bytes_eq};
 ghost use lib.Chars.{codes};
 ghost use Rattle.ja_graph.specs.WellFormed.{builtin_names};
 ghost use Rattle.ja_graph.specs.declared.builtins.TheConstants.{BUILTIN_CLASSES};
+ghost use Rattle.ja_prelude.specs.Described.{descriptions, names_in_order, object_at};
 ghost use Rattle.ja_prelude.specs.Table.{attrs_told, builtin_sites, construct_of, function_of, functions_of, is_at_its_path, is_function_class, is_of_its_kind, named_sites, names_at, opening_objects, path_of, prototype_told, rows_of, scope_rows, table_rows, unbuilt_rows};
 
 /// The number of each property is that of its name in the table.
@@ -32,12 +33,28 @@ pub fn functions_are_numbered()
     ensures constructing { map (λ row. is_some (construct_of row.object.role)) table_rows ≡ map (λ row. list_any (λ e. bytes_eq e.name (codes "prototype")) row.entries) table_rows }
 {}
 
-/// Each property that holds an object holds the one at its own path, or it is `constructor` and holds the one whose `prototype` has it. Each
-/// prototype of errors has the name of their kind.
+/// Each property that holds an object holds the one at its own path, or it is `constructor` and
+/// holds the one whose `prototype` has it. The name of a kind of errors is held by `name` of their
+/// prototype alone; that each of these holds it is said by `objects_are_described`.
 #[tactic(auto, using(crate::proofs::TableLemmas::objects_are_at_their_paths, crate::proofs::TableLemmas::errors_are_named))]
 pub fn objects_are_at_their_paths()
     ensures objects { list_all (λ row. list_all (λ e. is_at_its_path row.path e.name e.content) row.entries) table_rows ≡ true }
     ensures errors { list_all (λ row. list_all (λ e. is_of_its_kind row.path e.name e.content) row.entries) table_rows ≡ true }
+{}
+
+/// The objects are those that the standard describes: each has its internal value, if it has one,
+/// and its properties in their order, each with what it holds.
+#[tactic(auto, using(crate::proofs::Described::objects, crate::proofs::Described::no_others))]
+pub fn objects_are_described()
+    ensures objects { map (λ d. object_at d.path) descriptions ≡ map (λ d. Some d) descriptions }
+    ensures all { length opening_objects ≡ length descriptions }
+{}
+
+/// The names of the properties are numbered in the order of their objects' descriptions, each where
+/// it is first; last come those that other objects have too (10.1.8).
+#[tactic(auto, using(crate::proofs::Described::names))]
+pub fn names_are_in_order()
+    ensures { builtin_names ≡ names_in_order }
 {}
 
 /// Each object has the prototype that the standard gives it.
