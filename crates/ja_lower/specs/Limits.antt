@@ -8,6 +8,16 @@ use Rattle.ja_lower.specs.declared.fault.LowerFault.TheVariants.{Functions, Node
 use Rattle.ja_lower.specs.Lowering.{names_of, scene_of, bodies_of, prelude_names, prelude_bodies}
 use Rattle.ja_syntax.specs.declared.tree.Statement.{Statement}
 
+-- the greatest number of functions of a text, of its nodes, and of the names of a program
+abbrev pub max_functions : ℕ
+max_functions = 4096
+
+abbrev pub max_nodes : ℕ
+max_nodes = 65536
+
+abbrev pub max_names : ℕ
+max_names = 1048576
+
 -- how many functions a text has, the program among them
 abbrev pub function_count : List Statement → ℕ
 function_count statements = 1 + length (functions_in statements)
@@ -32,9 +42,10 @@ prelude_size_of names statements = size_of_bodies (prelude_bodies (prelude_names
 
 -- what a fault says of so many functions of this size, with so many names
 abbrev pub ExplainsSize : ℕ → ℕ → ℕ → LowerFault → Type 0
-ExplainsSize functions size names Functions = 4096 < functions
-ExplainsSize functions size names Nodes = (functions ≤ 4096) × (65536 < size)
-ExplainsSize functions size names Names = (functions ≤ 4096) × (size ≤ 65536) × (1048576 < names)
+ExplainsSize functions size names Functions = max_functions < functions
+ExplainsSize functions size names Nodes = (functions ≤ max_functions) × (max_nodes < size)
+ExplainsSize functions size names Names =
+    (functions ≤ max_functions) × (size ≤ max_nodes) × (max_names < names)
 ExplainsSize functions size names Memory = Unit {0}
 
 abbrev pub Explains : List (List ℕ) → List Statement → LowerFault → Type 0
@@ -47,8 +58,8 @@ ExplainsPrelude names statements fault =
 
 -- what holds of so many functions of this size that are lowered
 pub record IsWithinSize (count size : ℕ) : Type 0 where
-  pub functions : count ≤ 4096
-  pub nodes : size ≤ 65536
+  pub functions : count ≤ max_functions
+  pub nodes : size ≤ max_nodes
 
 abbrev pub IsWithin : List (List ℕ) → List Statement → Type 0
 IsWithin names statements = IsWithinSize (function_count statements) (size_of names statements)

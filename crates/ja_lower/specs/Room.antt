@@ -2,6 +2,7 @@
 use Rattle.std.specs.Prelude.{◌<◌, ℕ}
 use Rattle.ja_lower.specs.declared.fault.LowerFault.{LowerFault}
 use Rattle.ja_lower.specs.declared.fault.LowerFault.TheVariants.{Functions, Nodes, Names, Memory}
+use Rattle.ja_lower.specs.Limits.{max_names}
 
 -- what a fault says of a size, where there is this much room
 abbrev pub Exceeds : ℕ → ℕ → LowerFault → Type 0
@@ -14,5 +15,5 @@ Exceeds room size Memory = Unit {0}
 abbrev pub HasTooMany : ℕ → LowerFault → Type 0
 HasTooMany names Functions = ⊥
 HasTooMany names Nodes = ⊥
-HasTooMany names Names = 1048576 < names
+HasTooMany names Names = max_names < names
 HasTooMany names Memory = Unit {0}
