@@ -9,7 +9,6 @@ use Rattle.ja_base.specs.declared.ids.Site.{Site}
 use Rattle.ja_graph.specs.declared.builtins.TheConstants.{BUILTIN_CLASSES}
 use Rattle.ja_graph.specs.declared.node.Hint.{Hint}
 use Rattle.ja_graph.specs.declared.node.Hint.TheVariants as hint
-use Rattle.ja_graph.specs.declared.node.Node.TheVariants.{Escape}
 use Rattle.ja_graph.specs.declared.node.NodeInfo.{NodeInfo}
 use Rattle.ja_graph.specs.declared.program.Class.{Class}
 use Rattle.ja_graph.specs.declared.program.Function.{Function}
@@ -36,12 +35,6 @@ default_value p hint.Text = p.text_first
 -- each node of the function is well formed
 abbrev pub AreNodesWellFormed : Program → Function → Type 0
 AreNodesWellFormed p fn = (n : ℕ) (info : NodeInfo) → slice_get fn.nodes n ≡ Some info → IsNodeWellFormed p fn info
-
--- the last node is Escape
-pub record LastIsEscape (nodes : List NodeInfo) : Type 0 where
-  pub last : NodeInfo
-  pub last_is : slice_get nodes (length nodes - 1) ≡ Some last
-  pub escape : last.node ≡ Escape
 
 -- each function is well formed
 abbrev pub AreFunctionsWellFormed : Program → Type 0

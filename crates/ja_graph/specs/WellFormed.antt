@@ -83,6 +83,12 @@ pub record IsNodeWellFormed (p : Program) (fn : Function) (info : NodeInfo) : Ty
   pub other : info.other.0 < length fn.nodes
   pub handler : info.handler.0 < length fn.nodes
 
+-- the last node is Escape
+pub record LastIsEscape (nodes : List NodeInfo) : Type 0 where
+  pub last : NodeInfo
+  pub last_is : slice_get nodes (length nodes - 1) ≡ Some last
+  pub escape : last.node ≡ Escape
+
 -- a function ends with Escape, has the registers that each function has, and each of its nodes is well formed
 pub record IsFunctionWellFormed (p : Program) (fn : Function) : Type 0 where
   pub last : NodeInfo

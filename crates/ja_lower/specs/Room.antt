@@ -1,8 +1,8 @@
 -- What is too large for the room that is left.
 use Rattle.std.specs.Prelude.{◌<◌, ℕ}
+use Rattle.ja_graph.specs.WellFormed.{max_names}
 use Rattle.ja_lower.specs.declared.fault.LowerFault.{LowerFault}
 use Rattle.ja_lower.specs.declared.fault.LowerFault.TheVariants.{Functions, Nodes, Names, Memory}
-use Rattle.ja_lower.specs.Limits.{max_names}
 
 -- what a fault says of a size, where there is this much room
 abbrev pub Exceeds : ℕ → ℕ → LowerFault → Type 0

@@ -3,11 +3,11 @@
 
 ghost use Rattle.std.specs.Prelude.{◌≡◌, ◌<◌, ◌≤◌, ◌+◌, ◌^◌, length, map, filter, IfOk, IfErr, OnOk};
 ghost use Rattle.std.specs.List.{AllByRecursion, fold};
-ghost use Rattle.ja_graph.specs.WellFormed.{max_registers};
+ghost use Rattle.ja_graph.specs.WellFormed.{max_names, max_registers};
 ghost use Rattle.ja_lower_expressions.specs.Specials.{is_name};
 ghost use Rattle.ja_lower_names.specs.Names.{with_name};
 ghost use Rattle.ja_lower_names.specs.TextParts.{named_of};
-ghost use Rattle.ja_lower.specs.Limits.{max_names, Explains, ExplainsPrelude, IsWithin, IsPreludeWithin};
+ghost use Rattle.ja_lower.specs.Limits.{Explains, ExplainsPrelude, IsWithin, IsPreludeWithin};
 ghost use Rattle.ja_lower.specs.Lowering as spec;
 ghost use Rattle.ja_lower.specs.Room.{HasTooMany};
 
