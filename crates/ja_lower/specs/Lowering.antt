@@ -68,7 +68,7 @@ bodies_of scene statements = program_body scene statements ∷ map (function_bod
 
 unfoldable pub registers_of : ℕ → List NodeInfo → ℕ
 registers_of parameters nodes =
-    registers_with (6 + parameters) (flat_map (λ (info : NodeInfo). registers_in info.node) nodes)
+    registers_with (FIXED_REGISTERS + parameters) (flat_map (λ (info : NodeInfo). registers_in info.node) nodes)
 
 -- ---- sites: they are numbered by function and node
 
