@@ -407,10 +407,10 @@ initialiser_of i = record { value = form i.value; place = i.place }
 abbrev pub declaration_of : Declaration Expression → Declaration Form
 declaration_of d = record { name = d.name; initialiser = option_map initialiser_of d.initialiser }
 
-abbrev pub first_of : ForFirst Expression → ForFirst Form
-first_of first.Nothing = first.Nothing
-first_of (first.Expression value) = first.Expression (form value)
-first_of (first.Variables declarations) = first.Variables (map declaration_of declarations)
+abbrev pub for_first_of : ForFirst Expression → ForFirst Form
+for_first_of first.Nothing = first.Nothing
+for_first_of (first.Expression value) = first.Expression (form value)
+for_first_of (first.Variables declarations) = first.Variables (map declaration_of declarations)
 
 abbrev pub target_of : ForTarget Expression → ForTarget Form
 target_of (target.Variable declaration) = target.Variable (declaration_of declaration)

@@ -69,8 +69,8 @@ pub data Use : Type 0 where
   calls : Use
 
 -- a node sets a register
-abbrev pub sets : Reg → Node → Bool
-sets r node = list_any (λ (s : Reg). s.0 == r.0) (option_to_list (register_set node))
+abbrev pub sets_register : Reg → Node → Bool
+sets_register r node = list_any (λ (s : Reg). s.0 == r.0) (option_to_list (register_set node))
 
 -- what a register holds by the node that sets it: a text, and `this`, which is register 1
 abbrev pub text_of : Option Node → List (List ℕ)
@@ -83,8 +83,8 @@ is_this _ = false
 
 -- the use of a node behind others, the nearest of which is the first
 abbrev pub use_at : List Node → Node → List Use
-use_at before (ReadProp dst object key) = if is_this (find (sets object) before) then map reads (text_of (find (sets key) before)) else []
-use_at before (Call dst callee receiver args error) = if is_this (find (sets receiver) before) then calls ∷ [] else []
+use_at before (ReadProp dst object key) = if is_this (find (sets_register object) before) then map reads (text_of (find (sets_register key) before)) else []
+use_at before (Call dst callee receiver args error) = if is_this (find (sets_register receiver) before) then calls ∷ [] else []
 use_at before node = []
 
 abbrev pub uses_behind : List Node → List Node → List Use
