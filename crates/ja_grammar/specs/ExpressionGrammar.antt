@@ -1,7 +1,9 @@
--- The grammar of expressions (ES3 11 and 13), one clause a production, by the rules that are asked where it stands; what stands behind
--- a token that counts is one level below, and is `Nested`. Where a rule takes as much as there is, the clause says with which tokens the
--- rest doesn't begin. The clauses in which a rule isn't asked (`g WHY i ≡ false`) are no clauses of the language, of which each rule is
--- asked: by them it is said what a text is refused for.
+-- The grammar of expressions (ES3 11 and 13), one clause a production, by the rules that are asked
+-- where it stands; what stands behind a token that counts is one level below, and is `Nested`.
+-- Where a rule takes as much as there is, the clause says with which tokens the rest doesn't begin.
+-- The clauses in which a rule isn't asked (`g WHY i ≡ false`) are none of the language, of which
+-- each rule is asked: by them it is said what a text is refused for. They stand last, under `none
+-- of the language`.
 use Rattle.std.specs.Prelude.{◌≡◌, ◌⊎◌, ℕ, zero, suc, Bool, true, false, List, [], ◌∷◌, Option, Some, None}
 use Rattle.ja_base.specs.declared.ids.Place.{Place}
 use Rattle.ja_prim.specs.declared.primitive.Primitive.{Primitive}
@@ -55,7 +57,7 @@ pub data OneProperty (n : Nested) : Tokens → Property Expression → Tokens �
 -- a name that is declared: not `arguments`
 pub data Declared (g : Rules) : Tokens → Name → Tokens → Type 0 where
   declared : {t : Token} {r : Tokens} → Is k.Name t → is_arguments t.kind ≡ false → Declared g (t ∷ r) (name_of t) r
-  -- without that rule
+  -- ---- none of the language: `arguments`
   arguments : {t : Token} {r : Tokens} → Is k.Name t → is_arguments t.kind ≡ true → g refusal.Arguments (t ∷ r) ≡ false → Declared g (t ∷ r) (name_of t) r
 
 -- the name of a function, which an expression need not have (13)
@@ -83,7 +85,7 @@ pub data Primary (g : Rules) (n : Nested) : Tokens → Expression → Tokens →
   parenthesized : {t u : Token} {i r : Tokens} {x : Expression} → Is k.OpenParenthesis t → HasRoom g (t ∷ i)
       → n.expression (part.Whole false) i x (u ∷ r) → Is k.CloseParenthesis u → Primary g n (t ∷ i) x r
   function : {i r : Tokens} {f : FunctionOf Statement} → Function g n false i f r → Primary g n i (e.Function f) r
-  -- a regular expression, if it were in the profile; it has no tree, and `this` stands for it
+  -- ---- none of the language: a regular expression; it has no tree, and `this` stands for it
   regular_expression : {t : Token} {r : Tokens} → (Is k.Divide t) ⊎ (Is k.DivideAssign t) → g refusal.RegExp (t ∷ r) ≡ false → Primary g n (t ∷ r) (e.This t.place) r
 
 -- a primary expression, or `new` and what stands behind it (11.2)
@@ -175,7 +177,7 @@ pub data Whole (g : Rules) (n : Nested) (no_in : Bool) : Tokens → Expression �
 pub data Updated (g : Rules) (n : Nested) (place : Place) : Tokens → Expression → Tokens → Type 0 where
   updated : {i r : Tokens} {x : Expression} → is_prefix (next i) ≡ false → LeftHand g n i x r → is_reference x ≡ true → postfix_of (head r) ≡ None
       → Updated g n place i x r
-  -- without that rule: any operand; with an operator before it; and behind it
+  -- ---- none of the language: another operand; one with an operator before it, and behind it
   any : {i r : Tokens} {x : Expression} → is_prefix (next i) ≡ false → LeftHand g n i x r → is_reference x ≡ false → g (refusal.Operand place) r ≡ false
       → Updated g n place i x r
   before : {i r : Tokens} {x : Expression} → is_prefix (next i) ≡ true → g (refusal.Broken place) i ≡ false → Unary g n i x r → Updated g n place i x r

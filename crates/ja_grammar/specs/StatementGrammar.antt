@@ -1,4 +1,5 @@
--- The grammar of statements (ES3 12) and of programs (14), one clause a production, with semicolons inserted by 7.9.
+-- The grammar of statements (ES3 12) and of programs (14), one clause a production, with semicolons
+-- inserted by 7.9. As in that of expressions, the clauses in which a rule isn't asked stand last.
 use Rattle.std.specs.Prelude.{◌≡◌, ℕ, zero, suc, Bool, true, false, List, [], ◌∷◌, Option, Some, None}
 use Rattle.ja_base.specs.declared.ids.Place.{Place}
 use Rattle.ja_lex.specs.declared.token.Token.{Token}
@@ -53,12 +54,13 @@ pub data Variable (g : Rules) (Value : Rule Expression) : Tokens → Declaration
 pub data Target (g : Rules) (allowed known : List ℕ → Bool) (alone : Bool) (place : Place) : Tokens → Option Name → Tokens → Type 0 where
   labelled : {t : Token} {r : Tokens} → is_label_behind t ≡ true → allowed (word t) ≡ true → Target g allowed known alone place (t ∷ r) (Some (name_of t)) r
   unlabelled : {r : Tokens} → alone ≡ true → is_label_behind (head r) ≡ false → Target g allowed known alone place r None r
-  -- without these rules: a label around that is not allowed; no label
+  -- ---- none of the language: a label around that is not allowed; no label
   known : {t : Token} {r : Tokens} → is_label_behind t ≡ true → allowed (word t) ≡ false → known (word t) ≡ true → g (Broken place) (t ∷ r) ≡ false
       → Target g allowed known alone place (t ∷ r) (Some (name_of t)) r
   alone : {r : Tokens} → alone ≡ false → is_label_behind (head r) ≡ false → g (Alone place) r ≡ false → Target g allowed known alone place r None r
 
--- the word of a jump where there is nothing to leave, and a label behind it that is none around, without the rule that there is
+-- None of the language: the word of a jump where there is nothing to leave, and a label behind it
+-- that is none around.
 pub data Untargeted (g : Rules) (c : Context) : Tokens → Name → Tokens → Type 0 where
   untargeted : {t u : Token} {i r : Tokens} → is_label_behind u ≡ true → has_label c (word u) ≡ false → g (UnknownLabel u.place) (t ∷ u ∷ i) ≡ false
       → Ended i r → Untargeted g c (t ∷ u ∷ i) (name_of u) r
@@ -127,7 +129,7 @@ pub data Single (g : Rules) (n : Nested) (c : Context) (labels : ℕ) (outermost
       → Single g n c labels outermost (t ∷ i) (s.Try xs None (Some ys) t.place) r
   function : {i r : Tokens} {f : FunctionOf Statement} → outermost ≡ true → Function g n true i f r
       → Single g n c labels outermost i (s.Function f) r
-  -- without these rules: a label inside itself; a jump where there is nothing to leave
+  -- ---- none of the language: a label inside itself; a jump where there is nothing to leave
   relabelled : {t u : Token} {i r : Tokens} {x : Statement} → Is k.Name t → Is k.Colon u → has_label c (word t) ≡ true → g (Broken t.place) (u ∷ i) ≡ false
       → g (DeepLabel t.place) (u ∷ i) ≡ false → n.statement (labelled_context c (word t)) (part.Whole (suc labels) false) i x r
       → Single g n c labels outermost (t ∷ u ∷ i) (s.Labelled (name_of t) x) r

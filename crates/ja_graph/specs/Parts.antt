@@ -9,7 +9,6 @@ use Rattle.ja_base.specs.declared.ids.Site.{Site}
 use Rattle.ja_graph.specs.declared.builtins.TheConstants.{BUILTIN_CLASSES}
 use Rattle.ja_graph.specs.declared.node.Hint.{Hint}
 use Rattle.ja_graph.specs.declared.node.Hint.TheVariants as hint
-use Rattle.ja_graph.specs.declared.node.Node.TheVariants.{Escape}
 use Rattle.ja_graph.specs.declared.node.NodeInfo.{NodeInfo}
 use Rattle.ja_graph.specs.declared.program.Class.{Class}
 use Rattle.ja_graph.specs.declared.program.Function.{Function}
@@ -18,7 +17,7 @@ use Rattle.ja_graph.specs.declared.program.PropertySpec.{PropertySpec}
 use Rattle.ja_graph.specs.declared.program.Program.{Program}
 use Rattle.ja_graph.specs.declared.program.SiteInfo.{SiteInfo}
 use Rattle.ja_graph.specs.Program.{object_spec}
-use Rattle.ja_graph.specs.WellFormed.{IsNodeWellFormed, IsFunctionWellFormed, IsObjectWellFormed, IsContent, IsName, IsBuiltin, IsSiteTold, NamesFunctions, OwnedMaking, StandsBefore, makings_from, node_count, builtin_names}
+use Rattle.ja_graph.specs.WellFormed.{IsNodeWellFormed, IsFunctionWellFormed, IsObjectWellFormed, IsContent, IsName, IsBuiltin, IsSiteTold, NamesFunctions, OwnedMaking, StandsBefore, makings_from, node_count, builtin_names, max_nodes, max_sites, max_names}
 
 -- ---- accessors
 
@@ -36,12 +35,6 @@ default_value p hint.Text = p.text_first
 -- each node of the function is well formed
 abbrev pub AreNodesWellFormed : Program → Function → Type 0
 AreNodesWellFormed p fn = (n : ℕ) (info : NodeInfo) → slice_get fn.nodes n ≡ Some info → IsNodeWellFormed p fn info
-
--- the last node is Escape
-pub record LastIsEscape (nodes : List NodeInfo) : Type 0 where
-  pub last : NodeInfo
-  pub last_is : slice_get nodes (length nodes - 1) ≡ Some last
-  pub escape : last.node ≡ Escape
 
 -- each function is well formed
 abbrev pub AreFunctionsWellFormed : Program → Type 0
@@ -130,12 +123,12 @@ pub record HasFunctions (p : Program) : Type 0 where
   pub text_functions : p.text_functions ≤ length p.functions
   pub value_first : p.value_first.0 < length p.functions
   pub text_first : p.text_first.0 < length p.functions
-  pub few_nodes : node_count p.functions ≤ 131072
+  pub few_nodes : node_count p.functions ≤ max_nodes
   pub each : AreFunctionsWellFormed p
 
 -- the sites of a program
 pub record HasSites (p : Program) : Type 0 where
-  pub few_sites : length p.sites ≤ 393216
+  pub few_sites : length p.sites ≤ max_sites
   pub builtins : AreBuiltins p
   pub unowned : AreUnowned p
   pub name_functions : AllByRecursion (NamesFunctions p) p.sites
@@ -148,6 +141,6 @@ pub record HasOpening (p : Program) : Type 0 where
 
 -- the names of a program
 pub record HasNames (p : Program) : Type 0 where
-  pub few_names : length p.names ≤ 1048576
+  pub few_names : length p.names ≤ max_names
   pub builtin : take (length builtin_names) p.names ≡ builtin_names
   pub distinct : AreDistinct p.names

@@ -7,6 +7,7 @@ use Rattle.ja_base.specs.declared.ids.NameId.{NameId}
 use Rattle.ja_base.specs.declared.ids.Reg.{Reg}
 use Rattle.ja_base.specs.declared.ids.Site.{Site}
 use Rattle.ja_graph.specs.declared.builtins.TheConstants.{BUILTIN_CLASSES, BUILTIN_NAMES, INTRINSICS}
+use Rattle.ja_graph.specs.declared.registers.TheConstants.{FIXED_REGISTERS, SCOPE, THROWN}
 use Rattle.ja_graph.specs.declared.node.Args.TheVariants.{Tail}
 use Rattle.ja_graph.specs.declared.node.Node.{Node}
 use Rattle.ja_graph.specs.declared.node.Node.TheVariants.{Call, Escape, Intrinsic, Device}
@@ -22,11 +23,25 @@ use Rattle.ja_graph.specs.declared.program.Program.{Program}
 use Rattle.ja_graph.specs.Node.{Making, register_set, registers_named, name_in, function_in, makings}
 use Rattle.ja_graph.specs.Program.{object_spec}
 
+-- ---- the greatest numbers: of registers of a function, and of nodes, sites and names of a program
+
+abbrev pub max_registers : ℕ
+max_registers = 262144
+
+abbrev pub max_nodes : ℕ
+max_nodes = 131072
+
+abbrev pub max_sites : ℕ
+max_sites = 393216
+
+abbrev pub max_names : ℕ
+max_names = 1048576
+
 -- ---- functions and their nodes
 
--- the registers before the temporaries: five, one for each parameter, and the rest of the arguments
+-- the registers before the temporaries: one for each parameter, and those of each function
 abbrev pub fixed_registers : Function → ℕ
-fixed_registers fn = 6 + length fn.parameters
+fixed_registers fn = FIXED_REGISTERS + length fn.parameters
 
 -- a register of the function
 abbrev pub IsRegister : Function → Reg → Type 0
@@ -34,7 +49,8 @@ IsRegister fn r = r.0 < fn.registers
 
 -- a register that a node may set: `thrown`, `scope` or a temporary
 abbrev pub IsDestination : Function → Reg → Type 0
-IsDestination fn r = IsRegister fn r × ((r.0 ≡ 0) ⊎ ((r.0 ≡ 2) ⊎ (fixed_registers fn ≤ r.0)))
+IsDestination fn r =
+    IsRegister fn r × ((r.0 ≡ THROWN.0) ⊎ ((r.0 ≡ SCOPE.0) ⊎ (fixed_registers fn ≤ r.0)))
 
 -- a name of the program
 abbrev pub IsName : Program → NameId → Type 0
@@ -67,13 +83,19 @@ pub record IsNodeWellFormed (p : Program) (fn : Function) (info : NodeInfo) : Ty
   pub other : info.other.0 < length fn.nodes
   pub handler : info.handler.0 < length fn.nodes
 
+-- the last node is Escape
+pub record LastIsEscape (nodes : List NodeInfo) : Type 0 where
+  pub last : NodeInfo
+  pub last_is : slice_get nodes (length nodes - 1) ≡ Some last
+  pub escape : last.node ≡ Escape
+
 -- a function ends with Escape, has the registers that each function has, and each of its nodes is well formed
 pub record IsFunctionWellFormed (p : Program) (fn : Function) : Type 0 where
   pub last : NodeInfo
   pub last_is : slice_get fn.nodes (length fn.nodes - 1) ≡ Some last
   pub escape : last.node ≡ Escape
   pub registers : fixed_registers fn ≤ fn.registers
-  pub few_registers : fn.registers ≤ 262144
+  pub few_registers : fn.registers ≤ max_registers
   pub parameters : AllByRecursion (IsName p) fn.parameters
   pub each : (n : ℕ) (info : NodeInfo) → slice_get fn.nodes n ≡ Some info → IsNodeWellFormed p fn info
 
@@ -155,7 +177,7 @@ pub record IsWellFormed (p : Program) : Type 0 where
   pub value_first : p.value_first.0 < length p.functions
   pub text_first : p.text_first.0 < length p.functions
   pub each : (f : ℕ) (fn : Function) → slice_get p.functions f ≡ Some fn → IsFunctionWellFormed p fn
-  pub few_nodes : node_count p.functions ≤ 131072
+  pub few_nodes : node_count p.functions ≤ max_nodes
   pub objects : (i : ℕ) (o : ObjectSpec) → slice_get p.opening i ≡ Some o → IsObjectWellFormed p i o
   pub all_objects : (s : ℕ) → s < length p.opening → IsSome (object_spec p s)
   pub builtins : (s : ℕ) (c : Class) → slice_get BUILTIN_CLASSES s ≡ Some c → IsBuiltin p s c
@@ -164,7 +186,7 @@ pub record IsWellFormed (p : Program) : Type 0 where
   pub sites : length p.opening ≤ length p.sites
   pub numbered : map (λ (m : OwnedMaking). m.making.site.0) (makings_from 0 p.functions) ≡ range_with_len (length p.opening) (length p.sites - length p.opening)
   pub told : AllByRecursion (IsSiteTold p) (makings_from 0 p.functions)
-  pub few_sites : length p.sites ≤ 393216
+  pub few_sites : length p.sites ≤ max_sites
   pub names : take (length builtin_names) p.names ≡ builtin_names
   pub distinct : (i j : ℕ) (t : List ℕ) → slice_get p.names i ≡ Some t → slice_get p.names j ≡ Some t → i ≡ j
-  pub few_names : length p.names ≤ 1048576
+  pub few_names : length p.names ≤ max_names

@@ -17,7 +17,7 @@ const MOST_NODES: usize = 131_072;
 
 /// Whether the last of nodes is Escape.
 fn is_last_escape(nodes: &[NodeInfo]) -> bool
-    ensures { IsTrue result ↔ spec.LastIsEscape nodes.now }
+    ensures { IsTrue result ↔ graph.LastIsEscape nodes.now }
 {
     match nodes.last() {
         Some(info) => matches!(info.node, Node::Escape),

@@ -34,7 +34,7 @@ use Rattle.ja_lower_ranges.proofs.CopyRanges.{assembled_keeps}
 use Rattle.ja_lower.specs.declared.body.Body.{Body}
 use Rattle.ja_lower.specs.Lowering.{names_of, scene_of, program_body, function_body, bodies_of, numbered, function_of, functions_of, site_of, sites_of_nodes, sites_of, lowered}
 use Rattle.ja_lower.proofs.FunctionLemmas.{get-numbered}
-use Rattle.ja_load.specs.Built.{Read, read, fault_of, unbuilt_layer, unbuilt_statement, first_of, unbuilt}
+use Rattle.ja_load.specs.Built.{Read, read, fault_of, unbuilt_layer, unbuilt_statement, first_place_of, unbuilt}
 use Rattle.ja_load.proofs.BuiltNodes.{IsBuilt, AllBuilt, IsBuiltListing, escape_built, return_built, renamed_built, built_restarted, built_with_node, built_with_const, built_value_of}
 use Rattle.ja_load.proofs.BuiltForms.{IsRead, IsName, HasNoFunction, expression_built}
 
@@ -51,11 +51,11 @@ parts_opened x = para-roll-Statement Parts Parts Parts expression_step statement
 no_declaration : (x : Statement-F Expression Statement Case) → ((scene : Scene) (base : ℕ) (l : Listing) → declare_function scene x base l ≡ l) → (scene : Scene) (base : ℕ) (l : Listing) → declare_function_of scene (roll-Statement x) base l ≡ l
 no_declaration x none scene base l = ap (λ y. declare_function scene y base l) (out-roll-Statement x) ∙ none scene base l
 
-first_none : (first later : Option Place) → first_of first later ≡ None → first ≡ None
+first_none : (first later : Option Place) → first_place_of first later ≡ None → first ≡ None
 first_none None later is = refl
 first_none (Some place) later is = absurd (cc)
 
-later_none : (first later : Option Place) → first_of first later ≡ None → later ≡ None
+later_none : (first later : Option Place) → first_place_of first later ≡ None → later ≡ None
 later_none None later is = is
 later_none (Some place) later is = absurd (cc)
 

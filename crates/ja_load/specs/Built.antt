@@ -166,10 +166,10 @@ abbrev pub unbuilt_statement : List (List ℕ) → Statement → Option Place
 unbuilt_statement hosts s = unbuilt_layer hosts (out-Statement s)
 
 -- the first of two places that is there
-abbrev pub first_of : Option Place → Option Place → Option Place
-first_of (Some place) later = Some place
-first_of None later = later
+abbrev pub first_place_of : Option Place → Option Place → Option Place
+first_place_of (Some place) later = Some place
+first_place_of None later = later
 
 unfoldable pub unbuilt : List (List ℕ) → List Statement → Option Place
 unbuilt hosts [] = None
-unbuilt hosts (s ∷ ss) = first_of (unbuilt_statement hosts s) (unbuilt hosts ss)
+unbuilt hosts (s ∷ ss) = first_place_of (unbuilt_statement hosts s) (unbuilt hosts ss)

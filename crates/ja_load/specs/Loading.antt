@@ -9,12 +9,13 @@ use Rattle.ja_grammar.specs.declared.fault.ParseFault.{ParseFault}
 use Rattle.ja_graph.specs.WellFormed.{builtin_names}
 use Rattle.ja_graph.specs.declared.builtins.TheConstants.{BUILTIN_CLASSES}
 use Rattle.ja_graph.specs.declared.program.Program.{Program}
+use Rattle.ja_graph.specs.WellFormed.{max_names}
 use Rattle.ja_lex.specs.Tokens.{tokens}
 use Rattle.ja_load.specs.Built.{unbuilt}
 use Rattle.ja_load.specs.Hosts.{device_sites, opening_with}
 use Rattle.ja_load.specs.declared.fault.LoadFault.{LoadFault}
 use Rattle.ja_load.specs.declared.fault.LoadFault.TheVariants as fault
-use Rattle.ja_lower.specs.Limits.{function_count, size_of, IsWithin}
+use Rattle.ja_lower.specs.Limits.{max_functions, max_size, function_count, size_of, IsWithin}
 use Rattle.ja_lower.specs.declared.lowered.Lowered.{Lowered}
 use Rattle.ja_lower.specs.Lowering.{device_names, first_names, lowered_with_prelude, names_of}
 use Rattle.ja_prelude.specs.Prelude.{prelude_paths, prelude_statements}
@@ -72,17 +73,26 @@ pub record IsProgramOf (bytes : List ℕ) (signatures : List Signature) (p : Pro
 
 -- the text has too many functions
 abbrev pub HasManyFunctions : List ℕ → Type 0
-HasManyFunctions bytes = (statements : List Statement) × IsTextOf bytes statements × (4096 < function_count statements)
+HasManyFunctions bytes =
+    (statements : List Statement)
+    × IsTextOf bytes statements
+    × (max_functions < function_count statements)
 
 -- it hasn't, but its graph has too many nodes
 abbrev pub HasManyNodes : List ℕ → List Signature → Type 0
 HasManyNodes bytes signatures =
-    (statements : List Statement) × IsTextOf bytes statements × (function_count statements ≤ 4096) × (65536 < size_of (names_before signatures) statements)
+    (statements : List Statement)
+    × IsTextOf bytes statements
+    × (function_count statements ≤ max_functions)
+    × (max_size < size_of (names_before signatures) statements)
 
 -- it is within both limits, but its program has too many names
 abbrev pub HasManyNames : List ℕ → List Signature → Type 0
 HasManyNames bytes signatures =
-    (statements : List Statement) × IsTextOf bytes statements × IsWithin (names_before signatures) statements × (1048576 < length (names_of false (names_before signatures) statements))
+    (statements : List Statement)
+    × IsTextOf bytes statements
+    × IsWithin (names_before signatures) statements
+    × (max_names < length (names_of false (names_before signatures) statements))
 
 -- it is within the limits, and a form is not built: the first one has this place
 abbrev pub IsUnbuiltAt : List ℕ → List Signature → Place → Type 0

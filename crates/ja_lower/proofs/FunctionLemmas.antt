@@ -14,7 +14,7 @@ use Rattle.ja_graph.specs.declared.node.NodeInfo.{NodeInfo}
 use Rattle.ja_graph.specs.declared.program.Function.{Function}
 use Rattle.ja_graph.specs.declared.program.Program.{Program}
 use Rattle.ja_graph.specs.Node.{register_set, registers_named, registers_in, name_in, function_in}
-use Rattle.ja_graph.specs.Parts.{LastIsEscape}
+use Rattle.ja_graph.specs.WellFormed.{LastIsEscape}
 use Rattle.ja_graph.specs.Renaming.{renamed}
 use Rattle.ja_graph.specs.WellFormed.{IsRegister, IsDestination, IsName, IsFunction, IsAllowed, IsNodeWellFormed, IsFunctionWellFormed}
 use Rattle.ja_graph.proofs.RegisterLemmas.{first_stay, each_among}

@@ -1,12 +1,20 @@
 -- What is too large to be lowered.
 use Rattle.std.specs.Prelude.{◌<◌, ◌≤◌, ◌+◌, ℕ, false, List, length}
 use Rattle.std.specs.List.{sum_by}
+use Rattle.ja_graph.specs.WellFormed.{max_names}
 use Rattle.ja_lower_names.specs.TextOrder.{functions_in}
 use Rattle.ja_lower.specs.declared.body.Body.{Body}
 use Rattle.ja_lower.specs.declared.fault.LowerFault.{LowerFault}
 use Rattle.ja_lower.specs.declared.fault.LowerFault.TheVariants.{Functions, Nodes, Names, Memory}
 use Rattle.ja_lower.specs.Lowering.{names_of, scene_of, bodies_of, prelude_names, prelude_bodies}
 use Rattle.ja_syntax.specs.declared.tree.Statement.{Statement}
+
+-- the greatest number of functions of a text, and the greatest size of them all
+abbrev pub max_functions : ℕ
+max_functions = 4096
+
+abbrev pub max_size : ℕ
+max_size = 65536
 
 -- how many functions a text has, the program among them
 abbrev pub function_count : List Statement → ℕ
@@ -32,9 +40,10 @@ prelude_size_of names statements = size_of_bodies (prelude_bodies (prelude_names
 
 -- what a fault says of so many functions of this size, with so many names
 abbrev pub ExplainsSize : ℕ → ℕ → ℕ → LowerFault → Type 0
-ExplainsSize functions size names Functions = 4096 < functions
-ExplainsSize functions size names Nodes = (functions ≤ 4096) × (65536 < size)
-ExplainsSize functions size names Names = (functions ≤ 4096) × (size ≤ 65536) × (1048576 < names)
+ExplainsSize functions size names Functions = max_functions < functions
+ExplainsSize functions size names Nodes = (functions ≤ max_functions) × (max_size < size)
+ExplainsSize functions size names Names =
+    (functions ≤ max_functions) × (size ≤ max_size) × (max_names < names)
 ExplainsSize functions size names Memory = Unit {0}
 
 abbrev pub Explains : List (List ℕ) → List Statement → LowerFault → Type 0
@@ -47,8 +56,8 @@ ExplainsPrelude names statements fault =
 
 -- what holds of so many functions of this size that are lowered
 pub record IsWithinSize (count size : ℕ) : Type 0 where
-  pub functions : count ≤ 4096
-  pub nodes : size ≤ 65536
+  pub functions : count ≤ max_functions
+  pub nodes : size ≤ max_size
 
 abbrev pub IsWithin : List (List ℕ) → List Statement → Type 0
 IsWithin names statements = IsWithinSize (function_count statements) (size_of names statements)

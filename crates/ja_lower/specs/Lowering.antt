@@ -6,6 +6,7 @@ use Rattle.std.specs.Option.{option_map_or}
 use Rattle.ja_base.specs.declared.ids.FnId.{FnId}
 use Rattle.ja_base.specs.declared.ids.Reg.{Reg}
 use Rattle.ja_prim.specs.declared.signature.Signature.{Signature}
+use Rattle.ja_graph.specs.declared.registers.TheConstants.{FIXED_REGISTERS}
 use Rattle.ja_graph.specs.declared.node.Node.{Node}
 use Rattle.ja_graph.specs.declared.node.Node.TheVariants.{Device, Return, Escape}
 use Rattle.ja_graph.specs.declared.node.NodeInfo.{NodeInfo}
@@ -67,7 +68,7 @@ bodies_of scene statements = program_body scene statements ∷ map (function_bod
 
 unfoldable pub registers_of : ℕ → List NodeInfo → ℕ
 registers_of parameters nodes =
-    registers_with (6 + parameters) (flat_map (λ (info : NodeInfo). registers_in info.node) nodes)
+    registers_with (FIXED_REGISTERS + parameters) (flat_map (λ (info : NodeInfo). registers_in info.node) nodes)
 
 -- ---- sites: they are numbered by function and node
 
@@ -179,7 +180,7 @@ device_node node next = record {
 
 -- the first temporary of a function without parameters
 abbrev pub device_register : Reg
-device_register = record { 0 = 6 }
+device_register = record { 0 = FIXED_REGISTERS }
 
 -- the device of a number is asked, and its answer returned
 abbrev pub device_body : ℕ → Signature → Body

@@ -1,5 +1,6 @@
 -- What is too large for the room that is left.
 use Rattle.std.specs.Prelude.{◌<◌, ℕ}
+use Rattle.ja_graph.specs.WellFormed.{max_names}
 use Rattle.ja_lower.specs.declared.fault.LowerFault.{LowerFault}
 use Rattle.ja_lower.specs.declared.fault.LowerFault.TheVariants.{Functions, Nodes, Names, Memory}
 
@@ -14,5 +15,5 @@ Exceeds room size Memory = Unit {0}
 abbrev pub HasTooMany : ℕ → LowerFault → Type 0
 HasTooMany names Functions = ⊥
 HasTooMany names Nodes = ⊥
-HasTooMany names Names = 1048576 < names
+HasTooMany names Names = max_names < names
 HasTooMany names Memory = Unit {0}

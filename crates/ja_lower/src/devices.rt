@@ -2,6 +2,7 @@
 
 ghost use Rattle.std.specs.Prelude.{◌≡◌, ◌≤◌, ℕ, length, IfOk};
 ghost use Rattle.std.specs.List.{AllByRecursion};
+ghost use Rattle.ja_graph.specs.WellFormed.{max_registers};
 ghost use Rattle.ja_lower.specs.Lowering as spec;
 
 use crate::Body;
@@ -65,7 +66,7 @@ fn device_bodies(alloc: Global, signatures: &[Signature]) -> Result<Vec<Body>, M
 pub fn device_functions(alloc: Global, signatures: &[Signature]) -> Result<Seq<Function>, Memory>
     requires few { length signatures.now ≤ 64 }
     ensures functions { IfOk result (λ functions. (first : ℕ) → functions ≡ spec.functions_of first (spec.device_bodies signatures.now)) }
-    ensures registers { IfOk result (λ functions. AllByRecursion (λ fn. fn.registers ≤ 262144) functions) }
+    ensures registers { IfOk result (λ functions. AllByRecursion (λ fn. fn.registers ≤ max_registers) functions) }
 {
     let bodies = device_bodies(alloc, signatures)?;
     let whole = whole_of(alloc, 0, 0, bodies)?;

@@ -6,7 +6,7 @@ ghost use Rattle.std.specs.List.{AllByRecursion, range_with_len};
 ghost use Rattle.ja_graph.specs.declared.program.Function.{Function};
 ghost use Rattle.ja_graph.specs.declared.program.Program.{Program};
 ghost use Rattle.ja_graph.specs.declared.program.SiteInfo.{SiteInfo};
-ghost use Rattle.ja_graph.specs.WellFormed.{IsFunctionWellFormed, OwnedMaking, makings_from, IsSiteTold, NamesFunctions, node_count};
+ghost use Rattle.ja_graph.specs.WellFormed.{IsFunctionWellFormed, OwnedMaking, makings_from, IsSiteTold, NamesFunctions, max_registers, node_count};
 ghost use Rattle.ja_lower.specs.Limits.{function_count, prelude_count, size_of, prelude_size_of};
 ghost use Rattle.ja_lower.specs.Lowering.{AreAllowed, names_of, scene_with, prelude_names, prelude_bodies, first_names, followed_by, behind_devices, lowered, lowered_prelude, lowered_with_prelude};
 ghost use Rattle.ja_lower.specs.declared.lowered.Lowered.{Lowered};
@@ -36,7 +36,7 @@ pub fn parts_follow_one_another()
 /// there is a path for each built-in function and each of their nodes is allowed.
 #[tactic(auto, using(crate::proofs::WellFormedLemmas::functions_are_well_formed))]
 pub fn functions_are_well_formed()
-    ensures { (names paths : List (List ℕ)) (prelude : List Statement) (signatures : List Signature) (first : ℕ) (statements : List Statement) (p : Program) (f : ℕ) (fn : Function) → length paths ≡ prelude_count prelude → AreAllowed (prelude_bodies (prelude_names names prelude) prelude) → p.functions ≡ (lowered_with_prelude names paths prelude signatures first statements).functions → p.names ≡ (lowered_with_prelude names paths prelude signatures first statements).names → p.signatures ≡ signatures → slice_get p.functions f ≡ Some fn → fn.registers ≤ 262144 → IsFunctionWellFormed p fn }
+    ensures { (names paths : List (List ℕ)) (prelude : List Statement) (signatures : List Signature) (first : ℕ) (statements : List Statement) (p : Program) (f : ℕ) (fn : Function) → length paths ≡ prelude_count prelude → AreAllowed (prelude_bodies (prelude_names names prelude) prelude) → p.functions ≡ (lowered_with_prelude names paths prelude signatures first statements).functions → p.names ≡ (lowered_with_prelude names paths prelude signatures first statements).names → p.signatures ≡ signatures → slice_get p.functions f ≡ Some fn → fn.registers ≤ max_registers → IsFunctionWellFormed p fn }
 {}
 
 /// The sites of the nodes are numbered by function and node, without a gap.

@@ -3,6 +3,7 @@
 
 ghost use Rattle.std.specs.Prelude.{◌≡◌, ◌<◌, ◌≤◌, ◌+◌, ◌^◌, length, map, filter, IfOk, IfErr, OnOk};
 ghost use Rattle.std.specs.List.{AllByRecursion, fold};
+ghost use Rattle.ja_graph.specs.WellFormed.{max_names, max_registers};
 ghost use Rattle.ja_lower_expressions.specs.Specials.{is_name};
 ghost use Rattle.ja_lower_names.specs.Names.{with_name};
 ghost use Rattle.ja_lower_names.specs.TextParts.{named_of};
@@ -86,8 +87,8 @@ fn lowered_bodies(
 ) -> Result<Lowered, LowerFault>
     requires few { first_function + length bodies.items ≤ 2 ^ 32 }
     ensures lowered { IfOk result (λ l. l ≡ spec.lowered_bodies names.now first_site first_function bodies.items) }
-    ensures registers { IfOk result (λ l. AllByRecursion (λ fn. fn.registers ≤ 262144) l.functions) }
-    ensures names { IfOk result (λ l. length l.names ≤ 1048576) }
+    ensures registers { IfOk result (λ l. AllByRecursion (λ fn. fn.registers ≤ max_registers) l.functions) }
+    ensures names { IfOk result (λ l. length l.names ≤ max_names) }
     ensures fault { IfErr result (HasTooMany (length names.now)) }
 {
     if names.len() > MAX_NAMES {
@@ -120,8 +121,8 @@ pub fn lower(
     requires names { length names.now ≤ 65536 }
     ensures lowered { IfOk result (λ l. l ≡ spec.lowered names.now first_site tree.now.statements) }
     ensures within { IfOk result (λ l. IsWithin names.now tree.now.statements) }
-    ensures registers { IfOk result (λ l. AllByRecursion (λ fn. fn.registers ≤ 262144) l.functions) }
-    ensures names { IfOk result (λ l. length l.names ≤ 1048576) }
+    ensures registers { IfOk result (λ l. AllByRecursion (λ fn. fn.registers ≤ max_registers) l.functions) }
+    ensures names { IfOk result (λ l. length l.names ≤ max_names) }
     ensures fault { IfErr result (Explains names.now tree.now.statements) }
 {
     let statements = tree.statements.as_slice();
@@ -170,8 +171,8 @@ pub fn lower_prelude(
     requires functions { first_function ≤ 4160 }
     ensures lowered { IfOk result (λ l. l ≡ spec.lowered_prelude names.now paths.now first_site first_function statements.now) }
     ensures within { IfOk result (λ l. IsPreludeWithin names.now statements.now) }
-    ensures registers { IfOk result (λ l. AllByRecursion (λ fn. fn.registers ≤ 262144) l.functions) }
-    ensures names { IfOk result (λ l. length l.names ≤ 1048576) }
+    ensures registers { IfOk result (λ l. AllByRecursion (λ fn. fn.registers ≤ max_registers) l.functions) }
+    ensures names { IfOk result (λ l. length l.names ≤ max_names) }
     ensures fault { IfErr result (ExplainsPrelude names.now statements.now) }
 {
     let functions = functions_in(alloc, statements)?;

@@ -11,7 +11,7 @@ use Rattle.ja_lower_draft.specs.declared.part.Part.{Part}
 use Rattle.ja_lower_draft.specs.declared.moves.Moves.{Moves}
 use Rattle.ja_lower_draft.specs.Copies.{moved_node}
 use Rattle.ja_lower_draft.specs.Kept.{IsKept}
-use Rattle.ja_lower_draft.specs.Parts.{moved_by, line_of, lines_of, counted}
+use Rattle.ja_lower_draft.specs.Parts.{moved_by, line_of, lines_of, nodes_counted}
 
 -- of no lines
 pub kept_nothing : IsKept [] 0 None []
@@ -33,7 +33,7 @@ kept_both {xs} {ys} {n} {m} {b} {c} {ps} {qs} before behind = record {
 }
 
 -- of one line, with its part
-pub kept_line : (p : Part) (n : ℕ) (b : Option Bool) → n ≡ counted (line_of p ∷ []) → ((more : List Item) → begins_with_node (line_of p ∷ more) ≡ unwrap_or b (begins_with_node more)) → IsKept (line_of p ∷ []) n b (p ∷ [])
+pub kept_line : (p : Part) (n : ℕ) (b : Option Bool) → n ≡ nodes_counted (line_of p ∷ []) → ((more : List Item) → begins_with_node (line_of p ∷ more) ≡ unwrap_or b (begins_with_node more)) → IsKept (line_of p ∷ []) n b (p ∷ [])
 kept_line p n b count first = record { counted = count; begins = first; parts = λ few. refl }
 
 -- where there are more nodes than in any graph, no part has to be

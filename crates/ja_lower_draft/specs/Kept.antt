@@ -8,6 +8,6 @@ use Rattle.ja_lower_draft.specs.Parts as parts
 -- How many nodes lines have, whether the first one that is no spot is a node, if there is one, and, unless there are more nodes than
 -- in any graph, the part of each line.
 pub record IsKept (items : List Item) (nodes : ℕ) (first : Option Bool) (kept : List Part) : Type 0 where
-  pub counted : nodes ≡ parts.counted items
+  pub counted : nodes ≡ parts.nodes_counted items
   pub begins : (more : List Item) → begins_with_node (items ++ more) ≡ unwrap_or first (begins_with_node more)
   pub parts : nodes ≤ 65536 → parts.lines_of kept ≡ items

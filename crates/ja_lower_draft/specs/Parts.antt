@@ -30,5 +30,5 @@ abbrev pub lines_of : List Part → List Item
 lines_of parts = map line_of parts
 
 -- how many nodes lines have, as a number of 32 bits: the last one stands for all above it
-abbrev pub counted : List Item → ℕ
-counted items = min (node_count items) 4294967295
+abbrev pub nodes_counted : List Item → ℕ
+nodes_counted items = min (node_count items) 4294967295

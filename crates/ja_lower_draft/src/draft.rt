@@ -4,7 +4,7 @@ ghost use Rattle.std.specs.Prelude.{◌≡◌, ◌≤◌, ◌<◌, ◌+◌, ◌�
 ghost use Rattle.ja_lower_listing.specs.declared.item.Item.TheVariants as item;
 ghost use Rattle.ja_lower_listing.specs.Listing.{node_count, begins_with_node, block_of};
 ghost use Rattle.ja_lower_draft.specs.Lines as lines;
-ghost use Rattle.ja_lower_draft.specs.Parts.{line_of, lines_of, moved_by, counted};
+ghost use Rattle.ja_lower_draft.specs.Parts.{line_of, lines_of, moved_by, nodes_counted};
 
 use crate::listed::{Growth, Listed};
 use crate::moves::Moves;
@@ -95,14 +95,14 @@ impl Draft {
 
     /// How many nodes there are, or 4,294,967,295 where there are more.
     pub fn nodes(&self) -> u32
-        ensures { result ≡ counted self.now.items }
+        ensures { result ≡ nodes_counted self.now.items }
     {
         self.nodes
     }
 
     /// Adds a part, which has so many nodes.
     fn part(&mut self, part: Part, nodes: u32) -> Result<(), Memory>
-        requires { nodes ≡ counted (line_of part ∷ []) }
+        requires { nodes ≡ nodes_counted (line_of part ∷ []) }
         ensures { lines.Adds (lines.with_item self.old (line_of part)) result self.new }
     {
         let nodes = self.nodes.saturating_add(nodes);
@@ -118,7 +118,7 @@ impl Draft {
     /// Adds a copy of a block, which has so many nodes. Behind 16,777,216 lines that are kept memory counts
     /// as refused.
     pub(crate) fn copy(&mut self, copy: Part, nodes: u32) -> Result<(), Memory>
-        requires { nodes ≡ counted (line_of copy ∷ []) }
+        requires { nodes ≡ nodes_counted (line_of copy ∷ []) }
         ensures { lines.Adds (lines.with_item self.old (line_of copy)) result self.new }
     {
         if self.parts.len() >= MOST_LINES {
@@ -277,7 +277,7 @@ impl Draft {
     pub(crate) fn into_parts(self) -> (Listed, Vec<Part>, u32)
         ensures lines { result.0.lines ≡ self.items }
         ensures parts { result.2 ≤ 65536 → lines_of result.1.items ≡ self.items }
-        ensures nodes { result.2 ≡ counted self.items }
+        ensures nodes { result.2 ≡ nodes_counted self.items }
     {
         let Draft {
             listed,

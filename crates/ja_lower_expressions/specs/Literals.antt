@@ -13,13 +13,14 @@ use Rattle.ja_syntax.specs.declared.tree.PropertyName.{PropertyName}
 use Rattle.ja_syntax.specs.declared.tree.PropertyName.TheVariants as property
 use Rattle.ja_graph.specs.declared.node.Made.{Made}
 use Rattle.ja_graph.specs.declared.node.Made.TheVariants as made
+use Rattle.ja_graph.specs.declared.registers.TheConstants.{SCOPE}
 use Rattle.ja_graph.specs.declared.node.Node.TheVariants.{NewObject, WriteProp, MakeFunction, PushScope, Bind}
-use Rattle.ja_lower_draft.specs.Lines.{Listing, Valued, Scene, register, site, name_id, with_node, with_result, with_const, with_copy, with_move}
+use Rattle.ja_lower_draft.specs.Lines.{Listing, Valued, Scene, site, name_id, with_node, with_result, with_const, with_copy, with_move}
 use Rattle.ja_lower_expressions.specs.References.{Form, value_of}
 
 -- the registers of the scope chain and of the object in force
 abbrev pub scope : Reg
-scope = register 2
+scope = SCOPE
 
 -- the property of an object by a key that is known
 unfoldable pub write_known : Scene → Place → Reg → List ℕ → Reg → Listing → Listing

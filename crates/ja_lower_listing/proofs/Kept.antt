@@ -5,7 +5,7 @@ use Rattle.ja_graph.specs.declared.node.Node.{Node}
 use Rattle.ja_graph.specs.declared.node.Node.TheVariants.{Escape}
 use Rattle.ja_graph.specs.declared.node.NodeInfo.{NodeInfo}
 use Rattle.ja_graph.specs.Node.{may_throw}
-use Rattle.ja_graph.specs.Parts.{LastIsEscape}
+use Rattle.ja_graph.specs.WellFormed.{LastIsEscape}
 use Rattle.ja_lower_listing.specs.declared.item.BlockNode.{BlockNode}
 use Rattle.ja_lower_listing.specs.declared.item.Spot.{Spot}
 use Rattle.ja_lower_listing.specs.declared.item.Target.{Target}

@@ -1,6 +1,6 @@
 //! What lines come to. The functions do nothing; their contracts are the laws.
 ghost use Rattle.std.specs.Prelude.{◌≡◌, ◌++◌, ◌+◌, ℕ, List, ◌∷◌, length, map, Some, slice_get};
-ghost use Rattle.ja_graph.specs.Parts.{LastIsEscape};
+ghost use Rattle.ja_graph.specs.WellFormed.{LastIsEscape};
 ghost use Rattle.ja_lower_listing.specs.declared.item.Block.{Block};
 ghost use Rattle.ja_lower_listing.specs.declared.item.BlockNode.{BlockNode};
 ghost use Rattle.ja_lower_listing.specs.declared.item.Item.{Item};

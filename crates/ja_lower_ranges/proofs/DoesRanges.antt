@@ -21,7 +21,7 @@ use Rattle.ja_syntax.specs.declared.tree.Expression.TheOpen.{Statement-F, Case-F
 use Rattle.ja_syntax.specs.declared.tree.Expression.TheFolds.{map-Statement, ind-Statement}
 use Rattle.ja_lower_expressions.specs.Expressions.{form}
 use Rattle.ja_lower_draft.specs.Lines.{Listing}
-use Rattle.ja_lower_statements.specs.Statements.{Around, Does, does, clause_of, declaration_of, initialiser_of, first_of, target_of, catch_of, label_text, list_all_statements, list_if_alone, list_then, list_else, list_do, list_while, list_for, list_for_in, list_return, list_labelled, list_switch, list_try}
+use Rattle.ja_lower_statements.specs.Statements.{Around, Does, does, clause_of, declaration_of, initialiser_of, for_first_of, target_of, catch_of, label_text, list_all_statements, list_if_alone, list_then, list_else, list_do, list_while, list_for, list_for_in, list_return, list_labelled, list_switch, list_try}
 use Rattle.ja_lower_statements.specs.Ways.{break_target, continue_target, leaving}
 use Rattle.ja_lower_statements.proofs.StatementLemmas.{does_block, does_variables, does_empty, does_expression, does_if_alone, does_if_else, does_do, does_while, does_for, does_for_in, does_continue, does_break, does_return, does_labelled, does_switch, does_throw, does_try, does_function}
 use Rattle.ja_lower_names.specs.TextOrder.{Parts, if_any, in_name, in_initialiser, in_declaration, in_first, in_target, in_catch, in_expression, in_statement, in_case}
@@ -78,7 +78,7 @@ module _ (whole : Parts) where
       let others = flat_map (in_declaration in_expression) ds in
       (one_declaration d (first_included (in_declaration in_expression d) others h), each_declaration ds (second_included (in_declaration in_expression d) others h))
 
-  any_first : (f : ForFirst Expression) → Includes whole (in_first in_expression f) → IsSoundFirst whole (first_of f)
+  any_first : (f : ForFirst Expression) → Includes whole (in_first in_expression f) → IsSoundFirst whole (for_first_of f)
   any_first first.Nothing h = tt
   any_first (first.Expression value) h = form_there value h
   any_first (first.Variables ds) h = each_declaration ds h
@@ -167,8 +167,8 @@ for_in_range f c u x place h =
     let all : Includes whole (((first ++ condition) ++ update) ++ in_statement x) = as_parts (of_for [] f c u x place) in
     let three = first_included ((first ++ condition) ++ update) (in_statement x) all in
     let two = first_included (first ++ condition) update three in
-    alike whole (s.For f c u x place) (list_for (first_of f) (option_map form c) (option_map form u) (does x) place) (does_for f c u x place)
-    (sound_for whole (first_of f) (option_map form c) (option_map form u) (does x) place (any_first whole f (first_included first condition two)) (any_form whole c (second_included first condition two)) (any_form whole u (second_included (first ++ condition) update three)) (does_there whole x (second_included ((first ++ condition) ++ update) (in_statement x) all) h))
+    alike whole (s.For f c u x place) (list_for (for_first_of f) (option_map form c) (option_map form u) (does x) place) (does_for f c u x place)
+    (sound_for whole (for_first_of f) (option_map form c) (option_map form u) (does x) place (any_first whole f (first_included first condition two)) (any_form whole c (second_included first condition two)) (any_form whole u (second_included (first ++ condition) update three)) (does_there whole x (second_included ((first ++ condition) ++ update) (in_statement x) all) h))
 
 for_in_in_range : (goal : ForTarget Expression) (object : Expression) (x : Statement) (place : Place) → InRange x → InRange (s.ForIn goal object x place)
 for_in_in_range goal object x place h =

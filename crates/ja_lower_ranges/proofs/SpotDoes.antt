@@ -21,7 +21,7 @@ use Rattle.ja_syntax.specs.declared.tree.Expression.TheOpen.{Statement-F, Case-F
 use Rattle.ja_syntax.specs.declared.tree.Expression.TheFolds.{map-Statement, ind-Statement}
 use Rattle.ja_lower_expressions.specs.Expressions.{form}
 use Rattle.ja_lower_draft.specs.Lines.{Listing, restarted}
-use Rattle.ja_lower_statements.specs.Statements.{Around, Does, does, clause_of, declaration_of, initialiser_of, first_of, target_of, catch_of, label_text, list_all_statements, list_if_alone, list_then, list_else, list_do, list_while, list_for, list_for_in, list_return, list_labelled, list_switch, list_try}
+use Rattle.ja_lower_statements.specs.Statements.{Around, Does, does, clause_of, declaration_of, initialiser_of, for_first_of, target_of, catch_of, label_text, list_all_statements, list_if_alone, list_then, list_else, list_do, list_while, list_for, list_for_in, list_return, list_labelled, list_switch, list_try}
 use Rattle.ja_lower_statements.specs.Ways.{break_target, continue_target, leaving}
 use Rattle.ja_lower_statements.proofs.StatementLemmas.{does_block, does_variables, does_empty, does_expression, does_if_alone, does_if_else, does_do, does_while, does_for, does_for_in, does_continue, does_break, does_return, does_labelled, does_switch, does_throw, does_try, does_function}
 use Rattle.ja_lower_ranges.proofs.SpotForms.{IsSpottedForm, kept_value_of, form_keeps}
@@ -56,7 +56,7 @@ each_declaration : (ds : List (Declaration Expression)) → AllByRecursion IsSpo
 each_declaration [] = tt
 each_declaration (d ∷ ds) = (any_initialiser d.initialiser, each_declaration ds)
 
-any_first : (f : ForFirst Expression) → IsSpottedFirst (first_of f)
+any_first : (f : ForFirst Expression) → IsSpottedFirst (for_first_of f)
 any_first first.Nothing = tt
 any_first (first.Expression value) = form_keeps value
 any_first (first.Variables ds) = each_declaration ds
@@ -100,8 +100,8 @@ spotted_of_while c x place h = alike (s.While c x place) (list_while (form c) (d
 
 spotted_of_for : (f : ForFirst Expression) (c u : Option Expression) (x : Statement) (place : Place) → Keeps x → Keeps (s.For f c u x place)
 spotted_of_for f c u x place h =
-    alike (s.For f c u x place) (list_for (first_of f) (option_map form c) (option_map form u) (does x) place) (does_for f c u x place)
-    (spotted_for (first_of f) (option_map form c) (option_map form u) (does x) place (any_first f) (any_form c) (any_form u) h)
+    alike (s.For f c u x place) (list_for (for_first_of f) (option_map form c) (option_map form u) (does x) place) (does_for f c u x place)
+    (spotted_for (for_first_of f) (option_map form c) (option_map form u) (does x) place (any_first f) (any_form c) (any_form u) h)
 
 spotted_of_for_in : (goal : ForTarget Expression) (object : Expression) (x : Statement) (place : Place) → Keeps x → Keeps (s.ForIn goal object x place)
 spotted_of_for_in goal object x place h =

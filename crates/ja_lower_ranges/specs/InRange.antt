@@ -6,6 +6,7 @@ use Rattle.ja_base.specs.declared.ids.FnId.{FnId}
 use Rattle.ja_base.specs.declared.ids.NameId.{NameId}
 use Rattle.ja_base.specs.declared.ids.Reg.{Reg}
 use Rattle.ja_graph.specs.Node.{Making, register_set, name_in, function_in, makings}
+use Rattle.ja_graph.specs.declared.registers.TheConstants.{FIXED_REGISTERS, SCOPE, THROWN}
 use Rattle.ja_graph.specs.declared.node.Args.TheVariants.{Tail}
 use Rattle.ja_graph.specs.declared.node.Node.{Node}
 use Rattle.ja_graph.specs.declared.node.Node.TheVariants.{MakeFunction, Enter, Call, Intrinsic, Device}
@@ -25,11 +26,11 @@ pub record Limits : Type 0 where
 
 -- a temporary: it stands behind the registers that each function has, its parameters and the rest of its arguments
 abbrev pub IsTemporary : Limits → ℕ → Type 0
-IsTemporary limits r = 6 + limits.parameters ≤ r
+IsTemporary limits r = FIXED_REGISTERS + limits.parameters ≤ r
 
 -- a register that a node may set: `thrown`, `scope` or a temporary
 abbrev pub IsDestination : Limits → Reg → Type 0
-IsDestination limits r = (r.0 ≡ 0) ⊎ ((r.0 ≡ 2) ⊎ IsTemporary limits r.0)
+IsDestination limits r = (r.0 ≡ THROWN.0) ⊎ ((r.0 ≡ SCOPE.0) ⊎ IsTemporary limits r.0)
 
 -- a node that stands in functions of texts
 abbrev pub IsOfTexts : Node → Type 0

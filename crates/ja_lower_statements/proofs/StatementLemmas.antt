@@ -22,7 +22,7 @@ use Rattle.ja_syntax.specs.declared.tree.Expression.TheFolds.{para-Expression, p
 use Rattle.ja_lower_expressions.specs.Expressions.{form}
 use Rattle.ja_lower_draft.specs.Lines.{Listing, restarted}
 use Rattle.ja_lower_expressions.specs.References.{Form, value_of}
-use Rattle.ja_lower_statements.specs.Statements.{Around, Does, Clause, Expressions, statement_level, clause_level, does, clause_of, declaration_of, initialiser_of, first_of, target_of, catch_of, label_text, list_all_statements, declare_all, list_if, list_if_alone, list_then, list_else, list_do, list_while, list_for, list_for_in, list_return, list_labelled, list_switch, list_throw, list_try}
+use Rattle.ja_lower_statements.specs.Statements.{Around, Does, Clause, Expressions, statement_level, clause_level, does, clause_of, declaration_of, initialiser_of, for_first_of, target_of, catch_of, label_text, list_all_statements, declare_all, list_if, list_if_alone, list_then, list_else, list_do, list_while, list_for, list_for_in, list_return, list_labelled, list_switch, list_throw, list_try}
 use Rattle.ja_lower_statements.specs.Ways.{break_target, continue_target, jump_to, leaving}
 
 abbrev clause : Case → Clause
@@ -105,7 +105,7 @@ does_do body condition place = listed (s.Do body condition place) (Statement-F.D
 pub does_while : (condition : Expression) (body : Statement) (place : Place) (a : Around) (b : ℕ) (l : Listing) → does (s.While condition body place) a b l ≡ list_while (form condition) (does body) place a b l
 does_while condition body place = listed (s.While condition body place) (Statement-F.While condition body place) (rolls-While condition body place) (list_while (form condition) (does body) place) (refl)
 
-for_layer : (head : ForFirst Expression) (condition update : Option Expression) (body : Statement) (place : Place) → statement_level (layer (Statement-F.For head condition update body place)) ≡ list_for (first_of head) (option_map form condition) (option_map form update) (does body) place
+for_layer : (head : ForFirst Expression) (condition update : Option Expression) (body : Statement) (place : Place) → statement_level (layer (Statement-F.For head condition update body place)) ≡ list_for (for_first_of head) (option_map form condition) (option_map form update) (does body) place
 for_layer first.Nothing None None body place = refl
 for_layer first.Nothing None (Some update) body place = refl
 for_layer first.Nothing (Some condition) None body place = refl
@@ -119,8 +119,8 @@ for_layer (first.Variables declarations) None (Some update) body place = ap (λ 
 for_layer (first.Variables declarations) (Some condition) None body place = ap (λ (ds : List (Declaration Form)). list_for (first.Variables ds) (Some (form condition)) None (does body) place) (declarations_are _ _ (λ n. refl) (λ n i. refl) declarations)
 for_layer (first.Variables declarations) (Some condition) (Some update) body place = ap (λ (ds : List (Declaration Form)). list_for (first.Variables ds) (Some (form condition)) (Some (form update)) (does body) place) (declarations_are _ _ (λ n. refl) (λ n i. refl) declarations)
 
-pub does_for : (head : ForFirst Expression) (condition update : Option Expression) (body : Statement) (place : Place) (a : Around) (b : ℕ) (l : Listing) → does (s.For head condition update body place) a b l ≡ list_for (first_of head) (option_map form condition) (option_map form update) (does body) place a b l
-does_for head condition update body place = listed (s.For head condition update body place) (Statement-F.For head condition update body place) (rolls-For head condition update body place) (list_for (first_of head) (option_map form condition) (option_map form update) (does body) place) (for_layer head condition update body place)
+pub does_for : (head : ForFirst Expression) (condition update : Option Expression) (body : Statement) (place : Place) (a : Around) (b : ℕ) (l : Listing) → does (s.For head condition update body place) a b l ≡ list_for (for_first_of head) (option_map form condition) (option_map form update) (does body) place a b l
+does_for head condition update body place = listed (s.For head condition update body place) (Statement-F.For head condition update body place) (rolls-For head condition update body place) (list_for (for_first_of head) (option_map form condition) (option_map form update) (does body) place) (for_layer head condition update body place)
 
 variable_layer : (n : Name) (i : Option (Initialiser Expression)) (object : Expression) (body : Statement) (place : Place) → statement_level (layer (Statement-F.ForIn (target.Variable (record { name = n; initialiser = i })) object body place)) ≡ list_for_in (target_of (target.Variable (record { name = n; initialiser = i }))) (form object) (does body) place
 variable_layer n None object body place = refl

@@ -3,6 +3,7 @@ use Rattle.std.specs.Prelude.{ℕ, ◌+◌, Bool, true, false, if◌then◌else�
 use Rattle.ja_base.specs.declared.ids.Place.{Place}
 use Rattle.ja_prim.specs.declared.primitive.Primitive.TheVariants as primitive
 use Rattle.ja_graph.specs.declared.node.Node.TheVariants.{Enter, Declare, Bind, Return, Escape}
+use Rattle.ja_graph.specs.declared.registers.TheConstants.{FIXED_REGISTERS}
 use Rattle.ja_lower_listing.specs.Listing.{begins_with_node}
 use Rattle.ja_lower_listing.specs.declared.item.Item.{Item}
 use Rattle.ja_syntax.specs.declared.tree.Name.{Name}
@@ -17,9 +18,10 @@ use Rattle.ja_lower_draft.specs.Lines.{Listing, Scene, site, restarted, name_id,
 use Rattle.ja_lower_expressions.specs.Literals.{make_function}
 use Rattle.ja_lower_statements.specs.Statements.{list_all_statements, does}
 
--- the first temporary: behind `thrown`, `this`, `scope`, `callee` and `count`, the parameters and the rest of the arguments
+-- the first temporary: behind `thrown`, `this`, `scope`, `callee` and `count`, the parameters and
+-- the rest of the arguments
 abbrev pub first_temporary : ℕ → ℕ
-first_temporary parameters = 6 + parameters
+first_temporary parameters = FIXED_REGISTERS + parameters
 
 abbrev pub nothing_listed : ℕ → Listing
 nothing_listed base = record { items = []; temporary = base; spot = 0 }

@@ -171,15 +171,17 @@ abbrev pub for_in_first : ForTarget Form → Scene → Listing → Listing
 for_in_first (target.Variable declaration) scene l = declare_with declaration.name declaration.initialiser scene l
 for_in_first (target.Reference value) scene l = l
 
--- a turn of it up to the body, with the register of the list
+-- a turn of it up to the body, and the register of the list
 abbrev pub for_in_turn : ForTarget Form → Form → Place → Scene → ℕ → Spot → Spot → Listing → Valued
 for_in_turn goal object place scene base turn end l =
     let v = value_of object scene (for_in_first goal scene (restarted base l)) in
     let o = with_object scene place v.value v.listing in
     let list = register o.listing.temporary in
-    let names = with_node scene place (Names list o.value) (restarted (o.listing.temporary + 1) o.listing) in
+    let after = restarted (o.listing.temporary + 1) o.listing in
+    let names = with_node scene place (Names list o.value) after in
     let name = register names.temporary in
-    let pick = with_branch scene place (Pick list name o.value) end (restarted (names.temporary + 1) (with_spot turn names)) in
+    let at = restarted (names.temporary + 1) (with_spot turn names) in
+    let pick = with_branch scene place (Pick list name o.value) end at in
     let r = for_in_reference goal scene pick in
     record { listing = put_value scene place r.outcome name r.listing; value = list }
 
@@ -188,14 +190,8 @@ unfoldable pub list_for_in : ForTarget Form → Form → Does → Place → Does
 list_for_in goal object body place around base l =
     let turn = spot_of l 0 in
     let end = spot_of l 1 in
-    let v = value_of object around.scene (for_in_first goal around.scene (restarted base (behind_spots 2 l))) in
-    let o = with_object around.scene place v.value v.listing in
-    let list = register o.listing.temporary in
-    let names = with_node around.scene place (Names list o.value) (restarted (o.listing.temporary + 1) o.listing) in
-    let name = register names.temporary in
-    let pick = with_branch around.scene place (Pick list name o.value) end (restarted (names.temporary + 1) (with_spot turn names)) in
-    let r = for_in_reference goal around.scene pick in
-    let y = list_body body around (list.0 + 1) end turn (put_value around.scene place r.outcome name r.listing) in
+    let t = for_in_turn goal object place around.scene base turn end (behind_spots 2 l) in
+    let y = list_body body around (t.value.0 + 1) end turn t.listing in
     with_spot end (with_jump turn y)
 
 -- ---- jumps (12.7 to 12.9)
@@ -411,10 +407,10 @@ initialiser_of i = record { value = form i.value; place = i.place }
 abbrev pub declaration_of : Declaration Expression → Declaration Form
 declaration_of d = record { name = d.name; initialiser = option_map initialiser_of d.initialiser }
 
-abbrev pub first_of : ForFirst Expression → ForFirst Form
-first_of first.Nothing = first.Nothing
-first_of (first.Expression value) = first.Expression (form value)
-first_of (first.Variables declarations) = first.Variables (map declaration_of declarations)
+abbrev pub for_first_of : ForFirst Expression → ForFirst Form
+for_first_of first.Nothing = first.Nothing
+for_first_of (first.Expression value) = first.Expression (form value)
+for_first_of (first.Variables declarations) = first.Variables (map declaration_of declarations)
 
 abbrev pub target_of : ForTarget Expression → ForTarget Form
 target_of (target.Variable declaration) = target.Variable (declaration_of declaration)

@@ -108,7 +108,7 @@ pub(crate) fn for_loop(
     place: Place,
     draft: &mut Draft,
 ) -> Result<(), Memory>
-    ensures { lines.Adds (spec.list_for (spec.first_of head.now) (option_map form test.now) (option_map form update.now) (spec.does body.now) place (around_of around.now) base draft.old) result draft.new }
+    ensures { lines.Adds (spec.list_for (spec.for_first_of head.now) (option_map form test.now) (option_map form update.now) (spec.does body.now) place (around_of around.now) base draft.old) result draft.new }
 {
     let scene = around.scene;
     let (top, turn, end) = take_three(draft)?;

@@ -140,7 +140,7 @@ pub(crate) fn for_first(
     base: u32,
     draft: &mut Draft,
 ) -> Result<(), Memory>
-    ensures { lines.Adds (spec.for_first (spec.first_of first.now) scene.now base draft.old) result draft.new }
+    ensures { lines.Adds (spec.for_first (spec.for_first_of first.now) scene.now base draft.old) result draft.new }
 {
     match first {
         ForFirst::Nothing => Ok(()),

@@ -45,13 +45,13 @@ use Rattle.ja_machine.specs.declared.machine.Event.{Event}
 use Rattle.ja_machine.specs.declared.machine.Event.TheVariants as event
 use Rattle.ja_machine.specs.Heap.{own, has, content_at, class_at, object_at, with_new, with_object, new_address, is_shared, inherits_from}
 use Rattle.ja_machine.specs.Writes.{put, define, delete, can_delete}
-use Rattle.ja_machine.specs.Values.{Outcome, unary, binary, key_of}
+use Rattle.ja_machine.specs.Values.{OperatorOutcome, unary, binary, key_of}
 use Rattle.ja_machine.specs.Enumeration.{names}
 use Rattle.ja_machine.specs.Frames.{register_of, thrown, scope, undefined, with_result, with_register, moved_to, with_remaining, entered}
 use Rattle.ja_machine.specs.Objects.{dont_delete, first_of, error_object, empty_object, wrapper, text_length, scope_object}
 use Rattle.ja_machine.specs.Events.{Standing, next_state, goes_on, sets, sets_in, left_scope, throws, throws_value, sets_content, sets_outcome, unbound_message, nothing_message, not_an_object_message, array_length_message, no_function_message, no_prototype_message, not_a_function_message, not_a_constructor_message}
-use Rattle.ja_machine.specs.Calls.{Given, given, chain_of, receiver_of, object_in, function_called, function_constructing, enters, calls_with, calls, constructs, stays, default_function, convert_step, constructed, returns, return_step, escape_step}
-use Rattle.ja_machine.specs.Intrinsics.{Row, rows}
+use Rattle.ja_machine.specs.Calls.{ArgumentsRead, given, chain_of, receiver_of, object_in, function_called, function_constructing, enters, calls_with, calls, constructs, stays, default_function, convert_step, constructed, returns, return_step, escape_step}
+use Rattle.ja_machine.specs.Intrinsics.{Computation, rows}
 use Rattle.ja_machine.specs.Nodes
 use Rattle.ja_machine.specs.Machine.{fits, wants, frames_step, step}
 use Rattle.ja_machine.specs.State.{enters_functions}
@@ -134,7 +134,7 @@ module _ (p : Program) (s : Standing) (frames_are : s.conf.frames ≡ s.top ∷ 
   content_along dst (contents.Value v) = sets_along dst v
   content_along dst contents.Row = refl
 
-  outcome_along : (dst : Reg) (o : Outcome) → Taken (sets_outcome s dst o)
+  outcome_along : (dst : Reg) (o : OperatorOutcome) → Taken (sets_outcome s dst o)
   outcome_along dst None = refl
   outcome_along dst (Some (Ok q)) = sets_along dst (value.Primitive q)
   outcome_along dst (Some (Err stop)) = refl
@@ -312,7 +312,7 @@ module _ (p : Program) (s : Standing) (frames_are : s.conf.frames ≡ s.top ∷ 
   given_along dst (Some (Err kind)) = refl
 
   intrinsic_along : (dst : Reg) (which : ℕ) (arguments : List Value) → Taken (Nodes.intrinsic_step s dst which arguments)
-  intrinsic_along dst which arguments = given_along dst (option_map (λ (row : Row). row arguments s.conf.heap) (slice_get rows which))
+  intrinsic_along dst which arguments = given_along dst (option_map (λ (row : Computation). row arguments s.conf.heap) (slice_get rows which))
 
   device_along : (dst : Reg) (answer : Answer) → IsTakenIf p s.conf (Nodes.device_step s dst answer)
   device_along dst (answers.Device q) = sets_along dst (value.Primitive q)
@@ -326,7 +326,7 @@ module _ (p : Program) (s : Standing) (frames_are : s.conf.frames ≡ s.top ∷ 
       ((refl, inr (inl (record { top = s.top; below = s.below; before_is = frames_are; info = s.info; info_is = info_is; enters = is; entered = entered p (s.conf.steps + 1) f receiver callee (chain_of h callee) arguments; after_is = refl; first_node = refl; born = refl }))), stay)
 
   module _ (is : enters_functions s.info.node ≡ true) where
-    calls_with_along : (f : FnId) (callee : Value) (receiver : Option Addr) (arguments : Given) → Taken (calls_with p s f callee receiver arguments)
+    calls_with_along : (f : FnId) (callee : Value) (receiver : Option Addr) (arguments : ArgumentsRead) → Taken (calls_with p s f callee receiver arguments)
     calls_with_along f callee None arguments = refl
     calls_with_along f callee (Some receiver) (Err kind) = refl
     calls_with_along f callee (Some receiver) (Ok arguments) = enters_along is s.conf.heap f receiver (object_in callee) arguments (stay_same s.conf.heap)

@@ -46,12 +46,12 @@ use Rattle.ja_machine.specs.declared.machine.Event.{Event}
 use Rattle.ja_machine.specs.Heap.{own, has, content_at, class_at, count, with_new, new_address, is_shared, inherits_from}
 use Rattle.ja_machine.specs.Writes.{put, define, delete, can_delete}
 use Rattle.ja_machine.specs.Enumeration.{names}
-use Rattle.ja_machine.specs.Values.{Outcome, unary, binary, key_of}
+use Rattle.ja_machine.specs.Values.{OperatorOutcome, unary, binary, key_of}
 use Rattle.ja_machine.specs.Frames.{undefined, register_of, thrown, scope, parameters_of, object_or_undefined, with_remaining}
 use Rattle.ja_machine.specs.Objects.{dont_delete, first_of, empty_object, wrapper, text_length, scope_object, function_object, prototype_object, constructed_object, sharing, with_parameters, with_property, property_with, arguments_object, activation}
 use Rattle.ja_machine.specs.Events.{Standing, sets, sets_in, left_scope, goes_on, throws, sets_content, sets_outcome, unbound_message, nothing_message, not_an_object_message, array_length_message, no_function_message, no_prototype_message, not_a_function_message, not_a_constructor_message}
-use Rattle.ja_machine.specs.Calls.{site_of, function_called, function_constructing, object_in, receiver_of, Given, given, enters, calls_with, calls, prototype_of_callee, constructs, stays, default_function, convert_step}
-use Rattle.ja_machine.specs.Intrinsics.{Row, rows}
+use Rattle.ja_machine.specs.Calls.{site_of, function_called, function_constructing, object_in, receiver_of, ArgumentsRead, given, enters, calls_with, calls, prototype_of_callee, constructs, stays, default_function, convert_step}
+use Rattle.ja_machine.specs.Intrinsics.{Computation, rows}
 use Rattle.ja_machine.specs.Nodes
 use Rattle.ja_machine.specs.State.{IsObjectOf, IsValueOf, IsContentOf, IsState, enters_functions}
 use Rattle.ja_machine.proofs.Lists.{either_way, all_at, all_from}
@@ -125,7 +125,7 @@ module _ (p : Program) (good : IsWellFormed p) (s : Standing) (here : IsAt p s) 
   content_kept dst (contents.Value v) to of_heap = sets_kept dst v to of_heap
   content_kept dst contents.Row to of_heap = tt
 
-  outcome_kept : (dst : Reg) (o : Outcome) → Sets dst → Kept (sets_outcome s dst o)
+  outcome_kept : (dst : Reg) (o : OperatorOutcome) → Sets dst → Kept (sets_outcome s dst o)
   outcome_kept dst None to = tt
   outcome_kept dst (Some (Ok q)) to = sets_kept dst (value.Primitive q) to tt
   outcome_kept dst (Some (Err stop)) to = tt
@@ -395,7 +395,7 @@ module _ (p : Program) (good : IsWellFormed p) (s : Standing) (here : IsAt p s) 
   -- ---- calls
 
   module _ (is : enters_functions s.info.node ≡ true) where
-    calls_with_kept : (f : FnId) (callee : Value) (receiver : Option Addr) (arguments : Given) → IsFunction p f → Held callee → ((a : Addr) → receiver ≡ Some a → IsObjectOf s.conf.heap a) → AreGiven p s.conf.heap here.heap arguments → Kept (calls_with p s f callee receiver arguments)
+    calls_with_kept : (f : FnId) (callee : Value) (receiver : Option Addr) (arguments : ArgumentsRead) → IsFunction p f → Held callee → ((a : Addr) → receiver ≡ Some a → IsObjectOf s.conf.heap a) → AreGiven p s.conf.heap here.heap arguments → Kept (calls_with p s f callee receiver arguments)
     calls_with_kept f callee None arguments fits callee_held there values = tt
     calls_with_kept f callee (Some receiver) (Err kind) fits callee_held there values = tt
     calls_with_kept f callee (Some receiver) (Ok arguments) fits callee_held there values =
@@ -441,7 +441,7 @@ module _ (p : Program) (good : IsWellFormed p) (s : Standing) (here : IsAt p s) 
   given_kept dst (Some (Err kind)) to = tt
 
   intrinsic_kept : (dst : Reg) (which : ℕ) (arguments : List Value) → Sets dst → Kept (Nodes.intrinsic_step s dst which arguments)
-  intrinsic_kept dst which arguments to = given_kept dst (option_map (λ (row : Row). row arguments s.conf.heap) (slice_get rows which)) to
+  intrinsic_kept dst which arguments to = given_kept dst (option_map (λ (row : Computation). row arguments s.conf.heap) (slice_get rows which)) to
 
   device_kept : (dst : Reg) (answer : Answer) → Sets dst → KeptIf (Nodes.device_step s dst answer)
   device_kept dst (answers.Device q) to = sets_kept dst (value.Primitive q) to tt

@@ -21,7 +21,7 @@ use Rattle.ja_machine.specs.declared.machine.Property.{Property}
 use Rattle.ja_machine.specs.declared.machine.Object.{Object}
 use Rattle.ja_machine.specs.Heap.{objects_of, count, size, object_at, prototype_of, outer_of}
 use Rattle.ja_machine.specs.Objects.{first_of}
-use Rattle.ja_machine.specs.Machine.{class_of_site, opening_content, opening_property, opening_object, opening_objects, opening_heap}
+use Rattle.ja_machine.specs.Machine.{class_of_site, opening_content, opening_property, opening_object, opening_objects_at, opening_heap}
 use Rattle.ja_machine.specs.State.{IsObjectOf, IsContentOf, IsHeap}
 use Rattle.ja_machine.proofs.Lists.{is_some_from, slice_get-map_range, all_from, all_map}
 use Rattle.ja_machine.proofs.Heaps
@@ -85,8 +85,8 @@ pub record IsOpened (p : Program) (a : Addr) : Type 0 where
 
 module _ (p : Program) (good : IsWellFormed p) where
   -- the objects of a site, from the list of those that are there when a run begins
-  pub objects-opening : (s : Site) → s.0 < length p.sites → objects_of (opening_heap p) s ≡ opening_objects p s.0
-  objects-opening s h = ap (λ r. unwrap_or r []) (slice_get-map_range (opening_objects p) 0 (length p.sites) s.0 h ∙ ap (λ m. Some (opening_objects p m)) (omega arith))
+  pub objects-opening : (s : Site) → s.0 < length p.sites → objects_of (opening_heap p) s ≡ opening_objects_at p s.0
+  objects-opening s h = ap (λ r. unwrap_or r []) (slice_get-map_range (opening_objects_at p) 0 (length p.sites) s.0 h ∙ ap (λ m. Some (opening_objects_at p m)) (omega arith))
 
   one_object : (o : Option ObjectSpec) → IsSome o → length (option_to_list (option_map (opening_object p) o)) ≡ 1
   one_object None h = absurd (false≢true h)
@@ -111,13 +111,13 @@ module _ (p : Program) (good : IsWellFormed p) where
   site_in_range a there =
       let b : a.ordinal < count (opening_heap p) a.site = ordinal-below (opening_heap p) a there in
       let r : a.site.0 < length (opening_heap p).objects = Heaps.row_within (opening_heap p).objects a.site.0 (omega arith) in
-      let e : length (opening_heap p).objects ≡ length p.sites = length-map-range_with_len (opening_objects p) 0 (length p.sites) in
+      let e : length (opening_heap p).objects ≡ length p.sites = length-map-range_with_len (opening_objects_at p) 0 (length p.sites) in
       omega arith
 
   -- each object of the opening heap is one of that list
   pub opened_at_address : (a : Addr) → IsObjectOf (opening_heap p) a → IsOpened p a
   opened_at_address a there =
-      let row : objects_of (opening_heap p) a.site ≡ opening_objects p a.site.0 = objects-opening a.site (site_in_range a there) in
+      let row : objects_of (opening_heap p) a.site ≡ opening_objects_at p a.site.0 = objects-opening a.site (site_in_range a there) in
       let (spec, spec_is, zero_is) = opened_list (object_spec p a.site.0) a.ordinal (subst (λ (r : List Object). IsSome (slice_get r a.ordinal)) row there) in
       let found : (slice_get p.opening (place (λ (o : ObjectSpec). o.site.0 == a.site.0) p.opening) ≡ Some spec) × ((spec.site.0 == a.site.0) ≡ true) = found_at (λ (o : ObjectSpec). o.site.0 == a.site.0) p.opening spec spec_is in
       let same : spec.site.0 ≡ a.site.0 = eqb-true spec.site.0 a.site.0 found.1 in
@@ -153,7 +153,7 @@ module _ (p : Program) (good : IsWellFormed p) where
 
   size-opening : length p.opening ≤ size (opening_heap p)
   size-opening =
-      sum_of_range (opening_objects p) 0 (length p.sites) (length p.opening) good.sites (λ s low high. one_object (object_spec p s) (good.all_objects s (omega arith)))
+      sum_of_range (opening_objects_at p) 0 (length p.sites) (length p.opening) good.sites (λ s low high. one_object (object_spec p s) (good.all_objects s (omega arith)))
 
   ranked-opening : (a : Addr) → IsObjectOf (opening_heap p) a → place_of p a < size (opening_heap p)
   ranked-opening a there =
@@ -208,7 +208,7 @@ module _ (p : Program) (good : IsWellFormed p) where
   -- the heap in which a run begins
   pub heap-opening : IsHeap p (opening_heap p)
   heap-opening = heap_of p (opening_heap p) (record {
-    rows = length-map-range_with_len (opening_objects p) 0 (length p.sites);
+    rows = length-map-range_with_len (opening_objects_at p) 0 (length p.sites);
     class = class-opening;
     scope = scope-opening;
     rank = place_of p;

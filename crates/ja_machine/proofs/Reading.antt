@@ -30,7 +30,7 @@ use Rattle.ja_machine.specs.Heap.{size, object_at, class_at, property_of, own, o
 use Rattle.ja_machine.specs.Writes.{length_name}
 use Rattle.ja_machine.specs.Frames.{undefined, register_of}
 use Rattle.ja_machine.specs.Objects.{first_of, index_text}
-use Rattle.ja_machine.specs.Calls.{object_in, chain_of, is_activation, receiver_of, Given, element, with_first, all_given, element_count, elements_up_to, has_elements, elements, given, prototype_for, prototype_of_callee}
+use Rattle.ja_machine.specs.Calls.{object_in, chain_of, is_activation, receiver_of, ArgumentsRead, element, with_first, all_given, element_count, elements_up_to, has_elements, elements, given, prototype_for, prototype_of_callee}
 use Rattle.ja_machine.specs.Nodes.{object_or_null, find_name, read}
 use Rattle.ja_machine.specs.State.{IsObjectOf, IsValueOf, IsContentOf, IsHeap, IsFrame}
 use Rattle.ja_machine.proofs.Lists.{either_way, all_from, all_find, all_drop, all_map, all_of}
@@ -89,7 +89,7 @@ module _ (p : Program) (h : Heap) (good : IsHeap p h) where
   -- ---- the arguments of a call
 
   -- the values that are given are of the heap
-  abbrev pub AreGiven : Given → Type 0
+  abbrev pub AreGiven : ArgumentsRead → Type 0
   AreGiven (Ok vs) = AllByRecursion (IsValueOf h) vs
   AreGiven (Err kind) = Unit {0}
 
@@ -102,7 +102,7 @@ module _ (p : Program) (h : Heap) (good : IsHeap p h) where
   element_given (Some contents.Row) each = tt
   element_given (Some (contents.Value v)) each = each (contents.Value v) refl
 
-  first_given : (v : Value) (vs : Given) → IsValueOf h v → AreGiven vs → AreGiven (with_first v vs)
+  first_given : (v : Value) (vs : ArgumentsRead) → IsValueOf h v → AreGiven vs → AreGiven (with_first v vs)
   first_given v (Ok vs) first rest = (first, rest)
   first_given v (Err kind) first rest = tt
 

@@ -16,7 +16,7 @@ use Rattle.ja_machine.specs.declared.machine.Object.{Object}
 use Rattle.ja_machine.specs.declared.machine.Heap.{Heap}
 use Rattle.ja_machine.specs.declared.machine.Put.TheVariants as put_ends
 use Rattle.ja_machine.specs.Heap.{object_at, with_object, can_put, is_shared}
-use Rattle.ja_machine.specs.Writes.{with_value, with_definition, without, object_with_value, changed, define, can_delete, delete, length_name, whole_number, length_of, grown, with_element, unsigned_number, is_cut, with_length, Written, written, put_length, put_length_value, put_array, is_array, put_own, put}
+use Rattle.ja_machine.specs.Writes.{with_value, with_definition, without, object_with_value, changed, define, can_delete, delete, length_name, whole_number, length_of, grown, with_element, unsigned_number, is_cut, with_length, PutOutcome, written, put_length, put_length_value, put_array, is_array, put_own, put}
 use Rattle.ja_machine.proofs.Lists.{either_way, all_filter}
 use Rattle.ja_machine.proofs.Heaps.{of_object}
 
@@ -97,13 +97,13 @@ module _ (C : Content → Type 0) where
 
       by_own : (o : Object) → object_at h a ≡ Some o → (name : List ℕ) (v : Value) → C (contents.Value v) → P (put_own h a o name v).heap
       by_own o is name v new =
-          let array : P (put_array h a o name v).heap = either_way (λ (w : Written). P w.heap) (same_text name length_name) (put_length_value h a o v) (written (with_object h a (with_element o name v (index_of name))) put_ends.Done) (λ e. by_length_value o is v) (λ e. further o (with_element o name v (index_of name)) is (rewritten-element numbers o name v (index_of name) new)) in
-          either_way (λ (w : Written). P w.heap) (is_array o.class) (put_array h a o name v) (written (with_object h a (object_with_value o name v)) put_ends.Done) (λ e. array) (λ e. further o (object_with_value o name v) is (rewritten-value o name v new))
+          let array : P (put_array h a o name v).heap = either_way (λ (w : PutOutcome). P w.heap) (same_text name length_name) (put_length_value h a o v) (written (with_object h a (with_element o name v (index_of name))) put_ends.Done) (λ e. by_length_value o is v) (λ e. further o (with_element o name v (index_of name)) is (rewritten-element numbers o name v (index_of name) new)) in
+          either_way (λ (w : PutOutcome). P w.heap) (is_array o.class) (put_array h a o name v) (written (with_object h a (object_with_value o name v)) put_ends.Done) (λ e. array) (λ e. further o (object_with_value o name v) is (rewritten-value o name v new))
 
       -- .. and a put
       pub by_put : (name : List ℕ) (v : Value) → C (contents.Value v) → P (put h a name v).heap
       by_put name v new =
-          let Q : Written → Type 0 = λ (w : Written). P w.heap in
-          let own : Written = option_map_or (λ (o : Object). put_own h a o name v) (object_at h a) (written h put_ends.Done) in
+          let Q : PutOutcome → Type 0 = λ (w : PutOutcome). P w.heap in
+          let own : PutOutcome = option_map_or (λ (o : Object). put_own h a o name v) (object_at h a) (written h put_ends.Done) in
           let put_it : Q own = of_object h a Q (λ (o : Object). put_own h a o name v) (written h put_ends.Done) kept (λ o is. by_own o is name v new) in
           either_way Q (not (can_put h a name)) (written h put_ends.Ignored) (if is_shared h a name then written h put_ends.SharedArgument else own) (λ e. kept) (λ e. either_way Q (is_shared h a name) (written h put_ends.SharedArgument) own (λ f. kept) (λ f. put_it))

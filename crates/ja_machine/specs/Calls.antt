@@ -79,19 +79,19 @@ receiver_of h (value.Primitive q) = None
 
 -- ---- its arguments
 
-abbrev pub Given : Type 0
-Given = Result (List Value) ScopeKind
+abbrev pub ArgumentsRead : Type 0
+ArgumentsRead = Result (List Value) ScopeKind
 
 -- the number of elements that a `length` says, by ToUint32; there is none where it is missing or an object
-abbrev pub counted : Result Num Stop → Result ℕ ScopeKind
-counted (Ok n) = Ok (to_uint32 n)
-counted (Err stop) = Err (kind_of stop)
+abbrev pub unsigned_count : Result Num Stop → Result ℕ ScopeKind
+unsigned_count (Ok n) = Ok (to_uint32 n)
+unsigned_count (Err stop) = Err (kind_of stop)
 
 abbrev pub element_count : Option Content → Result ℕ ScopeKind
 element_count None = Ok 0
 element_count (Some contents.Row) = Err Row
 element_count (Some (contents.Value (value.Object a))) = Ok 0
-element_count (Some (contents.Value (value.Primitive q))) = counted (to_number q)
+element_count (Some (contents.Value (value.Primitive q))) = unsigned_count (to_number q)
 
 -- an element, undefined where it is missing
 abbrev pub element : Option Content → Result Value ScopeKind
@@ -99,16 +99,16 @@ element None = Ok undefined
 element (Some contents.Row) = Err Row
 element (Some (contents.Value v)) = Ok v
 
-abbrev pub with_first : Value → Given → Given
+abbrev pub with_first : Value → ArgumentsRead → ArgumentsRead
 with_first v (Ok vs) = Ok (v ∷ vs)
 with_first v (Err kind) = Err kind
 
-abbrev pub all_given : List (Result Value ScopeKind) → Given
+abbrev pub all_given : List (Result Value ScopeKind) → ArgumentsRead
 all_given [] = Ok []
 all_given (Ok v ∷ rest) = with_first v (all_given rest)
 all_given (Err kind ∷ rest) = Err kind
 
-abbrev pub elements_up_to : Heap → Addr → Result ℕ ScopeKind → Given
+abbrev pub elements_up_to : Heap → Addr → Result ℕ ScopeKind → ArgumentsRead
 elements_up_to h a (Ok n) = all_given (map (λ i. element (content_at h a (index_text i))) (range_with_len 0 n))
 elements_up_to h a (Err kind) = Err kind
 
@@ -119,13 +119,13 @@ has_elements o = is_array o.class || o.slots.arguments
 abbrev pub has_elements_at : Heap → Addr → Bool
 has_elements_at h a = option_map_or has_elements (object_at h a) false
 
-abbrev pub elements : Heap → Value → Given
+abbrev pub elements : Heap → Value → ArgumentsRead
 elements h (value.Object a) =
     if has_elements_at h a then elements_up_to h a (element_count (content_at h a length_name))
     else Err Register
 elements h (value.Primitive q) = Err Register
 
-abbrev pub given : Heap → Frame → Args → Given
+abbrev pub given : Heap → Frame → Args → ArgumentsRead
 given h f (args.Registers list) = Ok (map (register_of f) list)
 given h f (args.Elements array) = elements h (register_of f array)
 given h f args.Tail = Ok (drop 1 f.arguments)
@@ -137,7 +137,7 @@ abbrev pub enters : Program → Standing → Heap → FnId → Addr → Option A
 enters p s h f receiver callee arguments =
     next_state s.conf h (entered p (s.conf.steps + 1) f receiver callee (chain_of h callee) arguments ∷ s.top ∷ s.below)
 
-abbrev pub calls_with : Program → Standing → FnId → Value → Option Addr → Given → Event
+abbrev pub calls_with : Program → Standing → FnId → Value → Option Addr → ArgumentsRead → Event
 calls_with p s f callee None arguments = left_scope s Register
 calls_with p s f callee (Some receiver) (Err kind) = left_scope s kind
 calls_with p s f callee (Some receiver) (Ok arguments) = enters p s s.conf.heap f receiver (object_in callee) arguments

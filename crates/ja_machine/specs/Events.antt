@@ -21,7 +21,7 @@ use Rattle.ja_machine.specs.declared.machine.Event.TheVariants as event
 use Rattle.ja_machine.specs.Heap.{with_new, new_address}
 use Rattle.ja_machine.specs.Frames.{thrown, moved_to, with_result}
 use Rattle.ja_machine.specs.Objects.{error_object}
-use Rattle.ja_machine.specs.Values.{Outcome, kind_of}
+use Rattle.ja_machine.specs.Values.{OperatorOutcome, kind_of}
 
 -- Where a step is taken: the state, its top frame, the frames below, and the node at which the top frame stands.
 pub record Standing : Type 0 where
@@ -69,7 +69,7 @@ sets_content s dst (contents.Value v) = sets s dst v
 sets_content s dst contents.Row = left_scope s Row
 
 -- what an operation gives: an operation that doesn't take the values in its registers leaves the profile
-abbrev pub sets_outcome : Standing → Reg → Outcome → Event
+abbrev pub sets_outcome : Standing → Reg → OperatorOutcome → Event
 sets_outcome s dst None = left_scope s Register
 sets_outcome s dst (Some (Ok q)) = sets s dst (value.Primitive q)
 sets_outcome s dst (Some (Err stop)) = left_scope s (kind_of stop)

@@ -7,6 +7,7 @@ use Rattle.ja_base.specs.declared.ids.NodeId.{NodeId}
 use Rattle.ja_base.specs.declared.ids.Reg.{Reg}
 use Rattle.ja_prim.specs.declared.primitive.Primitive.TheVariants.{Undefined}
 use Rattle.ja_prim.specs.Texts.{same_text}
+use Rattle.ja_graph.specs.declared.registers.TheConstants.{SCOPE, THROWN}
 use Rattle.ja_graph.specs.declared.program.Function.{Function}
 use Rattle.ja_graph.specs.declared.program.Program.{Program}
 use Rattle.ja_machine.specs.declared.machine.Addr.{Addr}
@@ -25,10 +26,10 @@ register_of f r = unwrap_or (slice_get f.registers r.0) undefined
 
 -- the registers named `thrown` and `scope`
 abbrev pub thrown : Reg
-thrown = record { 0 = 0 }
+thrown = THROWN
 
 abbrev pub scope : Reg
-scope = record { 0 = 2 }
+scope = SCOPE
 
 abbrev pub moved_to : Frame → NodeId → Frame
 moved_to f next = record f { node = next }

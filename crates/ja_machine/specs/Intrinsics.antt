@@ -23,31 +23,31 @@ use Rattle.ja_machine.specs.Enumeration.{is_enumerable}
 use Rattle.ja_machine.specs.Calls.{has_elements_at}
 
 -- what an operation gives: a primitive value, or why the run leaves the profile
-abbrev pub Outcome : Type 0
-Outcome = Result Primitive ScopeKind
+abbrev pub IntrinsicOutcome : Type 0
+IntrinsicOutcome = Result Primitive ScopeKind
 
 -- one that doesn't take the values in its registers leaves the profile
-abbrev pub refused : Outcome
+abbrev pub refused : IntrinsicOutcome
 refused = Err Register
 
-abbrev pub tells : Bool → Outcome
+abbrev pub tells : Bool → IntrinsicOutcome
 tells b = Ok (truth b)
 
-abbrev pub Row : Type 0
-Row = List Value → Heap → Outcome
+abbrev pub Computation : Type 0
+Computation = List Value → Heap → IntrinsicOutcome
 
 -- an operation on one value, and one on two
-abbrev pub of_one : (Heap → Value → Outcome) → Row
+abbrev pub of_one : (Heap → Value → IntrinsicOutcome) → Computation
 of_one f (v ∷ []) h = f h v
 of_one f vs h = refused
 
-abbrev pub of_two : (Heap → Value → Value → Outcome) → Row
+abbrev pub of_two : (Heap → Value → Value → IntrinsicOutcome) → Computation
 of_two f (v ∷ w ∷ []) h = f h v w
 of_two f vs h = refused
 
 -- ---- internal properties (8.6.2)
 
-abbrev pub if_any : Option Primitive → Outcome
+abbrev pub if_any : Option Primitive → IntrinsicOutcome
 if_any None = refused
 if_any (Some q) = Ok q
 
@@ -63,19 +63,19 @@ class_name class.Error = codes "Error"
 class_name class.Math = codes "Math"
 class_name class.Activation = codes "Object"
 
-abbrev pub class_of : Heap → Value → Outcome
+abbrev pub class_of : Heap → Value → IntrinsicOutcome
 class_of h (value.Object a) = if_any (option_map (λ (c : Class). Text (class_name c)) (class_at h a))
 class_of h (value.Primitive q) = refused
 
 -- [[Value]]
-abbrev pub value_of : Heap → Value → Outcome
+abbrev pub value_of : Heap → Value → IntrinsicOutcome
 value_of h (value.Object a) = if_any (option_and_then (λ (o : Object). o.slots.value) (object_at h a))
 value_of h (value.Primitive q) = refused
 
 -- ---- properties and prototypes (15.2.4.5 to 15.2.4.7)
 
 -- what is asked of an object's own property of a name
-abbrev pub of_own : (Option Property → Bool) → Heap → Value → Value → Outcome
+abbrev pub of_own : (Option Property → Bool) → Heap → Value → Value → IntrinsicOutcome
 of_own holds h (value.Object a) (value.Primitive (Text name)) = tells (holds (own h a name))
 of_own holds h v w = refused
 
@@ -87,7 +87,7 @@ abbrev pub is_behind : Heap → Addr → Value → Bool
 is_behind h a (value.Object b) = inherits_from h b a
 is_behind h a (value.Primitive q) = false
 
-abbrev pub inherits : Heap → Value → Value → Outcome
+abbrev pub inherits : Heap → Value → Value → IntrinsicOutcome
 inherits h v (value.Object a) = tells (is_behind h a v)
 inherits h v (value.Primitive q) = refused
 
@@ -104,7 +104,7 @@ radix_text radix NaN = codes "NaN"
 radix_text radix (Whole (pos n)) = digits radix false n
 radix_text radix (Whole (negsuc n)) = 45 ∷ digits radix false (suc n)
 
-abbrev pub digits_of : Heap → Value → Value → Outcome
+abbrev pub digits_of : Heap → Value → Value → IntrinsicOutcome
 digits_of h (value.Primitive (Number n)) (value.Primitive (Number (Whole (pos radix)))) =
     if nat_le 2 radix && nat_le radix 36 then Ok (Text (radix_text radix n)) else refused
 digits_of h v w = refused
@@ -115,9 +115,9 @@ digits_of h v w = refused
 pub record Operation : Type 0 where
   pub name : List ℕ
   pub takes : ℕ
-  pub gives : Row
+  pub gives : Computation
 
-abbrev pub operation : List ℕ → ℕ → Row → Operation
+abbrev pub operation : List ℕ → ℕ → Computation → Operation
 operation name takes gives = record { name = name; takes = takes; gives = gives }
 
 -- by their numbers
@@ -132,7 +132,7 @@ operations =
     ∷ operation (codes "$has_elements") 1 (of_one (λ h v. tells (is_list h v)))
     ∷ operation (codes "$digits") 2 (of_two digits_of) ∷ []
 
-abbrev pub rows : List Row
+abbrev pub rows : List Computation
 rows = map (λ (o : Operation). o.gives) operations
 
 -- given another number of values than it takes, an operation leaves the profile

@@ -69,11 +69,11 @@ opening_object p o = record {
   properties = map (opening_property p) o.properties;
 }
 
-abbrev pub opening_objects : Program → ℕ → List Object
-opening_objects p s = option_to_list (option_map (opening_object p) (object_spec p s))
+abbrev pub opening_objects_at : Program → ℕ → List Object
+opening_objects_at p s = option_to_list (option_map (opening_object p) (object_spec p s))
 
 abbrev pub opening_heap : Program → Heap
-opening_heap p = record { objects = map (opening_objects p) (range_with_len 0 (length p.sites)) }
+opening_heap p = record { objects = map (opening_objects_at p) (range_with_len 0 (length p.sites)) }
 
 -- the program is entered with the global object as its receiver and its scope chain, and without arguments
 abbrev pub program_function : FnId

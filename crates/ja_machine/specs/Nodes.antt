@@ -40,7 +40,7 @@ use Rattle.ja_machine.specs.Values.{unary, binary, truth, key_of}
 use Rattle.ja_machine.specs.Frames.{undefined, register_of, scope, thrown, moved_to, with_register, parameters_of, object_or_undefined, remaining, with_remaining, without_first}
 use Rattle.ja_machine.specs.Objects.{dont_delete, first_of, empty_object, wrapper, text_length, scope_object, function_object, prototype_object, sharing, with_parameters, with_property, property_with, arguments_object, activation}
 use Rattle.ja_machine.specs.Events.{Standing, next_state, goes_on, sets, sets_in, left_scope, throws, throws_value, sets_content, sets_outcome, unbound_message, nothing_message, not_an_object_message, array_length_message, no_function_message, no_prototype_message}
-use Rattle.ja_machine.specs.Intrinsics.{Row, rows}
+use Rattle.ja_machine.specs.Intrinsics.{Computation, rows}
 use Rattle.ja_machine.specs.Calls.{call_step, new_step, convert_step, return_step, escape_step}
 
 -- the text of a name
@@ -278,7 +278,7 @@ sets_given s dst (Some (Err kind)) = left_scope s kind
 
 abbrev pub intrinsic_step : Standing → Reg → ℕ → List Value → Event
 intrinsic_step s dst which arguments =
-    sets_given s dst (option_map (λ (row : Row). row arguments s.conf.heap) (slice_get rows which))
+    sets_given s dst (option_map (λ (row : Computation). row arguments s.conf.heap) (slice_get rows which))
 
 -- a device takes no objects
 abbrev pub device_step : Standing → Reg → Answer → Option Event

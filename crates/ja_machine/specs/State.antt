@@ -4,6 +4,7 @@ use Rattle.ja_base.specs.declared.ids.Site.{Site}
 use Rattle.ja_graph.specs.declared.node.Node.{Node}
 use Rattle.ja_graph.specs.declared.node.Node.TheVariants as node
 use Rattle.ja_graph.specs.declared.node.NodeInfo.{NodeInfo}
+use Rattle.ja_graph.specs.declared.registers.TheConstants.{CALLEE_REGISTER, COUNT, REST, THIS}
 use Rattle.ja_graph.specs.declared.program.Function.{Function}
 use Rattle.ja_graph.specs.declared.program.Program.{Program}
 use Rattle.ja_graph.specs.Program.{node_at}
@@ -64,11 +65,11 @@ pub record IsFrame (p : Program) (h : Heap) (f : Frame) : Type 0 where
   pub callee : (a : Addr) → f.callee ≡ Some a → IsObjectOf h a
   pub scope : IsObjectOf h f.scope
   pub arguments : (i : ℕ) (v : Value) → slice_get f.arguments i ≡ Some v → IsValueOf h v
-  pub this_is : slice_get f.registers 1 ≡ Some (value.Object f.receiver)
-  pub callee_is : slice_get f.registers 3 ≡ Some (object_or_undefined f.callee)
-  pub count_is : slice_get f.registers 4 ≡ Some (whole_number (length f.arguments))
-  pub parameters_are : (i : ℕ) → i < length function.parameters → slice_get f.registers (5 + i) ≡ Some (argument f.arguments i)
-  pub rest_is : slice_get f.registers (5 + length function.parameters) ≡ Some undefined
+  pub this_is : slice_get f.registers THIS.0 ≡ Some (value.Object f.receiver)
+  pub callee_is : slice_get f.registers CALLEE_REGISTER.0 ≡ Some (object_or_undefined f.callee)
+  pub count_is : slice_get f.registers COUNT.0 ≡ Some (whole_number (length f.arguments))
+  pub parameters_are : (i : ℕ) → i < length function.parameters → slice_get f.registers (REST.0 + i) ≡ Some (argument f.arguments i)
+  pub rest_is : slice_get f.registers (REST.0 + length function.parameters) ≡ Some undefined
 
 abbrev pub AreFrames : Program → Heap → List Frame → Type 0
 AreFrames p h [] = Unit {0}

@@ -30,10 +30,10 @@ kind_of stops.Range = scope_kind.Range
 kind_of stops.TextLength = scope_kind.TextLength
 
 -- what an operation gives: nothing, where it doesn't take these values
-abbrev pub Outcome : Type 0
-Outcome = Option (Result Primitive Stop)
+abbrev pub OperatorOutcome : Type 0
+OperatorOutcome = Option (Result Primitive Stop)
 
-abbrev pub gives : Primitive → Outcome
+abbrev pub gives : Primitive → OperatorOutcome
 gives q = Some (Ok q)
 
 abbrev pub truth : Bool → Primitive
@@ -64,14 +64,14 @@ type_of h (value.Primitive (primitive.Text units)) = codes "string"
 type_of h (value.Object a) = type_of_class (class_at h a)
 
 -- an operation on a primitive value, which takes no object
-abbrev pub on_primitive : (Primitive → Result Primitive Stop) → Value → Outcome
+abbrev pub on_primitive : (Primitive → Result Primitive Stop) → Value → OperatorOutcome
 on_primitive f (value.Primitive q) = Some (f q)
 on_primitive f (value.Object a) = None
 
 abbrev pub of_number : (Num → Num) → Primitive → Result Primitive Stop
 of_number f q = to_primitive (λ n. primitive.Number (f n)) (to_number q)
 
-abbrev pub unary : Heap → UnaryOp → Value → Outcome
+abbrev pub unary : Heap → UnaryOp → Value → OperatorOutcome
 unary h unary_op.ToNum v = on_primitive (of_number (λ n. n)) v
 unary h unary_op.ToText v = on_primitive (λ q. Ok (primitive.Text (to_text q))) v
 unary h unary_op.Neg v = on_primitive (of_number arithmetic.neg) v
@@ -82,7 +82,7 @@ unary h unary_op.TypeOf v = gives (primitive.Text (type_of h v))
 
 -- ---- of two values
 
-abbrev pub on_primitives : (Primitive → Primitive → Result Primitive Stop) → Value → Value → Outcome
+abbrev pub on_primitives : (Primitive → Primitive → Result Primitive Stop) → Value → Value → OperatorOutcome
 on_primitives f (value.Primitive a) (value.Primitive b) = Some (f a b)
 on_primitives f (value.Primitive a) (value.Object b) = None
 on_primitives f (value.Object a) v = None
@@ -119,7 +119,7 @@ strict_equal_values (value.Primitive a) (value.Object b) = false
 strict_equal_values (value.Object a) (value.Primitive b) = false
 strict_equal_values (value.Object a) (value.Object b) = same_address a b
 
-abbrev pub binary : BinaryOp → Value → Value → Outcome
+abbrev pub binary : BinaryOp → Value → Value → OperatorOutcome
 binary binary_op.Add a b = on_primitives add a b
 binary binary_op.Sub a b = on_primitives (of_numbers arithmetic.sub) a b
 binary binary_op.Mul a b = on_primitives (of_numbers arithmetic.mul) a b

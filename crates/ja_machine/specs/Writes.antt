@@ -116,22 +116,22 @@ with_length o n =
 -- ---- [[Put]] (8.6.2.2, 15.4.5.1)
 
 -- how a put ends, and the heap behind it
-pub record Written : Type 0 where
+pub record PutOutcome : Type 0 where
   pub put : Put
   pub heap : Heap
 
-abbrev pub written : Heap → Put → Written
+abbrev pub written : Heap → Put → PutOutcome
 written h end = record { put = end; heap = h }
 
-abbrev pub put_length : Heap → Addr → Object → Option ℕ → Written
+abbrev pub put_length : Heap → Addr → Object → Option ℕ → PutOutcome
 put_length h a o None = written h put_ends.RangeError
 put_length h a o (Some n) = written (with_object h a (with_length o n)) put_ends.Done
 
-abbrev pub put_length_value : Heap → Addr → Object → Value → Written
+abbrev pub put_length_value : Heap → Addr → Object → Value → PutOutcome
 put_length_value h a o (value.Object b) = written h put_ends.LengthObject
 put_length_value h a o (value.Primitive q) = put_length h a o (unsigned_number (to_number q))
 
-abbrev pub put_array : Heap → Addr → Object → List ℕ → Value → Written
+abbrev pub put_array : Heap → Addr → Object → List ℕ → Value → PutOutcome
 put_array h a o name v =
     if same_text name length_name then put_length_value h a o v
     else written (with_object h a (with_element o name v (index_of name))) put_ends.Done
@@ -140,12 +140,12 @@ abbrev pub is_array : Class → Bool
 is_array class.Array = true
 is_array class = false
 
-abbrev pub put_own : Heap → Addr → Object → List ℕ → Value → Written
+abbrev pub put_own : Heap → Addr → Object → List ℕ → Value → PutOutcome
 put_own h a o name v =
     if is_array o.class then put_array h a o name v
     else written (with_object h a (object_with_value o name v)) put_ends.Done
 
-abbrev pub put : Heap → Addr → List ℕ → Value → Written
+abbrev pub put : Heap → Addr → List ℕ → Value → PutOutcome
 put h a name v =
     if not (can_put h a name) then written h put_ends.Ignored
     else if is_shared h a name then written h put_ends.SharedArgument

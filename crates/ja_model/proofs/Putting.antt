@@ -19,7 +19,7 @@ use Rattle.ja_machine.specs.declared.machine.Heap.{Heap}
 use Rattle.ja_machine.specs.declared.machine.Put.TheVariants as put_ends
 use Rattle.ja_machine.specs.declared.machine.Event.{Event}
 use Rattle.ja_machine.specs.Heap.{object_at, with_object, can_put, is_shared}
-use Rattle.ja_machine.specs.Writes.{Written, written, object_with_value, put_own, is_array}
+use Rattle.ja_machine.specs.Writes.{PutOutcome, written, object_with_value, put_own, is_array}
 use Rattle.ja_machine.specs.Objects.{first_of}
 use Rattle.ja_machine.specs.Events.{Standing, goes_on, left_scope}
 use Rattle.ja_machine.specs.Nodes.{name_text, not_taken, after_put, puts, is_array_at, write_ref_step}
@@ -39,14 +39,14 @@ module _ (p : Program) (good : IsWellFormed p) (s : Standing) (known : IsHeap p 
   h = s.conf.heap
 
   -- what a put comes to
-  abbrev After : Written → Type 0
+  abbrev After : PutOutcome → Type 0
   After x = P (after_put s (not_taken s) x.heap x.put)
 
   -- a put on an object that is no array
   pub put_at_object : (b : Addr) (o : Object) (n : List ℕ) (v : Value) → object_at h b ≡ Some o → is_array o.class ≡ false → (can_put h b n ≡ false → P (goes_on s h)) → (can_put h b n ≡ true → P (goes_on s (with_object h b (object_with_value o n v)))) → P (puts s (not_taken s) b n v)
   put_at_object b o n v object_is other refused done =
-      let own : Written = option_map_or (λ (x : Object). put_own h b x n v) (object_at h b) (written h put_ends.Done) in
-      let changed : Written = written (with_object h b (object_with_value o n v)) put_ends.Done in
+      let own : PutOutcome = option_map_or (λ (x : Object). put_own h b x n v) (object_at h b) (written h put_ends.Done) in
+      let changed : PutOutcome = written (with_object h b (object_with_value o n v)) put_ends.Done in
       let own_is : own ≡ changed = ap (λ r. option_map_or (λ (x : Object). put_own h b x n v) r (written h put_ends.Done)) object_is ∙ cond-false (is_array o.class) _ _ other in
       either_way After (not (can_put h b n)) (written h put_ends.Ignored) (if is_shared h b n then written h put_ends.SharedArgument else own) (λ e. refused (not-true (can_put h b n) e)) (λ e. either_way After (is_shared h b n) (written h put_ends.SharedArgument) own (λ f. ends scope_kind.SharedArgument) (λ f. subst After (sym own_is) (done (not-false (can_put h b n) e))))
 

@@ -8,7 +8,7 @@ use Rattle.ja_prim.specs.declared.primitive.Primitive.{Primitive}
 use Rattle.ja_prim.specs.declared.primitive.Primitive.TheVariants.{Undefined, Null, Number, Text}
 use Rattle.ja_prim.specs.declared.primitive.Primitive.TheVariants as kind
 use Rattle.ja_prim.specs.declared.stop.Stop.{Stop}
-use Rattle.ja_prim.specs.Index.{is_index_text, digits_value}
+use Rattle.ja_prim.specs.Index.{is_index_text, with_digits}
 use Rattle.ja_prim.specs.TextToNumber.{text_to_number}
 
 -- false are undefined, null, false, NaN, 0 and the empty text (9.2)
@@ -45,4 +45,4 @@ to_text (Text units) = units
 
 -- the array index that a text is, if it is one (15.4)
 abbrev pub index_of : List ℕ → Option ℕ
-index_of units = if is_index_text units then Some (digits_value 0 units) else None
+index_of units = if is_index_text units then Some (with_digits 0 units) else None

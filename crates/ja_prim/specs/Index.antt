@@ -8,9 +8,9 @@ is_index (pos n) = nat_lt n 4294967295
 is_index (negsuc n) = false
 
 -- the number that the digits write, from the first on
-abbrev pub digits_value : ℕ → List ℕ → ℕ
-digits_value n [] = n
-digits_value n (c ∷ cs) = digits_value (10 * n + (c - 48)) cs
+abbrev pub with_digits : ℕ → List ℕ → ℕ
+with_digits n [] = n
+with_digits n (c ∷ cs) = with_digits (10 * n + (c - 48)) cs
 
 abbrev pub starts_with_zero : List ℕ → Bool
 starts_with_zero [] = false
@@ -19,4 +19,4 @@ starts_with_zero (c ∷ cs) = c == 48
 -- one to ten digits, the first not 0 unless it stands alone, of a number that is an index
 abbrev pub is_index_text : List ℕ → Bool
 is_index_text t =
-    nat_lt 0 (length t) && nat_le (length t) 10 && list_all is_digit t && (not (starts_with_zero t) || (length t == 1)) && nat_lt (digits_value 0 t) 4294967295
+    nat_lt 0 (length t) && nat_le (length t) 10 && list_all is_digit t && (not (starts_with_zero t) || (length t == 1)) && nat_lt (with_digits 0 t) 4294967295

@@ -34,7 +34,7 @@ fn starts_with_zero(units: &[u16]) -> bool
 fn digits_value(units: &[u16]) -> u64
     requires few { length units.now ≤ 10 }
     requires all { list_all is_digit units.now ≡ true }
-    ensures { result ≡ spec.digits_value 0 units.now }
+    ensures { result ≡ spec.with_digits 0 units.now }
 {
     let mut value: u64 = 0;
     'units: for unit in units {

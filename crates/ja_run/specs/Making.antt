@@ -21,11 +21,11 @@ use Rattle.ja_run.specs.declared.running.Stopped.{Stopped}
 use Rattle.ja_run.specs.declared.running.Stopped.TheVariants as stopped
 
 -- A device was asked: it answered, and the call is recorded behind the others; or it failed, and no call is.
-abbrev pub IsAnswered : AllSeen → AllSeen → ℕ → List Primitive → List CallRecord → List CallRecord → Option Answer → Type 0
-IsAnswered before after which args calls recorded (Some (answers.Device q)) =
+abbrev pub IsDeviceAnswered : AllSeen → AllSeen → ℕ → List Primitive → List CallRecord → List CallRecord → Option Answer → Type 0
+IsDeviceAnswered before after which args calls recorded (Some (answers.Device q)) =
     IsAsked before after which args (Ok q) × (recorded ≡ calls ++ record { device = which; args = args; answer = q } ∷ [])
-IsAnswered before after which args calls recorded (Some answer) = ⊥
-IsAnswered before after which args calls recorded None =
+IsDeviceAnswered before after which args calls recorded (Some answer) = ⊥
+IsDeviceAnswered before after which args calls recorded None =
     IsAsked before after which args (Err fault.Failed) × (recorded ≡ calls)
 
 -- where memory is refused, the devices are as they were, or that one has answered
@@ -41,9 +41,9 @@ arguments_in (f ∷ below) = primitives f.arguments
 abbrev pub IsGiven : Program → Conf → AllSeen → AllSeen → List CallRecord → List CallRecord → Given → Type 0
 IsGiven p c before after calls recorded (given.Answered answer) =
     (IsUnasked (wants p c) × (answer ≡ answer_to (wants p c)) × (after ≡ before) × (recorded ≡ calls))
-    ⊎ ((which : ℕ) × (wants p c ≡ wanted.Device which) × IsAnswered before after which (arguments_in c.frames) calls recorded (Some answer))
+    ⊎ ((which : ℕ) × (wants p c ≡ wanted.Device which) × IsDeviceAnswered before after which (arguments_in c.frames) calls recorded (Some answer))
 IsGiven p c before after calls recorded (given.Nothing which) =
-    (wants p c ≡ wanted.Device which) × IsAnswered before after which (arguments_in c.frames) calls recorded None
+    (wants p c ≡ wanted.Device which) × IsDeviceAnswered before after which (arguments_in c.frames) calls recorded None
 
 -- where memory is refused, the devices are as they were, or the one that the state asks may have answered
 abbrev pub MayBeGiven : Program → Conf → AllSeen → AllSeen → Type 0

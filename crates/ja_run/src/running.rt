@@ -6,7 +6,7 @@ ghost use Rattle.ja_machine.specs.Machine.{opening_state, wants};
 ghost use Rattle.ja_step.specs.Given.{primitives};
 ghost use Rattle.ja_step.specs.Steps.{conf_of, frame_of};
 ghost use Rattle.ja_run.specs.Asked.{HaveHeard, IsLeft};
-ghost use Rattle.ja_run.specs.Making.{IsAnswered, MayHaveAnswered, IsGiven, MayBeGiven, IsMade, Leaves};
+ghost use Rattle.ja_run.specs.Making.{IsDeviceAnswered, MayHaveAnswered, IsGiven, MayBeGiven, IsMade, Leaves};
 ghost use Rattle.ja_run.specs.Run.{AreAnswered, IsRun};
 ghost use Rattle.ja_run.specs.declared.ended.CallRecord.{CallRecord};
 
@@ -36,7 +36,7 @@ fn ask<D: Device>(
     calls: &mut Vec<CallRecord>,
 ) -> Result<Option<Answer>, Memory>
     requires { which < length devices.old.devices }
-    ensures asked { IfOk result (IsAnswered devices.old devices.new which (primitives (frame_of conf.now.frame).arguments) calls.old.items calls.new.items) }
+    ensures asked { IfOk result (IsDeviceAnswered devices.old devices.new which (primitives (frame_of conf.now.frame).arguments) calls.old.items calls.new.items) }
     ensures memory { IfErr result (λ _. MayHaveAnswered devices.old devices.new which (primitives (frame_of conf.now.frame).arguments)) }
 {
     let args = device_arguments(alloc, conf)?;

@@ -3,19 +3,19 @@ use Rattle.std.proofs.Common.{◌≡◌, ℕ, suc, ◌+◌, ◌-◌, ◌<◌, Li
 use Rattle.std.specs.List.{range_with_len}
 use Rattle.ja_base.specs.declared.ids.ScopeKind.{ScopeKind}
 use Rattle.ja_machine.specs.declared.machine.Value.{Value}
-use Rattle.ja_machine.specs.Calls.{Given, with_first, all_given}
+use Rattle.ja_machine.specs.Calls.{ArgumentsRead, with_first, all_given}
 use Rattle.ja_step.specs.Arguments.{with_front}
 
-front_first : (vs : List Value) (v : Value) (g : Given) → with_front vs (with_first v g) ≡ with_front (vs ++ v ∷ []) g
-front_first vs v (Ok ws) = ap (λ (xs : List Value). let g : Given = Ok xs in g) (sym (append_assoc vs (v ∷ []) ws))
+front_first : (vs : List Value) (v : Value) (g : ArgumentsRead) → with_front vs (with_first v g) ≡ with_front (vs ++ v ∷ []) g
+front_first vs v (Ok ws) = ap (λ (xs : List Value). let g : ArgumentsRead = Ok xs in g) (sym (append_assoc vs (v ∷ []) ws))
 front_first vs v (Err kind) = refl
 
 module _ (f : ℕ → Result Value ScopeKind) (n : ℕ) where
   -- those from a place on
-  abbrev pub rest_from : ℕ → Given
+  abbrev pub rest_from : ℕ → ArgumentsRead
   rest_from i = all_given (map f (range_with_len i (n - i)))
 
-  abbrev pub all : Given
+  abbrev pub all : ArgumentsRead
   all = all_given (map f (range_with_len 0 n))
 
   -- those so far, before the rest, are all

@@ -14,7 +14,7 @@ use Rattle.ja_machine.specs.declared.machine.Put.{Put}
 use Rattle.ja_machine.specs.declared.machine.Put.TheVariants as put_ends
 use Rattle.ja_machine.specs.declared.machine.Event.{Event}
 use Rattle.ja_machine.specs.Heap.{object_at, with_object, can_put, is_shared}
-use Rattle.ja_machine.specs.Writes.{object_with_value, length_name, with_element, unsigned_number, Written, written, put_length, put_length_value, put_array, is_array, put_own, put}
+use Rattle.ja_machine.specs.Writes.{object_with_value, length_name, with_element, unsigned_number, PutOutcome, written, put_length, put_length_value, put_array, is_array, put_own, put}
 use Rattle.ja_machine.specs.Nodes.{puts, after_put}
 use Rattle.ja_machine.proofs.Lists.{either_way}
 use Rattle.ja_machine.proofs.Heaps.{of_object}
@@ -27,7 +27,7 @@ IsLeft after before put_ends.Done = Unit {0}
 IsLeft after before end = after ≡ before
 
 module _ (h : Heap) (a : Addr) where
-  Left : Written → Type 0
+  Left : PutOutcome → Type 0
   Left w = IsLeft w.heap h w.put
 
   left-length : (o : Object) (n : Option ℕ) → Left (put_length h a o n)
@@ -49,7 +49,7 @@ module _ (h : Heap) (a : Addr) where
   left-put : (name : List ℕ) (v : Value) → Left (put h a name v)
   unfolding Left
   left-put name v =
-      let own : Written = option_map_or (λ (o : Object). put_own h a o name v) (object_at h a) (written h put_ends.Done) in
+      let own : PutOutcome = option_map_or (λ (o : Object). put_own h a o name v) (object_at h a) (written h put_ends.Done) in
       let put_it : Left own = of_object h a Left (λ (o : Object). put_own h a o name v) (written h put_ends.Done) tt (λ o is. left-own o name v) in
       either_way Left (not (can_put h a name)) (written h put_ends.Ignored) (if is_shared h a name then written h put_ends.SharedArgument else own) (λ e. refl) (λ e. either_way Left (is_shared h a name) (written h put_ends.SharedArgument) own (λ f. refl) (λ f. put_it))
 
@@ -61,4 +61,4 @@ module _ (h : Heap) (a : Addr) where
 -- what a node does after a put is what it does at the state before, if the heap is as it was
 pub left_event : (c : Conf) (info : NodeInfo) (wrong_length : Event) (a : Addr) (name : List ℕ) (v : Value) (after : Heap) (end : Put) (f : Conf → Event) → written after end ≡ put c.heap a name v → after ≡ c.heap → after_put (standing c info) wrong_length after end ≡ f c → f (record c { heap = after }) ≡ puts (standing c info) wrong_length a name v
 left_event c info wrong_length a name v after end f is left gives =
-    ap (λ (h : Heap). f (record c { heap = h })) left ∙ sym gives ∙ ap (λ (w : Written). after_put (standing c info) wrong_length w.heap w.put) is
+    ap (λ (h : Heap). f (record c { heap = h })) left ∙ sym gives ∙ ap (λ (w : PutOutcome). after_put (standing c info) wrong_length w.heap w.put) is

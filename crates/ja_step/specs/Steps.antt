@@ -56,12 +56,12 @@ abbrev pub standing : Conf → NodeInfo → Standing
 standing c info = record { conf = conf_of c; top = frame_of c.frame; below = below_of c; info = info }
 
 -- The event of a step from one state to another: the run goes on, or it ends. The step is counted.
-abbrev pub counted : Conf → Conf → machine_conf.Conf
-counted before after = record (conf_of after) { steps = before.steps + 1 }
+abbrev pub step_counted : Conf → Conf → machine_conf.Conf
+step_counted before after = record (conf_of after) { steps = before.steps + 1 }
 
 abbrev pub leads_to : Conf → Option End → Conf → Event
-leads_to before None after = event.Next (counted before after)
-leads_to before (Some end) after = event.End end (counted before after)
+leads_to before None after = event.Next (step_counted before after)
+leads_to before (Some end) after = event.End end (step_counted before after)
 
 -- the same, of a state that has counted the step
 abbrev pub event_of : Option End → Conf → Event

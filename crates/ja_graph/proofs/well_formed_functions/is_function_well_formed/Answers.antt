@@ -2,7 +2,7 @@ use Rattle.std.proofs.Common.{List, sym, ◌∙◌, subst}
 use Rattle.std.specs.List.{AllByRecursion}
 use Rattle.ja_base.specs.declared.ids.NameId.{NameId}
 use Rattle.ja_graph.specs.declared.node.NodeInfo.{NodeInfo}
-use Rattle.ja_graph.specs.Parts.{LastIsEscape}
+use Rattle.ja_graph.specs.WellFormed.{LastIsEscape}
 use Rattle.ja_graph.specs.WellFormed.{IsName}
 use Rattle.ja_graph.proofs.well_formed_functions.is_function_well_formed.Goals as goal
 use Rattle.ja_graph.proofs.well_formed_functions.is_function_well_formed.Goals.{then-is_last_escape, else-is_last_escape, then-has_registers, else-has_registers}

@@ -5,5 +5,5 @@ use Rattle.ja_prim.proofs.index.digits_value.Given as goal
 abbrev pub invariant-units : goal.invariant-units
 invariant-units l = record {
   below : l.value < 10 ^ l.unit-index;
-  same : spec.digits_value l.value (drop l.unit-index l.units) ≡ spec.digits_value 0 l.units;
+  same : spec.with_digits l.value (drop l.unit-index l.units) ≡ spec.with_digits 0 l.units;
 }

@@ -2,7 +2,7 @@ use Rattle.std.proofs.Common.{ap, ◌∙◌, [], ◌∷◌, Option}
 use Rattle.std.specs.Prelude.{slice_get}
 use Rattle.std.specs.Option.{option_map}
 use Rattle.ja_machine.specs.declared.machine.Value.{Value}
-use Rattle.ja_machine.specs.Intrinsics.{Outcome, Row, rows}
+use Rattle.ja_machine.specs.Intrinsics.{IntrinsicOutcome, Computation, rows}
 use Rattle.ja_machine.specs.Nodes.{sets_given}
 use Rattle.ja_step.specs.Steps.{held, standing}
 use Rattle.ja_step.proofs.conf.Conf.operates_on_two.Goals as goal
@@ -11,6 +11,6 @@ pub returns : goal.returns
 returns c =
     let s = standing c.args.self.now c.args.info.now in
     c.sets_given.ensures
-    ∙ ap (λ (o : Option Outcome). sets_given s c.args.dst o) (c.in_ok-outcome.ensures
-    ∙ (ap (λ (v : Value). option_map (λ (row : Row). row (v ∷ c.in_ok-second.second ∷ []) c.args.self.now.heap) (slice_get rows c.args.which)) c.in_ok-first.ensures
-    ∙ ap (λ (v : Value). option_map (λ (row : Row). row (held c.args.self.now c.args.a ∷ v ∷ []) c.args.self.now.heap) (slice_get rows c.args.which)) c.in_ok-second.ensures))
+    ∙ ap (λ (o : Option IntrinsicOutcome). sets_given s c.args.dst o) (c.in_ok-outcome.ensures
+    ∙ (ap (λ (v : Value). option_map (λ (row : Computation). row (v ∷ c.in_ok-second.second ∷ []) c.args.self.now.heap) (slice_get rows c.args.which)) c.in_ok-first.ensures
+    ∙ ap (λ (v : Value). option_map (λ (row : Computation). row (held c.args.self.now c.args.a ∷ v ∷ []) c.args.self.now.heap) (slice_get rows c.args.which)) c.in_ok-second.ensures))
