@@ -1,4 +1,10 @@
-//! What every other crate stands on: the numbers of things, lists, and where bytes come from and go to.
+//! What every other crate stands on: the numbers of things, lists, and where bytes come from and go
+//! to.
+//!
+//! Sources and sinks keep bytes and counts: what a read takes was left, what a write appends was
+//! given, and an error comes only where the count of faults rose (`Source`, `Sink`). A source is
+//! read whole, or `TooLong` says that there is more than the limit (`read_all`); a text is written
+//! whole, or its front is (`write_all`). Contracts see a `Seq` as the list of its elements.
 #![tactic(auto)]
 
 mod ids;

@@ -1,5 +1,10 @@
 //! Flow graphs: the nodes of each function, the sites where objects are made, the names, and the
 //! objects that are there when a run begins.
+//!
+//! Definitions: nodes of every kind, programs, and when a program is well formed, which
+//! `well_formed` decides exactly. `renamed` is a node with each of its numbers mapped; the parts of
+//! a program are found by their numbers; the numbered names are those that they are called after
+//! (`laws.rt`).
 #![tactic(auto)]
 
 mod attrs;

@@ -1,4 +1,9 @@
 //! The tokens of a program's text (ES3 section 7).
+//!
+//! `tokens` gives exactly the tokens of a text, with their places, as `specs/Tokens.antt` defines
+//! them. Laws (`laws.rt`): a mark that is read is the longest of ES3 7.7 that the text begins with;
+//! a decimal literal that is read is the longest that stands there; the spans of tokens stand in
+//! order; and the list ends once, with the end of the text or a refusal.
 #![tactic(auto)]
 
 mod blanks;

@@ -1,4 +1,17 @@
-//! From the tree of a text, or of built-in functions, to its flow graph; and the functions of host devices.
+//! From the tree of a text, or of built-in functions, to its flow graph; and the functions of host
+//! devices.
+//!
+//! Any tree has exactly the functions, sites and names of its definition (`lower`), and so have the
+//! texts of built-in functions (`lower_prelude`) and the functions of host devices
+//! (`device_functions`). Else comes `Functions` exactly where there are more than 4,096, else
+//! `Nodes` exactly where there are more than 65,536, parameters among them, else `Names` exactly
+//! where there are more than 1,048,576.
+//!
+//! Laws (`laws.rt`): each name and function of a text is found; and of a text with the functions of
+//! devices and the built-in ones behind its own, the names of the built-in ones keep their numbers,
+//! the functions are well formed where the nodes of the built-in ones are allowed, their sites
+//! stand by function and node without a gap, and what is told of sites names functions of the
+//! program.
 #![tactic(auto)]
 
 ghost use Rattle.std.specs.Prelude.{◌≡◌, ◌<◌, ◌≤◌, ◌+◌, ◌^◌, length, map, filter, IfOk, IfErr, OnOk};

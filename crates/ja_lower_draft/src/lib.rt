@@ -1,4 +1,10 @@
-//! The listing of a function as it is written: its lines, its registers and spots, and copies of blocks.
+//! The listing of a function as it is written: its lines, its registers and spots, and copies of
+//! blocks.
+//!
+//! The lines of a listing are those of its definition as they are added (`Draft`), with copies of
+//! blocks, which are written out last. A copy of the block of a `finally` has its nodes at the same
+//! places, with the block's temporaries moved up behind a register, every other register as it was,
+//! and the block's edges (`laws.rt`).
 #![tactic(auto)]
 
 pub mod conversion;

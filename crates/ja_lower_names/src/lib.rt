@@ -1,4 +1,7 @@
 //! The functions and the names of a text, in its order.
+//!
+//! The functions and the names of a text, in its order (`functions_in`, `names_in`), and the number
+//! of a name (`Names`), by their definitions.
 #![tactic(auto)]
 
 mod names;

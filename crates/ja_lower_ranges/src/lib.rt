@@ -1,4 +1,13 @@
-//! The numbers in what is listed of a function are in range. The functions do nothing; their contracts are the laws.
+//! The numbers in what is listed of a function are in range. The functions do nothing; their
+//! contracts are the laws.
+//!
+//! Laws alone: in what is listed of any text whose names and functions are found a node sets
+//! `thrown`, `scope` or a temporary, its name and its function are of the program, and its sites
+//! are numbered in their order; each function of the text is then found with its own names and
+//! functions; the last node is Escape; each edge of a copied block leads to one of its nodes or out
+//! of it; a run of a program begins at node 0. Whatever way leaves a `catch`, the scope chain is
+//! again what it was at its `try` (`scope_laws.rt`); each spot to which an edge or a jump leads
+//! stands in the listing, and only once (`spot_laws.rt`).
 #![tactic(auto)]
 
 pub mod scope_laws;

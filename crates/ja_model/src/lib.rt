@@ -1,4 +1,9 @@
-//! What an abstract state says of the states of a run: definitions alone, over these types, and the laws.
+//! What an abstract state says of the states of a run: definitions alone, over these types, and the
+//! laws.
+//!
+//! Laws, of programs that are built (`AreBuilt`): a closed table covers every run
+//! (`closed_covers`); an operation without a warning never goes wrong (`warned_of_faults`); and
+//! what goes wrong in a run is what throws (`faults_throw`). `specs/Sound.antt` states the theorem.
 #![tactic(auto)]
 
 mod abstraction;

@@ -1,5 +1,12 @@
 //! What the forms of the grammar are read with (ES3 sections 7 and 11 to 14): the tokens one after
 //! another, what the next of them is, what stands around a statement, and the nodes of a tree.
+//!
+//! What the next token is and the tokens behind those that were taken (`Cursor`); the operators
+//! with their levels (`binary_operator`, `unary_operator`, `assignment_operator`); declared names
+//! and parameters, literals, jumps to labels and inserted semicolons (`declared`, `parameters`,
+//! `literal_expression`, `continue_statement`, `ended`); and what stands around a statement
+//! (`loop_context`, `labelled_context`, and so on): each follows its reading function of
+//! `ja_grammar`.
 #![tactic(auto)]
 
 mod context;

@@ -1,5 +1,17 @@
-//! The built-in objects and functions (ES3 section 15): the table of the objects that are there when a run begins, and the functions as
-//! texts, with the special forms that begin with `$`.
+//! The built-in objects and functions (ES3 section 15): the table of the objects that are there
+//! when a run begins, and the functions as texts, with the special forms that begin with `$`.
+//!
+//! The built-in objects are exactly those of the table, with their sites (`opening_objects`,
+//! `builtin_sites`), and the built-in functions those of their texts: trees, paths and names
+//! (`Prelude::read`), and nodes (`Prelude::functions`).
+//!
+//! Laws of the table (`table_laws.rt`, `opening_laws.rt`): each property, site and function has its
+//! name, each object its prototype and each property its attributes as they are told in
+//! `specs/Table.antt`; the objects are well formed. Laws of the texts (`laws.rt`): each is in the
+//! language and is one function of the table, with as many parameters as its `length` says; its
+//! nodes are allowed in any program; it stops only where that is told; and a default value comes of
+//! both methods in the order of its hint. What else a text does is compared with the section of ES3
+//! that stands beside it.
 #![tactic(auto)]
 
 pub mod laws;

@@ -1,4 +1,20 @@
-//! Primitive values of ES3 (section 8) in the profile: whole numbers and NaN, and texts of 16-bit units.
+//! Primitive values of ES3 (section 8) in the profile: whole numbers and NaN, and texts of 16-bit
+//! units.
+//!
+//! Every operation is its definition over whole numbers and lists of units (`specs/`), on all
+//! operands: `add`, `sub`, `mul`, `div`, `rem`, `neg`, the shifts, `and`, `or`, `xor`, `not`,
+//! `compare`, `loose_eq`, `strict_eq`, `to_num`, `to_bool`, `to_text`, `to_int32`, `to_uint32`,
+//! `array_index`, `placed`, `hexadecimal_value`, `Text16::from_str`, `Primitive::copy`. A text has
+//! at most 1,048,576 units, by its type. `Range` comes exactly where the exact result passes the
+//! range, else `Fraction` exactly where it isn't whole; `TextLength` exactly where a text is too
+//! long.
+//!
+//! Laws say what the definitions come to, in the words of the integers (`laws.rt`,
+//! `laws_of_texts.rt`): sums, differences and products are those of the integers, quotients and
+//! remainders are exact; `and`, `or`, `xor` and `not` go bit by bit over 32 bits, and shifts
+//! multiply and divide by powers of two; a decimal literal has the value that its digits say; a
+//! number is read back from its text; strict equality is an equivalence but for NaN; the orders of
+//! numbers and of texts are strict.
 #![tactic(auto)]
 
 mod addition;

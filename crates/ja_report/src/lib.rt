@@ -1,4 +1,8 @@
-//! What the program prints: reports, the visits of a spent budget, and refusals, as texts to the byte.
+//! What the program prints: reports, the visits of a spent budget, and refusals, as texts to the
+//! byte.
+//!
+//! Exactly the report, the spent text and the refusals of their definitions, to the byte (`report`,
+//! `spent_text`, `refusal_text`).
 #![tactic(auto)]
 
 mod lines;

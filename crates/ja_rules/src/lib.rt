@@ -1,5 +1,10 @@
-//! Tables of abstract states: the abstract step of a node, the visits that build a table, the solver
-//! that makes a closed one, and the warnings of a table.
+//! Tables of abstract states: the abstract step of a node, the visits that build a table, the
+//! solver that makes a closed one, and the warnings of a table.
+//!
+//! The abstract step is that of its definition (`transfer`), and so is a visit, which leaves the
+//! table as it was after want of memory (`visit`). `solve` gives a table that the visits build and
+//! that is closed, or says that the budget is spent, with its cause. `warnings` are exactly those
+//! of the table.
 #![tactic(auto)]
 
 mod alternative;

@@ -1,4 +1,41 @@
 //! The answer to words, a source and host devices: analyses and runs.
+//!
+//! The clause `answered` of `tajs` (`top.rt`), by `IsAnswered` of `specs/Answers.antt`, says of all
+//! words, sources, sinks and lists of devices:
+//!
+//! - **each status has its cause**. Want of memory (16) alone is free, and 3 and 4 come only where
+//!   the source's or the sink's count of faults rose in this call. Where none of these comes, it is
+//!   2 exactly where the words aren't `analyse`, `run`, or `run --steps` and a number from 1 to
+//!   10,000,000; 5 where more than 16,777,216 bytes were left; 6 exactly where the bytes are no
+//!   UTF-8, with the offset of the first byte that begins no character; 7, 8 and 9 exactly where
+//!   the text isn't in the language, with the kind and the place that `ja_grammar` determines; 9
+//!   also exactly where it is in the language and has more than 4,096 functions, or else its graph
+//!   and parameters are more than 65,536 nodes; 20 exactly where it is analysed, is within these
+//!   limits and has a form that isn't built, with the place of the first one; 10 only where the
+//!   1,000,000 visits that are printed each changed the table and the last one isn't closed; 12 to
+//!   15 only of a run, by its end.
+//! - **what was written**: after every status but 4 and 16 the text of that answer, whole, and the
+//!   sink is finished; after 4 the front of the text of another answer whose cause holds; after 16
+//!   nothing.
+//! - **the report** (0 and 1 of `analyse`): that of the program of the bytes that were read, of the
+//!   table that the printed visits build from the opening, each of them changing it, of these
+//!   visits, at most 1,000,000, and of its warnings. The table is closed, the warnings are exactly
+//!   those of the table, and 1 comes exactly where there is one.
+//! - **the theorem** (`CoversRuns`, `WarnsOfFaults` of `ja_model`): after every list of answers the
+//!   state of the program's run lies in the meaning of the printed state at its node and context;
+//!   an operation that goes wrong in some run has a warning; and no run is stuck (`NeverStuck`).
+//! - **the transcript** (0, and 12 to 15, of `run`): that of the run of the program of the bytes
+//!   that were read, of at most so many steps, where each step is given leave to go on, at a
+//!   `for`-`in` the first of the names that the machine may take, and at a device the next of the
+//!   answers that are written. The calls are those that the machine asked for, in order, with their
+//!   arguments. The end is that of the last step, told in the heap of that step; or all steps were
+//!   made and the run has a state behind them (15); or the run stands where a device is asked,
+//!   which failed (12).
+//! - **the devices**: each comes back, in its place, but for the one that failed where the
+//!   transcript says so. What a device that tells it has heard is what the transcript says it
+//!   answered, in order and with the arguments, and nothing else of it has changed. After 16 each
+//!   comes back, and has heard no more than the calls of some first steps. What is seen of one
+//!   changes only in a `run`.
 #![tactic(auto)]
 
 mod analysis;

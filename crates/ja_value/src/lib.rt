@@ -1,5 +1,9 @@
 //! Abstract values and properties as the analyser keeps them. Each stands for an abstract value or
 //! property of the definitions.
+//!
+//! Each operation is the one on the maps of the definitions, and tells whether something changed
+//! (`AValue::join`, and so on). What was lent is as it was after want of memory (the clauses
+//! `kept`).
 #![tactic(auto)]
 
 mod label_set;
