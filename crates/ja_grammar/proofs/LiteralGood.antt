@@ -29,7 +29,7 @@ use Rattle.ja_grammar.proofs.Lists.{listed_good, listed_sample}
 use Rattle.ja_grammar.proofs.Opening.{opening_inverse}
 use Rattle.ja_grammar.proofs.Outcomes.{entered}
 use Rattle.ja_grammar.proofs.Roomier.{Roomier, token_sample, expected_sample, any_first, then_pure, enters, lower, expects, takes_one, unexpected, takes_pure, closes_pure, opens, opens_sample, below_sample}
-use Rattle.ja_grammar.proofs.SampleTokens.{name, name_is, name_real, function_word, function_word_is, function_word_real, open_parenthesis, open_parenthesis_is, open_parenthesis_real, close_parenthesis, close_parenthesis_is, close_parenthesis_real, open_brace, open_brace_is, open_brace_real, close_brace, close_brace_is, close_brace_real, close_bracket, close_bracket_is, close_bracket_real, colon, colon_is, colon_real}
+use Rattle.ja_grammar.proofs.SampleTokens.{name, name_is, name_real, open_parenthesis, open_parenthesis_is, open_parenthesis_real, close_parenthesis, close_parenthesis_is, close_parenthesis_real, open_brace, open_brace_is, open_brace_real, close_brace, close_brace_is, close_brace_real, close_bracket, close_bracket_is, close_bracket_real, colon, colon_is, colon_real}
 use Rattle.ja_grammar.proofs.Steps.{pure_sample, bind_sample, end_sample, unless_good}
 use Rattle.ja_grammar.proofs.Strict.{room_strict}
 use Rattle.ja_grammar.proofs.Until.{until_good, until_sample}
@@ -131,11 +131,6 @@ module _ {U : Tokens} {O : Refusal} {J : Reason O} {d : ℕ} {g' : Rules} {b b' 
       (λ xs _. then_pure _ function_body_sample))
       (λ x _. bind_sample parameters_sample (λ xs _. then_pure _ function_body_sample)))
       (λ t _. bind_sample (function_name_sample required) (λ x _. bind_sample parameters_sample (λ xs _. then_pure _ function_body_sample)))
-
-  pub function_sample : (required : Bool) → Sample U (function g' b' required) Any Any Any
-  unfolding function
-  function_sample required = expected_sample _ k.Function function_word function_word_is function_word_real (λ tail. tt)
-      (bind_sample (function_name_sample required) (λ x _. bind_sample parameters_sample (λ xs _. then_pure _ function_body_sample)))
 
   -- ---- array and object literals
 

@@ -172,11 +172,6 @@ pub enter_done : (g : Rules) (t : Token) (r : Tokens) → HasRoom g (t ∷ r) �
 unfolding enter
 enter_done g t r room = unless_reads g Deep take_token (t ∷ r) room
 
--- where none is left, it refuses
-pub enter_refuses : (g : Rules) (i : Tokens) → g Deep i ≡ true → enter g i ≡ Refused Deep i
-unfolding enter
-enter_refuses g i on = unless_refuses g Deep take_token i on
-
 -- what entered had a level left
 pub entered : (g : Rules) (i : Tokens) {t : Token} {r : Tokens} → enter g i ≡ Done t r → HasRoom g i
 unfolding enter
@@ -193,22 +188,10 @@ enter_inverse g i {t} {r} more e = (entered g i e, take_inverse i r more (entere
 
 -- ---- what must have been there, for what is to be shown
 
--- the next token has this symbol, so it is there
-pub at_token : (P : Tokens → Type 0) (k : Symbol) → k ≢ End → (i : Tokens) → next i ≡ k → ((t : Token) (m : Tokens) → Is k t → P (t ∷ m)) → P i
-at_token P k more i at h = subst P (sym (cons_of i (λ ends. more (sym at ∙ ends)))) (h (head i) (behind i) at)
-
 -- a whole gave a value
 pub then_is : {A B : Type 0} {P : Type 0} (p : Parser A) (f : A → Parser B) (i : Tokens) {b : B} {r : Tokens} → (p >>= f) i ≡ Done b r
     → ((a : A) (m : Tokens) → p i ≡ Done a m → f a m ≡ Done b r → P) → P
 then_is p f i e h = let s = bind_inverse p f i e in h s.0 s.1 s.2 s.3
-
--- entering, and what follows, gave a value
-pub enter_then : {B : Type 0} {P : Type 0} (g : Rules) (f : Token → Parser B) (t : Token) (m : Tokens) {b : B} {r : Tokens} → (enter g >>= f) (t ∷ m) ≡ Done b r
-    → (HasRoom g (t ∷ m) → f t m ≡ Done b r → P) → P
-enter_then g f t m e h =
-    let s = bind_inverse (enter g) f (t ∷ m) e in
-    let room = entered g (t ∷ m) s.2 in
-    h room (sym (ap (λ o. and_then o f) (enter_done g t m room)) ∙ e)
 
 -- a token with this symbol, and what follows, gave a value
 pub expect_then : {B : Type 0} (P : Tokens → Type 0) (k : Symbol) (f : Token → Parser B) → k ≢ End → (i : Tokens) {b : B} {r : Tokens} → (expect k >>= f) i ≡ Done b r

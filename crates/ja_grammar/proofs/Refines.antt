@@ -9,7 +9,7 @@ use Rattle.ja_grammar.specs.declared.fault.Refusal.TheVariants.{Unexpected, Deep
 use Rattle.ja_grammar.specs.declared.part.ExpressionPart.{ExpressionPart}
 use Rattle.ja_grammar.specs.declared.part.StatementPart.{StatementPart}
 use Rattle.ja_grammar.specs.Contexts.{Context}
-use Rattle.ja_grammar.specs.Input.{Tokens, next, symbol, behind, Outcome, Done, Refused, Parser, and_then, pure, look, Rules, enter, opening, expect, after_turn, many_from, many, until_by, until, after_comma, separated, listed_by, listed}
+use Rattle.ja_grammar.specs.Input.{Tokens, next, symbol, behind, Outcome, Done, Refused, Parser, and_then, pure, look, Rules, enter, opening, after_turn, many_from, many, until_by, until, after_comma, separated, listed_by, listed}
 use Rattle.ja_grammar.specs.Language.{is_level}
 use Rattle.ja_grammar.specs.Productions.{HasRoom}
 use Rattle.ja_grammar.specs.ReadExpression.{Below}
@@ -88,10 +88,6 @@ unless_refines {A = A} g g' why i {o = o} {u = u} (inr e) second least = refused
     go : (x : Bool) → length (rest_of {A = A} (if x then Refused why i else u)) ≤ length i
     go true = le_refl (length i)
     go false = least
-
--- a token with this symbol
-pub expect_refines : {C : Lenient} (k : Symbol) (i : Tokens) → Refines C (expect k i) (expect k i)
-expect_refines k i = same refl
 
 -- a token that counts
 pub enter_refines : {C : Lenient} (g g' : Rules) (i : Tokens) → Asks C g g' Deep i → Refines C (enter g i) (enter g' i)

@@ -25,7 +25,7 @@ use Rattle.ja_grammar.specs.Forms.{word, name_of, is_label, is_label_behind, end
 use Rattle.ja_grammar.specs.Input.{Tokens, head, next, behind, symbol, Done, Parser, pure, look, enter, opening, expect, Rules}
 use Rattle.ja_grammar.specs.Productions.{HasRoom}
 use Rattle.ja_grammar.specs.ReadExpression.{Below, assignment_below, assignment, is_close_brace}
-use Rattle.ja_grammar.specs.ReadStatement.{ended, variable_by, variable, labelled_by, unlabelled_by, target_by, jump_target, without_target, enter_label, Clauses, inner, block, bracketed, variables, expression_statement, untargeted, continue, continue_by, break, break_by, returned, returned_by, return, return_by, thrown, thrown_by, throw, label, label_by, labelled, clause, case, default, default_by, clause_by, cases, switch, catch, finally, finally_by, handlers_by, try, labelled_or_expression, function_statement, headed, single_by, single, else_by, if_part, do_part, while_part, optional, optional_by, for_rest, in_rest, for_variables, for_variables_by, in_reference_by, for_expression, for_expression_by, for_by, for_part, statement_part}
+use Rattle.ja_grammar.specs.ReadStatement.{variable_by, variable, labelled_by, unlabelled_by, target_by, jump_target, without_target, enter_label, Clauses, inner, block, bracketed, variables, expression_statement, untargeted, continue, continue_by, break, break_by, returned, returned_by, return, return_by, thrown, thrown_by, throw, label, label_by, labelled, clause, case, default, default_by, clause_by, cases, switch, catch, finally, finally_by, handlers_by, try, labelled_or_expression, function_statement, headed, single_by, single, else_by, if_part, do_part, while_part, optional, optional_by, for_rest, in_rest, for_variables, for_variables_by, in_reference_by, for_expression, for_expression_by, for_by, for_part, statement_part}
 use Rattle.ja_grammar.proofs.Outcomes.{entered, bind_inverse, unless_inverse}
 use Rattle.ja_grammar.proofs.Refines.{Lenient, Refines, same, AsksEach, RefinesBelow, bind_refines, then_refines, tail_refines, value_refines, unless_refines, enter_refines, opening_refines, opened, many_refines, until_refines, separated_refines}
 use Rattle.ja_grammar.proofs.RefinesExpressions.{declared_refines, function_refines, assignment_refines, whole_refines}
@@ -33,10 +33,6 @@ use Rattle.ja_grammar.proofs.Shrinks.{Takes, bind_leaves, value_leaves, behind_s
 use Rattle.ja_grammar.proofs.Walks.{labelled_entered}
 use Rattle.ja_grammar.proofs.ExpressionTakes.{declared_takes, assignment_takes}
 use Rattle.ja_grammar.proofs.StatementTakes.{ended_then, closed, variable_by_shrinks, variable_takes, enter_label_shrinks, block_takes, bracketed_takes, clause_takes, clause_turn_shrinks, cases_takes, finally_by_shrinks, handlers_by_takes, single_takes, else_by_shrinks, optional_takes, for_variables_by_takes, for_expression_by_takes, for_by_takes}
-
--- the end of a statement
-pub ended_refines : {C : Lenient} (i : Tokens) → Refines C (ended i) (ended i)
-ended_refines i = same refl
 
 -- ---- names and labels
 

@@ -62,10 +62,6 @@ pub function_word_is : Is k.Function function_word
 unfolding function_word
 function_word_is = symbols.function_word_is
 
-pub function_word_real : {U : Tokens} → IsRealAfter U function_word
-unfolding function_word tokens tokens_after chars first_element is_white is_terminator begins_comment begins_number begins_word is_part is_escape is_hexadecimal word after past ends_line
-function_word_real = given_real (codes "function") function_word refl
-
 -- ---- marks
 
 pub open_parenthesis : Token
@@ -140,10 +136,6 @@ comma = token (Mark (codes ",")) (codes ",")
 pub comma_is : Is k.Comma comma
 unfolding comma
 comma_is = symbols.comma_is
-
-pub comma_real : {U : Tokens} → IsRealAfter U comma
-unfolding comma tokens tokens_after chars first_element is_white is_terminator begins_comment begins_number begins_word is_part is_escape is_hexadecimal begins_string mark marks begins_with after past ends_line
-comma_real = given_real (codes ",") comma refl
 
 pub colon : Token
 colon = token (Mark (codes ":")) (codes ":")

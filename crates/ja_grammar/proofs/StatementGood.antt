@@ -100,10 +100,6 @@ module _ {U : Tokens} {O : Refusal} {J : Reason O} {d : ℕ} {g' : Rules} {b b' 
   semicolon_good some c names place x i = bind_good i h.reasons.closed (expects h k.Semicolon i (λ e. cc e)) (λ t r _. for_rest_good some c names place x r)
       (λ t _. any_after (for_rest_sample g' b' h.some (below_sample h (of_expression.Whole false)) c place x))
 
-  semicolon_sample : (c : Context) (place : Place) (x : ForFirst Expression) → Sample U (expect k.Semicolon >> for_rest g' b' c place x) EndsExpression EndsStatement Any
-  semicolon_sample c place x = expected_sample (λ _. for_rest g' b' c place x) k.Semicolon semicolon semicolon_is semicolon_real semicolon_goes
-      (any_after (for_rest_sample g' b' h.some (below_sample h (of_expression.Whole false)) c place x))
-
   in_rest_good : 0 < d → (c : Context) → AreNames U c → (place : Place) (x : ForTarget Expression) (i : Tokens) → next i ≡ k.In → GoodAt U J (in_rest (strict d) b c place x) (in_rest g' b' c place x) EndsStatement Any i
   unfolding in_rest
   in_rest_good some c names place x i is = token_good (λ _. rest (strict d) b) (λ _. rest g' b') i h.reasons.closed (λ ends. cc (is, ends))

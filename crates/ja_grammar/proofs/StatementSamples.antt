@@ -57,18 +57,6 @@ pub while_ends : (κ : Symbol) → κ ≡ k.While → ends_block κ ≡ true
 unfolding ends_block
 while_ends κ is = ap ends_block is
 
--- a `;`
-pub ended_sample : {U : Tokens} {F : Follow} → ((tail : Tokens) → F (semicolon ∷ tail)) → Sample U ended F Any Any
-unfolding ended
-ended_sample starts = record {
-  more = semicolon ∷ [];
-  value = tt;
-  real = (semicolon_real, tt);
-  fits = tt;
-  follows = λ tail _. starts tail;
-  reads = λ tail _. ap (λ κ. ended_by κ semicolon.line_before (semicolon ∷ tail)) semicolon_is;
-}
-
 -- and then a value
 pub ended_then_sample : {U : Tokens} {A : Type 0} {F H : Follow} (a : A) → ((tail : Tokens) → F (semicolon ∷ tail)) → Sample U (ended >> pure a) F H Any
 unfolding ended

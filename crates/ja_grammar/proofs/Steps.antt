@@ -6,13 +6,13 @@ use Rattle.ja_syntax.specs.declared.symbol.Symbol.TheVariants.{End}
 use Rattle.ja_syntax.specs.Symbols.{same_symbol}
 use Rattle.ja_grammar.specs.declared.fault.Refusal.{Refusal}
 use Rattle.ja_grammar.specs.declared.fault.Refusal.TheVariants.{Unexpected, Deep, DeepLabel}
-use Rattle.ja_grammar.specs.Input.{Tokens, head, next, behind, symbol, Outcome, Done, Refused, Parser, and_then, ◌>>=◌, pure, refuse, look, look_second, Rules, strict, unless, take_token, enter, expect}
+use Rattle.ja_grammar.specs.Input.{Tokens, head, next, behind, symbol, Outcome, Done, Refused, Parser, and_then, ◌>>=◌, pure, refuse, look_second, Rules, strict, unless, take_token, enter, expect}
 use Rattle.ja_grammar.specs.Language.{is_level, is_same}
 use Rattle.ja_grammar.specs.Productions.{Is, HasRoom}
-use Rattle.ja_grammar.proofs.Outcomes.{done_rest, same_done, same_refused, done_not_refused, refused_not_done, same_symbol_true, same_symbol_false, cons_of, rest_of, head_behind, expect_done, unless_reads, unless_refuses, enter_done}
+use Rattle.ja_grammar.proofs.Outcomes.{done_rest, same_done, same_refused, done_not_refused, refused_not_done, same_symbol_true, same_symbol_false, cons_of, rest_of, head_behind, expect_done, unless_reads, unless_refuses}
 use Rattle.ja_grammar.proofs.Shrinks.{Leaves, Moves, shrinks_by, split_within}
 use Rattle.ja_grammar.proofs.Good.{Follow, Reason, lifted, elsewhere, is_jump, Completes, CompletesWith, Viable, Sample, Stops, Refuses, GoodAt, unexpected_stays, refuse_good, lifted_good, like_good, look_good}
-use Rattle.ja_grammar.proofs.Real.{IsRealAfter, AreRealAfter, real_append}
+use Rattle.ja_grammar.proofs.Real.{IsRealAfter, real_append}
 use Rattle.ja_grammar.proofs.Strict.{strict_asks, strict_room, strict_room_label, strict_full, strict_full_label}
 
 -- ---- samples
@@ -40,35 +40,10 @@ bind_sample {U} {f = f} {F} {G} {H} {V} {W} first second = record {
 pub expect_sample : {U : Tokens} (k : Symbol) (t : Token) {F G : Follow} {W : Token → Type 0} → Is k t → IsRealAfter U t → W t → ((tail : Tokens) → G tail → F (t ∷ tail)) → Sample U (expect k) F G W
 expect_sample k t is real w starts = record { more = t ∷ []; value = t; real = (real, tt); fits = w; follows = starts; reads = λ tail ends. expect_done k t tail is }
 
--- the next token, whatever it is
-pub take_sample : {U : Tokens} (t : Token) {F G : Follow} {W : Token → Type 0} → IsRealAfter U t → W t → ((tail : Tokens) → G tail → F (t ∷ tail)) → Sample U take_token F G W
-take_sample t real w starts = record { more = t ∷ []; value = t; real = (real, tt); fits = w; follows = starts; reads = λ tail ends. refl }
-
--- a token that counts, with levels left
-pub enter_sample : {U : Tokens} (g : Rules) (t : Token) {F G : Follow} {W : Token → Type 0} → ((i : Tokens) → HasRoom g i) → IsRealAfter U t → W t → ((tail : Tokens) → G tail → F (t ∷ tail)) → Sample U (enter g) F G W
-enter_sample g t room real w starts = record { more = t ∷ []; value = t; real = (real, tt); fits = w; follows = starts; reads = λ tail ends. enter_done g t tail (room (t ∷ tail)) }
-
--- by the next token, which is t
-pub look_sample : {U : Tokens} {A : Type 0} (f : Token → Parser A) (t : Token) (c : Tokens) {F G : Follow} {W : A → Type 0} (a : A) → IsRealAfter U t → AreRealAfter U c → W a
-    → ((tail : Tokens) → G tail → F (t ∷ c ++ tail)) → ((tail : Tokens) → G tail → f t (t ∷ c ++ tail) ≡ Done a tail) → Sample U (look f) F G W
-look_sample f t c a real reals w starts reads = record { more = t ∷ c; value = a; real = (real, reals); fits = w; follows = starts; reads = reads }
-
 -- the production ends here, because of what follows
 pub end_sample : {U : Tokens} {A : Type 0} {q : Parser A} {F G : Follow} {W : A → Type 0} (a : A) → W a
     → ((tail : Tokens) → G tail → F tail) → ((tail : Tokens) → G tail → q tail ≡ Done a tail) → Sample U q F G W
 end_sample a w follow reads = record { more = []; value = a; real = tt; fits = w; follows = follow; reads = reads }
-
--- a sample for less
-pub weaken_sample : {U : Tokens} {A : Type 0} {q : Parser A} {F F' G G' : Follow} {V W : A → Type 0} → ((x : Tokens) → F' x → F x) → ((x : Tokens) → G x → G' x) → ((a : A) → V a → W a)
-    → Sample U q F' G' V → Sample U q F G W
-weaken_sample before after value s = record {
-  more = s.more;
-  value = s.value;
-  real = s.real;
-  fits = value s.value s.fits;
-  follows = λ tail ends. before (s.more ++ tail) (s.follows tail (after tail ends));
-  reads = λ tail ends. s.reads tail (after tail ends);
-}
 
 -- ---- a token
 
@@ -261,13 +236,3 @@ look_second_good {U} {O} {A} {J} {F} {W} f g i moves one named h = like_good U J
 
     viable : (before r : Tokens) → M before r → Viable U (g (head i) (head (behind i))) F W before → Viable U (look_second g) F W before
     viable before r m = subst (λ x. Viable U (g (head i) (head (behind i))) F W x → Viable U (look_second g) F W x) (sym m.1) (one_more m.0 r m.2)
-
--- The same, where it is tested whether the second has the symbol k.
-pub second_good : {U : Tokens} {O : Refusal} {A : Type 0} {J : Reason O} {F : Follow} {W : A → Type 0} (k : Symbol) (f g : Bool → Parser A) (i : Tokens)
-    → ((b : Bool) → same_symbol (next (behind i)) k ≡ b → GoodAt U J (f b) (g b) F W i)
-    → ((b : Bool) → same_symbol (next (behind i)) k ≡ b → Moves (f b) i)
-    → Completes U (look_second (λ t u. g (same_symbol (symbol u) k))) F W (head i ∷ [])
-    → ((why : Refusal) (u : Token) (r : Tokens) → J.right why (head i ∷ []) r → elsewhere why u ≡ true → ⊥)
-    → GoodAt U J (look_second (λ t u. f (same_symbol (symbol u) k))) (look_second (λ t u. g (same_symbol (symbol u) k))) F W i
-second_good k f g i good moves one named =
-    look_second_good (λ t u. f (same_symbol (symbol u) k)) (λ t u. g (same_symbol (symbol u) k)) i (moves (same_symbol (next (behind i)) k) refl) one named (good (same_symbol (next (behind i)) k) refl)

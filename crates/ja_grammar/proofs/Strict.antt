@@ -78,15 +78,3 @@ strict_milder low d more why i off = go why off
     go (refusal.UnknownLabel place) off = never (refusal.UnknownLabel place) refl off
 
 -- ---- the tokens don't matter
-
-pub strict_same : (d : ℕ) (why : Refusal) (i j : Tokens) → strict d why i ≡ strict d why j
-unfolding strict
-strict_same d refusal.Unexpected i j = refl
-strict_same d refusal.RegExp i j = refl
-strict_same d refusal.Arguments i j = refl
-strict_same d refusal.Deep i j = refl
-strict_same d (refusal.DeepLabel place) i j = refl
-strict_same d (refusal.Broken place) i j = refl
-strict_same d (refusal.Operand place) i j = refl
-strict_same d (refusal.Alone place) i j = refl
-strict_same d (refusal.UnknownLabel place) i j = refl

@@ -32,14 +32,6 @@ after_opening g κ {f} P i more e go =
     let t = opening_inverse g κ i more s.2 in
     subst P (sym t.1) (go s.0 s.1 t.2 (subst (λ x. HasRoom g x) t.1 t.0) s.3)
 
--- a rule that begins with a token of this symbol
-pub after_first : {B : Type 0} (κ : Symbol) {f : Token → Parser B} (P : Tokens → Type 0) (i : Tokens) {v : B} {r : Tokens} → κ ≢ End
-    → and_then (expect κ i) f ≡ Done v r → ((t : Token) (m : Tokens) → Is κ t → f t m ≡ Done v r → P (t ∷ m)) → P i
-after_first κ {f} P i more e go =
-    let s = then_inverse (expect κ i) f e in
-    let t = expect_inverse κ i more s.2 in
-    subst P (sym t.0) (go s.0 s.1 t.1 s.3)
-
 -- a token of this symbol inside a rule
 pub after_expect : {B : Type 0} (κ : Symbol) {f : Token → Parser B} (i : Tokens) {v : B} {r : Tokens} {P : Type 0} → κ ≢ End
     → and_then (expect κ i) f ≡ Done v r → ((t : Token) (m : Tokens) → i ≡ t ∷ m → Is κ t → f t m ≡ Done v r → P) → P
@@ -74,10 +66,3 @@ pub labelled_entered : (g : Rules) (place : Place) (i : Tokens) {t : Token} {r :
     → (g (DeepLabel place) i ≡ false) × (take_token i ≡ Done t r)
 unfolding enter_label
 labelled_entered g place i e = unless_inverse g (DeepLabel place) take_token i e
-
-pub after_label : {B : Type 0} (g : Rules) (place : Place) (t : Token) (i : Tokens) (f : Token → Parser B) {v : B} {r : Tokens} {P : Type 0}
-    → and_then (enter_label g place (t ∷ i)) f ≡ Done v r → (g (DeepLabel place) (t ∷ i) ≡ false → f t i ≡ Done v r → P) → P
-after_label g place t i f e go =
-    let s = then_inverse (enter_label g place (t ∷ i)) f e in
-    let room = (labelled_entered g place (t ∷ i) s.2).0 in
-    go room (sym (ap (λ o. and_then o f) (enter_label_done g place t i room)) ∙ e)
