@@ -30,6 +30,22 @@ abbrev pub NeverStuck : Program → Type 0
 NeverStuck p =
     (answers : List Answer) (c : Conf) (answer : Answer) → state_of p answers ≡ Some c → IsTrue (fits p (wants p c) answer) ↔ IsSome (step p c answer)
 
+-- Of any state that is as it should be, whether a run comes to it or not: it has a step with each
+-- answer that it wants, and with no other, ..
+abbrev pub HaveSteps : Program → Type 0
+HaveSteps p =
+    (c : Conf) (answer : Answer) →
+    IsState p c →
+    IsTrue (fits p (wants p c) answer) ↔ IsSome (step p c answer)
+
+-- .. and a step leads to such a state, where the run goes on.
+abbrev pub StepsKeepStates : Program → Type 0
+StepsKeepStates p =
+    (c d : Conf) (answer : Answer) →
+    IsState p c →
+    step p c answer ≡ Some (event.Next d) →
+    IsState p d
+
 -- ---- steps
 
 -- the frame is the same activation after a step

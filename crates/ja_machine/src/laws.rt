@@ -6,7 +6,10 @@ ghost use Rattle.ja_graph.specs.declared.builtins.TheConstants.{INTRINSICS};
 ghost use Rattle.ja_graph.specs.declared.program.Program.{Program};
 ghost use Rattle.ja_graph.specs.WellFormed.{IsWellFormed};
 ghost use Rattle.ja_machine.specs.Intrinsics.{Operation, TakesItsValues, operations};
-ghost use Rattle.ja_machine.specs.Runs.{AreStates, NeverStuck, AreSteps, ObjectsStay, ChainsEnd};
+ghost use Rattle.ja_machine.specs.Machine.{opening_state};
+ghost use Rattle.ja_machine.specs.Runs.{AreStates, NeverStuck, HaveSteps, StepsKeepStates};
+ghost use Rattle.ja_machine.specs.Runs.{AreSteps, ObjectsStay, ChainsEnd};
+ghost use Rattle.ja_machine.specs.State.{IsState};
 
 /// After each list of answers a state has a frame, its frames and its heap are as they should be, each
 /// object has the class of its site, each site without a node has one object, and no other site has
@@ -19,6 +22,19 @@ pub fn states_are_kept()
 /// other.
 pub fn never_stuck()
     ensures { (p : Program) → IsWellFormed p → NeverStuck p }
+{}
+
+/// Any state that is as it should be, whether a run comes to it or not, has a step with each answer
+/// that it wants, and with no other.
+pub fn states_have_steps()
+    ensures { (p : Program) → IsWellFormed p → HaveSteps p }
+{}
+
+/// The state in which a run begins is as it should be, and so is each state to which a step leads
+/// from one that is.
+pub fn steps_keep_states()
+    ensures opening { (p : Program) → IsWellFormed p → IsState p (opening_state p) }
+    ensures steps { (p : Program) → IsWellFormed p → StepsKeepStates p }
 {}
 
 /// Each step counts one more. Where the run goes on, the top frame stands at `next`, at `other` or, of
