@@ -8,7 +8,7 @@ ghost use Rattle.ja_graph.specs.WellFormed.{IsWellFormed};
 ghost use Rattle.ja_machine.specs.Intrinsics.{Operation, TakesItsValues, operations};
 ghost use Rattle.ja_machine.specs.Machine.{opening_state};
 ghost use Rattle.ja_machine.specs.Runs.{AreStates, NeverStuck, HaveSteps, StepsKeepStates};
-ghost use Rattle.ja_machine.specs.Runs.{AreSteps, ObjectsStay, ChainsEnd};
+ghost use Rattle.ja_machine.specs.Runs.{AreSteps, ObjectsStay, NamesAreDistinct, ChainsEnd};
 ghost use Rattle.ja_machine.specs.State.{IsState};
 
 /// After each list of answers a state has a frame, its frames and its heap are as they should be, each
@@ -48,6 +48,12 @@ pub fn steps_go_along_edges()
 /// No object is ever removed, and each keeps its class and its internal properties.
 pub fn objects_stay()
     ensures { (p : Program) → ObjectsStay p }
+{}
+
+/// `for`-`in` shows no name twice, neither of one object nor of one and its prototypes (12.6.4), in
+/// any heap that is as it should be: no name is the same text as one after it.
+pub fn names_are_distinct()
+    ensures { (p : Program) → NamesAreDistinct p }
 {}
 
 /// A chain of prototypes, and one of scopes, meets no object twice, and ends: so following as many
