@@ -17,7 +17,7 @@ use Rattle.ja_machine.specs.declared.machine.Heap.{Heap}
 use Rattle.ja_machine.specs.Heap.{objects_of, count, size, object_at, with_new, new_address, with_object, prototype_of, outer_of}
 use Rattle.ja_machine.specs.Writes.{put, define, delete}
 use Rattle.ja_machine.specs.Machine.{class_of_site}
-use Rattle.ja_machine.specs.State.{IsObjectOf, IsValueOf, IsContentOf, IsHeap}
+use Rattle.ja_machine.specs.State.{IsObjectOf, IsValueOf, IsContentOf, IsHeap, HaveDistinctNames}
 use Rattle.ja_machine.proofs.Lists.{all_from, all_at, is_some_from}
 use Rattle.ja_machine.proofs.Heaps
 use Rattle.ja_machine.proofs.Heaps.{Grows, content_grows}
@@ -29,10 +29,15 @@ use Rattle.ja_machine.proofs.Writing.{Hold, IsRewritten, by_define, by_delete, b
 abbrev Before : Heap → (Addr → ℕ) → (Object → Option Addr) → Type 0
 Before h rank link = (a b : Addr) (o : Object) → object_at h a ≡ Some o → link o ≡ Some b → IsObjectOf h b × (rank b < rank a)
 
+-- an object at an address has one property of a name at most
+abbrev IsNamed : Addr → Object → Type 0
+IsNamed a o = HaveDistinctNames o.properties
+
 -- all of a heap but what the properties of its objects hold
 pub record IsLinked (p : Program) (h : Heap) : Type 0 where
   pub rows : length h.objects ≡ length p.sites
   pub class : (a : Addr) (o : Object) → object_at h a ≡ Some o → o.class ≡ class_of_site p a.site.0
+  pub names : (a : Addr) (o : Object) → object_at h a ≡ Some o → HaveDistinctNames o.properties
   pub scope : (a b : Addr) (o : Object) → object_at h a ≡ Some o → o.slots.scope ≡ Some b → IsObjectOf h b
   pub rank : Addr → ℕ
   pub ranked : (a : Addr) → IsObjectOf h a → rank a < size h
@@ -49,6 +54,7 @@ pub linked_of : (p : Program) (h : Heap) → IsHeap p h → IsLinked p h
 linked_of p h known = record {
   rows = known.rows;
   class = known.class;
+  names = known.names;
   scope = known.scope;
   rank = known.rank;
   ranked = known.ranked;
@@ -65,6 +71,7 @@ pub heap_of : (p : Program) (h : Heap) → IsLinked p h → AreHeld h h → IsHe
 heap_of p h known held = record {
   rows = known.rows;
   class = known.class;
+  names = known.names;
   properties = λ a o i q is e. all_at (λ (r : Property). IsContentOf h r.content) o.properties (held a o is) i q e;
   scope = known.scope;
   rank = known.rank;
@@ -96,10 +103,12 @@ kept_same p h known = record { heap = known; grows = λ a there. there; counts =
 abbrev pub IsNodeSite : Program → Site → Type 0
 IsNodeSite p s = (length p.opening ≤ s.0) × (s.0 < length p.sites)
 
--- an object of its site's class, whose links lead to objects of the heap
+-- an object of its site's class, whose links lead to objects of the heap; it has one property of a
+-- name at most
 pub record IsFitting (p : Program) (h : Heap) (s : Site) (o : Object) : Type 0 where
   pub site : IsNodeSite p s
   pub class : o.class ≡ class_of_site p s.0
+  pub names : HaveDistinctNames o.properties
   pub scope : (b : Addr) → o.slots.scope ≡ Some b → IsObjectOf h b
   pub prototype : (b : Addr) → prototype_of o ≡ Some b → IsObjectOf h b
   pub outer : (b : Addr) → outer_of o ≡ Some b → IsObjectOf h b
@@ -169,6 +178,7 @@ module _ (p : Program) (h : Heap) (s : Site) (o : Object) (known : IsLinked p h)
   linked-with_new = record {
     rows = length-set h.objects s.0 (objects_of h s ++ o ∷ []) ∙ known.rows;
     class = by_object (λ (a : Addr) (q : Object). q.class ≡ class_of_site p a.site.0) known.class fits.class;
+    names = by_object IsNamed known.names fits.names;
     scope = λ a b q is e. by_object (λ (c : Addr) (r : Object). r.slots.scope ≡ Some b → IsObjectOf (with_new h s o) b) (λ c r at f. grown b (known.scope c b r at f)) (λ f. grown b (fits.scope b f)) a q is e;
     rank = new_rank;
     ranked = ranked_now;
@@ -258,6 +268,7 @@ module _ (p : Program) (h : Heap) (a : Addr) (known : IsHeap p h) where
       linked = record {
         rows = Heaps.rows-with_object h a o new is ∙ known.rows;
         class = by_object (λ (b : Addr) (q : Object). q.class ≡ class_of_site p b.site.0) known.class (k.class ∙ known.class a o is);
+        names = by_object IsNamed known.names (k.names (known.names a o is));
         scope = λ b c q at e. by_object (λ (d : Addr) (r : Object). r.slots.scope ≡ Some c → IsObjectOf (with_object h a new) c) (λ d r f g. grows c (known.scope d c r f g)) (λ g. grows c (known.scope a c o is (sym (ap (λ (x : Slots). x.scope) k.slots) ∙ g))) b q at e;
         rank = known.rank;
         ranked = λ b there. let l : known.rank b < size h = known.ranked b (Heaps.object_unwritten h a o new is b there) in let e : size (with_object h a new) ≡ size h = Heaps.size-with_object h a o new is in omega arith;

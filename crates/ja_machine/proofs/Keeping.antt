@@ -48,20 +48,25 @@ use Rattle.ja_machine.specs.Writes.{put, define, delete, can_delete}
 use Rattle.ja_machine.specs.Enumeration.{names}
 use Rattle.ja_machine.specs.Values.{OperatorOutcome, unary, binary, key_of}
 use Rattle.ja_machine.specs.Frames.{undefined, register_of, thrown, scope, parameters_of, object_or_undefined, with_remaining}
-use Rattle.ja_machine.specs.Objects.{dont_delete, first_of, empty_object, wrapper, text_length, scope_object, function_object, prototype_object, constructed_object, sharing, with_parameters, with_property, property_with, arguments_object, activation}
+use Rattle.ja_machine.specs.Objects.{dont_delete, first_of, empty_object, wrapper, text_length}
+use Rattle.ja_machine.specs.Objects.{scope_object, function_object, prototype_object}
+use Rattle.ja_machine.specs.Objects.{constructed_object, sharing, with_parameters, with_property}
+use Rattle.ja_machine.specs.Objects.{property_with, empty_arguments, arguments_object, activation}
 use Rattle.ja_machine.specs.Events.{Standing, sets, sets_in, left_scope, goes_on, throws, sets_content, sets_outcome, unbound_message, nothing_message, not_an_object_message, array_length_message, no_function_message, no_prototype_message, not_a_function_message, not_a_constructor_message}
 use Rattle.ja_machine.specs.Calls.{site_of, function_called, function_constructing, object_in, receiver_of, ArgumentsRead, given, enters, calls_with, calls, prototype_of_callee, constructs, stays, default_function, convert_step}
 use Rattle.ja_machine.specs.Intrinsics.{Computation, rows}
 use Rattle.ja_machine.specs.Nodes
-use Rattle.ja_machine.specs.State.{IsObjectOf, IsValueOf, IsContentOf, IsState, enters_functions}
+use Rattle.ja_machine.specs.State.{IsObjectOf, IsValueOf, IsContentOf, IsState, enters_functions, HaveDistinctNames}
 use Rattle.ja_machine.proofs.Lists.{either_way, all_at, all_from}
+use Rattle.ja_machine.proofs.Distinct.{distinct-none, distinct-one, distinct-two, distinct-with_property, distinct-with_parameters, distinct-with_elements}
 use Rattle.ja_machine.proofs.Heaps
 use Rattle.ja_machine.proofs.Heaps.{Grows, value_grows}
 use Rattle.ja_machine.proofs.Writing.{Hold}
 use Rattle.ja_machine.proofs.Growing.{IsKept, IsFitting, linked_of, linked-with_new, row, kept-with_new, kept-with_two, kept-define, kept-delete, kept-put}
 use Rattle.ja_machine.proofs.Nodes as program_nodes
 use Rattle.ja_machine.proofs.Nodes.{IsMade, AreMade, InOrder}
-use Rattle.ja_machine.proofs.Made.{fitting, hold-with_property, hold-with_parameters, hold-argument_elements}
+use Rattle.ja_machine.proofs.Made.{fitting, hold-with_property, hold-with_parameters}
+use Rattle.ja_machine.proofs.Made.{hold-with_elements}
 use Rattle.ja_machine.proofs.Frames.{callee_value}
 use Rattle.ja_machine.proofs.Reading.{read_content, base_value, AreGiven, registers_given, arguments_given, object_in_there, receiver_there, callee_prototype_there}
 use Rattle.ja_machine.proofs.Standing as standing
@@ -217,13 +222,22 @@ module _ (p : Program) (good : IsWellFormed p) (s : Standing) (here : IsAt p s) 
   to_object_kept dst sites error (value.Primitive primitive.Null) to there boolean number text made = type_error error nothing_message made
   to_object_kept dst sites error (value.Primitive (primitive.Bool b)) to there boolean number text made =
       let o : Object = wrapper class.Boolean builtins.BOOLEAN_PROTOTYPE (primitive.Bool b) [] in
-      makes_kept dst (making sites.boolean class.Boolean) o to (fitting p s.conf.heap (making sites.boolean class.Boolean) o boolean refl tt (program_nodes.boolean_prototype_there p good s.conf.heap here.heap) tt) tt
+      let m : Making = making sites.boolean class.Boolean in
+      let there = program_nodes.boolean_prototype_there p good s.conf.heap here.heap in
+      let fits = fitting p s.conf.heap m o boolean refl tt there tt distinct-none in
+      makes_kept dst m o to fits tt
   to_object_kept dst sites error (value.Primitive (primitive.Number n)) to there boolean number text made =
       let o : Object = wrapper class.Number builtins.NUMBER_PROTOTYPE (primitive.Number n) [] in
-      makes_kept dst (making sites.number class.Number) o to (fitting p s.conf.heap (making sites.number class.Number) o number refl tt (program_nodes.number_prototype_there p good s.conf.heap here.heap) tt) tt
+      let m : Making = making sites.number class.Number in
+      let there = program_nodes.number_prototype_there p good s.conf.heap here.heap in
+      let fits = fitting p s.conf.heap m o number refl tt there tt distinct-none in
+      makes_kept dst m o to fits tt
   to_object_kept dst sites error (value.Primitive (primitive.Text units)) to there boolean number text made =
       let o : Object = wrapper class.String builtins.STRING_PROTOTYPE (primitive.Text units) (text_length units) in
-      makes_kept dst (making sites.text class.String) o to (fitting p s.conf.heap (making sites.text class.String) o text refl tt (program_nodes.string_prototype_there p good s.conf.heap here.heap) tt) (tt, tt)
+      let m : Making = making sites.text class.String in
+      let there = program_nodes.string_prototype_there p good s.conf.heap here.heap in
+      let fits = fitting p s.conf.heap m o text refl tt there tt (distinct-one _) in
+      makes_kept dst m o to fits (tt, tt)
 
   need_object_kept : (error : Site) (x : Value) → IsMade p (making error class.Error) → Kept (Nodes.need_object_step s error x)
   need_object_kept error (value.Object a) made = standing.stays_kept p good s here
@@ -246,11 +260,21 @@ module _ (p : Program) (good : IsWellFormed p) (s : Standing) (here : IsAt p s) 
 
   new_object_kept : (dst : Reg) (site : Site) (kind : Made) → Sets dst → IsMade p (making site (class_of kind)) → Kept (Nodes.makes s dst site (empty_object kind))
   new_object_kept dst site made.Object to is_made =
-      makes_kept dst (making site class.Object) (empty_object made.Object) to (fitting p s.conf.heap (making site class.Object) (empty_object made.Object) is_made refl tt object_prototype tt) tt
+      let m : Making = making site class.Object in
+      let o : Object = empty_object made.Object in
+      let fits = fitting p s.conf.heap m o is_made refl tt object_prototype tt distinct-none in
+      makes_kept dst m o to fits tt
   new_object_kept dst site made.Array to is_made =
-      makes_kept dst (making site class.Array) (empty_object made.Array) to (fitting p s.conf.heap (making site class.Array) (empty_object made.Array) is_made refl tt (program_nodes.array_prototype_there p good s.conf.heap here.heap) tt) (tt, tt)
+      let m : Making = making site class.Array in
+      let o : Object = empty_object made.Array in
+      let there = program_nodes.array_prototype_there p good s.conf.heap here.heap in
+      let fits = fitting p s.conf.heap m o is_made refl tt there tt (distinct-one _) in
+      makes_kept dst m o to fits (tt, tt)
   new_object_kept dst site (made.Error kind) to is_made =
-      makes_kept dst (making site class.Error) (empty_object (made.Error kind)) to (fitting p s.conf.heap (making site class.Error) (empty_object (made.Error kind)) is_made refl tt (program_nodes.error_prototype_there p good s.conf.heap here.heap kind) tt) tt
+      let m : Making = making site class.Error in
+      let o : Object = empty_object (made.Error kind) in
+      let there = program_nodes.error_prototype_there p good s.conf.heap here.heap kind in
+      makes_kept dst m o to (fitting p s.conf.heap m o is_made refl tt there tt distinct-none) tt
 
   -- ---- two objects
 
@@ -298,9 +322,13 @@ module _ (p : Program) (good : IsWellFormed p) (s : Standing) (here : IsAt p s) 
       let q : Object = prototype_object f in
       let mid : Heap = with_new s.conf.heap site o in
       let now : Heap = with_new mid proto_site q in
-      let fits_o : IsFitting p s.conf.heap site o = fitting p s.conf.heap a o made.each.0 refl there function_prototype tt in
+      let names_o = distinct-two _ _ refl in
+      let fits_o : IsFitting p s.conf.heap site o =
+      fitting p s.conf.heap a o made.each.0 refl there function_prototype tt names_o in
       let grown : Grows s.conf.heap mid = Heaps.grows-with_new s.conf.heap site o (row p s.conf.heap site o (linked_of p s.conf.heap here.heap) fits_o) in
-      let fits_q : IsFitting p mid proto_site q = fitting p mid b q made.each.1.0 refl tt (grown (first_of builtins.OBJECT_PROTOTYPE) object_prototype) tt in
+      let prototype = grown (first_of builtins.OBJECT_PROTOTYPE) object_prototype in
+      let fits_q : IsFitting p mid proto_site q =
+      fitting p mid b q made.each.1.0 refl tt prototype tt (distinct-one _) in
       let f_there : IsObjectOf now f = first_there a b made.first made.in_order o q fits_o fits_q in
       let g_there : IsObjectOf now g = second_there a b made.first made.in_order o q fits_o fits_q in
       standing.sets_in_kept p good s here now (both_kept a b made.first made.in_order o q fits_o fits_q (tt, (g_there, tt)) (f_there, tt)) dst (value.Object f) to f_there
@@ -316,7 +344,9 @@ module _ (p : Program) (good : IsWellFormed p) (s : Standing) (here : IsAt p s) 
       let m : Making = making site class.Activation in
       let o : Object = activation outer (with_parameters [] names s.top.arguments []) in
       let now : Heap = with_new s.conf.heap site o in
-      let fits : IsFitting p s.conf.heap site o = fitting p s.conf.heap m o made.each.0 refl tt tt there in
+      let names_o = distinct-with_parameters names [] s.top.arguments [] distinct-none in
+      let fits : IsFitting p s.conf.heap site o =
+      fitting p s.conf.heap m o made.each.0 refl tt tt there names_o in
       let grown : Grows s.conf.heap now = Heaps.grows-with_new s.conf.heap site o (row p s.conf.heap site o (linked_of p s.conf.heap here.heap) fits) in
       let values : AllByRecursion (IsValueOf now) s.top.arguments = all_weaker (IsValueOf s.conf.heap) (IsValueOf now) (λ v k. value_grows s.conf.heap now grown v k) s.top.arguments arguments_of_frame in
       standing.enters_scope_kept p good s here now (made_kept m o fits (hold-with_parameters now names [] s.top.arguments [] values tt)) (new_address s.conf.heap site) (made_there m o fits)
@@ -327,19 +357,29 @@ module _ (p : Program) (good : IsWellFormed p) (s : Standing) (here : IsAt p s) 
       let bound : List Property = with_parameters [] names s.top.arguments flags in
       let own_arguments : Property = property_with (codes "arguments") (value.Object (new_address s.conf.heap list)) dont_delete in
       let o : Object = activation outer (with_property bound own_arguments) in
+      let before : List Property =
+      (empty_arguments (object_or_undefined s.top.callee) (length s.top.arguments)).properties in
       let q : Object = arguments_object (object_or_undefined s.top.callee) s.top.arguments flags in
       let mid : Heap = with_new s.conf.heap site o in
       let now : Heap = with_new mid list q in
-      let fits_o : IsFitting p s.conf.heap site o = fitting p s.conf.heap a o made.each.0 refl tt tt there in
+      let names_bound = distinct-with_parameters names [] s.top.arguments flags distinct-none in
+      let names_o = distinct-with_property bound own_arguments names_bound in
+      let fits_o : IsFitting p s.conf.heap site o =
+      fitting p s.conf.heap a o made.each.0 refl tt tt there names_o in
       let grown : Grows s.conf.heap mid = Heaps.grows-with_new s.conf.heap site o (row p s.conf.heap site o (linked_of p s.conf.heap here.heap) fits_o) in
-      let fits_q : IsFitting p mid list q = fitting p mid b q made.each.1.0 refl tt (grown (first_of builtins.OBJECT_PROTOTYPE) object_prototype) tt in
+      let prototype = grown (first_of builtins.OBJECT_PROTOTYPE) object_prototype in
+      let two : HaveDistinctNames before = distinct-two _ _ refl in
+      let names_q = distinct-with_elements before 0 s.top.arguments flags two in
+      let fits_q : IsFitting p mid list q =
+      fitting p mid b q made.each.1.0 refl tt prototype tt names_q in
       let grows : Grows s.conf.heap now = both_grow a b made.first made.in_order o q fits_o fits_q in
       let values : AllByRecursion (IsValueOf now) s.top.arguments = all_weaker (IsValueOf s.conf.heap) (IsValueOf now) (λ v k. value_grows s.conf.heap now grows v k) s.top.arguments arguments_of_frame in
       let list_there : IsObjectOf now (new_address s.conf.heap list) = second_there a b made.first made.in_order o q fits_o fits_q in
       let site_there : IsObjectOf now (new_address s.conf.heap site) = first_there a b made.first made.in_order o q fits_o fits_q in
       let new_o : Hold (IsContentOf now) o.properties = hold-with_property now bound own_arguments list_there (hold-with_parameters now names [] s.top.arguments flags values tt) in
       let callee : IsValueOf now (object_or_undefined s.top.callee) = callee_value now s.top.callee (λ c e. grows c (here.top.callee c e)) in
-      let new_q : Hold (IsContentOf now) q.properties = (callee, (tt, hold-argument_elements now 0 s.top.arguments flags values)) in
+      let new_q : Hold (IsContentOf now) q.properties =
+      hold-with_elements now before 0 s.top.arguments flags values (callee, (tt, tt)) in
       standing.enters_scope_kept p good s here now (both_kept a b made.first made.in_order o q fits_o fits_q new_o new_q) (new_address s.conf.heap site) site_there
 
   enter_step_kept : (site : Site) (arguments : Option Site) (x : Value) → Held x → AreMade p (making site class.Activation ∷ making_if_any arguments class.Object) → Kept (Nodes.enter_step p s site arguments x)
@@ -365,7 +405,8 @@ module _ (p : Program) (good : IsWellFormed p) (s : Standing) (here : IsAt p s) 
   push_scope_kept site (value.Object outer) there made =
       let m : Making = making site class.Object in
       let o : Object = scope_object outer in
-      let fits : IsFitting p s.conf.heap site o = fitting p s.conf.heap m o made refl tt object_prototype there in
+      let fits : IsFitting p s.conf.heap site o =
+      fitting p s.conf.heap m o made refl tt object_prototype there distinct-none in
       standing.enters_scope_kept p good s here (with_new s.conf.heap site o) (made_kept m o fits tt) (new_address s.conf.heap site) (made_there m o fits)
 
   -- ---- `for`-`in`
@@ -413,7 +454,9 @@ module _ (p : Program) (good : IsWellFormed p) (s : Standing) (here : IsAt p s) 
         let prototype : Addr = prototype_of_callee s.conf.heap (object_in callee) in
         let o : Object = constructed_object prototype in
         let now : Heap = with_new s.conf.heap site o in
-        let fits : IsFitting p s.conf.heap site o = fitting p s.conf.heap m o made_object refl tt (callee_prototype_there p s.conf.heap here.heap good (object_in callee)) tt in
+        let there = callee_prototype_there p s.conf.heap here.heap good (object_in callee) in
+        let fits : IsFitting p s.conf.heap site o =
+        fitting p s.conf.heap m o made_object refl tt there tt distinct-none in
         let k : IsKept p s.conf.heap now = made_kept m o fits tt in
         let values : AllByRecursion (IsValueOf now) (map (register_of s.top) arguments) = all_weaker (IsValueOf s.conf.heap) (IsValueOf now) (λ v of_heap. value_grows s.conf.heap now k.grows v of_heap) (map (register_of s.top) arguments) (registers_given p s.conf.heap here.heap s.top here.top arguments registers) in
         standing.enters_kept p good s here now k is f (new_address s.conf.heap site) (object_in callee) (map (register_of s.top) arguments) (constructing_fits p good callee f constructing) (made_there m o fits) (λ a e. k.grows a (object_in_there p s.conf.heap here.heap callee callee_held a e)) values

@@ -1,5 +1,6 @@
 pub mod Heaps
 pub mod Lists
+pub mod Distinct
 pub mod Staying
 pub mod Writing
 pub mod Edges

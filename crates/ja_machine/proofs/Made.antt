@@ -14,8 +14,10 @@ use Rattle.ja_machine.specs.declared.machine.Property.{Property}
 use Rattle.ja_machine.specs.declared.machine.Object.{Object}
 use Rattle.ja_machine.specs.declared.machine.Heap.{Heap}
 use Rattle.ja_machine.specs.Frames.{argument}
-use Rattle.ja_machine.specs.Objects.{dont_delete, property_with, with_flag, first_flag, with_property, with_parameters, argument_elements}
-use Rattle.ja_machine.specs.State.{IsObjectOf, IsValueOf, IsContentOf}
+use Rattle.ja_machine.specs.Objects.{dont_delete, property_with, with_flag, first_flag}
+use Rattle.ja_machine.specs.Objects.{with_property, with_parameters, argument_element}
+use Rattle.ja_machine.specs.Objects.{with_elements}
+use Rattle.ja_machine.specs.State.{IsObjectOf, IsValueOf, IsContentOf, HaveDistinctNames}
 use Rattle.ja_machine.proofs.Lists.{either_way, all_drop}
 use Rattle.ja_machine.proofs.Writing.{Hold}
 use Rattle.ja_machine.proofs.Growing.{IsFitting}
@@ -33,10 +35,18 @@ there_if h None there b e = absurd (false≢true (ap is_some e))
 there_if h (Some a) there b e = subst (IsObjectOf h) (same_Some a b e) there
 
 -- an object fits at a site of a node
-pub fitting : (p : Program) (h : Heap) (m : Making) (o : Object) → IsMade p m → o.class ≡ m.class → IsThereIf h o.slots.scope → IsThereIf h o.slots.prototype → IsThereIf h o.slots.outer → IsFitting p h m.site o
-fitting p h m o made class scope prototype outer = record {
+pub fitting : (p : Program) (h : Heap) (m : Making) (o : Object) →
+    IsMade p m →
+    o.class ≡ m.class →
+    IsThereIf h o.slots.scope →
+    IsThereIf h o.slots.prototype →
+    IsThereIf h o.slots.outer →
+    HaveDistinctNames o.properties →
+    IsFitting p h m.site o
+fitting p h m o made class scope prototype outer names = record {
   site = made.site;
   class = class ∙ sym made.class;
+  names = names;
   scope = there_if h o.slots.scope scope;
   prototype = there_if h o.slots.prototype prototype;
   outer = there_if h o.slots.outer outer;
@@ -59,6 +69,13 @@ module _ (h : Heap) where
       hold-with_parameters names (with_property qs q) (drop 1 arguments) (drop 1 flags) (all_drop (IsValueOf h) 1 arguments values) (hold-with_property qs q (argument_value h arguments values 0) all)
 
   -- the elements of `arguments`
-  pub hold-argument_elements : (i : ℕ) (arguments : List Value) (flags : List Bool) → AllByRecursion (IsValueOf h) arguments → Hold (IsContentOf h) (argument_elements i arguments flags)
-  hold-argument_elements i [] flags values = tt
-  hold-argument_elements i (v ∷ arguments) flags values = (values.0, hold-argument_elements (i + 1) arguments (drop 1 flags) values.1)
+  pub hold-with_elements :
+      (qs : List Property) (i : ℕ) (arguments : List Value) (flags : List Bool) →
+      AllByRecursion (IsValueOf h) arguments →
+      Hold (IsContentOf h) qs →
+      Hold (IsContentOf h) (with_elements qs i arguments flags)
+  hold-with_elements qs i [] flags values all = all
+  hold-with_elements qs i (v ∷ arguments) flags values all =
+      let q : Property = argument_element i v flags in
+      let further = hold-with_property qs q values.0 all in
+      hold-with_elements (with_property qs q) (i + 1) arguments (drop 1 flags) values.1 further

@@ -7,23 +7,26 @@ use Rattle.std.proofs.lemmas.Option.{same_Some}
 use Rattle.std.proofs.lemmas.Bool.{cases_Bool, false≢true, eq-eqb, eqb-true, cond-true, cond-false}
 use Rattle.std.proofs.lemmas.List.Sums.{sum_by-cons}
 use Rattle.std.proofs.lemmas.List.FromFn.{length-map-range_with_len}
+use Rattle.ja_base.specs.declared.ids.NameId.{NameId}
 use Rattle.ja_base.specs.declared.ids.Site.{Site}
-use Rattle.ja_base.proofs.Lists.{within_from_some}
+use Rattle.ja_base.proofs.Lists.{within_from_some, element_within}
 use Rattle.ja_graph.specs.declared.program.ObjectSpec.{ObjectSpec}
 use Rattle.ja_graph.specs.declared.program.PropertySpec.{PropertySpec}
 use Rattle.ja_graph.specs.declared.program.SpecContent.{SpecContent}
 use Rattle.ja_graph.specs.declared.program.SpecContent.TheVariants as spec_content
 use Rattle.ja_graph.specs.declared.program.Program.{Program}
 use Rattle.ja_graph.specs.Program.{object_spec}
-use Rattle.ja_graph.specs.WellFormed.{IsWellFormed, IsContent, StandsBefore}
+use Rattle.ja_graph.specs.WellFormed.{IsWellFormed, IsContent, IsName, StandsBefore}
 use Rattle.ja_machine.specs.declared.machine.Addr.{Addr}
 use Rattle.ja_machine.specs.declared.machine.Property.{Property}
 use Rattle.ja_machine.specs.declared.machine.Object.{Object}
 use Rattle.ja_machine.specs.Heap.{objects_of, count, size, object_at, prototype_of, outer_of}
+use Rattle.ja_machine.specs.Nodes.{name_text}
 use Rattle.ja_machine.specs.Objects.{first_of}
 use Rattle.ja_machine.specs.Machine.{class_of_site, opening_content, opening_property, opening_object, opening_objects_at, opening_heap}
-use Rattle.ja_machine.specs.State.{IsObjectOf, IsContentOf, IsHeap}
+use Rattle.ja_machine.specs.State.{IsObjectOf, IsContentOf, IsHeap, HaveDistinctNames}
 use Rattle.ja_machine.proofs.Lists.{is_some_from, slice_get-map_range, all_from, all_map}
+use Rattle.ja_machine.proofs.Distinct.{distinct_from}
 use Rattle.ja_machine.proofs.Heaps
 use Rattle.ja_machine.proofs.Heaps.{ordinal-below, object_from_ordinal}
 use Rattle.ja_machine.proofs.Writing.{Hold}
@@ -195,6 +198,29 @@ module _ (p : Program) (good : IsWellFormed p) where
 
   -- ---- properties
 
+  -- the text of a name is that of no other one
+  name_is : (n : NameId) → IsName p n → slice_get p.names n.0 ≡ Some (name_text p n)
+  name_is n fits =
+      let (t, is) = element_within p.names n.0 fits in
+      is ∙ ap Some (sym (ap (λ r. unwrap_or r []) is))
+
+  same_name : (m n : NameId) → IsName p m → IsName p n → name_text p m ≡ name_text p n → m.0 ≡ n.0
+  same_name m n first second same =
+      good.distinct m.0 n.0 (name_text p n) (name_is m first ∙ ap Some same) (name_is n second)
+
+  names-opening : (a : Addr) (o : Object) →
+      object_at (opening_heap p) a ≡ Some o → HaveDistinctNames o.properties
+  names-opening a o is =
+      let (k, same) = spec_of a o is in
+      let fits = good.objects _ k.spec k.spec_is in
+      subst
+      (λ (q : Object). HaveDistinctNames q.properties)
+      same
+      (distinct_from (opening_property p) k.spec.properties (λ i j x y at_i at_j e.
+      let first = fits.names i x at_i in
+      let second = fits.names j y at_j in
+      fits.once i j x y at_i at_j (same_name x.name y.name first second e)))
+
   content-opening : (x : SpecContent) → IsContent p x → IsContentOf (opening_heap p) (opening_content x)
   content-opening (spec_content.Prim q) fits = tt
   content-opening (spec_content.Object s) fits = first-opening s fits
@@ -210,6 +236,7 @@ module _ (p : Program) (good : IsWellFormed p) where
   heap-opening = heap_of p (opening_heap p) (record {
     rows = length-map-range_with_len (opening_objects_at p) 0 (length p.sites);
     class = class-opening;
+    names = names-opening;
     scope = scope-opening;
     rank = place_of p;
     ranked = ranked-opening;

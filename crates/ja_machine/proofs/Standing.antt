@@ -38,6 +38,7 @@ use Rattle.ja_machine.specs.Nodes.{enters_scope}
 use Rattle.ja_machine.specs.State.{IsObjectOf, IsValueOf, IsHeap, IsFrame, AreFrames, enters_functions, AreWaiting, IsWaiting, IsLowest, IsState}
 use Rattle.ja_machine.proofs.Lists.{either_way}
 use Rattle.ja_machine.proofs.Heaps.{new_there}
+use Rattle.ja_machine.proofs.Distinct.{distinct-one}
 use Rattle.ja_machine.proofs.Growing.{IsKept, IsFitting, kept_same, kept-with_new, linked_of, row}
 use Rattle.ja_machine.proofs.Nodes.{IsMade, AreMade, node_makings, error_prototype_there}
 use Rattle.ja_machine.proofs.Made.{fitting}
@@ -190,7 +191,9 @@ module _ (p : Program) (good : IsWellFormed p) (s : Standing) (here : IsAt p s) 
       let h : Heap = s.conf.heap in
       let o = error_object (prototype_of_error kind) message in
       let now : Heap = with_new h error o in
-      let fits : IsFitting p h error o = fitting p h (making error class.Error) o made refl tt (error_prototype_there p good h here.heap kind) tt in
+      let there = error_prototype_there p good h here.heap kind in
+      let fits : IsFitting p h error o =
+      fitting p h (making error class.Error) o made refl tt there tt (distinct-one _) in
       let k : IsKept p h now = kept-with_new p h error o here.heap fits (tt, tt) in
       let v : Value = value.Object (new_address h error) in
       either_way Kept (is_short message) (throws_value s now v) (left_scope s scope_kind.TextLength) (λ e. throws_value_kept now k v (new_there h error o (row p h error o (linked_of p h here.heap) fits))) (λ e. tt)

@@ -34,7 +34,7 @@ use Rattle.ja_machine.specs.Values.{is_object}
 use Rattle.ja_machine.specs.Nodes.{shown, takes, pick, pick_step, device_step, node_step}
 use Rattle.ja_machine.specs.Machine.{program_function, opening_heap, opening_state, pick_wanted, pick_wants, device_wants, node_wants, frames_want, wants, fits, frames_step, step, next_of, state_of}
 use Rattle.ja_machine.specs.State.{IsFrame, AreFrames, enters_functions, AreWaiting, IsLowest, below_top, IsState}
-use Rattle.ja_machine.specs.Runs.{AreStates, NeverStuck, ChainsEnd}
+use Rattle.ja_machine.specs.Runs.{AreStates, NeverStuck, ChainsEnd, HaveSteps, StepsKeepStates}
 use Rattle.ja_machine.proofs.Lists.{either_way, is_some_from}
 use Rattle.ja_machine.proofs.Chains.{prototypes_chained, scopes_chained}
 use Rattle.ja_machine.proofs.Opening.{heap-opening, none-opening}
@@ -52,7 +52,7 @@ on_event P (Some (event.End x d)) c k e = absurd (false≢true (ap is_some e))
 module _ (p : Program) (good : IsWellFormed p) where
   -- ---- each state
 
-  opening_kept : IsState p (opening_state p)
+  pub opening_kept : IsState p (opening_state p)
   opening_kept =
       let there = global_there p good (opening_heap p) (heap-opening p good) in
       record {
@@ -75,6 +75,12 @@ module _ (p : Program) (good : IsWellFormed p) where
   state_kept : (c : Conf) (answer : Answer) → IsState p c → OnStep (IsState p) (step p c answer)
   state_kept c answer k =
       either_way (OnStep (IsState p)) (fits p (wants p c) answer) (frames_step p c answer c.frames) None (λ e. frames_kept c answer k c.frames k.frames k.waiting k.lowest) (λ e. tt)
+
+  -- a step leads to a state that is as it should be
+  pub steps_keep_states : StepsKeepStates p
+  steps_keep_states c d answer k e =
+      let next = ap (option_and_then next_of) e in
+      on_event (IsState p) (step p c answer) d (state_kept c answer k) next
 
   -- each state of a run is as it should be
   pub states_are_kept : AreStates p
@@ -155,10 +161,28 @@ module _ (p : Program) (good : IsWellFormed p) where
       subst (λ r. IsSome (option_and_then (λ (i : NodeInfo). node_step p (record { conf = c; top = f; below = below; info = i }) answer i.node) r)) (sym at) (node_some c f below info waiting answer info.node fit_node)
 
   -- a state has a step with each answer that it wants, and with no other
+  pub states_have_steps : HaveSteps p
+  states_have_steps c answer k =
+      let fit = fits p (wants p c) answer in
+      let there : Option Event = frames_step p c answer c.frames in (
+        λ h.
+            either_way
+            (λ r. IsSome there → IsSome r)
+            fit
+            there
+            None
+            (λ f some. some)
+            (λ f some. absurd (false≢true (sym f ∙ h)))
+            (frames_some c answer c.frames k.frames k.waiting k.lowest h),
+        either_way
+            (λ r. IsSome r → IsTrue fit)
+            fit
+            there
+            None
+            (λ f some. f)
+            (λ f some. absurd (false≢true some)),
+      )
+
+  -- and so has each state of a run
   pub never_stuck : NeverStuck p
-  never_stuck answers c answer e = (
-    λ fit.
-        let k : IsState p c = states_are_kept answers c e in
-        either_way (λ r. IsSome (frames_step p c answer c.frames) → IsSome r) (fits p (wants p c) answer) (frames_step p c answer c.frames) None (λ f there. there) (λ f there. absurd (false≢true (sym f ∙ fit))) (frames_some c answer c.frames k.frames k.waiting k.lowest fit),
-    either_way (λ r. IsSome r → IsTrue (fits p (wants p c) answer)) (fits p (wants p c) answer) (frames_step p c answer c.frames) None (λ f there. f) (λ f there. absurd (false≢true there)),
-  )
+  never_stuck answers c answer e = states_have_steps c answer (states_are_kept answers c e)

@@ -17,18 +17,23 @@ use Rattle.ja_machine.specs.declared.machine.Heap.{Heap}
 use Rattle.ja_machine.specs.declared.machine.Put.TheVariants as put_ends
 use Rattle.ja_machine.specs.Heap.{object_at, with_object, can_put, is_shared}
 use Rattle.ja_machine.specs.Writes.{with_value, with_definition, without, object_with_value, changed, define, can_delete, delete, length_name, whole_number, length_of, grown, with_element, unsigned_number, is_cut, with_length, PutOutcome, written, put_length, put_length_value, put_array, is_array, put_own, put}
+use Rattle.ja_machine.specs.State.{HaveDistinctNames}
 use Rattle.ja_machine.proofs.Lists.{either_way, all_filter}
+use Rattle.ja_machine.proofs.Distinct.{distinct-with_value, distinct-with_definition}
+use Rattle.ja_machine.proofs.Distinct.{distinct-filter}
 use Rattle.ja_machine.proofs.Heaps.{of_object}
 
 -- what holds of the content of each property
 abbrev pub Hold : (Content → Type 0) → List Property → Type 0
 Hold C qs = AllByRecursion (λ (q : Property). C q.content) qs
 
--- an object that is changed: what its properties hold is as before, or new
+-- an object that is changed: what its properties hold is as before, or new, and their names stay
+-- distinct
 pub record IsRewritten (C : Content → Type 0) (old new : Object) : Type 0 where
   pub class : new.class ≡ old.class
   pub slots : new.slots ≡ old.slots
   pub holds : Hold C old.properties → Hold C new.properties
+  pub names : HaveDistinctNames old.properties → HaveDistinctNames new.properties
 
 module _ (C : Content → Type 0) where
   hold-with_value : (qs : List Property) (name : List ℕ) (v : Value) → C (contents.Value v) → Hold C qs → Hold C (with_value qs name v)
@@ -46,13 +51,24 @@ module _ (C : Content → Type 0) where
     class = second.class ∙ first.class;
     slots = second.slots ∙ first.slots;
     holds = λ all. second.holds (first.holds all);
+    names = λ all. second.names (first.names all);
   }
 
   rewritten-value : (o : Object) (name : List ℕ) (v : Value) → C (contents.Value v) → IsRewritten C o (object_with_value o name v)
-  rewritten-value o name v new = record { class = refl; slots = refl; holds = hold-with_value o.properties name v new }
+  rewritten-value o name v new = record {
+    class = refl;
+    slots = refl;
+    holds = hold-with_value o.properties name v new;
+    names = distinct-with_value o.properties name v;
+  }
 
   rewritten-filter : (o : Object) (test : Property → Bool) → IsRewritten C o (record o { properties = filter test o.properties })
-  rewritten-filter o test = record { class = refl; slots = refl; holds = all_filter (λ (q : Property). C q.content) test o.properties }
+  rewritten-filter o test = record {
+    class = refl;
+    slots = refl;
+    holds = all_filter (λ (q : Property). C q.content) test o.properties;
+    names = distinct-filter test o.properties;
+  }
 
   module _ (numbers : (n : ℕ) → C (contents.Value (whole_number n))) where
     rewritten-grown : (o q : Object) (index : ℕ) (r : Option ℤ) → IsRewritten C o q → IsRewritten C o (grown index r q)
@@ -79,7 +95,14 @@ module _ (C : Content → Type 0) where
     -- .. a definition
     pub by_define : (name : List ℕ) (content : Content) (attrs : Attrs) → C content → P (define h a name content attrs)
     by_define name content attrs new =
-        by_change (λ o. record o { properties = with_definition o.properties name content attrs }) (λ o. record { class = refl; slots = refl; holds = hold-with_definition o.properties name content attrs new })
+        by_change
+        (λ o. record o { properties = with_definition o.properties name content attrs })
+        (λ o. record {
+          class = refl;
+          slots = refl;
+          holds = hold-with_definition o.properties name content attrs new;
+          names = distinct-with_definition o.properties name content attrs;
+        })
 
     -- .. a deletion
     pub by_delete : (name : List ℕ) → P (delete h a name)

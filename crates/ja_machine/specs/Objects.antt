@@ -141,18 +141,32 @@ with_parameters qs (name ∷ names) arguments flags =
 abbrev pub index_text : ℕ → List ℕ
 index_text i = to_text (Number (Whole (pos i)))
 
--- the elements of `arguments`, from an index on
-abbrev pub argument_elements : ℕ → List Value → List Bool → List Property
-argument_elements i [] flags = []
-argument_elements i (v ∷ arguments) flags =
-    with_flag (property_with (index_text i) v dont_enum) (first_flag flags) ∷ argument_elements (i + 1) arguments (drop 1 flags)
+-- a property that `for`-`in` doesn't show
+abbrev pub hidden : List ℕ → Value → Property
+hidden name v = property_with name v dont_enum
 
-abbrev pub arguments_object : Value → List Value → List Bool → Object
-arguments_object callee arguments flags =
+-- the element of `arguments` at an index
+abbrev pub argument_element : ℕ → Value → List Bool → Property
+argument_element i v flags = with_flag (hidden (index_text i) v) (first_flag flags)
+
+-- the elements of `arguments` from an index on, in order
+abbrev pub with_elements : List Property → ℕ → List Value → List Bool → List Property
+with_elements qs i [] flags = qs
+with_elements qs i (v ∷ arguments) flags =
+    with_elements (with_property qs (argument_element i v flags)) (i + 1) arguments (drop 1 flags)
+
+-- an arguments object before it has its elements
+abbrev pub empty_arguments : Value → ℕ → Object
+empty_arguments callee count =
     object_with
     class.Object
     (record (inheriting builtins.OBJECT_PROTOTYPE) { arguments = true })
-    (property_with (codes "callee") callee dont_enum ∷ property_with length_name (whole_number (length arguments)) dont_enum ∷ argument_elements 0 arguments flags)
+    (hidden (codes "callee") callee ∷ hidden length_name (whole_number count) ∷ [])
+
+abbrev pub arguments_object : Value → List Value → List Bool → Object
+arguments_object callee arguments flags =
+    let o : Object = empty_arguments callee (length arguments) in
+    record o { properties = with_elements o.properties 0 arguments flags }
 
 -- an activation has no prototype
 abbrev pub activation : Addr → List Property → Object

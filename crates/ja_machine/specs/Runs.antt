@@ -1,6 +1,8 @@
 -- What holds of every run of a program.
 use Rattle.std.specs.Prelude.{◌≡◌, ◌⊎◌, ◌≤◌, ◌↔◌, ℕ, ◌+◌, true, IsTrue, List, ◌∷◌, slice_get, Option, Some, IsSome}
+use Rattle.std.specs.List.{IsDistinct}
 use Rattle.ja_base.specs.declared.ids.NodeId.{NodeId}
+use Rattle.ja_prim.specs.Texts.{same_text}
 use Rattle.ja_graph.specs.declared.node.Node.{Node}
 use Rattle.ja_graph.specs.declared.node.Node.TheVariants as node
 use Rattle.ja_graph.specs.declared.node.NodeInfo.{NodeInfo}
@@ -17,7 +19,8 @@ use Rattle.ja_machine.specs.declared.machine.Event.{Event}
 use Rattle.ja_machine.specs.declared.machine.Event.TheVariants as event
 use Rattle.ja_machine.specs.Heap.{size, object_at, chain, prototype_of, outer_of}
 use Rattle.ja_machine.specs.Machine.{fits, wants, step, state_of}
-use Rattle.ja_machine.specs.State.{IsState, IsObjectOf, enters_functions}
+use Rattle.ja_machine.specs.Enumeration.{names}
+use Rattle.ja_machine.specs.State.{IsHeap, IsState, IsObjectOf, enters_functions}
 
 -- ---- states
 
@@ -29,6 +32,22 @@ AreStates p = (answers : List Answer) (c : Conf) → state_of p answers ≡ Some
 abbrev pub NeverStuck : Program → Type 0
 NeverStuck p =
     (answers : List Answer) (c : Conf) (answer : Answer) → state_of p answers ≡ Some c → IsTrue (fits p (wants p c) answer) ↔ IsSome (step p c answer)
+
+-- Of any state that is as it should be, whether a run comes to it or not: it has a step with each
+-- answer that it wants, and with no other, ..
+abbrev pub HaveSteps : Program → Type 0
+HaveSteps p =
+    (c : Conf) (answer : Answer) →
+    IsState p c →
+    IsTrue (fits p (wants p c) answer) ↔ IsSome (step p c answer)
+
+-- .. and a step leads to such a state, where the run goes on.
+abbrev pub StepsKeepStates : Program → Type 0
+StepsKeepStates p =
+    (c d : Conf) (answer : Answer) →
+    IsState p c →
+    step p c answer ≡ Some (event.Next d) →
+    IsState p d
 
 -- ---- steps
 
@@ -112,6 +131,12 @@ pub record Stays (before after : Heap) (a : Addr) : Type 0 where
 abbrev pub ObjectsStay : Program → Type 0
 ObjectsStay p =
     (c d : Conf) (answer : Answer) → step p c answer ≡ Some (event.Next d) → (a : Addr) → IsObjectOf c.heap a → Stays c.heap d.heap a
+
+-- ---- the names that `for`-`in` shows
+
+-- an object of a heap that is as it should be shows no name twice
+abbrev pub NamesAreDistinct : Program → Type 0
+NamesAreDistinct p = (h : Heap) (a : Addr) → IsHeap p h → IsDistinct same_text (names h a)
 
 -- ---- chains
 

@@ -1,6 +1,9 @@
 -- What holds of each state of a run.
-use Rattle.std.specs.Prelude.{◌≡◌, ◌<◌, ◌≤◌, ℕ, ◌+◌, Bool, true, false, List, [], ◌∷◌, length, slice_get, Some, IsSome}
+use Rattle.std.specs.Prelude.{◌≡◌, ◌<◌, ◌≤◌, ℕ, ◌+◌, Bool, true, false, List, [], ◌∷◌, map, length}
+use Rattle.std.specs.Prelude.{slice_get, Some, IsSome}
+use Rattle.std.specs.List.{IsDistinct}
 use Rattle.ja_base.specs.declared.ids.Site.{Site}
+use Rattle.ja_prim.specs.Texts.{same_text}
 use Rattle.ja_graph.specs.declared.node.Node.{Node}
 use Rattle.ja_graph.specs.declared.node.Node.TheVariants as node
 use Rattle.ja_graph.specs.declared.node.NodeInfo.{NodeInfo}
@@ -38,12 +41,17 @@ abbrev pub IsContentOf : Heap → Content → Type 0
 IsContentOf h (contents.Value v) = IsValueOf h v
 IsContentOf h contents.Row = Unit {0}
 
+-- no two properties have one name
+abbrev pub HaveDistinctNames : List Property → Type 0
+HaveDistinctNames qs = IsDistinct same_text (map (λ (q : Property). q.name) qs)
+
 -- The links and the properties of an object lead to objects of the heap. Its prototype and its outer object were made before it; its
--- rank is how many objects were.
+-- rank is how many objects were. It has one property of a name at most.
 pub record IsHeap (p : Program) (h : Heap) : Type 0 where
   pub rows : length h.objects ≡ length p.sites
   pub class : (a : Addr) (o : Object) → object_at h a ≡ Some o → o.class ≡ class_of_site p a.site.0
   pub properties : (a : Addr) (o : Object) (i : ℕ) (q : Property) → object_at h a ≡ Some o → slice_get o.properties i ≡ Some q → IsContentOf h q.content
+  pub names : (a : Addr) (o : Object) → object_at h a ≡ Some o → HaveDistinctNames o.properties
   pub scope : (a b : Addr) (o : Object) → object_at h a ≡ Some o → o.slots.scope ≡ Some b → IsObjectOf h b
   pub rank : Addr → ℕ
   pub ranked : (a : Addr) → IsObjectOf h a → rank a < size h

@@ -1,20 +1,16 @@
--- Parameters, arguments and their marks, one after another; the names of the elements of an arguments object.
+-- Parameters, arguments and their marks, and the elements of an arguments object, one by one.
 use Rattle.std.proofs.Common.{◌≡◌, ℕ, zero, suc, ◌+◌, ◌^◌, ◌<◌, ◌≤◌, ◌⊎◌, inl, inr, Bool, true, false, not, List, [], ◌∷◌, ◌++◌, map, drop, length, get_or, min, Option, refl, sym, ap, subst, ◌∙◌, arith, append_assoc}
 use Rattle.std.proofs.lemmas.List.{append-nil, drop-drop, drop_more}
 use Rattle.std.proofs.lemmas.Option.{unwrap_or-slice_get}
-use Rattle.std.proofs.lemmas.Fmt.{decimal_injective, decimal_is_IsNumeral}
 use Rattle.std.specs.Prelude.{slice_get, unwrap_or}
-use Rattle.std.specs.Str.Parse.{AllDigits}
-use Rattle.std.specs.List.{AllByRecursion, list_any}
-use lib.Chars.{codes}
-use lib.Pointwise.{bytes_decides}
+use Rattle.std.specs.List.{list_any}
 use Rattle.ja_prim.specs.Texts.{same_text}
 use Rattle.ja_machine.specs.declared.machine.Property.{Property}
 use Rattle.ja_machine.specs.declared.machine.Value.{Value}
 use Rattle.ja_machine.specs.Frames.{undefined, argument}
-use Rattle.ja_machine.specs.Objects.{dont_delete, dont_enum, property_with, with_property, with_flag, first_flag, with_parameters, sharing, index_text, argument_elements}
-use Rattle.ja_machine.specs.Writes.{length_name}
-use Rattle.ja_operations.specs.Arguments.{arguments_head}
+use Rattle.ja_machine.specs.Objects.{dont_delete, property_with, with_property, with_flag}
+use Rattle.ja_machine.specs.Objects.{first_flag, with_parameters, sharing}
+use Rattle.ja_machine.specs.Objects.{argument_element, with_elements}
 
 -- ---- lists
 
@@ -77,75 +73,28 @@ module _ {X : Type 0} (text : X → List ℕ) (names : List X) (arguments : List
       ∙ ap (λ (vs : List Value). with_parameters (put (argument arguments i)) (map text (drop (i + 1) names)) vs (drop 1 (drop i flags))) (drop-drop 1 i arguments)
       ∙ ap (λ (bs : List Bool). with_parameters (put (argument arguments i)) (map text (drop (i + 1) names)) (drop (i + 1) arguments) bs) (drop-drop 1 i flags)
 
--- ---- the names of elements
-
-texts_apart : (t u : List ℕ) → (t ≡ u → ⊥) → same_text t u ≡ false
-texts_apart t u apart = at (same_text t u) refl
-  where
-    at : (b : Bool) → same_text t u ≡ b → b ≡ false
-    at false e = refl
-    at true e = absurd (apart ((bytes_decides t u).0 e))
-
-index_apart : (i j : ℕ) → i < 2 ^ 64 → j < 2 ^ 64 → (i ≡ j → ⊥) → same_text (index_text i) (index_text j) ≡ false
-index_apart i j low high apart =
-    texts_apart (index_text i) (index_text j) (λ e. apart (decimal_injective i j low high e))
-
-callee_apart : (j : ℕ) → j < 2 ^ 64 → same_text (codes "callee") (index_text j) ≡ false
-callee_apart j low = texts_apart (codes "callee") (index_text j) (λ e. not_digits (subst (AllDigits 10) (sym e) (decimal_is_IsNumeral j low).0.1))
-  where
-    not_digits : AllDigits 10 (codes "callee") → ⊥
-    not_digits all = absurd (omega (arith, all.0))
-
-length_apart : (j : ℕ) → j < 2 ^ 64 → same_text length_name (index_text j) ≡ false
-length_apart j low = texts_apart length_name (index_text j) (λ e. not_digits (subst (AllDigits 10) (sym e) (decimal_is_IsNumeral j low).0.1))
-  where
-    not_digits : AllDigits 10 length_name → ⊥
-    not_digits all = absurd (omega (arith, all.0))
-
--- ---- elements
-
--- no property has the name of an element from an index on
-abbrev pub IsBefore : ℕ → Property → Type 0
-IsBefore i q = (j : ℕ) → i ≤ j → j < 2 ^ 64 → same_text q.name (index_text j) ≡ false
-
--- a property of a name that isn't there comes last
-put_last : (qs : List Property) (q : Property) → AllByRecursion (λ (r : Property). same_text r.name q.name ≡ false) qs → with_property qs q ≡ qs ++ q ∷ []
-put_last [] q all = refl
-put_last (r ∷ rs) q all = rw (all.0) (ap (λ (rest : List Property). r ∷ rest) (put_last rs q all.1))
-
-weaker : (P Q : Property → Type 0) (qs : List Property) → ((q : Property) → P q → Q q) → AllByRecursion P qs → AllByRecursion Q qs
-weaker P Q [] f all = tt
-weaker P Q (q ∷ qs) f all = (f q all.0, weaker P Q qs f all.1)
-
-with_last : (P : Property → Type 0) (qs : List Property) (q : Property) → AllByRecursion P qs → P q → AllByRecursion P (qs ++ q ∷ [])
-with_last P [] q all is = (is, tt)
-with_last P (r ∷ rs) q all is = (all.0, with_last P rs q all.1 is)
-
-pub head_before : (callee : Value) (n : ℕ) → AllByRecursion (IsBefore 0) (arguments_head callee n)
-head_before callee n = (λ j low high. callee_apart j high, (λ j low high. length_apart j high, tt))
+-- ---- the elements of `arguments`
 
 module _ (arguments : List Value) (flags : List Bool) where
-  abbrev pub element_at : ℕ → Property
-  element_at i = with_flag (property_with (index_text i) (argument arguments i) dont_enum) (first_flag (drop i flags))
+  -- with the elements from an index on
+  abbrev pub all_elements : ℕ → List Property → List Property
+  all_elements i qs = with_elements qs i (drop i arguments) (drop i flags)
 
-  -- the elements from an index on
-  abbrev pub elements_from : ℕ → List Property
-  elements_from i = argument_elements i (drop i arguments) (drop i flags)
-
-  next_element : (i : ℕ) → i < length arguments → elements_from i ≡ element_at i ∷ elements_from (i + 1)
-  next_element i low =
-      let read : get_or arguments i undefined ≡ argument arguments i = sym (unwrap_or-slice_get arguments i undefined) in
-      rw (drop_more arguments i undefined low, read, drop-drop 1 i flags) refl
-
-  -- the properties so far are followed by the rest of the elements
-  pub record AreElements (all : List Property) (i : ℕ) (qs : List Property) : Type 0 where
-    pub before : AllByRecursion (IsBefore i) qs
-    pub followed : qs ++ elements_from i ≡ all
-
-  pub one_more : (all : List Property) (i : ℕ) (qs : List Property) → i < length arguments → i < 2 ^ 64 → AreElements all i qs → AreElements all (i + 1) (with_property qs (element_at i))
-  one_more all i qs low small are =
-      let last : with_property qs (element_at i) ≡ qs ++ element_at i ∷ [] = put_last qs (element_at i) (weaker (IsBefore i) (λ (r : Property). same_text r.name (index_text i) ≡ false) qs (λ q apart. apart i (omega arith) small) are.before) in
-      subst (AreElements all (i + 1)) (sym last) (record {
-        before = with_last (IsBefore (i + 1)) qs (element_at i) (weaker (IsBefore i) (IsBefore (i + 1)) qs (λ q apart j more high. apart j (omega (arith, more)) high) are.before) (λ j more high. index_apart i j small high (λ e. absurd (omega (arith, e, more))));
-        followed = append_assoc qs (element_at i ∷ []) (elements_from (i + 1)) ∙ ap (λ (rest : List Property). qs ++ rest) (sym (next_element i low)) ∙ are.followed;
-      })
+  pub one_more : (i : ℕ) (qs : List Property) →
+      i < length arguments →
+      all_elements i qs ≡
+      all_elements
+      (i + 1)
+      (with_property qs (argument_element i (argument arguments i) (drop i flags)))
+  one_more i qs low =
+      let flags_here : List Bool = drop i flags in
+      let rest : List Value = drop (i + 1) arguments in
+      let put : Value → List Property = λ v. with_property qs (argument_element i v flags_here) in
+      let read = sym (unwrap_or-slice_get arguments i undefined) in
+      ap
+      (λ (vs : List Value). with_elements qs i vs flags_here)
+      (drop_more arguments i undefined low)
+      ∙ ap (λ (v : Value). with_elements (put v) (i + 1) rest (drop 1 flags_here)) read
+      ∙ ap
+      (λ (bs : List Bool). with_elements (put (argument arguments i)) (i + 1) rest bs)
+      (drop-drop 1 i flags)

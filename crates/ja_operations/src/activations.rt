@@ -7,7 +7,6 @@ ghost use Rattle.ja_machine.specs.Frames as frames;
 ghost use Rattle.ja_machine.specs.Nodes.{name_text, parameter_names};
 ghost use Rattle.ja_machine.specs.Objects as objects;
 ghost use Rattle.ja_prim.specs.Texts.{same_text};
-ghost use Rattle.ja_operations.specs.Arguments.{arguments_head};
 
 use crate::arguments::{argument, argument_count, index_text, object_or_undefined};
 use crate::made::{DONT_DELETE, DONT_ENUM, first_of};
@@ -119,7 +118,8 @@ fn empty_arguments(
     arguments: &[Value],
 ) -> Result<Object, Memory>
     ensures few { OnOk result (length arguments.now ≤ 9007199254740991) }
-    ensures head { IfOk result (λ o. o ≡ record (objects.arguments_object (frames.object_or_undefined callee) arguments.now []) { properties = arguments_head (frames.object_or_undefined callee) (length arguments.now) }) }
+    ensures object { IfOk result (λ o.
+        o ≡ objects.empty_arguments (frames.object_or_undefined callee) (length arguments.now)) }
 {
     let slots = Slots {
         prototype: Some(first_of(OBJECT_PROTOTYPE)),

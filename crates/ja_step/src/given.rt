@@ -20,6 +20,10 @@ use ja_operations::copies::copy_value;
 use ja_prim::{Primitive, Text16, to_num, to_uint32};
 use std::alloc::Global;
 
+/// The most elements that are given to a call. A run makes at most 10,000,000 steps and puts at
+/// most one element in each, so of more elements some were never put.
+const MOST_ELEMENTS: u32 = 16_777_216;
+
 /// The arguments that were read, or why the run leaves the profile.
 pub(crate) type Given = Result<Vec<Value>, ScopeKind>;
 
@@ -82,11 +86,16 @@ impl Conf {
         }
     }
 
-    /// The first elements of an object. The first row among them leaves the profile.
+    /// The first elements of an object. The first row among them leaves the profile. Memory for all
+    /// of them is asked for before one is read, and counts as refused where they are more than
+    /// 16,777,216: the `length` of an array may be 4,294,967,295 where it has no element.
     fn first_elements(&self, alloc: Global, a: Addr, count: u32) -> Result<Given, Memory>
         ensures { IfOk result (λ given. given_of given ≡ calls.elements_up_to self.now.heap a (Ok count)) }
     {
-        let mut values = Vec::new(alloc);
+        if count > MOST_ELEMENTS {
+            return Err(Memory);
+        }
+        let mut values = Vec::with_capacity(alloc, count as usize)?;
         for index in 0..count {
             match self.element(alloc, a, index)? {
                 Ok(value) => values.push(value)?,

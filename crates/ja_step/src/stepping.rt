@@ -14,6 +14,10 @@ use std::alloc::Global;
 /// asked by the caller, and what it answers is of the kinds that it declares. `None` says that the run goes on, and
 /// an end how it has ended; `conf` is then the state behind the step.
 ///
+/// A state that is as it should be (`IsState` of `ja_machine/specs/State.antt`) has a step with
+/// each answer that it wants, by the law `states_have_steps` of `ja_machine`, and the state behind
+/// the step is as it should be too, by `steps_keep_states`.
+///
 /// # Errors
 ///
 /// `Memory` where memory is refused. The step may then be done in part, so the run can't go on.
