@@ -3,3 +3,4 @@ pub mod Links
 pub mod InSight
 pub mod Cuts
 pub mod Changes
+pub mod Puts

@@ -1,4 +1,4 @@
-ghost use Rattle.std.specs.Prelude.{◌≡◌, [], IfOk, OnOk, OnErr, map};
+ghost use Rattle.std.specs.Prelude.{◌≡◌, [], IfOk, OnOk, OnErr, is_some, if◌then◌else◌, map};
 ghost use Rattle.std.specs.Option.{option_map};
 ghost use Rattle.ja_machine.specs.Heap.{property_of};
 ghost use Rattle.ja_machine.specs.Objects.{object_with};
@@ -106,6 +106,18 @@ impl Object {
                 self.properties.insert(name.copy()?, held)?;
                 Ok(())
             }
+        }
+    }
+
+    /// Sets the value of a property that is there: its attributes stay. It takes no memory.
+    pub(crate) fn replace_value(&mut self, name: &Text16, v: Value)
+        ensures { self.new ≡ (if is_some (property_of self.old name.now)
+            then spec.object_with_value self.old name.now v
+            else self.old) }
+    {
+        match self.properties.get_mut(name) {
+            None => return,
+            Some(held) => held.content = Content::Value(v),
         }
     }
 

@@ -71,13 +71,14 @@ impl Object {
         v: Value,
     ) -> Result<(), Memory>
         requires { length.now ≡ spec.length_name }
-        ensures { OnOk result (self.new ≡ spec.with_element self.old name.now v (index_of name.now)) }
+        ensures put { OnOk result (self.new ≡ spec.with_element self.old name.now v (index_of name.now)) }
+        ensures kept { OnErr result (self.new ≡ self.old) }
     {
         let old = self.length(length);
         self.set_value(alloc, name, v)?;
         if let (Some(index), Some(old)) = (array_index(name), old) {
             if i64::from(index) >= old.get() {
-                self.set_value(alloc, length, whole_number(index + 1))?;
+                self.replace_value(length, whole_number(index + 1));
             }
         }
         Ok(())
@@ -107,20 +108,25 @@ impl Object {
         }
     }
 
-    /// Sets an array's length: elements that aren't below it are deleted (ES3 15.4.5.1, steps 14 and 15).
+    /// Sets an array's length: elements that aren't below it are deleted (ES3 15.4.5.1, steps 14 and
+    /// 15). The length is set first, since that may take memory.
     fn put_length(&mut self, alloc: Global, length: &Text16, n: u32) -> Result<(), Memory>
         requires { length.now ≡ spec.length_name }
-        ensures { OnOk result (self.new ≡ spec.with_length self.old n) }
+        ensures put { OnOk result (self.new ≡ spec.with_length self.old n) }
+        ensures kept { OnErr result (self.new ≡ self.old) }
     {
         let old = self.length(length);
+        self.set_value(alloc, length, whole_number(n))?;
         self.cut(n, old);
-        self.set_value(alloc, length, whole_number(n))
+        Ok(())
     }
 
     /// Sets an array's length, if the value is a length (ES3 15.4.5.1, steps 12 to 15).
     fn put_length_value(&mut self, alloc: Global, length: &Text16, v: Value) -> Result<Put, Memory>
         requires { length.now ≡ spec.length_name }
-        ensures { IfOk result (λ end. (h : Heap) (a : Addr) → object_at h a ≡ Some self.old → spec.written (with_object h a self.new) end ≡ spec.put_length_value h a self.old v) }
+        ensures put { IfOk result (λ end. (h : Heap) (a : Addr) → object_at h a ≡ Some self.old
+            → spec.written (with_object h a self.new) end ≡ spec.put_length_value h a self.old v) }
+        ensures kept { OnErr result (self.new ≡ self.old) }
     {
         match v {
             Value::Object(_) => Ok(Put::LengthObject),
@@ -143,7 +149,9 @@ impl Object {
         v: Value,
     ) -> Result<Put, Memory>
         requires { length.now ≡ spec.length_name }
-        ensures { IfOk result (λ end. (h : Heap) (a : Addr) → object_at h a ≡ Some self.old → spec.written (with_object h a self.new) end ≡ spec.put_own h a self.old name.now v) }
+        ensures put { IfOk result (λ end. (h : Heap) (a : Addr) → object_at h a ≡ Some self.old
+            → spec.written (with_object h a self.new) end ≡ spec.put_own h a self.old name.now v) }
+        ensures kept { OnErr result (self.new ≡ self.old) }
     {
         if !is_array(self.class()) {
             self.set_value(alloc, name, v)?;
@@ -158,10 +166,11 @@ impl Object {
 }
 
 impl Heap {
-    /// Sets the value of a property (ES3 8.6.2.2, 15.4.5.1). All but `Done` leave the heap as it was. After `Memory` nothing is
-    /// said of it.
+    /// Sets the value of a property (ES3 8.6.2.2, 15.4.5.1). All but `Done` leave the heap as it was,
+    /// and so does `Memory`, which comes where memory is refused.
     pub fn put(&mut self, alloc: Global, a: Addr, name: &Text16, v: Value) -> Result<Put, Memory>
-        ensures { IfOk result (λ end. spec.written self.new end ≡ spec.put self.old a name.now v) }
+        ensures put { IfOk result (λ end. spec.written self.new end ≡ spec.put self.old a name.now v) }
+        ensures kept { OnErr result (self.new ≡ self.old) }
     {
         if !self.can_put(a, name) {
             return Ok(Put::Ignored);
@@ -174,7 +183,10 @@ impl Heap {
 
     /// Sets the value of a property where nothing hinders it.
     fn put_own(&mut self, alloc: Global, a: Addr, name: &Text16, v: Value) -> Result<Put, Memory>
-        ensures { IfOk result (λ end. spec.written self.new end ≡ option_map_or (λ o. spec.put_own self.old a o name.now v) (object_at self.old a) (spec.written self.old Done)) }
+        ensures put { IfOk result (λ end. spec.written self.new end
+            ≡ option_map_or (λ o. spec.put_own self.old a o name.now v) (object_at self.old a)
+            (spec.written self.old Done)) }
+        ensures kept { OnErr result (self.new ≡ self.old) }
     {
         let objects = match self.objects.get_mut(a.site.0 as usize) {
             None => return Ok(Put::Done),
