@@ -9,9 +9,8 @@ ghost use Rattle.ja_machine.specs.declared.machine.Property.{Property};
 ghost use Rattle.ja_machine.specs.declared.machine.Put.TheVariants.{Done};
 ghost use Rattle.ja_machine.specs.Heap.{object_at, with_object, property_of};
 ghost use Rattle.ja_machine.specs.Writes as spec;
-ghost use Rattle.ja_heap.specs.Held.{property_with};
 
-use crate::{Heap, Held, Object};
+use crate::{Heap, Object};
 use ja_base::Memory;
 use ja_graph::{Attrs, Class};
 use ja_machine::{Addr, Content, Put, Value};
@@ -44,13 +43,13 @@ fn unsigned_number(value: &Prim) -> Option<u32>
     }
 }
 
-/// Whether a property is an element from a new length on, below the old one.
-fn is_cut(new: u32, old: i64, name: &Text16, held: &Held) -> bool
-    ensures { result ≡ spec.is_cut new (Some old) (property_with name.now held.now) }
+/// The whole number that is held, if it is one.
+fn whole_number_of(content: &Content) -> Option<Int>
+    ensures { result ≡ spec.number_held content.now }
 {
-    match array_index(name) {
-        Some(index) => new <= index && i64::from(index) < old,
-        None => false,
+    match content {
+        Content::Value(Value::Primitive(Primitive::Number(Num::Whole(n)))) => Some(*n),
+        _ => None,
     }
 }
 
@@ -59,7 +58,7 @@ impl Object {
     fn length(&self, length: &Text16) -> Option<Int>
         ensures { result ≡ spec.property_number (property_of self.now length.now) }
     {
-        self.property(length)?.number()
+        whole_number_of(&self.property(length)?.content)
     }
 
     /// Sets an element: a length that isn't above its index becomes one more than the index (ES3 15.4.5.1, steps 8 to 10).
@@ -82,20 +81,6 @@ impl Object {
             }
         }
         Ok(())
-    }
-
-    /// Deletes the elements from a new length on, below the old one.
-    fn cut_below(&mut self, new: u32, old: i64)
-        ensures { self.new ≡ record self.old { properties = filter (λ (q : Property). not (spec.is_cut new (Some old) q)) self.old.properties } }
-    {
-        if i64::from(new) < old {
-            self.properties.retain(
-                |name: &Text16, held: &mut Held| -> bool
-                    ensures value { result ≡ not (spec.is_cut new (Some old) (property_with name.now held.old)) }
-                    ensures same { held.new ≡ held.old }
-                { !is_cut(new, old, name, held) },
-            );
-        }
     }
 
     /// Deletes the elements from a new length on, below the old one, if that is a number.
