@@ -1,5 +1,6 @@
-pub mod Properties
 pub mod Links
 pub mod InSight
 pub mod Cuts
 pub mod Changes
+pub mod Puts
+pub mod InSlots

@@ -3,11 +3,10 @@ ghost use Rattle.std.specs.Prelude.{◌≡◌, IfOk, find};
 ghost use Rattle.std.specs.Option.{option_map, option_and_then};
 ghost use Rattle.ja_machine.specs.Heap as spec;
 ghost use Rattle.ja_machine.specs.Enumeration as enumeration;
-ghost use Rattle.ja_heap.specs.Held.{property_with};
 
-use crate::{Heap, Held};
+use crate::Heap;
 use ja_base::Memory;
-use ja_machine::{Addr, Content};
+use ja_machine::{Addr, Content, Property};
 use ja_prim::Text16;
 use std::alloc::Global;
 
@@ -35,8 +34,8 @@ impl Heap {
 
     /// The property of a name, own or inherited: the nearest one (ES3 8.6.2.1).
     #[tactic(auto, using(crate::proofs::Links::walk))]
-    pub fn get(&self, a: Addr, name: &Text16) -> Option<&Held>
-        ensures { option_map (λ q. property_with name.now q.now) result ≡ spec.get self.now a name.now }
+    pub fn get(&self, a: Addr, name: &Text16) -> Option<&Property>
+        ensures { option_map (λ q. q.now) result ≡ spec.get self.now a name.now }
     {
         let mut at = Some(a);
         for _object in 0..self.size {

@@ -2,12 +2,11 @@ ghost use Rattle.std.specs.Prelude.{◌≡◌, ◌==◌, ◌+◌, ◌++◌, not,
 ghost use Rattle.std.specs.Option.{option_map, option_to_list};
 ghost use Rattle.ja_machine.specs.Calls.{has_elements_at};
 ghost use Rattle.ja_machine.specs.Heap as spec;
-ghost use Rattle.ja_heap.specs.Held.{property_with};
 
-use crate::{Held, Object};
+use crate::Object;
 use ja_base::{Label, Memory, Site};
 use ja_graph::Class;
-use ja_machine::Addr;
+use ja_machine::{Addr, Property};
 use ja_prim::Text16;
 use std::alloc::Global;
 use std::marker::Model;
@@ -158,8 +157,8 @@ impl Heap {
     }
 
     /// An own property.
-    pub fn own(&self, a: Addr, name: &Text16) -> Option<&Held>
-        ensures { option_map (λ q. property_with name.now q.now) result ≡ spec.own self.now a name.now }
+    pub fn own(&self, a: Addr, name: &Text16) -> Option<&Property>
+        ensures { option_map (λ q. q.now) result ≡ spec.own self.now a name.now }
     {
         self.object(a)?.property(name)
     }

@@ -10,11 +10,10 @@
 
 mod chains;
 mod heap;
-mod held;
 mod names;
 mod object;
+mod properties;
 mod writes;
 
 pub use heap::Heap;
-pub use held::Held;
 pub use object::Object;

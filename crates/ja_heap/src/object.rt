@@ -1,17 +1,15 @@
-ghost use Rattle.std.specs.Prelude.{◌≡◌, [], IfOk, OnOk, OnErr, map};
+ghost use Rattle.std.specs.Prelude.{◌≡◌, [], IfOk, OnOk, OnErr, is_some, if◌then◌else◌, filter, map, not, Some};
 ghost use Rattle.std.specs.Option.{option_map};
+ghost use Rattle.ja_machine.specs.declared.machine.Property.{Property};
 ghost use Rattle.ja_machine.specs.Heap.{property_of};
 ghost use Rattle.ja_machine.specs.Objects.{object_with};
 ghost use Rattle.ja_machine.specs.Objects as objects;
 ghost use Rattle.ja_machine.specs.Writes as spec;
-ghost use Rattle.ja_heap.specs.Held.{property_with};
 
-use crate::Held;
-use crate::held::NO_ATTRS;
-use indexmap::IndexMap;
+use crate::properties::Properties;
 use ja_base::Memory;
 use ja_graph::{Attrs, Class};
-use ja_machine::{Content, Slots, Value};
+use ja_machine::{Content, Property, Slots, Value};
 use ja_prim::Text16;
 use std::alloc::Global;
 use std::marker::Model;
@@ -21,16 +19,15 @@ use std::marker::Model;
 pub struct Object {
     class: Class,
     slots: Slots,
-    pub(crate) properties: IndexMap<Text16, Held>,
+    properties: Properties,
 }
 
 impl Model for Object {
     ghost use Rattle.ja_machine.specs.declared.machine.Object.{Object as MachineObject};
-    ghost use Rattle.ja_heap.specs.Held.{properties_of};
 
     ghost Value = { MachineObject };
 
-    ghost view = { λ o. record { class = o.class; slots = o.slots; properties = properties_of o.properties.entries } };
+    ghost view = { λ o. record { class = o.class; slots = o.slots; properties = o.properties } };
 }
 
 impl Drop for Object {
@@ -51,7 +48,7 @@ impl Object {
         Object {
             class,
             slots,
-            properties: IndexMap::new(alloc),
+            properties: Properties::new(alloc),
         }
     }
 
@@ -84,8 +81,8 @@ impl Object {
     }
 
     /// An own property.
-    pub fn property(&self, name: &Text16) -> Option<&Held>
-        ensures { option_map (λ q. property_with name.now q.now) result ≡ property_of self.now name.now }
+    pub fn property(&self, name: &Text16) -> Option<&Property>
+        ensures { option_map (λ q. q.now) result ≡ property_of self.now name.now }
     {
         self.properties.get(name)
     }
@@ -96,17 +93,16 @@ impl Object {
         ensures written { OnOk result (self.new ≡ spec.object_with_value self.old name.now v) }
         ensures kept { OnErr result (self.new ≡ self.old) }
     {
-        match self.properties.get_mut(name) {
-            Some(held) => {
-                held.content = Content::Value(v);
-                Ok(())
-            }
-            None => {
-                let held = Held::new(Content::Value(v), NO_ATTRS);
-                self.properties.insert(name.copy()?, held)?;
-                Ok(())
-            }
-        }
+        self.properties.set_value(alloc, name, v)
+    }
+
+    /// Sets the value of a property that is there: its attributes stay. It takes no memory.
+    pub(crate) fn replace_value(&mut self, name: &Text16, v: Value)
+        ensures { self.new ≡ (if is_some (property_of self.old name.now)
+            then spec.object_with_value self.old name.now v
+            else self.old) }
+    {
+        self.properties.replace_value(name, v);
     }
 
     /// Sets the content and the attributes of a property, which comes last where it is new. After `Memory` the object is as it
@@ -121,45 +117,58 @@ impl Object {
         ensures defined { OnOk result (self.new ≡ record self.old { properties = spec.with_definition self.old.properties name.now content attrs }) }
         ensures kept { OnErr result (self.new ≡ self.old) }
     {
-        match self.properties.get_mut(name) {
-            Some(held) => {
-                held.content = content;
-                held.attrs = attrs;
-                Ok(())
-            }
-            None => {
-                let held = Held::new(content, attrs);
-                self.properties.insert(name.copy()?, held)?;
-                Ok(())
-            }
-        }
+        self.properties.define(alloc, name, content, attrs)
     }
 
     /// Puts a property in place of the one of its name, or behind the others. After `Memory` the object is as it was.
-    pub fn set_property(&mut self, alloc: Global, name: &Text16, held: Held) -> Result<(), Memory>
-        ensures set { OnOk result (self.new ≡ record self.old { properties = objects.with_property self.old.properties (property_with name.now held) }) }
+    pub fn set_property(
+        &mut self,
+        alloc: Global,
+        name: &Text16,
+        content: Content,
+        attrs: Attrs,
+        shared: bool,
+    ) -> Result<(), Memory>
+        ensures set { OnOk result (self.new ≡ record self.old {
+          properties = objects.with_property self.old.properties
+              (record { name = name.now; content = content; attrs = attrs; shared = shared });
+        }) }
         ensures kept { OnErr result (self.new ≡ self.old) }
     {
-        self.properties.insert(name.copy()?, held)?;
-        Ok(())
+        self.properties.put(alloc, name, content, attrs, shared)
     }
 
     /// Removes a property, if it is there.
     pub fn remove(&mut self, name: &Text16)
         ensures { self.new ≡ record self.old { properties = spec.without self.old.properties name.now } }
     {
-        // The length is what says that no two names are equal.
-        let _count = self.properties.len();
-        self.properties.shift_remove(name);
+        self.properties.remove(name);
     }
 
     /// Shares a property from now on, if it is there.
     pub fn share(&mut self, name: &Text16)
-        ensures { self.new ≡ record self.old { properties = map (spec.shared_from_now name.now) self.old.properties } }
+        ensures { self.new ≡ record self.old {
+          properties = map (spec.shared_from_now name.now) self.old.properties;
+        } }
     {
-        match self.properties.get_mut(name) {
-            Some(held) => held.shared = true,
-            None => {}
+        self.properties.share(name);
+    }
+
+    /// Deletes the elements from a new length on, below the old one.
+    pub(crate) fn cut_below(&mut self, new: u32, old: i64)
+        ensures { self.new ≡ record self.old {
+          properties = filter (λ (q : Property). not (spec.is_cut new (Some old) q)) self.old.properties;
+        } }
+    {
+        if i64::from(new) < old {
+            self.properties.cut(new, old);
         }
+    }
+
+    /// The properties, in order of insertion.
+    pub(crate) fn properties(&self) -> &Properties
+        ensures { result.now ≡ self.now.properties }
+    {
+        &self.properties
     }
 }

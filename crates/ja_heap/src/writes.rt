@@ -9,9 +9,8 @@ ghost use Rattle.ja_machine.specs.declared.machine.Property.{Property};
 ghost use Rattle.ja_machine.specs.declared.machine.Put.TheVariants.{Done};
 ghost use Rattle.ja_machine.specs.Heap.{object_at, with_object, property_of};
 ghost use Rattle.ja_machine.specs.Writes as spec;
-ghost use Rattle.ja_heap.specs.Held.{property_with};
 
-use crate::{Heap, Held, Object};
+use crate::{Heap, Object};
 use ja_base::Memory;
 use ja_graph::{Attrs, Class};
 use ja_machine::{Addr, Content, Put, Value};
@@ -44,13 +43,13 @@ fn unsigned_number(value: &Prim) -> Option<u32>
     }
 }
 
-/// Whether a property is an element from a new length on, below the old one.
-fn is_cut(new: u32, old: i64, name: &Text16, held: &Held) -> bool
-    ensures { result ≡ spec.is_cut new (Some old) (property_with name.now held.now) }
+/// The whole number that is held, if it is one.
+fn whole_number_of(content: &Content) -> Option<Int>
+    ensures { result ≡ spec.number_held content.now }
 {
-    match array_index(name) {
-        Some(index) => new <= index && i64::from(index) < old,
-        None => false,
+    match content {
+        Content::Value(Value::Primitive(Primitive::Number(Num::Whole(n)))) => Some(*n),
+        _ => None,
     }
 }
 
@@ -59,7 +58,7 @@ impl Object {
     fn length(&self, length: &Text16) -> Option<Int>
         ensures { result ≡ spec.property_number (property_of self.now length.now) }
     {
-        self.property(length)?.number()
+        whole_number_of(&self.property(length)?.content)
     }
 
     /// Sets an element: a length that isn't above its index becomes one more than the index (ES3 15.4.5.1, steps 8 to 10).
@@ -71,30 +70,17 @@ impl Object {
         v: Value,
     ) -> Result<(), Memory>
         requires { length.now ≡ spec.length_name }
-        ensures { OnOk result (self.new ≡ spec.with_element self.old name.now v (index_of name.now)) }
+        ensures put { OnOk result (self.new ≡ spec.with_element self.old name.now v (index_of name.now)) }
+        ensures kept { OnErr result (self.new ≡ self.old) }
     {
         let old = self.length(length);
         self.set_value(alloc, name, v)?;
         if let (Some(index), Some(old)) = (array_index(name), old) {
             if i64::from(index) >= old.get() {
-                self.set_value(alloc, length, whole_number(index + 1))?;
+                self.replace_value(length, whole_number(index + 1));
             }
         }
         Ok(())
-    }
-
-    /// Deletes the elements from a new length on, below the old one.
-    fn cut_below(&mut self, new: u32, old: i64)
-        ensures { self.new ≡ record self.old { properties = filter (λ (q : Property). not (spec.is_cut new (Some old) q)) self.old.properties } }
-    {
-        if i64::from(new) < old {
-            self.properties.retain(
-                |name: &Text16, held: &mut Held| -> bool
-                    ensures value { result ≡ not (spec.is_cut new (Some old) (property_with name.now held.old)) }
-                    ensures same { held.new ≡ held.old }
-                { !is_cut(new, old, name, held) },
-            );
-        }
     }
 
     /// Deletes the elements from a new length on, below the old one, if that is a number.
@@ -107,20 +93,25 @@ impl Object {
         }
     }
 
-    /// Sets an array's length: elements that aren't below it are deleted (ES3 15.4.5.1, steps 14 and 15).
+    /// Sets an array's length: elements that aren't below it are deleted (ES3 15.4.5.1, steps 14 and
+    /// 15). The length is set first, since that may take memory.
     fn put_length(&mut self, alloc: Global, length: &Text16, n: u32) -> Result<(), Memory>
         requires { length.now ≡ spec.length_name }
-        ensures { OnOk result (self.new ≡ spec.with_length self.old n) }
+        ensures put { OnOk result (self.new ≡ spec.with_length self.old n) }
+        ensures kept { OnErr result (self.new ≡ self.old) }
     {
         let old = self.length(length);
+        self.set_value(alloc, length, whole_number(n))?;
         self.cut(n, old);
-        self.set_value(alloc, length, whole_number(n))
+        Ok(())
     }
 
     /// Sets an array's length, if the value is a length (ES3 15.4.5.1, steps 12 to 15).
     fn put_length_value(&mut self, alloc: Global, length: &Text16, v: Value) -> Result<Put, Memory>
         requires { length.now ≡ spec.length_name }
-        ensures { IfOk result (λ end. (h : Heap) (a : Addr) → object_at h a ≡ Some self.old → spec.written (with_object h a self.new) end ≡ spec.put_length_value h a self.old v) }
+        ensures put { IfOk result (λ end. (h : Heap) (a : Addr) → object_at h a ≡ Some self.old
+            → spec.written (with_object h a self.new) end ≡ spec.put_length_value h a self.old v) }
+        ensures kept { OnErr result (self.new ≡ self.old) }
     {
         match v {
             Value::Object(_) => Ok(Put::LengthObject),
@@ -143,7 +134,9 @@ impl Object {
         v: Value,
     ) -> Result<Put, Memory>
         requires { length.now ≡ spec.length_name }
-        ensures { IfOk result (λ end. (h : Heap) (a : Addr) → object_at h a ≡ Some self.old → spec.written (with_object h a self.new) end ≡ spec.put_own h a self.old name.now v) }
+        ensures put { IfOk result (λ end. (h : Heap) (a : Addr) → object_at h a ≡ Some self.old
+            → spec.written (with_object h a self.new) end ≡ spec.put_own h a self.old name.now v) }
+        ensures kept { OnErr result (self.new ≡ self.old) }
     {
         if !is_array(self.class()) {
             self.set_value(alloc, name, v)?;
@@ -158,10 +151,11 @@ impl Object {
 }
 
 impl Heap {
-    /// Sets the value of a property (ES3 8.6.2.2, 15.4.5.1). All but `Done` leave the heap as it was. After `Memory` nothing is
-    /// said of it.
+    /// Sets the value of a property (ES3 8.6.2.2, 15.4.5.1). All but `Done` leave the heap as it was,
+    /// and so does `Memory`, which comes where memory is refused.
     pub fn put(&mut self, alloc: Global, a: Addr, name: &Text16, v: Value) -> Result<Put, Memory>
-        ensures { IfOk result (λ end. spec.written self.new end ≡ spec.put self.old a name.now v) }
+        ensures put { IfOk result (λ end. spec.written self.new end ≡ spec.put self.old a name.now v) }
+        ensures kept { OnErr result (self.new ≡ self.old) }
     {
         if !self.can_put(a, name) {
             return Ok(Put::Ignored);
@@ -174,7 +168,10 @@ impl Heap {
 
     /// Sets the value of a property where nothing hinders it.
     fn put_own(&mut self, alloc: Global, a: Addr, name: &Text16, v: Value) -> Result<Put, Memory>
-        ensures { IfOk result (λ end. spec.written self.new end ≡ option_map_or (λ o. spec.put_own self.old a o name.now v) (object_at self.old a) (spec.written self.old Done)) }
+        ensures put { IfOk result (λ end. spec.written self.new end
+            ≡ option_map_or (λ o. spec.put_own self.old a o name.now v) (object_at self.old a)
+            (spec.written self.old Done)) }
+        ensures kept { OnErr result (self.new ≡ self.old) }
     {
         let objects = match self.objects.get_mut(a.site.0 as usize) {
             None => return Ok(Put::Done),

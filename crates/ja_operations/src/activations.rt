@@ -13,7 +13,7 @@ use crate::made::{DONT_DELETE, DONT_ENUM, first_of};
 use crate::messages::name_text;
 use ja_base::{FnId, Memory, NameId};
 use ja_graph::{Class, OBJECT_PROTOTYPE, Program};
-use ja_heap::{Held, Object};
+use ja_heap::Object;
 use ja_machine::{Addr, Content, Slots, Value};
 use ja_prim::Text16;
 use std::alloc::Global;
@@ -87,12 +87,8 @@ pub fn with_parameters(
     for index in 0..parameters.len() {
         let name = name_text(program, parameters[index]);
         let value = argument(alloc, arguments, index)?;
-        let held = Held {
-            content: Content::Value(value),
-            attrs: DONT_DELETE,
-            shared: flag(flags, index),
-        };
-        object.set_property(alloc, name, held)?;
+        let content = Content::Value(value);
+        object.set_property(alloc, name, content, DONT_DELETE, flag(flags, index))?;
     }
     Ok(object)
 }
@@ -149,12 +145,8 @@ pub fn arguments_object(
     for index in 0..arguments.len() {
         let name = index_text(alloc, index as u64)?;
         let value = argument(alloc, arguments, index)?;
-        let held = Held {
-            content: Content::Value(value),
-            attrs: DONT_ENUM,
-            shared: flag(flags, index),
-        };
-        object.set_property(alloc, &name, held)?;
+        let content = Content::Value(value);
+        object.set_property(alloc, &name, content, DONT_ENUM, flag(flags, index))?;
     }
     Ok(object)
 }

@@ -12,7 +12,7 @@ ghost use Rattle.ja_step.specs.Steps.{held, standing, leads_to};
 use crate::Conf;
 use ja_base::{Memory, ScopeKind, Site};
 use ja_graph::{NodeInfo, Program, SCOPE};
-use ja_heap::{Held, Object};
+use ja_heap::Object;
 use ja_machine::{Addr, Content, End, Value};
 use ja_operations::activations::{
     arguments_object, empty_activation, parameters, sharing, with_parameters,
@@ -69,8 +69,8 @@ impl Conf {
     {
         let mut object = self.activation(alloc, program, outer, flags)?;
         let name = Text16::from_ascii(alloc, b"arguments")?;
-        let held = Held::new(Content::Value(Value::Object(list)), DONT_DELETE);
-        object.set_property(alloc, &name, held)?;
+        let list = Content::Value(Value::Object(list));
+        object.set_property(alloc, &name, list, DONT_DELETE, false)?;
         Ok(object)
     }
 
