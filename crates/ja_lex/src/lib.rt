@@ -6,6 +6,7 @@ mod characters;
 mod cursor;
 mod element;
 mod item;
+mod kept;
 mod laws;
 mod lexer;
 mod marks;
