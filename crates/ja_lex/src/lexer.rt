@@ -10,6 +10,7 @@ use crate::blanks::{line_comment, long_comment};
 use crate::characters::{char_at, is_digit, is_escape, is_part, is_terminator, is_white};
 use crate::cursor::Cursor;
 use crate::element::Element;
+use crate::kept::Texts;
 use crate::marks::mark;
 use crate::numbers::number;
 use crate::spot::Spot;
@@ -60,7 +61,7 @@ fn begins_string(text: &[char]) -> bool
 
 /// What some characters begin with.
 #[tactic(auto, unfolding(crate::specs::Tokens::first_element))]
-fn first_element(alloc: Global, text: &[char]) -> Result<Element, Memory>
+fn first_element(alloc: Global, texts: &mut Texts, text: &[char]) -> Result<Element, Memory>
     requires { length text.now ≤ 16777216 }
     ensures { IfOk result (λ e. e ≡ spec.first_element text.now) }
 {
@@ -74,13 +75,13 @@ fn first_element(alloc: Global, text: &[char]) -> Result<Element, Memory>
         let element = number(alloc, text)?;
         Ok(element)
     } else if begins_word(text) {
-        let element = word(alloc, text)?;
+        let element = word(alloc, texts, text)?;
         Ok(element)
     } else if begins_string(text) {
-        let element = string(alloc, text)?;
+        let element = string(alloc, texts, text)?;
         Ok(element)
     } else {
-        let element = mark(alloc, text)?;
+        let element = mark(alloc, texts, text)?;
         Ok(element)
     }
 }
@@ -136,7 +137,7 @@ fn skip_mark(cursor: &mut Cursor<'_>)
 }
 
 /// Takes the next token.
-fn next_token(alloc: Global, cursor: &mut Cursor<'_>) -> Result<Token, Memory>
+fn next_token(alloc: Global, texts: &mut Texts, cursor: &mut Cursor<'_>) -> Result<Token, Memory>
     requires { length cursor.old.rest.now ≤ 16777216 }
     ensures next { IfOk result (λ token. spec.tokens_after 0 false cursor.old.spot cursor.old.rest.now ≡ spec.followed token (spec.tokens_after 0 false cursor.new.spot cursor.new.rest.now)) }
     ensures shorter { IfOk result (λ token. spec.is_last token.kind ≡ false → length cursor.new.rest.now < length cursor.old.rest.now) }
@@ -145,7 +146,7 @@ fn next_token(alloc: Global, cursor: &mut Cursor<'_>) -> Result<Token, Memory>
     let mut line_before = false;
     'blanks: while !cursor.rest.is_empty() {
         let start = cursor.spot;
-        let element = first_element(alloc, cursor.rest)?;
+        let element = first_element(alloc, texts, cursor.rest)?;
         match element {
             Element::Blank { length } => {
                 line_before = line_before || has_terminator(cursor.rest, length);
@@ -171,9 +172,10 @@ pub fn tokens(alloc: Global, text: &str) -> Result<Seq<Token>, Memory>
     let characters = characters_of(alloc, text)?;
     let mut cursor = Cursor::new(&characters);
     skip_mark(&mut cursor);
+    let mut texts = Texts::new(alloc)?;
     let mut tokens = Vec::new(alloc);
     'tokens: loop {
-        let token = next_token(alloc, &mut cursor)?;
+        let token = next_token(alloc, &mut texts, &mut cursor)?;
         let last = is_last(&token.kind);
         tokens.push(token)?;
         if last {

@@ -11,6 +11,7 @@ mod characters;
 mod cursor;
 mod element;
 mod item;
+mod kept;
 mod laws;
 mod lexer;
 mod marks;

@@ -3,6 +3,7 @@ ghost use Rattle.ja_lex.specs.Marks as spec;
 
 use crate::characters::char_at;
 use crate::element::Element;
+use crate::kept::Texts;
 use crate::token::{TokenFault, TokenKind};
 use ja_base::ScopeKind;
 use ja_prim::Text16;
@@ -89,13 +90,13 @@ fn stranger(c: char) -> TokenFault
 
 /// The longest mark that stands there, or why there is none.
 #[tactic(auto, using(crate::proofs::LongestMarks::short), unfolding(crate::specs::Marks::mark))]
-pub fn mark(alloc: Global, text: &[char]) -> Result<Element, AllocError>
+pub fn mark(alloc: Global, texts: &mut Texts, text: &[char]) -> Result<Element, AllocError>
     ensures { IfOk result (λ e. e ≡ spec.mark text.now) }
 {
     match longest(marks(), text) {
         [] => Ok(bad(stranger(char_at(text, 0)))),
         found => {
-            let mark = Text16::from_ascii(alloc, found)?;
+            let mark = texts.shared(Text16::from_ascii(alloc, found)?)?;
             Ok(Element::Token {
                 kind: TokenKind::Mark(mark),
                 length: found.len(),

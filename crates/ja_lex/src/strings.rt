@@ -6,6 +6,7 @@ ghost use Rattle.ja_lex.specs.Strings as spec;
 use crate::characters::{behind, char_at, is_digit, is_escape, is_hexadecimal, is_terminator};
 use crate::element::Element;
 use crate::item::Item;
+use crate::kept::Texts;
 use crate::marks::bad;
 use crate::token::{TokenFault, TokenKind};
 use ja_base::{ScopeKind, Seq};
@@ -224,7 +225,7 @@ fn read_body(alloc: Global, quote: char, text: &[char]) -> Result<Option<Body>, 
 
 /// The string literal that the text begins with.
 #[tactic(auto, unfolding(crate::specs::Strings::string))]
-pub fn string(alloc: Global, text: &[char]) -> Result<Element, AllocError>
+pub fn string(alloc: Global, texts: &mut Texts, text: &[char]) -> Result<Element, AllocError>
     requires { length text.now ≤ 16777216 }
     ensures { IfOk result (λ e. e ≡ spec.string text.now) }
 {
@@ -243,8 +244,9 @@ pub fn string(alloc: Global, text: &[char]) -> Result<Element, AllocError>
             } else if units.len() > MAX_UNITS {
                 Ok(bad(TokenFault::Scope(ScopeKind::TextLength)))
             } else {
+                let own = Text16::from_units(alloc, units.into_vec())?;
                 Ok(Element::Token {
-                    kind: TokenKind::Text(Text16::from_units(alloc, units.into_vec())?),
+                    kind: TokenKind::Text(texts.shared(own)?),
                     length: length + 2,
                 })
             }

@@ -3,6 +3,7 @@ ghost use Rattle.ja_lex.specs.Words as spec;
 
 use crate::characters::{Class, is_escape, run, run_length, units};
 use crate::element::Element;
+use crate::kept::Texts;
 use crate::marks::bad;
 use crate::token::{TokenFault, TokenKind};
 use ja_base::ScopeKind;
@@ -11,7 +12,7 @@ use std::alloc::{AllocError, Global};
 
 /// The identifier or reserved word that the text begins with, or its escape.
 #[tactic(auto, using(crate::proofs::Classed::all_part), unfolding(crate::specs::Words::word))]
-pub fn word(alloc: Global, text: &[char]) -> Result<Element, AllocError>
+pub fn word(alloc: Global, texts: &mut Texts, text: &[char]) -> Result<Element, AllocError>
     requires { length text.now ≤ 16777216 }
     ensures { IfOk result (λ e. e ≡ spec.word text.now) }
 {
@@ -23,8 +24,9 @@ pub fn word(alloc: Global, text: &[char]) -> Result<Element, AllocError>
         return Ok(bad(TokenFault::Scope(ScopeKind::TextLength)));
     }
     let units = units(alloc, run(Class::Part, text))?;
+    let own = Text16::from_units(alloc, units)?;
     Ok(Element::Token {
-        kind: TokenKind::Word(Text16::from_units(alloc, units)?),
+        kind: TokenKind::Word(texts.shared(own)?),
         length,
     })
 }

@@ -62,19 +62,33 @@ fn word_of(kind: &TokenKind) -> &[u16]
     }
 }
 
-/// The units of a string literal, and of any other token none.
-#[tactic(auto, unfolding(ja_syntax::specs::Symbols::units_of))]
-fn units_of(kind: &TokenKind) -> &[u16]
-    ensures value { result.now ≡ symbols.units_of kind.now }
-    ensures within { length result.now ≤ max_units }
+/// The text of a word, which it shares, and of any other token the empty one.
+#[tactic(auto, unfolding(ja_syntax::specs::Symbols::word_of))]
+fn shared_word(alloc: Global, kind: &TokenKind) -> Result<Text16, AllocError>
+    ensures { IfOk result (λ text. text ≡ symbols.word_of kind.now) }
 {
     match kind {
-        TokenKind::Word(_) => &[],
-        TokenKind::Number(_) => &[],
-        TokenKind::Text(units) => units.units(),
-        TokenKind::Mark(_) => &[],
-        TokenKind::End => &[],
-        TokenKind::Bad { .. } => &[],
+        TokenKind::Word(text) => text.copy(),
+        TokenKind::Number(_) => Text16::from_slice(alloc, &[]),
+        TokenKind::Text(_) => Text16::from_slice(alloc, &[]),
+        TokenKind::Mark(_) => Text16::from_slice(alloc, &[]),
+        TokenKind::End => Text16::from_slice(alloc, &[]),
+        TokenKind::Bad { .. } => Text16::from_slice(alloc, &[]),
+    }
+}
+
+/// The text of a string literal, which it shares, and of any other token the empty one.
+#[tactic(auto, unfolding(ja_syntax::specs::Symbols::units_of))]
+fn shared_units(alloc: Global, kind: &TokenKind) -> Result<Text16, AllocError>
+    ensures { IfOk result (λ text. text ≡ symbols.units_of kind.now) }
+{
+    match kind {
+        TokenKind::Word(_) => Text16::from_slice(alloc, &[]),
+        TokenKind::Number(_) => Text16::from_slice(alloc, &[]),
+        TokenKind::Text(text) => text.copy(),
+        TokenKind::Mark(_) => Text16::from_slice(alloc, &[]),
+        TokenKind::End => Text16::from_slice(alloc, &[]),
+        TokenKind::Bad { .. } => Text16::from_slice(alloc, &[]),
     }
 }
 
@@ -180,15 +194,27 @@ impl<'a> Cursor<'a> {
         }
     }
 
-    /// The units of the next token, if it is a string literal, and else none.
-    #[tactic(auto, unfolding(ja_grammar::specs::Input::head, ja_syntax::specs::Symbols::units_of))]
-    pub fn units(&self) -> &'a [u16]
-        ensures value { result.now ≡ symbols.units_of (spec.head self.now).kind }
-        ensures within { length result.now ≤ max_units }
+    /// The text of the next token, if it is a word, and else the empty one. It shares the token's
+    /// units. It fails where memory is refused.
+    #[tactic(auto, unfolding(ja_grammar::specs::Input::head, ja_syntax::specs::Symbols::word_of))]
+    pub fn shared_word(&self, alloc: Global) -> Result<Text16, AllocError>
+        ensures { IfOk result (λ text. text ≡ forms.word (spec.head self.now)) }
     {
         match self.rest.first() {
-            Some(token) => units_of(&token.kind),
-            None => &[],
+            Some(token) => shared_word(alloc, &token.kind),
+            None => Text16::from_slice(alloc, &[]),
+        }
+    }
+
+    /// The text of the next token, if it is a string literal, and else the empty one. It shares the
+    /// token's units. It fails where memory is refused.
+    #[tactic(auto, unfolding(ja_grammar::specs::Input::head, ja_syntax::specs::Symbols::units_of))]
+    pub fn shared_units(&self, alloc: Global) -> Result<Text16, AllocError>
+        ensures { IfOk result (λ text. text ≡ symbols.units_of (spec.head self.now).kind) }
+    {
+        match self.rest.first() {
+            Some(token) => shared_units(alloc, &token.kind),
+            None => Text16::from_slice(alloc, &[]),
         }
     }
 
@@ -231,7 +257,7 @@ impl<'a> Cursor<'a> {
         ensures { IfOk result (λ name. name ≡ forms.name_of (spec.head self.now)) }
     {
         Ok(Name {
-            text: Text16::from_slice(alloc, self.word())?,
+            text: self.shared_word(alloc)?,
             place: self.place(),
         })
     }

@@ -5,7 +5,7 @@ ghost use Rattle.ja_grammar.specs.Input.{head};
 ghost use Rattle.ja_grammar.specs.Forms as forms;
 
 use crate::cursor::Cursor;
-use ja_prim::{Num, Primitive, Text16};
+use ja_prim::{Num, Primitive};
 use ja_syntax::{PropertyName, Symbol};
 use std::alloc::{AllocError, Global};
 
@@ -15,8 +15,8 @@ pub fn property_name(alloc: Global, cursor: &Cursor<'_>) -> Result<Option<Proper
     ensures { IfOk result (λ name. name ≡ forms.property_name (head cursor.now)) }
 {
     match cursor.symbol() {
-        Symbol::Name => Ok(Some(PropertyName::Word(Text16::from_slice(alloc, cursor.word())?))),
-        Symbol::Text => Ok(Some(PropertyName::Text(Text16::from_slice(alloc, cursor.units())?))),
+        Symbol::Name => Ok(Some(PropertyName::Word(cursor.shared_word(alloc)?))),
+        Symbol::Text => Ok(Some(PropertyName::Text(cursor.shared_units(alloc)?))),
         Symbol::Number => Ok(Some(PropertyName::Number(cursor.number()))),
         _ => Ok(None),
     }
@@ -32,7 +32,7 @@ pub fn literal_of(alloc: Global, cursor: &Cursor<'_>) -> Result<Option<Primitive
         Symbol::True => Ok(Some(Primitive::Bool(true))),
         Symbol::False => Ok(Some(Primitive::Bool(false))),
         Symbol::Number => Ok(Some(Primitive::Number(Num::Whole(cursor.number())))),
-        Symbol::Text => Ok(Some(Primitive::Text(Text16::from_slice(alloc, cursor.units())?))),
+        Symbol::Text => Ok(Some(Primitive::Text(cursor.shared_units(alloc)?))),
         _ => Ok(None),
     }
 }
