@@ -156,8 +156,8 @@ module _ (low g : Rules) (milder : Milder low g) (n : Nested) (b : Below) (takes
   object_all t i r xs some list =
       rw (
         enter_done g t i (room (t ∷ i) some),
-        listed_all (property g b) (OneProperty n) (property_takes g takes) k.CloseBrace property_all i
-            xs r list,
+        listed_all (property g b) (OneProperty n) (property_takes g takes) k.CloseBrace
+            property_all i xs r list,
       ) refl
 
   parenthesized_all : (t u : Token) (i r : Tokens) (x : Expression) → HasRoom low (t ∷ i) → n.expression (part.Whole false) i x (u ∷ r) → Is k.CloseParenthesis u → parenthesized g b (t ∷ i) ≡ Done x r

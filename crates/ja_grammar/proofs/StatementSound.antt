@@ -233,7 +233,8 @@ module _ (g : Rules) (n : Nested) (b : Below) (T : BelowTakes b) (A : Agrees n b
   unfolding cases
   cases_is c i xs r e = after_open g k.OpenBrace i (λ z. cc z) e (λ t m at is some e.
       after (many (turn c) (record { defaulted = false; found = [] }) m) e (λ o l got e. after_expect k.CloseBrace l (λ z. cc z) e (λ u q behind close e.
-      let f = clauses_is c (length m) (record { defaulted = false; found = [] }) m o u q (le_refl (length m)) close (moved got behind) in (
+      let f = clauses_is c (length m) (record { defaulted = false; found = [] }) m o u q
+      (le_refl (length m)) close (moved got behind) in (
         t,
         m,
         at,
