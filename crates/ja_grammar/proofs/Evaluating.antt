@@ -57,26 +57,28 @@ unfolding
     Rattle.ja_grammar.specs.ReadStatement.for_rest Rattle.ja_grammar.specs.ReadStatement.in_rest Rattle.ja_grammar.specs.ReadStatement.for_variables
     Rattle.ja_grammar.specs.ReadStatement.for_expression Rattle.ja_grammar.specs.ReadStatement.for_part
     Rattle.ja_grammar.specs.ReadStatement.statement_part Rattle.ja_grammar.specs.ReadStatement.below Rattle.ja_grammar.specs.ReadStatement.program
-    Rattle.ja_syntax.specs.declared.tree.Expression.TheBlock.hidden-the_row-Case-9
-    Rattle.ja_syntax.specs.declared.tree.Expression.TheBlock.shown-the_row-Case-9
-    Rattle.ja_syntax.specs.declared.tree.Expression.TheBlock.hidden-the_row-Expression-3
-    Rattle.ja_syntax.specs.declared.tree.Expression.TheBlock.shown-the_row-Expression-3
+    Rattle.ja_syntax.specs.declared.tree.Expression.TheBlock.hidden-the_row-Case-10
+    Rattle.ja_syntax.specs.declared.tree.Expression.TheBlock.shown-the_row-Case-10
     Rattle.ja_syntax.specs.declared.tree.Expression.TheBlock.hidden-the_row-Expression-4
     Rattle.ja_syntax.specs.declared.tree.Expression.TheBlock.shown-the_row-Expression-4
+    Rattle.ja_syntax.specs.declared.tree.Expression.TheBlock.hidden-the_row-Expression-5
+    Rattle.ja_syntax.specs.declared.tree.Expression.TheBlock.shown-the_row-Expression-5
     Rattle.ja_syntax.specs.declared.tree.Expression.TheBlock.hidden-the_row-Expression-Array-0-1-0
     Rattle.ja_syntax.specs.declared.tree.Expression.TheBlock.shown-the_row-Expression-Array-0-1-0
-    Rattle.ja_syntax.specs.declared.tree.Expression.TheBlock.hidden-the_row-Expression-Binary-1-3-6
-    Rattle.ja_syntax.specs.declared.tree.Expression.TheBlock.shown-the_row-Expression-Binary-1-3-6
-    Rattle.ja_syntax.specs.declared.tree.Expression.TheBlock.hidden-the_row-Expression-Chain-1-7-5
-    Rattle.ja_syntax.specs.declared.tree.Expression.TheBlock.shown-the_row-Expression-Chain-1-7-5
+    Rattle.ja_syntax.specs.declared.tree.Expression.TheBlock.hidden-the_row-Expression-Binary-1-3-7
+    Rattle.ja_syntax.specs.declared.tree.Expression.TheBlock.shown-the_row-Expression-Binary-1-3-7
+    Rattle.ja_syntax.specs.declared.tree.Expression.TheBlock.hidden-the_row-Expression-Chain-1-7-6
+    Rattle.ja_syntax.specs.declared.tree.Expression.TheBlock.shown-the_row-Expression-Chain-1-7-6
+    Rattle.ja_syntax.specs.declared.tree.Expression.TheBlock.hidden-the_row-Expression-Function-0-5-3
+    Rattle.ja_syntax.specs.declared.tree.Expression.TheBlock.shown-the_row-Expression-Function-0-5-3
     Rattle.ja_syntax.specs.declared.tree.Expression.TheBlock.hidden-the_row-Expression-Object-0-3-1
     Rattle.ja_syntax.specs.declared.tree.Expression.TheBlock.shown-the_row-Expression-Object-0-3-1
     Rattle.ja_syntax.specs.declared.tree.Expression.TheBlock.hidden-the_row-Statement-2
     Rattle.ja_syntax.specs.declared.tree.Expression.TheBlock.shown-the_row-Statement-2
-    Rattle.ja_syntax.specs.declared.tree.Expression.TheBlock.hidden-the_row-Statement-8
-    Rattle.ja_syntax.specs.declared.tree.Expression.TheBlock.shown-the_row-Statement-8
-    Rattle.ja_syntax.specs.declared.tree.Expression.TheBlock.hidden-the_row-Statement-Variables-0-5-7
-    Rattle.ja_syntax.specs.declared.tree.Expression.TheBlock.shown-the_row-Statement-Variables-0-5-7
+    Rattle.ja_syntax.specs.declared.tree.Expression.TheBlock.hidden-the_row-Statement-9
+    Rattle.ja_syntax.specs.declared.tree.Expression.TheBlock.shown-the_row-Statement-9
+    Rattle.ja_syntax.specs.declared.tree.Expression.TheBlock.hidden-the_row-Statement-Variables-0-5-8
+    Rattle.ja_syntax.specs.declared.tree.Expression.TheBlock.shown-the_row-Statement-Variables-0-5-8
     Rattle.ja_syntax.specs.declared.tree.Expression.TheViews.out-Expression Rattle.ja_syntax.specs.declared.tree.Expression.TheViews.roll-Expression
     Rattle.ja_syntax.specs.declared.tree.Expression.TheViews.out-Statement Rattle.ja_syntax.specs.declared.tree.Expression.TheViews.roll-Statement
     denote.Hole.Carrier.out denote.Hole.Carrier.roll denote.Hole.Carrier.shown denote.Hole.Carrier.hidden Rattle.std.specs.Str.chars

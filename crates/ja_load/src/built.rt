@@ -141,7 +141,7 @@ fn read(hosts: &[Signature], expression: &Expression) -> Result<bool, Place>
                 Err(operation.place)
             }
         },
-        Expression::Function(function) => Err(function.place),
+        Expression::Function(function) => Err(function.get().place),
         Expression::This { place }
         | Expression::Array { place, .. }
         | Expression::Object { place, .. }

@@ -192,7 +192,10 @@ pub fn form(
         Expression::Object { properties, place } => {
             valued(object(scene, properties.as_slice(), *place, draft))
         }
-        Expression::Function(tree) => valued(function(scene, &tree.name, tree.place, draft)),
+        Expression::Function(tree) => {
+            let tree = tree.get();
+            valued(function(scene, &tree.name, tree.place, draft))
+        }
         Expression::Chain {
             head,
             suffixes: behind,

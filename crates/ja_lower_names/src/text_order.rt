@@ -66,7 +66,7 @@ fn add_expression<'a>(parts: &mut Parts<'a>, expression: &'a Expression) -> Resu
         Expression::Literal { value, .. } => add_literal(parts, value),
         Expression::Array { elements, .. } => add_elements(parts, elements.as_slice()),
         Expression::Object { properties, .. } => add_properties(parts, properties.as_slice()),
-        Expression::Function(function) => add_function(parts, function),
+        Expression::Function(function) => add_function(parts, function.get()),
         Expression::Chain { head, suffixes } => {
             add_expression(parts, head.get())?;
             add_suffixes(parts, suffixes.as_slice())
@@ -127,6 +127,19 @@ fn add_optional<'a>(parts: &mut Parts<'a>, expression: &'a Option<Expression>) -
     match expression {
         None => Ok(()),
         Some(expression) => add_expression(parts, expression),
+    }
+}
+
+#[cycle(text)]
+fn add_optional_boxed<'a>(
+    parts: &mut Parts<'a>,
+    expression: &'a Option<Boxed<Expression>>,
+) -> Result<(), Memory>
+    ensures { OnOk result (parts.new ≡ parts.old ++ spec.if_any spec.in_expression expression.now) }
+{
+    match expression {
+        None => Ok(()),
+        Some(expression) => add_expression(parts, expression.get()),
     }
 }
 
@@ -311,8 +324,8 @@ fn add_statement<'a>(parts: &mut Parts<'a>, statement: &'a Statement) -> Result<
             ..
         } => {
             add_first(parts, first)?;
-            add_optional(parts, condition)?;
-            add_optional(parts, update)?;
+            add_optional_boxed(parts, condition)?;
+            add_optional_boxed(parts, update)?;
             add_statement(parts, body.get())
         }
         Statement::ForIn {
@@ -322,7 +335,7 @@ fn add_statement<'a>(parts: &mut Parts<'a>, statement: &'a Statement) -> Result<
             ..
         } => {
             add_target(parts, target)?;
-            add_expression(parts, object)?;
+            add_expression(parts, object.get())?;
             add_statement(parts, body.get())
         }
         Statement::Continue { .. } => Ok(()),

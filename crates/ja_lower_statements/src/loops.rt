@@ -19,6 +19,7 @@ use ja_lower_expressions::reference::{object, put_value};
 use ja_lower_expressions::value;
 use ja_lower_listing::Spot;
 use ja_syntax::{Expression, ForFirst, ForTarget, Statement};
+use sqlite_items::Boxed;
 
 /// The body of a loop, from which `break` goes to its end and `continue` to its next turn.
 #[cycle(statements)]
@@ -101,8 +102,8 @@ pub(crate) fn while_loop(
 pub(crate) fn for_loop(
     body: &Statement,
     head: &ForFirst<Expression>,
-    test: &Option<Expression>,
-    update: &Option<Expression>,
+    test: &Option<Boxed<Expression>>,
+    update: &Option<Boxed<Expression>>,
     around: &Around<'_, '_, '_>,
     base: u32,
     place: Place,

@@ -96,7 +96,15 @@ pub fn statement(
             object,
             body,
             place,
-        } => for_in_loop(body.get(), target, object, around, base, *place, draft),
+        } => for_in_loop(
+            body.get(),
+            target,
+            object.get(),
+            around,
+            base,
+            *place,
+            draft,
+        ),
         Statement::Continue { label, place } => {
             continue_out(scene, *place, label, around.ways, draft)
         }

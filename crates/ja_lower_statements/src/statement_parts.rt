@@ -19,6 +19,7 @@ use ja_lower_expressions::{Outcome, assign, form, value};
 use ja_lower_listing::Spot;
 use ja_prim::Primitive;
 use ja_syntax::{Declaration, Expression, ForFirst, ForTarget};
+use sqlite_items::Boxed;
 
 /// Adds a node that leads to a spot by its edge `other`.
 pub(crate) fn branch(
@@ -100,7 +101,7 @@ pub(crate) fn branch_on(
 
 /// The condition of a `for`; a missing one is true.
 pub(crate) fn for_condition(
-    test: &Option<Expression>,
+    test: &Option<Boxed<Expression>>,
     scene: &Scene<'_, '_>,
     place: Place,
     draft: &mut Draft,
@@ -112,13 +113,13 @@ pub(crate) fn for_condition(
             let value = constant(scene, place, Primitive::Bool(true), draft)?;
             truth(scene, place, value, draft)
         }
-        Some(test) => condition(test, scene, place, draft),
+        Some(test) => condition(test.get(), scene, place, draft),
     }
 }
 
 /// The update of a `for`.
 pub(crate) fn for_update(
-    update: &Option<Expression>,
+    update: &Option<Boxed<Expression>>,
     scene: &Scene<'_, '_>,
     draft: &mut Draft,
 ) -> Result<(), Memory>
@@ -127,7 +128,7 @@ pub(crate) fn for_update(
     match update {
         None => Ok(()),
         Some(update) => {
-            value(scene, update, draft)?;
+            value(scene, update.get(), draft)?;
             Ok(())
         }
     }

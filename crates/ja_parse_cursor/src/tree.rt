@@ -11,7 +11,7 @@ use ja_syntax::{
     BinaryOperator, Expression, ForFirst, ForTarget, Name, Operation, Statement, Suffix,
     UnaryOperator, UpdateOperator,
 };
-use sqlite_items::Items;
+use sqlite_items::{Boxed, Items};
 use std::alloc::{AllocError, Global};
 
 /// A head with its suffixes (11.2); a head with none stands for itself.
@@ -257,6 +257,16 @@ pub fn taken(part: Option<Held<Expression>>) -> Option<Expression>
     }
 }
 
+/// The expression that is held, if any, in its own memory.
+fn taken_boxed(part: Option<Held<Expression>>) -> Option<Boxed<Expression>>
+    ensures { result ≡ part }
+{
+    match part {
+        Some(expression) => Some(expression.into_boxed()),
+        None => None,
+    }
+}
+
 /// A `for` loop (12.6.3).
 pub fn for_of(
     alloc: Global,
@@ -272,8 +282,8 @@ pub fn for_of(
         alloc,
         Statement::For {
             first: first.into_inner(),
-            condition: taken(condition),
-            update: taken(update),
+            condition: taken_boxed(condition),
+            update: taken_boxed(update),
             body: body.into_boxed(),
             place,
         },
@@ -294,7 +304,7 @@ pub fn for_in_of(
         alloc,
         Statement::ForIn {
             target: target.into_inner(),
-            object: object.into_inner(),
+            object: object.into_boxed(),
             body: body.into_boxed(),
             place,
         },

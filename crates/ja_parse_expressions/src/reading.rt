@@ -10,6 +10,7 @@ use crate::grammar::{Grammar, Piece};
 use ja_grammar::{Context, StatementPart, Stop};
 use ja_parse_cursor::{Cursor, Held};
 use ja_syntax::{Expression, Statement};
+use sqlite_items::Boxed;
 use std::alloc::Global;
 
 /// Reads a part of an expression, or a function, where `depth` levels are left, with the function that reads
@@ -36,7 +37,7 @@ pub fn expression_at<
 {
     match asked {
         Piece::Function => {
-            let found = function(alloc, cursor, depth, statement, false)?;
+            let found = Boxed::new(alloc, function(alloc, cursor, depth, statement, false)?)?;
             Ok(Held::new(alloc, Expression::Function(found))?)
         }
         Piece::Part(part) => Grammar {

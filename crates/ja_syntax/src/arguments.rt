@@ -10,6 +10,7 @@ use crate::tree::{
     Case, Declaration, Expression, ForFirst, ForTarget, FunctionTree, Operation, Property,
     Statement, Suffix,
 };
+use sqlite_items::Boxed;
 
 /// Whether an expression mentions `arguments`.
 #[cycle(expressions)]
@@ -134,6 +135,15 @@ fn in_optional(expression: &Option<Expression>) -> bool
     }
 }
 
+fn in_optional_boxed(expression: &Option<Boxed<Expression>>) -> bool
+    ensures { result ≡ mentions.optional_mentions expression.now }
+{
+    match expression {
+        None => false,
+        Some(expression) => in_expression(expression.get()),
+    }
+}
+
 fn in_declaration(declaration: &Declaration<Expression>) -> bool
     ensures { result ≡ mentions.declaration_mentions declaration.now }
 {
@@ -213,17 +223,23 @@ fn in_statement(statement: &Statement) -> bool
             body,
             ..
         } => {
-            in_first(first)
-                || in_optional(condition)
-                || in_optional(update)
-                || in_statement(body.get())
+            if in_first(first) {
+                return true;
+            }
+            if in_optional_boxed(condition) {
+                return true;
+            }
+            if in_optional_boxed(update) {
+                return true;
+            }
+            in_statement(body.get())
         }
         Statement::ForIn {
             target,
             object,
             body,
             ..
-        } => in_target(target) || in_expression(object) || in_statement(body.get()),
+        } => in_target(target) || in_expression(object.get()) || in_statement(body.get()),
         Statement::Continue { .. } => false,
         Statement::Break { .. } => false,
         Statement::Return { value, .. } => in_optional(value),

@@ -129,7 +129,7 @@ pub enum Expression {
         properties: Items<Property<Expression>>,
         place: Place,
     },
-    Function(FunctionOf<Statement>),
+    Function(Boxed<FunctionOf<Statement>>),
     /// A head and one or more suffixes, the innermost first.
     Chain {
         head: Boxed<Expression>,
@@ -260,14 +260,14 @@ pub enum Statement {
     },
     For {
         first: ForFirst<Expression>,
-        condition: Option<Expression>,
-        update: Option<Expression>,
+        condition: Option<Boxed<Expression>>,
+        update: Option<Boxed<Expression>>,
         body: Boxed<Statement>,
         place: Place,
     },
     ForIn {
         target: ForTarget<Expression>,
-        object: Expression,
+        object: Boxed<Expression>,
         body: Boxed<Statement>,
         place: Place,
     },
@@ -433,20 +433,25 @@ impl Drop for Statement {
             } => drop(body),
             Statement::For {
                 first,
-                condition: _,
-                update: _,
+                condition,
+                update,
                 body,
                 place: _,
             } => {
                 drop(first);
+                drop(condition);
+                drop(update);
                 drop(body);
             }
             Statement::ForIn {
                 target: _,
-                object: _,
+                object,
                 body,
                 place: _,
-            } => drop(body),
+            } => {
+                drop(object);
+                drop(body);
+            }
             Statement::Continue { label: _, place: _ } => {}
             Statement::Break { label: _, place: _ } => {}
             Statement::Return { value: _, place: _ } => {}

@@ -43,6 +43,9 @@ decreases-add_expressions l = 6 * goal.size-add_expressions l + 1
 abbrev pub decreases-add_optional : goal.decreases-add_optional
 decreases-add_optional l = 6 * goal.size-add_optional l + 1
 
+abbrev pub decreases-add_optional_boxed : goal.decreases-add_optional_boxed
+decreases-add_optional_boxed l = 6 * goal.size-add_optional_boxed l + 1
+
 abbrev pub decreases-add_otherwise : goal.decreases-add_otherwise
 decreases-add_otherwise l = 6 * goal.size-add_otherwise l + 1
 

@@ -2,8 +2,31 @@ use Rattle.std.proofs.Math.Bool.{or-false}
 use Rattle.std.proofs.Common.{◌≡◌, ◌||◌, Bool, true, false, sym, ◌∙◌, ap, refl}
 use Rattle.std.specs.List.{list_any}
 use Rattle.ja_syntax.specs.Arguments.{in_statement}
-use Rattle.ja_syntax.proofs.ArgumentsInStatements.{in_try}
+use Rattle.ja_syntax.proofs.ArgumentsInStatements.{in_for, in_try}
 use Rattle.ja_syntax.proofs.arguments.+statements.Goals as goal
+
+pub in_statement-returns-then-in_first : goal.in_statement-returns-then-in_first
+in_statement-returns-then-in_first t c =
+    let e = in_for c.in-For.first c.in-For.condition c.in-For.update c.in-For.body c.in-For.place in
+    rw (c.in-For.is, e, sym c.if-in_first.ensures) refl
+
+pub in_statement-returns-then-in_optional_boxed
+    : goal.in_statement-returns-then-in_optional_boxed
+in_statement-returns-then-in_optional_boxed t c =
+    let e = in_for c.in-For.first c.in-For.condition c.in-For.update c.in-For.body c.in-For.place in
+    rw (c.in-For.is, e, sym c.if-in_first.ensures, sym c.if-in_optional_boxed.ensures) refl
+
+pub in_statement-returns-then-in_optional_boxed-2
+    : goal.in_statement-returns-then-in_optional_boxed-2
+in_statement-returns-then-in_optional_boxed-2 t c =
+    let e = in_for c.in-For.first c.in-For.condition c.in-For.update c.in-For.body c.in-For.place in
+    rw (
+      c.in-For.is,
+      e,
+      sym c.if-in_first.ensures,
+      sym c.if-in_optional_boxed.ensures,
+      sym c.if-in_optional_boxed-2.ensures,
+    ) refl
 
 pub in_statement-returns-in-None-Some : goal.in_statement-returns-in-None-Some
 in_statement-returns-in-None-Some t c =
