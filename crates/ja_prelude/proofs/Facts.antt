@@ -18,7 +18,8 @@ use Rattle.ja_lower.specs.declared.body.Body.{Body}
 use Rattle.ja_lower_names.specs.TextOrder.{functions_in, names_in}
 use Rattle.ja_syntax.specs.declared.tree.Statement.{Statement}
 use Rattle.ja_prelude.specs.Reading.{numbered, is_read, statements_in, is_text, tree_of, is_few}
-use Rattle.ja_prelude.specs.Prelude.{prelude_statements, prelude_paths, prelude_names, prelude_bodies, parameter_counts, own_names, stops, by_path}
+use Rattle.ja_prelude.specs.Prelude.{prelude_statements, prelude_paths, prelude_names}
+use Rattle.ja_prelude.specs.Prelude.{prelude_bodies, parameter_counts, own_names, stops, by_path}
 use Rattle.ja_prelude.specs.Table.{function_paths, lengths}
 use Rattle.ja_prelude.specs.Uses.{uses, uses_told}
 use Rattle.ja_prelude.proofs.Allowed.{are_plain, all_allowed, all_alone}

@@ -1,5 +1,5 @@
 -- The built-in functions as each program has them, and what is read of their nodes.
-use Rattle.std.specs.Prelude.{ℕ, List, [], ◌∷◌, ◌++◌, map, length}
+use Rattle.std.specs.Prelude.{ℕ, List, [], ◌∷◌, map, length}
 use Rattle.std.specs.List.{flat_map}
 use lib.Chars.{codes}
 use Rattle.ja_base.specs.declared.ids.ScopeKind.{ScopeKind}

@@ -7,6 +7,8 @@ mod built_in_tests;
 mod device_tests;
 mod hosts;
 #[cfg(test)]
+mod object_tests;
+#[cfg(test)]
 mod run_tests;
 #[cfg(test)]
 mod tests;
