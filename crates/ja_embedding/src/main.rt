@@ -1,17 +1,22 @@
-//! How a program hands in devices of its own: a script asks a till for the sum of what it has taken, and prints it. The transcript of
-//! the run goes to standard output.
+//! How a program runs a script with devices of its own: the script asks a till for the sum of what
+//! it has taken, and prints it. The transcript of the run goes to standard output. `ja_top` is all
+//! that such a program calls.
 #![tactic(auto)]
 
-use ja_base::{MemorySource, StdSink};
-use ja_device::{CallFault, Device, Devices, DevicesFault};
-use ja_prim::{Int, Kinds, Num, Primitive};
-use ja_top::{Status, tajs};
+use ja_top::{
+    Answer, CallFault, Device, Devices, DevicesFault, Int, Kinds, Memory, Num, Primitive, run,
+};
 use std::alloc::{AllocError, AllocFailed, Global};
+use std::io::Write;
 use std::process::ExitCode;
 
 const SCRIPT: &[u8] = b"till(5); till(7); print(\"sum\", till());";
 
-/// Takes whole numbers, and answers their sum so far. It is no number where it would be past the greatest one.
+/// How many steps the script may make.
+const STEPS: u64 = 1_000;
+
+/// Takes whole numbers, and answers their sum so far. It is no number where it would be past the
+/// greatest one.
 #[derive(Drop)]
 struct Till {
     sum: i64,
@@ -29,24 +34,19 @@ impl Till {
 }
 
 impl Device for Till {
-    ghost use Rattle.std.specs.Prelude.{None, true, false};
+    ghost use Rattle.std.specs.Prelude.{None};
     ghost use lib.Chars.{codes};
+    ghost use Rattle.ja_prim.specs.declared.signature.TheConstants.Kinds.{NUMBER};
 
     // what it has heard isn't told, and it never fails
-    ghost seen = { λ _. record { name = codes "till"; kinds = record { undefined = false; null = false; boolean = false; number = true; text = false }; heard = None; faults = 0 } };
+    ghost seen = { λ _. record { name = codes "till"; kinds = NUMBER; heard = None; faults = 0 } };
 
     fn name(&self) -> &str {
         "till"
     }
 
     fn kinds(&self) -> Kinds {
-        Kinds {
-            undefined: false,
-            null: false,
-            boolean: false,
-            number: true,
-            text: false,
-        }
+        Kinds::NUMBER
     }
 
     fn call(&mut self, _: Global, args: &[Primitive]) -> Result<Primitive, CallFault> {
@@ -63,23 +63,23 @@ impl Device for Till {
 struct Printer;
 
 impl Device for Printer {
-    ghost use Rattle.std.specs.Prelude.{None, true, false};
+    ghost use Rattle.std.specs.Prelude.{None};
     ghost use lib.Chars.{codes};
+    ghost use Rattle.ja_prim.specs.declared.signature.TheConstants.Kinds.{UNDEFINED};
 
-    ghost seen = { λ _. record { name = codes "print"; kinds = record { undefined = true; null = false; boolean = false; number = false; text = false }; heard = None; faults = 0 } };
+    ghost seen = { λ _. record {
+      name = codes "print";
+      kinds = UNDEFINED;
+      heard = None;
+      faults = 0;
+    } };
 
     fn name(&self) -> &str {
         "print"
     }
 
     fn kinds(&self) -> Kinds {
-        Kinds {
-            undefined: true,
-            null: false,
-            boolean: false,
-            number: false,
-            text: false,
-        }
+        Kinds::UNDEFINED
     }
 
     fn call(&mut self, _: Global, _: &[Primitive]) -> Result<Primitive, CallFault> {
@@ -92,6 +92,12 @@ impl Device for Printer {
 enum Fault {
     Memory,
     Devices(DevicesFault),
+}
+
+impl From<Memory> for Fault {
+    fn from(_: Memory) -> Self {
+        Fault::Memory
+    }
 }
 
 impl From<AllocError> for Fault {
@@ -107,30 +113,26 @@ impl<T: Drop> From<AllocFailed<T>> for Fault {
 }
 
 /// Runs the script with some devices. Code that holds `Devices` of boxes is generic over them.
-fn run<D: Device>(rt: &HostRuntime, list: Vec<D>) -> Result<Status, Fault> {
-    let alloc = rt.alloc();
-    let devices = Devices::new(list).map_err(|(fault, _)| Fault::Devices(fault))?;
-    let mut words = Vec::new(alloc);
-    words.push(String::from_str(alloc, "run")?)?;
-    let script = Vec::from_slice(alloc, SCRIPT)?;
-    let mut source = MemorySource::new(script, 4096, Vec::new(alloc));
-    let mut sink = StdSink::new(rt.stdout());
-    let (status, _) = tajs(alloc, &words, &mut source, &mut sink, devices);
-    Ok(status)
+fn run_script<D: Device>(alloc: Global, list: Vec<D>) -> Result<Answer, Fault> {
+    let mut devices = Devices::new(list).map_err(|(fault, _)| Fault::Devices(fault))?;
+    let answer = run(alloc, SCRIPT, &mut devices, STEPS)?;
+    Ok(answer)
 }
 
 /// Boxes a till and a device that prints, and runs the script with them.
-fn run_with_till(rt: &HostRuntime) -> Result<Status, Fault> {
-    let alloc = rt.alloc();
+fn run_with_till(alloc: Global) -> Result<Answer, Fault> {
     let mut list: Vec<Box<dyn Device>> = Vec::new(alloc);
     list.push(Box::new(alloc, Till { sum: 0 })?)?;
     list.push(Box::new(alloc, Printer)?)?;
-    run(rt, list)
+    run_script(alloc, list)
 }
 
 fn main(rt: HostRuntime) -> ExitCode {
-    match run_with_till(&rt) {
-        Ok(status) => ExitCode::from(status.code()),
+    let Ok(answer) = run_with_till(rt.alloc()) else {
+        return ExitCode::FAILURE;
+    };
+    match rt.stdout().write_all(&answer.text) {
+        Ok(()) => ExitCode::from(answer.status.code()),
         Err(_) => ExitCode::FAILURE,
     }
 }

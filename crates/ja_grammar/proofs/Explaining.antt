@@ -637,6 +637,13 @@ module _ (law : PlaceLaw) where
       let x = refused_so i names f a in let y = refused_so i names g b in
       x.3 ∙ same_refused {A = List Statement} (λ v s. fault_at x.0 (head x.1) ≡ fault_at v (head s)) (sym x.2 ∙ y.2) refl ∙ sym y.3
 
+  -- and what is refused so has no tree
+  pub refused_none : (i : Tokens) → AreNamesReal i → (f : ParseFault) → IsRefused i f
+      → (xs : List Statement) → Spells max_levels i xs → ⊥
+  refused_none i names f h xs spelled =
+      let read = program_all strict strict_rules max_levels i xs spelled.0 spelled.1 in
+      done_not_refused (sym read ∙ (refused_so i names f h).2)
+
 -- a text has one tree
 pub one_tree : (d e : ℕ) (i : Tokens) (xs ys : List Statement) → Spells d i xs → Spells e i ys → ys ≡ xs
 one_tree d e i xs ys h h' =

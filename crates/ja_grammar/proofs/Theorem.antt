@@ -46,6 +46,11 @@ refused_by text = laws.explained place_law (tokens text) (names_real text)
 pub refused_once : (text : List ℕ) (f g : ParseFault) → IsRefused (tokens text) f → IsRefused (tokens text) g → f ≡ g
 refused_once text = laws.refused_once place_law (tokens text) (names_real text)
 
+-- a text that is refused has no tree
+pub refused_none : (text : List ℕ) (f : ParseFault) → IsRefused (tokens text) f
+    → (xs : List Statement) → Spells max_levels (tokens text) xs → ⊥
+refused_none text = laws.refused_none place_law (tokens text) (names_real text)
+
 -- and each is the one to which reading comes
 pub refused_so : (text : List ℕ) (fault : ParseFault) → IsRefused (tokens text) fault
     → (why : Refusal) × (r : Tokens) × (program strict max_levels (tokens text) ≡ Refused why r) × (fault ≡ fault_at why (head r))

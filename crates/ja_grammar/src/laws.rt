@@ -1,15 +1,23 @@
-//! What a refusal says determines it. The functions do nothing; their contracts are the laws.
+//! What a refusal says determines it, and is said of no text of the language. The functions do nothing;
+//! their contracts are the laws.
 
 ghost use Rattle.std.specs.Prelude.{◌≡◌, ◌≢◌, ℕ, List, ◌++◌, codes, replicate};
 ghost use Rattle.ja_base.specs.declared.ids.ScopeKind.TheVariants as scope;
 ghost use Rattle.ja_lex.specs.Tokens.{tokens};
+ghost use Rattle.ja_syntax.specs.declared.tree.Statement.{Statement};
 ghost use Rattle.ja_grammar.specs.declared.fault.ParseFault.{ParseFault};
 ghost use Rattle.ja_grammar.specs.declared.fault.ParseFault.TheVariants.{Syntax, Scope, Depth};
-ghost use Rattle.ja_grammar.specs.Language.{IsRefused};
+ghost use Rattle.ja_grammar.specs.Language.{IsRefused, Spells, max_levels};
 
 /// Two refusals of one text are the same: one kind and one place.
 pub fn refused_once()
     ensures { (text : List ℕ) (f g : ParseFault) → IsRefused (tokens text) f → IsRefused (tokens text) g → f ≡ g }
+{}
+
+/// A text that is refused is none of the language: no statements are its.
+pub fn refused_is_none()
+    ensures { (text : List ℕ) (f : ParseFault) → IsRefused (tokens text) f
+        → (xs : List Statement) → Spells max_levels (tokens text) xs → ⊥ }
 {}
 
 /// What each of these texts is refused with: a `/` where no expression begins, and one where one begins; `arguments` where no name is

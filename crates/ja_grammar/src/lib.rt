@@ -17,5 +17,5 @@ mod part;
 
 pub use context::{Context, Label};
 pub use fault::{ParseFault, Refusal, Stop};
-pub use laws::{others_are_wrong, refused_once, these_are_right};
+pub use laws::{others_are_wrong, refused_is_none, refused_once, these_are_right};
 pub use part::{ExpressionPart, StatementPart};

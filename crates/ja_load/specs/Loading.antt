@@ -99,7 +99,8 @@ abbrev pub IsUnbuiltAt : List ℕ → List Signature → Place → Type 0
 IsUnbuiltAt bytes signatures place =
     (statements : List Statement) × IsTextOf bytes statements × IsWithin (names_before signatures) statements × (unbuilt (device_names signatures) statements ≡ Some place)
 
--- the bytes are a text, and this is what its tokens are refused with, which is determined (`refused_once` in ja_grammar)
+-- the bytes are a text, and this is what its tokens are refused with, which is determined
+-- (`refused_once` in ja_grammar) and said of no text of the language (`refused_is_none`)
 abbrev pub IsNone : List ℕ → ParseFault → Type 0
 IsNone bytes f = IsUtf8 bytes × Explains (tokens bytes) f
 

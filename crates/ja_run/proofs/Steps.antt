@@ -19,8 +19,8 @@ use Rattle.ja_machine.specs.Runs.{NeverStuck, AreSteps}
 use Rattle.ja_step.specs.Given.{answer_to}
 use Rattle.ja_run.specs.declared.ended.CallRecord.{CallRecord}
 use Rattle.ja_run.specs.declared.running.Given.TheVariants as given
-use Rattle.ja_run.specs.Asked.{answering, HaveHeard}
-use Rattle.ja_run.specs.Making.{HasMade, IsGiven, MayBeGiven, arguments_in}
+use Rattle.ja_run.specs.Asked.{answering, HaveHeard, IsCutShort}
+use Rattle.ja_run.specs.code.Making.{HasMade, IsGiven, MayBeGiven, arguments_in}
 use Rattle.ja_run.specs.Run.{answers_given, given_by, Leads, AreAnswered, EndsIn, AnswersFit}
 use Rattle.ja_run.proofs.Answering.{asking, goes_on}
 use Rattle.ja_run.proofs.Giving.{opens, unasked_more, asked_more}
@@ -54,7 +54,7 @@ begun p before calls c fit never devices none is = record {
 }
 
 -- where memory is refused for the first state
-pub not_begun : (p : Program) (before : AllSeen) (limit : ℕ) → (answered : List CallRecord) × HaveHeard before before answered × AreAnswered p limit answered
+pub not_begun : (p : Program) (before : AllSeen) (limit : ℕ) → IsCutShort p limit before before
 not_begun p before limit =
     ([], nothing_heard before, (0, omega arith, (opening_state p, opens p (opening_state p) refl)))
 
@@ -109,7 +109,8 @@ module _ {p : Program} {before now : AllSeen} {calls : List CallRecord} {n : ℕ
         (d.0, device_leads d.0 (e.1 ∙ ap Some d.1))
 
   -- where memory is refused while an answer is given
-  pub not_given : (after : AllSeen) (limit : ℕ) → n < limit → MayBeGiven p c now after → (answered : List CallRecord) × HaveHeard before after answered × AreAnswered p limit answered
+  pub not_given : (after : AllSeen) (limit : ℕ) → n < limit → MayBeGiven p c now after
+      → IsCutShort p limit before after
   not_given after limit less (inl same) =
       (calls, same ∙ u.heard, (n, omega (arith, less), (c, u.made.leads)))
   not_given after limit less (inr (which, asks, inl same)) =

@@ -1,5 +1,5 @@
 pub mod Run
 pub mod Asked
 pub mod Ends
-pub mod Making
 pub mod Transcript
+pub mod code

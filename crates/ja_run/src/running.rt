@@ -1,14 +1,14 @@
-ghost use Rattle.std.specs.Prelude.{◌≡◌, ℕ, ◌<◌, [], List, IfOk, IfErr, map, length};
+ghost use Rattle.std.specs.Prelude.{◌≡◌, ℕ, ◌<◌, [], IfOk, IfErr, map, length};
 ghost use Rattle.ja_device.specs.Devices.{signature_of};
 ghost use Rattle.ja_graph.specs.WellFormed.{IsWellFormed};
 ghost use Rattle.ja_machine.specs.declared.machine.Wants.TheVariants as wanted;
 ghost use Rattle.ja_machine.specs.Machine.{opening_state, wants};
 ghost use Rattle.ja_step.specs.Given.{primitives};
 ghost use Rattle.ja_step.specs.Steps.{conf_of, frame_of};
-ghost use Rattle.ja_run.specs.Asked.{HaveHeard, IsLeft};
-ghost use Rattle.ja_run.specs.Making.{IsDeviceAnswered, MayHaveAnswered, IsGiven, MayBeGiven, IsMade, Leaves};
-ghost use Rattle.ja_run.specs.Run.{AreAnswered, IsRun};
-ghost use Rattle.ja_run.specs.declared.ended.CallRecord.{CallRecord};
+ghost use Rattle.ja_run.specs.Asked.{IsCutShort, IsLeft};
+ghost use Rattle.ja_run.specs.code.Making.{IsDeviceAnswered, MayHaveAnswered, IsGiven, MayBeGiven};
+ghost use Rattle.ja_run.specs.code.Making.{IsMade, Leaves};
+ghost use Rattle.ja_run.specs.Run.{IsRun};
 
 use crate::ended::{CallRecord, Ended, RunEnd};
 use crate::laws::answers_fit;
@@ -27,7 +27,8 @@ enum Stopped {
     Unanswered { steps: u64, which: u32 },
 }
 
-/// Asks the device of a number, with the arguments of the function that runs. Its answer is recorded; there is none where it failed.
+/// Asks the device of a number, with the arguments of the function that runs. Its answer is
+/// recorded; there is none where it failed.
 fn ask<D: Device>(
     alloc: Global,
     conf: &Conf,
@@ -36,8 +37,10 @@ fn ask<D: Device>(
     calls: &mut Vec<CallRecord>,
 ) -> Result<Option<Answer>, Memory>
     requires { which < length devices.old.devices }
-    ensures asked { IfOk result (IsDeviceAnswered devices.old devices.new which (primitives (frame_of conf.now.frame).arguments) calls.old.items calls.new.items) }
-    ensures memory { IfErr result (λ _. MayHaveAnswered devices.old devices.new which (primitives (frame_of conf.now.frame).arguments)) }
+    ensures asked { IfOk result (IsDeviceAnswered devices.old devices.new which
+        (primitives (frame_of conf.now.frame).arguments) calls.old.items calls.new.items) }
+    ensures memory { IfErr result (λ _. MayHaveAnswered devices.old devices.new which
+        (primitives (frame_of conf.now.frame).arguments)) }
 {
     let args = device_arguments(alloc, conf)?;
     match devices.call(alloc, which as usize, args.as_slice()) {
@@ -63,7 +66,8 @@ enum Given {
     Nothing { which: u32 },
 }
 
-/// Gives a state what it wants: leave to go on, the first of some names, or the answer of a device, which is asked.
+/// Gives a state what it wants: leave to go on, the first of some names, or the answer of a device,
+/// which is asked.
 fn give<D: Device>(
     alloc: Global,
     program: &Program,
@@ -71,9 +75,12 @@ fn give<D: Device>(
     devices: &mut Devices<D>,
     calls: &mut Vec<CallRecord>,
 ) -> Result<Given, Memory>
-    requires { (which : ℕ) → wants program.now (conf_of conf.now) ≡ wanted.Device which → which < length devices.old.devices }
-    ensures given { IfOk result (IsGiven program.now (conf_of conf.now) devices.old devices.new calls.old.items calls.new.items) }
-    ensures memory { IfErr result (λ _. MayBeGiven program.now (conf_of conf.now) devices.old devices.new) }
+    requires { (which : ℕ) → wants program.now (conf_of conf.now) ≡ wanted.Device which
+        → which < length devices.old.devices }
+    ensures given { IfOk result (IsGiven program.now (conf_of conf.now)
+        devices.old devices.new calls.old.items calls.new.items) }
+    ensures memory { IfErr result
+        (λ _. MayBeGiven program.now (conf_of conf.now) devices.old devices.new) }
 {
     match first_wanted(program, conf) {
         Wants::Tick => Ok(Given::Answered(Answer::Tick)),
@@ -98,9 +105,10 @@ fn make_steps<D: Device>(
     requires devices { map signature_of devices.old.devices ≡ program.now.signatures }
     requires opening { conf_of conf.old ≡ opening_state program.now }
     requires none { calls.old.items ≡ [] }
-    ensures made { IfOk result (λ stop. IsMade program.now limit calls.new.items stop (conf_of conf.new)) }
+    ensures made { IfOk result
+        (λ stop. IsMade program.now limit calls.new.items stop (conf_of conf.new)) }
     ensures left { IfOk result (λ stop. Leaves devices.old devices.new calls.new.items stop) }
-    ensures memory { IfErr result (λ _. (answered : List CallRecord) × HaveHeard devices.old devices.new answered × AreAnswered program.now limit answered) }
+    ensures memory { IfErr result (λ _. IsCutShort program.now limit devices.old devices.new) }
 {
     never_stuck();
     steps_go_along_edges();
@@ -120,13 +128,16 @@ fn make_steps<D: Device>(
     Ok(None)
 }
 
-/// Runs a program with its devices: it makes at most so many steps, and asks a device only where a function of that device stands. Where a
-/// `for`-`in` may take one of some names, it takes the first one. The calls that were answered are recorded in order. A
-/// device that failed ends the run, and stays in its place.
+/// Runs a program with its devices: it makes at most so many steps, and asks a device only where a
+/// function of that device stands. Where a `for`-`in` (ES3 12.6.4) may take one of some names, it
+/// takes the first one. The calls that were answered are recorded in order. A device that failed
+/// ends the run, and stays in its place.
 ///
 /// # Errors
 ///
-/// `Memory` where memory is refused. The devices are then as the calls made so far left them, which are those of the run's first steps.
+/// `Memory` where memory is refused. The devices have then answered exactly the calls of the run's
+/// first steps, and none has failed. The last of these calls may be one whose answer no step has
+/// taken.
 pub fn run<D: Device>(
     alloc: Global,
     program: &Program,
@@ -137,7 +148,7 @@ pub fn run<D: Device>(
     requires devices { map signature_of devices.old.devices ≡ program.now.signatures }
     ensures run { IfOk result (IsRun program.now limit) }
     ensures left { IfOk result (λ e. IsLeft devices.old devices.new e.calls e.end) }
-    ensures memory { IfErr result (λ _. (answered : List CallRecord) × HaveHeard devices.old devices.new answered × AreAnswered program.now limit answered) }
+    ensures memory { IfErr result (λ _. IsCutShort program.now limit devices.old devices.new) }
 {
     let mut conf = opening(alloc, program)?;
     let mut calls = Vec::new(alloc);

@@ -11,15 +11,6 @@ use ja_device::Scripted;
 use ja_prim::{Int, Kinds, Num, Primitive, Text16};
 use std::alloc::Global;
 
-/// No kind.
-const NONE: Kinds = Kinds {
-    undefined: false,
-    null: false,
-    boolean: false,
-    number: false,
-    text: false,
-};
-
 /// Adds a number to answers.
 fn add_number(answers: &mut Vec<Primitive>, number: u8) -> Result<(), Memory>
     ensures { IfOk result (λ _. answers.new.items ≡ answers.old.items ++ primitive.Number (num.Whole (pos number)) ∷ []) }
@@ -38,11 +29,7 @@ pub fn input(alloc: Global) -> Result<Scripted, Memory>
     for truth in [true, true, true, false] {
         answers.push(Primitive::Bool(truth))?;
     }
-    let kinds = Kinds {
-        boolean: true,
-        ..NONE
-    };
-    Scripted::new(alloc, "input", kinds, answers, Vec::new(alloc))
+    Scripted::new(alloc, "input", Kinds::BOOLEAN, answers, Vec::new(alloc))
 }
 
 /// `number` answers 0, 1, 2, 3, 5 and 8.
@@ -54,11 +41,7 @@ pub fn number(alloc: Global) -> Result<Scripted, Memory>
     for number in [0, 1, 2, 3, 5, 8] {
         add_number(&mut answers, number)?;
     }
-    let kinds = Kinds {
-        number: true,
-        ..NONE
-    };
-    Scripted::new(alloc, "number", kinds, answers, Vec::new(alloc))
+    Scripted::new(alloc, "number", Kinds::NUMBER, answers, Vec::new(alloc))
 }
 
 /// `text` answers "a", "b" and the empty text.
@@ -70,8 +53,7 @@ pub fn text(alloc: Global) -> Result<Scripted, Memory>
     answers.push(Primitive::Text(Text16::from_ascii(alloc, b"a")?))?;
     answers.push(Primitive::Text(Text16::from_ascii(alloc, b"b")?))?;
     answers.push(Primitive::Text(Text16::from_ascii(alloc, b"")?))?;
-    let kinds = Kinds { text: true, ..NONE };
-    Scripted::new(alloc, "text", kinds, answers, Vec::new(alloc))
+    Scripted::new(alloc, "text", Kinds::TEXT, answers, Vec::new(alloc))
 }
 
 /// `print` answers undefined.
@@ -81,9 +63,5 @@ pub fn print(alloc: Global) -> Result<Scripted, Memory>
 {
     let mut answers = Vec::new(alloc);
     answers.push(Primitive::Undefined)?;
-    let kinds = Kinds {
-        undefined: true,
-        ..NONE
-    };
-    Scripted::new(alloc, "print", kinds, answers, Vec::new(alloc))
+    Scripted::new(alloc, "print", Kinds::UNDEFINED, answers, Vec::new(alloc))
 }

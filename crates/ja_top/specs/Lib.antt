@@ -1,2 +1,8 @@
+-- what the calls of the crate say: read from `Answers` on
 pub mod Answers
+pub mod Analyses
+pub mod Runs
+pub mod Words
 pub mod Statuses
+-- what the functions inside the crate promise each other
+pub mod code

@@ -1,12 +1,19 @@
+//! The answer of the analysis to bytes.
+
 ghost use Rattle.std.specs.Prelude.{◌≡◌, ◌≤◌, IfOk, length};
 ghost use Rattle.ja_device.specs.Signatures.{AreSignatures};
 ghost use Rattle.ja_graph.specs.Kinds.{AreBuilt};
 ghost use Rattle.ja_graph.specs.WellFormed.{IsWellFormed};
-ghost use Rattle.ja_top.specs.Answers.{Analyses, IsSolved, Reports, status_of};
+ghost use Rattle.ja_top.specs.Analyses.{Analyses, Reports};
+ghost use Rattle.ja_top.specs.Runs.{signatures_of};
+ghost use Rattle.ja_top.specs.Statuses.{status_of};
+ghost use Rattle.ja_top.specs.code.Solutions.{IsSolved};
 
-use crate::refusing::{Answer, explain, refuse};
+use crate::answer::Answer;
+use crate::refusing::{explain, refuse};
 use crate::status::Status;
 use ja_base::Memory;
+use ja_device::{Device, Devices};
 use ja_graph::Program;
 use ja_load::laws::programs_are_built;
 use ja_load::load;
@@ -19,7 +26,7 @@ use std::alloc::Global;
 use std::str;
 
 /// The greatest number of visits.
-pub const BUDGET: u128 = 1_000_000;
+const BUDGET: u128 = 1_000_000;
 
 // Done where there is no warning.
 fn judged(warnings: &[Warning]) -> Status
@@ -88,17 +95,35 @@ fn analyse_text(alloc: Global, text: &str, signatures: &[Signature]) -> Result<A
     }
 }
 
-/// Analyses bytes, as the text of a program with these devices.
-pub fn analyse(alloc: Global, bytes: &[u8], signatures: &[Signature]) -> Result<Answer, Memory>
-    requires bytes { length bytes.now ≤ 16777216 }
-    requires devices { AreSignatures signatures.now }
-    ensures { IfOk result (λ a. Analyses bytes.now signatures.now a.status a.text.items) }
+/// Analyses the bytes of a text, at most [`MAX_BYTES`](crate::MAX_BYTES) of them, as a program that
+/// may call these devices. None is asked.
+///
+/// The status is `Done` or `Warned` with a report, without or with warnings; `Spent` with the
+/// visits where 1,000,000 of them didn't close the table; `Unbuilt` with the place of the first
+/// form that isn't analysed yet; and `NotText`, `Syntax`, `Scope` or `Limit` with the line of a
+/// refusal where the bytes aren't UTF-8, no program (ES3 11 to 14), out of the profile, or past a
+/// limit.
+///
+/// # Errors
+///
+/// `Memory` where memory is refused.
+pub fn analyse<D: Device>(
+    alloc: Global,
+    bytes: &[u8],
+    devices: &Devices<D>,
+) -> Result<Answer, Memory>
+    requires { length bytes.now ≤ 16777216 }
+    ensures { IfOk result
+        (λ a. Analyses bytes.now (signatures_of devices.now) a.status a.text.items) }
 {
     match str::from_utf8(bytes) {
-        Ok(text) => analyse_text(alloc, text, signatures),
+        Ok(text) => {
+            let signatures = devices.signatures(alloc)?;
+            analyse_text(alloc, text, signatures.as_slice())
+        }
         Err(error) => {
             let offset = error.valid_up_to();
-            refuse(alloc, Status::NotText, Refusal::NotText { offset })
+            refuse(alloc, Refusal::NotText { offset })
         }
     }
 }

@@ -2,7 +2,8 @@
 
 ghost use Rattle.std.specs.Prelude.{◌≡◌, ◌↔◌, IsTrue};
 ghost use Rattle.std.specs.String.{string_bytes};
-ghost use Rattle.ja_top.specs.Answers.{AsksFor, Counts, IsSteps, OfWord};
+ghost use Rattle.ja_top.specs.Words.{IsSteps};
+ghost use Rattle.ja_top.specs.code.Commands.{AsksFor, Counts, OfWord};
 
 use itoa::Buffer;
 
@@ -65,8 +66,8 @@ fn command_of(word: &str) -> Option<Command>
     }
 }
 
-/// The command of the words, if they are a command line: `analyse`, `run`, or `run --steps` and a number from 1 to
-/// 10,000,000.
+/// The command of the words, if they are a command line: `analyse`, `run`, or `run --steps` and a
+/// number from 1 to 10,000,000.
 pub fn asked(words: &[String]) -> Option<Command>
     ensures { AsksFor words.now result }
 {

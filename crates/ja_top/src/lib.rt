@@ -1,4 +1,5 @@
-//! The answer to words, a source and host devices: analyses and runs.
+//! The answers of the analyser: to a text and host devices (`analyse`, `run`), and to words and a
+//! source (`tajs`). What is proved of each is stated from `specs/Answers.antt` on.
 //!
 //! The clause `answered` of `tajs` (`top.rt`), by `IsAnswered` of `specs/Answers.antt`, says of all
 //! words, sources, sinks and lists of devices:
@@ -39,12 +40,20 @@
 #![tactic(auto)]
 
 mod analysis;
+mod answer;
 mod command;
 mod refusing;
 mod running;
 mod status;
 mod top;
 
-pub use command::Command;
+pub use analysis::analyse;
+pub use answer::Answer;
+pub use running::run;
 pub use status::Status;
-pub use top::tajs;
+pub use top::{MAX_BYTES, tajs};
+
+// what these take and give
+pub use ja_base::{Failed, Memory, MemorySink, MemorySource, Sink, Source, StdSink, StdSource};
+pub use ja_device::{CallFault, Device, Devices, DevicesFault, Heard, Scripted};
+pub use ja_prim::{Int, Kinds, Num, Primitive, Signature, Text16};

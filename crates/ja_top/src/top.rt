@@ -1,12 +1,18 @@
-ghost use Rattle.std.specs.Prelude.{◌≤◌, IfOk, IfErr, List, OnOk, OnErr, Some, String, length, true};
+//! The answer to words and a source.
+
+ghost use Rattle.std.specs.Prelude.{◌≤◌, IfOk, IfErr, List, OnOk, OnErr, Some, String, length};
+ghost use Rattle.std.specs.Prelude.{true};
 ghost use Rattle.std.specs.declared.alloc.Global.{Global};
-ghost use Rattle.ja_base.specs.Streams.{NeverFalls, Appends, AppendsFront, TurnsTo, HasCause as StreamCause};
-ghost use Rattle.ja_top.specs.Answers.{AsksFor, DevicesComeBack, Follows, HasCause, IsAnswered, StopsShort};
+ghost use Rattle.ja_base.specs.Streams.{NeverFalls, Appends, AppendsFront, TurnsTo};
+ghost use Rattle.ja_base.specs.Streams.{HasCause as StreamCause};
+ghost use Rattle.ja_top.specs.Answers.{DevicesComeBack, HasCause, IsAnswered, call_of, written_of};
+ghost use Rattle.ja_top.specs.code.Commands.{AsksFor, Follows, StopsShort};
 
 use crate::analysis::analyse;
+use crate::answer::Answer;
 use crate::command::{Command, asked};
-use crate::refusing::{Answer, refuse};
-use crate::running::transcript_of;
+use crate::refusing::refuse;
+use crate::running::run;
 use crate::status::Status;
 use ja_base::{Failed, Memory, ReadFault, Sink, Source, read_all, write_all};
 use ja_device::{Device, Devices};
@@ -24,15 +30,13 @@ fn follow<D: Device>(
     devices: &mut Devices<D>,
 ) -> Result<Answer, Memory>
     requires { length bytes.now ≤ 16777216 }
-    ensures answer { IfOk result (λ a. Follows command bytes.now devices.old devices.new a.status a.text.items) }
+    ensures answer { IfOk result
+        (λ a. Follows command bytes.now devices.old devices.new a.status a.text.items) }
     ensures memory { IfErr result (λ _. StopsShort command bytes.now devices.old devices.new) }
 {
     match command {
-        Command::Analyse => {
-            let signatures = devices.signatures(alloc)?;
-            analyse(alloc, bytes, signatures.as_slice())
-        }
-        Command::Run { steps } => transcript_of(alloc, bytes, devices, steps),
+        Command::Analyse => analyse(alloc, bytes, devices),
+        Command::Run { steps } => run(alloc, bytes, devices, steps),
     }
 }
 
@@ -45,16 +49,21 @@ fn answer_of<S: Source, D: Device>(
     devices: &mut Devices<D>,
 ) -> Result<Answer, Memory>
     ensures count { NeverFalls (S.faults source.old) (S.faults source.new) }
-    ensures cause { IfOk result (λ a. (words : List (String Global)) → AsksFor words (Some command) → HasCause (record { words = words; left = S.left source.old; left_after = S.left source.new; faults = S.faults source.old; faults_after = S.faults source.new; devices = devices.old; devices_after = devices.new }) a.status a.text.items) }
-    ensures memory { IfErr result (λ _. (words : List (String Global)) → AsksFor words (Some command) → DevicesComeBack (record { words = words; left = S.left source.old; left_after = S.left source.new; faults = S.faults source.old; faults_after = S.faults source.new; devices = devices.old; devices_after = devices.new })) }
+    ensures cause { IfOk result
+        (λ a. (words : List (String Global)) → AsksFor words (Some command) → HasCause
+        (call_of S.left S.faults words source.old source.new devices.old devices.new)
+        a.status a.text.items) }
+    ensures memory { IfErr result
+        (λ _. (words : List (String Global)) → AsksFor words (Some command) → DevicesComeBack
+        (call_of S.left S.faults words source.old source.new devices.old devices.new)) }
 {
     match read_all(alloc, source, MAX_BYTES) {
         Ok(bytes) => {
             let answer = follow(alloc, command, &bytes, devices)?;
             Ok(answer)
         }
-        Err(ReadFault::Failed) => refuse(alloc, Status::ReadFault, Refusal::ReadFault),
-        Err(ReadFault::TooLong) => refuse(alloc, Status::TooLong, Refusal::TooLong),
+        Err(ReadFault::Failed) => refuse(alloc, Refusal::ReadFault),
+        Err(ReadFault::TooLong) => refuse(alloc, Refusal::TooLong),
         Err(ReadFault::Memory) => Err(Memory),
     }
 }
@@ -67,12 +76,17 @@ fn answer<S: Source, D: Device>(
     devices: &mut Devices<D>,
 ) -> Result<Answer, Memory>
     ensures count { NeverFalls (S.faults source.old) (S.faults source.new) }
-    ensures cause { IfOk result (λ a. HasCause (record { words = words.now; left = S.left source.old; left_after = S.left source.new; faults = S.faults source.old; faults_after = S.faults source.new; devices = devices.old; devices_after = devices.new }) a.status a.text.items) }
-    ensures memory { IfErr result (λ _. DevicesComeBack (record { words = words.now; left = S.left source.old; left_after = S.left source.new; faults = S.faults source.old; faults_after = S.faults source.new; devices = devices.old; devices_after = devices.new })) }
+    ensures cause { IfOk result
+        (λ a. HasCause
+        (call_of S.left S.faults words.now source.old source.new devices.old devices.new)
+        a.status a.text.items) }
+    ensures memory { IfErr result
+        (λ _. DevicesComeBack
+        (call_of S.left S.faults words.now source.old source.new devices.old devices.new)) }
 {
     match asked(words) {
         Some(command) => answer_of(alloc, command, source, devices),
-        None => refuse(alloc, Status::Usage, Refusal::Usage),
+        None => refuse(alloc, Refusal::Usage),
     }
 }
 
@@ -88,11 +102,13 @@ fn write_answer<K: Sink>(sink: &mut K, text: &[u8]) -> Result<(), Failed>
     Ok(())
 }
 
-/// The program: `words` are those after its name. Reads a text from the source, analyses or runs it, and
-/// writes the answer whole to the sink, which is finished last. The status says which answer it was.
+/// The program: `words` are those after its name. Reads a text from the source, analyses or runs it
+/// (`analyse`, `run`), and writes the answer whole to the sink, which is finished last. The status
+/// says which answer it was.
 ///
-/// A program finds a device under its name, as a function of the global object; only a run asks it, where the program calls it. The
-/// devices come back in their order; one that failed, which ends the run, is let go once the transcript is built.
+/// A program finds a device under its name, as a function of the global object; only a run asks it,
+/// where the program calls it. The devices come back in their order; one that failed, which ends
+/// the run, is let go once the transcript is built.
 #[tactic(auto, using(crate::proofs::Reporting::answered))]
 pub fn tajs<S: Source, K: Sink, D: Device>(
     alloc: Global,
@@ -103,7 +119,10 @@ pub fn tajs<S: Source, K: Sink, D: Device>(
 ) -> (Status, Devices<D>)
     ensures source_count { NeverFalls (S.faults source.old) (S.faults source.new) }
     ensures sink_count { NeverFalls (K.faults sink.old) (K.faults sink.new) }
-    ensures answered { IsAnswered (record { words = words.now; left = S.left source.old; left_after = S.left source.new; faults = S.faults source.old; faults_after = S.faults source.new; devices = devices; devices_after = result.1 }) (record { written = K.written sink.old; written_after = K.written sink.new; finished = K.finished sink.old; finished_after = K.finished sink.new; faults = K.faults sink.old; faults_after = K.faults sink.new }) result.0 }
+    ensures answered { IsAnswered
+        (call_of S.left S.faults words.now source.old source.new devices result.1)
+        (written_of K.written K.finished K.faults sink.old sink.new)
+        result.0 }
 {
     let mut devices = devices;
     let status = match answer(alloc, words, source, &mut devices) {

@@ -1,7 +1,8 @@
 use Rattle.std.proofs.Common.{◌≡◌, subst}
 use Rattle.ja_rules.specs.Readings.{table_of}
 use Rattle.ja_top.specs.declared.status.Status.{Status}
-use Rattle.ja_top.specs.Answers.{IsAnalysed, Reports, status_of}
+use Rattle.ja_top.specs.Analyses.{IsAnalysed, Reports}
+use Rattle.ja_top.specs.Statuses.{status_of}
 use Rattle.ja_top.proofs.Reporting.{reports}
 use Rattle.ja_top.proofs.analysis.report_of.Goals as goal
 
@@ -22,5 +23,6 @@ returns c =
       warned = c.in_ok-warnings.ensures.faults c.requires.built c.requires.solved.closed;
       goes_on = c.never_stuck.ensures p c.requires.program;
     } in
-    let same : status_of ws ≡ c.judged-status.result = cc (c.judged-status.ensures, c.as_slice-3.ensures) in
+    let same : status_of ws ≡ c.judged-status.result =
+    cc (c.judged-status.ensures, c.as_slice-3.ensures) in
     let R : Status → Type 0 = λ s. Reports p s text in subst R same (reports p text ws whole)

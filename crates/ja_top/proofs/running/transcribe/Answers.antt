@@ -1,5 +1,5 @@
 use Rattle.std.proofs.Common.{◌≡◌, ◌∙◌}
-use Rattle.ja_top.specs.Answers.{returned}
+use Rattle.ja_top.specs.Runs.{returned}
 use Rattle.ja_top.proofs.Transcripts.{all_returned, one_missing}
 use Rattle.ja_top.proofs.running.transcribe.Goals.{in-Device, in_default}
 use Rattle.ja_top.proofs.running.transcribe.Goals as goal
@@ -10,7 +10,8 @@ returns-clause-transcript g c =
     let left = c.run.new.devices in
     let back : c.match-ended-2.devices ≡ returned ended.end left =
     elim c.match-ended-2.branch [
-      | in-Device w ↦ one_missing ended.end left _ w.in-Device.which w.in-Device.is (w.devices-is ∙ w.retire.ensures)
+      | in-Device w ↦ let back = w.devices-is ∙ w.retire.ensures in
+          one_missing ended.end left _ w.in-Device.which w.in-Device.is back
       | in_default w ↦ w.devices-is ∙ all_returned ended.end left w.in_default.not-Device
     ] in
     record {

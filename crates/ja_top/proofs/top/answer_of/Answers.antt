@@ -1,5 +1,5 @@
 use Rattle.std.proofs.Common.{subst, ℕ, List}
-use Rattle.ja_top.specs.Answers.{Follows}
+use Rattle.ja_top.specs.code.Commands.{Follows}
 use Rattle.ja_top.proofs.Reporting.{answers}
 use Rattle.ja_top.proofs.top.answer_of.Goals as goal
 
@@ -7,5 +7,13 @@ pub returns-in_ok-answer-in-Ok-clause-cause : goal.returns-in_ok-answer-in-Ok-cl
 returns-in_ok-answer-in-Ok-clause-cause g c = λ words asks.
     let status = c.in_ok-answer-in-Ok.answer.status in
     let text = c.in_ok-answer-in-Ok.answer.text.items in
-    let A : List ℕ → Type 0 = λ b. Follows c.args.command b c.args.devices.now c.follow.new.devices status text in
-    answers _ c.in-Ok.bytes.items c.args.command status text asks (record { took = c.in-Ok.ensures.whole; end = c.in-Ok.ensures.end; within = c.in-Ok.ensures.within }) (subst A c.deref.ensures.value c.in_ok-answer-in-Ok.ensures.answer)
+    let before = c.args.devices.now in
+    let after = c.follow.new.devices in
+    let A : List ℕ → Type 0 = λ b. Follows c.args.command b before after status text in
+    let input = record {
+      took = c.in-Ok.ensures.whole;
+      end = c.in-Ok.ensures.end;
+      within = c.in-Ok.ensures.within;
+    } in
+    let follows = subst A c.deref.ensures.value c.in_ok-answer-in-Ok.ensures.answer in
+    answers _ c.in-Ok.bytes.items text input c.args.command status asks follows

@@ -1,0 +1,84 @@
+-- How a text is analysed: the cause of each status, and the text that is written with it.
+use Rattle.std.specs.Prelude.{◌≡◌, ◌≤◌, ◌⊎◌, ℕ, List, [], ◌∷◌, length}
+use Rattle.std.specs.Str.{IsUtf8}
+use Rattle.std.specs.Str.Lossy.{utf8_valid_len}
+use Rattle.ja_base.specs.declared.ids.Place.{Place}
+use Rattle.ja_base.specs.declared.ids.ScopeKind.{ScopeKind}
+use Rattle.ja_graph.specs.declared.program.Program.{Program}
+use Rattle.ja_grammar.specs.declared.fault.ParseFault.TheVariants as fault
+use Rattle.ja_load.specs.Loading.{IsProgramOf, HasManyFunctions, HasManyNodes, IsUnbuiltAt, IsNone}
+use Rattle.ja_machine.specs.Runs.{NeverStuck}
+use Rattle.ja_model.specs.declared.table.Item.{Item}
+use Rattle.ja_model.specs.declared.table.Warning.{Warning}
+use Rattle.ja_model.specs.Sound.{CoversRuns, WarnsOfFaults}
+use Rattle.ja_model.specs.Table.{Table, IsBuilt, IsClosed}
+use Rattle.ja_model.specs.Warning.{AreWarnings}
+use Rattle.ja_prim.specs.declared.signature.Signature.{Signature}
+use Rattle.ja_report.specs.declared.refusals.Refusal.TheVariants as refusal
+use Rattle.ja_report.specs.Refusals.{refusal_text}
+use Rattle.ja_report.specs.Report.{report_text, spent_text}
+use Rattle.ja_rules.specs.Solving.{WasSpent}
+use Rattle.ja_top.specs.declared.status.Status.{Status}
+use Rattle.ja_top.specs.declared.status.Status.TheVariants.{Done, Warned, NotText, Syntax, Scope}
+use Rattle.ja_top.specs.declared.status.Status.TheVariants.{Limit, Spent, Unbuilt}
+
+-- the greatest number of bytes of a text, and of visits
+abbrev pub max_bytes : ℕ
+max_bytes = 16777216
+
+abbrev pub budget : ℕ
+budget = 1000000
+
+-- What is printed of a program, with these warnings: the table that the printed visits build, which
+-- is closed and covers every run; an operation that goes wrong in some run is among the warnings.
+-- No run of the program is stuck.
+pub record IsAnalysed (p : Program) (text : List ℕ) (warnings : List Warning) : Type 0 where
+  pub table : Table
+  pub visits : List Item
+  pub printed : text ≡ report_text p table visits warnings
+  pub built : IsBuilt p visits table
+  pub few : length visits ≤ budget
+  pub closed : IsClosed p table
+  pub exact : AreWarnings p table warnings
+  pub covers : CoversRuns p table
+  pub warned : WarnsOfFaults p warnings
+  pub goes_on : NeverStuck p
+
+-- what is written of a program, by the status
+abbrev pub Reports : Program → Status → List ℕ → Type 0
+Reports p Done text = IsAnalysed p text []
+Reports p Warned text = (w : Warning) × (ws : List Warning) × IsAnalysed p text (w ∷ ws)
+Reports p Spent text =
+    (visits : List Item) × WasSpent p budget visits × (text ≡ spent_text p visits)
+Reports p status text = ⊥
+
+abbrev pub ReportsOnText : List ℕ → List Signature → Status → List ℕ → Type 0
+ReportsOnText bytes signatures status text =
+    (p : Program) × IsProgramOf bytes signatures p × Reports p status text
+
+-- the text nests too deep, or has too many functions, or else too many nodes
+abbrev pub IsPastLimit : List ℕ → List Signature → List ℕ → Type 0
+IsPastLimit bytes signatures text =
+    ((place : Place) × IsNone bytes (fault.Depth place) × (text ≡ refusal_text refusal.Depth))
+    ⊎ ((HasManyFunctions bytes × (text ≡ refusal_text refusal.Functions))
+    ⊎ (HasManyNodes bytes signatures × (text ≡ refusal_text refusal.Nodes)))
+
+-- the cause of each status of the analysis of a text whose program has these devices, and what is
+-- written
+abbrev pub Analyses : List ℕ → List Signature → Status → List ℕ → Type 0
+Analyses bytes signatures Done text = ReportsOnText bytes signatures Done text
+Analyses bytes signatures Warned text = ReportsOnText bytes signatures Warned text
+Analyses bytes signatures Spent text = ReportsOnText bytes signatures Spent text
+Analyses bytes signatures NotText text =
+    (IsUtf8 bytes → ⊥) × (text ≡ refusal_text (refusal.NotText (utf8_valid_len bytes)))
+Analyses bytes signatures Syntax text =
+    (place : Place) × IsNone bytes (fault.Syntax place)
+    × (text ≡ refusal_text (refusal.Syntax place))
+Analyses bytes signatures Scope text =
+    (kind : ScopeKind) × (place : Place) × IsNone bytes (fault.Scope kind place)
+    × (text ≡ refusal_text (refusal.Scope kind place))
+Analyses bytes signatures Limit text = IsPastLimit bytes signatures text
+Analyses bytes signatures Unbuilt text =
+    (place : Place) × IsUnbuiltAt bytes signatures place
+    × (text ≡ refusal_text (refusal.Unbuilt place))
+Analyses bytes signatures status text = ⊥

@@ -1,0 +1,26 @@
+-- What the solver gives, and what is refused.
+use Rattle.std.specs.Prelude.{◌≡◌, ◌≤◌, length}
+use Rattle.ja_graph.specs.declared.program.Program.{Program}
+use Rattle.ja_graph.specs.Kinds.{AreBuilt}
+use Rattle.ja_model.specs.Sound.{CoversRuns}
+use Rattle.ja_model.specs.Table.{IsBuilt, IsClosed}
+use Rattle.ja_report.specs.declared.refusals.Refusal.{Refusal}
+use Rattle.ja_report.specs.Refusals.{refusal_text}
+use Rattle.ja_rules.specs.declared.solver.Solved.{Solved}
+use Rattle.ja_rules.specs.Readings.{table_of, Fits}
+use Rattle.ja_top.specs.Analyses.{budget}
+use Rattle.ja_top.specs.declared.answer.Answer.{Answer}
+use Rattle.ja_top.specs.Statuses.{status_of_refusal}
+
+-- what the solver gives of a program
+pub record IsSolved (p : Program) (s : Solved) : Type 0 where
+  pub fits : Fits p s.table
+  pub built : IsBuilt p s.visits (table_of s.table)
+  pub closed : IsClosed p (table_of s.table)
+  pub few : length s.visits ≤ budget
+  pub covers : AreBuilt p → CoversRuns p (table_of s.table)
+
+-- the status and the text of a refusal
+pub record IsRefusal (a : Answer) (r : Refusal) : Type 0 where
+  pub status_is : a.status ≡ status_of_refusal r
+  pub text_is : a.text.items ≡ refusal_text r
