@@ -1,5 +1,7 @@
 -- Properties in slots, of which some are empty: which are there, and in which slot a name is.
-use Rattle.std.specs.Prelude.{◌≡◌, ℕ, ℤ, not, suc, Bool, true, false, nat_eq, if◌then◌else◌, List, [], ◌∷◌, slice_get, slice_set, slice_index_or, map, filter, Option, Some, None, unwrap_or, Box}
+use Rattle.std.specs.Prelude.{◌≡◌, ℕ, ℤ, suc, nat_eq, Bool, true, false, not, if◌then◌else◌}
+use Rattle.std.specs.Prelude.{List, [], ◌∷◌, slice_get, slice_set, slice_index_or, map, filter}
+use Rattle.std.specs.Prelude.{Option, Some, None, unwrap_or, Box}
 use Rattle.std.specs.Global.{Global}
 use Rattle.std.specs.Cmp.Lexicographic.{pointwise}
 use Rattle.std.specs.HashMap.{HashMap, get}
@@ -23,7 +25,8 @@ has_name name (Some q) = same_text q.name name
 -- the first slot that has the property of a name
 abbrev pub slot_of : List ℕ → List (Option Property) → Option ℕ
 slot_of name [] = None
-slot_of name (slot ∷ slots) = if has_name name slot then Some 0 else option_map suc (slot_of name slots)
+slot_of name (slot ∷ slots) =
+    if has_name name slot then Some 0 else option_map suc (slot_of name slots)
 
 -- what is in a slot
 abbrev pub slot_at : List (Option Property) → ℕ → Option Property
@@ -32,14 +35,16 @@ slot_at slots i = unwrap_or (slice_get slots i) None
 -- no two slots have the property of one name
 abbrev pub IsApart : List (Option Property) → Type 0
 IsApart [] = Unit {0}
-IsApart (slot ∷ slots) = ((name : List ℕ) → has_name name slot ≡ true → slot_of name slots ≡ None) × IsApart slots
+IsApart (slot ∷ slots) =
+    ((name : List ℕ) → has_name name slot ≡ true → slot_of name slots ≡ None) × IsApart slots
 
 -- a table has the slot of each name, and no other name
 abbrev pub HasPlaces : {S : Type 0} → HashMap (List ℕ) ℕ S → List (Option Property) → Type 0
 HasPlaces table slots = (name : List ℕ) → get (pointwise nat_eq) table name ≡ slot_of name slots
 
 -- .. where there is a table
-abbrev pub IsPlaced : {S : Type 0} → Option (Box (HashMap (List ℕ) ℕ S) Global) → List (Option Property) → Type 0
+abbrev pub IsPlaced : {S : Type 0} → Option (Box (HashMap (List ℕ) ℕ S) Global)
+    → List (Option Property) → Type 0
 IsPlaced None slots = Unit {0}
 IsPlaced (Some table) slots = HasPlaces table.value slots
 
@@ -53,18 +58,22 @@ abbrev pub changed_at : List (Option Property) → ℕ → (Property → Propert
 changed_at slots i change = slice_set slots i (option_map change (slice_index_or slots i None))
 
 -- a table has what another one has, and the name that is in a slot
-abbrev pub HasSlot : {S : Type 0} → HashMap (List ℕ) ℕ S → HashMap (List ℕ) ℕ S → Option Property → ℕ → Type 0
+abbrev pub HasSlot : {S : Type 0} → HashMap (List ℕ) ℕ S → HashMap (List ℕ) ℕ S → Option Property
+    → ℕ → Type 0
 HasSlot old new slot i =
     (key : List ℕ)
-    → get (pointwise nat_eq) new key ≡ (if has_name key slot then Some i else get (pointwise nat_eq) old key)
+    → get (pointwise nat_eq) new key
+    ≡ (if has_name key slot then Some i else get (pointwise nat_eq) old key)
 
 -- a table, where there is one, is another one without a name
-abbrev pub IsWithout : {S : Type 0} → Option (Box (HashMap (List ℕ) ℕ S) Global) → List ℕ → Option (Box (HashMap (List ℕ) ℕ S) Global) → Type 0
+abbrev pub IsWithout : {S : Type 0} → Option (Box (HashMap (List ℕ) ℕ S) Global) → List ℕ
+    → Option (Box (HashMap (List ℕ) ℕ S) Global) → Type 0
 IsWithout places name None = Unit {0}
 IsWithout None name (Some after) = ⊥
 IsWithout (Some table) name (Some after) =
     (key : List ℕ)
-    → get (pointwise nat_eq) after.value key ≡ (if pointwise nat_eq name key then None else get (pointwise nat_eq) table.value key)
+    → get (pointwise nat_eq) after.value key
+    ≡ (if pointwise nat_eq name key then None else get (pointwise nat_eq) table.value key)
 
 -- the names that are enumerable and pass a test
 abbrev pub shown : (List ℕ → Bool) → List (Option Property) → List (List ℕ)

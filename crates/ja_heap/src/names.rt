@@ -1,5 +1,6 @@
 //! The names that `for`-`in` shows (ES3 12.6.4).
-ghost use Rattle.std.specs.Prelude.{◌≡◌, ℕ, List, ◌++◌, ◌||◌, nat_eq, IfOk, OnOk, filter, is_some, not};
+ghost use Rattle.std.specs.Prelude.{◌≡◌, ℕ, List, ◌++◌, ◌||◌, nat_eq, not};
+ghost use Rattle.std.specs.Prelude.{IfOk, OnOk, filter, is_some};
 ghost use Rattle.std.specs.Cmp.Lexicographic.{pointwise};
 ghost use Rattle.std.specs.HashSet.{contains};
 ghost use Rattle.ja_machine.specs.Enumeration as spec;
@@ -21,7 +22,8 @@ impl Heap {
         a: Addr,
     ) -> Result<(), Memory>
         ensures { OnOk result (names.new.items ≡ names.old.items
-            ++ filter (λ name. not (contains (pointwise nat_eq) hidden.now name)) (spec.own_names self.now a)) }
+            ++ filter (λ name. not (contains (pointwise nat_eq) hidden.now name))
+            (spec.own_names self.now a)) }
     {
         match self.object(a) {
             Some(object) => object.properties().push_shown(names, hidden),
@@ -40,8 +42,8 @@ impl Heap {
         }
     }
 
-    /// The names that an object shows: its own in order of insertion, then those that it inherits. Each name is looked for
-    /// once, among those of the objects before.
+    /// The names that an object shows: its own in order of insertion, then those that it inherits.
+    /// Each name is looked for once, among those of the objects before.
     pub fn names(&self, alloc: Global, a: Addr) -> Result<Vec<Text16>, Memory>
         ensures { IfOk result (λ names. names.items ≡ spec.names self.now a) }
     {

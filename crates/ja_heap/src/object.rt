@@ -1,4 +1,5 @@
-ghost use Rattle.std.specs.Prelude.{◌≡◌, [], IfOk, OnOk, OnErr, is_some, if◌then◌else◌, filter, map, not, Some};
+ghost use Rattle.std.specs.Prelude.{◌≡◌, [], not, if◌then◌else◌, filter, map};
+ghost use Rattle.std.specs.Prelude.{Some, IfOk, OnOk, OnErr, is_some};
 ghost use Rattle.std.specs.Option.{option_map};
 ghost use Rattle.ja_machine.specs.declared.machine.Property.{Property};
 ghost use Rattle.ja_machine.specs.Heap.{property_of};
@@ -14,8 +15,8 @@ use ja_prim::Text16;
 use std::alloc::Global;
 use std::marker::Model;
 
-/// An object (ES3 8.6.2): its class, its internal properties, and its properties in order of insertion. Contracts see the
-/// object of the machine. To let it go is one call.
+/// An object (ES3 8.6.2): its class, its internal properties, and its properties in order of
+/// insertion. Contracts see the object of the machine. To let it go is one call.
 pub struct Object {
     class: Class,
     slots: Slots,
@@ -60,7 +61,9 @@ impl Object {
         content: Content,
         attrs: Attrs,
     ) -> Result<Object, Memory>
-        ensures { IfOk result (λ o. o ≡ record self { properties = spec.with_definition self.properties name.now content attrs }) }
+        ensures { IfOk result (λ o. o ≡ record self {
+          properties = spec.with_definition self.properties name.now content attrs;
+        }) }
     {
         self.define(alloc, name, content, attrs)?;
         Ok(self)
@@ -87,8 +90,8 @@ impl Object {
         self.properties.get(name)
     }
 
-    /// Sets the value of a property: its attributes stay, and a new property comes last and has none. After `Memory` the
-    /// object is as it was.
+    /// Sets the value of a property: its attributes stay, and a new property comes last and has
+    /// none. After `Memory` the object is as it was.
     pub fn set_value(&mut self, alloc: Global, name: &Text16, v: Value) -> Result<(), Memory>
         ensures written { OnOk result (self.new ≡ spec.object_with_value self.old name.now v) }
         ensures kept { OnErr result (self.new ≡ self.old) }
@@ -105,8 +108,8 @@ impl Object {
         self.properties.replace_value(name, v);
     }
 
-    /// Sets the content and the attributes of a property, which comes last where it is new. After `Memory` the object is as it
-    /// was.
+    /// Sets the content and the attributes of a property, which comes last where it is new. After
+    /// `Memory` the object is as it was.
     pub fn define(
         &mut self,
         alloc: Global,
@@ -114,13 +117,16 @@ impl Object {
         content: Content,
         attrs: Attrs,
     ) -> Result<(), Memory>
-        ensures defined { OnOk result (self.new ≡ record self.old { properties = spec.with_definition self.old.properties name.now content attrs }) }
+        ensures defined { OnOk result (self.new ≡ record self.old {
+          properties = spec.with_definition self.old.properties name.now content attrs;
+        }) }
         ensures kept { OnErr result (self.new ≡ self.old) }
     {
         self.properties.define(alloc, name, content, attrs)
     }
 
-    /// Puts a property in place of the one of its name, or behind the others. After `Memory` the object is as it was.
+    /// Puts a property in place of the one of its name, or behind the others. After `Memory` the
+    /// object is as it was.
     pub fn set_property(
         &mut self,
         alloc: Global,
@@ -140,7 +146,9 @@ impl Object {
 
     /// Removes a property, if it is there.
     pub fn remove(&mut self, name: &Text16)
-        ensures { self.new ≡ record self.old { properties = spec.without self.old.properties name.now } }
+        ensures { self.new ≡ record self.old {
+          properties = spec.without self.old.properties name.now;
+        } }
     {
         self.properties.remove(name);
     }
@@ -157,7 +165,8 @@ impl Object {
     /// Deletes the elements from a new length on, below the old one.
     pub(crate) fn cut_below(&mut self, new: u32, old: i64)
         ensures { self.new ≡ record self.old {
-          properties = filter (λ (q : Property). not (spec.is_cut new (Some old) q)) self.old.properties;
+          properties = filter (λ (q : Property). not (spec.is_cut new (Some old) q))
+              self.old.properties;
         } }
     {
         if i64::from(new) < old {

@@ -1,5 +1,7 @@
-//! Properties in order of insertion. Each stays in its slot, so that none is moved where another is deleted.
-ghost use Rattle.std.specs.Prelude.{◌≡◌, ◌<◌, ◌++◌, ◌∷◌, [], true, Some, IfSome, OnOk, OnErr, is_some, not, if◌then◌else◌};
+//! Properties in order of insertion. Each stays in its slot, so that none is moved where another is
+//! deleted.
+ghost use Rattle.std.specs.Prelude.{◌≡◌, ◌<◌, ◌++◌, ◌∷◌, [], true, not, if◌then◌else◌};
+ghost use Rattle.std.specs.Prelude.{Some, IfSome, OnOk, OnErr, is_some};
 ghost use Rattle.std.specs.Prelude.{ℕ, ◌-◌, List, nat_eq, ◌||◌, length, take, find, filter, map};
 ghost use Rattle.std.specs.Cmp.Lexicographic.{pointwise};
 ghost use Rattle.std.specs.HashSet.{contains};
@@ -20,7 +22,8 @@ use std::alloc::Global;
 use std::collections::{HashMap, HashSet};
 use std::marker::Model;
 
-/// How many slots are looked through one after another. Where there are more, a table has the slot of each name.
+/// How many slots are looked through one after another. Where there are more, a table has the slot
+/// of each name.
 const FEW: usize = 8;
 
 /// No attribute is set.
@@ -30,8 +33,8 @@ const NO_ATTRS: Attrs = Attrs {
     dont_delete: false,
 };
 
-/// The properties of an object, in order of insertion. One that is deleted leaves its slot empty, until more than half of
-/// the slots are. Contracts see the list of properties.
+/// The properties of an object, in order of insertion. One that is deleted leaves its slot empty,
+/// until more than half of the slots are. Contracts see the list of properties.
 #[derive(Drop)]
 pub(crate) struct Properties {
     slots: Vec<Option<Property>>,
@@ -103,7 +106,8 @@ fn slot_at(slots: &[Option<Property>], i: usize) -> Option<&Property>
 
 /// Sets the value of the property in a slot.
 fn set_value(slot: &mut Option<Property>, v: Value)
-    ensures { slot.new ≡ option_map (λ (q : Property). record q { content = contents.Value v }) slot.old }
+    ensures { slot.new
+        ≡ option_map (λ (q : Property). record q { content = contents.Value v }) slot.old }
 {
     match slot {
         None => return,
@@ -113,7 +117,8 @@ fn set_value(slot: &mut Option<Property>, v: Value)
 
 /// Sets the content and the attributes of the property in a slot.
 fn define(slot: &mut Option<Property>, content: Content, attrs: Attrs)
-    ensures { slot.new ≡ option_map (λ (q : Property). record q { content = content; attrs = attrs }) slot.old }
+    ensures { slot.new ≡ option_map
+        (λ (q : Property). record q { content = content; attrs = attrs }) slot.old }
 {
     match slot {
         None => return,
@@ -127,7 +132,8 @@ fn define(slot: &mut Option<Property>, content: Content, attrs: Attrs)
 /// Sets all but the name of the property in a slot.
 fn put(slot: &mut Option<Property>, content: Content, attrs: Attrs, shared: bool)
     ensures { slot.new ≡ option_map
-        (λ (q : Property). record q { content = content; attrs = attrs; shared = shared }) slot.old }
+        (λ (q : Property). record q { content = content; attrs = attrs; shared = shared })
+        slot.old }
 {
     match slot {
         None => return,
@@ -307,7 +313,8 @@ impl Properties {
 
     /// The property of a name.
     pub(crate) fn get(&self, name: &Text16) -> Option<&Property>
-        ensures { option_map (λ q. q.now) result ≡ find (λ (q : Property). same_text q.name name.now) self.now }
+        ensures { option_map (λ q. q.now) result
+            ≡ find (λ (q : Property). same_text q.name name.now) self.now }
     {
         match slot_of(self.slots.as_slice(), &self.places, name) {
             Some(i) => slot_at(self.slots.as_slice(), i),
@@ -315,7 +322,8 @@ impl Properties {
         }
     }
 
-    /// Puts a property behind the others, of which none has its name. After `Memory` the properties are as they were.
+    /// Puts a property behind the others, of which none has its name. After `Memory` the properties
+    /// are as they were.
     fn push(&mut self, alloc: Global, property: Property) -> Result<(), Memory>
         requires { find (λ (q : Property). same_text q.name property.name) self.old ≡ None }
         ensures pushed { OnOk result (self.new ≡ self.old ++ property ∷ []) }
@@ -327,8 +335,8 @@ impl Properties {
         Ok(())
     }
 
-    /// Sets the value of a property: its attributes stay, and a new property comes last and has none. After `Memory` the
-    /// properties are as they were.
+    /// Sets the value of a property: its attributes stay, and a new property comes last and has
+    /// none. After `Memory` the properties are as they were.
     pub(crate) fn set_value(&mut self, alloc: Global, name: &Text16, v: Value) -> Result<(), Memory>
         ensures written { OnOk result (self.new ≡ spec.with_value self.old name.now v) }
         ensures kept { OnErr result (self.new ≡ self.old) }
@@ -355,7 +363,8 @@ impl Properties {
 
     /// Sets the value of a property that is there: its attributes stay. It takes no memory.
     pub(crate) fn replace_value(&mut self, name: &Text16, v: Value)
-        ensures { self.new ≡ (if is_some (find (λ (q : Property). same_text q.name name.now) self.old)
+        ensures { self.new
+            ≡ (if is_some (find (λ (q : Property). same_text q.name name.now) self.old)
             then spec.with_value self.old name.now v
             else self.old) }
     {
@@ -365,8 +374,8 @@ impl Properties {
         }
     }
 
-    /// Sets the content and the attributes of a property, which comes last where it is new. After `Memory` the properties
-    /// are as they were.
+    /// Sets the content and the attributes of a property, which comes last where it is new. After
+    /// `Memory` the properties are as they were.
     pub(crate) fn define(
         &mut self,
         alloc: Global,
@@ -397,8 +406,8 @@ impl Properties {
         }
     }
 
-    /// Puts a property in place of the one of its name, or behind the others. After `Memory` the properties are as they
-    /// were.
+    /// Puts a property in place of the one of its name, or behind the others. After `Memory` the
+    /// properties are as they were.
     pub(crate) fn put(
         &mut self,
         alloc: Global,
@@ -475,7 +484,8 @@ impl Properties {
 
     /// Removes the elements from a new length of an array on, below the old one (ES3 15.4.5.1).
     pub(crate) fn cut(&mut self, new: u32, old: i64)
-        ensures { self.new ≡ filter (λ (q : Property). not (spec.is_cut new (Some old) q)) self.old }
+        ensures { self.new
+            ≡ filter (λ (q : Property). not (spec.is_cut new (Some old) q)) self.old }
     {
         self.slots.retain(
             |slot: &Option<Property>| -> bool
