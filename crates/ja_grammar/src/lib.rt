@@ -2,8 +2,9 @@
 //! the language is, and where any other text is refused.
 //!
 //! Definitions and laws alone. The public laws (`laws.rt`): two refusals of one text that say why
-//! are the same, one kind and one place (`refused_once`); and of nine texts which refusal it is
-//! (`these_are_right`), and of some that it is no other (`others_are_wrong`).
+//! are the same, one kind and one place (`refused_once`); no text that is refused is of the
+//! language (`refused_is_none`); and of nine texts which refusal it is (`these_are_right`), and of
+//! some that it is no other (`others_are_wrong`).
 //!
 //! The laws that the parser cites are in `proofs/`: what is read is related and what is related is
 //! read, so a text has one tree; a text is refused at the first token with which none goes on, and

@@ -7,10 +7,13 @@
 //!
 //! Laws of the table (`table_laws.rt`, `opening_laws.rt`): each property, site and function has its
 //! name, each object its prototype and each property its attributes as they are told in
-//! `specs/Table.antt`; the objects are well formed. Laws of the texts (`laws.rt`): each is in the
-//! language and is one function of the table, with as many parameters as its `length` says; its
-//! nodes are allowed in any program; it stops only where that is told; and a default value comes of
-//! both methods in the order of its hint. What else a text does is compared with the section of ES3
+//! `specs/Table.antt`; each object has the value and the properties, in order and with what they
+//! hold, that `specs/Described.antt` writes out, and names are numbered in this order; the objects
+//! are well formed. Laws of the texts (`laws.rt`): each is in the language, has one tree by the
+//! grammar, and is one function of the table, with as many parameters as its `length` says; its
+//! nodes are allowed in any program; it stops only where that is told; a default value comes of
+//! both methods in the order of its hint; and the functions of errors have one text, but for the
+//! name of their kind. What else a text does is compared with the section of ES3
 //! that stands beside it.
 #![tactic(auto)]
 

@@ -4,8 +4,8 @@
 //! `run` gives the run of at most so many steps under the answers that its devices gave, in order:
 //! the calls, the end and the number of steps. Each device that tells it has heard just the run's
 //! calls of it, arguments included, and one that failed was asked where the run stands. Where
-//! memory is refused, devices have answered the calls of some first steps. `run_text` is exactly
-//! the transcript.
+//! memory is refused, devices have answered exactly the calls of some first steps, and none has
+//! failed. `run_text` is exactly the transcript.
 //!
 //! Laws (`laws.rt`): the answers that are given fit what is wanted, where devices answer within
 //! their kinds; a program has one run of at most so many steps under the same answers; and a run to

@@ -35,8 +35,9 @@
 //! - **the devices**: each comes back, in its place, but for the one that failed where the
 //!   transcript says so. What a device that tells it has heard is what the transcript says it
 //!   answered, in order and with the arguments, and nothing else of it has changed. After 16 each
-//!   comes back, and has heard no more than the calls of some first steps. What is seen of one
-//!   changes only in a `run`.
+//!   comes back, and they have answered exactly the calls of some first steps of the run, or those
+//!   of the whole run, the one that failed at its end among them (`MayBeLeft` in `specs/Runs.antt`).
+//!   What is seen of one changes only in a `run`.
 #![tactic(auto)]
 
 mod analysis;
