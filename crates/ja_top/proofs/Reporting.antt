@@ -99,11 +99,14 @@ module _ (c : Call) (bytes : List ℕ) (text : List ℕ) (input : IsInput c byte
   ran steps TooLong command h = absurd h
   ran steps Memory command h = absurd h
 
-  -- what a command comes to on the bytes that were read is an answer
-  pub answers : (asked : Command) (status : Status) → AsksFor c.words (Some asked)
-      → Follows asked bytes c.devices c.devices_after status text → HasCause c status text
-  answers command.Analyse status asks h = analysed status asks h.0 h.1
-  answers (command.Run steps) status asks h = ran steps status asks h
+-- what a command comes to on the bytes that were read is an answer
+pub answers : (c : Call) (bytes : List ℕ) (asked : Command) (status : Status) (text : List ℕ)
+    → AsksFor c.words (Some asked) → IsInput c bytes
+    → Follows asked bytes c.devices c.devices_after status text → HasCause c status text
+answers c bytes command.Analyse status text asks input h =
+    analysed c bytes text input status asks h.0 h.1
+answers c bytes (command.Run steps) status text asks input h =
+    ran c bytes text input steps status asks h
 
 -- an answer with its cause that was written is answered
 pub answered : (c : Call) (w : Written) (status : Status) (text : List ℕ) → HasCause c status text

@@ -10,10 +10,9 @@ returns-in_ok-answer-in-Ok-clause-cause g c = λ words asks.
     let before = c.args.devices.now in
     let after = c.follow.new.devices in
     let A : List ℕ → Type 0 = λ b. Follows c.args.command b before after status text in
-    let input = record {
+    let follows = subst A c.deref.ensures.value c.in_ok-answer-in-Ok.ensures.answer in
+    answers _ c.in-Ok.bytes.items c.args.command status text asks (record {
       took = c.in-Ok.ensures.whole;
       end = c.in-Ok.ensures.end;
       within = c.in-Ok.ensures.within;
-    } in
-    let follows = subst A c.deref.ensures.value c.in_ok-answer-in-Ok.ensures.answer in
-    answers _ c.in-Ok.bytes.items text input c.args.command status asks follows
+    }) follows
