@@ -52,7 +52,7 @@ statement_list::statement-returns-in-For t c =
 pub statement_list::statement-returns-in-ForIn : goal.statement_list::statement-returns-in-ForIn
 statement_list::statement-returns-in-ForIn t c =
     let e = does_for_in c.in-ForIn.target c.in-ForIn.object c.in-ForIn.body c.in-ForIn.place (around_of c.args.around.now) c.args.base c.args.draft.now in
-    let h = rw c.get-in-ForIn.ensures at c.for_in_loop.ensures in
+    let h = rw (c.get-in-ForIn.ensures, c.get-in-ForIn-2.ensures) at c.for_in_loop.ensures in
     rw (c.in-ForIn.is, e) h
 
 pub statement_list::statement-returns-in-Continue : goal.statement_list::statement-returns-in-Continue
