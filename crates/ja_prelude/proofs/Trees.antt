@@ -2,6 +2,7 @@
 use Rattle.std.proofs.Common.{◌≡◌, ℕ, true, Ok, refl, sym, subst, ◌∙◌}
 use Rattle.std.proofs.Common.{List, [], ◌∷◌, ◌++◌}
 use Rattle.std.specs.List.{flat_map, list_all}
+use Rattle.ja_base.proofs.Tests.{and_left_true, and_right_true}
 use Rattle.ja_grammar.specs.Answering.{Answers}
 use Rattle.ja_grammar.specs.Input.{Tokens, strict, Outcome, Done, Refused}
 use Rattle.ja_grammar.specs.Language.{Spells, max_levels}
@@ -13,7 +14,6 @@ use Rattle.ja_prelude.specs.Prelude.{prelude_statements}
 use Rattle.ja_prelude.specs.Reading.{AreSpelled, is_read, is_text, numbered, statements_in, tree_of}
 use Rattle.ja_prelude.specs.Texts.{prelude_texts}
 use Rattle.ja_prelude.proofs.Facts.{spelled, texts_are_read}
-use Rattle.ja_prelude.proofs.ListLemmas.{and_first, and_second}
 
 -- ---- of one text
 
@@ -38,8 +38,8 @@ all_spelled : (texts : List (List ℕ)) → list_all is_text texts ≡ true
     → AreSpelled texts (flat_map tree_of texts)
 all_spelled [] read = refl
 all_spelled (text ∷ texts) read =
-    let first = and_first (is_text text) (list_all is_text texts) read in
-    let others = and_second (is_text text) (list_all is_text texts) read in
+    let first = and_left_true (is_text text) (list_all is_text texts) read in
+    let others = and_right_true (is_text text) (list_all is_text texts) read in
     let tree = tree_of text in
     (tree, flat_map tree_of texts, spelled text first, all_spelled texts others, refl)
 
@@ -48,8 +48,8 @@ all_only : (texts : List (List ℕ)) → list_all is_text texts ≡ true
     → statements ≡ flat_map tree_of texts
 all_only [] read statements is = is
 all_only (text ∷ texts) read statements is =
-    let first = and_first (is_text text) (list_all is_text texts) read in
-    let others = and_second (is_text text) (list_all is_text texts) read in
+    let first = and_left_true (is_text text) (list_all is_text texts) read in
+    let others = and_right_true (is_text text) (list_all is_text texts) read in
     let here = one text first max_levels is.0 is.2 in
     let behind = all_only texts others is.1 is.3 in
     is.4 ∙ (λ k. here k ++ behind k)
