@@ -555,10 +555,16 @@ fn refusal(alloc: Global, names: &[&str]) -> Result<String, Memory> {
     }
 }
 
+/// Whether some names are refused with a message.
+fn is_refused(alloc: Global, names: &[&str], message: &str) -> Result<bool, Memory> {
+    let found = refusal(alloc, names)?;
+    Ok(found.as_str() == message)
+}
+
 /// The message of the first names that are refused with another one.
 fn first_wrong_refusal(alloc: Global) -> Result<Option<&'static str>, Memory> {
     for (names, message) in &REFUSALS {
-        if refusal(alloc, names)?.as_str() != *message {
+        if !is_refused(alloc, names, message)? {
             return Ok(Some(*message));
         }
     }
