@@ -1,3 +1,2 @@
 pub mod Devices
-pub mod Signatures
-pub mod Scripts
+pub mod code

@@ -11,7 +11,7 @@ use Rattle.ja_grammar.specs.declared.fault.Refusal.{Refusal}
 use Rattle.ja_grammar.specs.declared.fault.Refusal.TheVariants as refusal
 use Rattle.ja_grammar.specs.Forms.{begins_suffix, is_label_behind}
 use Rattle.ja_grammar.specs.Input.{Tokens, symbol, next, head, behind, Outcome, Done, Refused, strict}
-use Rattle.ja_grammar.specs.Answering.{Answers}
+use Rattle.ja_grammar.specs.code.Answering.{Answers}
 use Rattle.ja_grammar.specs.Language.{max_levels, Spells, IsText, is_level, is_same, same_place, spared, without, AreReal, Follows, GoesOn, IsTextWithout, IsForbidden, NoSuffix, NoLabel, Stands, Because, fault_at, IsRefused, Explains}
 use Rattle.ja_grammar.specs.Productions.{At}
 use Rattle.ja_grammar.specs.ReadStatement.{program}

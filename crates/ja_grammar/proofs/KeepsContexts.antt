@@ -4,7 +4,7 @@ use Rattle.std.specs.Cmp.Lexicographic.{nat_list_eq_equiv}
 use Rattle.std.specs.List.{list_any}
 use Rattle.std.specs.Str.{bytes_eq}
 use Rattle.ja_base.proofs.Tests.{or_right_true}
-use Rattle.ja_syntax.specs.Jumps.{Around, around_body, within, within_loop, within_switch, labelled, is_among}
+use Rattle.ja_syntax.specs.code.Jumps.{Around, around_body, within, within_loop, within_switch, labelled, is_among}
 use Rattle.ja_grammar.specs.Contexts.{Label, Context, program_context, function_context, loop_context, switch_context, labelled_context, has_label, has_loop, marked}
 
 abbrev pub names : List Label → List (List ℕ)

@@ -14,8 +14,8 @@ use Rattle.ja_syntax.specs.declared.tree.Property.{Property}
 use Rattle.ja_syntax.specs.declared.tree.Statement.{Statement}
 use Rattle.ja_syntax.specs.declared.tree.Suffix.{Suffix}
 use Rattle.ja_syntax.specs.References.{is_reference}
-use Rattle.ja_syntax.specs.Rules.{may_declare, may_declare_any, FunctionKeepsRules}
-use Rattle.ja_syntax.specs.Jumps.{around_body, jumps_well, body_jumps_well}
+use Rattle.ja_syntax.specs.code.Rules.{may_declare, may_declare_any, FunctionKeepsRules}
+use Rattle.ja_syntax.specs.code.Jumps.{around_body, jumps_well, body_jumps_well}
 use Rattle.ja_syntax.specs.Symbols.{is_arguments, names_arguments, word_of}
 use Rattle.ja_grammar.specs.declared.fault.Refusal.TheVariants as refusal
 use Rattle.ja_grammar.specs.declared.part.ExpressionPart.{ExpressionPart}

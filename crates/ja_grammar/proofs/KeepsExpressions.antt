@@ -20,7 +20,7 @@ use Rattle.ja_syntax.specs.declared.tree.Expression.TheVariants.{rolls-This, rol
 use Rattle.ja_syntax.specs.declared.tree.Expression.TheOpen.{Expression-F}
 use Rattle.ja_syntax.specs.declared.tree.Expression.TheFolds.{map-Expression, every-Expression, every-Statement, every-Case, every_made-Expression}
 use Rattle.ja_syntax.specs.References.{is_reference}
-use Rattle.ja_syntax.specs.Rules.{ExpressionKeepsRules, StatementKeepsRules, FunctionKeepsRules}
+use Rattle.ja_syntax.specs.code.Rules.{ExpressionKeepsRules, StatementKeepsRules, FunctionKeepsRules}
 
 -- ---- every expression, statement and clause in one keeps the rules
 

@@ -15,7 +15,7 @@ use Rattle.ja_syntax.specs.declared.tree.Statement.TheVariants.{rolls-Block, rol
 use Rattle.ja_syntax.specs.declared.tree.Expression.{Expression}
 use Rattle.ja_syntax.specs.declared.tree.Expression.TheOpen.{Statement-F}
 use Rattle.ja_syntax.specs.declared.tree.Expression.TheFolds.{fold-Expression, fold-Case, fold-roll-Statement, fold-roll-Case, map-Statement}
-use Rattle.ja_syntax.specs.Jumps.{Around, Judged, within, within_loop, within_switch, labelled, is_among, jumps_step, jumps_in_case, jumps_well, all_keep, may_continue, may_break}
+use Rattle.ja_syntax.specs.code.Jumps.{Around, Judged, within, within_loop, within_switch, labelled, is_among, jumps_step, jumps_in_case, jumps_well, all_keep, may_continue, may_break}
 
 -- the judgement of a clause
 abbrev pub case_well : Case → Judged

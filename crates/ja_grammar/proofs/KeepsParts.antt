@@ -5,7 +5,7 @@ use Rattle.ja_syntax.specs.declared.symbol.Symbol.{Symbol}
 use Rattle.ja_syntax.specs.declared.tree.Expression.{Expression}
 use Rattle.ja_syntax.specs.declared.tree.Statement.{Statement}
 use Rattle.ja_syntax.specs.References.{is_reference}
-use Rattle.ja_syntax.specs.Jumps.{Around, within, within_loop}
+use Rattle.ja_syntax.specs.code.Jumps.{Around, within, within_loop}
 use Rattle.ja_grammar.specs.declared.part.ExpressionPart.{ExpressionPart}
 use Rattle.ja_grammar.specs.declared.part.ExpressionPart.TheVariants as of_expression
 use Rattle.ja_grammar.specs.declared.part.StatementPart.{StatementPart}

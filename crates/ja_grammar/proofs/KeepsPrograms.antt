@@ -9,8 +9,8 @@ use Rattle.ja_syntax.specs.declared.tree.Expression.{Expression}
 use Rattle.ja_syntax.specs.declared.tree.ForFirst.{ForFirst}
 use Rattle.ja_syntax.specs.declared.tree.ForTarget.TheVariants as target
 use Rattle.ja_syntax.specs.declared.tree.Statement.{Statement}
-use Rattle.ja_syntax.specs.Rules.{KeepsRules, first_may_declare}
-use Rattle.ja_syntax.specs.Jumps.{around_body, within, within_loop}
+use Rattle.ja_syntax.specs.code.Rules.{KeepsRules, first_may_declare}
+use Rattle.ja_syntax.specs.code.Jumps.{around_body, within, within_loop}
 use Rattle.ja_grammar.specs.declared.part.ExpressionPart.TheVariants as of_expression
 use Rattle.ja_grammar.specs.declared.part.StatementPart.{StatementPart}
 use Rattle.ja_grammar.specs.declared.part.StatementPart.TheVariants as part

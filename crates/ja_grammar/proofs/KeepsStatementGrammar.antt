@@ -12,8 +12,8 @@ use Rattle.ja_syntax.specs.declared.tree.Expression.TheOpen.{Case-F}
 use Rattle.ja_syntax.specs.declared.tree.Expression.TheViews.{out-roll-Case}
 use Rattle.ja_syntax.specs.declared.tree.Name.{Name}
 use Rattle.ja_syntax.specs.declared.tree.Statement.{Statement}
-use Rattle.ja_syntax.specs.Rules.{may_declare, may_declare_all, is_default}
-use Rattle.ja_syntax.specs.Jumps.{Around, within, within_switch, labelled, may_continue, may_break}
+use Rattle.ja_syntax.specs.code.Rules.{may_declare, may_declare_all, is_default}
+use Rattle.ja_syntax.specs.code.Jumps.{Around, within, within_switch, labelled, may_continue, may_break}
 use Rattle.ja_grammar.specs.declared.fault.Refusal.TheVariants as refusal
 use Rattle.ja_grammar.specs.declared.part.ExpressionPart.TheVariants as of_expression
 use Rattle.ja_grammar.specs.declared.part.StatementPart.TheVariants as part

@@ -17,7 +17,7 @@ use Rattle.ja_syntax.specs.declared.tree.Statement.TheVariants.{rolls-Block, rol
 use Rattle.ja_syntax.specs.declared.tree.Expression.{Expression}
 use Rattle.ja_syntax.specs.declared.tree.Expression.TheOpen.{Statement-F, Case-F}
 use Rattle.ja_syntax.specs.declared.tree.Expression.TheFolds.{map-Statement, map-Case, every_made-Statement, every_made-Case}
-use Rattle.ja_syntax.specs.Rules.{ExpressionKeepsRules, StatementKeepsRules, FunctionKeepsRules, TryKeepsRules, may_declare_all, first_may_declare, is_target, is_default}
+use Rattle.ja_syntax.specs.code.Rules.{ExpressionKeepsRules, StatementKeepsRules, FunctionKeepsRules, TryKeepsRules, may_declare_all, first_may_declare, is_target, is_default}
 use Rattle.ja_grammar.proofs.KeepsExpressions.{ExpressionKeeps, StatementKeeps, CaseKeepsRules, With, pairs, firsts, makes, made_of, function_with}
 
 -- one level of a statement, whose parts come with the fact

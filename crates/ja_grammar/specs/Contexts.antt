@@ -1,9 +1,7 @@
 -- What stands around a statement, within its function.
-use Rattle.std.specs.Prelude.{ℕ, zero, suc, Bool, true, false, not, ◌&&◌, ◌||◌, ◌==◌, List, [], ◌∷◌, length, map}
+use Rattle.std.specs.Prelude.{ℕ, zero, suc, Bool, true, false, not, ◌&&◌, ◌||◌, ◌==◌, List, [], ◌∷◌, length}
 use Rattle.std.specs.List.{list_any}
 use Rattle.std.specs.Str.{bytes_eq}
-use Rattle.ja_grammar.specs.declared.context.Context.{Context as Stored}
-use Rattle.ja_grammar.specs.declared.context.Label.{Label as StoredLabel}
 
 -- a label (12.12), and whether its statement is a loop
 pub record Label : Type 0 where
@@ -16,13 +14,6 @@ pub record Context : Type 0 where
   pub in_loop : Bool
   pub in_breakable : Bool
   pub labels : List Label
-
-abbrev pub label_of : StoredLabel → Label
-label_of l = record { name = l.name.now; is_loop = l.is_loop }
-
--- what a stored context says
-abbrev pub context_of : Stored → Context
-context_of c = record { in_function = c.in_function; in_loop = c.in_loop; in_breakable = c.in_breakable; labels = map label_of c.labels.items }
 
 -- around the statements of the program, and of a function's body
 abbrev pub program_context : Context

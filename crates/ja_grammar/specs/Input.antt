@@ -1,5 +1,5 @@
 -- What reads tokens: how reading ends, and the steps that every rule is made of.
-use Rattle.std.specs.Prelude.{◌≡◌, ℕ, zero, suc, Bool, true, false, ◌==◌, if◌then◌else◌, List, [], ◌∷◌, ◌++◌, length, Option, Some, None, Result, Ok, Err}
+use Rattle.std.specs.Prelude.{ℕ, zero, suc, Bool, true, false, ◌==◌, if◌then◌else◌, List, [], ◌∷◌, ◌++◌, length, Option, Some, None}
 use Rattle.ja_lex.specs.declared.token.Token.{Token}
 use Rattle.ja_lex.specs.declared.token.TokenKind.TheVariants.{End}
 use Rattle.ja_syntax.specs.declared.symbol.Symbol.{Symbol}
@@ -7,8 +7,6 @@ use Rattle.ja_syntax.specs.declared.symbol.Symbol.TheVariants.{Comma}
 use Rattle.ja_syntax.specs.Symbols.{symbol_of, same_symbol}
 use Rattle.ja_grammar.specs.declared.fault.Refusal.{Refusal}
 use Rattle.ja_grammar.specs.declared.fault.Refusal.TheVariants.{Unexpected, Deep, DeepLabel}
-use Rattle.ja_grammar.specs.declared.fault.Stop.{Stop}
-use Rattle.ja_grammar.specs.declared.fault.Stop.TheVariants.{Refused as IsRefused, Memory}
 
 abbrev pub Tokens : Type 0
 Tokens = List Token
@@ -144,10 +142,3 @@ listed_by close item false = separated item >>= (λ xs. expect close >> pure xs)
 -- any number of items with commas between, and a closing token behind
 unfoldable pub listed : {A : Type 0} → Symbol → Parser A → Parser (List A)
 listed close item = look (λ t. listed_by close item (same_symbol (symbol t) close))
-
--- ---- what a function that reads ensures: the outcome, unless memory was refused
-
-abbrev pub Follows : {A : Type 0} → Outcome A → Result A Stop → Tokens → Type 0
-Follows outcome (Ok a) new = outcome ≡ Done a new
-Follows outcome (Err (IsRefused why)) new = outcome ≡ Refused why new
-Follows outcome (Err Memory) new = Unit {0}

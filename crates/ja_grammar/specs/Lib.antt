@@ -1,4 +1,3 @@
-pub mod Answering
 pub mod Contexts
 pub mod ExpressionGrammar
 pub mod Forms
@@ -9,3 +8,4 @@ pub mod Productions
 pub mod ReadExpression
 pub mod ReadStatement
 pub mod StatementGrammar
+pub mod code

@@ -6,7 +6,7 @@ use Rattle.ja_graph.specs.declared.node.NodeInfo.{NodeInfo}
 use Rattle.ja_graph.specs.declared.program.Function.{Function}
 use Rattle.ja_graph.specs.declared.program.Program.{Program}
 use Rattle.ja_graph.specs.Node.{Making, makings}
-use Rattle.ja_graph.specs.Parts.{AreNumbered, EndsAt, AreSitesNumbered}
+use Rattle.ja_graph.specs.code.Parts.{AreNumbered, EndsAt, AreSitesNumbered}
 use Rattle.ja_graph.specs.WellFormed.{OwnedMaking, IsSiteTold, owned, makings_of, makings_from}
 
 -- the number of a site

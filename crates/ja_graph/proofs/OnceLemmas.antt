@@ -3,7 +3,7 @@ use Rattle.std.proofs.Common.{◌≡◌, ℕ, ◌+◌, ◌<◌, ◌≤◌, ◌�
 use Rattle.std.specs.List.{slice_get}
 use Rattle.std.proofs.lemmas.Option.{slice_get_within}
 use Rattle.ja_graph.specs.declared.program.PropertySpec.{PropertySpec}
-use Rattle.ja_graph.specs.Parts.{IsPropertyBefore, AreOnce, IsAmong, AreDistinct}
+use Rattle.ja_graph.specs.code.Parts.{IsPropertyBefore, AreOnce, IsAmong, AreDistinct}
 use Rattle.ja_graph.proofs.EachLemmas.{lt_or_same, same_some}
 
 -- properties of one name

@@ -3,7 +3,7 @@ use Rattle.std.proofs.Common.{◌≡◌, ◌<◌, List, [], ◌∷◌, length, S
 use Rattle.std.specs.List.{slice_get}
 use Rattle.ja_base.proofs.Lists.{first_element}
 use Rattle.ja_graph.specs.declared.program.Program.{Program}
-use Rattle.ja_graph.specs.Parts.{HasFunctions, HasSites, HasOpening, HasNames}
+use Rattle.ja_graph.specs.code.Parts.{HasFunctions, HasSites, HasOpening, HasNames}
 use Rattle.ja_graph.specs.WellFormed.{IsWellFormed}
 
 pub whole_from_parts : (p : Program) → HasFunctions p → HasSites p → HasOpening p → HasNames p → IsWellFormed p

@@ -1,7 +1,7 @@
 //! The parts of a program by their numbers. None takes memory.
 
 ghost use Rattle.std.specs.Prelude.{◌≡◌, ◌<◌, ◌≤◌, ◌^◌, Some, length, slice_get};
-ghost use Rattle.ja_graph.specs.Parts as spec;
+ghost use Rattle.ja_graph.specs.code.Parts as spec;
 
 use crate::{Function, Hint, ObjectSpec, Program, SiteInfo};
 use ja_base::{FnId, NameId, Site};

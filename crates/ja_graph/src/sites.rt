@@ -43,7 +43,7 @@ impl Model for NodeMakings {
 
     ghost Value = { List graph.Making };
 
-    ghost use Rattle.ja_graph.specs.Makings.{listed};
+    ghost use Rattle.ja_graph.specs.code.Makings.{listed};
 
     ghost view = { λ m. listed m.few };
 }

@@ -1,7 +1,7 @@
 //! Whether the names of a program are those that it needs, each once.
 
 ghost use Rattle.std.specs.Prelude.{◌≡◌, ◌↔◌, ◌≤◌, IsTrue, length, map, take};
-ghost use Rattle.ja_graph.specs.Parts as spec;
+ghost use Rattle.ja_graph.specs.code.Parts as spec;
 ghost use Rattle.ja_graph.specs.WellFormed.{builtin_names};
 
 use crate::BUILTIN_NAMES;

@@ -1,7 +1,7 @@
 //! Whether the objects that are there when a run begins are well formed.
 
 ghost use Rattle.std.specs.Prelude.{◌↔◌, ◌<◌, ◌≤◌, IsTrue, IsSome, length};
-ghost use Rattle.ja_graph.specs.Parts as spec;
+ghost use Rattle.ja_graph.specs.code.Parts as spec;
 ghost use Rattle.ja_graph.specs.Program.{object_spec};
 ghost use Rattle.ja_graph.specs.WellFormed as graph;
 

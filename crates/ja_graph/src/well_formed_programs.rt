@@ -1,7 +1,7 @@
 //! Whether a program is well formed.
 
 ghost use Rattle.std.specs.Prelude.{◌↔◌, ◌<◌, IsTrue};
-ghost use Rattle.ja_graph.specs.Parts as spec;
+ghost use Rattle.ja_graph.specs.code.Parts as spec;
 ghost use Rattle.ja_graph.specs.WellFormed.{IsWellFormed};
 
 use crate::Program;

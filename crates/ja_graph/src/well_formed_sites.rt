@@ -3,7 +3,7 @@
 ghost use Rattle.std.specs.Prelude.{◌↔◌, ◌<◌, ◌∷◌, [], IsTrue, length, map};
 ghost use Rattle.std.specs.List.{AllByRecursion};
 ghost use Rattle.ja_graph.specs.Node.{makings};
-ghost use Rattle.ja_graph.specs.Parts as spec;
+ghost use Rattle.ja_graph.specs.code.Parts as spec;
 ghost use Rattle.ja_graph.specs.WellFormed as graph;
 
 use crate::well_formed_nodes::is_function_if_any;

@@ -17,8 +17,9 @@ use Rattle.ja_machine.specs.declared.machine.Value.{Value}
 use Rattle.ja_prim.specs.Texts.{same_text}
 use Rattle.ja_machine.specs.Heap.{no_attrs}
 use Rattle.ja_machine.specs.Objects.{with_property}
-use Rattle.ja_machine.specs.Writes.{new_property, with_value, with_definition, without, shared_from_now}
-use Rattle.ja_heap.specs.Slots.{live, has_name, slot_of, slot_at, IsApart, IsPlaced, IsWithout, HasPlaces, HasSlot, changed_at, shown}
+use Rattle.ja_machine.specs.Writes.{new_property, with_value, with_definition, without}
+use Rattle.ja_machine.specs.code.Writes.{shared_from_now}
+use Rattle.ja_heap.specs.code.Slots.{live, has_name, slot_of, slot_at, IsApart, IsPlaced, IsWithout, HasPlaces, HasSlot, changed_at, shown}
 
 -- texts are equal that the test calls the same
 text_same : (t u : List ℕ) → same_text t u ≡ true → t ≡ u

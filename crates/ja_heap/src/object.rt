@@ -6,6 +6,7 @@ ghost use Rattle.ja_machine.specs.Heap.{property_of};
 ghost use Rattle.ja_machine.specs.Objects.{object_with};
 ghost use Rattle.ja_machine.specs.Objects as objects;
 ghost use Rattle.ja_machine.specs.Writes as spec;
+ghost use Rattle.ja_machine.specs.code.Writes as code;
 
 use crate::properties::Properties;
 use ja_base::Memory;
@@ -156,7 +157,7 @@ impl Object {
     /// Shares a property from now on, if it is there.
     pub fn share(&mut self, name: &Text16)
         ensures { self.new ≡ record self.old {
-          properties = map (spec.shared_from_now name.now) self.old.properties;
+          properties = map (code.shared_from_now name.now) self.old.properties;
         } }
     {
         self.properties.share(name);

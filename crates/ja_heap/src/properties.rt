@@ -12,7 +12,8 @@ ghost use Rattle.ja_machine.specs.declared.machine.Property.{Property};
 ghost use Rattle.ja_machine.specs.Enumeration.{is_enumerable};
 ghost use Rattle.ja_machine.specs.Objects.{with_property};
 ghost use Rattle.ja_machine.specs.Writes as spec;
-ghost use Rattle.ja_heap.specs.Slots as kept;
+ghost use Rattle.ja_machine.specs.code.Writes as code;
+ghost use Rattle.ja_heap.specs.code.Slots as kept;
 
 use ja_base::Memory;
 use ja_graph::Attrs;
@@ -47,7 +48,7 @@ pub(crate) struct Properties {
 impl Model for Properties {
     ghost use Rattle.std.specs.Prelude.{List};
     ghost use Rattle.ja_machine.specs.declared.machine.Property.{Property};
-    ghost use Rattle.ja_heap.specs.Slots.{live, IsApart, IsPlaced};
+    ghost use Rattle.ja_heap.specs.code.Slots.{live, IsApart, IsPlaced};
 
     ghost Value = { List Property };
 
@@ -474,7 +475,7 @@ impl Properties {
 
     /// Shares a property from now on, if it is there.
     pub(crate) fn share(&mut self, name: &Text16)
-        ensures { self.new ≡ map (spec.shared_from_now name.now) self.old }
+        ensures { self.new ≡ map (code.shared_from_now name.now) self.old }
     {
         match slot_of(self.slots.as_slice(), &self.places, name) {
             None => return,

@@ -9,6 +9,7 @@ ghost use Rattle.ja_machine.specs.declared.machine.Property.{Property};
 ghost use Rattle.ja_machine.specs.declared.machine.Put.TheVariants.{Done};
 ghost use Rattle.ja_machine.specs.Heap.{object_at, with_object, property_of};
 ghost use Rattle.ja_machine.specs.Writes as spec;
+ghost use Rattle.ja_machine.specs.code.Writes as code;
 
 use crate::{Heap, Object};
 use ja_base::Memory;
@@ -243,7 +244,7 @@ impl Heap {
 
     /// Marks an own property, if it is there: from now on a parameter and an element of `arguments` share its value (ES3 10.1.8).
     pub fn mark(&mut self, a: Addr, name: &Text16)
-        ensures { self.new ≡ spec.changed self.old a (λ (o : Object). record o { properties = map (spec.shared_from_now name.now) o.properties }) }
+        ensures { self.new ≡ spec.changed self.old a (λ (o : Object). record o { properties = map (code.shared_from_now name.now) o.properties }) }
     {
         let objects = match self.objects.get_mut(a.site.0 as usize) {
             None => return,

@@ -1,9 +1,9 @@
 pub mod Spots
 pub mod Blanks
-pub mod Classes
 pub mod Words
 pub mod Numbers
 pub mod Strings
 pub mod Marks
 pub mod Tokens
 pub mod Laws
+pub mod code

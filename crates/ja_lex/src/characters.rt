@@ -1,7 +1,7 @@
 ghost use Rattle.std.specs.Prelude.{◌≡◌, ◌≤◌, true, drop, length, IfOk};
 ghost use Rattle.std.specs.List.{list_all, prefix_len, take_while};
 ghost use Rattle.ja_prim.specs.Characters as spec;
-ghost use Rattle.ja_lex.specs.Classes.{passes};
+ghost use Rattle.ja_lex.specs.code.Classes.{passes};
 
 use ja_prim::units_of;
 use std::alloc::{AllocFailed, Global};

@@ -15,7 +15,8 @@ use Rattle.ja_syntax.specs.declared.tree.Statement.{Statement}
 use Rattle.ja_syntax.specs.declared.tree.Expression.{Expression, roll-Expression}
 use Rattle.ja_syntax.specs.declared.tree.Expression.TheOpen.{Expression-F}
 use Rattle.ja_syntax.specs.declared.tree.Expression.TheFolds.{fold-roll-Expression, para-roll-Expression, ind-Expression, map-Expression}
-use Rattle.ja_lower_names.specs.TextOrder.{Part, a_function, a_name, Parts, in_literal, expression_step, statement_step, case_step, in_expression, in_statement, in_case}
+use Rattle.ja_lower_names.specs.TextOrder.{Part, a_function, a_name, Parts, in_literal, expression_step, statement_step, case_step, in_statement}
+use Rattle.ja_lower_names.specs.code.TextOrder.{in_expression, in_case}
 use Rattle.ja_lower_expressions.specs.References.{Form}
 use Rattle.ja_lower_expressions.specs.Expressions.{apply_operations, form_step, form}
 use Rattle.ja_load.specs.Built.{Read, is_excluded, behind, read_suffix, read_chain, read_update, is_logical, read_assignment, read_expression, read}

@@ -13,7 +13,8 @@ use Rattle.ja_syntax.specs.declared.tree.Expression.{Expression}
 use Rattle.ja_syntax.specs.declared.tree.Expression.TheOpen.{Statement-F}
 use Rattle.ja_syntax.specs.declared.tree.Expression.TheFolds.{fold-roll-Statement, para-roll-Statement, ind-Statement, map-Statement}
 use Rattle.ja_syntax.specs.declared.tree.Expression.TheViews.{out-roll-Statement}
-use Rattle.ja_lower_names.specs.TextOrder.{a_function, a_name, Parts, if_function, expression_step, statement_step, case_step, in_expression, in_statement, in_case, functions_in}
+use Rattle.ja_lower_names.specs.TextOrder.{a_function, a_name, Parts, if_function, expression_step, statement_step, case_step, in_statement, functions_in}
+use Rattle.ja_lower_names.specs.code.TextOrder.{in_expression, in_case}
 use Rattle.ja_graph.specs.Kinds.{is_built}
 use Rattle.ja_graph.specs.Node.{makings}
 use Rattle.ja_graph.specs.declared.node.Node.{Node}

@@ -1,4 +1,4 @@
 pub mod Built
-pub mod Explaining
 pub mod Hosts
 pub mod Loading
+pub mod code

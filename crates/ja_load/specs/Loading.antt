@@ -1,5 +1,5 @@
 -- The program of a text, and why a text has none.
-use Rattle.std.specs.Prelude.{◌≡◌, ◌<◌, ◌≤◌, ◌+◌, ℕ, false, String, List, ◌++◌, length, Some, None}
+use Rattle.std.specs.Prelude.{◌≡◌, ◌<◌, ◌≤◌, ◌+◌, ℕ, String, List, ◌++◌, length, Some, None}
 use Rattle.std.specs.Str.{IsUtf8}
 use Rattle.std.specs.String.{string_bytes}
 use Rattle.std.specs.declared.alloc.Global.{Global}
@@ -9,15 +9,12 @@ use Rattle.ja_grammar.specs.declared.fault.ParseFault.{ParseFault}
 use Rattle.ja_graph.specs.WellFormed.{builtin_names}
 use Rattle.ja_graph.specs.declared.builtins.TheConstants.{BUILTIN_CLASSES}
 use Rattle.ja_graph.specs.declared.program.Program.{Program}
-use Rattle.ja_graph.specs.WellFormed.{max_names}
 use Rattle.ja_lex.specs.Tokens.{tokens}
 use Rattle.ja_load.specs.Built.{unbuilt}
 use Rattle.ja_load.specs.Hosts.{device_sites, opening_with}
-use Rattle.ja_load.specs.declared.fault.LoadFault.{LoadFault}
-use Rattle.ja_load.specs.declared.fault.LoadFault.TheVariants as fault
 use Rattle.ja_lower.specs.Limits.{max_functions, max_size, function_count, size_of, IsWithin}
 use Rattle.ja_lower.specs.declared.lowered.Lowered.{Lowered}
-use Rattle.ja_lower.specs.Lowering.{device_names, first_names, lowered_with_prelude, names_of}
+use Rattle.ja_lower.specs.Lowering.{device_names, first_names, lowered_with_prelude}
 use Rattle.ja_prelude.specs.Prelude.{prelude_paths, prelude_statements}
 use Rattle.ja_prelude.specs.Table.{builtin_sites}
 use Rattle.ja_prim.specs.declared.signature.Signature.{Signature}
@@ -86,14 +83,6 @@ HasManyNodes bytes signatures =
     × (function_count statements ≤ max_functions)
     × (max_size < size_of (names_before signatures) statements)
 
--- it is within both limits, but its program has too many names
-abbrev pub HasManyNames : List ℕ → List Signature → Type 0
-HasManyNames bytes signatures =
-    (statements : List Statement)
-    × IsTextOf bytes statements
-    × IsWithin (names_before signatures) statements
-    × (max_names < length (names_of false (names_before signatures) statements))
-
 -- it is within the limits, and a form is not built: the first one has this place
 abbrev pub IsUnbuiltAt : List ℕ → List Signature → Place → Type 0
 IsUnbuiltAt bytes signatures place =
@@ -103,16 +92,3 @@ IsUnbuiltAt bytes signatures place =
 -- (`refused_once` in ja_grammar) and said of no text of the language (`refused_is_none`)
 abbrev pub IsNone : List ℕ → ParseFault → Type 0
 IsNone bytes f = IsUtf8 bytes × Explains (tokens bytes) f
-
--- why a text has no program to be run
-abbrev pub HasNoneToRun : List ℕ → List Signature → LoadFault → Type 0
-HasNoneToRun bytes signatures (fault.Parse f) = IsNone bytes f
-HasNoneToRun bytes signatures fault.Functions = HasManyFunctions bytes
-HasNoneToRun bytes signatures fault.Nodes = HasManyNodes bytes signatures
-HasNoneToRun bytes signatures fault.Names = HasManyNames bytes signatures
-HasNoneToRun bytes signatures (fault.Unbuilt place) = ⊥
-
--- .. and to be analysed
-abbrev pub HasNone : List ℕ → List Signature → LoadFault → Type 0
-HasNone bytes signatures (fault.Unbuilt place) = IsUnbuiltAt bytes signatures place
-HasNone bytes signatures f = HasNoneToRun bytes signatures f

@@ -5,7 +5,8 @@ ghost use Rattle.std.specs.List.{list_any};
 ghost use Rattle.std.specs.Str.{bytes_eq};
 ghost use Rattle.ja_load.specs.Built as spec;
 ghost use Rattle.ja_lower.specs.Lowering.{device_names};
-ghost use Rattle.ja_prelude.specs.Table.{is_global_name, seen_entry, seen_row};
+ghost use Rattle.ja_prelude.specs.Table.{is_global_name};
+ghost use Rattle.ja_prelude.specs.code.Table.{seen_entry, seen_row};
 
 use ja_base::Site;
 use ja_graph::{GLOBAL, OBJECT_PROTOTYPE};

@@ -1,15 +1,17 @@
 ghost use Rattle.std.specs.Prelude.{◌≡◌, ◌<◌, ◌≤◌, ◌+◌, ◌++◌, None, length, IfOk, IfErr, OnOk};
 ghost use Rattle.std.specs.List.{AllByRecursion};
 ghost use Rattle.std.specs.String.{string_bytes};
-ghost use Rattle.ja_device.specs.Signatures.{AreSignatures};
+ghost use Rattle.ja_device.specs.code.Signatures.{AreSignatures};
 ghost use Rattle.ja_graph.specs.WellFormed as graph;
 ghost use Rattle.ja_load.specs.Built as built;
-ghost use Rattle.ja_load.specs.Explaining.{Explains, ExplainsAnalysis};
+ghost use Rattle.ja_load.specs.code.Explaining.{Explains, ExplainsAnalysis};
 ghost use Rattle.ja_load.specs.Hosts.{device_sites};
-ghost use Rattle.ja_load.specs.Loading.{HasNone, HasNoneToRun, IsProgramOf, IsProgramToRun, names_before, program_of, program_with, sites_before};
+ghost use Rattle.ja_load.specs.Loading.{IsProgramOf, IsProgramToRun, names_before, program_of, program_with, sites_before};
+ghost use Rattle.ja_load.specs.code.Loading.{HasNone, HasNoneToRun};
 ghost use Rattle.ja_lower.specs.Limits.{IsWithin};
 ghost use Rattle.ja_lower.specs.Lowering.{behind_devices, device_names, followed_by, lowered, lowered_prelude};
 ghost use Rattle.ja_prelude.specs.Prelude as spec;
+ghost use Rattle.ja_prelude.specs.code.Prelude as code;
 ghost use Rattle.ja_prelude.specs.Table.{builtin_sites};
 
 use crate::built::unbuilt;
@@ -41,7 +43,7 @@ fn names_before(
     prelude: &Prelude,
     signatures: &[Signature],
 ) -> Result<Vec<Text16>, Memory>
-    requires { prelude.now ≡ spec.the_prelude }
+    requires { prelude.now ≡ code.the_prelude }
     ensures { IfOk result (λ names. names.items ≡ names_before signatures.now) }
 {
     let mut names = Vec::new(alloc);
@@ -68,7 +70,7 @@ fn lower_within(
     signatures: &[Signature],
     tree: &Tree,
 ) -> Result<Lowered, LoadFault>
-    requires prelude { prelude.now ≡ spec.the_prelude }
+    requires prelude { prelude.now ≡ code.the_prelude }
     requires few { length signatures.now ≤ 64 }
     ensures lowered { IfOk result (λ l. l ≡ lowered (names_before signatures.now) (sites_before signatures.now) tree.now.statements) }
     ensures within { IfOk result (λ _. IsWithin (names_before signatures.now) tree.now.statements) }
@@ -105,7 +107,7 @@ fn built_in(
     first_site: u32,
     first_function: u32,
 ) -> Result<Lowered, Memory>
-    requires prelude { prelude.now ≡ spec.the_prelude }
+    requires prelude { prelude.now ≡ code.the_prelude }
     requires few { length signatures.now ≤ 64 }
     requires functions { first_function ≤ 4160 }
     ensures lowered { IfOk result (λ l. l ≡ behind_devices signatures.now (lowered_prelude graph.builtin_names spec.prelude_paths first_site first_function spec.prelude_statements)) }
@@ -128,7 +130,7 @@ fn with_built_in(
     signatures: &[Signature],
     text: Lowered,
 ) -> Result<Lowered, Memory>
-    requires prelude { prelude.now ≡ spec.the_prelude }
+    requires prelude { prelude.now ≡ code.the_prelude }
     requires devices { length signatures.now ≤ 64 }
     requires few { length text.functions ≤ 4096 }
     requires registers { AllByRecursion (λ fn. fn.registers ≤ 262144) text.functions }

@@ -2,8 +2,8 @@
 use Rattle.std.proofs.Common.{◌≤◌, ℕ}
 use Rattle.ja_lower.specs.declared.fault.LowerFault.{LowerFault}
 use Rattle.ja_lower.specs.declared.fault.LowerFault.TheVariants.{Functions, Nodes, Names, Memory}
-use Rattle.ja_lower.specs.Limits.{ExplainsSize}
-use Rattle.ja_lower.specs.Room.{Exceeds, HasTooMany}
+use Rattle.ja_lower.specs.code.Limits.{ExplainsSize}
+use Rattle.ja_lower.specs.code.Room.{Exceeds, HasTooMany}
 
 -- what a fault says of the nodes, where the functions are within their limit
 pub exceeds_explains : (functions size names : ℕ) (e : LowerFault) → functions ≤ 4096 → Exceeds 65536 size e → ExplainsSize functions size names e

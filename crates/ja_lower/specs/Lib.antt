@@ -1,3 +1,3 @@
 pub mod Lowering
 pub mod Limits
-pub mod Room
+pub mod code

@@ -1,11 +1,8 @@
 -- What is too large to be lowered.
-use Rattle.std.specs.Prelude.{◌<◌, ◌≤◌, ◌+◌, ℕ, false, List, length}
+use Rattle.std.specs.Prelude.{◌≤◌, ◌+◌, ℕ, false, List, length}
 use Rattle.std.specs.List.{sum_by}
-use Rattle.ja_graph.specs.WellFormed.{max_names}
 use Rattle.ja_lower_names.specs.TextOrder.{functions_in}
 use Rattle.ja_lower.specs.declared.body.Body.{Body}
-use Rattle.ja_lower.specs.declared.fault.LowerFault.{LowerFault}
-use Rattle.ja_lower.specs.declared.fault.LowerFault.TheVariants.{Functions, Nodes, Names, Memory}
 use Rattle.ja_lower.specs.Lowering.{names_of, scene_of, bodies_of, prelude_names, prelude_bodies}
 use Rattle.ja_syntax.specs.declared.tree.Statement.{Statement}
 
@@ -38,22 +35,6 @@ size_of names statements = size_of_bodies (bodies_of (scene_of (names_of false n
 unfoldable pub prelude_size_of : List (List ℕ) → List Statement → ℕ
 prelude_size_of names statements = size_of_bodies (prelude_bodies (prelude_names names statements) statements)
 
--- what a fault says of so many functions of this size, with so many names
-abbrev pub ExplainsSize : ℕ → ℕ → ℕ → LowerFault → Type 0
-ExplainsSize functions size names Functions = max_functions < functions
-ExplainsSize functions size names Nodes = (functions ≤ max_functions) × (max_size < size)
-ExplainsSize functions size names Names =
-    (functions ≤ max_functions) × (size ≤ max_size) × (max_names < names)
-ExplainsSize functions size names Memory = Unit {0}
-
-abbrev pub Explains : List (List ℕ) → List Statement → LowerFault → Type 0
-Explains names statements fault =
-    ExplainsSize (function_count statements) (size_of names statements) (length (names_of false names statements)) fault
-
-abbrev pub ExplainsPrelude : List (List ℕ) → List Statement → LowerFault → Type 0
-ExplainsPrelude names statements fault =
-    ExplainsSize (prelude_count statements) (prelude_size_of names statements) (length (prelude_names names statements)) fault
-
 -- what holds of so many functions of this size that are lowered
 pub record IsWithinSize (count size : ℕ) : Type 0 where
   pub functions : count ≤ max_functions
@@ -61,6 +42,3 @@ pub record IsWithinSize (count size : ℕ) : Type 0 where
 
 abbrev pub IsWithin : List (List ℕ) → List Statement → Type 0
 IsWithin names statements = IsWithinSize (function_count statements) (size_of names statements)
-
-abbrev pub IsPreludeWithin : List (List ℕ) → List Statement → Type 0
-IsPreludeWithin names statements = IsWithinSize (prelude_count statements) (prelude_size_of names statements)

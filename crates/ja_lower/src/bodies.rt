@@ -8,7 +8,7 @@ ghost use Rattle.ja_lower_names.specs.TextOrder as text;
 ghost use Rattle.ja_lower_listing.specs.Listing.{assembled};
 ghost use Rattle.ja_lower.specs.Limits.{size_of_body, size_of_bodies};
 ghost use Rattle.ja_lower.specs.Lowering as spec;
-ghost use Rattle.ja_lower.specs.Room.{Exceeds};
+ghost use Rattle.ja_lower.specs.code.Room.{Exceeds};
 
 use crate::{Body, LowerFault};
 use ja_base::{Memory, NameId, Place, Seq};

@@ -19,10 +19,11 @@ ghost use Rattle.std.specs.List.{AllByRecursion, fold};
 ghost use Rattle.ja_graph.specs.WellFormed.{max_names, max_registers};
 ghost use Rattle.ja_lower_expressions.specs.Specials.{is_name};
 ghost use Rattle.ja_lower_names.specs.Names.{with_name};
-ghost use Rattle.ja_lower_names.specs.TextParts.{named_of};
-ghost use Rattle.ja_lower.specs.Limits.{Explains, ExplainsPrelude, IsWithin, IsPreludeWithin};
+ghost use Rattle.ja_lower_names.specs.code.TextParts.{named_of};
+ghost use Rattle.ja_lower.specs.Limits.{IsWithin};
+ghost use Rattle.ja_lower.specs.code.Limits.{Explains, ExplainsPrelude, IsPreludeWithin};
 ghost use Rattle.ja_lower.specs.Lowering as spec;
-ghost use Rattle.ja_lower.specs.Room.{HasTooMany};
+ghost use Rattle.ja_lower.specs.code.Room.{HasTooMany};
 
 mod bodies;
 mod body;

@@ -10,8 +10,8 @@ use Rattle.ja_lower_listing.proofs.Parts.{count_both}
 use Rattle.ja_lower_draft.specs.declared.part.Part.{Part}
 use Rattle.ja_lower_draft.specs.declared.moves.Moves.{Moves}
 use Rattle.ja_lower_draft.specs.Copies.{moved_node}
-use Rattle.ja_lower_draft.specs.Kept.{IsKept}
-use Rattle.ja_lower_draft.specs.Parts.{moved_by, line_of, lines_of, nodes_counted}
+use Rattle.ja_lower_draft.specs.code.Kept.{IsKept}
+use Rattle.ja_lower_draft.specs.code.Parts.{moved_by, line_of, lines_of, nodes_counted}
 
 -- of no lines
 pub kept_nothing : IsKept [] 0 None []

@@ -11,7 +11,7 @@ use Rattle.ja_graph.specs.declared.node.Args.TheVariants as args
 use Rattle.ja_graph.specs.declared.node.Node.{Node}
 use Rattle.ja_graph.specs.declared.node.Node.TheVariants as node
 use Rattle.ja_graph.proofs.RegisterLemmas.{each_among}
-use Rattle.ja_lower_draft.specs.Registers.{moved_within, moving_within}
+use Rattle.ja_lower_draft.specs.code.Registers.{moved_within, moving_within}
 use Rattle.ja_lower_draft.specs.Copies.{moved_register, moving}
 
 abbrev the_register : ℕ → Reg

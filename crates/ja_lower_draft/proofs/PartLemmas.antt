@@ -17,7 +17,7 @@ use Rattle.ja_lower_draft.specs.declared.part.Part.TheVariants.{rolls-Node, roll
 use Rattle.ja_lower_draft.specs.declared.part.Part.TheOpen.{Part-F}
 use Rattle.ja_lower_draft.specs.declared.part.Part.TheFolds.{fold-roll-Part}
 use Rattle.ja_lower_draft.specs.Copies.{moved_node}
-use Rattle.ja_lower_draft.specs.Parts.{moved_by, part_level, line_of, lines_of}
+use Rattle.ja_lower_draft.specs.code.Parts.{moved_by, part_level, line_of, lines_of}
 
 pub of_node : (node : Node) (other handler : Option Spot) (place : Place) → line_of (part.Node node other handler place) ≡ item.Node node other handler place
 unfolding line_of

@@ -1,8 +1,4 @@
 pub mod Lines
-pub mod Registers
 pub mod Copies
-pub mod Parts
-pub mod Sources
 pub mod Laws
-pub mod Listed
-pub mod Kept
+pub mod code

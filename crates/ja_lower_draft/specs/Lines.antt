@@ -1,6 +1,5 @@
 -- The listing of a function so far, and the lines that are added to it.
-use Rattle.std.specs.Prelude.{◌≡◌, ℕ, ◌+◌, Bool, List, [], ◌∷◌, ◌++◌, Option, Some, None, Result, Ok, Err}
-use Rattle.ja_base.specs.declared.ids.Memory.{Memory}
+use Rattle.std.specs.Prelude.{ℕ, ◌+◌, Bool, List, [], ◌∷◌, ◌++◌, Option, Some, None}
 use Rattle.ja_base.specs.declared.ids.NameId.{NameId}
 use Rattle.ja_base.specs.declared.ids.Place.{Place}
 use Rattle.ja_base.specs.declared.ids.Reg.{Reg}
@@ -115,13 +114,3 @@ with_copy scene place src l = with_result scene place (λ dst. Move dst src) l
 
 abbrev pub with_move : Scene → Place → Reg → Reg → Listing → Listing
 with_move scene place dst src l = with_node scene place (Move dst src) l
-
--- ---- what the functions that list give, unless memory was refused
-
-abbrev pub Gives : Valued → Result Reg Memory → Listing → Type 0
-Gives v (Ok reg) new = v ≡ record { listing = new; value = reg }
-Gives v (Err e) new = Unit {0}
-
-abbrev pub Adds : Listing → Result (Unit {0}) Memory → Listing → Type 0
-Adds l (Ok done) new = l ≡ new
-Adds l (Err e) new = Unit {0}

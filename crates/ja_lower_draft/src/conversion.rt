@@ -1,6 +1,7 @@
 //! Nodes that set the next temporary.
 
 ghost use Rattle.ja_lower_draft.specs.Lines as lines;
+ghost use Rattle.ja_lower_draft.specs.code.Lines as code_lines;
 
 use crate::draft::Draft;
 use crate::scene::Scene;
@@ -15,7 +16,7 @@ pub fn constant(
     prim: Primitive,
     draft: &mut Draft,
 ) -> Result<Reg, Memory>
-    ensures { lines.Gives (lines.with_const scene.now place prim draft.old) result draft.new }
+    ensures { code_lines.Gives (lines.with_const scene.now place prim draft.old) result draft.new }
 {
     let dst = draft.fresh()?;
     draft.node(scene.handler, place, Node::Const { dst, prim })?;
@@ -29,7 +30,7 @@ pub fn literal(
     prim: &Primitive,
     draft: &mut Draft,
 ) -> Result<Reg, Memory>
-    ensures { lines.Gives (lines.with_const scene.now place prim.now draft.old) result draft.new }
+    ensures { code_lines.Gives (lines.with_const scene.now place prim.now draft.old) result draft.new }
 {
     let prim = prim.copy()?;
     let dst = constant(scene, place, prim, draft)?;
@@ -38,7 +39,7 @@ pub fn literal(
 
 /// Moves a register to the next temporary.
 pub fn copy(scene: &Scene<'_, '_>, place: Place, src: Reg, draft: &mut Draft) -> Result<Reg, Memory>
-    ensures { lines.Gives (lines.with_copy scene.now place src draft.old) result draft.new }
+    ensures { code_lines.Gives (lines.with_copy scene.now place src draft.old) result draft.new }
 {
     let dst = draft.fresh()?;
     draft.node(scene.handler, place, Node::Move { dst, src })?;
@@ -53,7 +54,7 @@ pub fn set(
     src: Reg,
     draft: &mut Draft,
 ) -> Result<(), Memory>
-    ensures { lines.Adds (lines.with_move scene.now place dst src draft.old) result draft.new }
+    ensures { code_lines.Adds (lines.with_move scene.now place dst src draft.old) result draft.new }
 {
     draft.node(scene.handler, place, Node::Move { dst, src })?;
     Ok(())
@@ -67,7 +68,7 @@ pub fn default_value(
     src: Reg,
     draft: &mut Draft,
 ) -> Result<Reg, Memory>
-    ensures { lines.Gives (lines.with_default scene.now place hint src draft.old) result draft.new }
+    ensures { code_lines.Gives (lines.with_default scene.now place hint src draft.old) result draft.new }
 {
     let dst = draft.fresh()?;
     draft.node(
@@ -91,7 +92,7 @@ pub fn unary(
     src: Reg,
     draft: &mut Draft,
 ) -> Result<Reg, Memory>
-    ensures { lines.Gives (lines.with_unary scene.now place op src draft.old) result draft.new }
+    ensures { code_lines.Gives (lines.with_unary scene.now place op src draft.old) result draft.new }
 {
     let dst = draft.fresh()?;
     draft.node(scene.handler, place, Node::Unary { dst, op, src })?;
@@ -106,7 +107,7 @@ pub fn number(
     src: Reg,
     draft: &mut Draft,
 ) -> Result<Reg, Memory>
-    ensures { lines.Gives (lines.with_number scene.now place src draft.old) result draft.new }
+    ensures { code_lines.Gives (lines.with_number scene.now place src draft.old) result draft.new }
 {
     let value = default_value(scene, place, Hint::Number, src, draft)?;
     let dst = unary(scene, place, UnaryOp::ToNum, value, draft)?;
@@ -116,7 +117,7 @@ pub fn number(
 /// Adds ToString of a register.
 #[tactic(auto, unfolding(crate::specs::Lines::with_text))]
 pub fn text(scene: &Scene<'_, '_>, place: Place, src: Reg, draft: &mut Draft) -> Result<Reg, Memory>
-    ensures { lines.Gives (lines.with_text scene.now place src draft.old) result draft.new }
+    ensures { code_lines.Gives (lines.with_text scene.now place src draft.old) result draft.new }
 {
     let value = default_value(scene, place, Hint::Text, src, draft)?;
     let dst = unary(scene, place, UnaryOp::ToText, value, draft)?;
@@ -130,7 +131,7 @@ pub fn truth(
     src: Reg,
     draft: &mut Draft,
 ) -> Result<Reg, Memory>
-    ensures { lines.Gives (lines.with_truth scene.now place src draft.old) result draft.new }
+    ensures { code_lines.Gives (lines.with_truth scene.now place src draft.old) result draft.new }
 {
     let dst = unary(scene, place, UnaryOp::ToBool, src, draft)?;
     Ok(dst)

@@ -4,7 +4,8 @@ ghost use Rattle.std.specs.Prelude.{◌≡◌, ◌≤◌, ◌<◌, ◌+◌, ◌�
 ghost use Rattle.ja_lower_listing.specs.declared.item.Item.TheVariants as item;
 ghost use Rattle.ja_lower_listing.specs.Listing.{node_count, begins_with_node, block_of};
 ghost use Rattle.ja_lower_draft.specs.Lines as lines;
-ghost use Rattle.ja_lower_draft.specs.Parts.{line_of, lines_of, moved_by, nodes_counted};
+ghost use Rattle.ja_lower_draft.specs.code.Lines as code_lines;
+ghost use Rattle.ja_lower_draft.specs.code.Parts.{line_of, lines_of, moved_by, nodes_counted};
 
 use crate::listed::{Growth, Listed};
 use crate::moves::Moves;
@@ -39,7 +40,8 @@ pub struct Draft {
 
 impl Model for Draft {
     ghost use Rattle.ja_lower_draft.specs.Lines as lines;
-    ghost use Rattle.ja_lower_draft.specs.Kept.{IsKept};
+    ghost use Rattle.ja_lower_draft.specs.code.Lines as code_lines;
+    ghost use Rattle.ja_lower_draft.specs.code.Kept.{IsKept};
 
     ghost Value = { lines.Listing };
 
@@ -103,7 +105,7 @@ impl Draft {
     /// Adds a part, which has so many nodes.
     fn part(&mut self, part: Part, nodes: u32) -> Result<(), Memory>
         requires { nodes ≡ nodes_counted (line_of part ∷ []) }
-        ensures { lines.Adds (lines.with_item self.old (line_of part)) result self.new }
+        ensures { code_lines.Adds (lines.with_item self.old (line_of part)) result self.new }
     {
         let nodes = self.nodes.saturating_add(nodes);
         let begins = self.begins.or(is_node(&part));
@@ -119,7 +121,7 @@ impl Draft {
     /// as refused.
     pub(crate) fn copy(&mut self, copy: Part, nodes: u32) -> Result<(), Memory>
         requires { nodes ≡ nodes_counted (line_of copy ∷ []) }
-        ensures { lines.Adds (lines.with_item self.old (line_of copy)) result self.new }
+        ensures { code_lines.Adds (lines.with_item self.old (line_of copy)) result self.new }
     {
         if self.parts.len() >= MOST_LINES {
             return Err(Memory);
@@ -196,7 +198,7 @@ impl Draft {
     /// Adds the spot of what follows.
     #[tactic(auto, unfolding(ja_lower_listing::specs::Listing::node_count), using(crate::proofs::PartLemmas::of_spot))]
     pub fn mark(&mut self, spot: Spot) -> Result<(), Memory>
-        ensures { lines.Adds (lines.with_spot spot self.old) result self.new }
+        ensures { code_lines.Adds (lines.with_spot spot self.old) result self.new }
     {
         self.part(Part::Spot(spot), 0)
     }
@@ -204,7 +206,7 @@ impl Draft {
     /// Adds a jump.
     #[tactic(auto, unfolding(ja_lower_listing::specs::Listing::node_count), using(crate::proofs::PartLemmas::of_jump))]
     pub fn jump(&mut self, spot: Spot) -> Result<(), Memory>
-        ensures { lines.Adds (lines.with_jump spot self.old) result self.new }
+        ensures { code_lines.Adds (lines.with_jump spot self.old) result self.new }
     {
         self.part(Part::Jump(spot), 0)
     }
@@ -218,7 +220,7 @@ impl Draft {
         handler: Option<Spot>,
         place: Place,
     ) -> Result<(), Memory>
-        ensures { lines.Adds (lines.with_item self.old (item.Node node other handler place)) result self.new }
+        ensures { code_lines.Adds (lines.with_item self.old (item.Node node other handler place)) result self.new }
     {
         let part = Part::Node {
             node,
@@ -231,7 +233,7 @@ impl Draft {
 
     /// Adds a node.
     pub fn node(&mut self, handler: Option<Spot>, place: Place, node: Node) -> Result<(), Memory>
-        ensures { lines.Adds (lines.with_item self.old (item.Node node None handler place)) result self.new }
+        ensures { code_lines.Adds (lines.with_item self.old (item.Node node None handler place)) result self.new }
     {
         self.with_edges(node, None, handler, place)
     }
@@ -244,7 +246,7 @@ impl Draft {
         node: Node,
         other: Spot,
     ) -> Result<(), Memory>
-        ensures { lines.Adds (lines.with_item self.old (item.Node node (Some other) handler place)) result self.new }
+        ensures { code_lines.Adds (lines.with_item self.old (item.Node node (Some other) handler place)) result self.new }
     {
         self.with_edges(node, Some(other), handler, place)
     }

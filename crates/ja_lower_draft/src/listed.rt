@@ -33,7 +33,7 @@ pub enum Growth<'a> {
 }
 
 impl Listed {
-    ghost use Rattle.ja_lower_draft.specs.Listed.{grown_lines};
+    ghost use Rattle.ja_lower_draft.specs.code.Listed.{grown_lines};
 
     /// The lines that come about so.
     pub(crate) fn grown(_growth: &Growth<'_>) -> Listed

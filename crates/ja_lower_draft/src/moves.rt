@@ -1,7 +1,7 @@
 //! Blocks whose temporaries are moved.
 
 ghost use Rattle.std.specs.Prelude.{◌≡◌, IfOk};
-ghost use Rattle.ja_lower_draft.specs.Parts as spec;
+ghost use Rattle.ja_lower_draft.specs.code.Parts as spec;
 ghost use Rattle.ja_lower_draft.specs.Copies as copies;
 
 use crate::moving::moved;

@@ -2,7 +2,7 @@
 
 ghost use Rattle.std.specs.Prelude.{◌≡◌, IfOk};
 ghost use Rattle.ja_graph.specs.Renaming as renaming;
-ghost use Rattle.ja_lower_draft.specs.Registers as spec;
+ghost use Rattle.ja_lower_draft.specs.code.Registers as spec;
 ghost use Rattle.ja_lower_draft.specs.Copies as copies;
 
 use ja_base::{FnId, Memory, NameId, Reg, Site};

@@ -5,7 +5,7 @@ ghost use Rattle.std.specs.Prelude.{◌≡◌, List, ◌∷◌, unwrap_or, IfOk}
 ghost use Rattle.ja_graph.specs.Renaming.{identity};
 ghost use Rattle.ja_lower_listing.specs.declared.item.Item.{Item};
 ghost use Rattle.ja_lower_listing.specs.Listing.{begins_with_node};
-ghost use Rattle.ja_lower_draft.specs.Parts as spec;
+ghost use Rattle.ja_lower_draft.specs.code.Parts as spec;
 
 use crate::moves::Moves;
 use ja_base::{FnId, Memory, NameId, Place, Reg, Site};

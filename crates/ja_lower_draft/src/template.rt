@@ -2,7 +2,7 @@
 
 ghost use Rattle.std.specs.Prelude.{◌≡◌, IfOk};
 ghost use Rattle.ja_lower_listing.specs.Listing.{block_of};
-ghost use Rattle.ja_lower_draft.specs.Lines as lines;
+ghost use Rattle.ja_lower_draft.specs.code.Lines as lines;
 ghost use Rattle.ja_lower_draft.specs.Copies as copies;
 
 use crate::draft::{Draft, MOST_NODES};
@@ -35,7 +35,7 @@ pub struct Template {
 }
 
 impl Model for Template {
-    ghost use Rattle.ja_lower_draft.specs.Sources.{source_block, IsSource};
+    ghost use Rattle.ja_lower_draft.specs.code.Sources.{source_block, IsSource};
     ghost use Rattle.ja_lower_draft.specs.Copies as copies;
 
     ghost Value = { copies.Template };

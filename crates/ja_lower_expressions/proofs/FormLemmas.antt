@@ -24,7 +24,8 @@ use Rattle.ja_lower_expressions.specs.References.{Form, valued, value_of, with_n
 use Rattle.ja_lower_expressions.specs.Operators.{list_unary, list_update, list_conditional}
 use Rattle.ja_lower_expressions.specs.Literals.{Member, list_array, list_object, list_function}
 use Rattle.ja_lower_expressions.specs.Calls.{list_new}
-use Rattle.ja_lower_expressions.specs.Expressions.{form, form_step, member_of, element_of, property_of, suffix_of, operation_of, with_suffix, apply_operations, list_others, list_assignment}
+use Rattle.ja_lower_expressions.specs.Expressions.{form, form_step, member_of, with_suffix, apply_operations, list_others, list_assignment}
+use Rattle.ja_lower_expressions.specs.code.Expressions.{element_of, property_of, suffix_of, operation_of}
 
 -- lists of what stands for the elements are equal where what stands for each element is
 map_alike : {A B : Type 0} (f g : A → B) → ((x : A) → f x ≡ g x) → (xs : List A) → map f xs ≡ map g xs

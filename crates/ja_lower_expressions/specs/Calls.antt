@@ -1,7 +1,5 @@
 -- Calls and `new` (ES3 11.2.2 to 11.2.4).
-use Rattle.std.specs.Prelude.{◌≡◌, List, [], ◌∷◌, ◌++◌, Result, Ok, Err}
-use Rattle.std.specs.Global.{Vec}
-use Rattle.ja_base.specs.declared.ids.Memory.{Memory}
+use Rattle.std.specs.Prelude.{List, [], ◌∷◌, ◌++◌}
 use Rattle.ja_base.specs.declared.ids.Place.{Place}
 use Rattle.ja_base.specs.declared.ids.Reg.{Reg}
 use Rattle.ja_prim.specs.declared.primitive.Primitive.TheVariants as primitive
@@ -51,8 +49,3 @@ new_of arguments place scene callee l =
 
 unfoldable pub list_new : Form → List Form → Place → Scene → Listing → Valued
 list_new callee arguments place scene l = let f = value_of callee scene l in new_of arguments place scene f.value f.listing
-
--- what the function that lists arguments gives, unless memory was refused
-abbrev pub Lists : Arguments → Result (Vec Reg) Memory → Listing → Type 0
-Lists a (Ok values) new = a ≡ record { listing = new; values = values.items }
-Lists a (Err e) new = Unit {0}

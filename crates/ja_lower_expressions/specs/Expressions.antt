@@ -65,20 +65,3 @@ form_step (Expression-F.Sequence first others place) scene l = valued (list_othe
 
 unfoldable pub form : Expression → Form
 form = fold-Expression Form (Unit {0}) (Unit {0}) form_step (λ _. tt) (λ _. tt)
-
--- ---- the parts of an expression, with what each expression inside is in its place
-
-abbrev pub element_of : Option Expression → Option Form
-element_of None = None
-element_of (Some element) = Some (form element)
-
-abbrev pub property_of : Property Expression → Member
-property_of p = record { name = p.name; value = form p.value }
-
-abbrev pub suffix_of : Suffix Expression → Suffix Form
-suffix_of (suffix.Member name place) = suffix.Member name place
-suffix_of (suffix.Index key place) = suffix.Index (form key) place
-suffix_of (suffix.Call arguments place) = suffix.Call (map form arguments) place
-
-abbrev pub operation_of : Operation Expression → Operation Form
-operation_of o = record { operator = o.operator; right = form o.right; place = o.place }

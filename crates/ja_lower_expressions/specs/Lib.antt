@@ -5,3 +5,4 @@ pub mod Literals
 pub mod Calls
 pub mod Expressions
 pub mod SpecialForms
+pub mod code

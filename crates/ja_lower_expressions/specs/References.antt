@@ -1,6 +1,5 @@
 -- What an expression comes to, a value or a reference, and how a reference is read and written (ES3 8.7).
-use Rattle.std.specs.Prelude.{◌≡◌, ℕ, if◌then◌else◌, List, Option, Some, None, Result, Ok, Err}
-use Rattle.ja_base.specs.declared.ids.Memory.{Memory}
+use Rattle.std.specs.Prelude.{ℕ, if◌then◌else◌, List, Option, Some, None}
 use Rattle.ja_base.specs.declared.ids.Place.{Place}
 use Rattle.ja_base.specs.declared.ids.Reg.{Reg}
 use Rattle.ja_prim.specs.declared.primitive.Primitive.TheVariants as primitive
@@ -81,8 +80,3 @@ with_element place scene object key l =
     let o = with_object scene place object l in
     let k = with_text scene place key o.listing in
     record { listing = k.listing; outcome = Member o.value k.value place }
-
--- what the functions that list expressions give, unless memory was refused
-abbrev pub Comes : Listed → Result Outcome Memory → Listing → Type 0
-Comes r (Ok outcome) new = r ≡ record { listing = new; outcome = outcome }
-Comes r (Err e) new = Unit {0}

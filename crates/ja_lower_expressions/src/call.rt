@@ -1,9 +1,10 @@
 //! Calls and `new` (ES3 11.2.2 to 11.2.4).
 
 ghost use Rattle.std.specs.Prelude.{map, []};
-ghost use Rattle.ja_lower_draft.specs.Lines as lines;
+ghost use Rattle.ja_lower_draft.specs.code.Lines as lines;
 ghost use Rattle.ja_lower_expressions.specs.Expressions as expressions;
 ghost use Rattle.ja_lower_expressions.specs.Calls as spec;
+ghost use Rattle.ja_lower_expressions.specs.code.Calls as code;
 
 use crate::expression::value;
 use crate::outcome::Outcome;
@@ -24,7 +25,7 @@ fn list_arguments(
     arguments: &[Expression],
     draft: &mut Draft,
 ) -> Result<Vec<Reg>, Memory>
-    ensures { spec.Lists (spec.list_arguments (map expressions.form arguments.now) scene.now draft.old []) result draft.new }
+    ensures { code.Lists (spec.list_arguments (map expressions.form arguments.now) scene.now draft.old []) result draft.new }
 {
     let mut values = Vec::new(scene.alloc);
     for argument in arguments {

@@ -1,7 +1,7 @@
 //! `&&`, `||` and `?` (ES3 11.11, 11.12).
 
 ghost use Rattle.std.specs.Prelude.{◌≡◌, IfOk};
-ghost use Rattle.ja_lower_draft.specs.Lines as lines;
+ghost use Rattle.ja_lower_draft.specs.code.Lines as lines;
 ghost use Rattle.ja_lower_expressions.specs.Expressions as expressions;
 ghost use Rattle.ja_lower_expressions.specs.Operators as spec;
 

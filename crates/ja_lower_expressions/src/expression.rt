@@ -2,11 +2,13 @@
 
 ghost use Rattle.std.specs.Prelude.{map};
 ghost use Rattle.std.specs.List.{fold};
-ghost use Rattle.ja_lower_draft.specs.Lines as lines;
+ghost use Rattle.ja_lower_draft.specs.code.Lines as lines;
 ghost use Rattle.ja_lower_draft.specs.Lines.{Listing, Valued};
 ghost use Rattle.ja_lower_expressions.specs.References as references;
+ghost use Rattle.ja_lower_expressions.specs.code.References as code_references;
 ghost use Rattle.ja_lower_expressions.specs.Operators as operators;
 ghost use Rattle.ja_lower_expressions.specs.Expressions as spec;
+ghost use Rattle.ja_lower_expressions.specs.code.Expressions as code;
 
 use crate::call::{call, new_of};
 use crate::choice::{alternative, and_then, consequence, or_else};
@@ -24,7 +26,7 @@ const THIS: Reg = Reg(1);
 
 /// What comes to a value, unless memory was refused.
 fn valued(value: Result<Reg, Memory>) -> Result<Outcome, Memory>
-    ensures { (v : Valued) (new : Listing) → lines.Gives v value new → references.Comes (references.valued v) result new }
+    ensures { (v : Valued) (new : Listing) → lines.Gives v value new → code_references.Comes (references.valued v) result new }
 {
     match value {
         Ok(value) => Ok(Outcome::Value(value)),
@@ -40,7 +42,7 @@ fn suffix(
     before: Outcome,
     draft: &mut Draft,
 ) -> Result<Outcome, Memory>
-    ensures { references.Comes (spec.with_suffix scene.now (record { listing = draft.old; outcome = before }) (spec.suffix_of suffix.now)) result draft.new }
+    ensures { code_references.Comes (spec.with_suffix scene.now (record { listing = draft.old; outcome = before }) (code.suffix_of suffix.now)) result draft.new }
 {
     match suffix {
         Suffix::Member { name, place } => {
@@ -66,7 +68,7 @@ fn suffixes(
     head: Outcome,
     draft: &mut Draft,
 ) -> Result<Outcome, Memory>
-    ensures { references.Comes (fold (spec.with_suffix scene.now) (record { listing = draft.old; outcome = head }) (map spec.suffix_of suffixes.now)) result draft.new }
+    ensures { code_references.Comes (fold (spec.with_suffix scene.now) (record { listing = draft.old; outcome = head }) (map code.suffix_of suffixes.now)) result draft.new }
 {
     let mut outcome = head;
     for next in suffixes {
@@ -107,7 +109,7 @@ fn operations(
     first: Reg,
     draft: &mut Draft,
 ) -> Result<Reg, Memory>
-    ensures { lines.Gives (spec.apply_operations place (map spec.operation_of operations.now) scene.now (record { listing = draft.old; value = first })) result draft.new }
+    ensures { lines.Gives (spec.apply_operations place (map code.operation_of operations.now) scene.now (record { listing = draft.old; value = first })) result draft.new }
 {
     let mut left = first;
     for next in operations {
@@ -180,7 +182,7 @@ pub fn form(
     expression: &Expression,
     draft: &mut Draft,
 ) -> Result<Outcome, Memory>
-    ensures { references.Comes (spec.form expression.now scene.now draft.old) result draft.new }
+    ensures { code_references.Comes (spec.form expression.now scene.now draft.old) result draft.new }
 {
     match expression {
         Expression::This { place } => valued(copy(scene, *place, THIS, draft)),

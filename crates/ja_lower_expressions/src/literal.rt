@@ -2,8 +2,8 @@
 
 ghost use Rattle.std.specs.Prelude.{◌≡◌, IfOk, map, pos, decimal, codes};
 ghost use Rattle.std.specs.Fmt.{signed_decimal};
-ghost use Rattle.ja_lower_draft.specs.Lines as lines;
-ghost use Rattle.ja_lower_expressions.specs.Expressions as expressions;
+ghost use Rattle.ja_lower_draft.specs.code.Lines as lines;
+ghost use Rattle.ja_lower_expressions.specs.code.Expressions as expressions;
 ghost use Rattle.ja_lower_expressions.specs.Literals as spec;
 
 use crate::expression::value;

@@ -2,6 +2,7 @@
 
 ghost use Rattle.std.specs.Prelude.{◌≡◌, pos};
 ghost use Rattle.ja_lower_draft.specs.Lines as lines;
+ghost use Rattle.ja_lower_draft.specs.code.Lines as code_lines;
 ghost use Rattle.ja_lower_expressions.specs.Operators as spec;
 
 use crate::outcome::Outcome;
@@ -20,7 +21,7 @@ fn delete(
     outcome: Outcome,
     draft: &mut Draft,
 ) -> Result<Reg, Memory>
-    ensures { lines.Gives (spec.with_delete scene.now place outcome draft.old) result draft.new }
+    ensures { code_lines.Gives (spec.with_delete scene.now place outcome draft.old) result draft.new }
 {
     match outcome {
         Outcome::Value(_) | Outcome::Special { .. } => {
@@ -41,7 +42,7 @@ fn delete(
 
 /// Reads what an operand comes to; a name that nothing binds is no error.
 fn get_softly(scene: &Scene<'_, '_>, outcome: Outcome, draft: &mut Draft) -> Result<Reg, Memory>
-    ensures { lines.Gives (spec.get_softly scene.now outcome draft.old) result draft.new }
+    ensures { code_lines.Gives (spec.get_softly scene.now outcome draft.old) result draft.new }
 {
     match outcome {
         Outcome::Name { base, name, place } => {
@@ -62,7 +63,7 @@ fn type_of(
     outcome: Outcome,
     draft: &mut Draft,
 ) -> Result<Reg, Memory>
-    ensures { lines.Gives (spec.with_type scene.now place outcome draft.old) result draft.new }
+    ensures { code_lines.Gives (spec.with_type scene.now place outcome draft.old) result draft.new }
 {
     let value = get_softly(scene, outcome, draft)?;
     unary(scene, place, UnaryOp::TypeOf, value, draft)
@@ -76,7 +77,7 @@ fn apply_unary(
     value: Reg,
     draft: &mut Draft,
 ) -> Result<Reg, Memory>
-    ensures { lines.Gives (spec.apply_unary operator scene.now place value draft.old) result draft.new }
+    ensures { code_lines.Gives (spec.apply_unary operator scene.now place value draft.old) result draft.new }
 {
     match operator {
         UnaryOperator::Void => constant(scene, place, Primitive::Undefined, draft),
@@ -105,7 +106,7 @@ pub(crate) fn on_outcome(
     outcome: Outcome,
     draft: &mut Draft,
 ) -> Result<Reg, Memory>
-    ensures { lines.Gives (spec.on_outcome operator scene.now place outcome draft.old) result draft.new }
+    ensures { code_lines.Gives (spec.on_outcome operator scene.now place outcome draft.old) result draft.new }
 {
     match operator {
         UnaryOperator::Delete => delete(scene, place, outcome, draft),
@@ -123,7 +124,7 @@ pub(crate) fn on_outcome(
 
 /// The constant 1.
 fn one(scene: &Scene<'_, '_>, place: Place, draft: &mut Draft) -> Result<Reg, Memory>
-    ensures { lines.Gives (lines.with_const scene.now place (Primitive.Number (Num.Whole (pos 1))) draft.old) result draft.new }
+    ensures { code_lines.Gives (lines.with_const scene.now place (Primitive.Number (Num.Whole (pos 1))) draft.old) result draft.new }
 {
     match Int::new(1) {
         None => Err(Memory),
@@ -160,7 +161,7 @@ pub(crate) fn binary(
     b: Reg,
     draft: &mut Draft,
 ) -> Result<Reg, Memory>
-    ensures { lines.Gives (spec.with_binary scene.now place op a b draft.old) result draft.new }
+    ensures { code_lines.Gives (spec.with_binary scene.now place op a b draft.old) result draft.new }
 {
     let dst = draft.fresh()?;
     draft.node(scene.handler, place, Node::Binary { dst, op, a, b })?;
@@ -177,7 +178,7 @@ fn on_defaults(
     b: Reg,
     draft: &mut Draft,
 ) -> Result<Reg, Memory>
-    ensures { lines.Gives (spec.on_defaults op scene.now place a b draft.old) result draft.new }
+    ensures { code_lines.Gives (spec.on_defaults op scene.now place a b draft.old) result draft.new }
 {
     let x = default_value(scene, place, Hint::Number, a, draft)?;
     let y = default_value(scene, place, Hint::Number, b, draft)?;
@@ -194,7 +195,7 @@ fn on_defaults_backwards(
     b: Reg,
     draft: &mut Draft,
 ) -> Result<Reg, Memory>
-    ensures { lines.Gives (spec.on_defaults_backwards op scene.now place a b draft.old) result draft.new }
+    ensures { code_lines.Gives (spec.on_defaults_backwards op scene.now place a b draft.old) result draft.new }
 {
     let y = default_value(scene, place, Hint::Number, b, draft)?;
     let x = default_value(scene, place, Hint::Number, a, draft)?;
@@ -211,7 +212,7 @@ fn on_numbers(
     b: Reg,
     draft: &mut Draft,
 ) -> Result<Reg, Memory>
-    ensures { lines.Gives (spec.on_numbers op scene.now place a b draft.old) result draft.new }
+    ensures { code_lines.Gives (spec.on_numbers op scene.now place a b draft.old) result draft.new }
 {
     let x = number(scene, place, a, draft)?;
     let y = number(scene, place, b, draft)?;
@@ -226,7 +227,7 @@ fn beside(
     other: Reg,
     draft: &mut Draft,
 ) -> Result<Reg, Memory>
-    ensures { lines.Gives (spec.beside scene.now place src other draft.old) result draft.new }
+    ensures { code_lines.Gives (spec.beside scene.now place src other draft.old) result draft.new }
 {
     let dst = draft.fresh()?;
     let node = Node::Convert {
@@ -249,7 +250,7 @@ fn on_loose(
     b: Reg,
     draft: &mut Draft,
 ) -> Result<Reg, Memory>
-    ensures { lines.Gives (spec.on_loose op scene.now place a b draft.old) result draft.new }
+    ensures { code_lines.Gives (spec.on_loose op scene.now place a b draft.old) result draft.new }
 {
     let x = beside(scene, place, a, b, draft)?;
     let y = beside(scene, place, b, a, draft)?;
@@ -265,7 +266,7 @@ fn on_in(
     b: Reg,
     draft: &mut Draft,
 ) -> Result<Reg, Memory>
-    ensures { lines.Gives (spec.on_in scene.now place a b draft.old) result draft.new }
+    ensures { code_lines.Gives (spec.on_in scene.now place a b draft.old) result draft.new }
 {
     draft.node(
         scene.handler,
@@ -294,7 +295,7 @@ fn on_instance(
     right: Reg,
     draft: &mut Draft,
 ) -> Result<Reg, Memory>
-    ensures { lines.Gives (spec.on_instance scene.now place left right draft.old) result draft.new }
+    ensures { code_lines.Gives (spec.on_instance scene.now place left right draft.old) result draft.new }
 {
     let dst = draft.fresh()?;
     let node = Node::InstanceOf {
@@ -336,7 +337,7 @@ pub(crate) fn apply_binary(
     b: Reg,
     draft: &mut Draft,
 ) -> Result<Reg, Memory>
-    ensures { lines.Gives (spec.apply_binary operator scene.now place a b draft.old) result draft.new }
+    ensures { code_lines.Gives (spec.apply_binary operator scene.now place a b draft.old) result draft.new }
 {
     match operator {
         BinaryOperator::Plus => on_defaults(BinaryOp::Add, scene, place, a, b, draft),
@@ -363,7 +364,7 @@ pub(crate) fn update_outcome(
     outcome: Outcome,
     draft: &mut Draft,
 ) -> Result<Reg, Memory>
-    ensures { lines.Gives (spec.update_outcome operator scene.now place outcome draft.old) result draft.new }
+    ensures { code_lines.Gives (spec.update_outcome operator scene.now place outcome draft.old) result draft.new }
 {
     let value = get_value(scene, outcome, draft)?;
     let old = number(scene, place, value, draft)?;

@@ -1,8 +1,9 @@
 //! What expressions come to: values, references (ES3 8.7) and special forms.
 
 ghost use Rattle.std.specs.Prelude.{◌≡◌};
-ghost use Rattle.ja_lower_draft.specs.Lines as lines;
+ghost use Rattle.ja_lower_draft.specs.code.Lines as lines;
 ghost use Rattle.ja_lower_expressions.specs.References as spec;
+ghost use Rattle.ja_lower_expressions.specs.code.References as code;
 
 use crate::outcome::Outcome;
 use crate::special::{Special, special_of};
@@ -101,7 +102,7 @@ fn variable(
     place: Place,
     draft: &mut Draft,
 ) -> Result<Outcome, Memory>
-    ensures { spec.Comes (spec.with_variable text.now place scene.now draft.old) result draft.new }
+    ensures { code.Comes (spec.with_variable text.now place scene.now draft.old) result draft.new }
 {
     let name = scene.name(text.units());
     let base = draft.fresh()?;
@@ -128,7 +129,7 @@ pub fn name(
     place: Place,
     draft: &mut Draft,
 ) -> Result<Outcome, Memory>
-    ensures { spec.Comes (spec.with_name text.now place scene.now draft.old) result draft.new }
+    ensures { code.Comes (spec.with_name text.now place scene.now draft.old) result draft.new }
 {
     match special_in(scene, text.units()) {
         Some(form) => Ok(Outcome::Special { form, place }),
@@ -145,7 +146,7 @@ pub(crate) fn member(
     src: Reg,
     draft: &mut Draft,
 ) -> Result<Outcome, Memory>
-    ensures { spec.Comes (spec.with_member name.now place scene.now src draft.old) result draft.new }
+    ensures { code.Comes (spec.with_member name.now place scene.now src draft.old) result draft.new }
 {
     let name = name.copy()?;
     let key = constant(scene, place, Primitive::Text(name), draft)?;
@@ -162,7 +163,7 @@ pub(crate) fn element(
     key: Reg,
     draft: &mut Draft,
 ) -> Result<Outcome, Memory>
-    ensures { spec.Comes (spec.with_element place scene.now src key draft.old) result draft.new }
+    ensures { code.Comes (spec.with_element place scene.now src key draft.old) result draft.new }
 {
     let object = object(scene, place, src, draft)?;
     let key = text(scene, place, key, draft)?;

@@ -1,6 +1,7 @@
 //! Calls of special forms, behind their arguments.
 
 ghost use Rattle.ja_lower_draft.specs.Lines as lines;
+ghost use Rattle.ja_lower_draft.specs.code.Lines as code_lines;
 ghost use Rattle.ja_lower_expressions.specs.Specials as spec;
 
 use crate::reference::object;
@@ -13,7 +14,7 @@ use ja_prim::Primitive;
 
 /// Adds `undefined`, where a special form has other arguments than it takes.
 fn undefined(scene: &Scene<'_, '_>, place: Place, draft: &mut Draft) -> Result<Reg, Memory>
-    ensures { lines.Gives (lines.with_const scene.now place Primitive.Undefined draft.old) result draft.new }
+    ensures { code_lines.Gives (lines.with_const scene.now place Primitive.Undefined draft.old) result draft.new }
 {
     constant(scene, place, Primitive::Undefined, draft)
 }
@@ -26,7 +27,7 @@ fn get(
     values: &[Reg],
     draft: &mut Draft,
 ) -> Result<Reg, Memory>
-    ensures { lines.Gives (spec.list_special Special.Get scene.now place values.now draft.old) result draft.new }
+    ensures { code_lines.Gives (spec.list_special Special.Get scene.now place values.now draft.old) result draft.new }
 {
     match values {
         [object, key] => {
@@ -47,7 +48,7 @@ fn put(
     values: &[Reg],
     draft: &mut Draft,
 ) -> Result<Reg, Memory>
-    ensures { lines.Gives (spec.list_special Special.Put scene.now place values.now draft.old) result draft.new }
+    ensures { code_lines.Gives (spec.list_special Special.Put scene.now place values.now draft.old) result draft.new }
 {
     match values {
         [object, key, src] => {
@@ -73,7 +74,7 @@ fn delete(
     values: &[Reg],
     draft: &mut Draft,
 ) -> Result<Reg, Memory>
-    ensures { lines.Gives (spec.list_special Special.Delete scene.now place values.now draft.old) result draft.new }
+    ensures { code_lines.Gives (spec.list_special Special.Delete scene.now place values.now draft.old) result draft.new }
 {
     match values {
         [object, key] => {
@@ -94,7 +95,7 @@ fn has(
     values: &[Reg],
     draft: &mut Draft,
 ) -> Result<Reg, Memory>
-    ensures { lines.Gives (spec.list_special Special.Has scene.now place values.now draft.old) result draft.new }
+    ensures { code_lines.Gives (spec.list_special Special.Has scene.now place values.now draft.old) result draft.new }
 {
     match values {
         [object, key] => {
@@ -115,7 +116,7 @@ fn to_object(
     values: &[Reg],
     draft: &mut Draft,
 ) -> Result<Reg, Memory>
-    ensures { lines.Gives (spec.list_special Special.Object scene.now place values.now draft.old) result draft.new }
+    ensures { code_lines.Gives (spec.list_special Special.Object scene.now place values.now draft.old) result draft.new }
 {
     match values {
         [src] => object(scene, place, *src, draft),
@@ -131,7 +132,7 @@ fn to_text(
     values: &[Reg],
     draft: &mut Draft,
 ) -> Result<Reg, Memory>
-    ensures { lines.Gives (spec.list_special Special.Text scene.now place values.now draft.old) result draft.new }
+    ensures { code_lines.Gives (spec.list_special Special.Text scene.now place values.now draft.old) result draft.new }
 {
     match values {
         [src] => text(scene, place, *src, draft),
@@ -148,7 +149,7 @@ fn make(
     values: &[Reg],
     draft: &mut Draft,
 ) -> Result<Reg, Memory>
-    ensures { lines.Gives (spec.list_special (Special.Make kind) scene.now place values.now draft.old) result draft.new }
+    ensures { code_lines.Gives (spec.list_special (Special.Make kind) scene.now place values.now draft.old) result draft.new }
 {
     match values {
         [] => {
@@ -174,7 +175,7 @@ pub(crate) fn call_with(
     args: Args,
     draft: &mut Draft,
 ) -> Result<Reg, Memory>
-    ensures { lines.Gives (lines.with_result scene.now place (λ dst. Node.Call dst callee receiver args (lines.site 0)) draft.old) result draft.new }
+    ensures { code_lines.Gives (lines.with_result scene.now place (λ dst. Node.Call dst callee receiver args (lines.site 0)) draft.old) result draft.new }
 {
     let dst = draft.fresh()?;
     let node = Node::Call {
@@ -196,7 +197,7 @@ fn call(
     values: &[Reg],
     draft: &mut Draft,
 ) -> Result<Reg, Memory>
-    ensures { lines.Gives (spec.list_special Special.Call scene.now place values.now draft.old) result draft.new }
+    ensures { code_lines.Gives (spec.list_special Special.Call scene.now place values.now draft.old) result draft.new }
 {
     match values {
         [callee, receiver, arguments @ ..] => {
@@ -216,7 +217,7 @@ fn spread(
     values: &[Reg],
     draft: &mut Draft,
 ) -> Result<Reg, Memory>
-    ensures { lines.Gives (spec.list_special Special.Spread scene.now place values.now draft.old) result draft.new }
+    ensures { code_lines.Gives (spec.list_special Special.Spread scene.now place values.now draft.old) result draft.new }
 {
     match values {
         [callee, receiver, array] => {
@@ -235,7 +236,7 @@ fn tail(
     values: &[Reg],
     draft: &mut Draft,
 ) -> Result<Reg, Memory>
-    ensures { lines.Gives (spec.list_special Special.Tail scene.now place values.now draft.old) result draft.new }
+    ensures { code_lines.Gives (spec.list_special Special.Tail scene.now place values.now draft.old) result draft.new }
 {
     match values {
         [callee, receiver] => call_with(scene, place, *callee, *receiver, Args::Tail, draft),
@@ -252,7 +253,7 @@ fn stop(
     values: &[Reg],
     draft: &mut Draft,
 ) -> Result<Reg, Memory>
-    ensures { lines.Gives (spec.list_special (Special.Stop kind) scene.now place values.now draft.old) result draft.new }
+    ensures { code_lines.Gives (spec.list_special (Special.Stop kind) scene.now place values.now draft.old) result draft.new }
 {
     match values {
         [] => {
@@ -273,7 +274,7 @@ fn intrinsic(
     values: Vec<Reg>,
     draft: &mut Draft,
 ) -> Result<Reg, Memory>
-    ensures { lines.Gives (spec.list_special (Special.Intrinsic which) scene.now place values.items draft.old) result draft.new }
+    ensures { code_lines.Gives (spec.list_special (Special.Intrinsic which) scene.now place values.items draft.old) result draft.new }
 {
     let dst = draft.fresh()?;
     let args = Seq::from_vec(values);
@@ -289,7 +290,7 @@ pub(crate) fn list_special(
     values: Vec<Reg>,
     draft: &mut Draft,
 ) -> Result<Reg, Memory>
-    ensures { lines.Gives (spec.list_special special scene.now place values.items draft.old) result draft.new }
+    ensures { code_lines.Gives (spec.list_special special scene.now place values.items draft.old) result draft.new }
 {
     let given = values.as_slice();
     match special {

@@ -7,7 +7,7 @@ use Rattle.ja_lower_listing.specs.declared.item.Target.TheVariants as target
 use Rattle.ja_lower_listing.specs.declared.item.Item.{Item}
 use Rattle.ja_lower_listing.specs.declared.item.Item.TheVariants as item
 use Rattle.ja_lower_listing.specs.Listing.{node_count, behind, led, goes, leads, jump_of, way_on}
-use Rattle.ja_lower_listing.specs.Passes.{Seen, seen, known, further, after, landed, followed, IsEnd}
+use Rattle.ja_lower_listing.specs.code.Passes.{Seen, seen, known, further, after, landed, followed, IsEnd}
 use Rattle.ja_lower_listing.proofs.Jumps.{Below, leads_further, settled}
 
 -- items behind one at the end of a listing are at its end

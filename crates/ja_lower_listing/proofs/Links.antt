@@ -9,7 +9,7 @@ use Rattle.ja_lower_listing.specs.declared.item.Item.{Item}
 use Rattle.ja_lower_listing.specs.declared.item.Item.TheVariants as item
 use Rattle.ja_lower_listing.specs.declared.item.Spot.{Spot}
 use Rattle.ja_lower_listing.specs.Listing.{node_count, led, jump_of, way_on, with_edges, nodes_from}
-use Rattle.ja_lower_listing.specs.Passes.{ways_on, seen}
+use Rattle.ja_lower_listing.specs.code.Passes.{ways_on, seen}
 use Rattle.ja_lower_listing.proofs.Kept.{counted}
 
 -- what the last element leaves

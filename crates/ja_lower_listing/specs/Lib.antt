@@ -1,4 +1,3 @@
 pub mod Listing
-pub mod Spots
-pub mod Passes
 pub mod Laws
+pub mod code

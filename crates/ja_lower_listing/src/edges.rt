@@ -5,7 +5,7 @@ ghost use Rattle.ja_lower_listing.specs.declared.item.BlockNode.{BlockNode};
 ghost use Rattle.ja_lower_listing.specs.declared.item.Item.{Item};
 ghost use Rattle.ja_lower_listing.specs.declared.item.Item.TheVariants as item;
 ghost use Rattle.ja_lower_listing.specs.Listing.{node_count, led, jump_of, edge, with_edges, nodes_from, block_of, closed, assembled};
-ghost use Rattle.ja_lower_listing.specs.Passes.{AreEdges, IsEnd, further, followed, landed, seen, ways_on};
+ghost use Rattle.ja_lower_listing.specs.code.Passes.{AreEdges, IsEnd, further, followed, landed, seen, ways_on};
 
 use crate::facts::{goes_on, more, node_count};
 use crate::passes::{node_of, passed};
@@ -47,7 +47,7 @@ impl Edges {
     }
 
     /// Where a run goes on in the end.
-    #[tactic(auto, unfolding(crate::specs::Passes::after), using(crate::proofs::Followed::others_stay))]
+    #[tactic(auto, unfolding(crate::specs::code::Passes::after), using(crate::proofs::Followed::others_stay))]
     fn landing(&self, target: Target) -> Target
         ensures { (whole : List Item) → AreEdges self.now whole → result ≡ followed whole target }
     {

@@ -4,8 +4,8 @@ ghost use Rattle.std.specs.Prelude.{◌≡◌, ◌≤◌, List, [], ◌∷◌, �
 ghost use Rattle.ja_lower_listing.specs.declared.item.Item.{Item};
 ghost use Rattle.ja_lower_listing.specs.declared.item.Target.TheVariants as target;
 ghost use Rattle.ja_lower_listing.specs.Listing.{node_count};
-ghost use Rattle.ja_lower_listing.specs.Passes.{HasPassed};
-ghost use Rattle.ja_lower_listing.specs.Spots.{target_of};
+ghost use Rattle.ja_lower_listing.specs.code.Passes.{HasPassed};
+ghost use Rattle.ja_lower_listing.specs.code.Spots.{target_of};
 
 use crate::facts::{more, node_count, nodes_of};
 use crate::spots::Spots;
@@ -35,7 +35,7 @@ pub(crate) fn node_of(first: u32, node: u32) -> Result<Target, Memory>
 
 impl Backward {
     /// The pass before its first line.
-    #[tactic(auto, unfolding(crate::specs::Listing::node_count, crate::specs::Passes::seen, crate::specs::Passes::ways_on))]
+    #[tactic(auto, unfolding(crate::specs::Listing::node_count, crate::specs::code::Passes::seen, crate::specs::code::Passes::ways_on))]
     fn new(alloc: Global, items: &[Item]) -> Result<Self, Memory>
         ensures { IfOk result (λ pass. HasPassed pass items.now []) }
     {
@@ -56,7 +56,7 @@ impl Backward {
     }
 
     /// Passes the line before those that it has passed.
-    #[tactic(auto, unfolding(crate::specs::Listing::node_count, crate::specs::Passes::seen, crate::specs::Passes::ways_on))]
+    #[tactic(auto, unfolding(crate::specs::Listing::node_count, crate::specs::code::Passes::seen, crate::specs::code::Passes::ways_on))]
     fn pass(&mut self, item: &Item) -> Result<(), Memory>
         requires { node_count (item.now ∷ []) ≤ self.old.before }
         ensures { OnOk result ((whole items : List Item) → HasPassed self.old whole items → HasPassed self.new whole (item.now ∷ items)) }

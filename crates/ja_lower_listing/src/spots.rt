@@ -2,7 +2,7 @@
 
 ghost use Rattle.std.specs.Prelude.{◌≡◌, ◌==◌, ℕ, Some, None, OnOk, if◌then◌else◌};
 ghost use Rattle.std.specs.Option.{option_or};
-ghost use Rattle.ja_lower_listing.specs.Spots.{target_of};
+ghost use Rattle.ja_lower_listing.specs.code.Spots.{target_of};
 
 use crate::{Spot, Target};
 use ja_base::Memory;

@@ -26,7 +26,8 @@ use Rattle.ja_syntax.specs.declared.tree.Expression.{Expression, roll-Expression
 use Rattle.ja_syntax.specs.declared.tree.Expression.TheVariants as e
 use Rattle.ja_syntax.specs.declared.tree.Expression.TheOpen.{Expression-F, Statement-F, Case-F}
 use Rattle.ja_syntax.specs.declared.tree.Expression.TheFolds.{para-roll-Expression, para-roll-Statement, para-roll-Case, map-Expression, map-Statement, map-Case}
-use Rattle.ja_lower_names.specs.TextOrder.{Parts, a_function, one_variable, if_any, in_literal, in_name, in_suffix, in_property, in_operation, in_declaration, in_first, in_target, in_catch, expression_step, statement_step, case_step, in_expression, in_statement, in_case, function_parts}
+use Rattle.ja_lower_names.specs.TextOrder.{Parts, a_function, one_variable, if_any, in_literal, in_name, in_suffix, in_property, in_operation, in_declaration, in_first, in_target, in_catch, expression_step, statement_step, case_step, in_statement, function_parts}
+use Rattle.ja_lower_names.specs.code.TextOrder.{in_expression, in_case}
 
 after : {A B : Type 0} (f : B → Parts) (g : A → B) (h : A → Parts) → ((x : A) → f (g x) ≡ h x) → (xs : List A) → flat_map f (map g xs) ≡ flat_map h xs
 after f g h e [] = refl

@@ -1,3 +1,3 @@
 pub mod Names
 pub mod TextOrder
-pub mod TextParts
+pub mod code

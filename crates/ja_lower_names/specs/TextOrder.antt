@@ -22,7 +22,7 @@ use Rattle.ja_syntax.specs.declared.tree.Case.{Case}
 use Rattle.ja_syntax.specs.declared.tree.Statement.{Statement}
 use Rattle.ja_syntax.specs.declared.tree.Expression.{Expression}
 use Rattle.ja_syntax.specs.declared.tree.Expression.TheOpen.{Expression-F, Statement-F, Case-F}
-use Rattle.ja_syntax.specs.declared.tree.Expression.TheFolds.{para-Expression, para-Statement, para-Case}
+use Rattle.ja_syntax.specs.declared.tree.Expression.TheFolds.{para-Statement}
 
 -- A name where it stands in a text, and whether it is an expression there, that is, a variable (ES3 11.1.2).
 pub record Named : Type 0 where
@@ -151,15 +151,8 @@ statement_step (Statement-F.Statement::Function function) = in_function (λ s. s
 abbrev pub case_step : Case-F (Expression × Parts) (Statement × Parts) (Case × Parts) → Parts
 case_step c = if_any (λ e. e.1) c.test ++ flat_map (λ s. s.1) c.body
 
--- the parts of an expression, of a statement, and of a clause of a `switch`
-unfoldable pub in_expression : Expression → Parts
-in_expression = para-Expression Parts Parts Parts expression_step statement_step case_step
-
 unfoldable pub in_statement : Statement → Parts
 in_statement = para-Statement Parts Parts Parts expression_step statement_step case_step
-
-unfoldable pub in_case : Case → Parts
-in_case = para-Case Parts Parts Parts expression_step statement_step case_step
 
 -- the parts of a function of the text
 abbrev pub function_parts : FunctionOf Statement → Parts

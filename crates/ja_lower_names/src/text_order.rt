@@ -3,7 +3,8 @@
 ghost use Rattle.std.specs.Prelude.{◌≡◌, ◌++◌, map, IfOk, OnOk};
 ghost use Rattle.std.specs.List.{flat_map};
 ghost use Rattle.ja_lower_names.specs.TextOrder as spec;
-ghost use Rattle.ja_lower_names.specs.TextParts.{named_of};
+ghost use Rattle.ja_lower_names.specs.code.TextOrder as code;
+ghost use Rattle.ja_lower_names.specs.code.TextParts.{named_of};
 
 use crate::text_order_parts::{Named, Parts};
 use ja_base::Memory;
@@ -58,7 +59,7 @@ fn add_identifier<'a>(parts: &mut Parts<'a>, name: &'a Option<Name>) -> Result<(
 #[cycle(text)]
 #[tactic(auto, using(crate::proofs::TextOrderLemmas::of_this, crate::proofs::TextOrderLemmas::of_name, crate::proofs::TextOrderLemmas::of_literal, crate::proofs::TextOrderLemmas::of_array, crate::proofs::TextOrderLemmas::of_object, crate::proofs::TextOrderLemmas::of_function, crate::proofs::TextOrderLemmas::of_chain, crate::proofs::TextOrderLemmas::of_new, crate::proofs::TextOrderLemmas::of_unary, crate::proofs::TextOrderLemmas::of_update, crate::proofs::TextOrderLemmas::of_binary, crate::proofs::TextOrderLemmas::of_conditional, crate::proofs::TextOrderLemmas::of_assign, crate::proofs::TextOrderLemmas::of_sequence))]
 fn add_expression<'a>(parts: &mut Parts<'a>, expression: &'a Expression) -> Result<(), Memory>
-    ensures { OnOk result (parts.new ≡ parts.old ++ spec.in_expression expression.now) }
+    ensures { OnOk result (parts.new ≡ parts.old ++ code.in_expression expression.now) }
 {
     match expression {
         Expression::This { .. } => Ok(()),
@@ -112,7 +113,7 @@ fn add_expression<'a>(parts: &mut Parts<'a>, expression: &'a Expression) -> Resu
 
 #[cycle(text)]
 fn add_expressions<'a>(parts: &mut Parts<'a>, expressions: &'a [Expression]) -> Result<(), Memory>
-    ensures { OnOk result (parts.new ≡ parts.old ++ flat_map spec.in_expression expressions.now) }
+    ensures { OnOk result (parts.new ≡ parts.old ++ flat_map code.in_expression expressions.now) }
 {
     for expression in expressions {
         add_expression(parts, expression)?;
@@ -122,7 +123,7 @@ fn add_expressions<'a>(parts: &mut Parts<'a>, expressions: &'a [Expression]) -> 
 
 #[cycle(text)]
 fn add_optional<'a>(parts: &mut Parts<'a>, expression: &'a Option<Expression>) -> Result<(), Memory>
-    ensures { OnOk result (parts.new ≡ parts.old ++ spec.if_any spec.in_expression expression.now) }
+    ensures { OnOk result (parts.new ≡ parts.old ++ spec.if_any code.in_expression expression.now) }
 {
     match expression {
         None => Ok(()),
@@ -135,7 +136,7 @@ fn add_optional_boxed<'a>(
     parts: &mut Parts<'a>,
     expression: &'a Option<Boxed<Expression>>,
 ) -> Result<(), Memory>
-    ensures { OnOk result (parts.new ≡ parts.old ++ spec.if_any spec.in_expression expression.now) }
+    ensures { OnOk result (parts.new ≡ parts.old ++ spec.if_any code.in_expression expression.now) }
 {
     match expression {
         None => Ok(()),
@@ -145,7 +146,7 @@ fn add_optional_boxed<'a>(
 
 #[cycle(text)]
 fn add_elements<'a>(parts: &mut Parts<'a>, elements: &'a [Option<Expression>]) -> Result<(), Memory>
-    ensures { OnOk result (parts.new ≡ parts.old ++ flat_map (spec.if_any spec.in_expression) elements.now) }
+    ensures { OnOk result (parts.new ≡ parts.old ++ flat_map (spec.if_any code.in_expression) elements.now) }
 {
     for element in elements {
         add_optional(parts, element)?;
@@ -155,7 +156,7 @@ fn add_elements<'a>(parts: &mut Parts<'a>, elements: &'a [Option<Expression>]) -
 
 #[cycle(text)]
 fn add_property<'a>(parts: &mut Parts<'a>, property: &'a Property<Expression>) -> Result<(), Memory>
-    ensures { OnOk result (parts.new ≡ parts.old ++ spec.in_property spec.in_expression property.now) }
+    ensures { OnOk result (parts.new ≡ parts.old ++ spec.in_property code.in_expression property.now) }
 {
     add_property_name(parts, &property.name)?;
     add_expression(parts, &property.value)
@@ -166,7 +167,7 @@ fn add_properties<'a>(
     parts: &mut Parts<'a>,
     properties: &'a [Property<Expression>],
 ) -> Result<(), Memory>
-    ensures { OnOk result (parts.new ≡ parts.old ++ flat_map (spec.in_property spec.in_expression) properties.now) }
+    ensures { OnOk result (parts.new ≡ parts.old ++ flat_map (spec.in_property code.in_expression) properties.now) }
 {
     for property in properties {
         add_property(parts, property)?;
@@ -179,7 +180,7 @@ fn add_operations<'a>(
     parts: &mut Parts<'a>,
     operations: &'a [Operation<Expression>],
 ) -> Result<(), Memory>
-    ensures { OnOk result (parts.new ≡ parts.old ++ flat_map (spec.in_operation spec.in_expression) operations.now) }
+    ensures { OnOk result (parts.new ≡ parts.old ++ flat_map (spec.in_operation code.in_expression) operations.now) }
 {
     for operation in operations {
         add_expression(parts, &operation.right)?;
@@ -189,7 +190,7 @@ fn add_operations<'a>(
 
 #[cycle(text)]
 fn add_suffix<'a>(parts: &mut Parts<'a>, suffix: &'a Suffix<Expression>) -> Result<(), Memory>
-    ensures { OnOk result (parts.new ≡ parts.old ++ spec.in_suffix spec.in_expression suffix.now) }
+    ensures { OnOk result (parts.new ≡ parts.old ++ spec.in_suffix code.in_expression suffix.now) }
 {
     match suffix {
         Suffix::Member { name, .. } => parts.add_name(&name.text),
@@ -200,7 +201,7 @@ fn add_suffix<'a>(parts: &mut Parts<'a>, suffix: &'a Suffix<Expression>) -> Resu
 
 #[cycle(text)]
 fn add_suffixes<'a>(parts: &mut Parts<'a>, suffixes: &'a [Suffix<Expression>]) -> Result<(), Memory>
-    ensures { OnOk result (parts.new ≡ parts.old ++ flat_map (spec.in_suffix spec.in_expression) suffixes.now) }
+    ensures { OnOk result (parts.new ≡ parts.old ++ flat_map (spec.in_suffix code.in_expression) suffixes.now) }
 {
     for suffix in suffixes {
         add_suffix(parts, suffix)?;
@@ -224,7 +225,7 @@ fn add_initialiser<'a>(
     parts: &mut Parts<'a>,
     initialiser: &'a Option<Initialiser<Expression>>,
 ) -> Result<(), Memory>
-    ensures { OnOk result (parts.new ≡ parts.old ++ spec.if_any (spec.in_initialiser spec.in_expression) initialiser.now) }
+    ensures { OnOk result (parts.new ≡ parts.old ++ spec.if_any (spec.in_initialiser code.in_expression) initialiser.now) }
 {
     match initialiser {
         None => Ok(()),
@@ -237,7 +238,7 @@ fn add_declaration<'a>(
     parts: &mut Parts<'a>,
     declaration: &'a Declaration<Expression>,
 ) -> Result<(), Memory>
-    ensures { OnOk result (parts.new ≡ parts.old ++ spec.in_declaration spec.in_expression declaration.now) }
+    ensures { OnOk result (parts.new ≡ parts.old ++ spec.in_declaration code.in_expression declaration.now) }
 {
     parts.add_name(&declaration.name.text)?;
     add_initialiser(parts, &declaration.initialiser)
@@ -248,7 +249,7 @@ fn add_declarations<'a>(
     parts: &mut Parts<'a>,
     declarations: &'a [Declaration<Expression>],
 ) -> Result<(), Memory>
-    ensures { OnOk result (parts.new ≡ parts.old ++ flat_map (spec.in_declaration spec.in_expression) declarations.now) }
+    ensures { OnOk result (parts.new ≡ parts.old ++ flat_map (spec.in_declaration code.in_expression) declarations.now) }
 {
     for declaration in declarations {
         add_declaration(parts, declaration)?;
@@ -258,7 +259,7 @@ fn add_declarations<'a>(
 
 #[cycle(text)]
 fn add_first<'a>(parts: &mut Parts<'a>, first: &'a ForFirst<Expression>) -> Result<(), Memory>
-    ensures { OnOk result (parts.new ≡ parts.old ++ spec.in_first spec.in_expression first.now) }
+    ensures { OnOk result (parts.new ≡ parts.old ++ spec.in_first code.in_expression first.now) }
 {
     match first {
         ForFirst::Nothing => Ok(()),
@@ -269,7 +270,7 @@ fn add_first<'a>(parts: &mut Parts<'a>, first: &'a ForFirst<Expression>) -> Resu
 
 #[cycle(text)]
 fn add_target<'a>(parts: &mut Parts<'a>, target: &'a ForTarget<Expression>) -> Result<(), Memory>
-    ensures { OnOk result (parts.new ≡ parts.old ++ spec.in_target spec.in_expression target.now) }
+    ensures { OnOk result (parts.new ≡ parts.old ++ spec.in_target code.in_expression target.now) }
 {
     match target {
         ForTarget::Variable(declaration) => add_declaration(parts, declaration),
@@ -413,7 +414,7 @@ fn add_statements<'a>(parts: &mut Parts<'a>, statements: &'a [Statement]) -> Res
 #[cycle(text)]
 #[tactic(auto, using(crate::proofs::TextOrderLemmas::of_case))]
 fn add_case<'a>(parts: &mut Parts<'a>, case: &'a Case) -> Result<(), Memory>
-    ensures { OnOk result (parts.new ≡ parts.old ++ spec.in_case case.now) }
+    ensures { OnOk result (parts.new ≡ parts.old ++ code.in_case case.now) }
 {
     add_optional(parts, &case.test)?;
     add_statements(parts, case.body.as_slice())
@@ -421,7 +422,7 @@ fn add_case<'a>(parts: &mut Parts<'a>, case: &'a Case) -> Result<(), Memory>
 
 #[cycle(text)]
 fn add_cases<'a>(parts: &mut Parts<'a>, cases: &'a [Case]) -> Result<(), Memory>
-    ensures { OnOk result (parts.new ≡ parts.old ++ flat_map spec.in_case cases.now) }
+    ensures { OnOk result (parts.new ≡ parts.old ++ flat_map code.in_case cases.now) }
 {
     for case in cases {
         add_case(parts, case)?;

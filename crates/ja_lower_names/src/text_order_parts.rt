@@ -3,7 +3,7 @@
 ghost use Rattle.std.specs.Prelude.{◌≡◌, ◌++◌, ◌∷◌, [], map, IfOk, OnOk};
 ghost use Rattle.std.specs.List.{flat_map};
 ghost use Rattle.ja_lower_names.specs.TextOrder as spec;
-ghost use Rattle.ja_lower_names.specs.TextParts.{named_of};
+ghost use Rattle.ja_lower_names.specs.code.TextParts.{named_of};
 
 use ja_base::Memory;
 use ja_prim::Text16;
@@ -41,7 +41,7 @@ impl<'a> Model for Parts<'a> {
 
     ghost coded = { Prim.hlevel (codes, statement.the_row.coded) };
 
-    ghost use Rattle.ja_lower_names.specs.TextParts.{part_of};
+    ghost use Rattle.ja_lower_names.specs.code.TextParts.{part_of};
 
     ghost view = { λ p. map part_of p.row.items };
 }

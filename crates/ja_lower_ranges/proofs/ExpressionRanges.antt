@@ -18,7 +18,8 @@ use Rattle.ja_syntax.specs.declared.tree.Expression.TheFolds.{fold-roll-Expressi
 use Rattle.ja_lower_draft.specs.Lines.{Listing, Valued, Scene, register}
 use Rattle.ja_lower_expressions.specs.References.{Listed, Form}
 use Rattle.ja_lower_expressions.specs.Expressions.{with_suffix, apply_operations, list_others, member_of, list_assignment, form_step, form}
-use Rattle.ja_lower_names.specs.TextOrder.{Parts, a_function, one_variable, if_any, in_name, in_property_name, in_property, in_suffix, in_operation, expression_step, in_expression, in_statement}
+use Rattle.ja_lower_names.specs.TextOrder.{Parts, a_function, one_variable, if_any, in_name, in_property_name, in_property, in_suffix, in_operation, expression_step, in_statement}
+use Rattle.ja_lower_names.specs.code.TextOrder.{in_expression}
 use Rattle.ja_lower_names.proofs.TextOrderLemmas.{Expressions, expression_layer, expression_opened}
 use Rattle.ja_lower_ranges.specs.Found.{HasPart, HasParts}
 use Rattle.ja_lower_ranges.specs.InRange.{limits_of}

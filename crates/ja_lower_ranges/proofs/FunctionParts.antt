@@ -22,7 +22,8 @@ use Rattle.ja_syntax.specs.declared.tree.Expression.{Expression, roll-Expression
 use Rattle.ja_syntax.specs.declared.tree.Expression.TheOpen.{Expression-F, Statement-F, Case-F}
 use Rattle.ja_syntax.specs.declared.tree.Expression.TheFolds.{para-roll-Case, ind-Statement, map-Expression, map-Statement, map-Case}
 use Rattle.ja_lower_draft.specs.Lines.{Scene}
-use Rattle.ja_lower_names.specs.TextOrder.{Parts, one_name, one_variable, if_any, in_literal, in_property_name, in_name, in_suffix, in_property, in_operation, in_declaration, expression_step, statement_step, case_step, in_expression, in_statement, in_case, function_parts, if_function, functions_in}
+use Rattle.ja_lower_names.specs.TextOrder.{Parts, one_name, one_variable, if_any, in_literal, in_property_name, in_name, in_suffix, in_property, in_operation, in_declaration, expression_step, statement_step, case_step, in_statement, function_parts, if_function, functions_in}
+use Rattle.ja_lower_names.specs.code.TextOrder.{in_expression, in_case}
 use Rattle.ja_lower_names.proofs.TextOrderLemmas.{Expressions, Statements, Cases, expression_layer, statement_layer, case_layer, expression_opened, statement_opened, function_layer}
 use Rattle.ja_lower_ranges.specs.Found.{HasPart, HasParts, HasText, HasFunction}
 

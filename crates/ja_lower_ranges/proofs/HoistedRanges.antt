@@ -3,7 +3,8 @@ use Rattle.std.proofs.Common.{◌≡◌, ℕ, Bool, true, false, not, cond, List
 use Rattle.std.specs.List.{AllByRecursion, filter, flat_map}
 use Rattle.std.specs.Str.{bytes_eq}
 use Rattle.ja_base.proofs.Lists.{all_append, all_left, all_right}
-use Rattle.ja_syntax.specs.Hoisted.{Texts, nothing, variables_step, variables_in_case, variables_of, case_variables, declared_names, once, hoisted_variables}
+use Rattle.ja_syntax.specs.Hoisted.{Texts, nothing, variables_step, variables_in_case, variables_of, declared_names, once, hoisted_variables}
+use Rattle.ja_syntax.specs.code.Hoisted.{case_variables}
 use Rattle.ja_syntax.specs.declared.tree.Declaration.{Declaration}
 use Rattle.ja_syntax.specs.declared.tree.ForFirst.TheVariants as first
 use Rattle.ja_syntax.specs.declared.tree.ForTarget.TheVariants as target
@@ -14,7 +15,8 @@ use Rattle.ja_syntax.specs.declared.tree.Expression.{Expression}
 use Rattle.ja_syntax.specs.declared.tree.Expression.TheOpen.{Statement-F, Case-F}
 use Rattle.ja_syntax.specs.declared.tree.Expression.TheFolds.{fold-Expression, fold-roll-Statement, fold-roll-Case, para-roll-Case, ind-Statement, map-Statement, map-Case}
 use Rattle.ja_lower_draft.specs.Lines.{Scene}
-use Rattle.ja_lower_names.specs.TextOrder.{Parts, if_any, in_name, in_initialiser, in_declaration, expression_step, statement_step, case_step, in_expression, in_statement, in_case}
+use Rattle.ja_lower_names.specs.TextOrder.{Parts, if_any, in_name, in_initialiser, in_declaration, expression_step, statement_step, case_step, in_statement}
+use Rattle.ja_lower_names.specs.code.TextOrder.{in_expression, in_case}
 use Rattle.ja_lower_names.proofs.TextOrderLemmas.{Expressions, Statements, Cases, statement_layer, case_layer, statement_opened}
 use Rattle.ja_lower_ranges.specs.Found.{HasName, HasPart, HasParts, HasText}
 

@@ -21,7 +21,8 @@ use Rattle.ja_syntax.specs.declared.tree.Expression.TheOpen.{Statement-F, Case-F
 use Rattle.ja_syntax.specs.declared.tree.Expression.TheFolds.{map-Statement, ind-Statement}
 use Rattle.ja_lower_expressions.specs.Expressions.{form}
 use Rattle.ja_lower_draft.specs.Lines.{Listing, restarted}
-use Rattle.ja_lower_statements.specs.Statements.{Around, Does, does, clause_of, declaration_of, initialiser_of, for_first_of, target_of, catch_of, label_text, list_all_statements, list_if_alone, list_then, list_else, list_do, list_while, list_for, list_for_in, list_return, list_labelled, list_switch, list_try}
+use Rattle.ja_lower_statements.specs.Statements.{Around, Does, does, label_text, list_all_statements, list_if_alone, list_then, list_else, list_do, list_while, list_for, list_for_in, list_return, list_labelled, list_switch, list_try}
+use Rattle.ja_lower_statements.specs.code.Statements.{clause_of, declaration_of, initialiser_of, for_first_of, target_of, catch_of}
 use Rattle.ja_lower_statements.specs.Ways.{break_target, continue_target, leaving}
 use Rattle.ja_lower_statements.proofs.StatementLemmas.{does_block, does_variables, does_empty, does_expression, does_if_alone, does_if_else, does_do, does_while, does_for, does_for_in, does_continue, does_break, does_return, does_labelled, does_switch, does_throw, does_try, does_function}
 use Rattle.ja_lower_ranges.proofs.SpotForms.{IsSpottedForm, kept_value_of, form_keeps}

@@ -22,7 +22,8 @@ use Rattle.ja_syntax.specs.declared.tree.Expression.TheFolds.{para-Expression, p
 use Rattle.ja_lower_expressions.specs.Expressions.{form}
 use Rattle.ja_lower_draft.specs.Lines.{Listing, restarted}
 use Rattle.ja_lower_expressions.specs.References.{Form, value_of}
-use Rattle.ja_lower_statements.specs.Statements.{Around, Does, Clause, Expressions, statement_level, clause_level, does, clause_of, declaration_of, initialiser_of, for_first_of, target_of, catch_of, label_text, list_all_statements, declare_all, list_if, list_if_alone, list_then, list_else, list_do, list_while, list_for, list_for_in, list_return, list_labelled, list_switch, list_throw, list_try}
+use Rattle.ja_lower_statements.specs.Statements.{Around, Does, Clause, Expressions, statement_level, clause_level, does, label_text, list_all_statements, declare_all, list_if, list_if_alone, list_then, list_else, list_do, list_while, list_for, list_for_in, list_return, list_labelled, list_switch, list_throw, list_try}
+use Rattle.ja_lower_statements.specs.code.Statements.{clause_of, declaration_of, initialiser_of, for_first_of, target_of, catch_of}
 use Rattle.ja_lower_statements.specs.Ways.{break_target, continue_target, jump_to, leaving}
 
 abbrev clause : Case → Clause

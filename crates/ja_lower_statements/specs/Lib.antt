@@ -1,4 +1,4 @@
 pub mod Ways
-pub mod Standing
 pub mod Statements
 pub mod Functions
+pub mod code

@@ -3,7 +3,7 @@
 ghost use Rattle.std.specs.Prelude.{◌≡◌, ◌+◌, ◌∷◌, map, IfOk, OnOk, Some};
 ghost use Rattle.ja_lower_draft.specs.Lines as lines;
 ghost use Rattle.ja_lower_statements.specs.Statements as spec;
-ghost use Rattle.ja_lower_statements.specs.Standing.{around_of, way_of};
+ghost use Rattle.ja_lower_statements.specs.code.Standing.{around_of, way_of};
 
 use crate::way::Way;
 use ja_base::Memory;

@@ -1,9 +1,10 @@
 //! The blocks of a `try` (ES3 12.14).
 
 ghost use Rattle.std.specs.Prelude.{map};
-ghost use Rattle.ja_lower_draft.specs.Lines as lines;
-ghost use Rattle.ja_lower_statements.specs.Standing.{Guards, Keeps, around_of, guarded_at};
+ghost use Rattle.ja_lower_draft.specs.code.Lines as lines;
+ghost use Rattle.ja_lower_statements.specs.code.Standing.{Guards, Keeps, around_of, guarded_at};
 ghost use Rattle.ja_lower_statements.specs.Statements as spec;
+ghost use Rattle.ja_lower_statements.specs.code.Statements as code;
 
 use crate::around::{Around, first_spot, handled_at, later, nth_spot, with_way};
 use crate::statement_list::statements;
@@ -109,7 +110,7 @@ pub(crate) fn trial(
     base: u32,
     draft: &mut Draft,
 ) -> Result<(), Memory>
-    ensures { lines.Adds (spec.does_trial statement.now (around_of around.now) base draft.old) result draft.new }
+    ensures { lines.Adds (code.does_trial statement.now (around_of around.now) base draft.old) result draft.new }
 {
     let scene = around.scene;
     match statement {

@@ -2,7 +2,7 @@
 
 ghost use Rattle.std.specs.Prelude.{◌≡◌, ◌+◌, None, IfOk};
 ghost use Rattle.ja_lower_statements.specs.Functions as spec;
-ghost use Rattle.ja_lower_draft.specs.Lines as lines;
+ghost use Rattle.ja_lower_draft.specs.code.Lines as lines;
 
 use crate::around::Around;
 use crate::statement_list::statements;

@@ -2,9 +2,10 @@
 
 ghost use Rattle.std.specs.Prelude.{map};
 ghost use Rattle.ja_lower_expressions.specs.Expressions.{form};
-ghost use Rattle.ja_lower_draft.specs.Lines as lines;
-ghost use Rattle.ja_lower_statements.specs.Standing.{around_of};
+ghost use Rattle.ja_lower_draft.specs.code.Lines as lines;
+ghost use Rattle.ja_lower_statements.specs.code.Standing.{around_of};
 ghost use Rattle.ja_lower_statements.specs.Statements as spec;
+ghost use Rattle.ja_lower_statements.specs.code.Statements as code;
 
 use crate::around::{Around, first_spot, later, two_spots, with_label, with_way};
 use crate::clauses::{default_spot, spots_of, tests};
@@ -48,7 +49,7 @@ pub(crate) fn if_then(
     place: Place,
     draft: &mut Draft,
 ) -> Result<u32, Memory>
-    ensures { spec.Spots (spec.list_then (form condition.now) (spec.does then.now) place (around_of around.now) base draft.old) result draft.new }
+    ensures { code.Spots (spec.list_then (form condition.now) (spec.does then.now) place (around_of around.now) base draft.old) result draft.new }
 {
     let inner = around.unlabelled();
     draft.restart(base);
@@ -114,7 +115,7 @@ fn bodies(
     first: u32,
     draft: &mut Draft,
 ) -> Result<(), Memory>
-    ensures { lines.Adds (spec.list_bodies (map spec.clause_of cases.now) (around_of around.now) base first draft.old) result draft.new }
+    ensures { lines.Adds (spec.list_bodies (map code.clause_of cases.now) (around_of around.now) base first draft.old) result draft.new }
 {
     let mut number = first;
     for case in cases {
@@ -136,7 +137,7 @@ pub(crate) fn switch(
     place: Place,
     draft: &mut Draft,
 ) -> Result<(), Memory>
-    ensures { lines.Adds (spec.list_switch (form subject.now) (map spec.clause_of cases.now) place (around_of around.now) base draft.old) result draft.new }
+    ensures { lines.Adds (spec.list_switch (form subject.now) (map code.clause_of cases.now) place (around_of around.now) base draft.old) result draft.new }
 {
     let scene = around.scene;
     draft.restart(base);

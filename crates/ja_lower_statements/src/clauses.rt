@@ -1,8 +1,9 @@
 //! What is listed of a `switch` beside the statements in it (ES3 12.11).
 
 ghost use Rattle.std.specs.Prelude.{◌≡◌, ◌+◌, map, IfOk};
-ghost use Rattle.ja_lower_draft.specs.Lines as lines;
+ghost use Rattle.ja_lower_draft.specs.code.Lines as lines;
 ghost use Rattle.ja_lower_statements.specs.Statements as spec;
+ghost use Rattle.ja_lower_statements.specs.code.Statements as code;
 
 use crate::around::{first_spot, later};
 use crate::statement_parts::branch;
@@ -15,7 +16,7 @@ use ja_syntax::Case;
 
 /// One more than there are clauses. Past the last number memory counts as refused.
 pub(crate) fn spots_of(cases: &[Case]) -> Result<u32, Memory>
-    ensures { IfOk result (λ n. n ≡ 1 + spec.count (map spec.clause_of cases.now)) }
+    ensures { IfOk result (λ n. n ≡ 1 + spec.count (map code.clause_of cases.now)) }
 {
     let mut number = 1;
     for _case in cases {
@@ -33,7 +34,7 @@ pub(crate) fn test(
     body: Spot,
     draft: &mut Draft,
 ) -> Result<(), Memory>
-    ensures { lines.Adds (spec.list_test (spec.clause_of case.now).test scene.now place switched body draft.old) result draft.new }
+    ensures { lines.Adds (spec.list_test (code.clause_of case.now).test scene.now place switched body draft.old) result draft.new }
 {
     match &case.test {
         None => Ok(()),
@@ -66,7 +67,7 @@ pub(crate) fn tests(
     first: u32,
     draft: &mut Draft,
 ) -> Result<(), Memory>
-    ensures { lines.Adds (spec.list_tests (map spec.clause_of cases.now) scene.now place switched first draft.old) result draft.new }
+    ensures { lines.Adds (spec.list_tests (map code.clause_of cases.now) scene.now place switched first draft.old) result draft.new }
 {
     let mut number = first;
     for case in cases {
@@ -79,7 +80,7 @@ pub(crate) fn tests(
 /// The spot of `default`, or of the end.
 #[tactic(auto, unfolding(crate::specs::Statements::default_spot))]
 pub(crate) fn default_spot(cases: &[Case], first: u32, end: Spot) -> Result<Spot, Memory>
-    ensures { IfOk result (λ spot. spot ≡ spec.default_spot (map spec.clause_of cases.now) first end) }
+    ensures { IfOk result (λ spot. spot ≡ spec.default_spot (map code.clause_of cases.now) first end) }
 {
     let mut number = first;
     for case in cases {

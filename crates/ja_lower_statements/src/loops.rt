@@ -2,9 +2,10 @@
 
 ghost use Rattle.std.specs.Option.{option_map};
 ghost use Rattle.ja_lower_expressions.specs.Expressions.{form};
-ghost use Rattle.ja_lower_draft.specs.Lines as lines;
-ghost use Rattle.ja_lower_statements.specs.Standing.{around_of};
+ghost use Rattle.ja_lower_draft.specs.code.Lines as lines;
+ghost use Rattle.ja_lower_statements.specs.code.Standing.{around_of};
 ghost use Rattle.ja_lower_statements.specs.Statements as spec;
+ghost use Rattle.ja_lower_statements.specs.code.Statements as code;
 
 use crate::around::{Around, later, take_three, take_two, with_way};
 use crate::statement_list::statement;
@@ -109,7 +110,7 @@ pub(crate) fn for_loop(
     place: Place,
     draft: &mut Draft,
 ) -> Result<(), Memory>
-    ensures { lines.Adds (spec.list_for (spec.for_first_of head.now) (option_map form test.now) (option_map form update.now) (spec.does body.now) place (around_of around.now) base draft.old) result draft.new }
+    ensures { lines.Adds (spec.list_for (code.for_first_of head.now) (option_map form test.now) (option_map form update.now) (spec.does body.now) place (around_of around.now) base draft.old) result draft.new }
 {
     let scene = around.scene;
     let (top, turn, end) = take_three(draft)?;
@@ -138,7 +139,7 @@ fn for_in_turn(
     end: Spot,
     draft: &mut Draft,
 ) -> Result<Reg, Memory>
-    ensures { lines.Gives (spec.for_in_turn (spec.target_of target.now) (form subject.now) place scene.now base turn end draft.old) result draft.new }
+    ensures { lines.Gives (spec.for_in_turn (code.target_of target.now) (form subject.now) place scene.now base turn end draft.old) result draft.new }
 {
     draft.restart(base);
     for_in_first(target, scene, draft)?;
@@ -166,7 +167,7 @@ pub(crate) fn for_in_loop(
     place: Place,
     draft: &mut Draft,
 ) -> Result<(), Memory>
-    ensures { lines.Adds (spec.list_for_in (spec.target_of target.now) (form subject.now) (spec.does body.now) place (around_of around.now) base draft.old) result draft.new }
+    ensures { lines.Adds (spec.list_for_in (code.target_of target.now) (form subject.now) (spec.does body.now) place (around_of around.now) base draft.old) result draft.new }
 {
     let (turn, end) = take_two(draft)?;
     let list = for_in_turn(target, subject, around.scene, base, place, turn, end, draft)?;

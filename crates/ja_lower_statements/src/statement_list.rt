@@ -1,8 +1,8 @@
 //! Statements (ES3 12).
 
 ghost use Rattle.std.specs.Prelude.{map};
-ghost use Rattle.ja_lower_draft.specs.Lines as lines;
-ghost use Rattle.ja_lower_statements.specs.Standing.{around_of};
+ghost use Rattle.ja_lower_draft.specs.code.Lines as lines;
+ghost use Rattle.ja_lower_statements.specs.code.Standing.{around_of};
 ghost use Rattle.ja_lower_statements.specs.Statements as spec;
 
 use crate::around::Around;

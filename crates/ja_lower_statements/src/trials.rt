@@ -1,7 +1,7 @@
 //! What is listed of a `try` beside the statements in it (ES3 12.14).
 
-ghost use Rattle.ja_lower_draft.specs.Lines as lines;
-ghost use Rattle.ja_lower_statements.specs.Standing.{guarded_at};
+ghost use Rattle.ja_lower_draft.specs.code.Lines as lines;
+ghost use Rattle.ja_lower_statements.specs.code.Standing.{guarded_at};
 ghost use Rattle.ja_lower_statements.specs.Statements as spec;
 
 use crate::around::{four_spots, later, two_spots};

@@ -3,9 +3,9 @@
 ghost use Rattle.std.specs.Prelude.{◌≡◌, [], None, map};
 ghost use Rattle.std.specs.List.{list_any};
 ghost use Rattle.std.specs.Str.{bytes_eq};
-ghost use Rattle.ja_lower_draft.specs.Lines as lines;
+ghost use Rattle.ja_lower_draft.specs.code.Lines as lines;
 ghost use Rattle.ja_lower_statements.specs.Ways as spec;
-ghost use Rattle.ja_lower_statements.specs.Standing.{step_of, way_of, Leaves};
+ghost use Rattle.ja_lower_statements.specs.code.Standing.{step_of, way_of, Leaves};
 ghost use Rattle.ja_lower_statements.specs.Statements.{label_text};
 
 use ja_base::{Memory, Place, Reg};

@@ -11,3 +11,4 @@ pub mod Nodes
 pub mod Machine
 pub mod State
 pub mod Runs
+pub mod code

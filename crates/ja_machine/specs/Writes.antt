@@ -55,10 +55,6 @@ abbrev pub define : Heap → Addr → List ℕ → Content → Attrs → Heap
 define h a name content attrs =
     changed h a (λ o. record o { properties = with_definition o.properties name content attrs })
 
--- a property is shared from now on, if it is there
-abbrev pub shared_from_now : List ℕ → Property → Property
-shared_from_now name q = if same_text q.name name then record q { shared = true } else q
-
 -- [[Delete]] (8.6.2.5): whether it gives true, and the heap behind it
 abbrev pub can_delete : Heap → Addr → List ℕ → Bool
 can_delete h a name = option_map_or (λ (q : Property). not q.attrs.dont_delete) (own h a name) true

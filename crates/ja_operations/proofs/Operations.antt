@@ -5,7 +5,7 @@ use Rattle.ja_graph.specs.declared.node.BinaryOp.{BinaryOp}
 use Rattle.ja_graph.specs.declared.node.BinaryOp.TheVariants.{Sub, Mul, Div, Rem, Shl, Shr, Ushr, And, Or, Xor}
 use Rattle.ja_machine.specs.declared.machine.Value.TheVariants as value
 use Rattle.ja_machine.specs.Values.{binary, of_numbers}
-use Rattle.ja_operations.specs.Operators.{number_operation}
+use Rattle.ja_operations.specs.code.Operators.{number_operation}
 
 -- one of these operations
 abbrev pub IsOnNumbers : BinaryOp → Type 0

@@ -1,1 +1,1 @@
-pub mod Operators
+pub mod code

@@ -9,7 +9,7 @@ ghost use Rattle.ja_prim.specs.Conversions.{to_text};
 ghost use Rattle.ja_prim.specs.Texts.{max_units};
 ghost use Rattle.ja_machine.specs.declared.machine.Value.TheVariants as value;
 ghost use Rattle.ja_machine.specs.Values.{unary, binary, truth_of, type_of, on_primitive, of_number, of_numbers, compared, is_true, is_false, loose_equal_values, strict_equal_values};
-ghost use Rattle.ja_operations.specs.Operators.{number_operation, is_equality};
+ghost use Rattle.ja_operations.specs.code.Operators.{number_operation, is_equality};
 
 use ja_base::Memory;
 use ja_graph::{BinaryOp, Class, UnaryOp};

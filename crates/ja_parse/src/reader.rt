@@ -3,12 +3,12 @@
 ghost use Rattle.std.specs.Prelude.{◌≡◌, ◌≢◌, ◌≤◌, ℕ, List, length, IfOk, IfErr, Err};
 ghost use Rattle.ja_grammar.specs.declared.fault.ParseFault.TheVariants as fault;
 ghost use Rattle.ja_grammar.specs.Input.{head, strict};
-ghost use Rattle.ja_grammar.specs.Answering.{Answers};
+ghost use Rattle.ja_grammar.specs.code.Answering.{Answers};
 ghost use Rattle.ja_grammar.specs.Language.{Explains, Spells, max_levels, token_fault};
 ghost use Rattle.ja_grammar.specs.Language as spec;
 ghost use Rattle.ja_grammar.specs.ReadStatement.{program};
 ghost use Rattle.ja_lex.specs.Tokens.{tokens};
-ghost use Rattle.ja_syntax.specs.Rules.{KeepsRules};
+ghost use Rattle.ja_syntax.specs.code.Rules.{KeepsRules};
 ghost use Rattle.ja_syntax.specs.declared.tree.Statement.{Statement as StatementOf};
 
 use ja_base::{Place, ScopeKind};

@@ -7,8 +7,9 @@ use Rattle.std.proofs.lemmas.List.{drop_all, append-nil}
 use Rattle.std.proofs.Math.ListN.{get_or-map}
 use Rattle.std.proofs.lemmas.List.{map-append, length-map}
 use Rattle.ja_grammar.specs.declared.context.Label.{Label as Stored}
-use Rattle.ja_grammar.specs.Contexts.{Label, label_of, marked}
-use Rattle.ja_parse_cursor.specs.Marks.{marked_one}
+use Rattle.ja_grammar.specs.Contexts.{Label, marked}
+use Rattle.ja_grammar.specs.code.Contexts.{label_of}
+use Rattle.ja_parse_cursor.specs.code.Marks.{marked_one}
 
 pub one_mark : (n : ℕ) (l : Label) (ls : List Label) → marked n (l ∷ ls) ≡ marked_one n l ∷ marked (n - 1) ls
 unfolding marked

@@ -7,7 +7,8 @@ use Rattle.ja_syntax.specs.Symbols.{same_symbol}
 use Rattle.ja_grammar.specs.declared.fault.Refusal.{Refusal}
 use Rattle.ja_grammar.specs.declared.fault.Stop.{Stop}
 use Rattle.ja_grammar.specs.declared.fault.Stop.TheVariants.{Refused as IsRefused, Memory}
-use Rattle.ja_grammar.specs.Input.{Tokens, Outcome, Done, Refused, Parser, Follows, look, symbol, next, behind, many_from, until_by, until, after_comma, separated}
+use Rattle.ja_grammar.specs.Input.{Tokens, Outcome, Done, Refused, Parser, look, symbol, next, behind, many_from, until_by, until, after_comma, separated}
+use Rattle.ja_grammar.specs.code.Input.{Follows}
 
 -- items up to a symbol that ends them, of which some were found, in at most n turns
 unfoldable pub until_from : {A : Type 0} → (Symbol → Bool) → Parser A → ℕ → List A → Parser (List A)

@@ -1,3 +1,1 @@
-pub mod Cursor
-pub mod Marks
-pub mod Taking
+pub mod code

@@ -4,8 +4,8 @@ ghost use Rattle.std.specs.Prelude.{◌≡◌, ◌<◌, ◌∷◌, ◌&&◌, fal
 ghost use Rattle.std.specs.Str.{bytes_eq};
 ghost use Rattle.std.specs.List.{list_any};
 ghost use Rattle.ja_grammar.specs.Contexts as spec;
-ghost use Rattle.ja_parse_cursor.specs.Marks as marks;
-ghost use Rattle.ja_grammar.specs.Contexts.{context_of, label_of};
+ghost use Rattle.ja_parse_cursor.specs.code.Marks as marks;
+ghost use Rattle.ja_grammar.specs.code.Contexts.{context_of, label_of};
 
 use ja_grammar::{Context, Label};
 use std::alloc::{AllocError, Global};

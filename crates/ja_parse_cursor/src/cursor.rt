@@ -3,7 +3,7 @@ ghost use Rattle.ja_prim.specs.Texts.{max_units};
 ghost use Rattle.ja_syntax.specs.Symbols as symbols;
 ghost use Rattle.ja_grammar.specs.Forms as forms;
 ghost use Rattle.ja_grammar.specs.Input as spec;
-ghost use Rattle.ja_parse_cursor.specs.Taking.{Takes};
+ghost use Rattle.ja_parse_cursor.specs.code.Taking.{Takes};
 
 use ja_base::{Place, ScopeKind};
 use ja_grammar::{Refusal, Stop};
@@ -28,7 +28,7 @@ impl<'a> Model for Cursor<'a> {
 
     ghost Value = { List Token };
 
-    ghost use Rattle.ja_parse_cursor.specs.Cursor.{tokens_of, IsReady};
+    ghost use Rattle.ja_parse_cursor.specs.code.Cursor.{tokens_of, IsReady};
 
     ghost view = { tokens_of };
 

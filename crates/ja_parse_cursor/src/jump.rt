@@ -3,8 +3,10 @@
 
 ghost use Rattle.std.specs.Prelude.{ℕ};
 ghost use Rattle.ja_syntax.specs.declared.tree.Statement.TheVariants as s;
-ghost use Rattle.ja_grammar.specs.Contexts.{context_of, may_break};
-ghost use Rattle.ja_grammar.specs.Input.{Follows, Done, behind, head, strict};
+ghost use Rattle.ja_grammar.specs.Contexts.{may_break};
+ghost use Rattle.ja_grammar.specs.code.Contexts.{context_of};
+ghost use Rattle.ja_grammar.specs.Input.{Done, behind, head, strict};
+ghost use Rattle.ja_grammar.specs.code.Input.{Follows};
 ghost use Rattle.ja_grammar.specs.ReadExpression.{Below};
 ghost use Rattle.ja_grammar.specs.ReadStatement as spec;
 

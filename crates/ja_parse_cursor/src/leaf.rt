@@ -4,7 +4,8 @@
 ghost use Rattle.std.specs.Prelude.{ℕ};
 ghost use Rattle.ja_syntax.specs.declared.tree.Expression.TheVariants as e;
 ghost use Rattle.ja_grammar.specs.Forms.{name_of};
-ghost use Rattle.ja_grammar.specs.Input.{Follows, Done, behind, head, strict};
+ghost use Rattle.ja_grammar.specs.Input.{Done, behind, head, strict};
+ghost use Rattle.ja_grammar.specs.code.Input.{Follows};
 ghost use Rattle.ja_grammar.specs.ReadExpression as spec;
 ghost use Rattle.ja_grammar.specs.ReadExpression.{Below};
 

@@ -2,7 +2,8 @@
 
 ghost use Rattle.std.specs.Prelude.{ℕ};
 ghost use Rattle.ja_syntax.specs.declared.symbol.Symbol.TheVariants as k;
-ghost use Rattle.ja_grammar.specs.Input.{Follows, listed, separated, strict};
+ghost use Rattle.ja_grammar.specs.Input.{listed, separated, strict};
+ghost use Rattle.ja_grammar.specs.code.Input.{Follows};
 ghost use Rattle.ja_grammar.specs.ReadExpression as spec;
 ghost use Rattle.ja_grammar.specs.ReadStatement.{below};
 

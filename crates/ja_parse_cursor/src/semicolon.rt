@@ -1,6 +1,6 @@
 //! The ends of statements, with semicolons inserted (ES3 7.9).
 
-ghost use Rattle.ja_grammar.specs.Input.{Follows};
+ghost use Rattle.ja_grammar.specs.code.Input.{Follows};
 ghost use Rattle.ja_grammar.specs.ReadStatement as spec;
 
 use crate::cursor::Cursor;

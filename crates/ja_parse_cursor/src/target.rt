@@ -1,12 +1,13 @@
 //! The labels behind jumps, and the `:` behind a label (ES3 12.7, 12.8, 12.12).
 
 ghost use Rattle.std.specs.Prelude.{◌≡◌, ℕ, true};
-ghost use Rattle.ja_grammar.specs.Contexts.{context_of};
+ghost use Rattle.ja_grammar.specs.code.Contexts.{context_of};
 ghost use Rattle.ja_grammar.specs.Contexts as contexts;
-ghost use Rattle.ja_grammar.specs.Input.{Follows, head, behind, strict};
+ghost use Rattle.ja_grammar.specs.Input.{head, behind, strict};
+ghost use Rattle.ja_grammar.specs.code.Input.{Follows};
 ghost use Rattle.ja_grammar.specs.ReadStatement as spec;
 ghost use Rattle.ja_grammar.specs.ReadStatement.{below};
-ghost use Rattle.ja_parse_cursor.specs.Taking.{Takes};
+ghost use Rattle.ja_parse_cursor.specs.code.Taking.{Takes};
 
 use crate::context::{has_label, has_loop};
 use crate::cursor::Cursor;

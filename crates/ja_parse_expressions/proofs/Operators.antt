@@ -7,7 +7,8 @@ use Rattle.ja_syntax.specs.declared.tree.Operation.{Operation}
 use Rattle.ja_grammar.specs.declared.fault.Refusal.{Refusal}
 use Rattle.ja_grammar.specs.declared.fault.Stop.{Stop}
 use Rattle.ja_grammar.specs.Forms.{operated}
-use Rattle.ja_grammar.specs.Input.{Rules, Tokens, Parser, Done, Refused, Follows, head, until}
+use Rattle.ja_grammar.specs.Input.{Rules, Tokens, Parser, Done, Refused, head, until}
+use Rattle.ja_grammar.specs.code.Input.{Follows}
 use Rattle.ja_grammar.specs.Operators.{binary_operator}
 use Rattle.ja_grammar.specs.ReadExpression.{Below, unary, binary, level, operation}
 use Rattle.ja_parse_cursor.proofs.Turns.{same_error}

@@ -1,3 +1,1 @@
-pub mod Ends
-pub mod Nests
-pub mod Pieces
+pub mod code

@@ -4,11 +4,12 @@ ghost use Rattle.std.specs.Prelude.{◌<◌, ◌≤◌, suc, not, is_none, Some,
 ghost use Rattle.ja_syntax.specs.References as references;
 ghost use Rattle.ja_syntax.specs.declared.symbol.Symbol.TheVariants as k;
 ghost use Rattle.ja_grammar.specs.Forms as forms;
-ghost use Rattle.ja_grammar.specs.Input.{Follows, head, separated, until, strict};
+ghost use Rattle.ja_grammar.specs.Input.{head, separated, until, strict};
+ghost use Rattle.ja_grammar.specs.code.Input.{Follows};
 ghost use Rattle.ja_grammar.specs.Operators as operators;
 ghost use Rattle.ja_grammar.specs.ReadExpression as spec;
 ghost use Rattle.ja_grammar.specs.ReadStatement.{below};
-ghost use Rattle.ja_parse_expressions.specs.Nests.{Reads};
+ghost use Rattle.ja_parse_expressions.specs.code.Nests.{Reads};
 
 use crate::grammar::{Grammar, Piece};
 use ja_base::Place;

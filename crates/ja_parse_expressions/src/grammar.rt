@@ -1,9 +1,10 @@
 //! The rules take the function that reads the parts one level below as a parameter, so that each is proved by
 //! itself.
 
-ghost use Rattle.ja_grammar.specs.Input.{Follows, strict};
+ghost use Rattle.ja_grammar.specs.Input.{strict};
+ghost use Rattle.ja_grammar.specs.code.Input.{Follows};
 ghost use Rattle.ja_grammar.specs.ReadStatement.{below};
-ghost use Rattle.ja_parse_expressions.specs.Nests.{Reads};
+ghost use Rattle.ja_parse_expressions.specs.code.Nests.{Reads};
 
 use ja_grammar::{ExpressionPart, Refusal, Stop};
 use ja_parse_cursor::{Cursor, Held};

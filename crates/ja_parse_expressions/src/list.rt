@@ -3,10 +3,11 @@
 ghost use Rattle.std.specs.Prelude.{false};
 ghost use Rattle.ja_syntax.specs.declared.symbol.Symbol.TheVariants as k;
 ghost use Rattle.ja_grammar.specs.declared.part.ExpressionPart.TheVariants as of_expression;
-ghost use Rattle.ja_grammar.specs.Input.{Follows, listed, separated, until, strict};
+ghost use Rattle.ja_grammar.specs.Input.{listed, separated, until, strict};
+ghost use Rattle.ja_grammar.specs.code.Input.{Follows};
 ghost use Rattle.ja_grammar.specs.ReadExpression as spec;
 ghost use Rattle.ja_grammar.specs.ReadStatement.{below};
-ghost use Rattle.ja_parse_expressions.specs.Nests.{Reads};
+ghost use Rattle.ja_parse_expressions.specs.code.Nests.{Reads};
 
 use crate::grammar::{Grammar, Piece};
 use ja_grammar::{ExpressionPart, Stop};

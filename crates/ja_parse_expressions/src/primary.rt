@@ -1,9 +1,10 @@
 //! Primary expressions (ES3 11.1).
 
-ghost use Rattle.ja_grammar.specs.Input.{Follows, strict};
+ghost use Rattle.ja_grammar.specs.Input.{strict};
+ghost use Rattle.ja_grammar.specs.code.Input.{Follows};
 ghost use Rattle.ja_grammar.specs.ReadExpression as spec;
 ghost use Rattle.ja_grammar.specs.ReadStatement.{below};
-ghost use Rattle.ja_parse_expressions.specs.Nests.{Reads};
+ghost use Rattle.ja_parse_expressions.specs.code.Nests.{Reads};
 
 use crate::grammar::{Grammar, Piece};
 use ja_grammar::{ExpressionPart, Refusal, Stop};

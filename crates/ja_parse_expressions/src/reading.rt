@@ -1,9 +1,10 @@
 //! How the parts of expressions read one another.
 
-ghost use Rattle.ja_grammar.specs.Input.{Follows, strict};
+ghost use Rattle.ja_grammar.specs.Input.{strict};
+ghost use Rattle.ja_grammar.specs.code.Input.{Follows};
 ghost use Rattle.ja_grammar.specs.ReadStatement.{below};
-ghost use Rattle.ja_parse_expressions.specs.Nests.{Nests};
-ghost use Rattle.ja_parse_expressions.specs.Pieces.{piece};
+ghost use Rattle.ja_parse_expressions.specs.code.Nests.{Nests};
+ghost use Rattle.ja_parse_expressions.specs.code.Pieces.{piece};
 
 use crate::body::function;
 use crate::grammar::{Grammar, Piece};

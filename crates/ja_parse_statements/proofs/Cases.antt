@@ -8,10 +8,11 @@ use Rattle.ja_grammar.specs.declared.fault.Refusal.{Refusal}
 use Rattle.ja_grammar.specs.declared.fault.Refusal.TheVariants.{Unexpected}
 use Rattle.ja_grammar.specs.declared.fault.Stop.{Stop}
 use Rattle.ja_grammar.specs.Contexts.{Context}
-use Rattle.ja_grammar.specs.Input.{Rules, Tokens, Outcome, Done, Refused, Follows, ◌>>◌, pure, expect, next, behind, many_from}
+use Rattle.ja_grammar.specs.Input.{Rules, Tokens, Outcome, Done, Refused, ◌>>◌, pure, expect, next, behind, many_from}
+use Rattle.ja_grammar.specs.code.Input.{Follows}
 use Rattle.ja_grammar.specs.ReadExpression.{Below}
 use Rattle.ja_grammar.specs.ReadStatement.{Clauses, clause_by, case, default}
-use Rattle.ja_parse_statements.specs.Clauses.{clauses_from, clauses_behind}
+use Rattle.ja_parse_statements.specs.code.Clauses.{clauses_from, clauses_behind}
 use Rattle.ja_parse_cursor.proofs.Turns.{one_more, no_more, same_error}
 
 module _ (g : Rules) (b : Below) (c : Context) where

@@ -5,7 +5,7 @@ use Rattle.ja_grammar.specs.Contexts.{Context, may_break}
 use Rattle.ja_grammar.specs.Input.{Rules, Tokens, next}
 use Rattle.ja_grammar.specs.ReadExpression.{Below}
 use Rattle.ja_grammar.specs.ReadStatement.{single, continue, continue_by, break, break_by, return, return_by, try}
-use Rattle.ja_parse_statements.specs.Clauses.{try_whole}
+use Rattle.ja_parse_statements.specs.code.Clauses.{try_whole}
 
 module _ (g : Rules) (b : Below) (c : Context) (labels : ℕ) (outermost : Bool) where
   pub continue_is : (i : Tokens) → next i ≡ k.Continue → single g b c labels outermost i ≡ continue_by g b c c.in_loop i

@@ -11,7 +11,7 @@ use Rattle.ja_grammar.specs.Contexts.{Context}
 use Rattle.ja_grammar.specs.Input.{Rules, Tokens, next}
 use Rattle.ja_grammar.specs.ReadExpression.{Below}
 use Rattle.ja_grammar.specs.ReadStatement.{in_rest, for_variables_by}
-use Rattle.ja_parse_statements.specs.Clauses.{for_rest_behind, variables_behind}
+use Rattle.ja_parse_statements.specs.code.Clauses.{for_rest_behind, variables_behind}
 
 module _ (g : Rules) (b : Below) (c : Context) (place : Place) where
   by_in : (xs : List (Declaration Expression)) (x : Declaration Expression) (i : Tokens) → length xs ≡ 1 → slice_get xs 0 ≡ Some x

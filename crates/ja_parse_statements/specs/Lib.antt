@@ -1,1 +1,1 @@
-pub mod Clauses
+pub mod code

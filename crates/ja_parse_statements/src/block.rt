@@ -1,12 +1,13 @@
 //! Blocks, declared variables and expression statements (ES3 12.1, 12.2, 12.4).
 
 ghost use Rattle.std.specs.Prelude.{true, false};
-ghost use Rattle.ja_grammar.specs.Contexts.{context_of};
-ghost use Rattle.ja_grammar.specs.Input.{Follows, separated, strict};
+ghost use Rattle.ja_grammar.specs.code.Contexts.{context_of};
+ghost use Rattle.ja_grammar.specs.Input.{separated, strict};
+ghost use Rattle.ja_grammar.specs.code.Input.{Follows};
 ghost use Rattle.ja_grammar.specs.ReadStatement as spec;
 ghost use Rattle.ja_grammar.specs.ReadStatement.{below};
-ghost use Rattle.ja_parse_statements.specs.Clauses.{variable_value};
-ghost use Rattle.ja_parse_expressions.specs.Nests.{Nests};
+ghost use Rattle.ja_parse_statements.specs.code.Clauses.{variable_value};
+ghost use Rattle.ja_parse_expressions.specs.code.Nests.{Nests};
 
 use crate::grammar::Grammar;
 use ja_grammar::{Context, ExpressionPart, StatementPart, Stop};

@@ -2,12 +2,13 @@
 
 ghost use Rattle.std.specs.Prelude.{true, false};
 ghost use Rattle.ja_syntax.specs.declared.symbol.Symbol.TheVariants as k;
-ghost use Rattle.ja_grammar.specs.Contexts.{context_of};
-ghost use Rattle.ja_grammar.specs.Input.{Follows, strict};
+ghost use Rattle.ja_grammar.specs.code.Contexts.{context_of};
+ghost use Rattle.ja_grammar.specs.Input.{strict};
+ghost use Rattle.ja_grammar.specs.code.Input.{Follows};
 ghost use Rattle.ja_grammar.specs.ReadStatement as spec;
 ghost use Rattle.ja_grammar.specs.ReadStatement.{below};
-ghost use Rattle.ja_parse_expressions.specs.Nests.{Nests};
-ghost use Rattle.ja_parse_statements.specs.Clauses.{clauses_behind, try_behind_catch, try_whole};
+ghost use Rattle.ja_parse_expressions.specs.code.Nests.{Nests};
+ghost use Rattle.ja_parse_statements.specs.code.Clauses.{clauses_behind, try_behind_catch, try_whole};
 
 use crate::grammar::Grammar;
 use ja_base::Place;
@@ -108,7 +109,7 @@ impl<
     }
 
     /// Reads the clauses of a `switch` with their braces.
-    #[tactic(auto, unfolding(ja_grammar::specs::ReadStatement::cases, crate::specs::Clauses::clauses_behind))]
+    #[tactic(auto, unfolding(ja_grammar::specs::ReadStatement::cases, crate::specs::code::Clauses::clauses_behind))]
     fn cases(&self, cursor: &mut Cursor<'_>, context: &Context<'_>) -> Result<Items<Case>, Stop>
         requires { Nests self.now.depth (G.pre self.now.statement) (G.post self.now.statement) }
         ensures { Follows (spec.cases (strict self.now.depth) (below strict self.now.depth) (context_of context.now) cursor.old) result cursor.new }

@@ -3,12 +3,13 @@
 
 ghost use Rattle.std.specs.Prelude.{false};
 ghost use Rattle.ja_grammar.specs.declared.part.StatementPart.TheVariants as part;
-ghost use Rattle.ja_grammar.specs.Contexts.{context_of};
-ghost use Rattle.ja_grammar.specs.Input.{Follows, until, strict};
+ghost use Rattle.ja_grammar.specs.code.Contexts.{context_of};
+ghost use Rattle.ja_grammar.specs.Input.{until, strict};
+ghost use Rattle.ja_grammar.specs.code.Input.{Follows};
 ghost use Rattle.ja_grammar.specs.ReadExpression as expressions;
 ghost use Rattle.ja_grammar.specs.ReadStatement.{below};
-ghost use Rattle.ja_parse_expressions.specs.Ends.{ends};
-ghost use Rattle.ja_parse_expressions.specs.Nests.{Nests};
+ghost use Rattle.ja_parse_expressions.specs.code.Ends.{ends};
+ghost use Rattle.ja_parse_expressions.specs.code.Nests.{Nests};
 
 use ja_grammar::{Context, ExpressionPart, Refusal, StatementPart, Stop};
 use ja_parse_cursor::{Cursor, Held};

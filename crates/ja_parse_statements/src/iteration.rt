@@ -1,12 +1,13 @@
 //! Loops (ES3 12.6).
 
 ghost use Rattle.std.specs.Prelude.{true, false};
-ghost use Rattle.ja_grammar.specs.Contexts.{context_of};
-ghost use Rattle.ja_grammar.specs.Input.{Follows, strict};
+ghost use Rattle.ja_grammar.specs.code.Contexts.{context_of};
+ghost use Rattle.ja_grammar.specs.Input.{strict};
+ghost use Rattle.ja_grammar.specs.code.Input.{Follows};
 ghost use Rattle.ja_grammar.specs.ReadStatement as spec;
 ghost use Rattle.ja_grammar.specs.ReadStatement.{below};
-ghost use Rattle.ja_parse_expressions.specs.Nests.{Nests};
-ghost use Rattle.ja_parse_statements.specs.Clauses.{for_behind, for_rest_behind, variables_behind};
+ghost use Rattle.ja_parse_expressions.specs.code.Nests.{Nests};
+ghost use Rattle.ja_parse_statements.specs.code.Clauses.{for_behind, for_rest_behind, variables_behind};
 ghost use Rattle.ja_syntax.specs.declared.tree.ForFirst.TheVariants as first;
 
 use crate::grammar::Grammar;

@@ -1,11 +1,12 @@
 //! `return`, `throw` and labels (ES3 12.9, 12.12, 12.13).
 
 ghost use Rattle.std.specs.Prelude.{false};
-ghost use Rattle.ja_grammar.specs.Contexts.{context_of};
-ghost use Rattle.ja_grammar.specs.Input.{Follows, strict};
+ghost use Rattle.ja_grammar.specs.code.Contexts.{context_of};
+ghost use Rattle.ja_grammar.specs.Input.{strict};
+ghost use Rattle.ja_grammar.specs.code.Input.{Follows};
 ghost use Rattle.ja_grammar.specs.ReadStatement as spec;
 ghost use Rattle.ja_grammar.specs.ReadStatement.{below};
-ghost use Rattle.ja_parse_expressions.specs.Nests.{Nests};
+ghost use Rattle.ja_parse_expressions.specs.code.Nests.{Nests};
 
 use crate::grammar::Grammar;
 use ja_grammar::{Context, Refusal, StatementPart, Stop};

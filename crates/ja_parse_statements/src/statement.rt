@@ -2,11 +2,12 @@
 
 ghost use Rattle.std.specs.Prelude.{true, false};
 ghost use Rattle.ja_syntax.specs.declared.symbol.Symbol.TheVariants as k;
-ghost use Rattle.ja_grammar.specs.Contexts.{context_of};
-ghost use Rattle.ja_grammar.specs.Input.{Follows, head, until, strict};
+ghost use Rattle.ja_grammar.specs.code.Contexts.{context_of};
+ghost use Rattle.ja_grammar.specs.Input.{head, until, strict};
+ghost use Rattle.ja_grammar.specs.code.Input.{Follows};
 ghost use Rattle.ja_grammar.specs.ReadStatement as spec;
 ghost use Rattle.ja_grammar.specs.ReadStatement.{below};
-ghost use Rattle.ja_parse_expressions.specs.Nests.{Nests};
+ghost use Rattle.ja_parse_expressions.specs.code.Nests.{Nests};
 
 use crate::grammar::Grammar;
 use ja_grammar::{Context, Refusal, StatementPart, Stop};

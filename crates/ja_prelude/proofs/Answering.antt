@@ -1,7 +1,7 @@
 -- What the parser answers to the tokens of a text in the language.
 use Rattle.std.proofs.Common.{◌≡◌, ℕ, true, List, Ok, Err, refl}
 use Rattle.ja_grammar.specs.Input.{strict, Outcome, Done, Refused}
-use Rattle.ja_grammar.specs.Answering.{Answers}
+use Rattle.ja_grammar.specs.code.Answering.{Answers}
 use Rattle.ja_grammar.specs.Language.{max_levels}
 use Rattle.ja_grammar.specs.ReadStatement.{program}
 use Rattle.ja_grammar.specs.declared.fault.ParseFault.{ParseFault}

@@ -9,8 +9,8 @@ reading = tt
 unfoldable pub listing : Unit {0}
 unfolding
     Rattle.ja_syntax.specs.Arguments.mentions_arguments Rattle.ja_syntax.specs.Hoisted.once Rattle.ja_syntax.specs.Hoisted.hoisted_variables
-    Rattle.ja_syntax.specs.Hoisted.is_function Rattle.ja_syntax.specs.Hoisted.hoisted_functions Rattle.ja_lower_names.specs.TextOrder.in_expression
-    Rattle.ja_lower_names.specs.TextOrder.in_statement Rattle.ja_lower_names.specs.TextOrder.in_case Rattle.ja_lower_names.specs.TextOrder.functions_in
+    Rattle.ja_syntax.specs.code.Hoisted.is_function Rattle.ja_syntax.specs.code.Hoisted.hoisted_functions Rattle.ja_lower_names.specs.code.TextOrder.in_expression
+    Rattle.ja_lower_names.specs.TextOrder.in_statement Rattle.ja_lower_names.specs.code.TextOrder.in_case Rattle.ja_lower_names.specs.TextOrder.functions_in
     Rattle.ja_lower_names.specs.TextOrder.names_in Rattle.ja_lower_draft.specs.Copies.with_block Rattle.ja_lower_draft.specs.Lines.with_number
     Rattle.ja_lower_draft.specs.Lines.with_text Rattle.ja_lower_expressions.specs.Calls.list_arguments Rattle.ja_lower_expressions.specs.Calls.list_call
     Rattle.ja_lower_expressions.specs.Calls.new_of Rattle.ja_lower_expressions.specs.Calls.list_new Rattle.ja_lower_expressions.specs.Expressions.apply_operations

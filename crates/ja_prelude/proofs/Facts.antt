@@ -4,7 +4,7 @@ use Rattle.std.specs.List.{AllByRecursion, list_all, slice_get, sum_by, zip}
 use lib.Chars.{codes}
 use Rattle.ja_base.specs.declared.ids.ScopeKind.TheVariants.{CodeMaker, Radix}
 use Rattle.ja_grammar.specs.Input.{Tokens, strict, Outcome, Done, Refused}
-use Rattle.ja_grammar.specs.Answering.{Answers}
+use Rattle.ja_grammar.specs.code.Answering.{Answers}
 use Rattle.ja_grammar.specs.Language.{Spells, max_levels}
 use Rattle.ja_grammar.specs.ReadStatement.{program}
 use Rattle.ja_grammar.proofs.Theorem.{answered_tree}

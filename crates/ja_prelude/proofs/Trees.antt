@@ -3,7 +3,7 @@ use Rattle.std.proofs.Common.{◌≡◌, ℕ, true, Ok, refl, sym, subst, ◌∙
 use Rattle.std.proofs.Common.{List, [], ◌∷◌, ◌++◌}
 use Rattle.std.specs.List.{flat_map, list_all}
 use Rattle.ja_base.proofs.Tests.{and_left_true, and_right_true}
-use Rattle.ja_grammar.specs.Answering.{Answers}
+use Rattle.ja_grammar.specs.code.Answering.{Answers}
 use Rattle.ja_grammar.specs.Input.{Tokens, strict, Outcome, Done, Refused}
 use Rattle.ja_grammar.specs.Language.{Spells, max_levels}
 use Rattle.ja_grammar.specs.ReadStatement.{program}

@@ -5,3 +5,4 @@ pub mod Reading
 pub mod Prelude
 pub mod Texts
 pub mod Uses
+pub mod code

@@ -10,7 +10,6 @@ use Rattle.ja_graph.specs.declared.node.NodeInfo.{NodeInfo}
 use Rattle.ja_lower.specs.Lowering as lower
 use Rattle.ja_lower.specs.declared.body.Body.{Body}
 use Rattle.ja_prelude.specs.Reading.{tree_of}
-use Rattle.ja_prelude.specs.declared.prelude.Prelude.{Prelude}
 use Rattle.ja_prelude.specs.declared.texts.TheConstants.{FUNCTIONS}
 use Rattle.ja_syntax.specs.declared.tree.Statement.{Statement}
 
@@ -25,10 +24,6 @@ prelude_paths = map (λ f. f.0.now) FUNCTIONS
 -- the names that each program begins with: those of the table, then those that only the texts have
 abbrev pub prelude_names : List (List ℕ)
 prelude_names = lower.prelude_names builtin_names prelude_statements
-
--- what the code keeps of them
-abbrev pub the_prelude : Prelude
-the_prelude = record { statements = prelude_statements; paths = prelude_paths; names = prelude_names }
 
 -- The functions, each with its path as its name. The sites of their nodes are numbered for each node by itself.
 unfoldable pub prelude_bodies : List Body

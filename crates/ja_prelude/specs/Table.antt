@@ -1,6 +1,5 @@
 -- The built-in objects (ES3 section 15), by the table of them, with their names and sites; and what is said of the table.
 use Rattle.std.specs.Prelude.{ℕ, pos, Bool, true, false, ◌+◌, ◌==◌, ◌&&◌, ◌||◌, not, List, [], ◌∷◌, ◌++◌, map, filter, find, Option, Some, None}
-use Rattle.std.specs.Borrow.{Bor}
 use Rattle.std.specs.Bool.{if◌then◌else◌}
 use Rattle.std.specs.List.{enumerate_from, flat_map, list_any, slice_split}
 use Rattle.std.specs.Option.{is_some, option_and_then, option_map, option_map_or, option_to_list}
@@ -57,19 +56,6 @@ row_of path object entries = record { path = path; object = object; entries = en
 -- the rows of the table
 abbrev pub table_rows : List TableRow
 table_rows = map (λ row. row_of row.0.now row.1 (map (λ e. entry_of e.0.now e.1 e.2) row.2.now)) OPENING
-
--- a property, and a row, as the code goes over them
-abbrev pub SeenEntry : Type 0
-SeenEntry = Bor (List ℕ) × Content × Attrs
-
-abbrev pub SeenRow : Type 0
-SeenRow = Bor (List ℕ) × BuiltinObject × Bor (List SeenEntry)
-
-abbrev pub seen_entry : SeenEntry → TableEntry
-seen_entry e = entry_of e.0.now e.1 e.2
-
-abbrev pub seen_row : SeenRow → TableRow
-seen_row row = row_of row.0.now row.1 (map seen_entry row.2.now)
 
 -- ---- the objects that are there when a run begins
 

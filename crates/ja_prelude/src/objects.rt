@@ -7,6 +7,7 @@ ghost use Rattle.ja_prim.specs.Texts.{is_short, max_units};
 ghost use Rattle.ja_graph.specs.WellFormed as graph;
 ghost use Rattle.ja_lower_names.specs.Names.{number};
 ghost use Rattle.ja_prelude.specs.Table as spec;
+ghost use Rattle.ja_prelude.specs.code.Table as code;
 
 use crate::table::{BuiltinObject, Constant, Content, Entry, OPENING, Role, TableRow};
 use ja_base::{FnId, Memory, NameId, Place, Seq, Site};
@@ -135,7 +136,7 @@ fn property_of(
 
 /// Properties of the table.
 fn properties_of(alloc: Global, entries: &[Entry]) -> Result<Seq<PropertySpec>, Memory>
-    ensures { IfOk result (λ properties. properties ≡ map (λ e. spec.property_of (spec.seen_entry e)) entries.now) }
+    ensures { IfOk result (λ properties. properties ≡ map (λ e. spec.property_of (code.seen_entry e)) entries.now) }
 {
     let mut properties = Vec::new(alloc);
     for (name, content, attrs) in entries {
@@ -183,7 +184,7 @@ fn object_with(
 
 /// The object of a row of the table.
 fn object_of(alloc: Global, object: &BuiltinObject, entries: &[Entry]) -> Result<ObjectSpec, Memory>
-    ensures { IfOk result (λ made. made ≡ spec.object_with object.now (map (λ e. spec.property_of (spec.seen_entry e)) entries.now)) }
+    ensures { IfOk result (λ made. made ≡ spec.object_with object.now (map (λ e. spec.property_of (code.seen_entry e)) entries.now)) }
 {
     let properties = properties_of(alloc, entries)?;
     object_with(alloc, object, properties)
@@ -191,7 +192,7 @@ fn object_of(alloc: Global, object: &BuiltinObject, entries: &[Entry]) -> Result
 
 /// The objects of the table.
 fn objects_of(alloc: Global, table: &[TableRow]) -> Result<Seq<ObjectSpec>, Memory>
-    ensures { IfOk result (λ objects. objects ≡ map (λ row. spec.object_with row.1 (map (λ e. spec.property_of (spec.seen_entry e)) row.2.now)) table.now) }
+    ensures { IfOk result (λ objects. objects ≡ map (λ row. spec.object_with row.1 (map (λ e. spec.property_of (code.seen_entry e)) row.2.now)) table.now) }
 {
     let mut objects = Vec::new(alloc);
     for (_, object, entries) in table {
@@ -211,7 +212,7 @@ pub fn opening_objects(alloc: Global) -> Result<Seq<ObjectSpec>, Memory>
 
 /// The row of the object that has a site.
 fn row_with(table: &[TableRow], site: u32) -> Option<&TableRow>
-    ensures { option_map (λ row. spec.seen_row row.now) result ≡ spec.row_with (map spec.seen_row table.now) site }
+    ensures { option_map (λ row. code.seen_row row.now) result ≡ spec.row_with (map code.seen_row table.now) site }
 {
     for row in table {
         if row.1.site.0 == site {
@@ -284,8 +285,8 @@ fn add_site(
     class: Class,
 ) -> Result<(), Memory>
     requires first { first < 2 ^ 31 }
-    requires paths { IsTrue (list_all (λ row. is_short row.path) (map spec.seen_row table.now)) }
-    ensures { OnOk result (sites.new.items ≡ sites.old.items ++ spec.sites_with first (map spec.seen_row table.now) (site, class)) }
+    requires paths { IsTrue (list_all (λ row. is_short row.path) (map code.seen_row table.now)) }
+    ensures { OnOk result (sites.new.items ≡ sites.old.items ++ spec.sites_with first (map code.seen_row table.now) (site, class)) }
 {
     if let Some((path, object, _)) = row_with(table, site) {
         sites.push(site_of(alloc, first, class, path, &object.role)?)?;
@@ -301,9 +302,9 @@ fn sites_of(
     classes: &[Class],
 ) -> Result<Vec<SiteInfo>, Memory>
     requires first { first < 2 ^ 31 }
-    requires paths { IsTrue (list_all (λ row. is_short row.path) (map spec.seen_row table.now)) }
+    requires paths { IsTrue (list_all (λ row. is_short row.path) (map code.seen_row table.now)) }
     requires few { length classes.now < 2 ^ 31 }
-    ensures { IfOk result (λ sites. sites.items ≡ flat_map (spec.sites_with first (map spec.seen_row table.now)) (enumerate_from 0 classes.now)) }
+    ensures { IfOk result (λ sites. sites.items ≡ flat_map (spec.sites_with first (map code.seen_row table.now)) (enumerate_from 0 classes.now)) }
 {
     let mut sites = Vec::new(alloc);
     let mut left = classes;

@@ -5,6 +5,7 @@ ghost use Rattle.std.specs.List.{AllByRecursion, list_all};
 ghost use Rattle.ja_graph.specs.WellFormed.{builtin_names};
 ghost use Rattle.ja_lower.specs.Lowering.{lowered_prelude};
 ghost use Rattle.ja_prelude.specs.Prelude as spec;
+ghost use Rattle.ja_prelude.specs.code.Prelude as code;
 ghost use Rattle.ja_prim.specs.Texts.{is_short};
 
 use crate::laws::{names_are_told, nodes_are_few, texts_are_functions, texts_are_read};
@@ -43,7 +44,7 @@ impl Prelude {
     /// Reads the built-in functions. The error is want of memory.
     #[tactic(auto, unfolding(crate::specs::Prelude::prelude_statements, crate::specs::Prelude::prelude_paths))]
     pub fn read(alloc: Global) -> Result<Prelude, Memory>
-        ensures { IfOk result (λ p. p ≡ spec.the_prelude) }
+        ensures { IfOk result (λ p. p ≡ code.the_prelude) }
     {
         texts_are_read();
         let statements = trees_of(alloc, &FUNCTIONS)?;
@@ -65,7 +66,7 @@ impl Prelude {
         first_site: u32,
         first_function: u32,
     ) -> Result<Lowered, Memory>
-        requires prelude { self.now ≡ spec.the_prelude }
+        requires prelude { self.now ≡ code.the_prelude }
         requires functions { first_function ≤ 4160 }
         ensures lowered { IfOk result (λ l. l ≡ lowered_prelude builtin_names spec.prelude_paths first_site first_function spec.prelude_statements) }
         ensures registers { IfOk result (λ l. AllByRecursion (λ fn. fn.registers ≤ 262144) l.functions) }

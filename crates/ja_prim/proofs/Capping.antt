@@ -4,7 +4,7 @@ use Rattle.std.proofs.lemmas.Bool.{cases_lt}
 use Rattle.std.proofs.Math.Nat.{one-le-pow, pow-le-pow_right, mul-le-mul_left, pow-suc, mul_assoc, mul-one}
 use Rattle.std.specs.Char.{digit_value}
 use Rattle.std.specs.Str.Parse.{digits_value, digits_value_after}
-use Rattle.ja_prim.specs.Capped.{capped}
+use Rattle.ja_prim.specs.code.Capped.{capped}
 
 pub times_grows : (n r : ℕ) → 1 ≤ r → n ≤ n * r
 times_grows n r h = subst (λ (m : ℕ). m ≤ n * r) (mul-one n) (mul-le-mul_left n h)

@@ -4,7 +4,7 @@ use Rattle.std.proofs.lemmas.Bool.{cases_lt}
 use Rattle.std.proofs.lemmas.Bool.Decides.{nat_tests}
 use Rattle.std.proofs.Math.Nat.{div-add-mod'}
 use Rattle.ja_prim.specs.declared.primitive.Num.TheVariants.{Whole}
-use Rattle.ja_prim.specs.Capped.{parted}
+use Rattle.ja_prim.specs.code.Capped.{parted}
 use Rattle.ja_prim.specs.Judged.{judged, signed, max_magnitude}
 use Rattle.ja_prim.specs.LawsOfTexts.{IsLiteralValue}
 use Rattle.ja_prim.specs.Numerals.{placed}

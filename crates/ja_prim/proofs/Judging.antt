@@ -8,7 +8,7 @@ use Rattle.ja_prim.specs.declared.primitive.Num.{Num}
 use Rattle.ja_prim.specs.declared.primitive.Num.TheVariants.{Whole}
 use Rattle.ja_prim.specs.declared.stop.Stop.{Stop}
 use Rattle.ja_prim.specs.declared.stop.Stop.TheVariants.{Fraction, Range}
-use Rattle.ja_prim.specs.Capped.{capped, parted}
+use Rattle.ja_prim.specs.code.Capped.{capped, parted}
 use Rattle.ja_prim.specs.Judged.{judged, signed, max_magnitude}
 
 pub less : (a b : ℕ) → a < b → nat_lt a b ≡ true

@@ -8,7 +8,7 @@ use Rattle.std.proofs.lemmas.Nat.{pow-add}
 use Rattle.std.proofs.Math.Nat.{pow-le-pow_right, pow-suc, pow-zero, mul-one}
 use Rattle.std.specs.Char.{digit_value}
 use Rattle.std.specs.Str.Parse.{digits_value, digits_value_after, AllDigits}
-use Rattle.ja_prim.specs.Capped.{capped, parted}
+use Rattle.ja_prim.specs.code.Capped.{capped, parted}
 use Rattle.ja_prim.specs.Judged.{judged}
 use Rattle.ja_prim.specs.Numerals.{placed}
 use Rattle.ja_prim.proofs.Capping.{value_append, pow_some, times_grows, cap_times, raised_far}

@@ -1,7 +1,6 @@
 pub mod Arithmetic
 pub mod Bits
 pub mod Blanks
-pub mod Capped
 pub mod Characters
 pub mod Comparison
 pub mod Conversions
@@ -12,3 +11,4 @@ pub mod LawsOfTexts
 pub mod Numerals
 pub mod TextToNumber
 pub mod Texts
+pub mod code

@@ -1,17 +1,8 @@
 -- The units of a text, when two texts are equal, the greatest length of one, and what an operation that takes memory may answer.
-use Rattle.std.specs.Prelude.{◌≡◌, ℕ, Bool, nat_eq, nat_le, nat_lt, if◌then◌else◌, List, length, Result, Ok, Err}
-use Rattle.std.specs.Char.Escape.{encode_utf16}
+use Rattle.std.specs.Prelude.{ℕ, Bool, nat_eq, nat_le, nat_lt, if◌then◌else◌, List, length, Result, Ok, Err}
 use Rattle.std.specs.Cmp.Lexicographic.{pointwise}
-use Rattle.std.specs.List.{flat_map}
-use Rattle.std.specs.Str.{chars}
 use Rattle.ja_prim.specs.declared.stop.Stop.{Stop}
 use Rattle.ja_prim.specs.declared.stop.Stop.TheVariants.{TextLength}
-use Rattle.ja_prim.specs.declared.stop.PrimFault.{PrimFault}
-use Rattle.ja_prim.specs.declared.stop.PrimFault.TheVariants as fault
-
--- the UTF-16 units of a text, character by character (ES3 section 6)
-abbrev pub utf16 : List ℕ → List ℕ
-utf16 text = flat_map encode_utf16 (chars text)
 
 -- the same units
 abbrev pub same_text : List ℕ → List ℕ → Bool
@@ -28,9 +19,3 @@ is_short units = nat_le (length units) max_units
 -- the text of these units, if it isn't too long
 abbrev pub limited_text : List ℕ → Result (List ℕ) Stop
 limited_text units = if nat_lt max_units (length units) then Err TextLength else Ok units
-
--- what is answered where the exact result is known: that result, or that memory was refused
-abbrev pub Answers : {A : Type 0} → Result A Stop → Result A PrimFault → Type 0
-Answers exact (Ok value) = exact ≡ Ok value
-Answers exact (Err (fault.Stop stop)) = exact ≡ Err stop
-Answers exact (Err fault.Memory) = Unit {0}

@@ -1,7 +1,7 @@
 ghost use Rattle.std.specs.Prelude.{◌≡◌, ◌++◌, IfOk};
 ghost use Rattle.ja_prim.specs.Conversions.{to_text, to_number};
 ghost use Rattle.ja_prim.specs.Comparison as spec;
-ghost use Rattle.ja_prim.specs.Texts.{Answers};
+ghost use Rattle.ja_prim.specs.code.Texts.{Answers};
 
 use crate::arithmetic::add_numbers;
 use crate::numbers::to_num;

@@ -1,7 +1,7 @@
 ghost use Rattle.std.specs.Prelude.{◌≡◌, ◌≤◌, ◌++◌, ◌*◌, ◌^◌, min};
 ghost use Rattle.std.specs.Char.{digit_value};
 ghost use Rattle.std.specs.Str.Parse.{digits_value, digits_value_after};
-ghost use Rattle.ja_prim.specs.Capped as spec;
+ghost use Rattle.ja_prim.specs.code.Capped as spec;
 
 use crate::int::MAX_MAGNITUDE;
 use crate::{Int, Num, Stop};
@@ -70,7 +70,7 @@ pub fn raised(value: u64, power: u64) -> u64
 /// The number with this whole part, or 2^53 for any greater one, and with something behind the point where it isn't whole:
 /// `Range` exactly where its magnitude is greater than 9,007,199,254,740,991, and else `Fraction` exactly where it isn't
 /// whole.
-#[tactic(auto, unfolding(crate::specs::Capped::parted))]
+#[tactic(auto, unfolding(crate::specs::code::Capped::parted))]
 pub fn judge(negative: bool, value: u64, whole: bool) -> Result<Num, Stop>
     requires { value ≤ 9007199254740992 }
     ensures { result ≡ spec.parted negative value whole }

@@ -210,7 +210,7 @@ fn is_hexadecimal(units: &[u16]) -> bool
 }
 
 /// The value of a literal with no white space at its ends.
-#[tactic(auto, unfolding(crate::specs::TextToNumber::literal, crate::specs::Capped::parted))]
+#[tactic(auto, unfolding(crate::specs::TextToNumber::literal, crate::specs::code::Capped::parted))]
 fn literal(units: &[u16]) -> Result<Num, Stop>
     requires { length units.now < 9223372036854775808 }
     ensures { result ≡ spec.literal units.now }

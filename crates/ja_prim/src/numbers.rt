@@ -8,7 +8,7 @@ use crate::{Num, Prim, Primitive, Stop};
 /// terminators at its ends it is 0 of the empty one, the exact value of a decimal literal, with a sign or none, and of a
 /// hexadecimal one, and NaN of any other. `Range` comes exactly where the magnitude of that value is greater than
 /// 9,007,199,254,740,991, as that of `Infinity` is, and else `Fraction` exactly where it isn't whole.
-#[tactic(auto, unfolding(crate::specs::Capped::parted))]
+#[tactic(auto, unfolding(crate::specs::code::Capped::parted))]
 pub fn to_num(a: &Prim) -> Result<Num, Stop>
     ensures { result ≡ spec.to_number a.now }
 {

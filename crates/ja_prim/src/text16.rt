@@ -3,7 +3,8 @@ ghost use Rattle.std.specs.Char.Escape.{encode_utf16};
 ghost use Rattle.std.specs.List.{flat_map};
 ghost use Rattle.std.specs.Str.{chars};
 ghost use Rattle.ja_prim.specs.TextToNumber.{text_to_number};
-ghost use Rattle.ja_prim.specs.Texts.{utf16, limited_text, max_units, Answers};
+ghost use Rattle.ja_prim.specs.Texts.{limited_text, max_units};
+ghost use Rattle.ja_prim.specs.code.Texts.{utf16, Answers};
 
 use crate::ascii::ascii_units;
 use crate::literals::text_to_number;

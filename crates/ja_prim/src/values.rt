@@ -1,6 +1,6 @@
 ghost use Rattle.std.specs.Prelude.{◌≡◌, ◌≤◌, ◌<◌, false, ◌+◌, ◌++◌, ◌*◌, ◌^◌, ◌==◌, length, take, drop};
 ghost use Rattle.std.specs.Str.Parse.{digits_value, AllDigits};
-ghost use Rattle.ja_prim.specs.Capped.{parted};
+ghost use Rattle.ja_prim.specs.code.Capped.{parted};
 ghost use Rattle.ja_prim.specs.Judged.{judged};
 ghost use Rattle.ja_prim.specs.Numerals as spec;
 

@@ -12,7 +12,7 @@ use Rattle.ja_model.specs.Reading.{Entries}
 use Rattle.ja_state.specs.State.{pairs_of}
 use Rattle.ja_report.specs.declared.output.Output.{Output}
 use Rattle.ja_report.specs.Lines.{Line, entry, entry_line, entry_lines}
-use Rattle.ja_report.specs.Output.{Adds}
+use Rattle.ja_report.specs.code.Output.{Adds}
 use Rattle.ja_report.proofs.OutputLemmas.{adds_none, adds_more, adds_same}
 
 pub entry_found : (p : Program) (e : Entries) (l : Label) (k : Key) (q : AbstractProperty) (a b : Output) → e l k ≡ Some q → Adds p (entry l k q ∷ []) a b → Adds p (entry_line e l k) a b

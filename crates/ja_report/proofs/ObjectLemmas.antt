@@ -19,7 +19,7 @@ use Rattle.ja_state.specs.declared.state.AState.{AState}
 use Rattle.ja_state.specs.State.{object_of, property_at, register_at, mask_at, state_of, is_listed, is_masked}
 use Rattle.ja_report.specs.declared.output.Output.{Output}
 use Rattle.ja_report.specs.Lines.{Line, is_entry, property_line, object_lines, property_lines, mask_line, mask_lines, register_line, register_lines}
-use Rattle.ja_report.specs.Output.{Adds}
+use Rattle.ja_report.specs.code.Output.{Adds}
 use Rattle.ja_report.proofs.OutputLemmas.{adds_none, adds_more, adds_same, adds_number}
 
 filter_step : {X A : Type 0} (f : X → List A) (test : X → Bool) (x : X) (xs : List X) (b : Bool) → test x ≡ b → (test x ≡ false → f x ≡ []) → flat_map f (filter test xs) ≡ flat_map f xs → flat_map f (filter test (x ∷ xs)) ≡ flat_map f (x ∷ xs)

@@ -7,7 +7,7 @@ use Rattle.std.proofs.lemmas.List.Concat.{flat_map-append}
 use Rattle.ja_graph.specs.declared.program.Program.{Program}
 use Rattle.ja_report.specs.declared.output.Output.{Output}
 use Rattle.ja_report.specs.Lines.{Line, line_text, line_sites}
-use Rattle.ja_report.specs.Output.{Adds}
+use Rattle.ja_report.specs.code.Output.{Adds}
 
 pub adds_none : (p : Program) (a : Output) → Adds p [] a a
 adds_none p a = record { text = sym (append-nil a.text.items); named = sym (append-nil a.named.items) }

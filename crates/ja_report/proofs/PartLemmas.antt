@@ -6,7 +6,8 @@ use Rattle.std.proofs.lemmas.List.Concat.{flat_map-append}
 use lib.Chars.{codes}
 use Rattle.ja_base.specs.declared.ids.Label.{Label}
 use Rattle.ja_graph.specs.declared.program.Program.{Program}
-use Rattle.ja_report.specs.Texts.{with_bars, joined, label_text}
+use Rattle.ja_report.specs.Texts.{joined, label_text}
+use Rattle.ja_report.specs.code.Texts.{with_bars}
 use Rattle.ja_report.specs.Lines.{label_sites}
 
 bars_append : (xs ys : List (List ℕ)) → with_bars (xs ++ ys) ≡ with_bars xs ++ with_bars ys

@@ -10,7 +10,7 @@ use Rattle.ja_rules.specs.declared.table.ATable.{ATable}
 use Rattle.ja_rules.specs.Readings.{table_of, Fits}
 use Rattle.ja_report.specs.declared.output.Output.{Output}
 use Rattle.ja_report.specs.Lines.{Line, state_lines, node_lines, point_lines}
-use Rattle.ja_report.specs.Output.{Adds}
+use Rattle.ja_report.specs.code.Output.{Adds}
 use Rattle.ja_report.proofs.OutputLemmas.{adds_none, adds_number, adds_same}
 
 pub node_found : (p : Program) (t : ATable) (n : ℕ) (slot : Option AState) (s : AState) (a b : Output) → slot ≡ get_or t.states.items n slot → n < vec_len t.states → slot ≡ Some s → Adds p (state_lines p n (state_of s)) a b → Adds p (node_lines p (table_of t) n) a b

@@ -2,4 +2,4 @@ pub mod Texts
 pub mod Lines
 pub mod Report
 pub mod Refusals
-pub mod Output
+pub mod code

@@ -1,6 +1,6 @@
 -- The texts of names, keys, labels, values and attributes.
 use Rattle.std.specs.Prelude.{ℕ, ◌-◌, Bool, false, not, ◌&&◌, ◌||◌, if◌then◌else◌, ◌==◌, nat_le, List, [], ◌∷◌, ◌++◌, map, filter, length, Option, None, slice_get}
-use Rattle.std.specs.List.{flat_map, list_all, join_with_byte}
+use Rattle.std.specs.List.{list_all, join_with_byte}
 use Rattle.std.specs.Option.{option_map_or, option_and_then}
 use Rattle.std.specs.Fmt.{decimal, signed_decimal}
 use lib.Chars.{codes}
@@ -128,10 +128,6 @@ value_parts p v = property_parts v.flags ++ primitive_parts v.flags ++ number_pa
 unfoldable pub joined : List (List ℕ) → List ℕ
 joined [] = codes "none"
 joined (x ∷ xs) = join_with_byte 124 (x ∷ xs)
-
--- parts with a bar behind each
-unfoldable pub with_bars : List (List ℕ) → List ℕ
-with_bars parts = flat_map (λ (x : List ℕ). x ++ codes "|") parts
 
 unfoldable pub value_text : Program → AbstractValue → List ℕ
 value_text p v = joined (value_parts p v)

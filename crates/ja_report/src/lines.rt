@@ -9,7 +9,7 @@ ghost use Rattle.ja_model.specs.AbstractState.{keys_of, labels_below};
 ghost use Rattle.ja_value.specs.Value.{value_of, property_of};
 ghost use Rattle.ja_state.specs.State.{object_of, state_of};
 ghost use Rattle.ja_report.specs.Lines.{entry, point, owner_text, property_text, value_sites, is_undefined, register_line, register_lines, has_attrs, is_known, is_entry, property_line, object_lines, property_lines, mask_line, mask_lines, state_lines};
-ghost use Rattle.ja_report.specs.Output.{Adds};
+ghost use Rattle.ja_report.specs.code.Output.{Adds};
 
 use crate::output::Output;
 use crate::texts::{push_attrs, push_key, push_register, push_site};

@@ -6,7 +6,8 @@ ghost use Rattle.std.specs.Ordering.{nat_cmp};
 ghost use Rattle.std.specs.BTreeSet.{contains};
 ghost use Rattle.ja_graph.specs.WellFormed.{IsWellFormed};
 ghost use Rattle.ja_model.specs.AbstractState.{site_of};
-ghost use Rattle.ja_report.specs.Texts.{with_bars, builtin_of};
+ghost use Rattle.ja_report.specs.Texts.{builtin_of};
+ghost use Rattle.ja_report.specs.code.Texts.{with_bars};
 ghost use Rattle.ja_report.specs.Report.{kind_parts, kinds_text, device_line, devices_text, kind_text, certainty_text, warning_text, warnings_text, context_text, item_text, visits_text, info_text, is_text_site, site_line, named_sites, sites_text};
 
 use crate::texts::{device_of, push_label, push_numbered_site};

@@ -8,7 +8,7 @@ ghost use Rattle.ja_value.specs.Value.{property_of};
 ghost use Rattle.ja_state.specs.State.{entries_of};
 ghost use Rattle.ja_rules.specs.Readings.{table_of, Fits};
 ghost use Rattle.ja_report.specs.Lines.{entry, entry_line, entry_lines, node_lines, point_lines};
-ghost use Rattle.ja_report.specs.Output.{Adds};
+ghost use Rattle.ja_report.specs.code.Output.{Adds};
 
 use crate::lines::{push_property_text, push_state};
 use crate::output::Output;

@@ -4,7 +4,8 @@ ghost use Rattle.std.specs.Prelude.{◌≡◌, ◌++◌, [], ◌∷◌, OnOk, Li
 ghost use Rattle.ja_graph.specs.WellFormed.{IsWellFormed};
 ghost use Rattle.ja_model.specs.AbstractState.{labels_of};
 ghost use Rattle.ja_value.specs.Value.{labels_in, value_of};
-ghost use Rattle.ja_report.specs.Texts.{part, property_parts, primitive_parts, number_parts, text_parts, value_parts, joined, with_bars, label_text, value_text};
+ghost use Rattle.ja_report.specs.Texts.{part, property_parts, primitive_parts, number_parts, text_parts, value_parts, joined, label_text, value_text};
+ghost use Rattle.ja_report.specs.code.Texts.{with_bars};
 ghost use Rattle.ja_report.specs.Lines.{label_sites, value_sites};
 
 use crate::output::Output;
@@ -24,7 +25,7 @@ pub(crate) fn site_count(program: &Program) -> u32
     program.sites.len() as u32
 }
 
-#[tactic(auto, unfolding(crate::specs::Texts::with_bars))]
+#[tactic(auto, unfolding(crate::specs::code::Texts::with_bars))]
 pub(crate) fn push_part(text: &mut Vec<u8>, there: bool, word: &[u8]) -> Result<(), Memory>
     ensures { OnOk result (text.new.items ≡ text.old.items ++ with_bars (part there word.now)) }
 {
@@ -57,7 +58,7 @@ pub(crate) fn push_primitive_parts(text: &mut Vec<u8>, flags: Flags) -> Result<(
     Ok(())
 }
 
-#[tactic(auto, unfolding(crate::specs::Texts::with_bars, crate::specs::Texts::number_parts))]
+#[tactic(auto, unfolding(crate::specs::code::Texts::with_bars, crate::specs::Texts::number_parts))]
 pub(crate) fn push_number_part(text: &mut Vec<u8>, number: NumberPart) -> Result<(), Memory>
     ensures { OnOk result (text.new.items ≡ text.old.items ++ with_bars (number_parts number)) }
 {
@@ -72,7 +73,7 @@ pub(crate) fn push_number_part(text: &mut Vec<u8>, number: NumberPart) -> Result
     Ok(())
 }
 
-#[tactic(auto, unfolding(crate::specs::Texts::with_bars, crate::specs::Texts::text_parts))]
+#[tactic(auto, unfolding(crate::specs::code::Texts::with_bars, crate::specs::Texts::text_parts))]
 pub(crate) fn push_text_part(text: &mut Vec<u8>, part: &TextPart) -> Result<(), Memory>
     ensures { OnOk result (text.new.items ≡ text.old.items ++ with_bars (text_parts part.now)) }
 {

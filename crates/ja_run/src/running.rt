@@ -4,7 +4,7 @@ ghost use Rattle.ja_graph.specs.WellFormed.{IsWellFormed};
 ghost use Rattle.ja_machine.specs.declared.machine.Wants.TheVariants as wanted;
 ghost use Rattle.ja_machine.specs.Machine.{opening_state, wants};
 ghost use Rattle.ja_step.specs.Given.{primitives};
-ghost use Rattle.ja_step.specs.Steps.{conf_of, frame_of};
+ghost use Rattle.ja_step.specs.code.Steps.{conf_of, frame_of};
 ghost use Rattle.ja_run.specs.Asked.{IsCutShort, IsLeft};
 ghost use Rattle.ja_run.specs.code.Making.{IsDeviceAnswered, MayHaveAnswered, IsGiven, MayBeGiven};
 ghost use Rattle.ja_run.specs.code.Making.{IsMade, Leaves};

@@ -4,7 +4,7 @@ use Rattle.std.specs.List.{range_with_len}
 use Rattle.ja_base.specs.declared.ids.ScopeKind.{ScopeKind}
 use Rattle.ja_machine.specs.declared.machine.Value.{Value}
 use Rattle.ja_machine.specs.Calls.{ArgumentsRead, with_first, all_given}
-use Rattle.ja_step.specs.Arguments.{with_front}
+use Rattle.ja_step.specs.code.Arguments.{with_front}
 
 front_first : (vs : List Value) (v : Value) (g : ArgumentsRead) → with_front vs (with_first v g) ≡ with_front (vs ++ v ∷ []) g
 front_first vs v (Ok ws) = ap (λ (xs : List Value). let g : ArgumentsRead = Ok xs in g) (sym (append_assoc vs (v ∷ []) ws))

@@ -5,8 +5,8 @@ use Rattle.ja_prim.specs.Texts.{same_text}
 use Rattle.ja_base.specs.declared.ids.Reg.{Reg}
 use Rattle.ja_machine.specs.Frames.{remaining, with_remaining, without_first}
 use Rattle.ja_step.specs.declared.frame.Listed.{Listed}
-use Rattle.ja_step.specs.Lists.{place_of_list}
-use Rattle.ja_step.specs.Steps.{remaining_of}
+use Rattle.ja_step.specs.code.Lists.{place_of_list}
+use Rattle.ja_step.specs.code.Steps.{remaining_of}
 
 same_number : (m n : ℕ) → (m == n) ≡ true → m ≡ n
 same_number m n same = grind (arith, nat_tests)

@@ -19,7 +19,7 @@ use Rattle.ja_machine.specs.Nodes.{puts, after_put}
 use Rattle.ja_machine.proofs.Lists.{either_way}
 use Rattle.ja_machine.proofs.Heaps.{of_object}
 use Rattle.ja_step.specs.declared.conf.Conf.{Conf}
-use Rattle.ja_step.specs.Steps.{standing}
+use Rattle.ja_step.specs.code.Steps.{standing}
 
 -- the heap is as it was, if the value isn't set
 abbrev pub IsLeft : Heap → Heap → Put → Type 0

@@ -15,7 +15,7 @@ use Rattle.ja_machine.specs.declared.machine.End.{End}
 use Rattle.ja_machine.specs.Machine.{step, frames_step, fits, wants}
 use Rattle.ja_machine.specs.Nodes.{node_step}
 use Rattle.ja_step.specs.declared.conf.Conf.{Conf}
-use Rattle.ja_step.specs.Steps.{conf_of, standing, leads_to, event_of}
+use Rattle.ja_step.specs.code.Steps.{conf_of, standing, leads_to, event_of}
 
 -- a choice of which nothing is the other part is the first, if it is some
 chosen : {X : Type 0} (b : Bool) (o : Option X) → IsSome (if b then o else None) → (if b then o else None) ≡ o

@@ -15,12 +15,6 @@ answer_to wanted.Tick = answers.Tick
 answer_to (wanted.Pick count) = answers.Pick 0
 answer_to (wanted.Device which) = answers.Tick
 
--- what is wanted, where names aren't counted: of some, the first one
-abbrev pub uncounted : Wants → Wants
-uncounted wanted.Tick = wanted.Tick
-uncounted (wanted.Pick count) = wanted.Pick 1
-uncounted (wanted.Device which) = wanted.Device which
-
 -- a value, if it is primitive
 abbrev pub primitive_in : Value → List Primitive
 primitive_in (value.Primitive q) = q ∷ []

@@ -1,5 +1,2 @@
-pub mod Steps
-pub mod Places
 pub mod Given
-pub mod Arguments
-pub mod Lists
+pub mod code

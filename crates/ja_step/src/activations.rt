@@ -7,7 +7,7 @@ ghost use Rattle.ja_machine.specs.Heap.{with_new, new_address};
 ghost use Rattle.ja_machine.specs.Nodes.{parameter_names, enter, enters_scope, enter_step};
 ghost use Rattle.ja_machine.specs.declared.machine.Value.TheVariants as value;
 ghost use Rattle.ja_machine.specs.Objects as objects;
-ghost use Rattle.ja_step.specs.Steps.{held, standing, leads_to};
+ghost use Rattle.ja_step.specs.code.Steps.{held, standing, leads_to};
 
 use crate::Conf;
 use ja_base::{Memory, ScopeKind, Site};

@@ -6,7 +6,7 @@ ghost use Rattle.ja_graph.specs.Program.{object_spec};
 ghost use Rattle.ja_graph.specs.WellFormed.{IsWellFormed, IsObjectWellFormed};
 ghost use Rattle.ja_machine.specs.Machine.{opening_content, opening_object, opening_heap, opening_frame, opening_state, class_of_site};
 ghost use Rattle.ja_machine.specs.Objects.{first_of};
-ghost use Rattle.ja_step.specs.Steps.{frame_of, conf_of};
+ghost use Rattle.ja_step.specs.code.Steps.{frame_of, conf_of};
 
 use crate::entry::entered;
 use crate::{Conf, Frame};

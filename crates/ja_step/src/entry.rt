@@ -6,7 +6,7 @@ ghost use Rattle.ja_machine.specs.Calls.{chain_of};
 ghost use Rattle.ja_machine.specs.Events.{next_state};
 ghost use Rattle.ja_machine.specs.Frames as frames;
 ghost use Rattle.ja_machine.specs.Frames.{undefined};
-ghost use Rattle.ja_step.specs.Steps.{frame_of, conf_of, leads_to};
+ghost use Rattle.ja_step.specs.code.Steps.{frame_of, conf_of, leads_to};
 
 use crate::scopes::parameters_of;
 use crate::{Conf, Frame};

@@ -4,7 +4,7 @@ ghost use Rattle.std.specs.Prelude.{◌≡◌, [], Some, IfOk, OnOk, IsSome, len
 ghost use Rattle.std.specs.Option.{option_map};
 ghost use Rattle.ja_machine.specs.Frames.{remaining, with_remaining, without_first};
 ghost use Rattle.ja_machine.specs.Nodes.{shown, names_step, takes, pick_step};
-ghost use Rattle.ja_step.specs.Steps.{held, frame_of, standing, leads_to};
+ghost use Rattle.ja_step.specs.code.Steps.{held, frame_of, standing, leads_to};
 
 use crate::frame::Listed;
 use crate::{Conf, Frame};
@@ -29,8 +29,8 @@ fn take_first(names: &mut VecDeque<Text16>, name: &Text16)
 
 impl Frame {
     ghost use Rattle.std.specs.Option.{option_map_or};
-    ghost use Rattle.ja_step.specs.Steps.{frame_of};
-    ghost use Rattle.ja_step.specs.Lists.{place_of_list};
+    ghost use Rattle.ja_step.specs.code.Steps.{frame_of};
+    ghost use Rattle.ja_step.specs.code.Lists.{place_of_list};
 
     /// The place of a list among those that were fixed, or their number where it isn't among them.
     fn place(&self, list: Reg) -> usize

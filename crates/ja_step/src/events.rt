@@ -5,7 +5,7 @@ ghost use Rattle.ja_machine.specs.Events.{goes_on, sets, left_scope, throws_valu
 ghost use Rattle.ja_machine.specs.Frames.{moved_to};
 ghost use Rattle.ja_machine.specs.Nodes.{makes};
 ghost use Rattle.ja_machine.specs.Values.{kind_of};
-ghost use Rattle.ja_step.specs.Steps.{standing, leads_to};
+ghost use Rattle.ja_step.specs.code.Steps.{standing, leads_to};
 
 use crate::Conf;
 use ja_base::{Memory, Reg, ScopeKind, Site};

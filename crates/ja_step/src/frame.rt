@@ -32,7 +32,7 @@ pub struct Frame {
 }
 
 impl Frame {
-    ghost use Rattle.ja_step.specs.Steps.{frame_of, or_undefined};
+    ghost use Rattle.ja_step.specs.code.Steps.{frame_of, or_undefined};
 
     /// What a register holds. One that there isn't is undefined.
     pub fn register(&self, register: Reg) -> Option<&Value>

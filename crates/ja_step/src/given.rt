@@ -7,8 +7,8 @@ ghost use Rattle.ja_machine.specs.Calls as calls;
 ghost use Rattle.ja_machine.specs.Frames.{register_of};
 ghost use Rattle.ja_machine.specs.Heap.{content_at};
 ghost use Rattle.ja_machine.specs.Objects as objects;
-ghost use Rattle.ja_step.specs.Arguments.{given_of};
-ghost use Rattle.ja_step.specs.Steps.{held, frame_of};
+ghost use Rattle.ja_step.specs.code.Arguments.{given_of};
+ghost use Rattle.ja_step.specs.code.Steps.{held, frame_of};
 
 use crate::Conf;
 use crate::events::kind_of;

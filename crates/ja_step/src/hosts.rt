@@ -3,7 +3,7 @@
 ghost use Rattle.std.specs.Prelude.{◌≡◌, Some, IfOk, IsSome};
 ghost use Rattle.ja_machine.specs.Nodes.{device_step};
 ghost use Rattle.ja_step.specs.Given.{primitives};
-ghost use Rattle.ja_step.specs.Steps.{frame_of, standing, leads_to};
+ghost use Rattle.ja_step.specs.code.Steps.{frame_of, standing, leads_to};
 
 use crate::Conf;
 use ja_base::{Memory, Reg, ScopeKind, Seq};

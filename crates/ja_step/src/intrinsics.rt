@@ -3,7 +3,7 @@
 ghost use Rattle.std.specs.Prelude.{◌≡◌, ◌∷◌, [], IfOk, Some, length, map};
 ghost use Rattle.ja_graph.specs.WellFormed.{arguments_taken};
 ghost use Rattle.ja_machine.specs.Nodes.{intrinsic_step, sets_given};
-ghost use Rattle.ja_step.specs.Steps.{held, standing, leads_to};
+ghost use Rattle.ja_step.specs.code.Steps.{held, standing, leads_to};
 
 use crate::Conf;
 use ja_base::{Memory, Reg};

@@ -5,7 +5,7 @@ ghost use Rattle.ja_machine.specs.Frames.{scope};
 ghost use Rattle.ja_machine.specs.Events.{sets_content};
 ghost use Rattle.ja_machine.specs.Nodes as nodes;
 ghost use Rattle.ja_machine.specs.Nodes.{name_text, find_name_step, read_ref_step, read_soft_step};
-ghost use Rattle.ja_step.specs.Steps.{held, standing, leads_to};
+ghost use Rattle.ja_step.specs.code.Steps.{held, standing, leads_to};
 
 use crate::Conf;
 use ja_base::{Memory, NameId, Reg, ScopeKind, Site};

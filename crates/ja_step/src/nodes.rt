@@ -4,7 +4,7 @@ ghost use Rattle.std.specs.Prelude.{◌≡◌, ◌<◌, ◌-◌, ◌^◌, Some, 
 ghost use Rattle.ja_graph.specs.declared.program.Function.{Function};
 ghost use Rattle.ja_graph.specs.WellFormed.{IsWellFormed, IsNodeWellFormed};
 ghost use Rattle.ja_machine.specs.Nodes.{node_step};
-ghost use Rattle.ja_step.specs.Steps.{standing, leads_to};
+ghost use Rattle.ja_step.specs.code.Steps.{standing, leads_to};
 
 use crate::Conf;
 use ja_base::Memory;

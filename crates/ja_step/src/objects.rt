@@ -4,8 +4,8 @@ ghost use Rattle.std.specs.Prelude.{◌≡◌, IfOk, codes};
 ghost use Rattle.ja_machine.specs.Nodes.{makes, to_object_step, need_object_step, is_function, has_instance, instance_of, instance_of_step};
 ghost use Rattle.ja_machine.specs.Heap.{content_at};
 ghost use Rattle.ja_machine.specs.Objects.{empty_object};
-ghost use Rattle.ja_step.specs.Places.{object_held};
-ghost use Rattle.ja_step.specs.Steps.{held, standing, leads_to};
+ghost use Rattle.ja_step.specs.code.Places.{object_held};
+ghost use Rattle.ja_step.specs.code.Steps.{held, standing, leads_to};
 
 use crate::Conf;
 use ja_base::{Memory, Reg, Site};

@@ -7,8 +7,8 @@ ghost use Rattle.ja_machine.specs.Heap.{has};
 ghost use Rattle.ja_machine.specs.Nodes as nodes;
 ghost use Rattle.ja_machine.specs.Nodes.{on_property, puts, deletes, wrong_length, bool_value};
 ghost use Rattle.ja_machine.specs.Values.{key_of};
-ghost use Rattle.ja_step.specs.Places.{place_of};
-ghost use Rattle.ja_step.specs.Steps.{held, or_undefined, standing, leads_to};
+ghost use Rattle.ja_step.specs.code.Places.{place_of};
+ghost use Rattle.ja_step.specs.code.Steps.{held, or_undefined, standing, leads_to};
 
 use crate::Conf;
 use ja_base::{Memory, Reg, ScopeKind, Site};

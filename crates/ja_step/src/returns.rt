@@ -4,7 +4,7 @@ ghost use Rattle.std.specs.Prelude.{◌≡◌, ◌∷◌, Some, IfOk, IsSome};
 ghost use Rattle.ja_machine.specs.Calls as calls;
 ghost use Rattle.ja_machine.specs.Events.{throws_value, next_state};
 ghost use Rattle.ja_machine.specs.Frames.{thrown, with_result};
-ghost use Rattle.ja_step.specs.Steps.{held, frame_of, below_of, conf_of, standing, leads_to};
+ghost use Rattle.ja_step.specs.code.Steps.{held, frame_of, below_of, conf_of, standing, leads_to};
 
 use crate::wanted::node_of;
 use crate::{Conf, Frame};

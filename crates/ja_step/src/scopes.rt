@@ -8,7 +8,7 @@ ghost use Rattle.ja_machine.specs.Objects as objects;
 ghost use Rattle.ja_machine.specs.Events.{sets_in};
 ghost use Rattle.ja_machine.specs.declared.machine.Value.TheVariants as value;
 ghost use Rattle.ja_machine.specs.Nodes.{make_function_step, declare_step, bind_step, push_scope_step};
-ghost use Rattle.ja_step.specs.Steps.{held, standing, leads_to};
+ghost use Rattle.ja_step.specs.code.Steps.{held, standing, leads_to};
 
 use crate::Conf;
 use ja_base::{FnId, Memory, NameId, Reg, ScopeKind, Site};

@@ -1,7 +1,7 @@
 ghost use Rattle.std.specs.Prelude.{◌≡◌, ◌<◌, ◌-◌, ◌^◌, Some, IfOk, IsSome};
 ghost use Rattle.ja_graph.specs.WellFormed.{IsWellFormed};
 ghost use Rattle.ja_machine.specs.Machine.{step};
-ghost use Rattle.ja_step.specs.Steps.{conf_of, event_of};
+ghost use Rattle.ja_step.specs.code.Steps.{conf_of, event_of};
 
 use crate::Conf;
 use crate::wanted::node_of;

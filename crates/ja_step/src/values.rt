@@ -5,7 +5,7 @@ ghost use Rattle.ja_machine.specs.declared.machine.Value.TheVariants as value;
 ghost use Rattle.ja_machine.specs.Events.{sets, sets_outcome};
 ghost use Rattle.ja_machine.specs.Nodes.{branch_step};
 ghost use Rattle.ja_machine.specs.Values.{unary, binary};
-ghost use Rattle.ja_step.specs.Steps.{held, standing, leads_to};
+ghost use Rattle.ja_step.specs.code.Steps.{held, standing, leads_to};
 
 use crate::Conf;
 use ja_base::{Memory, Reg, ScopeKind};

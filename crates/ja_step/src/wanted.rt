@@ -3,8 +3,8 @@ ghost use Rattle.std.specs.Option.{option_map};
 ghost use Rattle.ja_graph.specs.Program.{node_at};
 ghost use Rattle.ja_machine.specs.Machine.{wants, pick_wants, device_wants};
 ghost use Rattle.ja_machine.specs.Values.{is_object};
-ghost use Rattle.ja_step.specs.Given.{uncounted};
-ghost use Rattle.ja_step.specs.Steps.{held, frame_of, conf_of};
+ghost use Rattle.ja_step.specs.code.Given.{uncounted};
+ghost use Rattle.ja_step.specs.code.Steps.{held, frame_of, conf_of};
 
 use crate::{Conf, Frame};
 use ja_base::Reg;

@@ -3,7 +3,7 @@
 ghost use Rattle.std.specs.Prelude.{◌≡◌, ◌<◌, IfOk, length};
 ghost use Rattle.ja_machine.specs.Nodes.{puts, wrong_length, not_taken, deletes, is_array_at, write_ref_step, delete_ref_step};
 ghost use Rattle.ja_machine.specs.Objects.{first_of};
-ghost use Rattle.ja_step.specs.Steps.{held, standing, leads_to};
+ghost use Rattle.ja_step.specs.code.Steps.{held, standing, leads_to};
 
 use crate::Conf;
 use ja_base::{Memory, NameId, Reg, ScopeKind, Site};

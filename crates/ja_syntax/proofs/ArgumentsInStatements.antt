@@ -2,8 +2,9 @@
 use Rattle.std.proofs.Common.{◌≡◌, ◌||◌, Bool, false, List, ◌∙◌, ap, sym, map, refl, Option, Some, None}
 use Rattle.std.specs.List.{list_any}
 use Rattle.ja_base.specs.declared.ids.Place.{Place}
-use Rattle.ja_syntax.specs.Arguments.{expression_step, statement_step, case_step, in_expression, in_statement, in_case, in_declaration, in_first, any, if_any}
-use Rattle.ja_syntax.specs.Mentions.{optional_mentions, declaration_mentions, initialiser_mentions, first_mentions, target_mentions, catch_mentions, finally_mentions}
+use Rattle.ja_syntax.specs.Arguments.{expression_step, statement_step, case_step, in_statement, in_declaration, in_first, any, if_any}
+use Rattle.ja_syntax.specs.code.Arguments.{in_expression, in_case}
+use Rattle.ja_syntax.specs.code.Mentions.{optional_mentions, declaration_mentions, initialiser_mentions, first_mentions, target_mentions, catch_mentions, finally_mentions}
 use Rattle.ja_syntax.specs.declared.tree.CatchOf.{CatchOf}
 use Rattle.ja_syntax.specs.declared.tree.Declaration.{Declaration}
 use Rattle.ja_syntax.specs.declared.tree.Initialiser.{Initialiser}

@@ -2,8 +2,9 @@
 use Rattle.std.proofs.Common.{◌≡◌, ◌||◌, Bool, false, List, [], ◌∷◌, ◌∙◌, ap, sym, map, refl, Option, Some, None}
 use Rattle.std.specs.List.{list_any}
 use Rattle.ja_base.specs.declared.ids.Place.{Place}
-use Rattle.ja_syntax.specs.Arguments.{expression_step, statement_step, case_step, in_expression, in_suffix, in_operation, in_property, if_any, any}
-use Rattle.ja_syntax.specs.Mentions.{optional_mentions, suffix_mentions}
+use Rattle.ja_syntax.specs.Arguments.{expression_step, statement_step, case_step, in_suffix, in_operation, in_property, if_any, any}
+use Rattle.ja_syntax.specs.code.Arguments.{in_expression}
+use Rattle.ja_syntax.specs.code.Mentions.{optional_mentions, suffix_mentions}
 use Rattle.ja_syntax.specs.declared.tree.Property.{Property}
 use Rattle.ja_syntax.specs.declared.tree.Suffix.{Suffix}
 use Rattle.ja_syntax.specs.declared.tree.Suffix.TheVariants as suffix

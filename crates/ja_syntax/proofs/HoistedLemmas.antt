@@ -4,7 +4,8 @@ use Rattle.std.specs.List.{flat_map, fold}
 use Rattle.std.proofs.lemmas.List.Folds.{flat_map-map}
 use Rattle.std.proofs.lemmas.List.Sums.{fold-append}
 use Rattle.ja_base.specs.declared.ids.Place.{Place}
-use Rattle.ja_syntax.specs.Hoisted.{Texts, nothing, variables_step, variables_in_case, variables_of, case_variables, all_names, declared_names, first_names, target_names, with_name}
+use Rattle.ja_syntax.specs.Hoisted.{Texts, nothing, variables_step, variables_in_case, variables_of, all_names, declared_names, first_names, target_names}
+use Rattle.ja_syntax.specs.code.Hoisted.{case_variables, with_name}
 use Rattle.ja_syntax.specs.declared.tree.CatchOf.{CatchOf}
 use Rattle.ja_syntax.specs.declared.tree.Declaration.{Declaration}
 use Rattle.ja_syntax.specs.declared.tree.ForFirst.{ForFirst}

@@ -2,7 +2,7 @@
 use Rattle.std.proofs.Common.{◌≡◌, Bool, true, not, ◌&&◌, List, [], ◌∷◌, ◌∙◌, ap, sym, map, refl, Option, Some, None}
 use Rattle.std.specs.List.{list_all}
 use Rattle.ja_base.specs.declared.ids.Place.{Place}
-use Rattle.ja_syntax.specs.Jumps.{Around, Judged, within, within_loop, within_switch, labelled, is_among, may_continue, may_break, jumps_step, jumps_in_case, jumps_well}
+use Rattle.ja_syntax.specs.code.Jumps.{Around, Judged, within, within_loop, within_switch, labelled, is_among, may_continue, may_break, jumps_step, jumps_in_case, jumps_well}
 use Rattle.ja_syntax.specs.declared.tree.Declaration.{Declaration}
 use Rattle.ja_syntax.specs.declared.tree.ForFirst.{ForFirst}
 use Rattle.ja_syntax.specs.declared.tree.ForTarget.{ForTarget}

@@ -3,7 +3,8 @@ use Rattle.std.proofs.Common.{◌≡◌, ℕ, Bool, true, false, eqb, List, [], 
 use Rattle.std.specs.Str.{bytes_eq}
 use Rattle.std.proofs.lemmas.Slice.Eq.{bytes_eq-Decides}
 use Rattle.std.proofs.lemmas.Bool.Decides.{Decides-eqb}
-use Rattle.ja_syntax.specs.Lookups.{lookup, of_length}
+use Rattle.ja_syntax.specs.Lookups.{lookup}
+use Rattle.ja_syntax.specs.code.Lookups.{of_length}
 
 -- texts of different lengths aren't the same
 other_length : (xs ys : List ℕ) → (length xs ≡ length ys → ⊥) → bytes_eq xs ys ≡ false

@@ -5,7 +5,8 @@ use Rattle.std.specs.Str.{bytes_eq}
 use Rattle.std.specs.Cmp.Lexicographic.{bytes_decides, nat_list_eq_equiv}
 use Rattle.std.proofs.lemmas.List.{map_push}
 use Rattle.indexmap.specs.IndexSet.{insert_key}
-use Rattle.ja_syntax.specs.Hoisted.{once, with_name}
+use Rattle.ja_syntax.specs.Hoisted.{once}
+use Rattle.ja_syntax.specs.code.Hoisted.{with_name}
 
 abbrev Texts : Type 0
 Texts = List (Bor (List ℕ))

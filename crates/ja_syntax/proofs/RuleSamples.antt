@@ -2,7 +2,7 @@
 use Rattle.std.proofs.Common.{◌≡◌, true, false, [], ◌∷◌, Some, None, refl}
 use Rattle.std.specs.Prelude.{codes}
 use Rattle.ja_base.specs.declared.ids.Place.{Place}
-use Rattle.ja_syntax.specs.Jumps.{around_body, within, within_loop, labelled, is_among, body_jumps_well}
+use Rattle.ja_syntax.specs.code.Jumps.{around_body, within, within_loop, labelled, is_among, body_jumps_well}
 use Rattle.ja_syntax.specs.declared.tree.FunctionOf.{FunctionOf}
 use Rattle.ja_syntax.specs.declared.tree.Name.{Name}
 use Rattle.ja_syntax.specs.declared.tree.Statement.{Statement}

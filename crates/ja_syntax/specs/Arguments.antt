@@ -1,7 +1,6 @@
 -- Where the name `arguments` is looked up (ES3 10.1.4, 10.1.8).
 use Rattle.std.specs.Prelude.{Bool, false, ◌||◌, List, Option, Some, None}
 use Rattle.std.specs.List.{list_any}
-use Rattle.ja_syntax.specs.declared.tree.Case.{Case}
 use Rattle.ja_syntax.specs.declared.tree.CatchOf.{CatchOf}
 use Rattle.ja_syntax.specs.declared.tree.Declaration.{Declaration}
 use Rattle.ja_syntax.specs.declared.tree.ForFirst.{ForFirst}
@@ -14,9 +13,8 @@ use Rattle.ja_syntax.specs.declared.tree.Property.{Property}
 use Rattle.ja_syntax.specs.declared.tree.Suffix.{Suffix}
 use Rattle.ja_syntax.specs.declared.tree.Suffix.TheVariants as suffix
 use Rattle.ja_syntax.specs.declared.tree.Statement.{Statement}
-use Rattle.ja_syntax.specs.declared.tree.Expression.{Expression}
 use Rattle.ja_syntax.specs.declared.tree.Expression.TheOpen.{Expression-F, Statement-F, Case-F}
-use Rattle.ja_syntax.specs.declared.tree.Expression.TheFolds.{fold-Expression, fold-Statement, fold-Case}
+use Rattle.ja_syntax.specs.declared.tree.Expression.TheFolds.{fold-Statement}
 use Rattle.ja_syntax.specs.Symbols.{names_arguments}
 
 -- Below, each expression or statement inside stands as whether it mentions `arguments`.
@@ -119,17 +117,9 @@ statement_step (Statement-F.Statement::Function function) = false
 abbrev pub case_step : Case-F Bool Bool Bool → Bool
 case_step case = if_any case.test || any case.body
 
--- an expression looks the name `arguments` up
-abbrev pub in_expression : Expression → Bool
-in_expression = fold-Expression Bool Bool Bool expression_step statement_step case_step
-
 -- a statement does
 abbrev pub in_statement : Statement → Bool
 in_statement = fold-Statement Bool Bool Bool expression_step statement_step case_step
-
--- a clause of a `switch` does
-abbrev pub in_case : Case → Bool
-in_case = fold-Case Bool Bool Bool expression_step statement_step case_step
 
 -- The name `arguments` is looked up in a function's body, functions inside left out.
 unfoldable pub mentions_arguments : List Statement → Bool

@@ -2,8 +2,6 @@ pub mod Lookups
 pub mod Symbols
 pub mod Spelling
 pub mod References
-pub mod Jumps
-pub mod Rules
 pub mod Hoisted
 pub mod Arguments
-pub mod Mentions
+pub mod code

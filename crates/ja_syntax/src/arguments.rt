@@ -3,7 +3,8 @@
 ghost use Rattle.std.specs.Prelude.{◌≡◌, ◌||◌};
 ghost use Rattle.std.specs.List.{list_any};
 ghost use Rattle.ja_syntax.specs.Arguments as spec;
-ghost use Rattle.ja_syntax.specs.Mentions as mentions;
+ghost use Rattle.ja_syntax.specs.code.Arguments as code;
+ghost use Rattle.ja_syntax.specs.code.Mentions as mentions;
 
 use crate::symbols::names_arguments;
 use crate::tree::{
@@ -16,7 +17,7 @@ use sqlite_items::Boxed;
 #[cycle(expressions)]
 #[tactic(auto, using(crate::proofs::ArgumentsLemmas::in_array, crate::proofs::ArgumentsLemmas::in_object, crate::proofs::ArgumentsLemmas::in_chain, crate::proofs::ArgumentsLemmas::in_new, crate::proofs::ArgumentsLemmas::in_binary, crate::proofs::ArgumentsLemmas::in_sequence))]
 fn in_expression(expression: &Expression) -> bool
-    ensures { result ≡ spec.in_expression expression.now }
+    ensures { result ≡ code.in_expression expression.now }
 {
     match expression {
         Expression::This { .. } => false,
@@ -61,7 +62,7 @@ fn in_expression(expression: &Expression) -> bool
 
 #[cycle(expressions)]
 fn in_expressions(expressions: &[Expression]) -> bool
-    ensures { result ≡ list_any spec.in_expression expressions.now }
+    ensures { result ≡ list_any code.in_expression expressions.now }
 {
     for expression in expressions {
         if in_expression(expression) {
@@ -87,7 +88,7 @@ fn in_elements(elements: &[Option<Expression>]) -> bool
 
 #[cycle(expressions)]
 fn in_properties(properties: &[Property<Expression>]) -> bool
-    ensures { result ≡ list_any (λ p. spec.in_expression p.value) properties.now }
+    ensures { result ≡ list_any (λ p. code.in_expression p.value) properties.now }
 {
     for property in properties {
         if in_expression(&property.value) {
@@ -99,7 +100,7 @@ fn in_properties(properties: &[Property<Expression>]) -> bool
 
 #[cycle(expressions)]
 fn in_operations(operations: &[Operation<Expression>]) -> bool
-    ensures { result ≡ list_any (λ o. spec.in_expression o.right) operations.now }
+    ensures { result ≡ list_any (λ o. code.in_expression o.right) operations.now }
 {
     for operation in operations {
         if in_expression(&operation.right) {
@@ -281,7 +282,7 @@ fn in_statements(statements: &[Statement]) -> bool
 
 #[cycle(statements)]
 fn in_cases(cases: &[Case]) -> bool
-    ensures { result ≡ list_any spec.in_case cases.now }
+    ensures { result ≡ list_any code.in_case cases.now }
 {
     for case in cases {
         if in_case(case) {
@@ -294,7 +295,7 @@ fn in_cases(cases: &[Case]) -> bool
 #[cycle(statements)]
 #[tactic(auto, using(crate::proofs::ArgumentsInStatements::in_case_is))]
 fn in_case(case: &Case) -> bool
-    ensures { result ≡ spec.in_case case.now }
+    ensures { result ≡ code.in_case case.now }
 {
     in_optional(&case.test) || in_statements(case.body.as_slice())
 }

@@ -2,8 +2,9 @@
 
 ghost use Rattle.std.specs.Prelude.{◌≡◌, IfOk, OnOk};
 ghost use Rattle.std.specs.List.{flat_map, fold};
-ghost use Rattle.ja_syntax.specs.Hoisted.{with_name};
+ghost use Rattle.ja_syntax.specs.code.Hoisted.{with_name};
 ghost use Rattle.ja_syntax.specs.Hoisted as spec;
+ghost use Rattle.ja_syntax.specs.code.Hoisted as code;
 
 use crate::names::Names;
 use crate::tree::{
@@ -131,7 +132,7 @@ fn add_statements<'a>(names: &mut Names<'a>, statements: &'a [Statement]) -> Res
 
 #[cycle(variables)]
 fn add_cases<'a>(names: &mut Names<'a>, cases: &'a [Case]) -> Result<(), Memory>
-    ensures { OnOk result (names.new ≡ fold with_name names.old (flat_map spec.case_variables cases.now)) }
+    ensures { OnOk result (names.new ≡ fold with_name names.old (flat_map code.case_variables cases.now)) }
 {
     for case in cases {
         add_case(names, case)?;
@@ -142,7 +143,7 @@ fn add_cases<'a>(names: &mut Names<'a>, cases: &'a [Case]) -> Result<(), Memory>
 #[cycle(variables)]
 #[tactic(auto, using(crate::proofs::HoistedLemmas::of_case))]
 fn add_case<'a>(names: &mut Names<'a>, case: &'a Case) -> Result<(), Memory>
-    ensures { OnOk result (names.new ≡ fold with_name names.old (spec.case_variables case.now)) }
+    ensures { OnOk result (names.new ≡ fold with_name names.old (code.case_variables case.now)) }
 {
     add_statements(names, case.body.as_slice())
 }
@@ -159,18 +160,18 @@ pub fn hoisted_variables(alloc: Global, statements: &[Statement]) -> Result<Seq<
 }
 
 /// Whether a statement is a function declaration (13).
-#[tactic(auto, unfolding(crate::specs::Hoisted::is_function))]
+#[tactic(auto, unfolding(crate::specs::code::Hoisted::is_function))]
 pub fn is_function(statement: &Statement) -> bool
-    ensures { result ≡ spec.is_function statement.now }
+    ensures { result ≡ code.is_function statement.now }
 {
     matches!(statement, Statement::Function(_))
 }
 
 /// The function declarations of a body or of the program, by their indices in the statements, in
 /// order.
-#[tactic(auto, unfolding(crate::specs::Hoisted::hoisted_functions))]
+#[tactic(auto, unfolding(crate::specs::code::Hoisted::hoisted_functions))]
 pub fn hoisted_functions(alloc: Global, statements: &[Statement]) -> Result<Seq<usize>, Memory>
-    ensures { IfOk result (λ functions. functions ≡ spec.hoisted_functions statements.now) }
+    ensures { IfOk result (λ functions. functions ≡ code.hoisted_functions statements.now) }
 {
     let mut functions = Vec::new(alloc);
     for (index, statement) in statements.iter().enumerate() {
@@ -182,7 +183,7 @@ pub fn hoisted_functions(alloc: Global, statements: &[Statement]) -> Result<Seq<
 }
 
 fn parameter_names(alloc: Global, parameters: &[Name]) -> Result<Seq<Text16>, Memory>
-    ensures { IfOk result (λ names. names ≡ spec.parameter_names parameters.now) }
+    ensures { IfOk result (λ names. names ≡ code.parameter_names parameters.now) }
 {
     let mut names = Vec::new(alloc);
     for parameter in parameters {
@@ -194,8 +195,8 @@ fn parameter_names(alloc: Global, parameters: &[Name]) -> Result<Seq<Text16>, Me
 /// What a function declares before its statements run (10.1.3). `Err` comes where memory is
 /// refused, and only then.
 pub fn hoist(alloc: Global, function: &FunctionTree) -> Result<Hoisted, Memory>
-    ensures parameters { IfOk result (λ h. h.parameters ≡ spec.parameter_names function.now.parameters) }
-    ensures functions { IfOk result (λ h. h.functions ≡ spec.hoisted_functions function.now.body) }
+    ensures parameters { IfOk result (λ h. h.parameters ≡ code.parameter_names function.now.parameters) }
+    ensures functions { IfOk result (λ h. h.functions ≡ code.hoisted_functions function.now.body) }
     ensures variables { IfOk result (λ h. h.variables ≡ spec.hoisted_variables function.now.body) }
 {
     let parameters = parameter_names(alloc, function.parameters.as_slice())?;

@@ -1,7 +1,7 @@
 //! Names, each once.
 
 ghost use Rattle.std.specs.Prelude.{◌≡◌, [], map, IfOk, OnOk};
-ghost use Rattle.ja_syntax.specs.Hoisted.{with_name};
+ghost use Rattle.ja_syntax.specs.code.Hoisted.{with_name};
 
 use indexmap::IndexSet;
 use ja_base::{Memory, Seq};

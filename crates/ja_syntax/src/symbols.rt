@@ -2,7 +2,7 @@
 //! length of its texts, so that a token is compared with few of them.
 
 ghost use Rattle.std.specs.Prelude.{◌≡◌, ◌==◌, length, map};
-ghost use Rattle.ja_syntax.specs.Lookups.{of_length};
+ghost use Rattle.ja_syntax.specs.code.Lookups.{of_length};
 ghost use Rattle.ja_syntax.specs.Lookups as tables;
 ghost use Rattle.ja_syntax.specs.Symbols as spec;
 

@@ -16,7 +16,7 @@ use Rattle.ja_top.specs.declared.command.Command.TheVariants as command
 use Rattle.ja_top.specs.Analyses.{IsAnalysed, Reports, Analyses}
 use Rattle.ja_top.specs.Answers.{Call, HasCause, IsInput, Written, IsAnswered, DevicesStand}
 use Rattle.ja_top.specs.Runs.{Runs, signatures_of}
-use Rattle.ja_top.specs.Statuses.{status_of}
+use Rattle.ja_top.specs.code.Statuses.{status_of}
 use Rattle.ja_top.specs.Words.{IsCommand, IsRunCommand, IsCommandLine}
 use Rattle.ja_top.specs.code.Commands.{AsksFor, Follows}
 use Rattle.ja_base.specs.Streams.{Appends, TurnsTo}

@@ -1,20 +1,10 @@
 -- The status of each answer, and the exit status.
-use Rattle.std.specs.Prelude.{ℕ, List, [], ◌∷◌}
-use Rattle.ja_model.specs.declared.table.Warning.{Warning}
-use Rattle.ja_report.specs.declared.refusals.Refusal.{Refusal}
-use Rattle.ja_report.specs.declared.refusals.Refusal.TheVariants as refusal
 use Rattle.ja_run.specs.declared.ended.RunEnd.{RunEnd}
 use Rattle.ja_run.specs.declared.ended.RunEnd.TheVariants as run_end
 use Rattle.ja_top.specs.declared.status.Status.{Status}
-use Rattle.ja_top.specs.declared.status.Status.TheVariants.{Done, Warned, Usage, ReadFault}
-use Rattle.ja_top.specs.declared.status.Status.TheVariants.{WriteFault, TooLong, NotText, Syntax}
-use Rattle.ja_top.specs.declared.status.Status.TheVariants.{Scope, Limit, Spent, DeviceFault, Left}
-use Rattle.ja_top.specs.declared.status.Status.TheVariants.{Uncaught, StepsSpent, Memory, Unbuilt}
-
--- a report without a warning is done, and one with a warning is warned
-abbrev pub status_of : List Warning → Status
-status_of [] = Done
-status_of (w ∷ ws) = Warned
+use Rattle.ja_top.specs.declared.status.Status.TheVariants.{Done}
+use Rattle.ja_top.specs.declared.status.Status.TheVariants.{DeviceFault, Left}
+use Rattle.ja_top.specs.declared.status.Status.TheVariants.{Uncaught, StepsSpent}
 
 -- the status of the end of a run
 abbrev pub status_of_end : RunEnd → Status
@@ -23,36 +13,3 @@ status_of_end (run_end.Uncaught value) = Uncaught
 status_of_end (run_end.Scope kind place) = Left
 status_of_end (run_end.Device which) = DeviceFault
 status_of_end run_end.Limit = StepsSpent
-
--- .. and of a refusal
-abbrev pub status_of_refusal : Refusal → Status
-status_of_refusal refusal.Usage = Usage
-status_of_refusal refusal.ReadFault = ReadFault
-status_of_refusal refusal.TooLong = TooLong
-status_of_refusal (refusal.NotText offset) = NotText
-status_of_refusal (refusal.Syntax place) = Syntax
-status_of_refusal (refusal.Scope kind place) = Scope
-status_of_refusal refusal.Depth = Limit
-status_of_refusal refusal.Functions = Limit
-status_of_refusal refusal.Nodes = Limit
-status_of_refusal (refusal.Unbuilt place) = Unbuilt
-
--- the exit status
-abbrev pub code_of : Status → ℕ
-code_of Done = 0
-code_of Warned = 1
-code_of Usage = 2
-code_of ReadFault = 3
-code_of WriteFault = 4
-code_of TooLong = 5
-code_of NotText = 6
-code_of Syntax = 7
-code_of Scope = 8
-code_of Limit = 9
-code_of Spent = 10
-code_of DeviceFault = 12
-code_of Left = 13
-code_of Uncaught = 14
-code_of StepsSpent = 15
-code_of Memory = 16
-code_of Unbuilt = 20

@@ -1,4 +1,4 @@
--- What the functions inside the crate promise each other. Nothing of it is needed to read what
--- `tajs`, `analyse` and `run` say.
+-- What clauses of the code cite, and no believed statement.
 pub mod Commands
 pub mod Solutions
+pub mod Statuses

@@ -1,12 +1,12 @@
 //! The answer of the analysis to bytes.
 
 ghost use Rattle.std.specs.Prelude.{◌≡◌, ◌≤◌, IfOk, length};
-ghost use Rattle.ja_device.specs.Signatures.{AreSignatures};
+ghost use Rattle.ja_device.specs.code.Signatures.{AreSignatures};
 ghost use Rattle.ja_graph.specs.Kinds.{AreBuilt};
 ghost use Rattle.ja_graph.specs.WellFormed.{IsWellFormed};
 ghost use Rattle.ja_top.specs.Analyses.{Analyses, Reports};
 ghost use Rattle.ja_top.specs.Runs.{signatures_of};
-ghost use Rattle.ja_top.specs.Statuses.{status_of};
+ghost use Rattle.ja_top.specs.code.Statuses.{status_of};
 ghost use Rattle.ja_top.specs.code.Solutions.{IsSolved};
 
 use crate::answer::Answer;

@@ -2,11 +2,11 @@
 
 ghost use Rattle.std.specs.Prelude.{◌≡◌, ℕ, List, IfOk};
 ghost use Rattle.ja_device.specs.Devices.{AllSeen};
-ghost use Rattle.ja_load.specs.Loading.{HasNone, HasNoneToRun};
+ghost use Rattle.ja_load.specs.code.Loading.{HasNone, HasNoneToRun};
 ghost use Rattle.ja_prim.specs.declared.signature.Signature.{Signature};
 ghost use Rattle.ja_top.specs.Analyses.{Analyses};
 ghost use Rattle.ja_top.specs.Runs.{Runs, signatures_of};
-ghost use Rattle.ja_top.specs.Statuses.{status_of_refusal};
+ghost use Rattle.ja_top.specs.code.Statuses.{status_of_refusal};
 ghost use Rattle.ja_top.specs.code.Solutions.{IsRefusal};
 
 use crate::answer::Answer;

@@ -2,7 +2,8 @@ use Rattle.std.proofs.Common.{◌≡◌, ◌+◌, ◌*◌, [], map, drop}
 use Rattle.std.specs.List.{fold}
 use Rattle.ja_lower_expressions.specs.Calls.{list_arguments}
 use Rattle.ja_lower_expressions.specs.Literals.{write_elements, write_members}
-use Rattle.ja_lower_expressions.specs.Expressions.{form, element_of, property_of, suffix_of, operation_of, with_suffix, apply_operations, list_others}
+use Rattle.ja_lower_expressions.specs.Expressions.{form, with_suffix, apply_operations, list_others}
+use Rattle.ja_lower_expressions.specs.code.Expressions.{element_of, property_of, suffix_of, operation_of}
 use Rattle.ja_lower_expressions.proofs.+forms.Given as goal
 
 -- what is left comes to what all came to at the loop's entry

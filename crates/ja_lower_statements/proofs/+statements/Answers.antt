@@ -1,5 +1,5 @@
 -- Each statement is listed as what was called for it lists.
-use Rattle.ja_lower_statements.specs.Standing.{around_of}
+use Rattle.ja_lower_statements.specs.code.Standing.{around_of}
 use Rattle.ja_lower_statements.proofs.StatementLemmas.{does_block, does_variables, does_empty, does_expression, does_if_alone, does_do, does_while, does_for, does_for_in, does_continue, does_break, does_return, does_labelled, does_switch, does_throw, does_function}
 use Rattle.ja_lower_statements.proofs.+statements.Goals as goal
 

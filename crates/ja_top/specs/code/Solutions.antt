@@ -10,7 +10,7 @@ use Rattle.ja_rules.specs.declared.solver.Solved.{Solved}
 use Rattle.ja_rules.specs.Readings.{table_of, Fits}
 use Rattle.ja_top.specs.Analyses.{budget}
 use Rattle.ja_top.specs.declared.answer.Answer.{Answer}
-use Rattle.ja_top.specs.Statuses.{status_of_refusal}
+use Rattle.ja_top.specs.code.Statuses.{status_of_refusal}
 
 -- what the solver gives of a program
 pub record IsSolved (p : Program) (s : Solved) : Type 0 where

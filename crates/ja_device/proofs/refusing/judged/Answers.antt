@@ -2,7 +2,7 @@
 use Rattle.std.proofs.Common.{◌≤◌, length, map, Some, None, arith, subst, sym}
 use Rattle.std.proofs.lemmas.List.{length-map, take-map}
 use Rattle.ja_device.specs.Devices.{signature_of}
-use Rattle.ja_device.specs.Signatures.{IsFaultBehind}
+use Rattle.ja_device.specs.code.Signatures.{IsFaultBehind}
 use Rattle.ja_device.proofs.Signing.{seen_at, front_more, refused_behind}
 use Rattle.ja_device.proofs.refusing.judged.Goals as goal
 

@@ -1,6 +1,6 @@
 use Rattle.std.proofs.Common.{◌≡◌, Some, ℕ, List, slice_get, refl, sym, subst, arith}
 use mathlib.Core.Bool.{true≢false}
-use Rattle.ja_graph.specs.Parts.{IsAmong}
+use Rattle.ja_graph.specs.code.Parts.{IsAmong}
 use Rattle.ja_graph.proofs.EachLemmas.{read_at}
 use Rattle.ja_graph.proofs.OnceLemmas.{names_more, names_all}
 use Rattle.ja_graph.proofs.well_formed_names.are_distinct.Goals as goal

@@ -1,7 +1,7 @@
 use Rattle.std.proofs.Common.{◌≡◌, Some, slice_get, refl, sym, subst, arith}
 use mathlib.Core.Bool.{true≢false}
 use Rattle.ja_graph.specs.declared.program.PropertySpec.{PropertySpec}
-use Rattle.ja_graph.specs.Parts.{IsPropertyBefore}
+use Rattle.ja_graph.specs.code.Parts.{IsPropertyBefore}
 use Rattle.ja_graph.proofs.EachLemmas.{read_at}
 use Rattle.ja_graph.proofs.OnceLemmas.{properties_more, properties_all}
 use Rattle.ja_graph.proofs.well_formed_opening.are_once.Goals as goal

@@ -1,6 +1,6 @@
 use Rattle.std.proofs.Common.{◌≡◌, ◌≤◌, ℕ, List, length, sym, ◌∙◌, subst, take, arith}
 use Rattle.std.proofs.lemmas.Bool.{leb-true}
-use Rattle.ja_graph.specs.Parts.{AreDistinct}
+use Rattle.ja_graph.specs.code.Parts.{AreDistinct}
 use Rattle.ja_graph.specs.WellFormed.{builtin_names}
 use Rattle.ja_graph.proofs.well_formed_programs.has_names.Goals as goal
 use Rattle.ja_graph.proofs.well_formed_programs.has_names.Goals.{then-names-le-MOST_NAMES, else-names-le-MOST_NAMES}

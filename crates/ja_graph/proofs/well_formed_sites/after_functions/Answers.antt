@@ -1,7 +1,7 @@
 use Rattle.std.proofs.Common.{◌+◌, ℕ, List, length, Option, None, Some, drop, sym, ap, ◌∙◌, subst, arith}
 use Rattle.ja_graph.specs.declared.node.NodeInfo.{NodeInfo}
 use Rattle.ja_graph.specs.declared.program.Function.{Function}
-use Rattle.ja_graph.specs.Parts.{EndsAt}
+use Rattle.ja_graph.specs.code.Parts.{EndsAt}
 use Rattle.ja_graph.specs.WellFormed.{makings_of, makings_from}
 use Rattle.ja_graph.proofs.NumberedLemmas.{functions_left, part_more, part_never}
 use Rattle.ja_graph.proofs.well_formed_sites.after_functions.Goals as goal

@@ -1,5 +1,5 @@
 use Rattle.std.proofs.Common.{◌↔◌, ℕ, drop, length}
-use Rattle.ja_graph.specs.Parts.{AreNumbered}
+use Rattle.ja_graph.specs.code.Parts.{AreNumbered}
 use Rattle.ja_graph.specs.WellFormed.{makings_from}
 use Rattle.ja_graph.proofs.well_formed_sites.after_functions.Given as goal
 

@@ -1,6 +1,6 @@
 use Rattle.std.proofs.Common.{◌+◌, ℕ, [], ◌∷◌, List, Option, None, map, drop, sym, ◌∙◌, ap, subst, arith}
 use Rattle.ja_graph.specs.Node.{makings}
-use Rattle.ja_graph.specs.Parts.{EndsAt}
+use Rattle.ja_graph.specs.code.Parts.{EndsAt}
 use Rattle.ja_graph.specs.WellFormed.{OwnedMaking, owned}
 use Rattle.ja_graph.proofs.NumberedLemmas.{makings_left, part_more, part_never}
 use Rattle.ja_graph.proofs.well_formed_sites.after_node.Goals as goal

@@ -1,5 +1,5 @@
 use Rattle.std.proofs.Common.{◌↔◌, ℕ, drop, map}
-use Rattle.ja_graph.specs.Parts.{AreNumbered}
+use Rattle.ja_graph.specs.code.Parts.{AreNumbered}
 use Rattle.ja_graph.specs.WellFormed.{owned}
 use Rattle.ja_graph.proofs.well_formed_sites.after_node.Given as goal
 

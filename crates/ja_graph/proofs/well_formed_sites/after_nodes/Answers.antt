@@ -1,6 +1,6 @@
 use Rattle.std.proofs.Common.{◌+◌, ℕ, Option, map, drop, sym, subst, arith}
 use Rattle.ja_graph.specs.Node.{makings}
-use Rattle.ja_graph.specs.Parts.{EndsAt}
+use Rattle.ja_graph.specs.code.Parts.{EndsAt}
 use Rattle.ja_graph.specs.WellFormed.{owned, makings_of}
 use Rattle.ja_graph.proofs.NumberedLemmas.{nodes_left, part_more, part_never}
 use Rattle.ja_graph.proofs.well_formed_sites.after_nodes.Goals as goal

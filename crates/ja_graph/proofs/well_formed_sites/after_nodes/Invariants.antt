@@ -1,5 +1,5 @@
 use Rattle.std.proofs.Common.{◌↔◌, ℕ, drop}
-use Rattle.ja_graph.specs.Parts.{AreNumbered}
+use Rattle.ja_graph.specs.code.Parts.{AreNumbered}
 use Rattle.ja_graph.specs.WellFormed.{makings_of}
 use Rattle.ja_graph.proofs.well_formed_sites.after_nodes.Given as goal
 

@@ -1,6 +1,6 @@
 use Rattle.std.proofs.Common.{◌≡◌, ℕ, length, None, Some, refl, sym, ◌∙◌, subst}
 use Rattle.std.proofs.lemmas.Bool.Decides.{Decides-eqb}
-use Rattle.ja_graph.specs.Parts.{AreNumbered}
+use Rattle.ja_graph.specs.code.Parts.{AreNumbered}
 use Rattle.ja_graph.specs.WellFormed.{makings_from}
 use Rattle.ja_graph.proofs.NumberedLemmas.{sites_numbered}
 use Rattle.ja_graph.proofs.well_formed_sites.are_sites_numbered.Goals as goal

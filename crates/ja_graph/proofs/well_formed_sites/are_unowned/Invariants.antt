@@ -1,5 +1,5 @@
 use Rattle.std.proofs.Common.{◌<◌, ℕ}
-use Rattle.ja_graph.specs.Parts.{IsUnowned}
+use Rattle.ja_graph.specs.code.Parts.{IsUnowned}
 use Rattle.ja_graph.proofs.well_formed_sites.are_unowned.Given as goal
 
 abbrev pub invariant-loop-site : goal.invariant-loop-site

@@ -1,6 +1,6 @@
 use Rattle.std.proofs.Common.{◌∙◌, sym, ap, take}
 use Rattle.std.proofs.lemmas.List.{take_more}
-use Rattle.ja_heap.specs.Slots.{has_name, slot_of}
+use Rattle.ja_heap.specs.code.Slots.{has_name, slot_of}
 use Rattle.ja_heap.proofs.InSlots.{first_at, pushed_past}
 use Rattle.ja_heap.proofs.properties.looked_through.Goals as goal
 

@@ -1,5 +1,5 @@
 use Rattle.std.proofs.Common.{◌≡◌, rules}
-use Rattle.ja_heap.specs.Slots.{slot_of}
+use Rattle.ja_heap.specs.code.Slots.{slot_of}
 use Rattle.ja_heap.proofs.InSlots.{within_all}
 use Rattle.ja_heap.proofs.properties.slot_of.Goals as goal
 

@@ -1,6 +1,6 @@
 use Rattle.std.proofs.Common.{◌≡◌, ◌+◌, drop}
 use Rattle.std.specs.List.{prefix_len}
-use Rattle.ja_lex.specs.Classes.{passes}
+use Rattle.ja_lex.specs.code.Classes.{passes}
 use Rattle.ja_lex.proofs.characters.run_length.Given as goal
 
 abbrev pub invariant-loop-i : goal.invariant-loop-i

@@ -1,7 +1,7 @@
 use Rattle.std.proofs.Common.{◌≡◌, ◌==◌, ◌&&◌, drop, map}
 use Rattle.std.specs.List.{list_any}
 use Rattle.std.specs.Str.{bytes_eq}
-use Rattle.ja_prelude.specs.Table.{seen_row}
+use Rattle.ja_prelude.specs.code.Table.{seen_row}
 use Rattle.ja_load.proofs.excluded.has_property.Given as goal
 
 abbrev pub invariant-loop-object : goal.invariant-loop-object

@@ -1,7 +1,7 @@
 use Rattle.std.proofs.Common.{◌≡◌, drop, map}
 use Rattle.std.specs.List.{list_any}
 use Rattle.std.specs.Str.{bytes_eq}
-use Rattle.ja_prelude.specs.Table.{seen_entry}
+use Rattle.ja_prelude.specs.code.Table.{seen_entry}
 use Rattle.ja_load.proofs.excluded.is_among.Given as goal
 
 abbrev pub invariant-loop-entry : goal.invariant-loop-entry

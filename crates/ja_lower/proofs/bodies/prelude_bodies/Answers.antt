@@ -7,7 +7,7 @@ use Rattle.ja_base.specs.declared.ids.Place.{Place}
 use Rattle.std.proofs.Common.{List}
 use Rattle.ja_lower.specs.Limits.{size_of_bodies}
 use Rattle.ja_lower.specs.Lowering.{function_body, prelude_bodies}
-use Rattle.ja_lower.specs.Room.{Exceeds}
+use Rattle.ja_lower.specs.code.Room.{Exceeds}
 use Rattle.ja_lower.proofs.bodies.prelude_bodies.Goals as goal
 
 pub returns-clause-fault : goal.returns-clause-fault

@@ -1,5 +1,5 @@
 use Rattle.std.proofs.Common.{◌≡◌, take}
-use Rattle.ja_lower_draft.specs.Parts as spec
+use Rattle.ja_lower_draft.specs.code.Parts as spec
 use Rattle.ja_lower_draft.proofs.part.+lines.Given as goal
 
 abbrev pub invariant-lines-loop-part : goal.invariant-lines-loop-part

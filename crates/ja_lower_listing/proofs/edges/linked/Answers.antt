@@ -3,7 +3,7 @@ use Rattle.ja_lower_listing.specs.declared.item.Item.{Item}
 use Rattle.ja_lower_listing.specs.declared.item.Item.TheVariants as item
 use Rattle.ja_lower_listing.specs.declared.item.Target.TheVariants as target
 use Rattle.ja_lower_listing.specs.Listing.{led, jump_of, way_on, with_edges, nodes_from}
-use Rattle.ja_lower_listing.specs.Passes.{IsEnd, followed, seen, ways_on}
+use Rattle.ja_lower_listing.specs.code.Passes.{IsEnd, followed, seen, ways_on}
 use Rattle.ja_lower_listing.proofs.Followed.{end_behind, way_lands}
 use Rattle.ja_lower_listing.proofs.Links.{take_last, get_last, no_nodes, none_left, ways_node, ways_copy, nodes_copy, plain_nodes, plain_ways}
 use Rattle.ja_lower_listing.proofs.edges.linked.Goals as goal

@@ -1,7 +1,7 @@
 use Rattle.std.proofs.Common.{◌≡◌, ◌++◌}
 use Rattle.std.specs.Vec.Iter.{into_iter_items}
 use Rattle.ja_lower_listing.specs.Listing.{nodes_from}
-use Rattle.ja_lower_listing.specs.Passes.{AreEdges, IsEnd, ways_on}
+use Rattle.ja_lower_listing.specs.code.Passes.{AreEdges, IsEnd, ways_on}
 use Rattle.ja_lower_listing.proofs.edges.linked.Given as goal
 
 abbrev pub invariant-loop-item : goal.invariant-loop-item

@@ -1,5 +1,5 @@
 use Rattle.std.proofs.Common.{◌≡◌, ◌+◌, ◌-◌, length, get_or, drop, sym, subst, arith}
-use Rattle.ja_lower_listing.specs.Passes.{HasPassed}
+use Rattle.ja_lower_listing.specs.code.Passes.{HasPassed}
 use Rattle.ja_lower_listing.proofs.Parts.{items_at, count_before}
 use Rattle.ja_lower_listing.proofs.passes.passed.Goals as goal
 

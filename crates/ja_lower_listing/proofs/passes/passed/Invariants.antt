@@ -1,5 +1,5 @@
 use Rattle.std.proofs.Common.{◌-◌, length, drop}
-use Rattle.ja_lower_listing.specs.Passes.{HasPassed}
+use Rattle.ja_lower_listing.specs.code.Passes.{HasPassed}
 use Rattle.ja_lower_listing.proofs.passes.passed.Given as goal
 
 abbrev pub invariant-loop-done : goal.invariant-loop-done

@@ -1,6 +1,7 @@
 use Rattle.std.proofs.Common.{◌≡◌, ◌+◌, ◌*◌, ◌++◌, drop}
 use Rattle.std.specs.List.{flat_map}
-use Rattle.ja_lower_names.specs.TextOrder.{in_expression, in_statement, in_case, if_any, in_property, in_operation, in_suffix, in_declaration}
+use Rattle.ja_lower_names.specs.TextOrder.{in_statement, if_any, in_property, in_operation, in_suffix, in_declaration}
+use Rattle.ja_lower_names.specs.code.TextOrder.{in_expression, in_case}
 use Rattle.ja_lower_names.proofs.text_order.+text.Given as goal
 
 -- the parts so far and those of what is left are the parts at the loop's entry and those of all

@@ -1,5 +1,5 @@
 use Rattle.std.proofs.Common.{◌≡◌, map, drop}
-use Rattle.ja_lower_statements.specs.Standing.{way_of}
+use Rattle.ja_lower_statements.specs.code.Standing.{way_of}
 use Rattle.ja_lower_statements.specs.Ways as spec
 use Rattle.ja_lower_statements.proofs.way.leave_all.Given as goal
 

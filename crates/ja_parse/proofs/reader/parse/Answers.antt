@@ -1,6 +1,6 @@
 use Rattle.std.proofs.Common.{rules, Ok, Err}
 use Rattle.ja_grammar.specs.Input.{strict}
-use Rattle.ja_grammar.specs.Answering.{Answers}
+use Rattle.ja_grammar.specs.code.Answering.{Answers}
 use Rattle.ja_grammar.specs.Language.{max_levels}
 use Rattle.ja_grammar.specs.ReadStatement.{program}
 use Rattle.ja_grammar.proofs.Theorem.{answered_tree, answered_only, answered_none}

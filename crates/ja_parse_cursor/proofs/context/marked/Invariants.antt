@@ -1,5 +1,6 @@
 use Rattle.std.proofs.Common.{◌≡◌, ◌++◌, drop, map}
-use Rattle.ja_grammar.specs.Contexts.{label_of, marked}
+use Rattle.ja_grammar.specs.Contexts.{marked}
+use Rattle.ja_grammar.specs.code.Contexts.{label_of}
 use Rattle.ja_parse_cursor.proofs.context.marked.Given as goal
 
 abbrev pub invariant-loop-label : goal.invariant-loop-label

@@ -1,7 +1,7 @@
 use Rattle.std.proofs.Common.{◌≡◌, drop, map}
 use Rattle.std.specs.List.{list_any}
 use Rattle.std.specs.Str.{bytes_eq}
-use Rattle.ja_grammar.specs.Contexts.{label_of}
+use Rattle.ja_grammar.specs.code.Contexts.{label_of}
 use Rattle.ja_parse_cursor.proofs.context.names_label.Given as goal
 
 abbrev pub invariant-loop-label : goal.invariant-loop-label

@@ -1,7 +1,7 @@
 use Rattle.std.proofs.Common.{rules, arith}
 use Rattle.std.proofs.lemmas.Grind.{common_steps}
 use Rattle.ja_syntax.specs.declared.tree.Statement.TheVariants as s
-use Rattle.ja_grammar.specs.Contexts.{context_of}
+use Rattle.ja_grammar.specs.code.Contexts.{context_of}
 use Rattle.ja_grammar.specs.Input.{head, behind}
 use Rattle.ja_parse_cursor.proofs.Jumps.{nothing_to_leave}
 use Rattle.ja_parse_cursor.proofs.jump.break_statement.Goals as goal

@@ -1,6 +1,7 @@
 use Rattle.std.proofs.Common.{rules, arith}
 use Rattle.std.proofs.lemmas.Grind.{common_steps}
-use Rattle.ja_grammar.specs.Contexts.{context_of, has_label}
+use Rattle.ja_grammar.specs.Contexts.{has_label}
+use Rattle.ja_grammar.specs.code.Contexts.{context_of}
 use Rattle.ja_parse_cursor.proofs.Jumps.{leaves_nothing}
 use Rattle.ja_parse_cursor.proofs.target.break_target.Goals as goal
 

@@ -1,6 +1,6 @@
 use Rattle.std.proofs.Common.{rules, arith}
 use Rattle.std.proofs.lemmas.Grind.{common_steps}
-use Rattle.ja_grammar.specs.Contexts.{context_of}
+use Rattle.ja_grammar.specs.code.Contexts.{context_of}
 use Rattle.ja_grammar.specs.Input.{strict}
 use Rattle.ja_grammar.specs.ReadStatement.{below}
 use Rattle.ja_parse_cursor.proofs.Jumps.{inside_itself}

@@ -2,9 +2,9 @@ use Rattle.ja_parse_cursor.proofs.Turns.{passed, until_start, until_stop, until_
 use Rattle.ja_grammar.specs.Input.{strict}
 use Rattle.ja_grammar.specs.ReadStatement.{below}
 use Rattle.ja_grammar.specs.declared.part.StatementPart.TheVariants as of_statement
-use Rattle.ja_grammar.specs.Contexts.{context_of}
+use Rattle.ja_grammar.specs.code.Contexts.{context_of}
 use Rattle.std.proofs.Common.{sym, ap, ◌∙◌}
-use Rattle.ja_parse_expressions.specs.Ends.{ends}
+use Rattle.ja_parse_expressions.specs.code.Ends.{ends}
 use Rattle.ja_parse_expressions.proofs.body.statements_below.Goals as goal
 
 pub loop-turn-init : goal.loop-turn-init

@@ -3,8 +3,8 @@ use Rattle.ja_grammar.specs.Input.{until, strict}
 use Rattle.ja_parse_cursor.proofs.Turns.{until_from}
 use Rattle.ja_grammar.specs.ReadStatement.{below}
 use Rattle.ja_grammar.specs.declared.part.StatementPart.TheVariants as of_statement
-use Rattle.ja_grammar.specs.Contexts.{context_of}
-use Rattle.ja_parse_expressions.specs.Ends.{ends}
+use Rattle.ja_grammar.specs.code.Contexts.{context_of}
+use Rattle.ja_parse_expressions.specs.code.Ends.{ends}
 use Rattle.ja_parse_expressions.proofs.body.statements_below.Given as goal
 
 abbrev pub invariant-loop-turn : goal.invariant-loop-turn

@@ -2,7 +2,8 @@ use Rattle.std.proofs.Common.{◌≡◌, ◌≤◌, ◌==◌, true, length, map,
 use Rattle.std.specs.Option.{option_map}
 use Rattle.std.proofs.lemmas.Bool.Decides.{nat_tests}
 use Rattle.ja_prim.specs.Texts.{is_short, max_units}
-use Rattle.ja_prelude.specs.Table.{TableRow, seen_row}
+use Rattle.ja_prelude.specs.Table.{TableRow}
+use Rattle.ja_prelude.specs.code.Table.{seen_row}
 use Rattle.ja_prelude.proofs.ListLemmas.{all-found}
 use Rattle.ja_prelude.proofs.objects.add_site.Goals as goal
 

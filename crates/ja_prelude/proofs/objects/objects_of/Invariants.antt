@@ -1,5 +1,6 @@
 use Rattle.std.proofs.Common.{◌≡◌, map, take}
-use Rattle.ja_prelude.specs.Table.{object_with, property_of, seen_entry}
+use Rattle.ja_prelude.specs.Table.{object_with, property_of}
+use Rattle.ja_prelude.specs.code.Table.{seen_entry}
 use Rattle.ja_prelude.proofs.objects.objects_of.Given as goal
 
 abbrev pub invariant-loop-object : goal.invariant-loop-object

@@ -1,6 +1,7 @@
 use Rattle.std.proofs.Common.{◌≡◌, ◌+◌, ◌++◌, length, map}
 use Rattle.std.specs.List.{enumerate_from, flat_map}
-use Rattle.ja_prelude.specs.Table.{seen_row, sites_with}
+use Rattle.ja_prelude.specs.Table.{sites_with}
+use Rattle.ja_prelude.specs.code.Table.{seen_row}
 use Rattle.ja_prelude.proofs.objects.sites_of.Given as goal
 
 abbrev pub invariant-loop-left : goal.invariant-loop-left

@@ -1,5 +1,5 @@
 use Rattle.std.proofs.Common.{◌≡◌, ◌*◌, ◌^◌}
-use Rattle.ja_prim.specs.Capped as spec
+use Rattle.ja_prim.specs.code.Capped as spec
 use Rattle.ja_prim.proofs.capped.raised.Given as goal
 
 abbrev pub invariant-times : goal.invariant-times

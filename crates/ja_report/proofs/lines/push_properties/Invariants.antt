@@ -1,5 +1,5 @@
 use Rattle.std.proofs.Common.{take}
-use Rattle.ja_report.specs.Output.{Adds}
+use Rattle.ja_report.specs.code.Output.{Adds}
 use Rattle.ja_report.proofs.ObjectLemmas.{label_lines}
 use Rattle.ja_report.proofs.lines.push_properties.Given as goal
 

@@ -1,4 +1,4 @@
-use Rattle.ja_report.specs.Output.{Adds}
+use Rattle.ja_report.specs.code.Output.{Adds}
 use Rattle.ja_report.proofs.ObjectLemmas.{register_front}
 use Rattle.ja_report.proofs.lines.push_registers.Given as goal
 

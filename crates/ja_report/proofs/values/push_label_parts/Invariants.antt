@@ -1,5 +1,6 @@
 use Rattle.std.proofs.Common.{◌≡◌, ◌++◌, map, take}
-use Rattle.ja_report.specs.Texts.{with_bars, label_text}
+use Rattle.ja_report.specs.Texts.{label_text}
+use Rattle.ja_report.specs.code.Texts.{with_bars}
 use Rattle.ja_report.specs.Lines.{label_sites}
 use Rattle.ja_report.proofs.values.push_label_parts.Given as goal
 

@@ -1,5 +1,5 @@
 use Rattle.std.proofs.Common.{arith}
-use Rattle.ja_step.specs.Steps.{conf_of}
+use Rattle.ja_step.specs.code.Steps.{conf_of}
 use Rattle.ja_run.proofs.Steps.{begun, there, not_given, given_heard, given_steps, given_more, given_ends, given_answered, with_error}
 use Rattle.ja_run.proofs.running.make_steps.Goals as goal
 

@@ -1,4 +1,4 @@
-use Rattle.ja_step.specs.Steps.{conf_of}
+use Rattle.ja_step.specs.code.Steps.{conf_of}
 use Rattle.ja_run.proofs.Steps.{IsUnderWay}
 use Rattle.ja_run.proofs.running.make_steps.Given as goal
 

@@ -1,7 +1,7 @@
 use Rattle.std.proofs.Common.{◌≡◌, ◌+◌, ◌*◌, drop}
 use Rattle.std.specs.List.{list_any}
-use Rattle.ja_syntax.specs.Arguments as spec
-use Rattle.ja_syntax.specs.Mentions.{optional_mentions, suffix_mentions}
+use Rattle.ja_syntax.specs.code.Arguments as spec
+use Rattle.ja_syntax.specs.code.Mentions.{optional_mentions, suffix_mentions}
 use Rattle.ja_syntax.proofs.arguments.+expressions.Given as goal
 
 abbrev pub invariant-in_elements-loop-element : goal.invariant-in_elements-loop-element

@@ -1,6 +1,7 @@
 use Rattle.std.proofs.Common.{◌≡◌, drop}
 use Rattle.std.specs.List.{list_any}
-use Rattle.ja_syntax.specs.Arguments.{in_statement, in_case}
+use Rattle.ja_syntax.specs.Arguments.{in_statement}
+use Rattle.ja_syntax.specs.code.Arguments.{in_case}
 use Rattle.ja_syntax.proofs.arguments.+statements.Given as goal
 
 abbrev pub invariant-in_statements-loop-statement : goal.invariant-in_statements-loop-statement

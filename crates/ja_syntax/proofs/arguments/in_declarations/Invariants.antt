@@ -1,6 +1,6 @@
 use Rattle.std.proofs.Common.{◌≡◌, drop}
 use Rattle.std.specs.List.{list_any}
-use Rattle.ja_syntax.specs.Mentions.{declaration_mentions}
+use Rattle.ja_syntax.specs.code.Mentions.{declaration_mentions}
 use Rattle.ja_syntax.proofs.arguments.in_declarations.Given as goal
 
 abbrev pub invariant-loop-declaration : goal.invariant-loop-declaration

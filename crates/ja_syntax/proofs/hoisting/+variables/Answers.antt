@@ -1,7 +1,8 @@
 use Rattle.std.proofs.Common.{◌≡◌, List, ◌∙◌, ap}
 use Rattle.std.proofs.lemmas.Result.{on_ok_weaker}
 use Rattle.std.specs.List.{flat_map, fold}
-use Rattle.ja_syntax.specs.Hoisted.{Texts, with_name, variables_of}
+use Rattle.ja_syntax.specs.Hoisted.{Texts, variables_of}
+use Rattle.ja_syntax.specs.code.Hoisted.{with_name}
 use Rattle.ja_syntax.specs.declared.tree.Statement.{Statement}
 use Rattle.ja_syntax.proofs.HoistedLemmas.{added_finally, added_catch, added_both}
 use Rattle.ja_syntax.proofs.hoisting.+variables.Goals as goal

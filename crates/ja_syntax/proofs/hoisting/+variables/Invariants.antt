@@ -1,6 +1,7 @@
 use Rattle.std.proofs.Common.{◌≡◌, drop}
 use Rattle.std.specs.List.{fold, flat_map}
-use Rattle.ja_syntax.specs.Hoisted.{variables_of, case_variables, with_name}
+use Rattle.ja_syntax.specs.Hoisted.{variables_of}
+use Rattle.ja_syntax.specs.code.Hoisted.{case_variables, with_name}
 use Rattle.ja_syntax.proofs.hoisting.+variables.Given as goal
 
 abbrev pub invariant-add_statements-loop-statement : goal.invariant-add_statements-loop-statement

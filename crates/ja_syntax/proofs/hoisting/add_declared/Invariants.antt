@@ -1,6 +1,7 @@
 use Rattle.std.proofs.Common.{◌≡◌, drop}
 use Rattle.std.specs.List.{fold}
-use Rattle.ja_syntax.specs.Hoisted.{declared_names, with_name}
+use Rattle.ja_syntax.specs.Hoisted.{declared_names}
+use Rattle.ja_syntax.specs.code.Hoisted.{with_name}
 use Rattle.ja_syntax.proofs.hoisting.add_declared.Given as goal
 
 abbrev pub invariant-loop-declaration : goal.invariant-loop-declaration

@@ -1,5 +1,5 @@
 use Rattle.std.proofs.Common.{◌≡◌, ◌++◌, drop}
-use Rattle.ja_syntax.specs.Hoisted.{functions_from}
+use Rattle.ja_syntax.specs.code.Hoisted.{functions_from}
 use Rattle.ja_syntax.proofs.hoisting.hoisted_functions.Given as goal
 
 abbrev pub invariant-loop-index : goal.invariant-loop-index

@@ -1,5 +1,5 @@
 use Rattle.std.proofs.Common.{◌≡◌, take}
-use Rattle.ja_syntax.specs.Hoisted as spec
+use Rattle.ja_syntax.specs.code.Hoisted as spec
 use Rattle.ja_syntax.proofs.hoisting.parameter_names.Given as goal
 
 abbrev pub invariant-loop-parameter : goal.invariant-loop-parameter

@@ -2,7 +2,7 @@ use Rattle.std.proofs.Common.{◌≡◌, subst}
 use Rattle.ja_rules.specs.Readings.{table_of}
 use Rattle.ja_top.specs.declared.status.Status.{Status}
 use Rattle.ja_top.specs.Analyses.{IsAnalysed, Reports}
-use Rattle.ja_top.specs.Statuses.{status_of}
+use Rattle.ja_top.specs.code.Statuses.{status_of}
 use Rattle.ja_top.proofs.Reporting.{reports}
 use Rattle.ja_top.proofs.analysis.report_of.Goals as goal
 

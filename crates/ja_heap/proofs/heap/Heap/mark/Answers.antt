@@ -2,7 +2,8 @@ use Rattle.std.proofs.Common.{◌∙◌, map, refl, ap, sym, None}
 use Rattle.ja_machine.specs.declared.machine.Heap.{Heap}
 use Rattle.ja_machine.specs.declared.machine.Object.{Object}
 use Rattle.ja_machine.specs.Heap.{with_object}
-use Rattle.ja_machine.specs.Writes.{changed, shared_from_now}
+use Rattle.ja_machine.specs.Writes.{changed}
+use Rattle.ja_machine.specs.code.Writes.{shared_from_now}
 use Rattle.ja_heap.proofs.Changes.{lent, past, row_object, row_kept, row_changed, found, size_kept, changed_found, changed_none, heap_of}
 use Rattle.ja_heap.proofs.heap.Heap.mark.Goals as goal
 

@@ -2,7 +2,7 @@ use Rattle.std.proofs.Common.{◌≡◌, ℕ, List, drop}
 use Rattle.std.specs.Prelude.{nat_eq, is_some, find, ◌||◌}
 use Rattle.std.specs.HashSet.{contains}
 use Rattle.std.specs.Cmp.Lexicographic.{pointwise}
-use Rattle.ja_heap.specs.Slots.{live}
+use Rattle.ja_heap.specs.code.Slots.{live}
 use Rattle.ja_heap.proofs.InSlots.{is_named}
 use Rattle.ja_heap.proofs.properties.Properties.add_names.Given as goal
 

@@ -2,7 +2,7 @@ use Rattle.std.proofs.Common.{◌≡◌, ◌∙◌, Option, Bool, true, sym, ap,
 use Rattle.std.specs.Prelude.{filter, is_some}
 use Rattle.std.proofs.lemmas.List.Elements.{filter_from_retain}
 use Rattle.ja_machine.specs.declared.machine.Property.{Property}
-use Rattle.ja_heap.specs.Slots.{live, IsApart, IsPlaced}
+use Rattle.ja_heap.specs.code.Slots.{live, IsApart, IsPlaced}
 use Rattle.ja_heap.proofs.InSlots as slots
 use Rattle.ja_heap.proofs.properties.Properties.close_gaps.Goals as goal
 

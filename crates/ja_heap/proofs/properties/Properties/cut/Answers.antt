@@ -3,7 +3,7 @@ use Rattle.std.specs.Prelude.{filter}
 use Rattle.std.proofs.lemmas.Fn.{filter_same}
 use Rattle.ja_machine.specs.declared.machine.Property.{Property}
 use Rattle.ja_machine.specs.Writes.{is_cut}
-use Rattle.ja_heap.specs.Slots.{live, IsApart, IsPlaced, stays}
+use Rattle.ja_heap.specs.code.Slots.{live, IsApart, IsPlaced, stays}
 use Rattle.ja_heap.proofs.InSlots as slots
 use Rattle.ja_heap.proofs.properties.Properties.cut.Goals as goal
 

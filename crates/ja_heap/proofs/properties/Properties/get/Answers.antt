@@ -1,6 +1,6 @@
 use Rattle.std.proofs.Common.{◌∙◌, sym, ap}
 use Rattle.std.specs.Prelude.{find}
-use Rattle.ja_heap.specs.Slots.{slot_of, slot_at}
+use Rattle.ja_heap.specs.code.Slots.{slot_of, slot_at}
 use Rattle.ja_heap.proofs.InSlots.{found, not_found, is_named}
 use Rattle.ja_heap.proofs.properties.Properties.get.Goals as goal
 

@@ -1,7 +1,7 @@
 use Rattle.std.proofs.Common.{◌∙◌, ◌++◌, ◌∷◌, [], List, sym, ap, subst}
 use Rattle.std.specs.Prelude.{find}
 use Rattle.ja_machine.specs.declared.machine.Property.{Property}
-use Rattle.ja_heap.specs.Slots.{live, IsApart, IsPlaced}
+use Rattle.ja_heap.specs.code.Slots.{live, IsApart, IsPlaced}
 use Rattle.ja_heap.proofs.InSlots as slots
 use Rattle.ja_heap.proofs.properties.Properties.push.Goals as goal
 

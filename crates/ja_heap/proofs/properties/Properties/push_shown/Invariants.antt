@@ -2,7 +2,7 @@ use Rattle.std.proofs.Common.{◌≡◌, ℕ, Bool, List, ◌++◌, drop, not}
 use Rattle.std.specs.Prelude.{nat_eq}
 use Rattle.std.specs.HashSet.{contains}
 use Rattle.std.specs.Cmp.Lexicographic.{pointwise}
-use Rattle.ja_heap.specs.Slots.{shown}
+use Rattle.ja_heap.specs.code.Slots.{shown}
 use Rattle.ja_heap.proofs.properties.Properties.push_shown.Given as goal
 
 abbrev pub invariant-loop-i : goal.invariant-loop-i

@@ -3,7 +3,7 @@ use Rattle.std.specs.Prelude.{find}
 use Rattle.std.proofs.lemmas.Result.{on_ok_weaker}
 use Rattle.ja_machine.specs.declared.machine.Property.{Property}
 use Rattle.ja_machine.specs.Objects.{with_property}
-use Rattle.ja_heap.specs.Slots.{live, slot_of}
+use Rattle.ja_heap.specs.code.Slots.{live, slot_of}
 use Rattle.ja_heap.proofs.InSlots as slots
 use Rattle.ja_heap.proofs.properties.Properties.put.Goals as goal
 

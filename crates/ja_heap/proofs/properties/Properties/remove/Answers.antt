@@ -1,7 +1,7 @@
 use Rattle.std.proofs.Common.{◌≡◌, ◌∙◌, List, Some, None, sym, ap, subst}
 use Rattle.ja_machine.specs.declared.machine.Property.{Property}
 use Rattle.ja_machine.specs.Writes.{without}
-use Rattle.ja_heap.specs.Slots.{slot_of, IsPlaced}
+use Rattle.ja_heap.specs.code.Slots.{slot_of, IsPlaced}
 use Rattle.ja_heap.proofs.InSlots as slots
 use Rattle.ja_heap.proofs.properties.Properties.remove.Goals as goal
 

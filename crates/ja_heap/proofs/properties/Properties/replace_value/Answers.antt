@@ -4,7 +4,7 @@ use Rattle.ja_machine.specs.declared.machine.Content.TheVariants as contents
 use Rattle.ja_machine.specs.declared.machine.Property.{Property}
 use Rattle.ja_machine.specs.Heap.{no_attrs}
 use Rattle.ja_machine.specs.Writes.{new_property, with_value}
-use Rattle.ja_heap.specs.Slots.{live, slot_of}
+use Rattle.ja_heap.specs.code.Slots.{live, slot_of}
 use Rattle.ja_heap.proofs.InSlots as slots
 use Rattle.ja_heap.proofs.properties.Properties.replace_value.Goals as goal
 

@@ -1,8 +1,8 @@
 use Rattle.std.proofs.Common.{◌≡◌, ◌∙◌, Some, None, true, sym, ap, refl}
 use Rattle.std.specs.Prelude.{map}
 use Rattle.ja_machine.specs.declared.machine.Property.{Property}
-use Rattle.ja_machine.specs.Writes.{shared_from_now}
-use Rattle.ja_heap.specs.Slots.{live, slot_of}
+use Rattle.ja_machine.specs.code.Writes.{shared_from_now}
+use Rattle.ja_heap.specs.code.Slots.{live, slot_of}
 use Rattle.ja_heap.proofs.InSlots as slots
 use Rattle.ja_heap.proofs.properties.Properties.share.Goals as goal
 

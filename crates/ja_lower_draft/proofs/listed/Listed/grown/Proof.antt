@@ -26,7 +26,7 @@ use denote.Triple.Spec.{Meets, triple_of}
 use denote.Triple.Table.{entered}
 use denote.Triple.Walked.{says, Stays, stay_dropped, walk_of, ends_at, walk_Meets, Goes-dropped}
 use Rattle.ja_lower_draft.proofs.Walks.{none, none_made}
-use Rattle.ja_lower_draft.specs.Listed.{grown_lines}
+use Rattle.ja_lower_draft.specs.code.Listed.{grown_lines}
 use Rattle.ja_lower_draft.specs.contracts.listed.Growth as Growth
 use Rattle.ja_lower_draft.specs.contracts.listed.Listed as Listed
 use Rattle.ja_lower_draft.specs.contracts.listed.Listed.grown as F

@@ -1,5 +1,5 @@
 use Rattle.std.proofs.Common.{◌≡◌, ◌+◌, ◌-◌, suc, ap, sym, ◌∙◌, arith}
-use Rattle.ja_lower_listing.specs.Passes.{after, landed}
+use Rattle.ja_lower_listing.specs.code.Passes.{after, landed}
 use Rattle.ja_lower_listing.proofs.Followed.{one_turn}
 use Rattle.ja_lower_listing.proofs.edges.Edges.landing.Goals as goal
 

@@ -1,6 +1,6 @@
 use Rattle.std.proofs.Common.{◌≡◌, ◌-◌, List}
 use Rattle.ja_lower_listing.specs.declared.item.Item.{Item}
-use Rattle.ja_lower_listing.specs.Passes.{AreEdges, landed, after, followed}
+use Rattle.ja_lower_listing.specs.code.Passes.{AreEdges, landed, after, followed}
 use Rattle.ja_lower_listing.proofs.edges.Edges.landing.Given as goal
 
 -- the turns that are left lead where all of them do

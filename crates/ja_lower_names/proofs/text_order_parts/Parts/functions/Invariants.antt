@@ -1,7 +1,7 @@
 use Rattle.std.proofs.Common.{◌≡◌, ◌++◌, map, drop}
 use Rattle.std.specs.List.{flat_map}
 use Rattle.ja_lower_names.specs.TextOrder.{if_function}
-use Rattle.ja_lower_names.specs.TextParts.{part_of}
+use Rattle.ja_lower_names.specs.code.TextParts.{part_of}
 use Rattle.ja_lower_names.proofs.text_order_parts.Parts.functions.Given as goal
 
 abbrev pub invariant-loop-part : goal.invariant-loop-part

@@ -1,7 +1,7 @@
 use Rattle.std.proofs.Common.{◌≡◌, ◌++◌, map, drop}
 use Rattle.std.specs.List.{flat_map}
 use Rattle.ja_lower_names.specs.TextOrder.{if_name}
-use Rattle.ja_lower_names.specs.TextParts.{named_of, part_of}
+use Rattle.ja_lower_names.specs.code.TextParts.{named_of, part_of}
 use Rattle.ja_lower_names.proofs.text_order_parts.Parts.names.Given as goal
 
 abbrev pub invariant-loop-part : goal.invariant-loop-part

@@ -1,6 +1,6 @@
 use Rattle.std.proofs.Common.{◌∙◌, sym, rules, arith}
 use Rattle.std.proofs.lemmas.Grind.{common_steps}
-use Rattle.ja_grammar.specs.Contexts.{context_of}
+use Rattle.ja_grammar.specs.code.Contexts.{context_of}
 use Rattle.ja_grammar.specs.Input.{strict}
 use Rattle.ja_grammar.specs.ReadStatement.{below}
 use Rattle.ja_parse_statements.proofs.Cases.{clauses_start, clauses_close, clauses_none, clauses_case, clauses_case_error, clauses_default, clauses_default_error, clauses_twice, clauses_other}

@@ -1,8 +1,8 @@
 use Rattle.std.proofs.Common.{◌≡◌, ◌-◌}
-use Rattle.ja_grammar.specs.Contexts.{context_of}
+use Rattle.ja_grammar.specs.code.Contexts.{context_of}
 use Rattle.ja_grammar.specs.Input.{strict}
 use Rattle.ja_grammar.specs.ReadStatement.{below}
-use Rattle.ja_parse_statements.specs.Clauses.{clauses_from, clauses_behind}
+use Rattle.ja_parse_statements.specs.code.Clauses.{clauses_from, clauses_behind}
 use Rattle.ja_parse_statements.proofs.grammar.Grammar.clauses.Given as goal
 
 abbrev pub invariant-loop-turn : goal.invariant-loop-turn

@@ -2,7 +2,7 @@ use Rattle.ja_parse_cursor.proofs.Turns.{passed, commas_start, commas_error_firs
 use Rattle.ja_grammar.specs.Input.{strict}
 use Rattle.ja_grammar.specs.ReadStatement.{below}
 use Rattle.ja_grammar.specs.ReadStatement as statements
-use Rattle.ja_parse_statements.specs.Clauses.{variable_value}
+use Rattle.ja_parse_statements.specs.code.Clauses.{variable_value}
 use Rattle.ja_parse_statements.proofs.grammar.Grammar.declarations.Goals as goal
 
 pub returns-in_err-first : goal.returns-in_err-first

@@ -3,7 +3,7 @@ use Rattle.ja_grammar.specs.Input.{separated, strict}
 use Rattle.ja_parse_cursor.proofs.Turns.{commas_from}
 use Rattle.ja_grammar.specs.ReadStatement.{below}
 use Rattle.ja_grammar.specs.ReadStatement as statements
-use Rattle.ja_parse_statements.specs.Clauses.{variable_value}
+use Rattle.ja_parse_statements.specs.code.Clauses.{variable_value}
 use Rattle.ja_parse_statements.proofs.grammar.Grammar.declarations.Given as goal
 
 abbrev pub invariant-loop-turn : goal.invariant-loop-turn

@@ -2,7 +2,7 @@ use Rattle.ja_parse_cursor.proofs.Turns.{passed, until_start, until_stop, until_
 use Rattle.ja_grammar.specs.Input.{strict}
 use Rattle.ja_grammar.specs.ReadStatement as statements
 use Rattle.ja_grammar.specs.ReadStatement.{below}
-use Rattle.ja_grammar.specs.Contexts.{context_of}
+use Rattle.ja_grammar.specs.code.Contexts.{context_of}
 use Rattle.std.proofs.Common.{true}
 use Rattle.ja_parse_statements.proofs.grammar.Grammar.program_statements.Goals as goal
 

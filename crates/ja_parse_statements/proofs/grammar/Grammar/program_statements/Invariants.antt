@@ -3,7 +3,7 @@ use Rattle.ja_grammar.specs.Input.{until, strict}
 use Rattle.ja_parse_cursor.proofs.Turns.{until_from}
 use Rattle.ja_grammar.specs.ReadStatement as statements
 use Rattle.ja_grammar.specs.ReadStatement.{below}
-use Rattle.ja_grammar.specs.Contexts.{context_of}
+use Rattle.ja_grammar.specs.code.Contexts.{context_of}
 use Rattle.std.proofs.Common.{true}
 use Rattle.ja_parse_statements.proofs.grammar.Grammar.program_statements.Given as goal
 

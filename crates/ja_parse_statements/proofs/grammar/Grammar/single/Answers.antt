@@ -1,6 +1,7 @@
 use Rattle.std.proofs.Common.{◌∙◌, sym, subst}
-use Rattle.ja_grammar.specs.Contexts.{context_of}
-use Rattle.ja_grammar.specs.Input.{Follows, strict}
+use Rattle.ja_grammar.specs.code.Contexts.{context_of}
+use Rattle.ja_grammar.specs.Input.{strict}
+use Rattle.ja_grammar.specs.code.Input.{Follows}
 use Rattle.ja_grammar.specs.ReadStatement.{below}
 use Rattle.ja_parse_statements.proofs.Keywords.{continue_is, break_is, return_is, try_is}
 use Rattle.ja_parse_statements.proofs.grammar.Grammar.single.Goals as goal

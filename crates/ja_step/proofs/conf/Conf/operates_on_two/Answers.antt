@@ -4,7 +4,7 @@ use Rattle.std.specs.Option.{option_map}
 use Rattle.ja_machine.specs.declared.machine.Value.{Value}
 use Rattle.ja_machine.specs.Intrinsics.{IntrinsicOutcome, Computation, rows}
 use Rattle.ja_machine.specs.Nodes.{sets_given}
-use Rattle.ja_step.specs.Steps.{held, standing}
+use Rattle.ja_step.specs.code.Steps.{held, standing}
 use Rattle.ja_step.proofs.conf.Conf.operates_on_two.Goals as goal
 
 pub returns : goal.returns

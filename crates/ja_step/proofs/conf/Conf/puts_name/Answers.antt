@@ -3,7 +3,7 @@ use Rattle.ja_base.specs.declared.ids.ScopeKind.TheVariants as scope_kind
 use Rattle.ja_machine.specs.declared.machine.Put.TheVariants as put_ends
 use Rattle.ja_machine.specs.Events.{left_scope}
 use Rattle.ja_machine.specs.Nodes.{not_taken}
-use Rattle.ja_step.specs.Steps.{standing}
+use Rattle.ja_step.specs.code.Steps.{standing}
 use Rattle.ja_step.proofs.Puts.{left_by_put, left_event}
 use Rattle.ja_step.proofs.conf.Conf.puts_name.Goals as goal
 

@@ -1,6 +1,6 @@
 use Rattle.std.proofs.Common.{◌≡◌, ◌++◌, map, drop}
 use Rattle.ja_machine.specs.Frames.{register_of}
-use Rattle.ja_step.specs.Steps.{frame_of}
+use Rattle.ja_step.specs.code.Steps.{frame_of}
 use Rattle.ja_step.proofs.conf.Conf.values_of.Given as goal
 
 abbrev pub invariant-loop-register : goal.invariant-loop-register

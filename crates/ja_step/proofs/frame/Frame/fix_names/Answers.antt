@@ -1,7 +1,7 @@
 use Rattle.std.proofs.Common.{rules, List, ap, refl}
 use Rattle.ja_step.proofs.Lists.{set_at, push_at}
 use Rattle.ja_machine.specs.declared.machine.Remaining.{Remaining}
-use Rattle.ja_step.specs.Steps.{frame_of}
+use Rattle.ja_step.specs.code.Steps.{frame_of}
 use Rattle.ja_step.proofs.frame.Frame.fix_names.Goals as goal
 
 pub returns-then-place-len : goal.returns-then-place-len

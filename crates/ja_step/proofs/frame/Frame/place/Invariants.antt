@@ -1,5 +1,5 @@
 use Rattle.std.proofs.Common.{◌≡◌, ◌+◌, drop}
-use Rattle.ja_step.specs.Lists.{place_of_list}
+use Rattle.ja_step.specs.code.Lists.{place_of_list}
 use Rattle.ja_step.proofs.frame.Frame.place.Given as goal
 
 abbrev pub invariant-loop-index : goal.invariant-loop-index

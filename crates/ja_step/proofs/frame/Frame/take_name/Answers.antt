@@ -3,7 +3,7 @@ use Rattle.ja_step.proofs.Lists.{names_at, no_names, list_at, set_at, push_at}
 use Rattle.ja_machine.specs.declared.machine.Remaining.{Remaining}
 use Rattle.ja_machine.specs.Frames.{with_remaining}
 use Rattle.ja_step.specs.declared.frame.Listed.{Listed}
-use Rattle.ja_step.specs.Steps.{frame_of, remaining_of}
+use Rattle.ja_step.specs.code.Steps.{frame_of, remaining_of}
 use Rattle.ja_step.proofs.frame.Frame.take_name.Goals as goal
 
 pub returns-then-place-len : goal.returns-then-place-len

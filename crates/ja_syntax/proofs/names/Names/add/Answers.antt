@@ -1,5 +1,5 @@
 use Rattle.std.proofs.Common.{ap, ◌∙◌}
-use Rattle.ja_syntax.specs.Hoisted.{with_name}
+use Rattle.ja_syntax.specs.code.Hoisted.{with_name}
 use Rattle.ja_syntax.proofs.NamesLemmas.{nows, inserted_now}
 use Rattle.ja_syntax.proofs.names.Names.add.Goals as goal
 

@@ -4,7 +4,7 @@ use Rattle.ja_lower_listing.specs.declared.item.Block.{Block}
 use Rattle.ja_lower_listing.specs.Listing.{block_of}
 use Rattle.ja_lower_draft.specs.declared.template.Source.{Source}
 use Rattle.ja_lower_draft.specs.declared.template.Source.TheVariants as source
-use Rattle.ja_lower_draft.specs.Parts.{lines_of}
+use Rattle.ja_lower_draft.specs.code.Parts.{lines_of}
 
 abbrev pub source_block : Source → Block
 source_block (source.Written block) = block.value

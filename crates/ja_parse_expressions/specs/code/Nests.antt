@@ -8,13 +8,14 @@ use Rattle.ja_grammar.specs.declared.context.Context.{Context as Stored}
 use Rattle.ja_grammar.specs.declared.fault.Stop.{Stop}
 use Rattle.ja_grammar.specs.declared.part.ExpressionPart.{ExpressionPart}
 use Rattle.ja_grammar.specs.declared.part.StatementPart.{StatementPart}
-use Rattle.ja_grammar.specs.Contexts.{context_of}
-use Rattle.ja_grammar.specs.Input.{Tokens, Follows, strict}
+use Rattle.ja_grammar.specs.code.Contexts.{context_of}
+use Rattle.ja_grammar.specs.Input.{Tokens, strict}
+use Rattle.ja_grammar.specs.code.Input.{Follows}
 use Rattle.ja_grammar.specs.ReadExpression.{expression_part}
 use Rattle.ja_grammar.specs.ReadStatement.{below, statement_part}
 use Rattle.ja_parse_expressions.specs.declared.grammar.Piece.{Piece}
 use Rattle.ja_parse_expressions.specs.declared.grammar.Piece.TheVariants as of
-use Rattle.ja_parse_expressions.specs.Pieces.{piece}
+use Rattle.ja_parse_expressions.specs.code.Pieces.{piece}
 
 -- the types of what may be called with what, and of what a call may give
 abbrev pub StatementCall : Type 1

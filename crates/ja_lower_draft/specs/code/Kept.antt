@@ -3,7 +3,7 @@ use Rattle.std.specs.Prelude.{◌≡◌, ℕ, ◌≤◌, Bool, List, ◌++◌, O
 use Rattle.ja_lower_listing.specs.declared.item.Item.{Item}
 use Rattle.ja_lower_listing.specs.Listing.{begins_with_node}
 use Rattle.ja_lower_draft.specs.declared.part.Part.{Part}
-use Rattle.ja_lower_draft.specs.Parts as parts
+use Rattle.ja_lower_draft.specs.code.Parts as parts
 
 -- How many nodes lines have, whether the first one that is no spot is a node, if there is one, and, unless there are more nodes than
 -- in any graph, the part of each line.

@@ -12,7 +12,8 @@ use Rattle.ja_syntax.specs.declared.tree.Suffix.{Suffix}
 use Rattle.ja_syntax.specs.declared.tree.Suffix.TheVariants as suffix
 use Rattle.ja_syntax.specs.declared.tree.Statement.{Statement}
 use Rattle.ja_syntax.specs.declared.tree.Expression.{Expression}
-use Rattle.ja_syntax.specs.Arguments.{in_expression, in_statement}
+use Rattle.ja_syntax.specs.Arguments.{in_statement}
+use Rattle.ja_syntax.specs.code.Arguments.{in_expression}
 
 -- an expression that may be missing
 abbrev pub optional_mentions : Option Expression → Bool

@@ -5,7 +5,7 @@ use Rattle.ja_lower_listing.specs.declared.item.Item.TheVariants as item
 use Rattle.ja_lower_listing.specs.Listing.{block_of}
 use Rattle.ja_lower_draft.specs.declared.listed.Growth.{Growth}
 use Rattle.ja_lower_draft.specs.declared.listed.Growth.TheVariants as growth
-use Rattle.ja_lower_draft.specs.Parts.{line_of, moved_by}
+use Rattle.ja_lower_draft.specs.code.Parts.{line_of, moved_by}
 
 abbrev pub grown_lines : Growth → List Item
 grown_lines growth.Nothing = []

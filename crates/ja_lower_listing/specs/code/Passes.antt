@@ -9,7 +9,7 @@ use Rattle.ja_lower_listing.specs.declared.item.Item.TheVariants as item
 use Rattle.ja_lower_listing.specs.declared.passes.Backward.{Backward}
 use Rattle.ja_lower_listing.specs.declared.edges.Edges.{Edges}
 use Rattle.ja_lower_listing.specs.Listing.{node_count, behind, led}
-use Rattle.ja_lower_listing.specs.Spots.{target_of}
+use Rattle.ja_lower_listing.specs.code.Spots.{target_of}
 
 -- what a pass from the end of a listing knows of the lines that it has passed: where a run goes on from their beginning, and from
 -- each spot among them

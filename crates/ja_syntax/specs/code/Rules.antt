@@ -15,7 +15,7 @@ use Rattle.ja_syntax.specs.declared.tree.Expression.{Expression}
 use Rattle.ja_syntax.specs.declared.tree.Expression.TheOpen.{Expression-F, Statement-F}
 use Rattle.ja_syntax.specs.declared.tree.Expression.TheFolds.{every-Statement}
 use Rattle.ja_syntax.specs.References.{is_reference}
-use Rattle.ja_syntax.specs.Jumps.{body_jumps_well}
+use Rattle.ja_syntax.specs.code.Jumps.{body_jumps_well}
 use Rattle.ja_syntax.specs.Symbols.{names_arguments}
 
 -- A declared name isn't `arguments` (the profile; 10.1.8).
