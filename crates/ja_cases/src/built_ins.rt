@@ -1,6 +1,7 @@
-//! The built-in objects: of each its path, its class, its prototype, its internal value if it has one, and its properties.
-//! One that stands alone is out of the profile, or a function that isn't built; any other has its value behind `=`. The letters of ReadOnly,
-//! DontEnum and DontDelete stand behind it, where these are other than DontEnum alone, which is the rule of ES3 15.
+//! The built-in objects: of each its path, its class, its prototype, its internal value if it has
+//! one, and its properties. One that stands alone is out of the profile, or a function that isn't
+//! built; any other has its value behind `=`. The letters of ReadOnly, DontEnum and DontDelete
+//! stand behind it, where these are other than DontEnum alone, which is the rule of ES3 15.
 
 use crate::out::Out;
 use ja_base::Site;

@@ -1,5 +1,5 @@
-//! The graphs of small texts, whatever their forms are. A row may have a number before its text, and its kind says what is
-//! told of the graph.
+//! The graphs of small texts, whatever their forms are. A row may have a number before its text,
+//! and its kind says what is told of the graph.
 
 use crate::names::put_texts;
 use crate::out::Out;
@@ -55,8 +55,8 @@ pub fn put_graphs(out: &mut Out, kind: &str, number: usize, tree: &Tree) {
     }
 }
 
-/// How many functions there are, the names, how many nodes each function has, what is told of all, of the second function or
-/// of the program.
+/// How many functions there are, the names, how many nodes each function has, what is told of all,
+/// of the second function or of the program.
 fn put_kind(out: &mut Out, kind: &str, number: usize, lowered: &Lowered) {
     match kind {
         "functions" => out.put_number(lowered.functions.len() as u64),
@@ -91,7 +91,8 @@ fn put_site(out: &mut Out, site: &SiteInfo) {
     put_function(out, site.calls);
 }
 
-/// The nodes and the registers of a function, and the site of its activation, if it begins with one.
+/// The nodes and the registers of a function, and the site of its activation, if it begins with
+/// one.
 fn put_body(out: &mut Out, function: &Function) {
     out.put_before(function.nodes.len() as u64, " nodes ");
     out.put_before(u64::from(function.registers), " registers");
@@ -162,8 +163,9 @@ fn put_shown(out: &mut Out, node: &Node) {
     }
 }
 
-/// What is told of a node by its kind and a number: its operation or the node behind it, where it is the node of this
-/// number; its column, from this one on; the register into which it reads a name; or a line of its own.
+/// What is told of a node by its kind and a number: its operation or the node behind it, where it
+/// is the node of this number; its column, from this one on; the register into which it reads a
+/// name; or a line of its own.
 fn put_node(out: &mut Out, kind: &str, number: usize, count: usize, info: &NodeInfo) {
     match kind {
         "operation" => {

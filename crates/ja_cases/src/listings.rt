@@ -55,7 +55,8 @@ fn block(alloc: Global, spot: u32) -> Block {
     }
 }
 
-/// The item of a word, with the spot of `other`, of its handler, of itself or of its block behind it.
+/// The item of a word, with the spot of `other`, of its handler, of itself or of its block behind
+/// it.
 fn item(alloc: Global, word: &str, spot: u32) -> Item {
     let register = Reg(6);
     match word {

@@ -1,4 +1,5 @@
-//! What is tested and not proved: rows of standard input, each a kind and a text, are printed with their answers.
+//! What is tested and not proved: rows of standard input, each a kind and a text, are printed with
+//! their answers.
 #![tactic(auto)]
 
 mod built_ins;

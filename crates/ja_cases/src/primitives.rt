@@ -1,5 +1,5 @@
-//! Operations on primitive values. A value is a word of the row: `undefined`, `null`, `true`, `NaN`, a number, or a text
-//! behind `'`.
+//! Operations on primitive values. A value is a word of the row: `undefined`, `null`, `true`,
+//! `NaN`, a number, or a text behind `'`.
 
 use crate::out::Out;
 use ja_prim::{

@@ -4,7 +4,8 @@ use crate::out::{Out, add};
 use ja_base::{FnId, NameId, Reg, Seq, Site};
 use ja_graph::{Node, Renames, renamed};
 
-/// Registers from `first` on move up by `by`, and sites by `sites`; a name goes where the list says.
+/// Registers from `first` on move up by `by`, and sites by `sites`; a name goes where the list
+/// says.
 #[derive(Drop)]
 struct Shifts<'a> {
     first: u32,
@@ -66,7 +67,8 @@ fn put_numbers(out: &mut Out, node: &Node) {
     }
 }
 
-/// The numbers of a node whose registers from 6 on move up by 2, whose sites move up by 10, and whose name 0 is 4.
+/// The numbers of a node whose registers from 6 on move up by 2, whose sites move up by 10, and
+/// whose name 0 is 4.
 fn put_renamed(out: &mut Out, node: &Node) {
     let shifts = Shifts {
         first: 6,

@@ -1,5 +1,5 @@
-//! The texts of rows. Behind a `%` stands a character by its hexadecimal number and `;`, or a part that is repeated,
-//! as in `%(3 ab%)` for `ababab`. A `%` at the end is nothing.
+//! The texts of rows. Behind a `%` stands a character by its hexadecimal number and `;`, or a part
+//! that is repeated, as in `%(3 ab%)` for `ababab`. A `%` at the end is nothing.
 
 use std::alloc::Global;
 

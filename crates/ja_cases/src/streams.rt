@@ -1,5 +1,5 @@
-//! Sources and sinks. A row has the greatest number of bytes of a call, the number of the call that fails, 0 for none, the
-//! greatest number of bytes of all, and a text.
+//! Sources and sinks. A row has the greatest number of bytes of a call, the number of the call that
+//! fails, 0 for none, the greatest number of bytes of all, and a text.
 
 use crate::out::Out;
 use ja_base::{
@@ -116,7 +116,8 @@ pub fn write(out: &mut Out, row: &str) {
     put_bytes(out, sink.bytes.as_slice());
 }
 
-/// What is written to a sink that never fails and has room for so many bytes, and to a writer of std.
+/// What is written to a sink that never fails and has room for so many bytes, and to a writer of
+/// std.
 pub fn surely_write(out: &mut Out, row: &str) {
     let row = row_of(row);
     if let Ok(mut sink) = SureSink::new(out.alloc, row.most, row.piece) {

@@ -1,4 +1,5 @@
-//! Which programs are well formed: the program of the empty text, and that program with a number changed.
+//! Which programs are well formed: the program of the empty text, and that program with a number
+//! changed.
 
 use crate::out::Out;
 use ja_base::{FnId, NodeId, Reg, Seq, Site};
@@ -26,7 +27,8 @@ fn tell_of_math(
     program.sites = Seq::from_vec(sites);
 }
 
-/// Functions of sites are those of the program, and a site without a node has no owner. Nothing is told of `Math` behind these.
+/// Functions of sites are those of the program, and a site without a node has no owner. Nothing is
+/// told of `Math` behind these.
 fn sites(out: &mut Out, program: &mut Program) {
     let (here, none) = (Some(FnId(0)), Some(FnId(99)));
     for (label, owner, calls, constructs) in [

@@ -5,8 +5,8 @@ use crate::fault::CallFault;
 use ja_prim::{Kinds, Primitive};
 use std::alloc::Global;
 
-/// A host device. Contracts speak of what is seen of it: its name, the kinds of its answers, the calls that it
-/// answered, told or not told, and how often it failed.
+/// A host device. Contracts speak of what is seen of it: its name, the kinds of its answers, the
+/// calls that it answered, told or not told, and how often it failed.
 pub trait Device: Drop {
     ghost seen: { Self → Seen };
 
@@ -22,7 +22,8 @@ pub trait Device: Drop {
     ///
     /// # Errors
     ///
-    /// `Failed` only where its count of faults rose, and `Memory` where memory is refused. The call is then not heard.
+    /// `Failed` only where its count of faults rose, and `Memory` where memory is refused. The call
+    /// is then not heard.
     fn call(&mut self, alloc: Global, args: &[Primitive]) -> Result<Primitive, CallFault>
         ensures { IsCalled (seen self.old) (seen self.new) args.now result };
 }

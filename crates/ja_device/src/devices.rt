@@ -10,8 +10,9 @@ use ja_prim::{Primitive, Signature, Text16};
 use std::alloc::Global;
 use std::marker::Model;
 
-/// The devices of a program, at most 64: their names are ASCII identifiers of 1 to 64 characters, no two are alike, and each declares
-/// some kind of answers. Contracts see the devices, and how often one of them failed.
+/// The devices of a program, at most 64: their names are ASCII identifiers of 1 to 64 characters,
+/// no two are alike, and each declares some kind of answers. Contracts see the devices, and how
+/// often one of them failed.
 #[derive(Drop)]
 pub struct Devices<D: Device> {
     list: Vec<D>,
@@ -35,13 +36,17 @@ impl<D: Device> Devices<D> {
     ///
     /// # Errors
     ///
-    /// The list comes back, with `TooMany` exactly where it has more than 64 devices, and else with the fault of the first device, by
-    /// its index, that can't stand behind those before it: `BadName` exactly where its name is no ASCII identifier of 1 to 64 characters, else
-    /// `NoKinds` exactly where it declares no kind of answers, else `Twice` exactly where an earlier one has its name.
+    /// The list comes back, with `TooMany` exactly where it has more than 64 devices, and else with
+    /// the fault of the first device, by its index, that can't stand behind those before it:
+    /// `BadName` exactly where its name is no ASCII identifier of 1 to 64 characters, else
+    /// `NoKinds` exactly where it declares no kind of answers, else `Twice` exactly where an
+    /// earlier one has its name.
     pub fn new(list: Vec<D>) -> Result<Devices<D>, (DevicesFault, Vec<D>)>
-        ensures devices { IfOk result (λ d. d ≡ record { devices = map D.seen list.items; failed = 0 }) }
+        ensures devices { IfOk result (λ d. d
+            ≡ record { devices = map D.seen list.items; failed = 0 }) }
         ensures fit { IfOk result (λ d. AreSignatures (map signature_of d.devices)) }
-        ensures refused { IfErr result (λ e. IsRefused (map signature_of (map D.seen list.items)) e.0) }
+        ensures refused { IfErr result (λ e. IsRefused (map signature_of (map D.seen list.items))
+            e.0) }
         ensures back { IfErr result (λ e. e.1 ≡ list) }
     {
         match judged(&list) {
@@ -75,7 +80,8 @@ impl<D: Device> Devices<D> {
     ///
     /// # Errors
     ///
-    /// Those of the device. Where it failed, the number of failures of `Devices` is one more, or stands at its last value, 2^64 - 1.
+    /// Those of the device. Where it failed, the number of failures of `Devices` is one more, or
+    /// stands at its last value, 2^64 - 1.
     pub fn call(
         &mut self,
         alloc: Global,
@@ -93,7 +99,10 @@ impl<D: Device> Devices<D> {
     /// Lets the device of an index go. The others keep their order.
     pub fn retire(&mut self, index: usize)
         requires { index < length self.old.devices }
-        ensures { self.new ≡ record self.old { devices = take index self.old.devices ++ drop (index + 1) self.old.devices } }
+        ensures { self.new ≡ record self.old {
+          devices = take index self.old.devices
+              ++ drop (index + 1) self.old.devices;
+        } }
     {
         let _ = self.list.remove(index);
     }

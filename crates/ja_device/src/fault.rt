@@ -12,8 +12,8 @@ pub enum CallFault {
     Memory,
 }
 
-/// Why there are no devices of a list: at most 64 devices are taken, and the others are refused for the first of them, by its
-/// index, that can't be one of a program's.
+/// Why there are no devices of a list: at most 64 devices are taken, and the others are refused for
+/// the first of them, by its index, that can't be one of a program's.
 #[derive(Clone, Copy, Debug, PartialEq, Eq, Error)]
 pub enum DevicesFault {
     /// There are more than 64.

@@ -22,7 +22,8 @@ pub(crate) fn position<D: Device>(list: &[D], name: &str) -> Option<usize>
 
 /// Why a device can't stand behind others.
 fn fault_behind<D: Device>(before: &[D], device: &D) -> Option<DevicesFault>
-    ensures { IsFaultBehind (map (λ d. signature_of (D.seen d)) before.now) (signature_of (D.seen device.now)) result }
+    ensures { IsFaultBehind (map (λ d. signature_of (D.seen d)) before.now)
+        (signature_of (D.seen device.now)) result }
 {
     let index = before.len();
     if !is_identifier(device.name().as_bytes()) {

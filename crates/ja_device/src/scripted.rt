@@ -12,13 +12,15 @@ use ja_base::Memory;
 use ja_prim::{Kinds, Primitive};
 use std::alloc::Global;
 
-/// A device that answers from a list, in its order, and repeats the last answer. It tells what it has heard.
+/// A device that answers from a list, in its order, and repeats the last answer. It tells what it
+/// has heard.
 #[derive(Drop)]
 pub struct Scripted {
     pub name: String,
     pub kinds: Kinds,
     pub answers: Vec<Primitive>,
-    /// The numbers of the calls that fail, counted from 1 over the calls that were answered or failed.
+    /// The numbers of the calls that fail, counted from 1 over the calls that were answered or
+    /// failed.
     pub fail_at: Vec<u64>,
     pub heard: Vec<Heard>,
     /// How many calls failed; it stops at its last value.
@@ -39,7 +41,8 @@ impl Scripted {
         requires some { 0 < length answers.items }
         requires fit { AreOfKinds kinds answers.items }
         ensures name { IfOk result (λ s. string_bytes s.name ≡ name.now) }
-        ensures script { IfOk result (λ s. (s.kinds ≡ kinds) × (s.answers ≡ answers) × (s.fail_at ≡ fail_at)) }
+        ensures script { IfOk result (λ s. (s.kinds ≡ kinds) × (s.answers ≡ answers)
+            × (s.fail_at ≡ fail_at)) }
         ensures uncalled { IfOk result (λ s. (s.heard.items ≡ []) × (s.faults ≡ 0)) }
     {
         let name = String::from_str(alloc, name)?;
@@ -67,7 +70,12 @@ impl Device for Scripted {
     ghost use Rattle.std.specs.Prelude.{Some};
     ghost use Rattle.std.specs.String.{string_bytes};
 
-    ghost seen = { λ s. record { name = string_bytes s.name; kinds = s.kinds; heard = Some s.heard.items; faults = s.faults } };
+    ghost seen = { λ s. record {
+      name = string_bytes s.name;
+      kinds = s.kinds;
+      heard = Some s.heard.items;
+      faults = s.faults;
+    } };
 
     fn name(&self) -> &str {
         &self.name
@@ -79,13 +87,29 @@ impl Device for Scripted {
 
     fn call(&mut self, alloc: Global, args: &[Primitive]) -> Result<Primitive, CallFault>
         // As every device.
-        ensures called { IsCalled (record { name = string_bytes self.old.name; kinds = self.old.kinds; heard = Some self.old.heard.items; faults = self.old.faults }) (record { name = string_bytes self.new.name; kinds = self.new.kinds; heard = Some self.new.heard.items; faults = self.new.faults }) args.now result }
+        ensures called { IsCalled (record {
+          name = string_bytes self.old.name;
+          kinds = self.old.kinds;
+          heard = Some self.old.heard.items;
+          faults = self.old.faults;
+        })
+            (record {
+              name = string_bytes self.new.name;
+              kinds = self.new.kinds;
+              heard = Some self.new.heard.items;
+              faults = self.new.faults;
+            }) args.now result }
 
-        // And exactly which calls fail, which answer a call gives, that each failure is counted, and that the script stays as it is.
-        ensures fails { (result ≡ Err fault.Failed) ↔ Contains self.old.fail_at.items (call_number (length self.old.heard.items) self.old.faults) }
-        ensures answer { IfOk result (λ q. slice_get self.old.answers.items (answer_index self.old.answers.items (length self.old.heard.items)) ≡ Some q) }
+        // And exactly which calls fail, which answer a call gives, that each failure is counted,
+        // and that the script stays as it is.
+        ensures fails { (result ≡ Err fault.Failed)
+            ↔ Contains self.old.fail_at.items (call_number (length self.old.heard.items)
+            self.old.faults) }
+        ensures answer { IfOk result (λ q. slice_get self.old.answers.items
+            (answer_index self.old.answers.items (length self.old.heard.items)) ≡ Some q) }
         ensures count { self.new.faults ≡ failed_after self.old.faults result }
-        ensures script { (self.new.answers ≡ self.old.answers) × (self.new.fail_at ≡ self.old.fail_at) }
+        ensures script { (self.new.answers ≡ self.old.answers)
+            × (self.new.fail_at ≡ self.old.fail_at) }
     {
         if self.fail_at.contains(&self.next_call()) {
             self.faults = self.faults.saturating_add(1);

@@ -22,12 +22,18 @@ pub record BelowTakes (b : Below) : Type 0 where
 
 -- a part of the grammar is read, perhaps with more levels
 pub record Covers (n : Nested) (b : Below) : Type 0 where
-  pub expression_all : (p : ExpressionPart) (i : Tokens) (x : Expression) (r : Tokens) → n.expression p i x r → b.expression p i ≡ Done x r
-  pub statement_all : (c : Context) (p : StatementPart) (i : Tokens) (x : Statement) (r : Tokens) → n.statement c p i x r → b.statement c p i ≡ Done x r
+  pub expression_all : (p : ExpressionPart) (i : Tokens) (x : Expression) (r : Tokens)
+      → n.expression p i x r → b.expression p i ≡ Done x r
+  pub statement_all : (c : Context) (p : StatementPart) (i : Tokens) (x : Statement) (r : Tokens)
+      → n.statement c p i x r → b.statement c p i ≡ Done x r
 
 -- a part of the grammar is read (all), and what is read is a part of the grammar (is)
 pub record Agrees (n : Nested) (b : Below) : Type 0 where
-  pub expression_all : (p : ExpressionPart) (i : Tokens) (x : Expression) (r : Tokens) → n.expression p i x r → b.expression p i ≡ Done x r
-  pub expression_is : (p : ExpressionPart) (i : Tokens) (x : Expression) (r : Tokens) → b.expression p i ≡ Done x r → n.expression p i x r
-  pub statement_all : (c : Context) (p : StatementPart) (i : Tokens) (x : Statement) (r : Tokens) → n.statement c p i x r → b.statement c p i ≡ Done x r
-  pub statement_is : (c : Context) (p : StatementPart) (i : Tokens) (x : Statement) (r : Tokens) → b.statement c p i ≡ Done x r → n.statement c p i x r
+  pub expression_all : (p : ExpressionPart) (i : Tokens) (x : Expression) (r : Tokens)
+      → n.expression p i x r → b.expression p i ≡ Done x r
+  pub expression_is : (p : ExpressionPart) (i : Tokens) (x : Expression) (r : Tokens)
+      → b.expression p i ≡ Done x r → n.expression p i x r
+  pub statement_all : (c : Context) (p : StatementPart) (i : Tokens) (x : Statement) (r : Tokens)
+      → n.statement c p i x r → b.statement c p i ≡ Done x r
+  pub statement_is : (c : Context) (p : StatementPart) (i : Tokens) (x : Statement) (r : Tokens)
+      → b.statement c p i ≡ Done x r → n.statement c p i x r

@@ -15,7 +15,8 @@ use Rattle.ja_grammar.specs.Operators.{binary_of, binary_operator, unary_operato
 use Rattle.ja_grammar.proofs.Levels.{closes}
 
 -- what closes is one of these
-by_closing : (P : Symbol → Type 0) → P k.CloseParenthesis → P k.CloseBracket → P k.CloseBrace → P k.Colon → P k.Semicolon → (κ : Symbol) → closes κ ≡ true → P κ
+by_closing : (P : Symbol → Type 0) → P k.CloseParenthesis → P k.CloseBracket → P k.CloseBrace
+    → P k.Colon → P k.Semicolon → (κ : Symbol) → closes κ ≡ true → P κ
 unfolding closes
 by_closing P a b c d e k.CloseParenthesis h = a
 by_closing P a b c d e k.CloseBracket h = b
@@ -48,22 +49,26 @@ semicolon_closes κ h = ap closes h
 -- ---- what ends an expression begins nothing that goes on
 
 pub no_comma_closes : (κ : Symbol) → closes κ ≡ true → κ ≢ k.Comma
-no_comma_closes = by_closing (λ κ. κ ≢ k.Comma) (λ h. cc h) (λ h. cc h) (λ h. cc h) (λ h. cc h) (λ h. cc h)
+no_comma_closes =
+    by_closing (λ κ. κ ≢ k.Comma) (λ h. cc h) (λ h. cc h) (λ h. cc h) (λ h. cc h) (λ h. cc h)
 
 pub no_suffix_closes : (κ : Symbol) → closes κ ≡ true → begins_suffix κ ≡ false
 unfolding begins_suffix
 no_suffix_closes = by_closing (λ κ. begins_suffix κ ≡ false) refl refl refl refl refl
 
-pub no_binary_closes : (no_in : Bool) (level : ℕ) (κ : Symbol) → closes κ ≡ true → binary_operator no_in level κ ≡ None
+pub no_binary_closes : (no_in : Bool) (level : ℕ) (κ : Symbol) → closes κ ≡ true
+    → binary_operator no_in level κ ≡ None
 unfolding binary_operator binary_of
-no_binary_closes no_in level = by_closing (λ κ. binary_operator no_in level κ ≡ None) refl refl refl refl refl
+no_binary_closes no_in level =
+    by_closing (λ κ. binary_operator no_in level κ ≡ None) refl refl refl refl refl
 
 pub no_assignment_closes : (κ : Symbol) → closes κ ≡ true → assignment_operator κ ≡ None
 unfolding assignment_operator
 no_assignment_closes = by_closing (λ κ. assignment_operator κ ≡ None) refl refl refl refl refl
 
 pub no_question_closes : (κ : Symbol) → closes κ ≡ true → κ ≢ k.Question
-no_question_closes = by_closing (λ κ. κ ≢ k.Question) (λ h. cc h) (λ h. cc h) (λ h. cc h) (λ h. cc h) (λ h. cc h)
+no_question_closes =
+    by_closing (λ κ. κ ≢ k.Question) (λ h. cc h) (λ h. cc h) (λ h. cc h) (λ h. cc h) (λ h. cc h)
 
 no_update_closes : (κ : Symbol) → closes κ ≡ true → postfix_update κ ≡ None
 unfolding postfix_update
@@ -79,15 +84,18 @@ no_postfix_closes t h = go t.line_before
 
 -- ---- what is an operator or a literal is not the end, and what counts is no `:`
 
-pub binary_more : (no_in : Bool) (level : ℕ) (κ : Symbol) (o : BinaryOperator) → binary_operator no_in level κ ≡ Some o → κ ≢ k.End
+pub binary_more : (no_in : Bool) (level : ℕ) (κ : Symbol) (o : BinaryOperator)
+    → binary_operator no_in level κ ≡ Some o → κ ≢ k.End
 unfolding binary_operator binary_of
 binary_more no_in level κ o h ends = none_not_some (sym (ap (binary_operator no_in level) ends) ∙ h)
 
-pub assignment_more : (κ : Symbol) (o : Option BinaryOperator) → assignment_operator κ ≡ Some o → κ ≢ k.End
+pub assignment_more : (κ : Symbol) (o : Option BinaryOperator) → assignment_operator κ ≡ Some o
+    → κ ≢ k.End
 unfolding assignment_operator
 assignment_more κ o h ends = none_not_some (sym (ap assignment_operator ends) ∙ h)
 
-pub assignment_no_colon : (κ : Symbol) (o : Option BinaryOperator) → assignment_operator κ ≡ Some o → κ ≢ k.Colon
+pub assignment_no_colon : (κ : Symbol) (o : Option BinaryOperator) → assignment_operator κ ≡ Some o
+    → κ ≢ k.Colon
 unfolding assignment_operator
 assignment_no_colon κ o h colon = none_not_some (sym (ap assignment_operator colon) ∙ h)
 

@@ -22,4 +22,6 @@ split_place w r {i} e = let n = split_length w r e in omega arith
 
 -- a text is split in one way before the same rest
 pub split_one : (v w r : Tokens) {i : Tokens} → i ≡ v ++ r → i ≡ w ++ r → v ≡ w
-split_one v w r {i} e f = sym (split_taken v r e) ∙ ap (λ n. take n i) (split_place v r e ∙ sym (split_place w r f)) ∙ split_taken w r f
+split_one v w r {i} e f =
+    sym (split_taken v r e) ∙ ap (λ n. take n i) (split_place v r e ∙ sym (split_place w r f))
+    ∙ split_taken w r f

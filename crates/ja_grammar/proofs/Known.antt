@@ -26,15 +26,19 @@ pub before_last : (t : Token) (w : Tokens) → (front : Tokens) × (t ∷ w ≡ 
 before_last t [] = ([], refl)
 before_last t (u ∷ w) = let h = before_last u w in (t ∷ h.0, ap (λ x. t ∷ x) h.1)
 
--- A token that is too deep is none of the end, and a label if and only if it is `:`; an operand that is complete stands behind its operator.
+-- A token that is too deep is none of the end, and a label if and only if it is `:`; an operand
+-- that is complete stands behind its operator.
 abbrev pub Known : Refusal → Tokens → Tokens → Type 0
 Known refusal.Deep w r = (next r ≢ k.End) × (next r ≢ k.Colon)
 Known (refusal.DeepLabel place) w r = (next r ≡ k.Colon) × (0 < length w) × ((last w).place ≡ place)
-Known (refusal.Operand place) w r = (1 < length w) × (elsewhere (refusal.Operand place) (head r) ≡ true)
-Known (refusal.Alone place) w r = (0 < length w) × (symbol (last w) ≡ k.Break) × (elsewhere (refusal.Alone place) (head r) ≡ true)
+Known (refusal.Operand place) w r =
+    (1 < length w) × (elsewhere (refusal.Operand place) (head r) ≡ true)
+Known (refusal.Alone place) w r =
+    (0 < length w) × (symbol (last w) ≡ k.Break) × (elsewhere (refusal.Alone place) (head r) ≡ true)
 Known _ w r = Unit {0}
 
-pub known_taken : (why : Refusal) (u : Token) (r : Tokens) → Known why [] r → elsewhere why u ≡ true → ⊥
+pub known_taken : (why : Refusal) (u : Token) (r : Tokens) → Known why [] r → elsewhere why u ≡ true
+    → ⊥
 known_taken (refusal.Operand place) u r h on = absurd (omega (arith, h.0))
 known_taken (refusal.Alone place) u r h on = absurd (omega (arith, h.0))
 known_taken refusal.Unexpected u r h on = cc on
@@ -48,7 +52,8 @@ known_taken (refusal.UnknownLabel place) u r h on = cc on
 abbrev pub known : (O : Refusal) → Reason O
 known O = record { right = Known; taken = known_taken }
 
-known_named : (why : Refusal) (t u : Token) (r : Tokens) → symbol t ≡ k.Name → Known why (t ∷ []) r → elsewhere why u ≡ true → ⊥
+known_named : (why : Refusal) (t u : Token) (r : Tokens) → symbol t ≡ k.Name → Known why (t ∷ []) r
+    → elsewhere why u ≡ true → ⊥
 known_named (refusal.Operand place) t u r is h on = absurd (omega (arith, h.0))
 known_named (refusal.Alone place) t u r is h on = cc (is, h.1)
 known_named refusal.Unexpected t u r is h on = cc on
@@ -66,9 +71,12 @@ same_last w (t ∷ v) some = (let n = length-append w (t ∷ v) in omega (arith,
 
 known_closed : (why : Refusal) (w v r : Tokens) → Known why v r → Known why (w ++ v) r
 known_closed refusal.Deep w v r h = h
-known_closed (refusal.DeepLabel place) w v r h = let s = same_last w v h.1 in (h.0, s.0, ap (λ t. t.place) s.1 ∙ h.2)
-known_closed (refusal.Operand place) w v r h = (let n = length-append w v in omega (arith, n, h.0), h.1)
-known_closed (refusal.Alone place) w v r h = let s = same_last w v h.0 in (s.0, ap symbol s.1 ∙ h.1, h.2)
+known_closed (refusal.DeepLabel place) w v r h = let s = same_last w v h.1 in
+    (h.0, s.0, ap (λ t. t.place) s.1 ∙ h.2)
+known_closed (refusal.Operand place) w v r h =
+    (let n = length-append w v in omega (arith, n, h.0), h.1)
+known_closed (refusal.Alone place) w v r h = let s = same_last w v h.0 in
+    (s.0, ap symbol s.1 ∙ h.1, h.2)
 known_closed refusal.Unexpected w v r h = tt
 known_closed refusal.RegExp w v r h = tt
 known_closed refusal.Arguments w v r h = tt

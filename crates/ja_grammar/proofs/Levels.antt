@@ -1,5 +1,5 @@
--- What the place laws of a rule take for granted: of the refusals, and of the parts that are read one level below, with fewer levels
--- (b) and with more (c).
+-- What the place laws of a rule take for granted: of the refusals, and of the parts that are read
+-- one level below, with fewer levels (b) and with more (c).
 use Rattle.std.proofs.Common.{◌≡◌, ◌≢◌, refl, ℕ, Bool, true, false, List, [], ◌∷◌, ◌++◌}
 use Rattle.ja_base.specs.declared.ids.Place.{Place}
 use Rattle.ja_lex.specs.declared.token.Token.{Token}
@@ -59,17 +59,23 @@ pub record Reasons {O : Refusal} (J : Reason O) : Type 0 where
   pub free : (why : Refusal) (w r : Tokens) → is_free why ≡ true → J.right why w r
   -- what is too deep is a token and no `:`, or the `:` behind a label
   pub deep : (r : Tokens) → next r ≢ k.End → next r ≢ k.Colon → J.right Deep [] r
-  pub deep_label : (t : Token) (r : Tokens) → next r ≡ k.Colon → J.right (DeepLabel t.place) (t ∷ []) r
+  pub deep_label : (t : Token) (r : Tokens) → next r ≡ k.Colon
+      → J.right (DeepLabel t.place) (t ∷ []) r
   -- an operand stands behind its operator, and ends there; and no label stands behind a `break`
-  pub operand : (place : Place) (t u : Token) (w r : Tokens) → elsewhere (Operand place) (head r) ≡ true → J.right (Operand place) (t ∷ u ∷ w) r
-  pub alone : (place : Place) (t : Token) (r : Tokens) → symbol t ≡ k.Break → elsewhere (Alone place) (head r) ≡ true → J.right (Alone place) (t ∷ []) r
+  pub operand : (place : Place) (t u : Token) (w r : Tokens)
+      → elsewhere (Operand place) (head r) ≡ true → J.right (Operand place) (t ∷ u ∷ w) r
+  pub alone : (place : Place) (t : Token) (r : Tokens) → symbol t ≡ k.Break
+      → elsewhere (Alone place) (head r) ≡ true → J.right (Alone place) (t ∷ []) r
   -- so neither is refused behind a name alone
-  pub named : (why : Refusal) (t u : Token) (r : Tokens) → symbol t ≡ k.Name → J.right why (t ∷ []) r → elsewhere why u ≡ true → ⊥
+  pub named : (why : Refusal) (t u : Token) (r : Tokens) → symbol t ≡ k.Name
+      → J.right why (t ∷ []) r → elsewhere why u ≡ true → ⊥
 
 -- the reason, once a token stands before what was read
 abbrev pub owed_reason : {O : Refusal} → Reason O → Reason O
 owed_reason J = record {
-  right = λ why w r. ((t : Token) → J.right why (t ∷ w) r) × ((u : Token) → elsewhere why u ≡ true → w ≢ []);
+  right =
+      λ why w r. ((t : Token) → J.right why (t ∷ w) r)
+      × ((u : Token) → elsewhere why u ≡ true → w ≢ []);
   taken = λ why u r h on. h.1 u on refl;
 }
 
@@ -92,7 +98,9 @@ follow_of (part.Created place) = Any
 
 -- a name among these tokens is spelled so
 abbrev pub IsNamed : Tokens → List ℕ → Type 0
-IsNamed U text = (v : Tokens) × (u : Token) × (w : Tokens) × (U ≡ v ++ u ∷ w) × (symbol u ≡ k.Name) × (Word text ≡ u.kind)
+IsNamed U text =
+    (v : Tokens) × (u : Token) × (w : Tokens) × (U ≡ v ++ u ∷ w) × (symbol u ≡ k.Name)
+    × (Word text ≡ u.kind)
 
 abbrev pub AllNamed : Tokens → List Label → Type 0
 AllNamed U [] = Unit {0}
@@ -103,15 +111,22 @@ pub record AreNames (U : Tokens) (x : Context) : Type 0 where
   pub all : AllNamed U x.labels
 
 pub record BelowGood {O : Refusal} (J : Reason O) (b c : Below) : Type 0 where
-  pub expression : (U : Tokens) (p : ExpressionPart) (i : Tokens) → GoodAt U (reason_of J p) (b.expression p) (c.expression p) (follow_of p) Any i
-  pub statement : (U : Tokens) (x : Context) → AreNames U x → (p : StatementPart) (i : Tokens) → GoodAt U J (b.statement x p) (c.statement x p) EndsStatement Any i
+  pub expression : (U : Tokens) (p : ExpressionPart) (i : Tokens)
+      → GoodAt U (reason_of J p) (b.expression p) (c.expression p) (follow_of p) Any i
+  pub statement : (U : Tokens) (x : Context) → AreNames U x → (p : StatementPart) (i : Tokens)
+      → GoodAt U J (b.statement x p) (c.statement x p) EndsStatement Any i
 
 -- tokens, real behind any, that are read as the part
 pub record BelowSamples (c : Below) : Type 0 where
-  pub expression : (p : ExpressionPart) → (w : Tokens) × (v : Expression) × AreRealAfter [] w × ((tail : Tokens) → follow_of p tail → c.expression p (w ++ tail) ≡ Done v tail)
-  pub statement : (x : Context) (p : StatementPart) → (w : Tokens) × (v : Statement) × AreRealAfter [] w × ((tail : Tokens) → EndsStatement tail → c.statement x p (w ++ tail) ≡ Done v tail)
+  pub expression : (p : ExpressionPart) → (w : Tokens) × (v : Expression) × AreRealAfter [] w
+      × ((tail : Tokens) → follow_of p tail → c.expression p (w ++ tail) ≡ Done v tail)
+  pub statement : (x : Context) (p : StatementPart)
+      → (w : Tokens) × (v : Statement) × AreRealAfter [] w
+      × ((tail : Tokens) → EndsStatement tail → c.statement x p (w ++ tail) ≡ Done v tail)
 
 -- What is read behind a `new` doesn't depend on what follows, as long as that is no member or call.
 pub record Ahead (b : Below) : Type 0 where
-  pub created : (place : Place) (w m x : Tokens) (v : Expression) → begins_suffix (next m) ≡ false → begins_suffix (next x) ≡ false
-      → b.expression (part.Created place) (w ++ m) ≡ Done v m → b.expression (part.Created place) (w ++ x) ≡ Done v x
+  pub created : (place : Place) (w m x : Tokens) (v : Expression) → begins_suffix (next m) ≡ false
+      → begins_suffix (next x) ≡ false
+      → b.expression (part.Created place) (w ++ m) ≡ Done v m
+      → b.expression (part.Created place) (w ++ x) ≡ Done v x

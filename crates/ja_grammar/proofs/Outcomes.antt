@@ -1,4 +1,5 @@
--- Outcomes, tokens, and the steps that every rule is made of: what they give, and what must have been there.
+-- Outcomes, tokens, and the steps that every rule is made of: what they give, and what must have
+-- been there.
 use Rattle.std.proofs.Common.{◌≡◌, ◌≢◌, Bool, true, false, [], ◌∷◌, ◌++◌, Option, Some, None, if◌then◌else◌, refl, sym, ap, ◌∙◌, subst}
 use denote.Enum.Bare.{same_true, same_false, true_same}
 use Rattle.ja_lex.specs.declared.token.Token.{Token}
@@ -22,19 +23,23 @@ SaysNo P (Done a i) = ⊥
 SaysNo P (Refused why i) = P why i
 
 -- what holds of one value and its rest holds of the other
-pub same_done : {A : Type 0} {a b : A} {i j : Tokens} (P : A → Tokens → Type 0) → Done a i ≡ Done b j → P a i → P b j
+pub same_done : {A : Type 0} {a b : A} {i j : Tokens} (P : A → Tokens → Type 0)
+    → Done a i ≡ Done b j → P a i → P b j
 same_done P e h = subst (Says P) e h
 
 -- what holds of one refusal and its rest holds of the other
-pub same_refused : {A : Type 0} {v w : Refusal} {i j : Tokens} (P : Refusal → Tokens → Type 0) → refuse {A = A} v i ≡ refuse {A = A} w j → P v i → P w j
+pub same_refused : {A : Type 0} {v w : Refusal} {i j : Tokens} (P : Refusal → Tokens → Type 0)
+    → refuse {A = A} v i ≡ refuse {A = A} w j → P v i → P w j
 same_refused P e h = subst (SaysNo P) e h
 
 -- a value is no refusal
-pub done_not_refused : {A : Type 0} {a : A} {why : Refusal} {i j : Tokens} → Done a i ≡ Refused why j → ⊥
+pub done_not_refused : {A : Type 0} {a : A} {why : Refusal} {i j : Tokens}
+    → Done a i ≡ Refused why j → ⊥
 done_not_refused e = subst (Says (λ a i. Unit {0})) e tt
 
 -- and a refusal no value
-pub refused_not_done : {A : Type 0} {a : A} {why : Refusal} {i j : Tokens} → Refused why j ≡ Done a i → ⊥
+pub refused_not_done : {A : Type 0} {a : A} {why : Refusal} {i j : Tokens}
+    → Refused why j ≡ Done a i → ⊥
 refused_not_done e = subst (SaysNo (λ a i. Unit {0})) e tt
 
 -- the next token, where tokens are taken before
@@ -99,21 +104,25 @@ same_symbol_other j k other = go (same_symbol j k) refl
 -- ---- one after the other
 
 -- the first gives a value, and the second this outcome
-pub then_done : {A B : Type 0} (f : A → Parser B) {o : Outcome A} {a : A} {m : Tokens} {u : Outcome B} → o ≡ Done a m → f a m ≡ u → and_then o f ≡ u
+pub then_done : {A B : Type 0} (f : A → Parser B) {o : Outcome A} {a : A} {m : Tokens}
+    {u : Outcome B} → o ≡ Done a m → f a m ≡ u → and_then o f ≡ u
 then_done f e h = ap (λ o. and_then o f) e ∙ h
 
 -- the same, with the parser and what goes on written
-pub bind_done : {A B : Type 0} (p : Parser A) (f : A → Parser B) {i : Tokens} {a : A} {m : Tokens} {u : Outcome B} → p i ≡ Done a m → f a m ≡ u → (p >>= f) i ≡ u
+pub bind_done : {A B : Type 0} (p : Parser A) (f : A → Parser B) {i : Tokens} {a : A} {m : Tokens}
+    {u : Outcome B} → p i ≡ Done a m → f a m ≡ u → (p >>= f) i ≡ u
 bind_done p f e h = ap (λ o. and_then o f) e ∙ h
 
 -- where a whole gives a value, so did its first part
-pub then_inverse : {A B : Type 0} (o : Outcome A) (f : A → Parser B) {b : B} {r : Tokens} → and_then o f ≡ Done b r
+pub then_inverse : {A B : Type 0} (o : Outcome A) (f : A → Parser B) {b : B} {r : Tokens}
+    → and_then o f ≡ Done b r
     → (a : A) × (m : Tokens) × (o ≡ Done a m) × (f a m ≡ Done b r)
 then_inverse (Done a m) f e = (a, m, refl, e)
 then_inverse (Refused why m) f e = absurd (refused_not_done e)
 
 -- the same of the parser
-pub bind_inverse : {A B : Type 0} (p : Parser A) (f : A → Parser B) (i : Tokens) {b : B} {r : Tokens} → (p >>= f) i ≡ Done b r
+pub bind_inverse : {A B : Type 0} (p : Parser A) (f : A → Parser B) (i : Tokens) {b : B}
+    {r : Tokens} → (p >>= f) i ≡ Done b r
     → (a : A) × (m : Tokens) × (p i ≡ Done a m) × (f a m ≡ Done b r)
 bind_inverse p f i e = then_inverse (p i) f e
 
@@ -129,46 +138,57 @@ done_rest {i = i} e = same_done (λ x y. i ≡ y) e refl
 -- a token with this symbol is taken
 pub expect_done : (k : Symbol) (t : Token) (r : Tokens) → Is k t → expect k (t ∷ r) ≡ Done t r
 unfolding expect
-expect_done k t r is = ap (λ b. if b then Done t r else Refused Unexpected (t ∷ r)) (same_symbol_is (symbol t) k is)
+expect_done k t r is =
+    ap (λ b. if b then Done t r else Refused Unexpected (t ∷ r)) (same_symbol_is (symbol t) k is)
 
 -- any other is refused
 pub expect_refused : (k : Symbol) (i : Tokens) → next i ≢ k → expect k i ≡ Refused Unexpected i
 unfolding expect
-expect_refused k i other = ap (λ b. if b then Done (head i) (behind i) else Refused Unexpected i) (same_symbol_other (next i) k other)
+expect_refused k i other =
+    ap (λ b. if b then Done (head i) (behind i) else Refused Unexpected i)
+    (same_symbol_other (next i) k other)
 
 -- what was taken stood there
 pub take_inverse : {t : Token} (i r : Tokens) → next i ≢ End → take_token i ≡ Done t r → i ≡ t ∷ r
 take_inverse i r more e = cons_of i more ∙ same_done (λ x y. head i ∷ behind i ≡ x ∷ y) e refl
 
 -- what was expected stood there
-pub expect_inverse : (k : Symbol) (i : Tokens) {t : Token} {r : Tokens} → k ≢ End → expect k i ≡ Done t r → (i ≡ t ∷ r) × Is k t
+pub expect_inverse : (k : Symbol) (i : Tokens) {t : Token} {r : Tokens} → k ≢ End
+    → expect k i ≡ Done t r → (i ≡ t ∷ r) × Is k t
 unfolding expect
 expect_inverse k i {t} {r} more e = go (same_symbol (next i) k) refl e
   where
-    go : (b : Bool) → same_symbol (next i) k ≡ b → (if b then Done (head i) (behind i) else Refused Unexpected i) ≡ Done t r → (i ≡ t ∷ r) × Is k t
+    go : (b : Bool) → same_symbol (next i) k ≡ b
+        → (if b then Done (head i) (behind i) else Refused Unexpected i) ≡ Done t r
+        → (i ≡ t ∷ r) × Is k t
     go true is h =
         let at : next i ≡ k = same_symbol_true (next i) k is in
         (take_inverse i r (λ ends. more (sym at ∙ ends)) h, ap symbol (sym (done_value h)) ∙ at)
     go false is h = absurd (refused_not_done h)
 
 -- where a rule isn't asked, reading goes on
-pub unless_reads : {A : Type 0} (g : Rules) (why : Refusal) (p : Parser A) (i : Tokens) → g why i ≡ false → unless g why p i ≡ p i
+pub unless_reads : {A : Type 0} (g : Rules) (why : Refusal) (p : Parser A) (i : Tokens)
+    → g why i ≡ false → unless g why p i ≡ p i
 unless_reads g why p i off = ap (λ b. if b then Refused why i else p i) off
 
 -- where it is asked, it refuses
-pub unless_refuses : {A : Type 0} (g : Rules) (why : Refusal) (p : Parser A) (i : Tokens) → g why i ≡ true → unless g why p i ≡ Refused why i
+pub unless_refuses : {A : Type 0} (g : Rules) (why : Refusal) (p : Parser A) (i : Tokens)
+    → g why i ≡ true → unless g why p i ≡ Refused why i
 unless_refuses g why p i on = ap (λ b. if b then Refused why i else p i) on
 
 -- what was read was read where the rule isn't asked
-pub unless_inverse : {A : Type 0} (g : Rules) (why : Refusal) (p : Parser A) (i : Tokens) {a : A} {r : Tokens} → unless g why p i ≡ Done a r → (g why i ≡ false) × (p i ≡ Done a r)
+pub unless_inverse : {A : Type 0} (g : Rules) (why : Refusal) (p : Parser A) (i : Tokens) {a : A}
+    {r : Tokens} → unless g why p i ≡ Done a r → (g why i ≡ false) × (p i ≡ Done a r)
 unless_inverse g why p i {a} {r} e = go (g why i) refl e
   where
-    go : (b : Bool) → g why i ≡ b → (if b then Refused why i else p i) ≡ Done a r → (g why i ≡ false) × (p i ≡ Done a r)
+    go : (b : Bool) → g why i ≡ b → (if b then Refused why i else p i) ≡ Done a r
+        → (g why i ≡ false) × (p i ≡ Done a r)
     go true is h = absurd (refused_not_done h)
     go false is h = (is, h)
 
 -- where a level is left, entering takes the token
-pub enter_done : (g : Rules) (t : Token) (r : Tokens) → HasRoom g (t ∷ r) → enter g (t ∷ r) ≡ Done t r
+pub enter_done : (g : Rules) (t : Token) (r : Tokens) → HasRoom g (t ∷ r)
+    → enter g (t ∷ r) ≡ Done t r
 unfolding enter
 enter_done g t r room = unless_reads g Deep take_token (t ∷ r) room
 
@@ -178,23 +198,27 @@ unfolding enter
 entered g i e = (unless_inverse g Deep take_token i e).0
 
 -- and took the next token
-pub entered_token : (g : Rules) (i : Tokens) {t : Token} {r : Tokens} → enter g i ≡ Done t r → take_token i ≡ Done t r
+pub entered_token : (g : Rules) (i : Tokens) {t : Token} {r : Tokens} → enter g i ≡ Done t r
+    → take_token i ≡ Done t r
 unfolding enter
 entered_token g i e = (unless_inverse g Deep take_token i e).1
 
 -- what entered had a level left, and what it took stood there
-pub enter_inverse : (g : Rules) (i : Tokens) {t : Token} {r : Tokens} → next i ≢ End → enter g i ≡ Done t r → HasRoom g i × (i ≡ t ∷ r)
+pub enter_inverse : (g : Rules) (i : Tokens) {t : Token} {r : Tokens} → next i ≢ End
+    → enter g i ≡ Done t r → HasRoom g i × (i ≡ t ∷ r)
 enter_inverse g i {t} {r} more e = (entered g i e, take_inverse i r more (entered_token g i e))
 
 -- ---- what must have been there, for what is to be shown
 
 -- a whole gave a value
-pub then_is : {A B : Type 0} {P : Type 0} (p : Parser A) (f : A → Parser B) (i : Tokens) {b : B} {r : Tokens} → (p >>= f) i ≡ Done b r
+pub then_is : {A B : Type 0} {P : Type 0} (p : Parser A) (f : A → Parser B) (i : Tokens) {b : B}
+    {r : Tokens} → (p >>= f) i ≡ Done b r
     → ((a : A) (m : Tokens) → p i ≡ Done a m → f a m ≡ Done b r → P) → P
 then_is p f i e h = let s = bind_inverse p f i e in h s.0 s.1 s.2 s.3
 
 -- a token with this symbol, and what follows, gave a value
-pub expect_then : {B : Type 0} (P : Tokens → Type 0) (k : Symbol) (f : Token → Parser B) → k ≢ End → (i : Tokens) {b : B} {r : Tokens} → (expect k >>= f) i ≡ Done b r
+pub expect_then : {B : Type 0} (P : Tokens → Type 0) (k : Symbol) (f : Token → Parser B) → k ≢ End
+    → (i : Tokens) {b : B} {r : Tokens} → (expect k >>= f) i ≡ Done b r
     → ((t : Token) (m : Tokens) → Is k t → f t m ≡ Done b r → P (t ∷ m)) → P i
 expect_then P k f more i e h =
     let s = bind_inverse (expect k) f i e in

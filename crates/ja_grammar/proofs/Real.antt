@@ -7,7 +7,8 @@ use Rattle.ja_grammar.specs.Language.{IsReal, AreReal}
 
 -- some text has each of the names among these tokens
 abbrev pub AreNamesReal : Tokens → Type 0
-AreNamesReal U = (v : Tokens) (u : Token) (w : Tokens) → U ≡ v ++ u ∷ w → symbol u ≡ k.Name → IsReal u
+AreNamesReal U =
+    (v : Tokens) (u : Token) (w : Tokens) → U ≡ v ++ u ∷ w → symbol u ≡ k.Name → IsReal u
 
 -- where it has, some text has this token
 pub record IsRealAfter (U : Tokens) (t : Token) : Type 0 where
@@ -24,7 +25,8 @@ reals U (t ∷ i) names h = (h.0.real names, reals U i names h.1)
 
 -- those of a front are
 pub names_front : (i v w : Tokens) → i ≡ v ++ w → AreNamesReal i → AreNamesReal v
-names_front i v w split names a u b e is = names a u (b ++ w) (split ∙ ap (λ x. x ++ w) e ∙ append_assoc a (u ∷ b) w) is
+names_front i v w split names a u b e is =
+    names a u (b ++ w) (split ∙ ap (λ x. x ++ w) e ∙ append_assoc a (u ∷ b) w) is
 
 -- ---- the tokens before
 
@@ -78,7 +80,8 @@ covers_between v m w u h = go (has_either u v w h)
 
 -- one of the tokens between them, written before them
 pub covers_first : (t : Token) (v m w : Tokens) → Has t m → Covers (t ∷ v ++ w) (v ++ (m ++ w))
-covers_first t v m w h u (inl e) = has_behind u v (m ++ w) (has_front u m w (subst (λ x. Has x m) e h))
+covers_first t v m w h u (inl e) =
+    has_behind u v (m ++ w) (has_front u m w (subst (λ x. Has x m) e h))
 covers_first t v m w h u (inr a) = covers_between v m w u a
 
 -- nothing
@@ -89,7 +92,9 @@ covers_nothing v u h = absurd h
 
 pub real_more : (v w : Tokens) → Covers v w → (t : Token) → IsRealAfter v t → IsRealAfter w t
 real_more v w covers t h = record {
-  real = λ names. h.real (λ a u b e is. let s = split_at u w (covers u (subst (λ x. Has u x) (sym e) (has_between a u b))) in names s.0 u s.1 s.2 is);
+  real =
+      λ names. h.real (λ a u b e is. let s = split_at u w
+      (covers u (subst (λ x. Has u x) (sym e) (has_between a u b))) in names s.0 u s.1 s.2 is);
 }
 
 pub reals_more : (v w : Tokens) → Covers v w → (c : Tokens) → AreRealAfter v c → AreRealAfter w c
@@ -107,10 +112,12 @@ real_behind U [] h = tt
 real_behind U (t ∷ v) h = h.1
 
 -- the same, where the first token, or the first two, may be any
-pub real_append_behind : (U v w : Tokens) → AreRealAfter U (behind v) → AreRealAfter U w → AreRealAfter U (behind (v ++ w))
+pub real_append_behind : (U v w : Tokens) → AreRealAfter U (behind v) → AreRealAfter U w
+    → AreRealAfter U (behind (v ++ w))
 real_append_behind U [] w h g = real_behind U w g
 real_append_behind U (t ∷ v) w h g = real_append U v w h g
 
-pub real_append_second : (U v w : Tokens) → AreRealAfter U (behind (behind v)) → AreRealAfter U w → AreRealAfter U (behind (behind (v ++ w)))
+pub real_append_second : (U v w : Tokens) → AreRealAfter U (behind (behind v)) → AreRealAfter U w
+    → AreRealAfter U (behind (behind (v ++ w)))
 real_append_second U [] w h g = real_behind U (behind w) (real_behind U w g)
 real_append_second U (t ∷ v) w h g = real_append_behind U v w h g

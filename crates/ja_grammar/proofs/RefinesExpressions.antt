@@ -1,4 +1,5 @@
--- Every rule of expressions reads the same by both rules, unless the first refuses for want of what the second doesn't ask.
+-- Every rule of expressions reads the same by both rules, unless the first refuses for want of what
+-- the second doesn't ask.
 use Rattle.std.proofs.Common.{◌≡◌, ℕ, zero, suc, Bool, true, false, not, length, Option, Some, None, is_none, refl, le_refl}
 use Rattle.ja_base.specs.declared.ids.Place.{Place}
 use Rattle.ja_prim.specs.declared.primitive.Primitive.{Primitive}
@@ -35,18 +36,21 @@ module _ {C : Lenient} {g g' : Rules} (asks : AsksEach C g g') where
   declared_refines i = go (next i)
     where
       named : (x : Bool) → Refines C (declared_name g (head i) x i) (declared_name g' (head i) x i)
-      named true = unless_refines g g' Arguments i (asks Arguments i) (λ _. same refl) (behind_shrinks i)
+      named true =
+          unless_refines g g' Arguments i (asks Arguments i) (λ _. same refl) (behind_shrinks i)
       named false = same refl
 
       go : (κ : Symbol) → Refines C (declared_by g (head i) κ i) (declared_by g' (head i) κ i)
       go k.Name = named (is_arguments (head i).kind)
       go _ = same refl
 
-  pub function_name_refines : (required : Bool) (i : Tokens) → Refines C (function_name g required i) (function_name g' required i)
+  pub function_name_refines : (required : Bool) (i : Tokens)
+      → Refines C (function_name g required i) (function_name g' required i)
   unfolding function_name
   function_name_refines required i = go required (next i)
     where
-      go : (required : Bool) (κ : Symbol) → Refines C (function_name_by g required κ i) (function_name_by g' required κ i)
+      go : (required : Bool) (κ : Symbol) → Refines C (function_name_by g required κ i)
+          (function_name_by g' required κ i)
       go required k.Name = value_refines _ (declared_refines i)
       go true _ = same refl
       go false _ = same refl
@@ -57,17 +61,20 @@ module _ {C : Lenient} {g g' : Rules} {b b' : Below} (h : RefinesBelow C g g' b 
   enters i = enter_refines g g' i (h.asks Deep i)
 
   -- a part behind a token that was entered
-  lower : (i : Tokens) {t : Token} {r : Tokens} → enter g i ≡ Done t r → (p : ExpressionPart) (j : Tokens) → Refines C (b.expression p j) (b'.expression p j)
+  lower : (i : Tokens) {t : Token} {r : Tokens} → enter g i ≡ Done t r
+      → (p : ExpressionPart) (j : Tokens) → Refines C (b.expression p j) (b'.expression p j)
   lower i e = h.expression i (entered g i e)
 
   -- ---- array and object literals, functions
 
-  pub element_close_refines : (x : Expression) (i : Tokens) → Refines C (element_close g b x i) (element_close g' b' x i)
+  pub element_close_refines : (x : Expression) (i : Tokens)
+      → Refines C (element_close g b x i) (element_close g' b' x i)
   unfolding element_close
   element_close_refines x i = same refl
 
   -- the items of the lists, where a token was entered
-  pub element_refines : (i : Tokens) → HasRoom g i → (j : Tokens) → Refines C (element g b j) (element g' b' j)
+  pub element_refines : (i : Tokens) → HasRoom g i → (j : Tokens)
+      → Refines C (element g b j) (element g' b' j)
   unfolding element
   element_refines i room j = go (next j)
     where
@@ -77,18 +84,24 @@ module _ {C : Lenient} {g g' : Rules} {b b' : Below} (h : RefinesBelow C g g' b 
           bind_refines (h.expression i room (part.Assignment false) j)
           (λ x r _. element_close_refines x r) (λ x r. element_close_shrinks g' h.takes x r)
 
-  pub property_refines : (i : Tokens) → HasRoom g i → (j : Tokens) → Refines C (property g b j) (property g' b' j)
+  pub property_refines : (i : Tokens) → HasRoom g i → (j : Tokens)
+      → Refines C (property g b j) (property g' b' j)
   unfolding property
   property_refines i room j = go (property_name (head j))
     where
-      go : (o : Option PropertyName) → Refines C (property_by g b (head j) o j) (property_by g' b' (head j) o j)
+      go : (o : Option PropertyName) → Refines C (property_by g b (head j) o j)
+          (property_by g' b' (head j) o j)
       go None = same refl
-      go (Some name) = then_refines (expect k.Colon (behind j)) (λ t r _. value_refines _ (h.expression i room (part.Assignment false) r))
+      go (Some name) =
+          then_refines (expect k.Colon (behind j))
+          (λ t r _. value_refines _ (h.expression i room (part.Assignment false) r))
 
   pub function_body_refines : (i : Tokens) → Refines C (function_body g b i) (function_body g' b' i)
   unfolding function_body
-  function_body_refines i = bind_refines (opening_refines g g' k.OpenBrace i (h.asks Deep i)) (λ t r e.
-      tail_refines (until_refines (b.statement function_context (of_statement.Whole 0 true)) (b'.statement function_context (of_statement.Whole 0 true))
+  function_body_refines i =
+      bind_refines (opening_refines g g' k.OpenBrace i (h.asks Deep i)) (λ t r e.
+      tail_refines (until_refines (b.statement function_context (of_statement.Whole 0 true))
+      (b'.statement function_context (of_statement.Whole 0 true))
       (h.statement Deep i refl (opened g k.OpenBrace i e) function_context
       (of_statement.Whole 0 true)) (h.takes.statement function_context
       (of_statement.Whole 0 true)) is_close_brace r)
@@ -99,14 +112,18 @@ module _ {C : Lenient} {g g' : Rules} {b b' : Below} (h : RefinesBelow C g g' b 
 
   pub parameters_refines : (i : Tokens) → Refines C (parameters g b i) (parameters g' b' i)
   unfolding parameters
-  parameters_refines i = bind_refines (opening_refines g g' k.OpenParenthesis i (h.asks Deep i)) (λ t r _.
+  parameters_refines i =
+      bind_refines (opening_refines g g' k.OpenParenthesis i (h.asks Deep i)) (λ t r _.
       listed_refines (declared g) (declared g') (declared_refines h.asks) (declared_takes g')
       k.CloseParenthesis r)
       (λ t r. listed_takes (declared_takes g') k.CloseParenthesis (λ e. cc e) r)
 
-  pub function_refines : (required : Bool) (i : Tokens) → Refines C (function g b required i) (function g' b' required i)
+  pub function_refines : (required : Bool) (i : Tokens)
+      → Refines C (function g b required i) (function g' b' required i)
   unfolding function
-  function_refines required i = then_refines (expect k.Function i) (λ t r _. bind_refines (function_name_refines h.asks required r) (λ name s _.
+  function_refines required i =
+      then_refines (expect k.Function i) (λ t r _.
+      bind_refines (function_name_refines h.asks required r) (λ name s _.
       bind_refines (parameters_refines s) (λ xs l _. value_refines _ (function_body_refines l))
       (λ xs l. value_leaves _ (function_body_takes g' h.takes l)))
       (λ name s. bind_leaves (parameters_takes g' h.takes s)
@@ -142,7 +159,8 @@ module _ {C : Lenient} {g g' : Rules} {b b' : Below} (h : RefinesBelow C g g' b 
   unfolding literal
   literal_refines i = go (literal_of (head i))
     where
-      go : (o : Option Primitive) → Refines C (literal_by g b (head i) o i) (literal_by g' b' (head i) o i)
+      go : (o : Option Primitive) → Refines C (literal_by g b (head i) o i)
+          (literal_by g' b' (head i) o i)
       go None = same refl
       go (Some value) = same refl
 
@@ -188,7 +206,8 @@ module _ {C : Lenient} {g g' : Rules} {b b' : Below} (h : RefinesBelow C g g' b 
       (λ t r. bind_leaves (h.takes.expression (part.Whole false) r)
       (λ x s. value_leaves _ (expect_shrinks k.CloseBracket s)))
 
-  pub property_suffix_refines : (i : Tokens) → Refines C (property_suffix g b i) (property_suffix g' b' i)
+  pub property_suffix_refines : (i : Tokens)
+      → Refines C (property_suffix g b i) (property_suffix g' b' i)
   unfolding property_suffix
   property_suffix_refines i = go (next i)
     where
@@ -210,7 +229,8 @@ module _ {C : Lenient} {g g' : Rules} {b b' : Below} (h : RefinesBelow C g g' b 
   unfolding any_suffix
   any_suffix_refines i = go (next i)
     where
-      go : (κ : Symbol) → Refines C (any_suffix_by g b (head i) κ i) (any_suffix_by g' b' (head i) κ i)
+      go : (κ : Symbol) → Refines C (any_suffix_by g b (head i) κ i)
+          (any_suffix_by g' b' (head i) κ i)
       go k.OpenParenthesis = value_refines _ (arguments_refines i)
       go _ = property_suffix_refines i
 
@@ -223,13 +243,15 @@ module _ {C : Lenient} {g g' : Rules} {b b' : Below} (h : RefinesBelow C g g' b 
       (λ x r. value_leaves _ (until_shrinks (property_suffix_takes g' h.takes)
       (λ found. not (begins_property found)) r))
 
-  pub created_refines : (place : Place) (i : Tokens) → Refines C (created g b place i) (created g' b' place i)
+  pub created_refines : (place : Place) (i : Tokens)
+      → Refines C (created g b place i) (created g' b' place i)
   unfolding created
   created_refines place i =
       bind_refines (member_refines i) (λ x r _. go x r (next r))
       (λ x r. created_by_shrinks g' h.takes place x (next r) r)
     where
-      go : (x : Expression) (r : Tokens) (κ : Symbol) → Refines C (created_by g b place x κ r) (created_by g' b' place x κ r)
+      go : (x : Expression) (r : Tokens) (κ : Symbol)
+          → Refines C (created_by g b place x κ r) (created_by g' b' place x κ r)
       go x r k.OpenParenthesis = value_refines _ (arguments_refines r)
       go x r _ = same refl
 
@@ -249,11 +271,13 @@ module _ {C : Lenient} {g g' : Rules} {b b' : Below} (h : RefinesBelow C g g' b 
       bind_refines (left_hand_refines i) (λ x r _. go x r (postfix_of (head r)))
       (λ x r. postfix_by_shrinks g' h.takes x (head r) (postfix_of (head r)) r)
     where
-      behind_by : (x : Expression) (r : Tokens) (o : UpdateOperator) (c : Bool) → Refines C (updated_behind g b x (head r) o c r) (updated_behind g' b' x (head r) o c r)
+      behind_by : (x : Expression) (r : Tokens) (o : UpdateOperator) (c : Bool)
+          → Refines C (updated_behind g b x (head r) o c r) (updated_behind g' b' x (head r) o c r)
       behind_by x r o false = same refl
       behind_by x r o true = same refl
 
-      go : (x : Expression) (r : Tokens) (o : Option UpdateOperator) → Refines C (postfix_by g b x (head r) o r) (postfix_by g' b' x (head r) o r)
+      go : (x : Expression) (r : Tokens) (o : Option UpdateOperator)
+          → Refines C (postfix_by g b x (head r) o r) (postfix_by g' b' x (head r) o r)
       go x r None = same refl
       go x r (Some o) = behind_by x r o (is_reference x)
 
@@ -261,7 +285,8 @@ module _ {C : Lenient} {g g' : Rules} {b b' : Below} (h : RefinesBelow C g g' b 
   unfolding unary
   unary_refines i = go (unary_operator (next i)) (prefix_update (next i))
     where
-      go : (o : Option UnaryOperator) (update : Option UpdateOperator) → Refines C (unary_by g b (head i) o update i) (unary_by g' b' (head i) o update i)
+      go : (o : Option UnaryOperator) (update : Option UpdateOperator)
+          → Refines C (unary_by g b (head i) o update i) (unary_by g' b' (head i) o update i)
       go (Some o) update =
           bind_refines (enters i) (λ t r e. value_refines _ (lower i e part.Unary r))
           (λ t r. value_leaves _ (h.takes.expression part.Unary r))
@@ -271,16 +296,24 @@ module _ {C : Lenient} {g g' : Rules} {b b' : Below} (h : RefinesBelow C g g' b 
           (λ t r. value_leaves _ (h.takes.expression (part.Updated (head i).place) r))
       go None None = postfix_refines i
 
-  pub operand_close_refines : (place : Place) (x : Expression) (i : Tokens) → Refines C (operand_close g b place x i) (operand_close g' b' place x i)
+  pub operand_close_refines : (place : Place) (x : Expression) (i : Tokens)
+      → Refines C (operand_close g b place x i) (operand_close g' b' place x i)
   unfolding operand_close
   operand_close_refines place x i = go (is_reference x) (postfix_of (head i))
     where
-      go : (c : Bool) (o : Option UpdateOperator) → Refines C (operand_by g b place x (head i) c o i) (operand_by g' b' place x (head i) c o i)
-      go false o = unless_refines g g' (Operand place) i (h.asks (Operand place) i) (λ _. same refl) (le_refl (length i))
+      go : (c : Bool) (o : Option UpdateOperator)
+          → Refines C (operand_by g b place x (head i) c o i)
+          (operand_by g' b' place x (head i) c o i)
+      go false o =
+          unless_refines g g' (Operand place) i (h.asks (Operand place) i) (λ _. same refl)
+          (le_refl (length i))
       go true None = same refl
-      go true (Some o) = unless_refines g g' (Broken place) i (h.asks (Broken place) i) (λ _. same refl) (behind_shrinks i)
+      go true (Some o) =
+          unless_refines g g' (Broken place) i (h.asks (Broken place) i) (λ _. same refl)
+          (behind_shrinks i)
 
-  pub updated_refines : (place : Place) (i : Tokens) → Refines C (updated g b place i) (updated g' b' place i)
+  pub updated_refines : (place : Place) (i : Tokens)
+      → Refines C (updated g b place i) (updated g' b' place i)
   unfolding updated
   updated_refines place i = go (is_prefix (next i))
     where
@@ -292,12 +325,14 @@ module _ {C : Lenient} {g g' : Rules} {b b' : Below} (h : RefinesBelow C g g' b 
           bind_refines (left_hand_refines i) (λ x r _. operand_close_refines place x r)
           (λ x r. operand_close_shrinks g' h.takes place x r)
 
-  pub operation_refines : (no_in : Bool) (l : ℕ) (one one' : Parser Expression) → ((i : Tokens) → Refines C (one i) (one' i))
+  pub operation_refines : (no_in : Bool) (l : ℕ) (one one' : Parser Expression)
+      → ((i : Tokens) → Refines C (one i) (one' i))
       → (i : Tokens) → Refines C (operation g b no_in l one i) (operation g' b' no_in l one' i)
   unfolding operation
   operation_refines no_in l one one' below i = go (binary_operator no_in l (next i))
     where
-      go : (o : Option BinaryOperator) → Refines C (operation_by g b one (head i) o i) (operation_by g' b' one' (head i) o i)
+      go : (o : Option BinaryOperator) → Refines C (operation_by g b one (head i) o i)
+          (operation_by g' b' one' (head i) o i)
       go None = same refl
       go (Some o) = value_refines _ (below (behind i))
 
@@ -311,22 +346,29 @@ module _ {C : Lenient} {g g' : Rules} {b b' : Below} (h : RefinesBelow C g g' b 
       (λ found. is_none (binary_operator no_in l found)) r))
       (λ x r. value_leaves _ (until_shrinks (operation_takes g' h.takes no_in l within) _ r))
 
-  pub binary_refines : (no_in : Bool) (l : ℕ) (i : Tokens) → Refines C (binary g b no_in l i) (binary g' b' no_in l i)
+  pub binary_refines : (no_in : Bool) (l : ℕ) (i : Tokens)
+      → Refines C (binary g b no_in l i) (binary g' b' no_in l i)
   unfolding binary
   binary_refines no_in zero = unary_refines
   binary_refines no_in (suc l) =
       level_refines no_in (suc l) (binary g b no_in l) (binary g' b' no_in l)
       (binary_refines no_in l) (binary_takes g' h.takes no_in l)
 
-  pub conditional_refines : (no_in : Bool) (i : Tokens) → Refines C (conditional g b no_in i) (conditional g' b' no_in i)
+  pub conditional_refines : (no_in : Bool) (i : Tokens)
+      → Refines C (conditional g b no_in i) (conditional g' b' no_in i)
   unfolding conditional
   conditional_refines no_in i =
       bind_refines (binary_refines no_in levels i) (λ x r _. go x r (next r))
       (λ x r. conditional_by_shrinks g' h.takes no_in (head i).place x (next r) r)
     where
-      go : (x : Expression) (r : Tokens) (κ : Symbol) → Refines C (conditional_by g b no_in (head i).place x κ r) (conditional_by g' b' no_in (head i).place x κ r)
-      go x r k.Question = bind_refines (enters r) (λ t s e. bind_refines (lower r e (part.Assignment no_in) s) (λ y l _.
-          then_refines (expect k.Colon l) (λ u m _. value_refines _ (lower r e (part.Assignment no_in) m)))
+      go : (x : Expression) (r : Tokens) (κ : Symbol)
+          → Refines C (conditional_by g b no_in (head i).place x κ r)
+          (conditional_by g' b' no_in (head i).place x κ r)
+      go x r k.Question =
+          bind_refines (enters r) (λ t s e. bind_refines (lower r e (part.Assignment no_in) s)
+          (λ y l _.
+          then_refines (expect k.Colon l) (λ u m _.
+          value_refines _ (lower r e (part.Assignment no_in) m)))
           (λ y l. bind_leaves (expect_shrinks k.Colon l)
           (λ u m. value_leaves _ (h.takes.expression (part.Assignment no_in) m))))
           (λ t s. bind_leaves (h.takes.expression (part.Assignment no_in) s) (λ y l.
@@ -334,29 +376,36 @@ module _ {C : Lenient} {g g' : Rules} {b b' : Below} (h : RefinesBelow C g g' b 
           (λ u m. value_leaves _ (h.takes.expression (part.Assignment no_in) m))))
       go x r _ = same refl
 
-  pub assignment_refines : (no_in : Bool) (i : Tokens) → Refines C (assignment g b no_in i) (assignment g' b' no_in i)
+  pub assignment_refines : (no_in : Bool) (i : Tokens)
+      → Refines C (assignment g b no_in i) (assignment g' b' no_in i)
   unfolding assignment
-  assignment_refines no_in i = bind_refines (conditional_refines no_in i) (λ x r _. go x r (assignment_operator (next r)))
+  assignment_refines no_in i =
+      bind_refines (conditional_refines no_in i) (λ x r _. go x r (assignment_operator (next r)))
       (λ x r. assignment_by_shrinks g' h.takes no_in x (head r) (assignment_operator (next r)) r)
     where
-      behind_by : (x : Expression) (r : Tokens) (o : Option BinaryOperator) (c : Bool) → Refines C (assigned g b no_in x (head r) o c r) (assigned g' b' no_in x (head r) o c r)
+      behind_by : (x : Expression) (r : Tokens) (o : Option BinaryOperator) (c : Bool)
+          → Refines C (assigned g b no_in x (head r) o c r) (assigned g' b' no_in x (head r) o c r)
       behind_by x r o false = same refl
       behind_by x r o true =
           bind_refines (enters r) (λ t s e. value_refines _ (lower r e (part.Assignment no_in) s))
           (λ t s. value_leaves _ (h.takes.expression (part.Assignment no_in) s))
 
-      go : (x : Expression) (r : Tokens) (o : Option (Option BinaryOperator)) → Refines C (assignment_by g b no_in x (head r) o r) (assignment_by g' b' no_in x (head r) o r)
+      go : (x : Expression) (r : Tokens) (o : Option (Option BinaryOperator))
+          → Refines C (assignment_by g b no_in x (head r) o r)
+          (assignment_by g' b' no_in x (head r) o r)
       go x r None = same refl
       go x r (Some o) = behind_by x r o (is_reference x)
 
-  pub whole_refines : (no_in : Bool) (i : Tokens) → Refines C (whole g b no_in i) (whole g' b' no_in i)
+  pub whole_refines : (no_in : Bool) (i : Tokens)
+      → Refines C (whole g b no_in i) (whole g' b' no_in i)
   unfolding whole
   whole_refines no_in i =
       value_refines _ (separated_refines (assignment g b no_in) (assignment g' b' no_in)
       (assignment_refines no_in) (assignment_takes g' h.takes no_in) i)
 
   -- each part
-  pub expression_part_refines : (p : ExpressionPart) (i : Tokens) → Refines C (expression_part g b p i) (expression_part g' b' p i)
+  pub expression_part_refines : (p : ExpressionPart) (i : Tokens)
+      → Refines C (expression_part g b p i) (expression_part g' b' p i)
   unfolding expression_part
   expression_part_refines (part.Whole no_in) = whole_refines no_in
   expression_part_refines (part.Assignment no_in) = assignment_refines no_in

@@ -18,8 +18,11 @@ refusal_of (Done xs r) = None
 refusal_of (Refused why r) = Some (fault_at why (head r))
 
 -- the only refusal of a text is the one that reading it comes to
-only : (text : List ℕ) (fault other : ParseFault) → refusal_of (program strict max_levels (tokens text)) ≡ Some fault → fault ≢ other → IsRefused (tokens text) other → ⊥
-only text fault other reads unlike h = let s = refused_so text other h in unlike (same (sym reads ∙ ap refusal_of s.2) ∙ sym s.3)
+only : (text : List ℕ) (fault other : ParseFault)
+    → refusal_of (program strict max_levels (tokens text)) ≡ Some fault → fault ≢ other
+    → IsRefused (tokens text) other → ⊥
+only text fault other reads unlike h = let s = refused_so text other h in
+    unlike (same (sym reads ∙ ap refusal_of s.2) ∙ sym s.3)
   where
     same : {f g : ParseFault} → Some f ≡ Some g → f ≡ g
     same {f} e = ap (λ (o : Option ParseFault). by o) e
@@ -29,12 +32,16 @@ only text fault other reads unlike h = let s = refused_so text other h in unlike
         by (Some x) = x
 
 -- and it is one
-so : (text : List ℕ) (fault : ParseFault) → refusal_of (program strict max_levels (tokens text)) ≡ Some fault → IsRefused (tokens text) fault
+so : (text : List ℕ) (fault : ParseFault)
+    → refusal_of (program strict max_levels (tokens text)) ≡ Some fault
+    → IsRefused (tokens text) fault
 so text fault reads = go (program strict max_levels (tokens text)) refl reads
   where
-    go : (o : Outcome (List Statement)) → program strict max_levels (tokens text) ≡ o → refusal_of o ≡ Some fault → IsRefused (tokens text) fault
+    go : (o : Outcome (List Statement)) → program strict max_levels (tokens text) ≡ o
+        → refusal_of o ≡ Some fault → IsRefused (tokens text) fault
     go (Done xs r) e h = absurd (cc h)
-    go (Refused why r) e h = let same : fault_at why (head r) ≡ fault = cc in subst (λ f. IsRefused (tokens text) f) same (refused_by text why r e)
+    go (Refused why r) e h = let same : fault_at why (head r) ≡ fault = cc in
+        subst (λ f. IsRefused (tokens text) f) same (refused_by text why r e)
 
 abbrev at : ℕ → Place
 at column = record { line = 1; column = column }
@@ -119,22 +126,31 @@ deeper_is = so (replicate 201 40 ++ codes ")") (Depth (at 201)) deeper
 -- ---- and with nothing else
 
 pub no_regular_expression : IsRefused (tokens (codes "var a /b/")) (Scope scope.RegExp (at 7)) → ⊥
-no_regular_expression = only (codes "var a /b/") (Syntax (at 7)) (Scope scope.RegExp (at 7)) division (λ e. cc e)
+no_regular_expression =
+    only (codes "var a /b/") (Syntax (at 7)) (Scope scope.RegExp (at 7)) division (λ e. cc e)
 
 pub no_declaration : IsRefused (tokens (codes "a arguments")) (Scope scope.ArgumentsName (at 3)) → ⊥
-no_declaration = only (codes "a arguments") (Syntax (at 3)) (Scope scope.ArgumentsName (at 3)) lookup (λ e. cc e)
+no_declaration =
+    only (codes "a arguments") (Syntax (at 3)) (Scope scope.ArgumentsName (at 3)) lookup (λ e. cc e)
 
 pub operator_first : IsRefused (tokens (codes "++ 1 eval")) (Scope scope.Eval (at 6)) → ⊥
-operator_first = only (codes "++ 1 eval") (Syntax (at 1)) (Scope scope.Eval (at 6)) operand (λ e. cc e)
+operator_first =
+    only (codes "++ 1 eval") (Syntax (at 1)) (Scope scope.Eval (at 6)) operand (λ e. cc e)
 
 pub no_label : IsRefused (tokens (codes "(a:b)")) (Syntax (at 2)) → ⊥
-no_label = only (codes "(a:b)") (Syntax (at 3)) (Syntax (at 2)) name (λ e. let n = ap column e in omega (arith, n))
+no_label =
+    only (codes "(a:b)") (Syntax (at 3)) (Syntax (at 2)) name
+    (λ e. let n = ap column e in omega (arith, n))
 
 pub no_jump : IsRefused (tokens (codes "for(;;){break 1}")) (Syntax (at 9)) → ⊥
-no_jump = only (codes "for(;;){break 1}") (Syntax (at 15)) (Syntax (at 9)) jump (λ e. let n = ap column e in omega (arith, n))
+no_jump =
+    only (codes "for(;;){break 1}") (Syntax (at 15)) (Syntax (at 9)) jump
+    (λ e. let n = ap column e in omega (arith, n))
 
 pub first_too_deep : (n : ℕ) → n ≢ 201 → IsRefused (tokens (replicate 300 40)) (Depth (at n)) → ⊥
-first_too_deep n other = only (replicate 300 40) (Depth (at 201)) (Depth (at n)) deep (λ e. other (sym (ap column e)))
+first_too_deep n other =
+    only (replicate 300 40) (Depth (at 201)) (Depth (at n)) deep (λ e. other (sym (ap column e)))
 
 pub deep_before_wrong : IsRefused (tokens (replicate 201 40 ++ codes ")")) (Syntax (at 202)) → ⊥
-deep_before_wrong = only (replicate 201 40 ++ codes ")") (Depth (at 201)) (Syntax (at 202)) deeper (λ e. cc e)
+deep_before_wrong =
+    only (replicate 201 40 ++ codes ")") (Depth (at 201)) (Syntax (at 202)) deeper (λ e. cc e)

@@ -19,11 +19,25 @@ use Rattle.ja_grammar.proofs.Real.{IsRealAfter}
 
 -- the token of this kind that a text of these characters begins with
 abbrev pub token : TokenKind → List ℕ → Token
-token kind text = record { kind = kind; start = 0; end = length text; line_before = false; place = record { line = 1; column = 1 } }
+token kind text =
+    record {
+      kind = kind;
+      start = 0;
+      end = length text;
+      line_before = false;
+      place = record { line = 1; column = 1 };
+    }
 
 -- the end of a text of so many characters, all of one line
 abbrev pub end_behind : ℕ → Token
-end_behind n = record { kind = End; start = n; end = n; line_before = false; place = record { line = 1; column = 1 + n } }
+end_behind n =
+    record {
+      kind = End;
+      start = n;
+      end = n;
+      line_before = false;
+      place = record { line = 1; column = 1 + n };
+    }
 
 -- the text of these characters is the token alone
 abbrev pub Gives : List ℕ → Token → Type 0
@@ -43,7 +57,8 @@ unfolding name
 name_is = symbols.name_is
 
 pub name_real : {U : Tokens} → IsRealAfter U name
-unfolding name tokens tokens_after chars first_element is_white is_terminator begins_comment begins_number begins_word is_part is_escape is_hexadecimal word after past ends_line
+unfolding name tokens tokens_after chars first_element is_white is_terminator begins_comment
+    begins_number begins_word is_part is_escape is_hexadecimal word after past ends_line
 name_real = given_real (codes "x") name refl
 
 pub name_is_free : is_arguments name.kind ≡ false
@@ -72,7 +87,9 @@ unfolding open_parenthesis
 open_parenthesis_is = symbols.open_parenthesis_is
 
 pub open_parenthesis_real : {U : Tokens} → IsRealAfter U open_parenthesis
-unfolding open_parenthesis tokens tokens_after chars first_element is_white is_terminator begins_comment begins_number begins_word is_part is_escape is_hexadecimal begins_string mark marks begins_with after past ends_line
+unfolding open_parenthesis tokens tokens_after chars first_element is_white is_terminator
+    begins_comment begins_number begins_word is_part is_escape is_hexadecimal begins_string mark
+    marks begins_with after past ends_line
 open_parenthesis_real = given_real (codes "(") open_parenthesis refl
 
 pub close_parenthesis : Token
@@ -83,7 +100,9 @@ unfolding close_parenthesis
 close_parenthesis_is = symbols.close_parenthesis_is
 
 pub close_parenthesis_real : {U : Tokens} → IsRealAfter U close_parenthesis
-unfolding close_parenthesis tokens tokens_after chars first_element is_white is_terminator begins_comment begins_number begins_word is_part is_escape is_hexadecimal begins_string mark marks begins_with after past ends_line
+unfolding close_parenthesis tokens tokens_after chars first_element is_white is_terminator
+    begins_comment begins_number begins_word is_part is_escape is_hexadecimal begins_string mark
+    marks begins_with after past ends_line
 close_parenthesis_real = given_real (codes ")") close_parenthesis refl
 
 pub open_brace : Token
@@ -94,7 +113,9 @@ unfolding open_brace
 open_brace_is = symbols.open_brace_is
 
 pub open_brace_real : {U : Tokens} → IsRealAfter U open_brace
-unfolding open_brace tokens tokens_after chars first_element is_white is_terminator begins_comment begins_number begins_word is_part is_escape is_hexadecimal begins_string mark marks begins_with after past ends_line
+unfolding open_brace tokens tokens_after chars first_element is_white is_terminator begins_comment
+    begins_number begins_word is_part is_escape is_hexadecimal begins_string mark marks begins_with
+    after past ends_line
 open_brace_real = given_real (codes "{") open_brace refl
 
 pub close_brace : Token
@@ -105,7 +126,9 @@ unfolding close_brace
 close_brace_is = symbols.close_brace_is
 
 pub close_brace_real : {U : Tokens} → IsRealAfter U close_brace
-unfolding close_brace tokens tokens_after chars first_element is_white is_terminator begins_comment begins_number begins_word is_part is_escape is_hexadecimal begins_string mark marks begins_with after past ends_line
+unfolding close_brace tokens tokens_after chars first_element is_white is_terminator begins_comment
+    begins_number begins_word is_part is_escape is_hexadecimal begins_string mark marks begins_with
+    after past ends_line
 close_brace_real = given_real (codes "}") close_brace refl
 
 pub close_bracket : Token
@@ -116,7 +139,9 @@ unfolding close_bracket
 close_bracket_is = symbols.close_bracket_is
 
 pub close_bracket_real : {U : Tokens} → IsRealAfter U close_bracket
-unfolding close_bracket tokens tokens_after chars first_element is_white is_terminator begins_comment begins_number begins_word is_part is_escape is_hexadecimal begins_string mark marks begins_with after past ends_line
+unfolding close_bracket tokens tokens_after chars first_element is_white is_terminator
+    begins_comment begins_number begins_word is_part is_escape is_hexadecimal begins_string mark
+    marks begins_with after past ends_line
 close_bracket_real = given_real (codes "]") close_bracket refl
 
 pub dot : Token
@@ -127,7 +152,9 @@ unfolding dot
 dot_is = symbols.dot_is
 
 pub dot_real : {U : Tokens} → IsRealAfter U dot
-unfolding dot tokens tokens_after chars first_element is_white is_terminator begins_comment begins_number begins_word is_part is_escape is_hexadecimal begins_string mark marks begins_with after past ends_line
+unfolding dot tokens tokens_after chars first_element is_white is_terminator begins_comment
+    begins_number begins_word is_part is_escape is_hexadecimal begins_string mark marks begins_with
+    after past ends_line
 dot_real = given_real (codes ".") dot refl
 
 pub comma : Token
@@ -145,7 +172,9 @@ unfolding colon
 colon_is = symbols.colon_is
 
 pub colon_real : {U : Tokens} → IsRealAfter U colon
-unfolding colon tokens tokens_after chars first_element is_white is_terminator begins_comment begins_number begins_word is_part is_escape is_hexadecimal begins_string mark marks begins_with after past ends_line
+unfolding colon tokens tokens_after chars first_element is_white is_terminator begins_comment
+    begins_number begins_word is_part is_escape is_hexadecimal begins_string mark marks begins_with
+    after past ends_line
 colon_real = given_real (codes ":") colon refl
 
 pub semicolon : Token
@@ -156,7 +185,9 @@ unfolding semicolon
 semicolon_is = symbols.semicolon_is
 
 pub semicolon_real : {U : Tokens} → IsRealAfter U semicolon
-unfolding semicolon tokens tokens_after chars first_element is_white is_terminator begins_comment begins_number begins_word is_part is_escape is_hexadecimal begins_string mark marks begins_with after past ends_line
+unfolding semicolon tokens tokens_after chars first_element is_white is_terminator begins_comment
+    begins_number begins_word is_part is_escape is_hexadecimal begins_string mark marks begins_with
+    after past ends_line
 semicolon_real = given_real (codes ";") semicolon refl
 
 -- ---- words of statements
@@ -169,7 +200,8 @@ unfolding while_word
 while_word_is = symbols.while_word_is
 
 pub while_word_real : {U : Tokens} → IsRealAfter U while_word
-unfolding while_word tokens tokens_after chars first_element is_white is_terminator begins_comment begins_number begins_word is_part is_escape is_hexadecimal word after past ends_line
+unfolding while_word tokens tokens_after chars first_element is_white is_terminator begins_comment
+    begins_number begins_word is_part is_escape is_hexadecimal word after past ends_line
 while_word_real = given_real (codes "while") while_word refl
 
 pub finally_word : Token
@@ -180,5 +212,6 @@ unfolding finally_word
 finally_word_is = symbols.finally_word_is
 
 pub finally_word_real : {U : Tokens} → IsRealAfter U finally_word
-unfolding finally_word tokens tokens_after chars first_element is_white is_terminator begins_comment begins_number begins_word is_part is_escape is_hexadecimal word after past ends_line
+unfolding finally_word tokens tokens_after chars first_element is_white is_terminator begins_comment
+    begins_number begins_word is_part is_escape is_hexadecimal word after past ends_line
 finally_word_real = given_real (codes "finally") finally_word refl

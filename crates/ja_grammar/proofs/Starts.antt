@@ -26,8 +26,10 @@ ends_list _ = false
 
 -- the statements and the assignment expressions one level below begin with none of them
 pub record BelowStarts (b : Below) : Type 0 where
-  pub expression : (no_in : Bool) (i : Tokens) (x : Expression) (r : Tokens) → b.expression (of_expression.Assignment no_in) i ≡ Done x r → ends_list (next i) ≡ false
-  pub statement : (c : Context) (labels : ℕ) (outermost : Bool) (i : Tokens) (x : Statement) (r : Tokens) → b.statement c (part.Whole labels outermost) i ≡ Done x r
+  pub expression : (no_in : Bool) (i : Tokens) (x : Expression) (r : Tokens)
+      → b.expression (of_expression.Assignment no_in) i ≡ Done x r → ends_list (next i) ≡ false
+  pub statement : (c : Context) (labels : ℕ) (outermost : Bool) (i : Tokens) (x : Statement)
+      (r : Tokens) → b.statement c (part.Whole labels outermost) i ≡ Done x r
       → ends_list (next i) ≡ false
 
 -- ---- the ends of the lists
@@ -61,8 +63,10 @@ no_clause_end _ h = refl
 record RefusesAt {A : Type 0} (p : Parser A) (i : Tokens) : Type 0 where
   refuses : (a : A) (r : Tokens) → p i ≡ Done a r → ⊥
 
-bind_refuses : {A B : Type 0} {p : Parser A} (f : A → Parser B) (i : Tokens) → RefusesAt p i → RefusesAt (p >>= f) i
-bind_refuses {p = p} f i h = record { refuses = λ v r e. let s = bind_inverse p f i e in h.refuses s.0 s.1 s.2 }
+bind_refuses : {A B : Type 0} {p : Parser A} (f : A → Parser B) (i : Tokens) → RefusesAt p i
+    → RefusesAt (p >>= f) i
+bind_refuses {p = p} f i h =
+    record { refuses = λ v r e. let s = bind_inverse p f i e in h.refuses s.0 s.1 s.2 }
 
 no_literal : (κ : Symbol) (t : Token) → ends_list κ ≡ true → literal_by κ t ≡ None
 no_literal k.CloseBrace t h = refl
@@ -90,13 +94,18 @@ no_prefix_update _ h = cc h
 module _ (g : Rules) (b : Below) (i : Tokens) (ends : ends_list (next i) ≡ true) where
   literal_refuses : RefusesAt (literal g b) i
   unfolding literal literal_of
-  literal_refuses = record { refuses = λ a r e. refused_not_done (ap (λ o. read.literal_by g b (head i) o i) (sym (no_literal (next i) (head i) ends)) ∙ e) }
+  literal_refuses =
+      record {
+        refuses = λ a r e. refused_not_done
+            (ap (λ o. read.literal_by g b (head i) o i) (sym (no_literal (next i) (head i) ends)) ∙ e);
+      }
 
   primary_refuses : RefusesAt (primary g b) i
   unfolding primary
   primary_refuses = record { refuses = go (next i) ends }
     where
-      go : (κ : Symbol) → ends_list κ ≡ true → (a : _) (r : Tokens) → primary_by g b (head i) κ i ≡ Done a r → ⊥
+      go : (κ : Symbol) → ends_list κ ≡ true → (a : _) (r : Tokens)
+          → primary_by g b (head i) κ i ≡ Done a r → ⊥
       go k.CloseBrace h = literal_refuses.refuses
       go k.Case h = literal_refuses.refuses
       go k.Default h = literal_refuses.refuses
@@ -107,7 +116,8 @@ module _ (g : Rules) (b : Below) (i : Tokens) (ends : ends_list (next i) ≡ tru
   unfolding chain_head
   head_refuses = record { refuses = go (next i) ends }
     where
-      go : (κ : Symbol) → ends_list κ ≡ true → (a : _) (r : Tokens) → head_by g b (head i) κ i ≡ Done a r → ⊥
+      go : (κ : Symbol) → ends_list κ ≡ true → (a : _) (r : Tokens)
+          → head_by g b (head i) κ i ≡ Done a r → ⊥
       go k.CloseBrace h = primary_refuses.refuses
       go k.Case h = primary_refuses.refuses
       go k.Default h = primary_refuses.refuses
@@ -126,17 +136,21 @@ module _ (g : Rules) (b : Below) (i : Tokens) (ends : ends_list (next i) ≡ tru
   unfolding unary
   unary_refuses = record {
     refuses = λ a r e. postfix_refuses.refuses a r
-        (ap (λ o. unary_by g b (head i) None o i) (sym (no_prefix_update (next i) ends)) ∙ ap (λ o. unary_by g b (head i) o (prefix_update (next i)) i) (sym (no_unary_operator (next i) ends)) ∙ e);
+        (ap (λ o. unary_by g b (head i) None o i) (sym (no_prefix_update (next i) ends))
+        ∙ ap (λ o. unary_by g b (head i) o (prefix_update (next i)) i)
+        (sym (no_unary_operator (next i) ends)) ∙ e);
   }
 
   binary_refuses : (no_in : Bool) (l : ℕ) → RefusesAt (binary g b no_in l) i
   unfolding binary level
   binary_refuses no_in zero = unary_refuses
-  binary_refuses no_in (suc l) = record { refuses = (bind_refuses _ i (binary_refuses no_in l)).refuses }
+  binary_refuses no_in (suc l) =
+      record { refuses = (bind_refuses _ i (binary_refuses no_in l)).refuses }
 
   conditional_refuses : (no_in : Bool) → RefusesAt (conditional g b no_in) i
   unfolding conditional
-  conditional_refuses no_in = record { refuses = (bind_refuses _ i (binary_refuses no_in levels)).refuses }
+  conditional_refuses no_in =
+      record { refuses = (bind_refuses _ i (binary_refuses no_in levels)).refuses }
 
   assignment_refuses : (no_in : Bool) → RefusesAt (assignment g b no_in) i
   unfolding assignment
@@ -144,13 +158,15 @@ module _ (g : Rules) (b : Below) (i : Tokens) (ends : ends_list (next i) ≡ tru
 
   whole_refuses : (no_in : Bool) → RefusesAt (whole g b no_in) i
   unfolding whole separated
-  whole_refuses no_in = record { refuses = (bind_refuses _ i (bind_refuses _ i (assignment_refuses no_in))).refuses }
+  whole_refuses no_in =
+      record { refuses = (bind_refuses _ i (bind_refuses _ i (assignment_refuses no_in))).refuses }
 
   statement_refuses : RefusesAt (expression_statement g b) i
   unfolding expression_statement
   statement_refuses = record { refuses = (bind_refuses _ i (whole_refuses false)).refuses }
 
-pub assignment_starts : (g : Rules) (b : Below) (no_in : Bool) (i : Tokens) (x : Expression) (r : Tokens) → assignment g b no_in i ≡ Done x r → ends_list (next i) ≡ false
+pub assignment_starts : (g : Rules) (b : Below) (no_in : Bool) (i : Tokens) (x : Expression)
+    (r : Tokens) → assignment g b no_in i ≡ Done x r → ends_list (next i) ≡ false
 assignment_starts g b no_in i x r e = go (ends_list (next i)) refl
   where
     go : (c : Bool) → ends_list (next i) ≡ c → ends_list (next i) ≡ false
@@ -158,12 +174,14 @@ assignment_starts g b no_in i x r e = go (ends_list (next i)) refl
     go false h = h
 
 -- nor does a statement
-pub single_starts : (g : Rules) (b : Below) (c : Context) (labels : ℕ) (outermost : Bool) (i : Tokens) (x : Statement) (r : Tokens) → single g b c labels outermost i ≡ Done x r
+pub single_starts : (g : Rules) (b : Below) (c : Context) (labels : ℕ) (outermost : Bool)
+    (i : Tokens) (x : Statement) (r : Tokens) → single g b c labels outermost i ≡ Done x r
     → ends_list (next i) ≡ false
 unfolding single
 single_starts g b c labels outermost i x r e = go (next i) refl e
   where
-    go : (κ : Symbol) → next i ≡ κ → single_by g b c labels outermost (head i) κ i ≡ Done x r → ends_list (next i) ≡ false
+    go : (κ : Symbol) → next i ≡ κ → single_by g b c labels outermost (head i) κ i ≡ Done x r
+        → ends_list (next i) ≡ false
     go k.CloseBrace h e = absurd ((statement_refuses g b i (ap ends_list h)).refuses x r e)
     go k.Case h e = absurd ((statement_refuses g b i (ap ends_list h)).refuses x r e)
     go k.Default h e = absurd ((statement_refuses g b i (ap ends_list h)).refuses x r e)

@@ -11,7 +11,8 @@ use Rattle.ja_grammar.proofs.Agree.{Milder}
 
 -- ---- rules that are always asked
 
-pub strict_asks : (d : ℕ) (why : Refusal) (i : Tokens) → is_level why ≡ false → strict d why i ≡ true
+pub strict_asks : (d : ℕ) (why : Refusal) (i : Tokens) → is_level why ≡ false
+    → strict d why i ≡ true
 unfolding strict
 strict_asks d refusal.Unexpected i h = refl
 strict_asks d refusal.RegExp i h = refl
@@ -24,7 +25,8 @@ strict_asks d (refusal.Alone place) i h = refl
 strict_asks d (refusal.UnknownLabel place) i h = refl
 
 -- so nothing is read without one of them
-pub strict_never : (d : ℕ) (why : Refusal) (i : Tokens) → is_level why ≡ false → strict d why i ≡ false → ⊥
+pub strict_never : (d : ℕ) (why : Refusal) (i : Tokens) → is_level why ≡ false
+    → strict d why i ≡ false → ⊥
 strict_never d why i h off = let e : true ≡ false = sym (strict_asks d why i h) ∙ off in cc e
 
 -- ---- levels
@@ -45,7 +47,8 @@ room_strict zero i room = absurd (cc room)
 room_strict (suc d) i room = omega arith
 
 -- the same of a label
-pub strict_room_label : (d : ℕ) (place : Place) (i : Tokens) → 0 < d → strict d (refusal.DeepLabel place) i ≡ false
+pub strict_room_label : (d : ℕ) (place : Place) (i : Tokens) → 0 < d
+    → strict d (refusal.DeepLabel place) i ≡ false
 unfolding strict
 strict_room_label zero place i some = absurd (omega (arith, some))
 strict_room_label (suc d) place i some = eqb-suc-zero d
@@ -54,7 +57,8 @@ pub strict_full_label : (place : Place) (i : Tokens) → strict 0 (refusal.DeepL
 unfolding strict
 strict_full_label place i = refl
 
-pub room_strict_label : (d : ℕ) (place : Place) (i : Tokens) → strict d (refusal.DeepLabel place) i ≡ false → 0 < d
+pub room_strict_label : (d : ℕ) (place : Place) (i : Tokens)
+    → strict d (refusal.DeepLabel place) i ≡ false → 0 < d
 unfolding strict
 room_strict_label zero place i room = absurd (cc room)
 room_strict_label (suc d) place i room = omega arith
@@ -63,15 +67,18 @@ room_strict_label (suc d) place i room = omega arith
 pub strict_milder : (low d : ℕ) → low ≤ d → Milder (strict low) (strict d)
 strict_milder low d more why i off = go why off
   where
-    never : (why : Refusal) → is_level why ≡ false → strict low why i ≡ false → strict d why i ≡ false
+    never : (why : Refusal) → is_level why ≡ false → strict low why i ≡ false
+        → strict d why i ≡ false
     never why h off = absurd (strict_never low why i h off)
 
     go : (why : Refusal) → strict low why i ≡ false → strict d why i ≡ false
     go refusal.Unexpected off = never refusal.Unexpected refl off
     go refusal.RegExp off = never refusal.RegExp refl off
     go refusal.Arguments off = never refusal.Arguments refl off
-    go refusal.Deep off = let some = room_strict low i off in strict_room d i (omega (arith, more, some))
-    go (refusal.DeepLabel place) off = let some = room_strict_label low place i off in strict_room_label d place i (omega (arith, more, some))
+    go refusal.Deep off = let some = room_strict low i off in
+        strict_room d i (omega (arith, more, some))
+    go (refusal.DeepLabel place) off = let some = room_strict_label low place i off in
+        strict_room_label d place i (omega (arith, more, some))
     go (refusal.Broken place) off = never (refusal.Broken place) refl off
     go (refusal.Operand place) off = never (refusal.Operand place) refl off
     go (refusal.Alone place) off = never (refusal.Alone place) refl off

@@ -18,41 +18,63 @@ taken_reason J t = record {
 }
 
 -- a reason that needs no token holds behind one
-pub taken : {U : Tokens} {O : Refusal} {A : Type 0} {p q : Parser A} {F : Follow} {W : A → Type 0} {J : Reason O} (t : Token) (i : Tokens) → Closed J → GoodAt U J p q F W i → GoodAt U (taken_reason J t) p q F W i
-taken {J = J} t i closed good = weaken_good i (λ tail ends. ends) (λ a w. w) (λ why w r h. (closed why (t ∷ []) w r h, λ u on none. J.taken why u r (subst (λ x. J.right why x r) none h) on)) good
+pub taken : {U : Tokens} {O : Refusal} {A : Type 0} {p q : Parser A} {F : Follow} {W : A → Type 0}
+    {J : Reason O} (t : Token) (i : Tokens) → Closed J → GoodAt U J p q F W i
+    → GoodAt U (taken_reason J t) p q F W i
+taken {J = J} t i closed good =
+    weaken_good i (λ tail ends. ends) (λ a w. w)
+    (λ why w r h. (
+      closed why (t ∷ []) w r h,
+      λ u on none. J.taken why u r (subst (λ x. J.right why x r) none h) on,
+    )) good
 
 -- a token, and then what the reason speaks of it in
-pub taken_good : {U : Tokens} {O : Refusal} {B : Type 0} (f g : Token → Parser B) {F G : Follow} {W : B → Type 0} {J : Reason O} (i : Tokens) → next i ≢ End
-    → GoodAt U (taken_reason J (head i)) (f (head i)) (g (head i)) G W (behind i) → Sample U (g (head i)) F G W → GoodAt U J (take_token >>= f) (take_token >>= g) G W i
+pub taken_good : {U : Tokens} {O : Refusal} {B : Type 0} (f g : Token → Parser B) {F G : Follow}
+    {W : B → Type 0} {J : Reason O} (i : Tokens) → next i ≢ End
+    → GoodAt U (taken_reason J (head i)) (f (head i)) (g (head i)) G W (behind i)
+    → Sample U (g (head i)) F G W → GoodAt U J (take_token >>= f) (take_token >>= g) G W i
 taken_good {U} {O} f g {F} {G} {W} {J} i more good sample =
-    bind_good_by {f = f} {g = g} {F = F} {V = λ t. head i ≡ t} {K = J} {L = λ t. taken_reason J t} i (take_good J F (λ t. head i ≡ t) i more refl)
+    bind_good_by {f = f} {g = g} {F = F} {V = λ t. head i ≡ t} {K = J} {L = λ t. taken_reason J t} i
+    (take_good J F (λ t. head i ≡ t) i more refl)
     (λ t r e. inl (same_done (λ t r. GoodAt U (taken_reason J t) (f t) (g t) G W r) e good))
     (λ t same. subst (λ t. Sample U (g t) F G W) same sample)
     (λ why w r h. h)
     step
   where
-    step : (t : Token) (m : Tokens) (s : Stops U take_token take_token F (λ t. head i ≡ t) i t m) (why : Refusal) (v r : Tokens) → m ≡ v ++ r
+    step : (t : Token) (m : Tokens) (s : Stops U take_token take_token F (λ t. head i ≡ t) i t m)
+        (why : Refusal) (v r : Tokens) → m ≡ v ++ r
         → (taken_reason J t).right why v r → J.right why (s.before ++ v) r
     step t m s why v r e h =
-        subst (λ w. J.right why (w ++ v) r) (sym (split_one s.before (t ∷ []) m s.split (take_inverse i m more (ap take_token s.split ∙ s.local m refl)))) h.0
+        subst (λ w. J.right why (w ++ v) r) (sym
+        (split_one s.before (t ∷ []) m s.split
+        (take_inverse i m more (ap take_token s.split ∙ s.local m refl)))) h.0
 
 -- a token, and the rest, of which the reasons don't speak of it
-pub token_good : {U : Tokens} {O : Refusal} {B : Type 0} (f g : Token → Parser B) {F G : Follow} {W : B → Type 0} {J : Reason O} (i : Tokens) → Closed J → next i ≢ End
-    → GoodAt U J (f (head i)) (g (head i)) G W (behind i) → Sample U (g (head i)) F G W → GoodAt U J (take_token >>= f) (take_token >>= g) G W i
-token_good f g i closed more good sample = taken_good f g i more (taken (head i) (behind i) closed good) sample
+pub token_good : {U : Tokens} {O : Refusal} {B : Type 0} (f g : Token → Parser B) {F G : Follow}
+    {W : B → Type 0} {J : Reason O} (i : Tokens) → Closed J → next i ≢ End
+    → GoodAt U J (f (head i)) (g (head i)) G W (behind i) → Sample U (g (head i)) F G W
+    → GoodAt U J (take_token >>= f) (take_token >>= g) G W i
+token_good f g i closed more good sample =
+    taken_good f g i more (taken (head i) (behind i) closed good) sample
 
 -- a token, and a rule that refuses at once what is next, whatever that is
-pub token_closes : {U : Tokens} {O : Refusal} {B : Type 0} (f g : Token → Parser B) {F G : Follow} {W : B → Type 0} {J : Reason O} (i : Tokens) → Closed J → next i ≢ End → (why : Refusal) → is_level why ≡ false
+pub token_closes : {U : Tokens} {O : Refusal} {B : Type 0} (f g : Token → Parser B) {F G : Follow}
+    {W : B → Type 0} {J : Reason O} (i : Tokens) → Closed J → next i ≢ End → (why : Refusal)
+    → is_level why ≡ false
     → elsewhere why (head (behind i)) ≡ true
     → ((x : Tokens) → elsewhere why (head x) ≡ true → f (head i) x ≡ Refused why x)
-    → (is_same O why ≡ false → (x : Tokens) → elsewhere why (head x) ≡ true → g (head i) x ≡ Refused why x)
+    → (is_same O why ≡ false → (x : Tokens) → elsewhere why (head x) ≡ true
+    → g (head i) x ≡ Refused why x)
     → ((x : Tokens) → elsewhere why (head x) ≡ true → Instead why (behind i) x)
     → (is_same O why ≡ true → CompletesElsewhere U (g (head i)) G W why)
     → J.right why (head i ∷ []) (behind i)
     → Sample U (g (head i)) F G W → GoodAt U J (take_token >>= f) (take_token >>= g) G W i
-token_closes {U} {O} {B} f g {F} {G} {W} {J} i closed more why level next_is refuses refuses_more instead goes right sample =
-    bind_good_by {f = f} {g = g} {F = F} {V = λ t. head i ≡ t} {K = J} {L = λ t. J} i (take_good J F (λ t. head i ≡ t) i more refl)
-    (λ t r e. inr (same_done (λ t r. Closes U J take_token take_token f g F G (λ t. head i ≡ t) W i t r) e closes))
+token_closes {U} {O} {B} f g {F} {G} {W} {J} i closed more why level next_is refuses refuses_more
+    instead goes right sample =
+    bind_good_by {f = f} {g = g} {F = F} {V = λ t. head i ≡ t} {K = J} {L = λ t. J} i
+    (take_good J F (λ t. head i ≡ t) i more refl)
+    (λ t r e. inr (same_done (λ t r. Closes U J take_token take_token f g F G (λ t. head i ≡ t) W i
+    t r) e closes))
     (λ t same. subst (λ t. Sample U (g t) F G W) same sample)
     (λ why w r h. h)
     (λ t m s why v r e h. closed why s.before v r h)
@@ -62,10 +84,14 @@ token_closes {U} {O} {B} f g {F} {G} {W} {J} i closed more why level next_is ref
       why = why;
       level = level;
       next_is = next_is;
-      ahead = λ s x on. let e = ap (λ w. take_token (w ++ x)) (split_one s.before (head i ∷ []) (behind i) s.split (cons_of i more)) in (e, e);
+      ahead =
+          λ s x on. let e = ap (λ w. take_token (w ++ x))
+          (split_one s.before (head i ∷ []) (behind i) s.split (cons_of i more)) in (e, e);
       refuses = refuses;
       refuses_more = refuses_more;
       instead = instead;
       goes_on = goes;
-      right = λ w e. subst (λ v. J.right why v (behind i)) (split_one (head i ∷ []) w (behind i) (cons_of i more) e) right;
+      right =
+          λ w e. subst (λ v. J.right why v (behind i))
+          (split_one (head i ∷ []) w (behind i) (cons_of i more) e) right;
     }

@@ -8,7 +8,8 @@ pub record Label : Type 0 where
   pub name : List ℕ
   pub is_loop : Bool
 
--- what stands around a statement: a function; a loop; a loop or a `switch`; and the labels, the innermost first
+-- what stands around a statement: a function; a loop; a loop or a `switch`; and the labels, the
+-- innermost first
 pub record Context : Type 0 where
   pub in_function : Bool
   pub in_loop : Bool
@@ -30,16 +31,33 @@ marked (suc n) (l ∷ ls) = record { name = l.name; is_loop = true } ∷ marked 
 
 -- around the body of a loop that n labels stand directly before (its label set, 12.12)
 abbrev pub loop_context : Context → ℕ → Context
-loop_context c n = record { in_function = c.in_function; in_loop = true; in_breakable = true; labels = marked n c.labels }
+loop_context c n =
+    record {
+      in_function = c.in_function;
+      in_loop = true;
+      in_breakable = true;
+      labels = marked n c.labels;
+    }
 
 -- around the clauses of a `switch`
 abbrev pub switch_context : Context → Context
-switch_context c = record { in_function = c.in_function; in_loop = c.in_loop; in_breakable = true; labels = c.labels }
+switch_context c =
+    record {
+      in_function = c.in_function;
+      in_loop = c.in_loop;
+      in_breakable = true;
+      labels = c.labels;
+    }
 
 -- around a labelled statement
 abbrev pub labelled_context : Context → List ℕ → Context
 labelled_context c name =
-    record { in_function = c.in_function; in_loop = c.in_loop; in_breakable = c.in_breakable; labels = record { name = name; is_loop = false } ∷ c.labels }
+    record {
+      in_function = c.in_function;
+      in_loop = c.in_loop;
+      in_breakable = c.in_breakable;
+      labels = record { name = name; is_loop = false } ∷ c.labels;
+    }
 
 -- there is a label of this name
 unfoldable pub has_label : Context → List ℕ → Bool

@@ -13,7 +13,14 @@ Tokens = List Token
 
 -- what stands behind the last token
 abbrev pub end_token : Token
-end_token = record { kind = End; start = 0; end = 0; line_before = false; place = record { line = 0; column = 0 } }
+end_token =
+    record {
+      kind = End;
+      start = 0;
+      end = 0;
+      line_before = false;
+      place = record { line = 0; column = 0 };
+    }
 
 -- the next token
 abbrev pub head : Tokens → Token
@@ -133,7 +140,9 @@ after_comma item found true = take_token >> (item >>= (λ x. pure (Some (found +
 
 -- one or more items with commas between
 unfoldable pub separated : {A : Type 0} → Parser A → Parser (List A)
-separated item = item >>= (λ x. many (λ found. look (λ t. after_comma item found (same_symbol (symbol t) Comma))) (x ∷ []))
+separated item =
+    item >>= (λ x. many (λ found. look (λ t. after_comma item found (same_symbol (symbol t) Comma)))
+    (x ∷ []))
 
 abbrev pub listed_by : {A : Type 0} → Symbol → Parser A → Bool → Parser (List A)
 listed_by close item true = take_token >> pure []

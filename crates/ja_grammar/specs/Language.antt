@@ -39,9 +39,11 @@ is_level refusal.Deep = true
 is_level (refusal.DeepLabel place) = true
 is_level _ = false
 
--- The rules where so many levels are left, of which the last `spare` are for tokens alone that have at most `late` tokens from them on.
+-- The rules where so many levels are left, of which the last `spare` are for tokens alone that have
+-- at most `late` tokens from them on.
 unfoldable pub spared : ℕ → ℕ → ℕ → Rules
-spared late spare levels why i = strict levels why i || (is_level why && (nat_le levels spare && nat_lt late (length i)))
+spared late spare levels why i =
+    strict levels why i || (is_level why && (nat_le levels spare && nat_lt late (length i)))
 
 -- some text has this token
 abbrev pub IsReal : Token → Type 0
@@ -52,19 +54,22 @@ abbrev pub AreReal : Tokens → Type 0
 AreReal [] = Unit {0}
 AreReal (t ∷ i) = IsReal t × AreReal i
 
--- Some text goes on behind these tokens with the next token of the rest, or ends there as the rest does. What comes behind that token may stand
--- under more than 200 levels.
+-- Some text goes on behind these tokens with the next token of the rest, or ends there as the rest
+-- does. What comes behind that token may stand under more than 200 levels.
 pub record GoesOn (before rest : Tokens) : Type 0 where
   pub more : Tokens
   pub same : head more ≡ head rest
   pub spare : ℕ
   pub tree : List Statement
   pub end : Tokens
-  pub spelled : IsProgram (spared (length (behind more)) spare) (max_levels + spare) (before ++ more) tree end
+  pub spelled : IsProgram (spared (length (behind more)) spare) (max_levels + spare)
+      (before ++ more) tree end
 
--- The first token, or the end, with which no text goes on, whatever follows it; with each one before it a text goes on, by real tokens.
+-- The first token, or the end, with which no text goes on, whatever follows it; with each one
+-- before it a text goes on, by real tokens.
 pub record FirstRefused (before rest : Tokens) : Type 0 where
-  pub goes_on : (v : Tokens) (t : Token) (w : Tokens) → before ≡ v ++ t ∷ w → (g : GoesOn v (t ∷ w)) × AreReal (behind g.more)
+  pub goes_on : (v : Tokens) (t : Token) (w : Tokens) → before ≡ v ++ t ∷ w
+      → (g : GoesOn v (t ∷ w)) × AreReal (behind g.more)
   pub refused : GoesOn before rest → ⊥
 
 -- ---- the reason: the rule without which a text goes on
@@ -89,7 +94,8 @@ without left_out levels why i = not (is_same left_out why) && strict levels why 
 
 -- tokens are a text, of any number of levels, without the rule of a refusal
 abbrev pub IsTextWithout : Refusal → Tokens → Type 0
-IsTextWithout why i = (levels : ℕ) × (xs : List Statement) × (r : Tokens) × IsProgram (without why) levels i xs r
+IsTextWithout why i =
+    (levels : ℕ) × (xs : List Statement) × (r : Tokens) × IsProgram (without why) levels i xs r
 
 -- no text goes on so, whatever the levels
 abbrev pub IsForbidden : Tokens → Tokens → Type 0
@@ -109,32 +115,48 @@ Follows more rest = (head more ≡ head rest) × AreReal (behind more)
 
 -- the same next two tokens, and behind them real ones
 abbrev pub FollowsTwo : Tokens → Tokens → Type 0
-FollowsTwo more rest = (head more ≡ head rest) × (head (behind more) ≡ head (behind rest)) × AreReal (behind (behind more))
+FollowsTwo more rest =
+    (head more ≡ head rest) × (head (behind more) ≡ head (behind rest))
+    × AreReal (behind (behind more))
 
 -- A rule stands in the way: with the next token no text goes on, and without the rule one does.
 pub data Stands : Refusal → Tokens → Tokens → Type 0 where
   -- more levels would do; a label is too deep itself, and known by the `:` behind it
-  deep : {before rest : Tokens} (more : Tokens) → NotAt k.Colon rest → Follows more rest → IsText (before ++ more) → Stands refusal.Deep before rest
-  deep_label : {before rest : Tokens} {place : Place} (front : Tokens) (t : Token) (more : Tokens) → before ≡ front ++ t ∷ [] → t.place ≡ place → At k.Colon rest
+  deep : {before rest : Tokens} (more : Tokens) → NotAt k.Colon rest → Follows more rest
+      → IsText (before ++ more) → Stands refusal.Deep before rest
+  deep_label : {before rest : Tokens} {place : Place} (front : Tokens) (t : Token) (more : Tokens)
+      → before ≡ front ++ t ∷ [] → t.place ≡ place → At k.Colon rest
       → Follows more rest → IsText (before ++ more) → Stands (refusal.DeepLabel place) before rest
   -- if regular expressions were in the profile; if `arguments` could be declared
-  regexp : {before rest : Tokens} (more : Tokens) → IsForbidden before rest → Follows more rest → IsTextWithout refusal.RegExp (before ++ more)
+  regexp : {before rest : Tokens} (more : Tokens) → IsForbidden before rest → Follows more rest
+      → IsTextWithout refusal.RegExp (before ++ more)
       → Stands refusal.RegExp before rest
-  arguments : {before rest : Tokens} (more : Tokens) → IsForbidden before rest → Follows more rest → IsTextWithout refusal.Arguments (before ++ more)
+  arguments : {before rest : Tokens} (more : Tokens) → IsForbidden before rest → Follows more rest
+      → IsTextWithout refusal.Arguments (before ++ more)
       → Stands refusal.Arguments before rest
-  -- but for a rule of the word at the place: that the operand of `++` and `--` is a reference, that a label is not inside itself, that the
-  -- label of a `continue` is a loop's
-  broken : {before rest : Tokens} {place : Place} (more : Tokens) → IsForbidden before rest → Follows more rest
-      → IsTextWithout (refusal.Broken place) (before ++ more) → Stands (refusal.Broken place) before rest
-  -- the operand of the `++` or `--` at the place ends here: but for the rule on it, something that ends an operand could follow
-  operand : {before rest : Tokens} {place : Place} (more : Tokens) → NoSuffix rest → NoSuffix more → AreReal more → IsForbidden before more
-      → IsTextWithout (refusal.Operand place) (before ++ more) → Stands (refusal.Operand place) before rest
-  -- no label follows the `break` at the place: if there were something to leave, something that is no label could follow
-  alone : {before rest : Tokens} {place : Place} (more : Tokens) → NoLabel rest → NoLabel more → AreReal more → IsForbidden before more
-      → IsTextWithout (refusal.Alone place) (before ++ more) → Stands (refusal.Alone place) before rest
+  -- but for a rule of the word at the place: that the operand of `++` and `--` is a reference, that
+  -- a label is not inside itself, that the label of a `continue` is a loop's
+  broken : {before rest : Tokens} {place : Place} (more : Tokens) → IsForbidden before rest
+      → Follows more rest
+      → IsTextWithout (refusal.Broken place) (before ++ more)
+      → Stands (refusal.Broken place) before rest
+  -- the operand of the `++` or `--` at the place ends here: but for the rule on it, something that
+  -- ends an operand could follow
+  operand : {before rest : Tokens} {place : Place} (more : Tokens) → NoSuffix rest → NoSuffix more
+      → AreReal more → IsForbidden before more
+      → IsTextWithout (refusal.Operand place) (before ++ more)
+      → Stands (refusal.Operand place) before rest
+  -- no label follows the `break` at the place: if there were something to leave, something that is
+  -- no label could follow
+  alone : {before rest : Tokens} {place : Place} (more : Tokens) → NoLabel rest → NoLabel more
+      → AreReal more → IsForbidden before more
+      → IsTextWithout (refusal.Alone place) (before ++ more)
+      → Stands (refusal.Alone place) before rest
   -- a jump where there is nothing to leave, and behind it a label that is none around
-  unknown : {before rest : Tokens} {place : Place} (more : Tokens) → IsForbidden before rest → FollowsTwo more rest
-      → IsTextWithout (refusal.UnknownLabel place) (before ++ more) → Stands (refusal.UnknownLabel place) before rest
+  unknown : {before rest : Tokens} {place : Place} (more : Tokens) → IsForbidden before rest
+      → FollowsTwo more rest
+      → IsTextWithout (refusal.UnknownLabel place) (before ++ more)
+      → Stands (refusal.UnknownLabel place) before rest
 
 -- why the next token is refused: for one rule, or for none alone
 abbrev pub Because : Refusal → Tokens → Tokens → Type 0
@@ -143,12 +165,14 @@ Because why before rest = Stands why before rest
 
 -- ---- the kind and the place of a refusal
 
--- a token that leaves the profile by itself is refused with its kind of scope, and any other one is wrong
+-- a token that leaves the profile by itself is refused with its kind of scope, and any other one is
+-- wrong
 abbrev pub token_fault : Place → Option ScopeKind → ParseFault
 token_fault place (Some kind) = Scope kind place
 token_fault place None = Syntax place
 
--- What is answered to a refusal at the first token of the rest. A rule that is broken from an earlier word on comes before what the token is by itself.
+-- What is answered to a refusal at the first token of the rest. A rule that is broken from an
+-- earlier word on comes before what the token is by itself.
 abbrev pub fault_at : Refusal → Token → ParseFault
 fault_at refusal.Unexpected t = token_fault t.place (fault_of t.kind)
 fault_at refusal.RegExp t = Scope scope.RegExp t.place
@@ -160,7 +184,8 @@ fault_at (refusal.Operand place) t = Syntax place
 fault_at (refusal.Alone place) t = Syntax place
 fault_at (refusal.UnknownLabel place) t = Syntax place
 
--- Why tokens are refused: at the first of them, or the end, with which no text goes on, and by the rule that stands in the way.
+-- Why tokens are refused: at the first of them, or the end, with which no text goes on, and by the
+-- rule that stands in the way.
 pub record IsRefused (i : Tokens) (fault : ParseFault) : Type 0 where
   pub before : Tokens
   pub rest : Tokens

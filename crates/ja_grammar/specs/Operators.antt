@@ -72,7 +72,8 @@ is_in _ = false
 
 abbrev pub at_level : Bool → ℕ → Option BinaryOperator → Option BinaryOperator
 at_level no_in level None = None
-at_level no_in level (Some o) = if level_of o == level && not (no_in && is_in o) then Some o else None
+at_level no_in level (Some o) =
+    if level_of o == level && not (no_in && is_in o) then Some o else None
 
 -- The operator of a level that a symbol is. `no_in`: without the operator `in` (12.6).
 unfoldable pub binary_operator : Bool → ℕ → Symbol → Option BinaryOperator

@@ -1,4 +1,5 @@
--- The forms of which the productions of the grammar are made. A rule relates tokens, what they say, and the tokens that are left.
+-- The forms of which the productions of the grammar are made. A rule relates tokens, what they say,
+-- and the tokens that are left.
 use Rattle.std.specs.Prelude.{◌≡◌, ◌≢◌, false, List, [], ◌∷◌}
 use Rattle.ja_lex.specs.declared.token.Token.{Token}
 use Rattle.ja_syntax.specs.declared.symbol.Symbol.{Symbol}
@@ -26,9 +27,11 @@ abbrev pub HasRoom : Rules → Tokens → Type 0
 HasRoom g i = g Deep i ≡ false
 
 -- as many as there are: the tokens behind satisfy `Stop`
-pub data Many {X : Type 0} (One : Rule X) (Stop : Tokens → Type 0) : Tokens → List X → Tokens → Type 0 where
+pub data Many {X : Type 0} (One : Rule X) (Stop : Tokens → Type 0) : Tokens → List X → Tokens
+    → Type 0 where
   none : {r : Tokens} → Stop r → Many One Stop r [] r
-  more : {i m r : Tokens} {x : X} {xs : List X} → One i x m → Many One Stop m xs r → Many One Stop i (x ∷ xs) r
+  more : {i m r : Tokens} {x : X} {xs : List X} → One i x m → Many One Stop m xs r
+      → Many One Stop i (x ∷ xs) r
 
 -- a token and one behind it
 pub data Led {X : Type 0} (k : Symbol) (One : Rule X) : Tokens → X → Tokens → Type 0 where
@@ -36,9 +39,12 @@ pub data Led {X : Type 0} (k : Symbol) (One : Rule X) : Tokens → X → Tokens 
 
 -- one or more with commas between
 pub data Separated {X : Type 0} (One : Rule X) : Tokens → List X → Tokens → Type 0 where
-  separated : {i m r : Tokens} {x : X} {xs : List X} → One i x m → Many (Led Comma One) (NotAt Comma) m xs r → Separated One i (x ∷ xs) r
+  separated : {i m r : Tokens} {x : X} {xs : List X} → One i x m
+      → Many (Led Comma One) (NotAt Comma) m xs r → Separated One i (x ∷ xs) r
 
 -- any number with commas between, and a closing token
-pub data Listed {X : Type 0} (close : Symbol) (One : Rule X) : Tokens → List X → Tokens → Type 0 where
+pub data Listed {X : Type 0} (close : Symbol) (One : Rule X) : Tokens → List X → Tokens
+    → Type 0 where
   empty : {t : Token} {r : Tokens} → Is close t → Listed close One (t ∷ r) [] r
-  some : {t : Token} {i r : Tokens} {xs : List X} → NotAt close i → Separated One i xs (t ∷ r) → Is close t → Listed close One i xs r
+  some : {t : Token} {i r : Tokens} {xs : List X} → NotAt close i → Separated One i xs (t ∷ r)
+      → Is close t → Listed close One i xs r

@@ -1,4 +1,5 @@
--- How an expression is read, token by token: one function a rule of the grammar, by the rules that are asked.
+-- How an expression is read, token by token: one function a rule of the grammar, by the rules that
+-- are asked.
 use Rattle.std.specs.Prelude.{ℕ, zero, suc, Bool, true, false, not, is_none, List, [], Option, Some, None}
 use Rattle.ja_base.specs.declared.ids.Place.{Place}
 use Rattle.ja_prim.specs.declared.primitive.Primitive.{Primitive}
@@ -63,7 +64,8 @@ is_close_brace k.CloseBrace = true
 is_close_brace k.End = true
 is_close_brace _ = false
 
--- ends the elements of an array literal: a bracket, or the end of the text, where the bracket is missed
+-- ends the elements of an array literal: a bracket, or the end of the text, where the bracket is
+-- missed
 abbrev pub is_close_bracket : Symbol → Bool
 is_close_bracket k.CloseBracket = true
 is_close_bracket k.End = true
@@ -246,18 +248,22 @@ module _ (g : Rules) (b : Below) where
   postfix = left_hand >>= (λ x. look (λ t. postfix_by x t (postfix_of t)))
 
   abbrev pub unary_by : Token → Option UnaryOperator → Option UpdateOperator → Parser Expression
-  unary_by t (Some o) update = enter g >> (b.expression part.Unary >>= (λ x. pure (e.Unary o x t.place)))
-  unary_by t None (Some o) = enter g >> (b.expression (part.Updated t.place) >>= (λ x. pure (e.Update o x t.place)))
+  unary_by t (Some o) update =
+      enter g >> (b.expression part.Unary >>= (λ x. pure (e.Unary o x t.place)))
+  unary_by t None (Some o) =
+      enter g >> (b.expression (part.Updated t.place) >>= (λ x. pure (e.Update o x t.place)))
   unary_by t None None = postfix
 
   unfoldable pub unary : Parser Expression
   unary = look (λ t. unary_by t (unary_operator (symbol t)) (prefix_update (symbol t)))
 
   -- the operand of the `++` or `--` at a place: it is complete
-  abbrev pub operand_by : Place → Expression → Token → Bool → Option UpdateOperator → Parser Expression
+  abbrev pub operand_by : Place → Expression → Token → Bool → Option UpdateOperator
+      → Parser Expression
   operand_by place x t false found = unless g (Operand place) (pure x)
   operand_by place x t true None = pure x
-  operand_by place x t true (Some o) = unless g (Broken place) (take_token >> pure (e.Update o x t.place))
+  operand_by place x t true (Some o) =
+      unless g (Broken place) (take_token >> pure (e.Update o x t.place))
 
   unfoldable pub operand_close : Place → Expression → Parser Expression
   operand_close place x = look (λ t. operand_by place x t (is_reference x) (postfix_of t))
@@ -272,15 +278,20 @@ module _ (g : Rules) (b : Below) where
 
   -- ---- operators between operands (11.5 to 11.14)
 
-  abbrev pub operation_by : Parser Expression → Token → Option BinaryOperator → Parser (Operation Expression)
+  abbrev pub operation_by : Parser Expression → Token → Option BinaryOperator
+      → Parser (Operation Expression)
   operation_by one t None = refuse Unexpected
-  operation_by one t (Some o) = take_token >> (one >>= (λ x. pure (record { operator = o; right = x; place = t.place })))
+  operation_by one t (Some o) =
+      take_token >> (one >>= (λ x. pure (record { operator = o; right = x; place = t.place })))
 
   unfoldable pub operation : Bool → ℕ → Parser Expression → Parser (Operation Expression)
-  operation no_in level one = look (λ t. operation_by one t (binary_operator no_in level (symbol t)))
+  operation no_in level one =
+      look (λ t. operation_by one t (binary_operator no_in level (symbol t)))
 
   unfoldable pub level : Bool → ℕ → Parser Expression → Parser Expression
-  level no_in l one = look (λ t. one >>= (λ x. until (λ found. is_none (binary_operator no_in l found)) (operation no_in l one) >>= (λ os. pure (operated t.place x os))))
+  level no_in l one =
+      look (λ t. one >>= (λ x. until (λ found. is_none (binary_operator no_in l found))
+      (operation no_in l one) >>= (λ os. pure (operated t.place x os))))
 
   unfoldable pub binary : Bool → ℕ → Parser Expression
   binary no_in zero = unary
@@ -296,18 +307,24 @@ module _ (g : Rules) (b : Below) where
   conditional_by no_in place x _ = pure x
 
   unfoldable pub conditional : Bool → Parser Expression
-  conditional no_in = look (λ t. binary no_in levels >>= (λ x. look (λ u. conditional_by no_in t.place x (symbol u))))
+  conditional no_in =
+      look (λ t. binary no_in levels >>= (λ x.
+      look (λ u. conditional_by no_in t.place x (symbol u))))
 
   abbrev pub assigned : Bool → Expression → Token → Option BinaryOperator → Bool → Parser Expression
   assigned no_in x t o false = refuse Unexpected
-  assigned no_in x t o true = enter g >> (assignment_below no_in >>= (λ y. pure (e.Assign x o y t.place)))
+  assigned no_in x t o true =
+      enter g >> (assignment_below no_in >>= (λ y. pure (e.Assign x o y t.place)))
 
-  abbrev pub assignment_by : Bool → Expression → Token → Option (Option BinaryOperator) → Parser Expression
+  abbrev pub assignment_by : Bool → Expression → Token → Option (Option BinaryOperator)
+      → Parser Expression
   assignment_by no_in x t None = pure x
   assignment_by no_in x t (Some o) = assigned no_in x t o (is_reference x)
 
   unfoldable pub assignment : Bool → Parser Expression
-  assignment no_in = conditional no_in >>= (λ x. look (λ t. assignment_by no_in x t (assignment_operator (symbol t))))
+  assignment no_in =
+      conditional no_in >>= (λ x. look (λ t.
+      assignment_by no_in x t (assignment_operator (symbol t))))
 
   unfoldable pub whole : Bool → Parser Expression
   whole no_in = look (λ t. separated (assignment no_in) >>= (λ xs. pure (sequence t.place xs)))

@@ -1,4 +1,5 @@
--- How a statement is read, token by token: one function a rule of the grammar, by the rules that are asked.
+-- How a statement is read, token by token: one function a rule of the grammar, by the rules that
+-- are asked.
 use Rattle.std.specs.Prelude.{ℕ, zero, suc, Bool, true, false, not, ◌&&◌, if◌then◌else◌, List, [], ◌∷◌, ◌++◌, Option, Some, None}
 use Rattle.ja_base.specs.declared.ids.Place.{Place}
 use Rattle.ja_lex.specs.declared.token.Token.{Token}
@@ -39,13 +40,16 @@ ended = look (λ t. ended_by (symbol t) t.line_before)
 
 -- a declared variable, whose value is read so (12.2)
 abbrev pub variable_by : Parser Expression → Name → Token → Symbol → Parser (Declaration Expression)
-variable_by value x t k.Assign = take_token >> (value >>= (λ y. pure (record { name = x; initialiser = Some (record { value = y; place = t.place }) })))
+variable_by value x t k.Assign =
+    take_token >> (value >>= (λ y. pure (record
+    { name = x; initialiser = Some (record { value = y; place = t.place }) })))
 variable_by value x t _ = pure (record { name = x; initialiser = None })
 
 unfoldable pub variable : Rules → Parser Expression → Parser (Declaration Expression)
 variable g value = declared g >>= (λ x. look (λ t. variable_by value x t (symbol t)))
 
--- the label behind a `continue` or `break` at a place; a label that is known but not allowed breaks a rule there (12.7, 12.8)
+-- the label behind a `continue` or `break` at a place; a label that is known but not allowed breaks
+-- a rule there (12.7, 12.8)
 module _ (g : Rules) where
   abbrev pub labelled_by : Place → Token → Bool → Bool → Parser (Option Name)
   labelled_by place t true known = take_token >> pure (Some (name_of t))
@@ -56,16 +60,22 @@ module _ (g : Rules) where
   unlabelled_by place true = pure None
   unlabelled_by place false = unless g (Alone place) (pure None)
 
-  abbrev pub target_by : (List ℕ → Bool) → (List ℕ → Bool) → Bool → Place → Token → Bool → Parser (Option Name)
-  target_by allowed known alone place t true = labelled_by place t (allowed (word t)) (known (word t))
+  abbrev pub target_by : (List ℕ → Bool) → (List ℕ → Bool) → Bool → Place → Token → Bool
+      → Parser (Option Name)
+  target_by allowed known alone place t true =
+      labelled_by place t (allowed (word t)) (known (word t))
   target_by allowed known alone place t false = unlabelled_by place alone
 
-  unfoldable pub jump_target : (List ℕ → Bool) → (List ℕ → Bool) → Bool → Place → Parser (Option Name)
-  jump_target allowed known alone place = look (λ t. target_by allowed known alone place t (is_label_behind t))
+  unfoldable pub jump_target : (List ℕ → Bool) → (List ℕ → Bool) → Bool → Place
+      → Parser (Option Name)
+  jump_target allowed known alone place =
+      look (λ t. target_by allowed known alone place t (is_label_behind t))
 
--- why the word of a jump is refused where there is nothing to leave, by the token behind it: that is an unknown label, or the word is wrong
+-- why the word of a jump is refused where there is nothing to leave, by the token behind it: that
+-- is an unknown label, or the word is wrong
 unfoldable pub without_target : Context → Token → Refusal
-without_target c t = if is_label_behind t && not (has_label c (word t)) then UnknownLabel t.place else Unexpected
+without_target c t =
+    if is_label_behind t && not (has_label c (word t)) then UnknownLabel t.place else Unexpected
 
 -- takes the `:` of a label at a place, which counts
 unfoldable pub enter_label : Rules → Place → Parser Token
@@ -102,24 +112,31 @@ module _ (g : Rules) (b : Below) where
     pure (s.Variables xs t.place)
 
   unfoldable pub expression_statement : Parser Statement
-  expression_statement = look (λ t. whole g b false >>= (λ x. ended >> pure (s.Expression x t.place)))
+  expression_statement =
+      look (λ t. whole g b false >>= (λ x. ended >> pure (s.Expression x t.place)))
 
   -- ---- jumps (12.7 to 12.9, 12.13)
 
   -- the word of a jump where there is nothing to leave, and the token behind it
   abbrev pub untargeted : (Option Name → Statement) → Context → Token → Parser Statement
-  untargeted jump c u = unless g (without_target c u) (take_token >> (take_token >> (ended >> pure (jump (Some (name_of u))))))
+  untargeted jump c u =
+      unless g (without_target c u) (take_token >>
+      (take_token >> (ended >> pure (jump (Some (name_of u))))))
 
   abbrev pub continue_by : Context → Bool → Parser Statement
   continue_by c false = look_second (λ t u. untargeted (λ x. s.Continue x t.place) c u)
-  continue_by c true = take_token >>= (λ t. jump_target g (has_loop c) (has_label c) true t.place >>= (λ x. ended >> pure (s.Continue x t.place)))
+  continue_by c true =
+      take_token >>= (λ t. jump_target g (has_loop c) (has_label c) true t.place >>=
+      (λ x. ended >> pure (s.Continue x t.place)))
 
   unfoldable pub continue : Context → Parser Statement
   continue c = continue_by c c.in_loop
 
   abbrev pub break_by : Context → Bool → Parser Statement
   break_by c false = look_second (λ t u. untargeted (λ x. s.Break x t.place) c u)
-  break_by c true = take_token >>= (λ t. jump_target g (has_label c) (has_label c) c.in_breakable t.place >>= (λ x. ended >> pure (s.Break x t.place)))
+  break_by c true =
+      take_token >>= (λ t. jump_target g (has_label c) (has_label c) c.in_breakable t.place >>=
+      (λ x. ended >> pure (s.Break x t.place)))
 
   unfoldable pub break : Context → Parser Statement
   break c = break_by c (may_break c)
@@ -201,7 +218,8 @@ module _ (g : Rules) (b : Below) where
   unfoldable pub cases : Context → Parser (List Case)
   cases c = do
     opening g k.OpenBrace
-    cs ← many (λ cs. look (λ t. clause_by c cs (symbol t))) (record { defaulted = false; found = [] })
+    cs ← many (λ cs. look (λ t. clause_by c cs (symbol t)))
+        (record { defaulted = false; found = [] })
     expect k.CloseBrace
     pure cs.found
 
@@ -225,7 +243,8 @@ module _ (g : Rules) (b : Below) where
   unfoldable pub finally : Context → Parser (List Statement)
   finally c = take_token >> block c
 
-  abbrev pub finally_by : Context → Token → List Statement → CatchOf Statement → Symbol → Parser Statement
+  abbrev pub finally_by : Context → Token → List Statement → CatchOf Statement → Symbol
+      → Parser Statement
   finally_by c t xs h k.Finally = finally c >>= (λ ys. pure (s.Try xs (Some h) (Some ys) t.place))
   finally_by c t xs h _ = pure (s.Try xs (Some h) None t.place)
 
@@ -266,7 +285,8 @@ module _ (g : Rules) (b : Below) where
   single_by c labels outermost t k.Throw = throw
   single_by c labels outermost t k.Try = try c
   single_by c labels outermost t k.Function = function_statement outermost
-  single_by c labels outermost t k.Name = look_second (λ t u. labelled_or_expression c labels (is_label (symbol t) (symbol u)))
+  single_by c labels outermost t k.Name =
+      look_second (λ t u. labelled_or_expression c labels (is_label (symbol t) (symbol u)))
   single_by c labels outermost t _ = expression_statement
 
   unfoldable pub single : Context → ℕ → Bool → Parser Statement
@@ -279,7 +299,8 @@ module _ (g : Rules) (b : Below) where
   else_by c place x y _ = pure (s.If x y None place)
 
   unfoldable pub if_part : Context → Place → Parser Statement
-  if_part c place = bracketed >>= (λ x. single c 0 false >>= (λ y. look (λ t. else_by c place x y (symbol t))))
+  if_part c place =
+      bracketed >>= (λ x. single c 0 false >>= (λ y. look (λ t. else_by c place x y (symbol t))))
 
   unfoldable pub do_part : Context → Place → ℕ → Parser Statement
   do_part c place labels = do
@@ -320,7 +341,8 @@ module _ (g : Rules) (b : Below) where
     z ← single c 0 false
     pure (s.ForIn x y z place)
 
-  abbrev pub for_variables_by : Context → Place → List (Declaration Expression) → Symbol → Parser Statement
+  abbrev pub for_variables_by : Context → Place → List (Declaration Expression) → Symbol
+      → Parser Statement
   for_variables_by c place (x ∷ []) k.In = in_rest c place (target.Variable x)
   for_variables_by c place xs _ = expect k.Semicolon >> for_rest c place (first.Variables xs)
 
@@ -339,7 +361,8 @@ module _ (g : Rules) (b : Below) where
   for_expression_by c place x _ = expect k.Semicolon >> for_rest c place (first.Expression x)
 
   unfoldable pub for_expression : Context → Place → Parser Statement
-  for_expression c place = whole_below g b true >>= (λ x. look (λ t. for_expression_by c place x (symbol t)))
+  for_expression c place =
+      whole_below g b true >>= (λ x. look (λ t. for_expression_by c place x (symbol t)))
 
   abbrev pub for_by : Context → Place → Symbol → Parser Statement
   for_by c place k.Var = for_variables c place
@@ -347,7 +370,8 @@ module _ (g : Rules) (b : Below) where
   for_by c place _ = for_expression c place
 
   unfoldable pub for_part : Context → Place → ℕ → Parser Statement
-  for_part c place labels = opening g k.OpenParenthesis >> look (λ t. for_by (loop_context c labels) place (symbol t))
+  for_part c place labels =
+      opening g k.OpenParenthesis >> look (λ t. for_by (loop_context c labels) place (symbol t))
 
   -- each part
   unfoldable pub statement_part : Context → StatementPart → Parser Statement
@@ -360,7 +384,11 @@ module _ (g : Rules) (b : Below) where
 -- The parts below a number of levels, where with so many left these rules are asked.
 unfoldable pub below : (ℕ → Rules) → ℕ → Below
 below rules zero = record { expression = λ p. refuse Deep; statement = λ c p. refuse Deep }
-below rules (suc d) = record { expression = expression_part (rules d) (below rules d); statement = statement_part (rules d) (below rules d) }
+below rules (suc d) =
+    record {
+      expression = expression_part (rules d) (below rules d);
+      statement = statement_part (rules d) (below rules d);
+    }
 
 abbrev pub is_end : Symbol → Bool
 is_end found = same_symbol found k.End

@@ -10,17 +10,23 @@ first_stay first [] = omega arith
 first_stay first (r ∷ rs) = omega (arith, first_stay (max first (r.0 + 1)) rs)
 
 -- each is among as many as it takes, so also among as many as that or more
-pub each_among : (first limit : ℕ) (rs : List Reg) → registers_with first rs ≤ limit → AllByRecursion (λ (r : Reg). r.0 < limit) rs
+pub each_among : (first limit : ℕ) (rs : List Reg) → registers_with first rs ≤ limit
+    → AllByRecursion (λ (r : Reg). r.0 < limit) rs
 each_among first limit [] few = tt
-each_among first limit (r ∷ rs) few =
-    (omega (arith, first_stay (max first (r.0 + 1)) rs, few), each_among (max first (r.0 + 1)) limit rs few)
+each_among first limit (r ∷ rs) few = (
+  omega (arith, first_stay (max first (r.0 + 1)) rs, few),
+  each_among (max first (r.0 + 1)) limit rs few,
+)
 
-few_where_each : (first limit : ℕ) (rs : List Reg) → first ≤ limit → AllByRecursion (λ (r : Reg). r.0 < limit) rs → registers_with first rs ≤ limit
+few_where_each : (first limit : ℕ) (rs : List Reg) → first ≤ limit
+    → AllByRecursion (λ (r : Reg). r.0 < limit) rs → registers_with first rs ≤ limit
 few_where_each first limit [] few each = few
 few_where_each first limit (r ∷ rs) few each =
     let here : r.0 < limit = each.0 in
     few_where_each (max first (r.0 + 1)) limit rs (omega (arith, here, few)) each.1
 
 -- no more are needed than a limit exactly where each is below it
-pub few_exactly : (limit : ℕ) (rs : List Reg) → registers_with 0 rs ≤ limit ↔ AllByRecursion (λ (r : Reg). r.0 < limit) rs
-few_exactly limit rs = (λ few. each_among 0 limit rs few, λ each. few_where_each 0 limit rs (omega arith) each)
+pub few_exactly : (limit : ℕ) (rs : List Reg)
+    → registers_with 0 rs ≤ limit ↔ AllByRecursion (λ (r : Reg). r.0 < limit) rs
+few_exactly limit rs =
+    (λ few. each_among 0 limit rs few, λ each. few_where_each 0 limit rs (omega arith) each)

@@ -36,22 +36,27 @@ identity_keeps (node.HasProp dst object key) = refl
 identity_keeps (node.InstanceOf dst left right not_function not_object) = refl
 identity_keeps (node.NewObject dst site kind) = refl
 identity_keeps (node.MakeFunction dst function site proto_site) = refl
-identity_keeps (node.Enter site arguments) = ap (λ (x : Option Site). node.Enter site x) (option_map_id arguments)
+identity_keeps (node.Enter site arguments) =
+    ap (λ (x : Option Site). node.Enter site x) (option_map_id arguments)
 identity_keeps (node.Declare name) = refl
 identity_keeps (node.Bind name src read_only) = refl
 identity_keeps (node.PushScope site) = refl
-identity_keeps (node.Convert dst src hint other) = ap (λ (x : Option Reg). node.Convert dst src hint x) (option_map_id other)
+identity_keeps (node.Convert dst src hint other) =
+    ap (λ (x : Option Reg). node.Convert dst src hint x) (option_map_id other)
 identity_keeps (node.Unary dst op src) = refl
 identity_keeps (node.Binary dst op a b) = refl
 identity_keeps (node.Branch src) = refl
-identity_keeps (node.Call dst callee receiver args error) = ap (λ (x : Args). node.Call dst callee receiver x error) (args_kept args)
-identity_keeps (node.New dst callee args site error) = ap (λ (x : List Reg). node.New dst callee x site error) (map-id args)
+identity_keeps (node.Call dst callee receiver args error) =
+    ap (λ (x : Args). node.Call dst callee receiver x error) (args_kept args)
+identity_keeps (node.New dst callee args site error) =
+    ap (λ (x : List Reg). node.New dst callee x site error) (map-id args)
 identity_keeps (node.Names list object) = refl
 identity_keeps (node.Pick list dst object) = refl
 identity_keeps (node.Throw src) = refl
 identity_keeps (node.Return src) = refl
 identity_keeps node.Escape = refl
-identity_keeps (node.Intrinsic dst which args) = ap (λ (x : List Reg). node.Intrinsic dst which x) (map-id args)
+identity_keeps (node.Intrinsic dst which args) =
+    ap (λ (x : List Reg). node.Intrinsic dst which x) (map-id args)
 identity_keeps (node.Device dst which) = refl
 identity_keeps (node.Stop kind) = refl
 
@@ -94,7 +99,8 @@ throws_alike r (node.Device dst which) = refl
 throws_alike r (node.Stop kind) = refl
 
 -- a renamed node sets the renamed register
-pub sets_renamed : (r : Renaming) (n : Node) → register_set (renamed r n) ≡ option_map r.register (register_set n)
+pub sets_renamed : (r : Renaming) (n : Node)
+    → register_set (renamed r n) ≡ option_map r.register (register_set n)
 unfolding renamed register_set
 sets_renamed r (node.Const dst prim) = refl
 sets_renamed r (node.Move dst src) = refl

@@ -6,9 +6,11 @@ use Rattle.ja_graph.specs.declared.program.Program.{Program}
 use Rattle.ja_graph.specs.code.Parts.{HasFunctions, HasSites, HasOpening, HasNames}
 use Rattle.ja_graph.specs.WellFormed.{IsWellFormed}
 
-pub whole_from_parts : (p : Program) → HasFunctions p → HasSites p → HasOpening p → HasNames p → IsWellFormed p
+pub whole_from_parts : (p : Program) → HasFunctions p → HasSites p → HasOpening p → HasNames p
+    → IsWellFormed p
 whole_from_parts p functions sites opening names =
-    let first = first_element p.functions (omega (arith, functions.text_among, functions.text_functions)) in
+    let first = first_element p.functions (omega
+    (arith, functions.text_among, functions.text_functions)) in
     record {
       text = first.0;
       text_is = first.1;
@@ -32,7 +34,8 @@ whole_from_parts p functions sites opening names =
       few_names = names.few_names;
     }
 
-pub parts_of_whole : (p : Program) → IsWellFormed p → HasFunctions p × HasSites p × HasOpening p × HasNames p
+pub parts_of_whole : (p : Program) → IsWellFormed p
+    → HasFunctions p × HasSites p × HasOpening p × HasNames p
 parts_of_whole p well = (
   record {
     text_among = well.text_among;

@@ -1,5 +1,5 @@
--- What is built: the kinds of nodes that the analysis goes through, and the programs whose text has these kinds alone and meets no
--- function.
+-- What is built: the kinds of nodes that the analysis goes through, and the programs whose text has
+-- these kinds alone and meets no function.
 use Rattle.std.specs.Prelude.{◌≡◌, ℕ, Bool, true, false, Some, None, slice_get}
 use Rattle.ja_base.specs.declared.ids.FnId.{FnId}
 use Rattle.ja_base.specs.declared.ids.NameId.{NameId}
@@ -34,7 +34,9 @@ text_function = record { 0 = 0 }
 
 -- the objects of a site are plain: they can be neither called nor constructed
 abbrev pub IsPlain : Program → Site → Type 0
-IsPlain p s = (info : SiteInfo) → slice_get p.sites s.0 ≡ Some info → (info.calls ≡ None) × (info.constructs ≡ None)
+IsPlain p s =
+    (info : SiteInfo) → slice_get p.sites s.0 ≡ Some info
+    → (info.calls ≡ None) × (info.constructs ≡ None)
 
 -- a property holds no object, or a plain one
 abbrev pub IsPlainContent : Program → SpecContent → Type 0
@@ -48,14 +50,21 @@ pub record IsNamed (p : Program) (name : NameId) : Type 0 where
   pub info_is : node_at p text_function number ≡ Some info
   pub name_is : name_in info.node ≡ Some name
 
--- What is built: each node of the text is of a kind that is, and the text meets plain objects alone. Those are what its nodes make, the
--- global object, the prototypes of the errors that its nodes throw, and what leads from one of these to another: a prototype, or a
--- property that has a name of the text. The other functions of the program, and the objects that can be called, are never met.
+-- What is built: each node of the text is of a kind that is, and the text meets plain objects
+-- alone. Those are what its nodes make, the global object, the prototypes of the errors that its
+-- nodes throw, and what leads from one of these to another: a prototype, or a property that has a
+-- name of the text. The other functions of the program, and the objects that can be called, are
+-- never met.
 pub record AreBuilt (p : Program) : Type 0 where
-  pub nodes : (n : NodeId) (info : NodeInfo) → node_at p text_function n ≡ Some info → is_built info.node ≡ true
-  pub made : (s : Site) (info : SiteInfo) → slice_get p.sites s.0 ≡ Some info → info.owner ≡ Some text_function → IsPlain p s
+  pub nodes : (n : NodeId) (info : NodeInfo) → node_at p text_function n ≡ Some info
+      → is_built info.node ≡ true
+  pub made : (s : Site) (info : SiteInfo) → slice_get p.sites s.0 ≡ Some info
+      → info.owner ≡ Some text_function → IsPlain p s
   pub global_object : IsPlain p global
   pub reference_errors : IsPlain p reference_error_prototype
   pub type_errors : IsPlain p type_error_prototype
-  pub prototypes : (i : ℕ) (o : ObjectSpec) (s : Site) → slice_get p.opening i ≡ Some o → IsPlain p o.site → o.prototype ≡ Some s → IsPlain p s
-  pub contents : (i j : ℕ) (o : ObjectSpec) (q : PropertySpec) → slice_get p.opening i ≡ Some o → IsPlain p o.site → slice_get o.properties j ≡ Some q → IsNamed p q.name → IsPlainContent p q.content
+  pub prototypes : (i : ℕ) (o : ObjectSpec) (s : Site) → slice_get p.opening i ≡ Some o
+      → IsPlain p o.site → o.prototype ≡ Some s → IsPlain p s
+  pub contents : (i j : ℕ) (o : ObjectSpec) (q : PropertySpec) → slice_get p.opening i ≡ Some o
+      → IsPlain p o.site → slice_get o.properties j ≡ Some q → IsNamed p q.name
+      → IsPlainContent p q.content

@@ -65,7 +65,8 @@ registers_named (node.Convert dst src hint other) = src ∷ option_to_list other
 registers_named (node.Unary dst op src) = src ∷ []
 registers_named (node.Binary dst op a b) = a ∷ b ∷ []
 registers_named (node.Branch src) = src ∷ []
-registers_named (node.Call dst callee receiver args error) = callee ∷ receiver ∷ argument_registers args
+registers_named (node.Call dst callee receiver args error) =
+    callee ∷ receiver ∷ argument_registers args
 registers_named (node.New dst callee args site error) = callee ∷ args
 registers_named (node.Names list object) = list ∷ object ∷ []
 registers_named (node.Pick list dst object) = list ∷ object ∷ []
@@ -136,14 +137,19 @@ making_if_any (Some site) class = making site class ∷ []
 unfoldable pub makings : Node → List Making
 makings (node.ReadRef dst base name error) = making error class.Error ∷ []
 makings (node.ToObject dst src sites error) =
-    making sites.boolean class.Boolean ∷ making sites.number class.Number ∷ making sites.text class.String ∷ making error class.Error ∷ []
+    making sites.boolean class.Boolean ∷ making sites.number class.Number
+    ∷ making sites.text class.String ∷ making error class.Error ∷ []
 makings (node.NeedObject src error) = making error class.Error ∷ []
 makings (node.WriteProp object key src error) = making error class.Error ∷ []
-makings (node.InstanceOf dst left right not_function not_object) = making not_function class.Error ∷ making not_object class.Error ∷ []
+makings (node.InstanceOf dst left right not_function not_object) =
+    making not_function class.Error ∷ making not_object class.Error ∷ []
 makings (node.NewObject dst site kind) = making site (class_of kind) ∷ []
-makings (node.MakeFunction dst function site proto_site) = making site class.Function ∷ making proto_site class.Object ∷ []
-makings (node.Enter site arguments) = making site class.Activation ∷ making_if_any arguments class.Object
+makings (node.MakeFunction dst function site proto_site) =
+    making site class.Function ∷ making proto_site class.Object ∷ []
+makings (node.Enter site arguments) =
+    making site class.Activation ∷ making_if_any arguments class.Object
 makings (node.PushScope site) = making site class.Object ∷ []
 makings (node.Call dst callee receiver args error) = making error class.Error ∷ []
-makings (node.New dst callee args site error) = making site class.Object ∷ making error class.Error ∷ []
+makings (node.New dst callee args site error) =
+    making site class.Object ∷ making error class.Error ∷ []
 makings _ = []

@@ -64,8 +64,9 @@ IsFunction p f = f.0 < length p.functions
 abbrev pub arguments_taken : ℕ → Option ℕ
 arguments_taken which = option_map (λ row. row.1) (slice_get INTRINSICS which)
 
--- what only some kinds of nodes ask for: the caller's arguments from the second on are there where a function has at most
--- one parameter; an operation is one of the built-in functions', with as many arguments as it takes; a device is one of the program's
+-- what only some kinds of nodes ask for: the caller's arguments from the second on are there where
+-- a function has at most one parameter; an operation is one of the built-in functions', with as
+-- many arguments as it takes; a device is one of the program's
 abbrev pub IsAllowed : Program → Function → Node → Type 0
 IsAllowed p fn (Call dst callee receiver Tail error) = length fn.parameters ≤ 1
 IsAllowed p fn (Intrinsic dst which args) = arguments_taken which ≡ Some (length args)
@@ -89,7 +90,8 @@ pub record LastIsEscape (nodes : List NodeInfo) : Type 0 where
   pub last_is : slice_get nodes (length nodes - 1) ≡ Some last
   pub escape : last.node ≡ Escape
 
--- a function ends with Escape, has the registers that each function has, and each of its nodes is well formed
+-- a function ends with Escape, has the registers that each function has, and each of its nodes is
+-- well formed
 pub record IsFunctionWellFormed (p : Program) (fn : Function) : Type 0 where
   pub last : NodeInfo
   pub last_is : slice_get fn.nodes (length fn.nodes - 1) ≡ Some last
@@ -97,7 +99,8 @@ pub record IsFunctionWellFormed (p : Program) (fn : Function) : Type 0 where
   pub registers : fixed_registers fn ≤ fn.registers
   pub few_registers : fn.registers ≤ max_registers
   pub parameters : AllByRecursion (IsName p) fn.parameters
-  pub each : (n : ℕ) (info : NodeInfo) → slice_get fn.nodes n ≡ Some info → IsNodeWellFormed p fn info
+  pub each : (n : ℕ) (info : NodeInfo) → slice_get fn.nodes n ≡ Some info
+      → IsNodeWellFormed p fn info
 
 -- how many nodes the functions have in all
 abbrev pub node_count : List Function → ℕ
@@ -130,8 +133,8 @@ pub record IsSiteTold (p : Program) (m : OwnedMaking) : Type 0 where
   pub class : info.class ≡ m.making.class
   pub owner : info.owner ≡ Some (record { 0 = m.owner })
 
--- the functions that are told of a site are those of the program: the one whose node has it, and those that are run where one of
--- its objects is called and where it constructs
+-- the functions that are told of a site are those of the program: the one whose node has it, and
+-- those that are run where one of its objects is called and where it constructs
 pub record NamesFunctions (p : Program) (info : SiteInfo) : Type 0 where
   pub owner : AllByRecursion (IsFunction p) (option_to_list info.owner)
   pub calls : AllByRecursion (IsFunction p) (option_to_list info.calls)
@@ -141,22 +144,25 @@ pub record NamesFunctions (p : Program) (info : SiteInfo) : Type 0 where
 
 -- an object that stands before the i-th has this site
 abbrev pub StandsBefore : Program → ℕ → Site → Type 0
-StandsBefore p i s = (j : ℕ) × (q : ObjectSpec) × (j < i) × (slice_get p.opening j ≡ Some q) × (q.site.0 ≡ s.0)
+StandsBefore p i s =
+    (j : ℕ) × (q : ObjectSpec) × (j < i) × (slice_get p.opening j ≡ Some q) × (q.site.0 ≡ s.0)
 
 -- the object that a property has is one of the opening heap
 abbrev pub IsContent : Program → SpecContent → Type 0
 IsContent p (Object s) = s.0 < length p.opening
 IsContent p content = Unit {0}
 
--- an object of the opening heap has a site without a node, its prototype and its scope stand before it, and its
--- properties have names of the program, each once
+-- an object of the opening heap has a site without a node, its prototype and its scope stand before
+-- it, and its properties have names of the program, each once
 pub record IsObjectWellFormed (p : Program) (i : ℕ) (o : ObjectSpec) : Type 0 where
   pub site : o.site.0 < length p.opening
   pub prototype : (s : Site) → o.prototype ≡ Some s → StandsBefore p i s
   pub scope : (s : Site) → o.scope ≡ Some s → StandsBefore p i s
   pub names : (j : ℕ) (q : PropertySpec) → slice_get o.properties j ≡ Some q → IsName p q.name
-  pub contents : (j : ℕ) (q : PropertySpec) → slice_get o.properties j ≡ Some q → IsContent p q.content
-  pub once : (j k : ℕ) (q r : PropertySpec) → slice_get o.properties j ≡ Some q → slice_get o.properties k ≡ Some r → q.name.0 ≡ r.name.0 → j ≡ k
+  pub contents : (j : ℕ) (q : PropertySpec) → slice_get o.properties j ≡ Some q
+      → IsContent p q.content
+  pub once : (j k : ℕ) (q r : PropertySpec) → slice_get o.properties j ≡ Some q
+      → slice_get o.properties k ≡ Some r → q.name.0 ≡ r.name.0 → j ≡ k
 
 -- the names of the built-in objects, as texts
 abbrev pub builtin_names : List (List ℕ)
@@ -164,11 +170,14 @@ builtin_names = map (λ name. name.now) BUILTIN_NAMES
 
 -- the program tells the class of a built-in object
 abbrev pub IsBuiltin : Program → ℕ → Class → Type 0
-IsBuiltin p s c = (info : SiteInfo) × (slice_get p.sites s ≡ Some info) × (info.class ≡ c) × (s < length p.opening)
+IsBuiltin p s c =
+    (info : SiteInfo) × (slice_get p.sites s ≡ Some info) × (info.class ≡ c)
+    × (s < length p.opening)
 
--- Each function is well formed, and the first is the program's text. Each site without a node has no owner and has its object in
--- the opening heap, the built-in objects among them, under their numbers. The sites of nodes stand behind them, numbered by function
--- and node. No text is a name twice, and the built-in names come first.
+-- Each function is well formed, and the first is the program's text. Each site without a node has
+-- no owner and has its object in the opening heap, the built-in objects among them, under their
+-- numbers. The sites of nodes stand behind them, numbered by function and node. No text is a name
+-- twice, and the built-in names come first.
 pub record IsWellFormed (p : Program) : Type 0 where
   pub text : Function
   pub text_is : slice_get p.functions 0 ≡ Some text
@@ -181,12 +190,15 @@ pub record IsWellFormed (p : Program) : Type 0 where
   pub objects : (i : ℕ) (o : ObjectSpec) → slice_get p.opening i ≡ Some o → IsObjectWellFormed p i o
   pub all_objects : (s : ℕ) → s < length p.opening → IsSome (object_spec p s)
   pub builtins : (s : ℕ) (c : Class) → slice_get BUILTIN_CLASSES s ≡ Some c → IsBuiltin p s c
-  pub unowned : (s : ℕ) → s < length p.opening → (info : SiteInfo) → slice_get p.sites s ≡ Some info → info.owner ≡ None
+  pub unowned : (s : ℕ) → s < length p.opening → (info : SiteInfo) → slice_get p.sites s ≡ Some info
+      → info.owner ≡ None
   pub name_functions : AllByRecursion (NamesFunctions p) p.sites
   pub sites : length p.opening ≤ length p.sites
-  pub numbered : map (λ (m : OwnedMaking). m.making.site.0) (makings_from 0 p.functions) ≡ range_with_len (length p.opening) (length p.sites - length p.opening)
+  pub numbered : map (λ (m : OwnedMaking). m.making.site.0) (makings_from 0 p.functions)
+      ≡ range_with_len (length p.opening) (length p.sites - length p.opening)
   pub told : AllByRecursion (IsSiteTold p) (makings_from 0 p.functions)
   pub few_sites : length p.sites ≤ max_sites
   pub names : take (length builtin_names) p.names ≡ builtin_names
-  pub distinct : (i j : ℕ) (t : List ℕ) → slice_get p.names i ≡ Some t → slice_get p.names j ≡ Some t → i ≡ j
+  pub distinct : (i j : ℕ) (t : List ℕ) → slice_get p.names i ≡ Some t
+      → slice_get p.names j ≡ Some t → i ≡ j
   pub few_names : length p.names ≤ max_names

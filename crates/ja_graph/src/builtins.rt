@@ -1,5 +1,5 @@
-//! The numbers of the built-in objects and names, and the operations that the built-in functions are written
-//! with (ES3 section 15).
+//! The numbers of the built-in objects and names, and the operations that the built-in functions
+//! are written with (ES3 section 15).
 
 use crate::Class;
 use ja_base::{NameId, Site};
@@ -180,8 +180,8 @@ pub const BUILTIN_CLASSES: [Class; 43] = [
     Class::Function,
 ];
 
-/// The names of the built-in objects' properties, in the order of the standard; then those that other
-/// objects have.
+/// The names of the built-in objects' properties, in the order of the standard; then those that
+/// other objects have.
 pub const BUILTIN_NAMES: [&[u8]; 104] = [
     // of the global object (15.1)
     b"NaN",
@@ -316,8 +316,8 @@ pub const CALLEE: NameId = NameId(102);
 /// `arguments`.
 pub const ARGUMENTS: NameId = NameId(103);
 
-/// The operations of the built-in functions, by their numbers: the name under which the texts of these functions
-/// call each, and how many arguments it takes.
+/// The operations of the built-in functions, by their numbers: the name under which the texts of
+/// these functions call each, and how many arguments it takes.
 pub const INTRINSICS: [(&[u8], u32); 8] = [
     // whether a value is an object
     (b"$is_object", 1),

@@ -1,4 +1,5 @@
-//! What the numbers of the built-in names stand for. The function does nothing; its contract is the law.
+//! What the numbers of the built-in names stand for. The function does nothing; its contract is the
+//! law.
 
 ghost use Rattle.std.specs.Prelude.{◌≡◌, Some, slice_get};
 ghost use lib.Chars.{codes};

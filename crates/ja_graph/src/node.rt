@@ -169,8 +169,8 @@ pub enum Node {
         object: Reg,
         key: Reg,
     },
-    /// `dst` is whether `right` constructed `left` (11.8.6, 15.3.5.3); what is no function, or has no
-    /// object as its `prototype`, throws a TypeError.
+    /// `dst` is whether `right` constructed `left` (11.8.6, 15.3.5.3); what is no function, or has
+    /// no object as its `prototype`, throws a TypeError.
     InstanceOf {
         dst: Reg,
         left: Reg,
@@ -191,7 +191,8 @@ pub enum Node {
         site: Site,
         proto_site: Site,
     },
-    /// Makes the activation of a function, and its arguments object, if it has one (10.1.6, 10.1.8).
+    /// Makes the activation of a function, and its arguments object, if it has one (10.1.6,
+    /// 10.1.8).
     Enter {
         site: Site,
         arguments: Option<Site>,

@@ -43,7 +43,8 @@ fn with_arguments(first: u64, args: &Args) -> u64
     }
 }
 
-/// As many registers as there were, or so many that those that a node names are among them, but for the one that it sets.
+/// As many registers as there were, or so many that those that a node names are among them, but for
+/// the one that it sets.
 #[tactic(auto, unfolding(crate::specs::Node::registers_named))]
 pub(crate) fn registers_with_named(first: u64, node: &Node) -> u64
     ensures { result ≡ spec.registers_with first (spec.registers_named node.now) }
@@ -90,8 +91,8 @@ pub(crate) fn registers_with_named(first: u64, node: &Node) -> u64
     }
 }
 
-/// As many registers as there were, or so many that those of a node are among them: one more than the greatest number of
-/// these.
+/// As many registers as there were, or so many that those of a node are among them: one more than
+/// the greatest number of these.
 pub fn registers_with(first: u64, node: &Node) -> u64
     ensures { result ≡ spec.registers_with first (spec.registers_in node.now) }
 {

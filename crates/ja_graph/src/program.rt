@@ -17,8 +17,8 @@ pub enum Class {
 }
 
 /// A place where objects are made. `owner` is the function whose node makes them; `calls` and
-/// `constructs` are the functions that `[[Call]]` and `[[Construct]]` of its objects run. A built-in
-/// object has the name under which reports print it.
+/// `constructs` are the functions that `[[Call]]` and `[[Construct]]` of its objects run. A
+/// built-in object has the name under which reports print it.
 #[derive(Drop)]
 pub struct SiteInfo {
     pub class: Class,
@@ -57,8 +57,8 @@ pub struct ObjectSpec {
     pub properties: Seq<PropertySpec>,
 }
 
-/// A function: its name, which may be empty, the names of its parameters, how many registers it has, and its
-/// nodes, the first one its entry and the last one its Escape.
+/// A function: its name, which may be empty, the names of its parameters, how many registers it
+/// has, and its nodes, the first one its entry and the last one its Escape.
 #[derive(Drop)]
 pub struct Function {
     pub name: Text16,

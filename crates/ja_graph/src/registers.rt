@@ -17,7 +17,8 @@ pub const CALLEE_REGISTER: Reg = Reg(3);
 /// The number of arguments.
 pub const COUNT: Reg = Reg(4);
 
-/// The arguments past the parameters. The parameters of a function, if it has some, stand before it.
+/// The arguments past the parameters. The parameters of a function, if it has some, stand before
+/// it.
 pub const REST: Reg = Reg(5);
 
 /// How many registers stand before the temporaries of a function without parameters.

@@ -94,8 +94,8 @@ fn renamed_args<R: Renames>(alloc: Global, args: &Args, renaming: &R) -> Result<
     })
 }
 
-/// A node with each of its registers, names, functions and sites where it goes, in memory of its own.
-/// What else the node has stays. An error says that memory was refused, and nothing else.
+/// A node with each of its registers, names, functions and sites where it goes, in memory of its
+/// own. What else the node has stays. An error says that memory was refused, and nothing else.
 #[tactic(auto, unfolding(crate::specs::Renaming::renamed))]
 pub fn renamed<R: Renames>(alloc: Global, node: &Node, renaming: &R) -> Result<Node, Memory>
     ensures { IfOk result (λ copy. copy ≡ renamed (R.renaming renaming.now) node.now) }
@@ -308,7 +308,8 @@ pub fn renamed<R: Renames>(alloc: Global, node: &Node, renaming: &R) -> Result<N
     }
 }
 
-/// A renaming that leaves each number where it is leaves each node as it is. The function does nothing.
+/// A renaming that leaves each number where it is leaves each node as it is. The function does
+/// nothing.
 #[tactic(auto, using(crate::proofs::RenamingLemmas::identity_keeps))]
 pub fn identity_keeps_nodes()
     ensures { (node : Node) → renamed identity node ≡ node }
@@ -323,5 +324,6 @@ pub fn renamed_nodes_throw_alike()
 /// A renamed node sets the register to which that of the node goes. The function does nothing.
 #[tactic(auto, using(crate::proofs::RenamingLemmas::sets_renamed))]
 pub fn renamed_nodes_set_renamed_registers()
-    ensures { (r : Renaming) (node : Node) → register_set (renamed r node) ≡ option_map r.register (register_set node) }
+    ensures { (r : Renaming) (node : Node) → register_set (renamed r node)
+        ≡ option_map r.register (register_set node) }
 {}

@@ -80,8 +80,8 @@ fn made(site: Site, class: Class) -> Making
     Making { site, class }
 }
 
-/// The sites of a node, at most four, in the order of its fields, each with the class of the objects
-/// that it makes there.
+/// The sites of a node, at most four, in the order of its fields, each with the class of the
+/// objects that it makes there.
 #[tactic(auto, unfolding(crate::specs::Node::makings))]
 pub fn makings(node: &Node) -> NodeMakings
     ensures { result ≡ graph.makings node.now }

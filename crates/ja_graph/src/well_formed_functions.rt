@@ -27,7 +27,8 @@ fn is_last_escape(nodes: &[NodeInfo]) -> bool
 
 /// Whether a function has the registers that each has, and not too many.
 fn has_registers(function: &Function) -> bool
-    ensures { IsTrue result ↔ ((graph.fixed_registers function.now ≤ function.now.registers) × (function.now.registers ≤ 262144)) }
+    ensures { IsTrue result ↔ ((graph.fixed_registers function.now ≤ function.now.registers)
+        × (function.now.registers ≤ 262144)) }
 {
     function.registers >= FIXED_REGISTERS
         && (function.registers - FIXED_REGISTERS) as usize >= function.parameters.len()

@@ -24,7 +24,8 @@ fn is_text(units: &[u16], bytes: &[u8]) -> bool
 
 /// Whether names begin with these texts.
 fn begin_with(names: &[Text16], texts: &[&[u8]]) -> bool
-    ensures { IsTrue result ↔ (take (length (map (λ t. t.now) texts.now)) names.now ≡ map (λ t. t.now) texts.now) }
+    ensures { IsTrue result ↔ (take (length (map (λ t. t.now) texts.now)) names.now
+        ≡ map (λ t. t.now) texts.now) }
 {
     if names.len() < texts.len() {
         return false;

@@ -90,7 +90,8 @@ fn is_destination(function: &Function, register: Reg) -> bool
 
 /// Whether a node sets no register or one that it may set.
 fn sets_destination(function: &Function, node: &Node) -> bool
-    ensures { IsTrue result ↔ AllByRecursion (graph.IsDestination function.now) (option_to_list (register_set node.now)) }
+    ensures { IsTrue result ↔ AllByRecursion (graph.IsDestination function.now)
+        (option_to_list (register_set node.now)) }
 {
     match register_set(node) {
         Some(register) => is_destination(function, register),
@@ -100,7 +101,8 @@ fn sets_destination(function: &Function, node: &Node) -> bool
 
 /// Whether a node has no name or one of the program.
 fn has_name(program: &Program, node: &Node) -> bool
-    ensures { IsTrue result ↔ AllByRecursion (graph.IsName program.now) (option_to_list (name_in node.now)) }
+    ensures { IsTrue result ↔ AllByRecursion (graph.IsName program.now)
+        (option_to_list (name_in node.now)) }
 {
     match name_in(node) {
         Some(name) => (name.0 as usize) < program.names.len(),
@@ -110,7 +112,8 @@ fn has_name(program: &Program, node: &Node) -> bool
 
 /// Whether a function, if there is one, is one of the program.
 pub(crate) fn is_function_if_any(program: &Program, function: Option<FnId>) -> bool
-    ensures { IsTrue result ↔ AllByRecursion (graph.IsFunction program.now) (option_to_list function) }
+    ensures { IsTrue result ↔ AllByRecursion (graph.IsFunction program.now)
+        (option_to_list function) }
 {
     match function {
         Some(function) => (function.0 as usize) < program.functions.len(),

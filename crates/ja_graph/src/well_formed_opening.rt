@@ -80,8 +80,8 @@ fn is_property_before(properties: &[PropertySpec], k: usize, name: NameId) -> bo
     false
 }
 
-/// Whether no two properties have one name. Each is compared with those before it, so the time grows
-/// with the square of how many there are.
+/// Whether no two properties have one name. Each is compared with those before it, so the time
+/// grows with the square of how many there are.
 fn are_once(properties: &[PropertySpec]) -> bool
     ensures { IsTrue result ↔ spec.AreOnce properties.now }
 {
@@ -107,8 +107,8 @@ fn is_object_well_formed(program: &Program, i: usize, object: &ObjectSpec) -> bo
         && are_once(properties)
 }
 
-/// Whether each object of the opening heap is well formed. A prototype is looked for among the objects
-/// before, so the time grows with the square of how many there are.
+/// Whether each object of the opening heap is well formed. A prototype is looked for among the
+/// objects before, so the time grows with the square of how many there are.
 pub(crate) fn are_objects_well_formed(program: &Program) -> bool
     ensures { IsTrue result ↔ spec.AreObjectsWellFormed program.now }
 {
@@ -133,8 +133,8 @@ fn has_object(program: &Program, site: usize) -> bool
     false
 }
 
-/// Whether each site below the number of objects in the opening heap has one of them. The time grows
-/// with the square of that number.
+/// Whether each site below the number of objects in the opening heap has one of them. The time
+/// grows with the square of that number.
 pub(crate) fn have_objects(program: &Program) -> bool
     ensures { IsTrue result ↔ spec.HaveObjects program.now }
 {

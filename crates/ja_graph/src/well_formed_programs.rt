@@ -29,7 +29,8 @@ fn has_functions(program: &Program) -> bool
         && are_functions_well_formed(program)
 }
 
-/// Whether the sites of a program are numbered and told, name functions of the program, and aren't too many.
+/// Whether the sites of a program are numbered and told, name functions of the program, and aren't
+/// too many.
 fn has_sites(program: &Program) -> bool
     ensures { IsTrue result ↔ spec.HasSites program.now }
 {
@@ -55,9 +56,9 @@ fn has_names(program: &Program) -> bool
     names.len() <= MOST_NAMES && begin_with_builtin_names(names) && are_distinct(names)
 }
 
-/// Whether a program is well formed. It takes no memory. The time grows with the square of how many names
-/// there are, of how many objects the opening heap has, and of how many properties one of them has,
-/// and else with the size of the program.
+/// Whether a program is well formed. It takes no memory. The time grows with the square of how many
+/// names there are, of how many objects the opening heap has, and of how many properties one of
+/// them has, and else with the size of the program.
 pub fn well_formed(program: &Program) -> bool
     ensures { IsTrue result ↔ IsWellFormed program.now }
 {

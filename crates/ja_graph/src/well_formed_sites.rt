@@ -59,10 +59,11 @@ fn after_nodes(program: &Program, owner: usize, number: usize, nodes: &[NodeInfo
     Some(next)
 }
 
-/// The number behind those of the sites of all nodes, where they go on from the objects of the opening
-/// heap and are told.
+/// The number behind those of the sites of all nodes, where they go on from the objects of the
+/// opening heap and are told.
 fn after_functions(program: &Program) -> Option<usize>
-    ensures { spec.EndsAt program.now (length program.now.opening) (graph.makings_from 0 program.now.functions) result }
+    ensures { spec.EndsAt program.now (length program.now.opening)
+        (graph.makings_from 0 program.now.functions) result }
 {
     let mut next = program.opening.len();
     let functions = program.functions.as_slice();
@@ -72,8 +73,8 @@ fn after_functions(program: &Program) -> Option<usize>
     Some(next)
 }
 
-/// Whether the sites of nodes stand behind those of the opening heap, numbered by function and node,
-/// and are told as what they are.
+/// Whether the sites of nodes stand behind those of the opening heap, numbered by function and
+/// node, and are told as what they are.
 pub(crate) fn are_sites_numbered(program: &Program) -> bool
     ensures { IsTrue result ↔ spec.AreSitesNumbered program.now }
 {

@@ -1,4 +1,5 @@
-//! What is found along the prototypes of an object (ES3 8.6.2.1 to 8.6.2.4), and along a scope chain (10.1.4).
+//! What is found along the prototypes of an object (ES3 8.6.2.1 to 8.6.2.4), and along a scope
+//! chain (10.1.4).
 ghost use Rattle.std.specs.Prelude.{◌≡◌, IfOk, find};
 ghost use Rattle.std.specs.Option.{option_map, option_and_then};
 ghost use Rattle.ja_machine.specs.Heap as spec;
@@ -67,7 +68,8 @@ impl Heap {
         self.get(a, name).is_some()
     }
 
-    /// Whether a put isn't ignored: the nearest property of the name, if there is one, isn't read-only (ES3 8.6.2.3).
+    /// Whether a put isn't ignored: the nearest property of the name, if there is one, isn't
+    /// read-only (ES3 8.6.2.3).
     pub fn can_put(&self, a: Addr, name: &Text16) -> bool
         ensures { result ≡ spec.can_put self.now a name.now }
     {
@@ -77,7 +79,8 @@ impl Heap {
         }
     }
 
-    /// Whether an object shows a name to `for`-`in`: the nearest property of the name is enumerable (ES3 12.6.4).
+    /// Whether an object shows a name to `for`-`in`: the nearest property of the name is enumerable
+    /// (ES3 12.6.4).
     pub fn shows(&self, a: Addr, name: &Text16) -> bool
         ensures { result ≡ enumeration.shows self.now a name.now }
     {

@@ -11,8 +11,8 @@ use ja_prim::Text16;
 use std::alloc::Global;
 use std::marker::Model;
 
-/// All objects: for each site those that were made there, in order, fewer than 2^64. None is removed. Contracts see the heap
-/// of the machine. To let it go is one call.
+/// All objects: for each site those that were made there, in order, fewer than 2^64. None is
+/// removed. Contracts see the heap of the machine. To let it go is one call.
 pub struct Heap {
     pub(crate) objects: Vec<Vec<Object>>,
     /// How many objects there are in all.
@@ -31,7 +31,8 @@ impl Model for Heap {
 
     ghost view = { λ h. record { objects = map (λ site. site.items) h.objects.items } };
 
-    ghost invariant = { λ h. (h.size ≡ size_of (record { objects = map (λ site. site.items) h.objects.items })) × (h.length ≡ length_name) };
+    ghost invariant = { λ h. (h.size ≡ size_of (record { objects = map (λ site. site.items) h.objects.items }))
+        × (h.length ≡ length_name) };
 }
 
 impl Drop for Heap {
@@ -65,7 +66,8 @@ impl Heap {
 
     /// Adds a site behind the others, with one object or none.
     pub fn add_site(&mut self, alloc: Global, object: Option<Object>) -> Result<(), Memory>
-        ensures added { OnOk result (self.new ≡ record { objects = self.old.objects ++ option_to_list object ∷ [] }) }
+        ensures added { OnOk result (self.new
+            ≡ record { objects = self.old.objects ++ option_to_list object ∷ [] }) }
         ensures kept { OnErr result (self.new ≡ self.old) }
     {
         let mut objects = Vec::new(alloc);
@@ -117,9 +119,13 @@ impl Heap {
         self.objects_of(site).len() as u64
     }
 
-    /// The label of an object: it is the new one exactly where it is the last that was made at its site.
+    /// The label of an object: it is the new one exactly where it is the last that was made at its
+    /// site.
     pub fn label_of(&self, a: Addr) -> Label
-        ensures { result ≡ record { site = a.site; old = not (a.ordinal + 1 == spec.count self.now a.site) } }
+        ensures { result ≡ record {
+          site = a.site;
+          old = not (a.ordinal + 1 == spec.count self.now a.site);
+        } }
     {
         let count = self.count(a.site);
         let is_last = 0 < count && a.ordinal == count - 1;
@@ -143,7 +149,8 @@ impl Heap {
         Some(self.object(a)?.class())
     }
 
-    /// Whether an object is an array or an arguments object, whose elements a function is called with (ES3 15.3.4.3).
+    /// Whether an object is an array or an arguments object, whose elements a function is called
+    /// with (ES3 15.3.4.3).
     pub fn has_elements(&self, a: Addr) -> bool
         ensures { result ≡ has_elements_at self.now a }
     {
@@ -163,7 +170,8 @@ impl Heap {
         self.object(a)?.property(name)
     }
 
-    /// Whether the own property of the name is there, and shared by a parameter and `arguments` (ES3 10.1.8).
+    /// Whether the own property of the name is there, and shared by a parameter and `arguments`
+    /// (ES3 10.1.8).
     pub fn is_shared(&self, a: Addr, name: &Text16) -> bool
         ensures { result ≡ spec.is_shared self.now a name.now }
     {

@@ -384,7 +384,8 @@ impl Properties {
         content: Content,
         attrs: Attrs,
     ) -> Result<(), Memory>
-        ensures defined { OnOk result (self.new ≡ spec.with_definition self.old name.now content attrs) }
+        ensures defined { OnOk result (self.new
+            ≡ spec.with_definition self.old name.now content attrs) }
         ensures kept { OnErr result (self.new ≡ self.old) }
     {
         match slot_of(self.slots.as_slice(), &self.places, name) {

@@ -32,7 +32,8 @@ fn whole_number(n: u32) -> Value
     Value::Primitive(Primitive::Number(Num::Whole(Int::new(i64::from(n)).unwrap())))
 }
 
-/// The unsigned 32-bit number that a value's number is, if it is one (ES3 15.4.5.1, steps 12 and 13).
+/// The unsigned 32-bit number that a value's number is, if it is one (ES3 15.4.5.1, steps 12 and
+/// 13).
 fn unsigned_number(value: &Prim) -> Option<u32>
     ensures value { result ≡ spec.unsigned_number (to_number value.now) }
     ensures small { IfSome result (λ n. n < 2 ^ 32) }
@@ -62,7 +63,8 @@ impl Object {
         whole_number_of(&self.property(length)?.content)
     }
 
-    /// Sets an element: a length that isn't above its index becomes one more than the index (ES3 15.4.5.1, steps 8 to 10).
+    /// Sets an element: a length that isn't above its index becomes one more than the index (ES3
+    /// 15.4.5.1, steps 8 to 10).
     fn put_element(
         &mut self,
         alloc: Global,
@@ -71,7 +73,8 @@ impl Object {
         v: Value,
     ) -> Result<(), Memory>
         requires { length.now ≡ spec.length_name }
-        ensures put { OnOk result (self.new ≡ spec.with_element self.old name.now v (index_of name.now)) }
+        ensures put { OnOk result (self.new ≡ spec.with_element self.old name.now v
+            (index_of name.now)) }
         ensures kept { OnErr result (self.new ≡ self.old) }
     {
         let old = self.length(length);
@@ -86,7 +89,10 @@ impl Object {
 
     /// Deletes the elements from a new length on, below the old one, if that is a number.
     fn cut(&mut self, new: u32, old: Option<Int>)
-        ensures { self.new ≡ record self.old { properties = filter (λ (q : Property). not (spec.is_cut new old q)) self.old.properties } }
+        ensures { self.new ≡ record self.old {
+          properties = filter
+              (λ (q : Property). not (spec.is_cut new old q)) self.old.properties;
+        } }
     {
         match old {
             None => {}
@@ -94,8 +100,8 @@ impl Object {
         }
     }
 
-    /// Sets an array's length: elements that aren't below it are deleted (ES3 15.4.5.1, steps 14 and
-    /// 15). The length is set first, since that may take memory.
+    /// Sets an array's length: elements that aren't below it are deleted (ES3 15.4.5.1, steps 14
+    /// and 15). The length is set first, since that may take memory.
     fn put_length(&mut self, alloc: Global, length: &Text16, n: u32) -> Result<(), Memory>
         requires { length.now ≡ spec.length_name }
         ensures put { OnOk result (self.new ≡ spec.with_length self.old n) }
@@ -152,10 +158,11 @@ impl Object {
 }
 
 impl Heap {
-    /// Sets the value of a property (ES3 8.6.2.2, 15.4.5.1). All but `Done` leave the heap as it was,
-    /// and so does `Memory`, which comes where memory is refused.
+    /// Sets the value of a property (ES3 8.6.2.2, 15.4.5.1). All but `Done` leave the heap as it
+    /// was, and so does `Memory`, which comes where memory is refused.
     pub fn put(&mut self, alloc: Global, a: Addr, name: &Text16, v: Value) -> Result<Put, Memory>
-        ensures put { IfOk result (λ end. spec.written self.new end ≡ spec.put self.old a name.now v) }
+        ensures put { IfOk result (λ end. spec.written self.new end
+            ≡ spec.put self.old a name.now v) }
         ensures kept { OnErr result (self.new ≡ self.old) }
     {
         if !self.can_put(a, name) {
@@ -184,7 +191,8 @@ impl Heap {
         }
     }
 
-    /// Defines a name on an object: its content and its attributes. A new name comes last. After `Memory` the heap is as it was.
+    /// Defines a name on an object: its content and its attributes. A new name comes last. After
+    /// `Memory` the heap is as it was.
     pub fn define(
         &mut self,
         alloc: Global,
@@ -230,7 +238,8 @@ impl Heap {
 
     /// Removes an own property, if it is there.
     fn remove(&mut self, a: Addr, name: &Text16)
-        ensures { self.new ≡ spec.changed self.old a (λ (o : Object). record o { properties = spec.without o.properties name.now }) }
+        ensures { self.new ≡ spec.changed self.old a
+            (λ (o : Object). record o { properties = spec.without o.properties name.now }) }
     {
         let objects = match self.objects.get_mut(a.site.0 as usize) {
             None => return,
@@ -242,9 +251,14 @@ impl Heap {
         }
     }
 
-    /// Marks an own property, if it is there: from now on a parameter and an element of `arguments` share its value (ES3 10.1.8).
+    /// Marks an own property, if it is there: from now on a parameter and an element of `arguments`
+    /// share its value (ES3 10.1.8).
     pub fn mark(&mut self, a: Addr, name: &Text16)
-        ensures { self.new ≡ spec.changed self.old a (λ (o : Object). record o { properties = map (code.shared_from_now name.now) o.properties }) }
+        ensures { self.new ≡ spec.changed self.old a
+            (λ (o : Object). record o {
+              properties = map (code.shared_from_now name.now)
+                  o.properties;
+            }) }
     {
         let objects = match self.objects.get_mut(a.site.0 as usize) {
             None => return,

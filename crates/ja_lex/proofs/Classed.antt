@@ -23,15 +23,24 @@ pub record Hexadecimals (cs : List ℕ) : Type 0 where
 
 pub escape_digits : (cs : List ℕ) → is_escape cs 0 ≡ true → Hexadecimals cs
 unfolding is_escape
-escape_digits cs h = record { first = grind (arith, nat_tests); second = grind (arith, nat_tests); third = grind (arith, nat_tests); fourth = grind (arith, nat_tests) }
+escape_digits cs h =
+    record {
+      first = grind (arith, nat_tests);
+      second = grind (arith, nat_tests);
+      third = grind (arith, nat_tests);
+      fourth = grind (arith, nat_tests);
+    }
 
 -- ---- runs of ASCII, and their units
 
-pub run_all : (p q : ℕ → Bool) → ((c : ℕ) → p c ≡ true → q c ≡ true) → (cs : List ℕ) → list_all q (take_while p cs) ≡ true
+pub run_all : (p q : ℕ → Bool) → ((c : ℕ) → p c ≡ true → q c ≡ true) → (cs : List ℕ)
+    → list_all q (take_while p cs) ≡ true
 run_all p q f [] = refl
 run_all p q f (c ∷ cs) = split (p c)
-    (λ h. let e : take_while p (c ∷ cs) ≡ c ∷ take_while p cs = take_while-cons p c cs ∙ rw h refl in ap (list_all q) e ∙ rw (f c h, run_all p q f cs) refl)
-    (λ h. let e : take_while p (c ∷ cs) ≡ [] = take_while-cons p c cs ∙ rw h refl in ap (list_all q) e)
+    (λ h. let e : take_while p (c ∷ cs) ≡ c ∷ take_while p cs = take_while-cons p c cs
+    ∙ rw h refl in ap (list_all q) e ∙ rw (f c h, run_all p q f cs) refl)
+    (λ h. let e : take_while p (c ∷ cs) ≡ [] = take_while-cons p c cs ∙ rw h refl in
+    ap (list_all q) e)
 
 part_ascii : (c : ℕ) → is_part c ≡ true → is_ascii c ≡ true
 unfolding is_part
@@ -60,5 +69,7 @@ one_unit c h = grind (arith, nat_tests)
 pub ascii_units : (cs : List ℕ) → list_all is_ascii cs ≡ true → flat_map encode_utf16 cs ≡ cs
 ascii_units [] h = refl
 ascii_units (c ∷ cs) h =
-    let e : (is_ascii c ≡ true) × (list_all is_ascii cs ≡ true) = and_parts (is_ascii c) (list_all is_ascii cs) h in
-    flat_map-cons encode_utf16 c cs ∙ rw (one_unit c e.0) (ap (λ (v : List ℕ). c ∷ v) (ascii_units cs e.1))
+    let e : (is_ascii c ≡ true) × (list_all is_ascii cs ≡ true) = and_parts (is_ascii c)
+    (list_all is_ascii cs) h in
+    flat_map-cons encode_utf16 c cs ∙ rw (one_unit c e.0)
+    (ap (λ (v : List ℕ). c ∷ v) (ascii_units cs e.1))

@@ -1,10 +1,11 @@
 pub mod Bodies
-pub mod Steps
-pub mod Texts
 pub mod Classed
 pub mod Endings
+pub mod Literals
 pub mod Longest
 pub mod LongestMarks
 pub mod OtherElements
-pub mod Literals
+pub mod Rulesets
 pub mod Spans
+pub mod Steps
+pub mod Texts

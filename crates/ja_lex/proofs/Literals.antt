@@ -35,8 +35,14 @@ unfolding behind_fraction
 fraction_parted [] = record { part = []; sum = refl; is_part = tt }
 fraction_parted (c ∷ cs) = go (c == 46) refl
   where
-    go : (b : Bool) → c == 46 ≡ b → Parted IsFraction (c ∷ cs) (if b then behind_digits cs else c ∷ cs)
-    go true e = record { part = c ∷ digits cs; sum = ap (λ (v : List ℕ). c ∷ v) (digits_parted cs); is_part = (grind (arith, nat_tests), all_digits cs) }
+    go : (b : Bool) → c == 46 ≡ b → Parted IsFraction (c ∷ cs)
+        (if b then behind_digits cs else c ∷ cs)
+    go true e =
+        record {
+          part = c ∷ digits cs;
+          sum = ap (λ (v : List ℕ). c ∷ v) (digits_parted cs);
+          is_part = (grind (arith, nat_tests), all_digits cs);
+        }
     go false e = record { part = []; sum = refl; is_part = tt }
 
 sign_parted : (c : ℕ) (cs : List ℕ) → Parted IsSign cs (power (c ∷ cs))
@@ -48,7 +54,8 @@ sign_parted c (b ∷ bs) = go (is_sign b) refl
     go true e = record { part = b ∷ []; sum = refl; is_part = (e, refl) }
     go false e = record { part = []; sum = refl; is_part = tt }
 
-exponent_is : (letter : ℕ) (sign ds : List ℕ) → is_exponent_letter letter ≡ true → IsSign sign → list_all is_digit ds ≡ true → 1 ≤ length ds → IsExponent (letter ∷ (sign ++ ds))
+exponent_is : (letter : ℕ) (sign ds : List ℕ) → is_exponent_letter letter ≡ true → IsSign sign
+    → list_all is_digit ds ≡ true → 1 ≤ length ds → IsExponent (letter ∷ (sign ++ ds))
 exponent_is letter sign [] l s a n = absurd (omega arith)
 exponent_is letter sign (d ∷ ds) l s a n = record {
   letter = letter;
@@ -62,7 +69,8 @@ exponent_is letter sign (d ∷ ds) l s a n = record {
   other_digits = (and_parts (is_digit d) (list_all is_digit ds) a).1;
 }
 
-some : (b : Bool) (ds : List ℕ) → (length (if b then ds else []) == 0) ≡ false → (b ≡ true) × (1 ≤ length ds)
+some : (b : Bool) (ds : List ℕ) → (length (if b then ds else []) == 0) ≡ false
+    → (b ≡ true) × (1 ≤ length ds)
 some true ds h = (refl, grind (arith, nat_tests))
 some false ds h = cc
 
@@ -74,7 +82,8 @@ unfolding exponent behind_exponent
 exponent_parted [] = record { part = []; sum = refl; is_part = inl refl }
 exponent_parted (c ∷ cs) = go (length (exponent (c ∷ cs)) == 0) refl
   where
-    go : (b : Bool) → (length (exponent (c ∷ cs)) == 0) ≡ b → Parted MayBeExponent (c ∷ cs) (if b then c ∷ cs else behind_digits (power (c ∷ cs)))
+    go : (b : Bool) → (length (exponent (c ∷ cs)) == 0) ≡ b
+        → Parted MayBeExponent (c ∷ cs) (if b then c ∷ cs else behind_digits (power (c ∷ cs)))
     go true e = record { part = []; sum = refl; is_part = inl refl }
     go false e =
         let p : List ℕ = power (c ∷ cs) in
@@ -82,7 +91,9 @@ exponent_parted (c ∷ cs) = go (length (exponent (c ∷ cs)) == 0) refl
         let l = some (is_exponent_letter c) (digits p) e in
         record {
           part = c ∷ (s.part ++ digits p);
-          sum = ap (λ (v : List ℕ). c ∷ v) (s.sum ∙ ap (λ (v : List ℕ). s.part ++ v) (digits_parted p) ∙ sym (append_assoc s.part (digits p) (behind_digits p)));
+          sum =
+              ap (λ (v : List ℕ). c ∷ v) (s.sum ∙ ap (λ (v : List ℕ). s.part ++ v) (digits_parted p)
+              ∙ sym (append_assoc s.part (digits p) (behind_digits p)));
           is_part = inr (exponent_is c s.part (digits p) l.0 s.is_part (all_digits p) l.1);
         }
 
@@ -92,24 +103,30 @@ either : (a b : Bool) → a || b ≡ true → a ≡ false → b ≡ true
 either true b h e = cc
 either false b h e = h
 
-pointed : (c : ℕ) (cs : List ℕ) → c == 46 ≡ true → is_digit (char_at cs 0) ≡ true → 2 + length (behind_fraction (c ∷ cs)) ≤ length (c ∷ cs)
+pointed : (c : ℕ) (cs : List ℕ) → c == 46 ≡ true → is_digit (char_at cs 0) ≡ true
+    → 2 + length (behind_fraction (c ∷ cs)) ≤ length (c ∷ cs)
 unfolding behind_fraction
 pointed c [] p h = cc
 pointed c (d ∷ ds) p h =
-    let e : behind_fraction (c ∷ d ∷ ds) ≡ behind_digits ds = if_true (behind_digits (d ∷ ds)) (c ∷ d ∷ ds) p ∙ digits_past (d ∷ []) ds (rw h refl) in
+    let e : behind_fraction (c ∷ d ∷ ds) ≡ behind_digits ds = if_true (behind_digits (d ∷ ds))
+    (c ∷ d ∷ ds) p ∙ digits_past (d ∷ []) ds (rw h refl) in
     omega (arith, ap (length {A = ℕ}) e, digits_within ds)
 
-digit_first : (cs : List ℕ) → begins_number cs ≡ true → (1 ≤ length (digits cs)) ⊎ (2 + length (behind_fraction (behind_digits cs)) ≤ length (behind_digits cs))
+digit_first : (cs : List ℕ) → begins_number cs ≡ true
+    → (1 ≤ length (digits cs)) ⊎ (2 + length (behind_fraction (behind_digits cs))
+    ≤ length (behind_digits cs))
 unfolding begins_number
 digit_first [] h = cc
 digit_first (c ∷ cs) h = split (is_digit c)
     (λ d. inl (some_digits c cs d))
     (λ n. let e = and_parts (c == 46) (is_digit (char_at cs 0)) (either (is_digit c) _ h n) in
-    inr (subst (λ (v : List ℕ). 2 + length (behind_fraction v) ≤ length v) (sym (no_digits c cs n)) (pointed c cs e.0 e.1)))
+    inr (subst (λ (v : List ℕ). 2 + length (behind_fraction v) ≤ length v) (sym (no_digits c cs n))
+    (pointed c cs e.0 e.1)))
 
 front_is : (cs front rest : List ℕ) → cs ≡ front ++ rest → take (length cs - length rest) cs ≡ front
 front_is cs front rest e =
-    let n : length cs - length rest ≡ length front = omega (arith, ap (length {A = ℕ}) e, length-append front rest) in
+    let n : length cs - length rest ≡ length front = omega
+    (arith, ap (length {A = ℕ}) e, length-append front rest) in
     ap (λ (k : ℕ). take k cs) n ∙ ap (take (length front)) e ∙ take-append_seam front rest
 
 pub decimal_is : (cs : List ℕ) → begins_number cs ≡ true → IsDecimal (take (decimal_length cs) cs)
@@ -118,9 +135,12 @@ decimal_is cs h =
     let r : List ℕ = behind_digits cs in
     let f = fraction_parted r in
     let x = exponent_parted (behind_fraction r) in
-    let n : length r ≡ length f.part + length (behind_fraction r) = ap (length {A = ℕ}) f.sum ∙ length-append f.part (behind_fraction r) in
+    let n : length r ≡ length f.part + length (behind_fraction r) = ap (length {A = ℕ}) f.sum
+    ∙ length-append f.part (behind_fraction r) in
     let s : cs ≡ (digits cs ++ (f.part ++ x.part)) ++ behind_decimal cs =
-    digits_parted cs ∙ ap (λ (v : List ℕ). digits cs ++ v) (f.sum ∙ ap (λ (v : List ℕ). f.part ++ v) x.sum) ∙ sym (append_parts (digits cs) f.part x.part (behind_decimal cs)) in
+    digits_parted cs ∙ ap (λ (v : List ℕ). digits cs ++ v)
+    (f.sum ∙ ap (λ (v : List ℕ). f.part ++ v) x.sum)
+    ∙ sym (append_parts (digits cs) f.part x.part (behind_decimal cs)) in
     record {
       whole = digits cs;
       point = f.part;

@@ -14,10 +14,12 @@ use Rattle.ja_lex.specs.Marks.{begins_with, longer, longest, marks, mark_or, mar
 abbrev is_short : List ℕ → Bool
 is_short m = nat_le (length m) max_units && nat_le 1 (length m)
 
-longer_short : (best m cs : List ℕ) → length best ≤ max_units → is_short m ≡ true → length (longer best m cs) ≤ max_units
+longer_short : (best m cs : List ℕ) → length best ≤ max_units → is_short m ≡ true
+    → length (longer best m cs) ≤ max_units
 longer_short best m cs h k = grind (arith, nat_tests)
 
-longest_short : (best : List ℕ) (ms : List (List ℕ)) (cs : List ℕ) → length best ≤ max_units → list_all is_short ms ≡ true → length (longest best ms cs) ≤ max_units
+longest_short : (best : List ℕ) (ms : List (List ℕ)) (cs : List ℕ) → length best ≤ max_units
+    → list_all is_short ms ≡ true → length (longest best ms cs) ≤ max_units
 longest_short best [] cs h k = h
 longest_short best (m ∷ ms) cs h k =
     let f : is_short m ≡ true = grind (arith, nat_tests) in
@@ -49,7 +51,8 @@ first_or_later y x xs h = at h.0 h.1 h.2
 one_not_empty : (m : List ℕ) → is_short m ≡ true → 1 ≤ length m
 one_not_empty m h = grind (arith, nat_tests)
 
-not_empty : (ms : List (List ℕ)) (m : List ℕ) → list_all is_short ms ≡ true → Contains ms m → 1 ≤ length m
+not_empty : (ms : List (List ℕ)) (m : List ℕ) → list_all is_short ms ≡ true → Contains ms m
+    → 1 ≤ length m
 not_empty [] m k h = let lt = h.1 in absurd (omega arith)
 not_empty (x ∷ xs) m k h =
     let f : is_short x ≡ true = grind (arith, nat_tests) in
@@ -75,25 +78,30 @@ split (m ∷ ms) (c ∷ cs) h =
 begins : (m rest : List ℕ) → begins_with m (m ++ rest) ≡ true
 unfolding begins_with
 begins [] rest = refl
-begins (m ∷ ms) rest = let e : begins_with ms (ms ++ rest) ≡ true = begins ms rest in grind (arith, nat_tests)
+begins (m ∷ ms) rest = let e : begins_with ms (ms ++ rest) ≡ true = begins ms rest in
+    grind (arith, nat_tests)
 
 -- ---- the longest one
 
 abbrev IsFound : List ℕ → List (List ℕ) → List ℕ → List ℕ → Type 0
 IsFound best ms cs w = (w ≡ best) ⊎ (Contains ms w × (begins_with w cs ≡ true))
 
-longer_found : (best m cs : List ℕ) → (longer best m cs ≡ best) ⊎ ((longer best m cs ≡ m) × (begins_with m cs ≡ true))
+longer_found : (best m cs : List ℕ) → (longer best m cs ≡ best)
+    ⊎ ((longer best m cs ≡ m) × (begins_with m cs ≡ true))
 longer_found best m cs = grind (arith, nat_tests)
 
 found : (best : List ℕ) (ms : List (List ℕ)) (cs : List ℕ) → IsFound best ms cs (longest best ms cs)
 found best [] cs = inl refl
 found best (m ∷ ms) cs = at (found (longer best m cs) ms cs) (longer_found best m cs)
   where
-    at : IsFound (longer best m cs) ms cs (longest (longer best m cs) ms cs) → (longer best m cs ≡ best) ⊎ ((longer best m cs ≡ m) × (begins_with m cs ≡ true))
+    at : IsFound (longer best m cs) ms cs (longest (longer best m cs) ms cs)
+        → (longer best m cs ≡ best) ⊎ ((longer best m cs ≡ m) × (begins_with m cs ≡ true))
         → IsFound best (m ∷ ms) cs (longest (longer best m cs) ms cs)
     at (inr h) _ = inr (there m _ ms h.0, h.1)
     at (inl e) (inl f) = inl (e ∙ f)
-    at (inl e) (inr f) = inr (subst (λ w. Contains (m ∷ ms) w × (begins_with w cs ≡ true)) (sym (e ∙ f.0)) (here m ms, f.1))
+    at (inl e) (inr f) =
+        inr (subst (λ w. Contains (m ∷ ms) w × (begins_with w cs ≡ true)) (sym (e ∙ f.0))
+        (here m ms, f.1))
 
 longer_grows : (best m cs : List ℕ) → length best ≤ length (longer best m cs)
 longer_grows best m cs = grind (arith, nat_tests)
@@ -101,35 +109,48 @@ longer_grows best m cs = grind (arith, nat_tests)
 longer_of : (best m cs : List ℕ) → begins_with m cs ≡ true → length m ≤ length (longer best m cs)
 longer_of best m cs h = grind (arith, nat_tests)
 
-longest_grows : (best : List ℕ) (ms : List (List ℕ)) (cs : List ℕ) → length best ≤ length (longest best ms cs)
+longest_grows : (best : List ℕ) (ms : List (List ℕ)) (cs : List ℕ)
+    → length best ≤ length (longest best ms cs)
 longest_grows best [] cs = omega arith
 longest_grows best (m ∷ ms) cs =
-    let e : length (longer best m cs) ≤ length (longest (longer best m cs) ms cs) = longest_grows (longer best m cs) ms cs in
+    let e : length (longer best m cs) ≤ length (longest (longer best m cs) ms cs) = longest_grows
+    (longer best m cs) ms cs in
     let f : length best ≤ length (longer best m cs) = longer_grows best m cs in
     omega (e, f, arith)
 
-none_longer : (best : List ℕ) (ms : List (List ℕ)) (cs m : List ℕ) → Contains ms m → begins_with m cs ≡ true → length m ≤ length (longest best ms cs)
+none_longer : (best : List ℕ) (ms : List (List ℕ)) (cs m : List ℕ) → Contains ms m
+    → begins_with m cs ≡ true → length m ≤ length (longest best ms cs)
 none_longer best [] cs m h b = let lt = h.1 in absurd (omega arith)
-none_longer best (x ∷ xs) cs m h b = at (first_or_later x m xs h) (λ later. none_longer (longer best x cs) xs cs m later b)
+none_longer best (x ∷ xs) cs m h b =
+    at (first_or_later x m xs h) (λ later. none_longer (longer best x cs) xs cs m later b)
   where
-    at : (x ≡ m) ⊎ Contains xs m → (Contains xs m → length m ≤ length (longest (longer best x cs) xs cs)) → length m ≤ length (longest (longer best x cs) xs cs)
+    at : (x ≡ m) ⊎ Contains xs m → (Contains xs m
+        → length m ≤ length (longest (longer best x cs) xs cs))
+        → length m ≤ length (longest (longer best x cs) xs cs)
     at (inl e) _ =
-        let f : length (longer best x cs) ≤ length (longest (longer best x cs) xs cs) = longest_grows (longer best x cs) xs cs in
-        let g : length x ≤ length (longer best x cs) = longer_of best x cs (ap (λ t. begins_with t cs) e ∙ b) in
-        subst (λ (t : List ℕ). length t ≤ length (longest (longer best x cs) xs cs)) e (omega (f, g, arith))
+        let f : length (longer best x cs) ≤ length
+        (longest (longer best x cs) xs cs) = longest_grows (longer best x cs) xs cs in
+        let g : length x ≤ length (longer best x cs) = longer_of best x cs
+        (ap (λ t. begins_with t cs) e ∙ b) in
+        subst (λ (t : List ℕ). length t ≤ length (longest (longer best x cs) xs cs)) e
+        (omega (f, g, arith))
     at (inr later) k = k later
 
 -- ---- the element
 
-mark_of : (fault : TokenFault) (w m : List ℕ) (n : ℕ) → mark_or (bad fault) w ≡ element.Token (kind.Mark m) n → (1 ≤ length w) × (w ≡ m) × (n ≡ length w)
+mark_of : (fault : TokenFault) (w m : List ℕ) (n : ℕ)
+    → mark_or (bad fault) w ≡ element.Token (kind.Mark m) n
+    → (1 ≤ length w) × (w ≡ m) × (n ≡ length w)
 mark_of fault [] m n h = absurd (cc)
-mark_of fault (x ∷ xs) m n h = let e : x ∷ xs ≡ m = cc in let f : n ≡ length (x ∷ xs) = cc in (omega arith, e, f)
+mark_of fault (x ∷ xs) m n h = let e : x ∷ xs ≡ m = cc in let f : n ≡ length (x ∷ xs) = cc in
+    (omega arith, e, f)
 
 none_of : (fault other : TokenFault) (w : List ℕ) → mark_or (bad fault) w ≡ bad other → w ≡ []
 none_of fault other [] h = refl
 none_of fault other (x ∷ xs) h = absurd (cc)
 
-pub mark_taken : (text m : List ℕ) (n : ℕ) → mark text ≡ element.Token (kind.Mark m) n → IsLongestMark text m × (n ≡ length m)
+pub mark_taken : (text m : List ℕ) (n : ℕ) → mark text ≡ element.Token (kind.Mark m) n
+    → IsLongestMark text m × (n ≡ length m)
 unfolding mark
 mark_taken text m n h = at (found [] marks text)
   where
@@ -144,18 +165,22 @@ mark_taken text m n h = at (found [] marks text)
       among = f.0;
       rest = r.0;
       begins = r.1;
-      longest = λ other behind among e. none_longer [] marks text other among (ap (begins_with other) e ∙ begins other behind);
+      longest =
+          λ other behind among e. none_longer [] marks text other among
+          (ap (begins_with other) e ∙ begins other behind);
     }
 
     at : IsFound [] marks text w → IsLongestMark text m × (n ≡ length m)
     at (inl e) = let one = is.0 in absurd (omega (arith, ap length e))
     at (inr f) = (subst (IsLongestMark text) is.1 (longest_one f), is.2 ∙ ap length is.1)
 
-pub mark_none : (text m rest : List ℕ) (fault : TokenFault) → mark text ≡ bad fault → Contains marks m → text ≢ m ++ rest
+pub mark_none : (text m rest : List ℕ) (fault : TokenFault) → mark text ≡ bad fault
+    → Contains marks m → text ≢ m ++ rest
 unfolding mark
 mark_none text m rest fault h among e =
     let none : longest [] marks text ≡ [] = none_of _ fault _ h in
     let one : 1 ≤ length m = not_empty marks m marks_short among in
-    let most : length m ≤ length (longest [] marks text) = none_longer [] marks text m among (ap (begins_with m) e ∙ begins m rest) in
+    let most : length m ≤ length (longest [] marks text) = none_longer [] marks text m among
+    (ap (begins_with m) e ∙ begins m rest) in
     let zero_long : length (longest [] marks text) ≡ 0 = ap length none in
     omega (arith, one, most, zero_long)

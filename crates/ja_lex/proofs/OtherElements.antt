@@ -42,21 +42,28 @@ literal_other cs k value = either (is_run_into cs k) _ _ (refused _) (value_othe
 
 number_other : (cs : List ℕ) → IsOther (number cs)
 unfolding number
-number_other cs = either (is_octal cs) _ _ (refused _) (either (length (hexadecimal_digits cs) == 0) _ _ (literal_other cs _ _) (literal_other cs _ _))
+number_other cs =
+    either (is_octal cs) _ _ (refused _) (either (length (hexadecimal_digits cs) == 0) _ _
+    (literal_other cs _ _) (literal_other cs _ _))
 
 word_is : (t : List ℕ) (k : ℕ) → IsOther (element.Token (kind.Word t) k)
 word_is t k = record { no_mark = λ m n h. absurd (cc) }
 
 word_other : (cs : List ℕ) → IsOther (word cs)
 unfolding word
-word_other cs = either (is_escape cs (prefix_len is_part cs)) _ _ (refused _) (either (nat_lt max_units (prefix_len is_part cs)) _ _ (refused _) (word_is (take_while is_part cs) (prefix_len is_part cs)))
+word_other cs =
+    either (is_escape cs (prefix_len is_part cs)) _ _ (refused _)
+    (either (nat_lt max_units (prefix_len is_part cs)) _ _ (refused _)
+    (word_is (take_while is_part cs) (prefix_len is_part cs)))
 
 text_is : (t : List ℕ) (k : ℕ) → IsOther (element.Token (kind.Text t) k)
 text_is t k = record { no_mark = λ m n h. absurd (cc) }
 
 body_other : (b : Option Body) → IsOther (of_body b)
 body_other None = refused _
-body_other (Some b) = either b.octal _ _ (refused _) (either (nat_lt max_units (length b.units)) _ _ (refused _) (text_is b.units (b.length + 2)))
+body_other (Some b) =
+    either b.octal _ _ (refused _) (either (nat_lt max_units (length b.units)) _ _ (refused _)
+    (text_is b.units (b.length + 2)))
 
 string_other : (cs : List ℕ) → IsOther (string cs)
 unfolding string
@@ -71,11 +78,13 @@ unfolding long_comment
 comment_other cs = closed_other (closing (drop 2 cs))
 
 -- where the first rule gives no mark, a mark is the second's
-second : (b : Bool) (e f : Element) (m : List ℕ) (n : ℕ) → IsOther e → (if b then e else f) ≡ element.Token (kind.Mark m) n → f ≡ element.Token (kind.Mark m) n
+second : (b : Bool) (e f : Element) (m : List ℕ) (n : ℕ) → IsOther e
+    → (if b then e else f) ≡ element.Token (kind.Mark m) n → f ≡ element.Token (kind.Mark m) n
 second true e f m n h k = absurd (h.no_mark m n k)
 second false e f m n h k = k
 
-pub from_mark : (text m : List ℕ) (n : ℕ) → first_element text ≡ element.Token (kind.Mark m) n → mark text ≡ element.Token (kind.Mark m) n
+pub from_mark : (text m : List ℕ) (n : ℕ) → first_element text ≡ element.Token (kind.Mark m) n
+    → mark text ≡ element.Token (kind.Mark m) n
 unfolding first_element
 from_mark text m n h =
     let a = second (is_blank (char_at text 0)) _ _ m n (blank 1) h in

@@ -23,7 +23,8 @@ pub record IsLongestMark (text m : List ℕ) : Type 0 where
   pub among : Contains marks m
   pub rest : List ℕ
   pub begins : text ≡ m ++ rest
-  pub longest : (other behind : List ℕ) → Contains marks other → text ≡ other ++ behind → length other ≤ length m
+  pub longest : (other behind : List ℕ) → Contains marks other → text ≡ other ++ behind
+      → length other ≤ length m
 
 -- nothing, or a point and digits
 abbrev pub IsFraction : List ℕ → Type 0
@@ -47,7 +48,8 @@ pub record IsExponent (w : List ℕ) : Type 0 where
   pub first_digit : is_digit first ≡ true
   pub other_digits : list_all is_digit others ≡ true
 
--- a decimal literal (7.8.3): digits, a fraction or none, and an exponent or none, with a digit before the exponent
+-- a decimal literal (7.8.3): digits, a fraction or none, and an exponent or none, with a digit
+-- before the exponent
 pub record IsDecimal (w : List ℕ) : Type 0 where
   pub whole : List ℕ
   pub point : List ℕ

@@ -30,10 +30,14 @@ longest best (m ∷ ms) cs = longest (longer best m cs) ms cs
 -- the punctuators and the div punctuators (7.7)
 unfoldable pub marks : List (List ℕ)
 marks =
-    codes "{" ∷ codes "}" ∷ codes "(" ∷ codes ")" ∷ codes "[" ∷ codes "]" ∷ codes "." ∷ codes ";" ∷ codes "," ∷ codes "<" ∷ codes ">" ∷ codes "<=" ∷
-    codes ">=" ∷ codes "==" ∷ codes "!=" ∷ codes "===" ∷ codes "!==" ∷ codes "+" ∷ codes "-" ∷ codes "*" ∷ codes "%" ∷ codes "++" ∷ codes "--" ∷
-    codes "<<" ∷ codes ">>" ∷ codes ">>>" ∷ codes "&" ∷ codes "|" ∷ codes "^" ∷ codes "!" ∷ codes "~" ∷ codes "&&" ∷ codes "||" ∷ codes "?" ∷
-    codes ":" ∷ codes "=" ∷ codes "+=" ∷ codes "-=" ∷ codes "*=" ∷ codes "%=" ∷ codes "<<=" ∷ codes ">>=" ∷ codes ">>>=" ∷ codes "&=" ∷ codes "|=" ∷
+    codes "{" ∷ codes "}" ∷ codes "(" ∷ codes ")" ∷ codes "[" ∷ codes "]" ∷ codes "." ∷ codes ";"
+    ∷ codes "," ∷ codes "<" ∷ codes ">" ∷ codes "<=" ∷
+    codes ">=" ∷ codes "==" ∷ codes "!=" ∷ codes "===" ∷ codes "!==" ∷ codes "+" ∷ codes "-"
+    ∷ codes "*" ∷ codes "%" ∷ codes "++" ∷ codes "--" ∷
+    codes "<<" ∷ codes ">>" ∷ codes ">>>" ∷ codes "&" ∷ codes "|" ∷ codes "^" ∷ codes "!"
+    ∷ codes "~" ∷ codes "&&" ∷ codes "||" ∷ codes "?" ∷
+    codes ":" ∷ codes "=" ∷ codes "+=" ∷ codes "-=" ∷ codes "*=" ∷ codes "%=" ∷ codes "<<="
+    ∷ codes ">>=" ∷ codes ">>>=" ∷ codes "&=" ∷ codes "|=" ∷
     codes "^=" ∷ codes "/" ∷ codes "/=" ∷ []
 
 -- why no token begins with a character that no rule takes: past ASCII it leaves the profile

@@ -36,7 +36,8 @@ of_value n _ = bad (Scope scope.Number)
 abbrev pub is_run_into : List ℕ → ℕ → Bool
 is_run_into cs i = is_part (char_at cs i) || is_escape cs i
 
--- A literal of n characters and its exact value. No identifier and no digit may stand right behind it.
+-- A literal of n characters and its exact value. No identifier and no digit may stand right behind
+-- it.
 abbrev pub literal : List ℕ → ℕ → Result Num Stop → Element
 literal cs n value = if is_run_into cs n then bad Lexical else of_value n value
 

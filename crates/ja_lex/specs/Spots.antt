@@ -12,7 +12,8 @@ place_at line column = record { line = line; column = column }
 abbrev pub beginning : Spot
 beginning = record { offset = 0; place = place_at 1 1 }
 
--- The first of these characters ends its line: it is a line terminator (7.3), but of CR LF the LF alone ends the line.
+-- The first of these characters ends its line: it is a line terminator (7.3), but of CR LF the LF
+-- alone ends the line.
 unfoldable pub ends_line : List ℕ → Bool
 ends_line cs = is_terminator (char_at cs 0) && not (char_at cs 0 == 13 && char_at cs 1 == 10)
 
@@ -20,7 +21,9 @@ ends_line cs = is_terminator (char_at cs 0) && not (char_at cs 0 == 13 && char_a
 unfoldable pub after : Spot → List ℕ → Spot
 after p cs = record {
   offset = p.offset + len_utf8 (char_at cs 0);
-  place = if ends_line cs then place_at (p.place.line + 1) 1 else place_at p.place.line (p.place.column + 1);
+  place =
+      if ends_line cs then place_at (p.place.line + 1) 1
+      else place_at p.place.line (p.place.column + 1);
 }
 
 -- the spot behind the first n of these characters, or behind all where there are fewer

@@ -15,7 +15,8 @@ use Rattle.ja_prim.specs.Characters.{char_at, is_terminator, is_digit, is_hexade
 use Rattle.ja_prim.specs.Texts.{max_units}
 use Rattle.ja_lex.specs.Marks.{bad}
 
--- what `\` and a character that is no digit, no x, no u and no line terminator stand for: b, t, n, v, f and r a control character, any other itself
+-- what `\` and a character that is no digit, no x, no u and no line terminator stand for: b, t, n,
+-- v, f and r a control character, any other itself
 unfoldable pub escaped : ℕ → ℕ
 escaped c =
     if c == 98 then 8
@@ -32,15 +33,19 @@ two_digits cs i = 16 * digit_value (char_at cs i) + digit_value (char_at cs (i +
 
 -- `\x` and two hexadecimal digits
 unfoldable pub short_escape : List ℕ → Item
-short_escape cs = if is_hexadecimal (char_at cs 2) && is_hexadecimal (char_at cs 3) then item.Unit (two_digits cs 2) 4 else item.Wrong
+short_escape cs =
+    if is_hexadecimal (char_at cs 2) && is_hexadecimal (char_at cs 3)
+    then item.Unit (two_digits cs 2) 4 else item.Wrong
 
 -- `\u` and four hexadecimal digits
 unfoldable pub long_escape : List ℕ → Item
-long_escape cs = if is_escape cs 0 then item.Unit (256 * two_digits cs 2 + two_digits cs 4) 6 else item.Wrong
+long_escape cs =
+    if is_escape cs 0 then item.Unit (256 * two_digits cs 2 + two_digits cs 4) 6 else item.Wrong
 
 -- `\` and a digit: `\0`, if no digit stands behind it, and else an octal escape (B.1.2)
 unfoldable pub digit_escape : List ℕ → Item
-digit_escape cs = if char_at cs 1 == 48 && not (is_digit (char_at cs 2)) then item.Unit 0 2 else item.Octal
+digit_escape cs =
+    if char_at cs 1 == 48 && not (is_digit (char_at cs 2)) then item.Unit 0 2 else item.Octal
 
 -- an item that begins with `\`
 unfoldable pub escape : List ℕ → Item
@@ -95,14 +100,16 @@ before i others = record {
 abbrev pub nothing : Body
 nothing = record { units = []; octal = false; length = 0 }
 
--- The items up to a quote, of characters of which the first n belong to an item that was read. None where one is wrong or no quote comes.
+-- The items up to a quote, of characters of which the first n belong to an item that was read. None
+-- where one is wrong or no quote comes.
 unfoldable pub body_after : ℕ → ℕ → List ℕ → Option Body
 body_after quote n [] = None
 body_after quote (suc n) (c ∷ cs) = body_after quote n cs
 body_after quote zero (c ∷ cs) =
     if c == quote then Some nothing
     else if is_wrong (first_item (c ∷ cs)) then None
-    else option_map (before (first_item (c ∷ cs))) (body_after quote (item_length (first_item (c ∷ cs)) - 1) cs)
+    else option_map (before (first_item (c ∷ cs)))
+    (body_after quote (item_length (first_item (c ∷ cs)) - 1) cs)
 
 abbrev pub of_body : Option Body → Element
 of_body None = bad Lexical

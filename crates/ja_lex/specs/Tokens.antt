@@ -35,7 +35,8 @@ begins_string cs = char_at cs 0 == 39 || char_at cs 0 == 34
 unfoldable pub begins_comment : List ℕ → ℕ → Bool
 begins_comment cs c = char_at cs 0 == 47 && char_at cs 1 == c
 
--- what some characters begin with: a blank (white space, a line terminator or a comment), a token, or nothing that the profile has
+-- what some characters begin with: a blank (white space, a line terminator or a comment), a token,
+-- or nothing that the profile has
 unfoldable pub first_element : List ℕ → Element
 first_element cs =
     if is_blank (char_at cs 0) then element.Blank 1
@@ -52,7 +53,8 @@ element_length (element.Token kind n) = n
 
 -- a token that stands from p up to before q
 abbrev pub token : TokenKind → Bool → Spot → Spot → Token
-token kind line p q = record { kind = kind; start = p.offset; end = q.offset; line_before = line; place = p.place }
+token kind line p q =
+    record { kind = kind; start = p.offset; end = q.offset; line_before = line; place = p.place }
 
 -- no token stands behind the end, and behind a refusal none is read
 abbrev pub is_last : TokenKind → Bool
@@ -76,15 +78,17 @@ abbrev pub led : Element → Bool → Spot → Spot → List Token → List Toke
 led (element.Blank n) line p q more = more
 led (element.Token kind n) line p q more = followed (token kind line p q) more
 
--- The tokens of characters whose first stands at a spot and of which the first n belong to an element that was read. The Bool says
--- whether a line terminator stands between the last token and there.
+-- The tokens of characters whose first stands at a spot and of which the first n belong to an
+-- element that was read. The Bool says whether a line terminator stands between the last token and
+-- there.
 unfoldable pub tokens_after : ℕ → Bool → Spot → List ℕ → List Token
 tokens_after n line p [] = token kind.End line p p ∷ []
 tokens_after (suc n) line p (c ∷ cs) = tokens_after n line (after p (c ∷ cs)) cs
 tokens_after zero line p (c ∷ cs) =
     let e = first_element (c ∷ cs) in
     let more = element_length e - 1 in
-    led e line p (past more (after p (c ∷ cs)) cs) (tokens_after more (line_behind e line (c ∷ cs)) (after p (c ∷ cs)) cs)
+    led e line p (past more (after p (c ∷ cs)) cs)
+    (tokens_after more (line_behind e line (c ∷ cs)) (after p (c ∷ cs)) cs)
 
 -- the tokens of characters, of which a U+FEFF that stands first is none (7.1)
 abbrev pub tokens_of : List ℕ → List Token

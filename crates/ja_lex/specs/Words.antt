@@ -10,7 +10,8 @@ use Rattle.ja_prim.specs.Characters.{is_part, is_escape}
 use Rattle.ja_prim.specs.Texts.{max_units}
 use Rattle.ja_lex.specs.Marks.{bad}
 
--- The longest beginning of letters, digits, `_` and `$`. An escape right behind it goes on with the identifier, and is refused.
+-- The longest beginning of letters, digits, `_` and `$`. An escape right behind it goes on with the
+-- identifier, and is refused.
 unfoldable pub word : List ℕ → Element
 word cs =
     if is_escape cs (prefix_len is_part cs) then bad (Scope scope.IdentifierEscape)

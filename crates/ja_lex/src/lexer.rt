@@ -128,7 +128,8 @@ fn characters_of(alloc: Global, text: &str) -> Result<Vec<char>, AllocError>
 /// Goes past a U+FEFF that stands first.
 fn skip_mark(cursor: &mut Cursor<'_>)
     requires { cursor.old.spot ≡ beginning }
-    ensures same { spec.tokens_after 0 false cursor.new.spot cursor.new.rest.now ≡ spec.tokens_of cursor.old.rest.now }
+    ensures same { spec.tokens_after 0 false cursor.new.spot cursor.new.rest.now
+        ≡ spec.tokens_of cursor.old.rest.now }
     ensures within { length cursor.new.rest.now ≤ length cursor.old.rest.now }
 {
     if char_at(cursor.rest, 0) == '\u{feff}' {
@@ -139,8 +140,11 @@ fn skip_mark(cursor: &mut Cursor<'_>)
 /// Takes the next token.
 fn next_token(alloc: Global, texts: &mut Texts, cursor: &mut Cursor<'_>) -> Result<Token, Memory>
     requires { length cursor.old.rest.now ≤ 16777216 }
-    ensures next { IfOk result (λ token. spec.tokens_after 0 false cursor.old.spot cursor.old.rest.now ≡ spec.followed token (spec.tokens_after 0 false cursor.new.spot cursor.new.rest.now)) }
-    ensures shorter { IfOk result (λ token. spec.is_last token.kind ≡ false → length cursor.new.rest.now < length cursor.old.rest.now) }
+    ensures next { IfOk result (λ token. spec.tokens_after 0 false cursor.old.spot
+        cursor.old.rest.now ≡ spec.followed token
+        (spec.tokens_after 0 false cursor.new.spot cursor.new.rest.now)) }
+    ensures shorter { IfOk result (λ token. spec.is_last token.kind ≡ false
+        → length cursor.new.rest.now < length cursor.old.rest.now) }
     ensures within { length cursor.new.rest.now ≤ length cursor.old.rest.now }
 {
     let mut line_before = false;
@@ -161,8 +165,9 @@ fn next_token(alloc: Global, texts: &mut Texts, cursor: &mut Cursor<'_>) -> Resu
     Ok(token(TokenKind::End, line_before, cursor.spot, cursor.spot))
 }
 
-/// The tokens of a text of at most 16,777,216 bytes (ES3 section 7). The last is `End`, or `Bad`, behind which nothing is
-/// read. A place counts characters; CR LF ends one line. The error is want of memory.
+/// The tokens of a text of at most 16,777,216 bytes (ES3 section 7). The last is `End`, or `Bad`,
+/// behind which nothing is read. A place counts characters; CR LF ends one line. The error is want
+/// of memory.
 #[tactic(auto, using(crate::proofs::Endings::tokens_end_once))]
 pub fn tokens(alloc: Global, text: &str) -> Result<Seq<Token>, Memory>
     requires { length text.now ≤ 16777216 }

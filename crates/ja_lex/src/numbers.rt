@@ -110,7 +110,7 @@ fn decimal_length(text: &[char]) -> usize
 }
 
 /// The exact value of the longest decimal literal.
-#[tactic(auto, using(ja_prim::proofs::Digits::all_digits_append, crate::proofs::Classed::all_digits), unfolding(ja_prim::specs::Numerals::decimal_value))]
+#[tactic(auto, using(crate::proofs::Rulesets::for_decimal_value), unfolding(ja_prim::specs::Numerals::decimal_value))]
 fn decimal_value(alloc: Global, text: &[char]) -> Result<Result<Num, Stop>, AllocFailed<u16>>
     requires { length text.now ≤ 16777216 }
     ensures { IfOk result (λ value. value ≡ numerals.decimal_value false text.now) }

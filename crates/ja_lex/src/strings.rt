@@ -13,8 +13,8 @@ use ja_base::{ScopeKind, Seq};
 use ja_prim::{MAX_UNITS, Text16, push_character};
 use std::alloc::{AllocError, AllocFailed, Global};
 
-/// What stands between the quotes of a string literal: its units, whether it has an octal escape, and how many characters
-/// it is.
+/// What stands between the quotes of a string literal: its units, whether it has an octal escape,
+/// and how many characters it is.
 #[derive(Drop)]
 pub struct Body {
     pub units: Seq<u16>,

@@ -1,4 +1,5 @@
--- What a program with devices begins with: its objects and their properties, its sites, and the names of the devices.
+-- What a program with devices begins with: its objects and their properties, its sites, and the
+-- names of the devices.
 use Rattle.std.proofs.Common.{◌≡◌, ◌+◌, ◌==◌, ◌⊎◌, inl, inr, ℕ, zero, suc, Bool, true, false, not, if◌then◌else◌, List, [], ◌∷◌, ◌++◌, length, map, filter, take, Some, None, slice_get, refl, sym, ap, ◌∙◌, arith}
 use Rattle.std.specs.List.{AllByRecursion, enumerate_from, fold, list_any}
 use Rattle.std.specs.Str.{bytes_eq}
@@ -28,23 +29,28 @@ use Rattle.ja_syntax.specs.declared.tree.Statement.{Statement}
 -- ---- names
 
 -- names keep their places where others are added
-kept-name : (names us : List (List ℕ)) (n : ℕ) (t : List ℕ) → slice_get names n ≡ Some t → slice_get (fold with_name names us) n ≡ Some t
+kept-name : (names us : List (List ℕ)) (n : ℕ) (t : List ℕ) → slice_get names n ≡ Some t
+    → slice_get (fold with_name names us) n ≡ Some t
 kept-name names us n t is =
     let follow = names_follow names us in
     ap (λ ns. slice_get ns n) follow.1 ∙ get-front names follow.0 n t is
 
 -- a name that is added has a place
-added-name : (names : List (List ℕ)) (t : List ℕ) → (n : ℕ) × (slice_get (with_name names t) n ≡ Some t)
+added-name : (names : List (List ℕ)) (t : List ℕ)
+    → (n : ℕ) × (slice_get (with_name names t) n ≡ Some t)
 added-name names t = at (list_any (bytes_eq t) names) refl
   where
-    at : (b : Bool) → list_any (bytes_eq t) names ≡ b → (n : ℕ) × (slice_get (if b then names else names ++ t ∷ []) n ≡ Some t)
+    at : (b : Bool) → list_any (bytes_eq t) names ≡ b
+        → (n : ℕ) × (slice_get (if b then names else names ++ t ∷ []) n ≡ Some t)
     at true some =
         let place = place-of (bytes_eq t) names some in
         (place.0, place.2 ∙ ap Some (sym ((bytes_decides t place.1).0 place.3)))
-    at false none = (length names, get-behind names (t ∷ []) zero (length names) t (omega arith) refl)
+    at false none =
+        (length names, get-behind names (t ∷ []) zero (length names) t (omega arith) refl)
 
 -- .. and so has each of several
-pub added-names : (names us : List (List ℕ)) (i : ℕ) (t : List ℕ) → slice_get us i ≡ Some t → (n : ℕ) × (slice_get (fold with_name names us) n ≡ Some t)
+pub added-names : (names us : List (List ℕ)) (i : ℕ) (t : List ℕ) → slice_get us i ≡ Some t
+    → (n : ℕ) × (slice_get (fold with_name names us) n ≡ Some t)
 added-names names [] i t is = absurd (cc)
 added-names names (u ∷ us) zero t is =
     let place = added-name names u in
@@ -52,22 +58,28 @@ added-names names (u ∷ us) zero t is =
 added-names names (u ∷ us) (suc i) t is = added-names (with_name names u) us i t is
 
 -- the name of a device is one of the program's
-pub device-named : (signatures : List Signature) (xs : List Statement) (i : ℕ) (t : List ℕ) → slice_get (device_names signatures) i ≡ Some t → (n : ℕ) × (slice_get (names_of false (names_before signatures) xs) n ≡ Some t)
+pub device-named : (signatures : List Signature) (xs : List Statement) (i : ℕ) (t : List ℕ)
+    → slice_get (device_names signatures) i ≡ Some t
+    → (n : ℕ) × (slice_get (names_of false (names_before signatures) xs) n ≡ Some t)
 unfolding names_of
 device-named signatures xs i t is =
     let texts = map (λ (n : Named). n.text) (filter (is_name false) (names_in xs)) in
-    let before = get-behind prelude_names (device_names signatures) i (length prelude_names + i) t refl is in
+    let before = get-behind prelude_names (device_names signatures) i (length prelude_names + i) t
+    refl is in
     let place = added-names [] (names_before signatures) (length prelude_names + i) t before in
     (place.0, kept-name (fold with_name [] (names_before signatures)) texts place.0 t place.1)
 
 -- the names of the built-in objects come first
-pub builtin-names-first : (signatures : List Signature) (xs : List Statement) → take (length builtin_names) (names_of false (names_before signatures) xs) ≡ builtin_names
+pub builtin-names-first : (signatures : List Signature) (xs : List Statement)
+    → take (length builtin_names) (names_of false (names_before signatures) xs) ≡ builtin_names
 unfolding names_of
 builtin-names-first signatures xs =
-    let built_in = map (λ (n : Named). n.text) (filter (is_name true) (names_in prelude_statements)) in
+    let built_in = map (λ (n : Named). n.text)
+    (filter (is_name true) (names_in prelude_statements)) in
     let texts = map (λ (n : Named). n.text) (filter (is_name false) (names_in xs)) in
     let hosts = device_names signatures in
-    let behind : fold with_name (fold with_name [] (names_before signatures)) texts ≡ fold with_name (fold with_name [] prelude_names) (hosts ++ texts) =
+    let behind : fold with_name (fold with_name [] (names_before signatures)) texts
+    ≡ fold with_name (fold with_name [] prelude_names) (hosts ++ texts) =
     ap (λ ns. fold with_name ns texts) (fold-append with_name [] prelude_names hosts)
     ∙ sym (fold-append with_name (fold with_name [] prelude_names) hosts texts) in
     ap (take (length builtin_names)) behind ∙ names_first built_in (hosts ++ texts)
@@ -75,18 +87,23 @@ builtin-names-first signatures xs =
 -- ---- sites
 
 -- a device's site tells its function
-pub device-told : (first : ℕ) (signatures : List Signature) (k : ℕ) (s : Signature) → slice_get signatures k ≡ Some s → slice_get (device_sites first signatures) k ≡ Some (device_info (first + k))
+pub device-told : (first : ℕ) (signatures : List Signature) (k : ℕ) (s : Signature)
+    → slice_get signatures k ≡ Some s → slice_get (device_sites first signatures) k
+    ≡ Some (device_info (first + k))
 unfolding device_sites
 device-told first signatures k s is =
     let number : 0 + k ≡ k = omega arith in
-    map-at (λ (row : ℕ × Signature). device_info (first + row.0)) (enumerate_from 0 signatures) k (k, s) (number-there signatures 0 k s is ∙ ap (λ n. Some (n, s)) number)
+    map-at (λ (row : ℕ × Signature). device_info (first + row.0)) (enumerate_from 0 signatures) k
+    (k, s) (number-there signatures 0 k s is ∙ ap (λ n. Some (n, s)) number)
 
 -- no function has it
-pub devices-unowned : (first : ℕ) (signatures : List Signature) → AllByRecursion (λ (info : SiteInfo). info.owner ≡ None) (device_sites first signatures)
+pub devices-unowned : (first : ℕ) (signatures : List Signature)
+    → AllByRecursion (λ (info : SiteInfo). info.owner ≡ None) (device_sites first signatures)
 unfolding device_sites
 devices-unowned first signatures = each (enumerate_from 0 signatures)
   where
-    each : (rows : List (ℕ × Signature)) → AllByRecursion (λ (info : SiteInfo). info.owner ≡ None) (map (λ (row : ℕ × Signature). device_info (first + row.0)) rows)
+    each : (rows : List (ℕ × Signature)) → AllByRecursion (λ (info : SiteInfo). info.owner ≡ None)
+        (map (λ (row : ℕ × Signature). device_info (first + row.0)) rows)
     each [] = tt
     each (row ∷ rows) = (refl, each rows)
 
@@ -108,22 +125,36 @@ module _ (names : List (List ℕ)) (signatures : List Signature) where
     pub same : device_object which ≡ o
 
   -- each object is one of these
-  pub object-cases : (i : ℕ) (o : ObjectSpec) → slice_get (opening_with names signatures) i ≡ Some o → IsBuiltIn i o ⊎ IsDevice i o
+  pub object-cases : (i : ℕ) (o : ObjectSpec) → slice_get (opening_with names signatures) i ≡ Some o
+      → IsBuiltIn i o ⊎ IsDevice i o
   unfolding opening_with
-  object-cases i o is = at (append-cases (map (object_with_devices names signatures) opening_objects) (map (λ row. device_object row.0) (enumerate_from 0 signatures)) i o is)
+  object-cases i o is =
+      at (append-cases (map (object_with_devices names signatures) opening_objects)
+      (map (λ row. device_object row.0) (enumerate_from 0 signatures)) i o is)
     where
-      at : (slice_get (map (object_with_devices names signatures) opening_objects) i ≡ Some o) ⊎ ((k : ℕ) × (i ≡ length (map (object_with_devices names signatures) opening_objects) + k) × (slice_get (map (λ (row : ℕ × Signature). device_object row.0) (enumerate_from 0 signatures)) k ≡ Some o)) → IsBuiltIn i o ⊎ IsDevice i o
+      at : (slice_get (map (object_with_devices names signatures) opening_objects) i ≡ Some o)
+          ⊎ ((k : ℕ) × (i ≡ length (map (object_with_devices names signatures) opening_objects) + k)
+          × (slice_get (map (λ (row : ℕ × Signature). device_object row.0)
+          (enumerate_from 0 signatures)) k ≡ Some o)) → IsBuiltIn i o ⊎ IsDevice i o
       at (inl first) =
           let found = mapped-at (object_with_devices names signatures) opening_objects i o first in
           inl (record { object = found.0; object_is = found.1; same = found.2 })
       at (inr behind) =
-          let found = mapped-at (λ (row : ℕ × Signature). device_object row.0) (enumerate_from 0 signatures) behind.0 o behind.2 in
+          let found = mapped-at (λ (row : ℕ × Signature). device_object row.0)
+          (enumerate_from 0 signatures) behind.0 o behind.2 in
           let row = numbered-at signatures 0 behind.0 found.0 found.1 in
           let number : found.0.0 ≡ behind.0 = omega (arith, row.0) in
           inr (record {
             which = behind.0;
             signature = found.0.1;
-            place = omega (arith, behind.1, length-map opening_objects (object_with_devices names signatures), table-count);
+            place =
+                omega (
+                  arith,
+                  behind.1,
+                  length-map opening_objects
+                      (object_with_devices names signatures),
+                  table-count,
+                );
             signature_is = row.1;
             same = ap device_object (sym number) ∙ found.2;
           })
@@ -132,14 +163,18 @@ module _ (names : List (List ℕ)) (signatures : List Signature) where
   pub same-site : (b : ObjectSpec) → (object_with_devices names signatures b).site ≡ b.site
   same-site b = either (b.site.0 == GLOBAL.0)
     where
-      either : (c : Bool) → (if c then record b { properties = properties_with names signatures b.properties } else b).site ≡ b.site
+      either : (c : Bool) → (if c then record b
+          { properties = properties_with names signatures b.properties } else b).site ≡ b.site
       either true = refl
       either false = refl
 
-  pub same-prototype : (b : ObjectSpec) → (object_with_devices names signatures b).prototype ≡ b.prototype
+  pub same-prototype : (b : ObjectSpec) → (object_with_devices names signatures b).prototype
+      ≡ b.prototype
   same-prototype b = either (b.site.0 == GLOBAL.0)
     where
-      either : (c : Bool) → (if c then record b { properties = properties_with names signatures b.properties } else b).prototype ≡ b.prototype
+      either : (c : Bool) → (if c then record b
+          { properties = properties_with names signatures b.properties } else b).prototype
+          ≡ b.prototype
       either true = refl
       either false = refl
 
@@ -149,20 +184,36 @@ module _ (names : List (List ℕ)) (signatures : List Signature) where
 
   -- .. or has the name of a device
   abbrev pub IsOfDevice : PropertySpec → Type 0
-  IsOfDevice q = (k : ℕ) × (s : Signature) × (slice_get signatures k ≡ Some s) × (number names s.name ≡ q.name)
+  IsOfDevice q =
+      (k : ℕ) × (s : Signature) × (slice_get signatures k ≡ Some s) × (number names s.name ≡ q.name)
 
-  pub property-cases : (b : ObjectSpec) (j : ℕ) (q : PropertySpec) → slice_get (object_with_devices names signatures b).properties j ≡ Some q → IsOwn b q ⊎ IsOfDevice q
+  pub property-cases : (b : ObjectSpec) (j : ℕ) (q : PropertySpec)
+      → slice_get (object_with_devices names signatures b).properties j ≡ Some q
+      → IsOwn b q ⊎ IsOfDevice q
   property-cases b j q is = either (b.site.0 == GLOBAL.0) is
     where
-      at : (slice_get (filter (λ (p : PropertySpec). not (is_of_device names signatures p.name)) b.properties) j ≡ Some q) ⊎ ((k : ℕ) × (j ≡ length (filter (λ (p : PropertySpec). not (is_of_device names signatures p.name)) b.properties) + k) × (slice_get (map (λ (row : ℕ × Signature). device_property names row.0 row.1) (enumerate_from 0 signatures)) k ≡ Some q)) → IsOwn b q ⊎ IsOfDevice q
+      at : (slice_get (filter (λ (p : PropertySpec). not (is_of_device names signatures p.name))
+          b.properties) j ≡ Some q) ⊎ ((k : ℕ)
+          × (j ≡ length (filter (λ (p : PropertySpec). not (is_of_device names signatures p.name))
+          b.properties) + k) × (slice_get (map
+          (λ (row : ℕ × Signature). device_property names row.0 row.1)
+          (enumerate_from 0 signatures)) k ≡ Some q)) → IsOwn b q ⊎ IsOfDevice q
       at (inl left) =
-          let found = kept-at (λ (p : PropertySpec). not (is_of_device names signatures p.name)) b.properties j q left in
+          let found = kept-at (λ (p : PropertySpec). not (is_of_device names signatures p.name))
+          b.properties j q left in
           inl (found.0, found.1)
       at (inr behind) =
-          let found = mapped-at (λ (row : ℕ × Signature). device_property names row.0 row.1) (enumerate_from 0 signatures) behind.0 q behind.2 in
+          let found = mapped-at (λ (row : ℕ × Signature). device_property names row.0 row.1)
+          (enumerate_from 0 signatures) behind.0 q behind.2 in
           let row = numbered-at signatures 0 behind.0 found.0 found.1 in
           inr (behind.0, found.0.1, row.1, ap (λ (p : PropertySpec). p.name) found.2)
 
-      either : (c : Bool) → slice_get (if c then record b { properties = properties_with names signatures b.properties } else b).properties j ≡ Some q → IsOwn b q ⊎ IsOfDevice q
-      either true is = at (append-cases (filter (λ (p : PropertySpec). not (is_of_device names signatures p.name)) b.properties) (map (λ (row : ℕ × Signature). device_property names row.0 row.1) (enumerate_from 0 signatures)) j q is)
+      either : (c : Bool) → slice_get (if c then record b
+          { properties = properties_with names signatures b.properties } else b).properties j
+          ≡ Some q → IsOwn b q ⊎ IsOfDevice q
+      either true is =
+          at (append-cases (filter (λ (p : PropertySpec).
+          not (is_of_device names signatures p.name)) b.properties)
+          (map (λ (row : ℕ × Signature). device_property names row.0 row.1)
+          (enumerate_from 0 signatures)) j q is)
       either false is = inl (j, is)

@@ -1,4 +1,5 @@
--- The program of a text is well formed, by what is proved of lowering, of the built-in objects and functions, and of those of devices.
+-- The program of a text is well formed, by what is proved of lowering, of the built-in objects and
+-- functions, and of those of devices.
 use Rattle.std.proofs.Common.{◌≡◌, ℕ, zero, suc, ◌+◌, ◌-◌, ◌*◌, ◌<◌, ◌≤◌, false, List, [], ◌∷◌, ◌++◌, length, map, filter, take, Some, refl, sym, ap, ◌∙◌, subst, arith, length-append, length-take}
 use Rattle.std.specs.Prelude.{String}
 use Rattle.std.specs.List.{AllByRecursion, slice_get, range_with_len}
@@ -30,14 +31,54 @@ use Rattle.ja_syntax.specs.declared.tree.Statement.{Statement}
 -- ---- the laws of lowering
 
 pub record LoweringLaws : Type 0 where
-  pub parts : (names paths : List (List ℕ)) (prelude : List Statement) (signatures : List Signature) (first : ℕ) (statements : List Statement) (text : Lowered) → text ≡ lowered (first_names names prelude signatures) first statements → lowered_with_prelude names paths prelude signatures first statements ≡ followed_by text (behind_devices signatures (lowered_prelude names paths (first + length text.sites) (length text.functions + length signatures) prelude))
-  pub well_formed : (names paths : List (List ℕ)) (prelude : List Statement) (signatures : List Signature) (first : ℕ) (statements : List Statement) (p : Program) (f : ℕ) (fn : Function) → length paths ≡ prelude_count prelude → AreAllowed (lowering.prelude_bodies (lowering.prelude_names names prelude) prelude) → p.functions ≡ (lowered_with_prelude names paths prelude signatures first statements).functions → p.names ≡ (lowered_with_prelude names paths prelude signatures first statements).names → p.signatures ≡ signatures → slice_get p.functions f ≡ Some fn → fn.registers ≤ 262144 → IsFunctionWellFormed p fn
-  pub numbered : (names paths : List (List ℕ)) (prelude : List Statement) (signatures : List Signature) (first : ℕ) (statements : List Statement) → map (λ (m : OwnedMaking). m.making.site.0) (makings_from 0 (lowered_with_prelude names paths prelude signatures first statements).functions) ≡ range_with_len first (length (lowered_with_prelude names paths prelude signatures first statements).sites)
-  pub told : (names paths : List (List ℕ)) (prelude : List Statement) (signatures : List Signature) (front : List SiteInfo) (statements : List Statement) (p : Program) → p.sites ≡ front ++ (lowered_with_prelude names paths prelude signatures (length front) statements).sites → AllByRecursion (IsSiteTold p) (makings_from 0 (lowered_with_prelude names paths prelude signatures (length front) statements).functions)
-  pub name_functions : (names paths : List (List ℕ)) (prelude : List Statement) (signatures : List Signature) (first : ℕ) (statements : List Statement) (p : Program) → length paths ≡ prelude_count prelude → p.functions ≡ (lowered_with_prelude names paths prelude signatures first statements).functions → AllByRecursion (NamesFunctions p) (lowered_with_prelude names paths prelude signatures first statements).sites
-  pub few_sites : (names paths : List (List ℕ)) (prelude : List Statement) (signatures : List Signature) (first : ℕ) (statements : List Statement) → length (lowered_with_prelude names paths prelude signatures first statements).sites ≤ 4 * node_count (lowered_with_prelude names paths prelude signatures first statements).functions
-  pub in_size : (names paths : List (List ℕ)) (prelude : List Statement) (signatures : List Signature) (first : ℕ) (statements : List Statement) → node_count (lowered_with_prelude names paths prelude signatures first statements).functions ≤ size_of (first_names names prelude signatures) statements + 3 * length signatures + prelude_size_of names prelude
-  pub counted : (names paths : List (List ℕ)) (prelude : List Statement) (signatures : List Signature) (first : ℕ) (statements : List Statement) → length paths ≡ prelude_count prelude → length (lowered_with_prelude names paths prelude signatures first statements).functions ≡ function_count statements + length signatures + length paths
+  pub parts : (names paths : List (List ℕ)) (prelude : List Statement) (signatures : List Signature)
+      (first : ℕ) (statements : List Statement) (text : Lowered)
+      → text ≡ lowered (first_names names prelude signatures) first statements
+      → lowered_with_prelude names paths prelude signatures first statements
+      ≡ followed_by text (behind_devices signatures
+      (lowered_prelude names paths (first + length text.sites)
+      (length text.functions + length signatures) prelude))
+  pub well_formed : (names paths : List (List ℕ)) (prelude : List Statement)
+      (signatures : List Signature) (first : ℕ) (statements : List Statement) (p : Program) (f : ℕ)
+      (fn : Function) → length paths ≡ prelude_count prelude
+      → AreAllowed (lowering.prelude_bodies (lowering.prelude_names names prelude) prelude)
+      → p.functions ≡ (lowered_with_prelude names paths prelude signatures first
+      statements).functions → p.names ≡ (lowered_with_prelude names paths prelude signatures first
+      statements).names → p.signatures ≡ signatures → slice_get p.functions f ≡ Some fn
+      → fn.registers ≤ 262144 → IsFunctionWellFormed p fn
+  pub numbered : (names paths : List (List ℕ)) (prelude : List Statement)
+      (signatures : List Signature) (first : ℕ) (statements : List Statement)
+      → map (λ (m : OwnedMaking). m.making.site.0)
+      (makings_from 0 (lowered_with_prelude names paths prelude signatures first
+      statements).functions) ≡ range_with_len first
+      (length (lowered_with_prelude names paths prelude signatures first statements).sites)
+  pub told : (names paths : List (List ℕ)) (prelude : List Statement) (signatures : List Signature)
+      (front : List SiteInfo) (statements : List Statement) (p : Program)
+      → p.sites ≡ front ++ (lowered_with_prelude names paths prelude signatures (length front)
+      statements).sites → AllByRecursion (IsSiteTold p)
+      (makings_from 0 (lowered_with_prelude names paths prelude signatures (length front)
+      statements).functions)
+  pub name_functions : (names paths : List (List ℕ)) (prelude : List Statement)
+      (signatures : List Signature) (first : ℕ) (statements : List Statement) (p : Program)
+      → length paths ≡ prelude_count prelude
+      → p.functions ≡ (lowered_with_prelude names paths prelude signatures first
+      statements).functions → AllByRecursion (NamesFunctions p)
+      (lowered_with_prelude names paths prelude signatures first statements).sites
+  pub few_sites : (names paths : List (List ℕ)) (prelude : List Statement)
+      (signatures : List Signature) (first : ℕ) (statements : List Statement)
+      → length (lowered_with_prelude names paths prelude signatures first statements).sites
+      ≤ 4 * node_count (lowered_with_prelude names paths prelude signatures first
+      statements).functions
+  pub in_size : (names paths : List (List ℕ)) (prelude : List Statement)
+      (signatures : List Signature) (first : ℕ) (statements : List Statement)
+      → node_count (lowered_with_prelude names paths prelude signatures first statements).functions
+      ≤ size_of (first_names names prelude signatures) statements + 3 * length signatures
+      + prelude_size_of names prelude
+  pub counted : (names paths : List (List ℕ)) (prelude : List Statement)
+      (signatures : List Signature) (first : ℕ) (statements : List Statement)
+      → length paths ≡ prelude_count prelude
+      → length (lowered_with_prelude names paths prelude signatures first statements).functions
+      ≡ function_count statements + length signatures + length paths
 
 -- ---- what is known of the built-in functions
 
@@ -51,23 +92,29 @@ pub record PreludeFacts : Type 0 where
 
 -- ---- the names
 
-names_of_whole : (signatures : List Signature) (statements : List Statement) → (whole signatures statements).names ≡ names_of false (names_before signatures) statements
+names_of_whole : (signatures : List Signature) (statements : List Statement)
+    → (whole signatures statements).names ≡ names_of false (names_before signatures) statements
 unfolding lowered_with_prelude lowered
 names_of_whole signatures statements = refl
 
 -- no two are alike
-names_apart : (signatures : List Signature) (statements : List Statement) (i j : ℕ) (t : List ℕ) → slice_get (names_of false (names_before signatures) statements) i ≡ Some t → slice_get (names_of false (names_before signatures) statements) j ≡ Some t → i ≡ j
+names_apart : (signatures : List Signature) (statements : List Statement) (i j : ℕ) (t : List ℕ)
+    → slice_get (names_of false (names_before signatures) statements) i ≡ Some t
+    → slice_get (names_of false (names_before signatures) statements) j ≡ Some t → i ≡ j
 unfolding names_of
 names_apart signatures statements i j t is also =
-    names_distinct (names_before signatures) (map (λ (n : Named). n.text) (filter (is_name false) (names_in statements))) i j t is also
+    names_distinct (names_before signatures)
+    (map (λ (n : Named). n.text) (filter (is_name false) (names_in statements))) i j t is also
 
 -- ---- the program
 
 -- what is known of a program that was made of the parts of a text
-pub record IsMade (p : Program) (signatures : List Signature) (statements : List Statement) : Type 0 where
+pub record IsMade (p : Program) (signatures : List Signature) (statements : List Statement) : Type
+    0 where
   pub functions : p.functions ≡ (whole signatures statements).functions
   pub text_functions : p.text_functions ≡ function_count statements
-  pub sites : p.sites ≡ builtin_sites (function_count statements + length signatures) ++ device_sites (function_count statements) signatures ++ (whole signatures statements).sites
+  pub sites : p.sites ≡ builtin_sites (function_count statements + length signatures)
+      ++ device_sites (function_count statements) signatures ++ (whole signatures statements).sites
   pub names : p.names ≡ (whole signatures statements).names
   pub devices : p.signatures ≡ signatures
   pub opening : p.opening ≡ opening_with p.names signatures
@@ -75,21 +122,42 @@ pub record IsMade (p : Program) (signatures : List Signature) (statements : List
   pub text_first : p.text_first.0 ≡ function_count statements + length signatures + 42
 
 -- it has devices
-has_devices : LoweringLaws → PreludeFacts → (p : Program) (signatures : List Signature) (statements : List Statement) → AreSignatures signatures → IsMade p signatures statements → HasDevices p (function_count statements) signatures (whole signatures statements).sites
+has_devices : LoweringLaws → PreludeFacts
+    → (p : Program) (signatures : List Signature) (statements : List Statement)
+    → AreSignatures signatures → IsMade p signatures statements
+    → HasDevices p (function_count statements) signatures (whole signatures statements).sites
 has_devices laws facts p signatures statements fit made =
     let named = made.names ∙ names_of_whole signatures statements in
-    let begins : take (length builtin_names) p.names ≡ builtin_names = ap (take (length builtin_names)) named ∙ builtin-names-first signatures statements in
-    let paths_each : length prelude_paths ≡ prelude_count prelude_statements = omega (arith, facts.paths, facts.counted) in
+    let begins : take (length builtin_names) p.names
+    ≡ builtin_names = ap (take (length builtin_names)) named
+    ∙ builtin-names-first signatures statements in
+    let paths_each : length prelude_paths ≡ prelude_count prelude_statements = omega
+    (arith, facts.paths, facts.counted) in
     record {
       opening = made.opening;
       sites = made.sites;
-      functions = omega (arith, ap length made.functions, laws.counted builtin_names prelude_paths prelude_statements signatures (sites_before signatures) statements paths_each, facts.paths);
+      functions =
+          omega (
+            arith,
+            ap length made.functions,
+            laws.counted builtin_names prelude_paths prelude_statements signatures
+                (sites_before signatures) statements paths_each,
+            facts.paths,
+          );
       many = omega (arith, ap length begins, length-take (length builtin_names) p.names);
-      named = λ i s is. let found = device-named signatures statements i s.name (map-at (λ (s : Signature). s.name) signatures i s is) in (found.0, ap (λ ns. slice_get ns found.0) named ∙ found.1);
+      named =
+          λ i s is. let found = device-named signatures statements i s.name
+          (map-at (λ (s : Signature). s.name) signatures i s is) in
+          (found.0, ap (λ ns. slice_get ns found.0) named ∙ found.1);
       distinct = fit.distinct;
     }
 
-pub made_is_well_formed : LoweringLaws → PreludeFacts → (p : Program) (signatures : List Signature) (statements : List Statement) → AreSignatures signatures → IsWithin (names_before signatures) statements → AllByRecursion (λ (fn : Function). fn.registers ≤ 262144) (whole signatures statements).functions → length (whole signatures statements).names ≤ 1048576 → IsMade p signatures statements → IsWellFormed p
+pub made_is_well_formed : LoweringLaws → PreludeFacts
+    → (p : Program) (signatures : List Signature) (statements : List Statement)
+    → AreSignatures signatures → IsWithin (names_before signatures) statements
+    → AllByRecursion (λ (fn : Function). fn.registers ≤ 262144)
+    (whole signatures statements).functions → length (whole signatures statements).names ≤ 1048576
+    → IsMade p signatures statements → IsWellFormed p
 made_is_well_formed laws facts p signatures statements fit within registers few_names made =
     let l = whole signatures statements in
     let own = function_count statements in
@@ -97,15 +165,45 @@ made_is_well_formed laws facts p signatures statements fit within registers few_
     let front_sites = builtin_sites (own + length signatures) ++ device_sites own signatures in
     let has = has_devices laws facts p signatures statements fit made in
     let named = made.names ∙ names_of_whole signatures statements in
-    let paths_each : length prelude_paths ≡ prelude_count prelude_statements = omega (arith, facts.paths, facts.counted) in
-    let count : length p.functions ≡ own + length signatures + 43 = omega (arith, ap length made.functions, laws.counted builtin_names prelude_paths prelude_statements signatures first statements paths_each, facts.paths) in
+    let paths_each : length prelude_paths ≡ prelude_count prelude_statements = omega
+    (arith, facts.paths, facts.counted) in
+    let count : length p.functions ≡ own + length signatures
+    + 43 = omega (
+      arith,
+      ap length made.functions,
+      laws.counted builtin_names prelude_paths prelude_statements signatures first statements
+          paths_each,
+      facts.paths,
+    ) in
     let text = first_element p.functions (omega (arith, count)) in
-    let objects : length p.opening ≡ 43 + length signatures = ap length made.opening ∙ opening_count p.names signatures in
-    let front_count : length front_sites ≡ 43 + length signatures = omega (arith, length-append (builtin_sites (own + length signatures)) (device_sites own signatures), sites_count (own + length signatures), device_sites_count own signatures) in
-    let all_sites : length p.sites ≡ 43 + length signatures + length l.sites = omega (arith, ap length made.sites, length-append front_sites l.sites, front_count) in
-    let nodes : node_count l.functions ≤ 66828 = omega (arith, laws.in_size builtin_names prelude_paths prelude_statements signatures first statements, within.nodes, fit.few, facts.few) in
+    let objects : length p.opening ≡ 43 + length signatures = ap length made.opening
+    ∙ opening_count p.names signatures in
+    let front_count : length front_sites ≡ 43
+    + length signatures = omega (
+      arith,
+      length-append (builtin_sites (own + length signatures))
+          (device_sites own signatures),
+      sites_count (own + length signatures),
+      device_sites_count own signatures,
+    ) in
+    let all_sites : length p.sites ≡ 43 + length signatures
+    + length l.sites = omega (
+      arith,
+      ap length made.sites,
+      length-append front_sites l.sites,
+      front_count,
+    ) in
+    let nodes : node_count l.functions ≤ 66828 = omega (
+      arith,
+      laws.in_size builtin_names prelude_paths prelude_statements signatures first
+          statements,
+      within.nodes,
+      fit.few,
+      facts.few,
+    ) in
     let from : first ≡ length p.opening = omega (arith, classes_count, objects) in
-    let behind : length l.sites ≡ length p.sites - length p.opening = omega (arith, all_sites, objects) in
+    let behind : length l.sites ≡ length p.sites - length p.opening = omega
+    (arith, all_sites, objects) in
     let front : length front_sites ≡ first = omega (arith, front_count, classes_count) in
     record {
       text = text.0;
@@ -114,40 +212,93 @@ made_is_well_formed laws facts p signatures statements fit within registers few_
       text_functions = omega (arith, made.text_functions, count);
       value_first = omega (arith, made.value_first, count);
       text_first = omega (arith, made.text_first, count);
-      each = λ f fn is. laws.well_formed builtin_names prelude_paths prelude_statements signatures first statements p f fn paths_each facts.allowed made.functions made.names made.devices is (all_at (λ (fn : Function). fn.registers ≤ 262144) l.functions f fn registers (sym (ap (λ fns. slice_get fns f) made.functions) ∙ is));
+      each =
+          λ f fn is. laws.well_formed builtin_names prelude_paths prelude_statements signatures
+          first statements p f fn paths_each facts.allowed made.functions made.names made.devices is
+          (all_at (λ (fn : Function). fn.registers ≤ 262144) l.functions f fn registers
+          (sym (ap (λ fns. slice_get fns f) made.functions) ∙ is));
       few_nodes = omega (arith, nodes, ap node_count made.functions);
       objects = λ i o is. objects_with_devices p own signatures l.sites has i o is;
-      all_objects = λ s before. sites_have_objects_with_devices p own signatures l.sites has s before;
+      all_objects =
+          λ s before. sites_have_objects_with_devices p own signatures l.sites has s before;
       builtins = λ s c is. classes_with_devices p own signatures l.sites has s c is;
-      unowned = λ s before info is. unowned_with_devices p own signatures l.sites has s before info is;
-      name_functions = subst (AllByRecursion (NamesFunctions p)) (sym made.sites) (all_append (NamesFunctions p) front_sites l.sites (functions_with_devices p own signatures l.sites has) (laws.name_functions builtin_names prelude_paths prelude_statements signatures first statements p paths_each made.functions));
+      unowned =
+          λ s before info is. unowned_with_devices p own signatures l.sites has s before info is;
+      name_functions =
+          subst (AllByRecursion (NamesFunctions p)) (sym made.sites)
+          (all_append (NamesFunctions p) front_sites l.sites
+          (functions_with_devices p own signatures l.sites has)
+          (laws.name_functions builtin_names prelude_paths prelude_statements signatures first
+          statements p paths_each made.functions));
       sites = omega (arith, all_sites, objects);
       numbered =
           ap (λ fns. map (λ (m : OwnedMaking). m.making.site.0) (makings_from 0 fns)) made.functions
           ∙ laws.numbered builtin_names prelude_paths prelude_statements signatures first statements
           ∙ ap (λ a. range_with_len a (length l.sites)) from
           ∙ ap (range_with_len (length p.opening)) behind;
-      told = subst (λ fns. AllByRecursion (IsSiteTold p) (makings_from 0 fns)) (sym made.functions) (subst (λ n. p.sites ≡ front_sites ++ (lowered_with_prelude builtin_names prelude_paths prelude_statements signatures n statements).sites → AllByRecursion (IsSiteTold p) (makings_from 0 (lowered_with_prelude builtin_names prelude_paths prelude_statements signatures n statements).functions)) front (laws.told builtin_names prelude_paths prelude_statements signatures front_sites statements p) made.sites);
-      few_sites = omega (arith, all_sites, nodes, fit.few, laws.few_sites builtin_names prelude_paths prelude_statements signatures first statements);
+      told =
+          subst (λ fns. AllByRecursion (IsSiteTold p) (makings_from 0 fns)) (sym made.functions)
+          (subst (λ n. p.sites ≡ front_sites ++ (lowered_with_prelude builtin_names prelude_paths
+          prelude_statements signatures n statements).sites
+          → AllByRecursion (IsSiteTold p) (makings_from 0
+          (lowered_with_prelude builtin_names prelude_paths prelude_statements signatures n
+          statements).functions)) front (laws.told builtin_names prelude_paths prelude_statements
+          signatures front_sites statements p) made.sites);
+      few_sites =
+          omega (
+            arith,
+            all_sites,
+            nodes,
+            fit.few,
+            laws.few_sites builtin_names prelude_paths prelude_statements signatures first
+                statements,
+          );
       names = ap (take (length builtin_names)) named ∙ builtin-names-first signatures statements;
-      distinct = λ i j t is also. names_apart signatures statements i j t (sym (ap (λ ns. slice_get ns i) named) ∙ is) (sym (ap (λ ns. slice_get ns j) named) ∙ also);
+      distinct =
+          λ i j t is also. names_apart signatures statements i j t
+          (sym (ap (λ ns. slice_get ns i) named) ∙ is)
+          (sym (ap (λ ns. slice_get ns j) named) ∙ also);
       few_names = omega (arith, ap length made.names, few_names);
     }
 
-pub program_is_well_formed : LoweringLaws → PreludeFacts → (text : String Global) (signatures : List Signature) (statements : List Statement) → AreSignatures signatures → IsWithin (names_before signatures) statements → AllByRecursion (λ (fn : Function). fn.registers ≤ 262144) (whole signatures statements).functions → length (whole signatures statements).names ≤ 1048576 → IsWellFormed (program_of text signatures statements)
+pub program_is_well_formed : LoweringLaws → PreludeFacts
+    → (text : String Global) (signatures : List Signature) (statements : List Statement)
+    → AreSignatures signatures → IsWithin (names_before signatures) statements
+    → AllByRecursion (λ (fn : Function). fn.registers ≤ 262144)
+    (whole signatures statements).functions → length (whole signatures statements).names ≤ 1048576
+    → IsWellFormed (program_of text signatures statements)
 unfolding program_of
 program_is_well_formed laws facts text signatures statements fit within registers few_names =
-    made_is_well_formed laws facts (program_of text signatures statements) signatures statements fit within registers few_names
-    (record { functions = refl; text_functions = refl; sites = refl; names = refl; devices = refl; opening = refl; value_first = refl; text_first = refl })
+    made_is_well_formed laws facts (program_of text signatures statements) signatures statements fit
+    within registers few_names
+    (record {
+      functions = refl;
+      text_functions = refl;
+      sites = refl;
+      names = refl;
+      devices = refl;
+      opening = refl;
+      value_first = refl;
+      text_first = refl;
+    })
 
 -- ---- the parts put together
 
 -- what a text comes to, followed by the functions of devices and the built-in ones
-pub whole_of_parts : LoweringLaws → (signatures : List Signature) (statements : List Statement) (l : Lowered) → l ≡ lowered (names_before signatures) (sites_before signatures) statements → followed_by l (behind_devices signatures (lowered_prelude builtin_names prelude_paths (sites_before signatures + length l.sites) (length l.functions + length signatures) prelude_statements)) ≡ whole signatures statements
+pub whole_of_parts : LoweringLaws → (signatures : List Signature) (statements : List Statement)
+    (l : Lowered) → l ≡ lowered (names_before signatures) (sites_before signatures) statements
+    → followed_by l (behind_devices signatures
+    (lowered_prelude builtin_names prelude_paths (sites_before signatures + length l.sites)
+    (length l.functions + length signatures) prelude_statements)) ≡ whole signatures statements
 whole_of_parts laws signatures statements l is =
-    sym (laws.parts builtin_names prelude_paths prelude_statements signatures (sites_before signatures) statements l is)
+    sym (laws.parts builtin_names prelude_paths prelude_statements signatures
+    (sites_before signatures) statements l is)
 
-pub program_of_parts : (p : Program) (signatures : List Signature) (statements : List Statement) (own : ℕ) (l : Lowered) → p ≡ program_with p.text signatures own l → own ≡ function_count statements → l ≡ whole signatures statements → p ≡ program_of p.text signatures statements
+pub program_of_parts : (p : Program) (signatures : List Signature) (statements : List Statement)
+    (own : ℕ) (l : Lowered) → p ≡ program_with p.text signatures own l
+    → own ≡ function_count statements → l ≡ whole signatures statements
+    → p ≡ program_of p.text signatures statements
 unfolding program_of
 program_of_parts p signatures statements own l is count same =
-    is ∙ ap (λ n. program_with p.text signatures n l) count ∙ ap (program_with p.text signatures (function_count statements)) same
+    is ∙ ap (λ n. program_with p.text signatures n l) count
+    ∙ ap (program_with p.text signatures (function_count statements)) same

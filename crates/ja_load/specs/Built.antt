@@ -1,15 +1,20 @@
--- Which forms are built for the analysis, and where the first one stands that is not. A run goes through every form.
+-- Which forms are built for the analysis, and where the first one stands that is not. A run goes
+-- through every form.
 --
--- Built are the empty statement, and the statement of an expression that is a number, a name, the call of a name without arguments, or
--- the assignment by `=` of such an expression to a name; no name is an excluded one.
+-- Built are the empty statement, and the statement of an expression that is a number, a name, the
+-- call of a name without arguments, or the assignment by `=` of such an expression to a name; no
+-- name is an excluded one.
 --
--- Any other form has a place: an assignment, an operator between operands, `++` and `--` behind an operand, and a suffix of a
--- member or call have that of the operator or bracket; any other form, `&&` and `||` among them, has that of its first token.
+-- Any other form has a place: an assignment, an operator between operands, `++` and `--` behind an
+-- operand, and a suffix of a member or call have that of the operator or bracket; any other form,
+-- `&&` and `||` among them, has that of its first token.
 --
--- The first place of a text is found without a look at every form. What stands before the place of a form is only the operand
--- before its operator, or the head and the suffixes before a suffix; so the places of the forms in there come first. All other
--- parts of a form that is not built (right operands, assigned values, arguments, keys, bodies) stand behind its place, and so do
--- the places of the forms in them. Statements stand one behind the other, and so do the two parts of a built assignment.
+-- The first place of a text is found without a look at every form. What stands before the place of
+-- a form is only the operand before its operator, or the head and the suffixes before a suffix; so
+-- the places of the forms in there come first. All other parts of a form that is not built (right
+-- operands, assigned values, arguments, keys, bodies) stand behind its place, and so do the places
+-- of the forms in them. Statements stand one behind the other, and so do the two parts of a built
+-- assignment.
 use Rattle.std.specs.Prelude.{ℕ, Bool, true, false, if◌then◌else◌, ◌&&◌, ◌||◌, List, [], ◌∷◌, Option, Some, None, Result, Ok, Err}
 use Rattle.std.specs.List.{list_any}
 use Rattle.std.specs.Str.{bytes_eq}
@@ -33,13 +38,15 @@ use Rattle.ja_syntax.specs.declared.tree.Expression.TheFolds.{fold-Expression}
 use Rattle.ja_syntax.specs.declared.tree.Statement.{Statement, out-Statement}
 use Rattle.ja_prelude.specs.Table.{is_global_name}
 
--- The names with a meaning that is not built: `arguments` (10.1.8), those of the properties of the global object (15.1) and of its
--- prototype (15.2.4), and those of the devices, which are the `hosts` of what follows.
+-- The names with a meaning that is not built: `arguments` (10.1.8), those of the properties of the
+-- global object (15.1) and of its prototype (15.2.4), and those of the devices, which are the
+-- `hosts` of what follows.
 unfoldable pub is_excluded : List (List ℕ) → List ℕ → Bool
-is_excluded hosts name = bytes_eq (codes "arguments") name || is_global_name name || list_any (bytes_eq name) hosts
+is_excluded hosts name =
+    bytes_eq (codes "arguments") name || is_global_name name || list_any (bytes_eq name) hosts
 
--- What an expression is, where all its forms are built: whether it is a name alone; or else the place of the first one that is
--- not.
+-- What an expression is, where all its forms are built: whether it is a name alone; or else the
+-- place of the first one that is not.
 abbrev pub Read : Type 0
 Read = Result Bool Place
 
@@ -71,7 +78,8 @@ is_plain_call suffix = false
 
 -- the first suffix behind what was read: `()` behind a name is built, and no other one
 abbrev pub read_suffix : {E : Type 0} → Bool → Suffix E → Read
-read_suffix is_name suffix = if is_name && is_plain_call suffix then Ok false else Err (suffix_place suffix)
+read_suffix is_name suffix =
+    if is_name && is_plain_call suffix then Ok false else Err (suffix_place suffix)
 
 -- a head and its suffixes: no suffix behind the first one is built
 abbrev pub read_chain : {E : Type 0} → Read → List (Suffix E) → Read
@@ -100,7 +108,8 @@ is_logical operator = false
 -- operations behind a first operand: none is built
 abbrev pub read_operations : {E : Type 0} → Read → List (Operation E) → Place → Read
 read_operations first [] place = first
-read_operations first (o ∷ os) place = if is_logical o.operator then Err place else behind first o.place
+read_operations first (o ∷ os) place =
+    if is_logical o.operator then Err place else behind first o.place
 
 -- a value that is assigned
 abbrev pub read_value : Read → Read
@@ -124,10 +133,13 @@ read_expression hosts (Expression-F.Expression::Function function) = Err functio
 read_expression hosts (Expression-F.Chain head suffixes) = read_chain head suffixes
 read_expression hosts (Expression-F.New callee arguments place) = Err place
 read_expression hosts (Expression-F.Unary operator operand place) = Err place
-read_expression hosts (Expression-F.Update operator operand place) = read_update operator operand place
-read_expression hosts (Expression-F.Binary first operations place) = read_operations first operations place
+read_expression hosts (Expression-F.Update operator operand place) =
+    read_update operator operand place
+read_expression hosts (Expression-F.Binary first operations place) =
+    read_operations first operations place
 read_expression hosts (Expression-F.Conditional condition consequent otherwise place) = Err place
-read_expression hosts (Expression-F.Assign target operator value place) = read_assignment target operator value place
+read_expression hosts (Expression-F.Assign target operator value place) =
+    read_assignment target operator value place
 read_expression hosts (Expression-F.Sequence first others place) = Err place
 
 unfoldable pub read : List (List ℕ) → Expression → Read

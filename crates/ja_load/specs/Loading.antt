@@ -20,7 +20,8 @@ use Rattle.ja_prelude.specs.Table.{builtin_sites}
 use Rattle.ja_prim.specs.declared.signature.Signature.{Signature}
 use Rattle.ja_syntax.specs.declared.tree.Statement.{Statement}
 
--- what stands before the names of a text, and how many sites before those of its nodes: one for each built-in object and for each device
+-- what stands before the names of a text, and how many sites before those of its nodes: one for
+-- each built-in object and for each device
 abbrev pub names_before : List Signature → List (List ℕ)
 names_before signatures = first_names builtin_names prelude_statements signatures
 
@@ -30,9 +31,11 @@ sites_before signatures = length BUILTIN_CLASSES + length signatures
 -- What a text is lowered to, with the functions of devices and the built-in ones behind its own.
 abbrev pub whole : List Signature → List Statement → Lowered
 whole signatures statements =
-    lowered_with_prelude builtin_names prelude_paths prelude_statements signatures (sites_before signatures) statements
+    lowered_with_prelude builtin_names prelude_paths prelude_statements signatures
+    (sites_before signatures) statements
 
--- the program of a text that has so many functions of its own, with what it is lowered to; the last two functions begin default values
+-- the program of a text that has so many functions of its own, with what it is lowered to; the last
+-- two functions begin default values
 abbrev pub program_with : String Global → List Signature → ℕ → Lowered → Program
 program_with text signatures own l =
     let first = own + length signatures in
@@ -49,14 +52,16 @@ program_with text signatures own l =
     }
 
 unfoldable pub program_of : String Global → List Signature → List Statement → Program
-program_of text signatures statements = program_with text signatures (function_count statements) (whole signatures statements)
+program_of text signatures statements =
+    program_with text signatures (function_count statements) (whole signatures statements)
 
 -- the bytes are a text of the language, and these its statements
 abbrev pub IsTextOf : List ℕ → List Statement → Type 0
 IsTextOf bytes statements = IsUtf8 bytes × Spells max_levels (tokens bytes) statements
 
 -- the program of a text within the limits, with these devices: it is run
-pub record IsProgramToRun (bytes : List ℕ) (signatures : List Signature) (p : Program) : Type 0 where
+pub record IsProgramToRun (bytes : List ℕ) (signatures : List Signature) (p : Program) : Type
+    0 where
   pub statements : List Statement
   pub text : IsTextOf bytes statements
   pub within : IsWithin (names_before signatures) statements
@@ -86,7 +91,9 @@ HasManyNodes bytes signatures =
 -- it is within the limits, and a form is not built: the first one has this place
 abbrev pub IsUnbuiltAt : List ℕ → List Signature → Place → Type 0
 IsUnbuiltAt bytes signatures place =
-    (statements : List Statement) × IsTextOf bytes statements × IsWithin (names_before signatures) statements × (unbuilt (device_names signatures) statements ≡ Some place)
+    (statements : List Statement) × IsTextOf bytes statements
+    × IsWithin (names_before signatures) statements
+    × (unbuilt (device_names signatures) statements ≡ Some place)
 
 -- the bytes are a text, and this is what its tokens are refused with, which is determined
 -- (`refused_once` in ja_grammar) and said of no text of the language (`refused_is_none`)

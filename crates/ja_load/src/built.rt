@@ -178,7 +178,8 @@ fn unbuilt_statement(hosts: &[Signature], statement: &Statement) -> Option<Place
     Some(place)
 }
 
-/// The place of the first form of a tree that is not built, where a program has these devices, if there is one.
+/// The place of the first form of a tree that is not built, where a program has these devices, if
+/// there is one.
 #[tactic(auto, unfolding(crate::specs::Built::unbuilt))]
 pub fn unbuilt(hosts: &[Signature], tree: &Tree) -> Option<Place>
     ensures { result ≡ spec.unbuilt (device_names hosts.now) tree.now.statements }

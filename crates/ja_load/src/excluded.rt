@@ -27,7 +27,8 @@ fn is_among(entries: &[Entry], name: &[u16]) -> bool
 
 /// Whether the object of a site has a property of the name in a table of objects.
 fn has_property(table: &[TableRow], site: Site, name: &[u16]) -> bool
-    ensures { result ≡ list_any (λ row. (row.object.site.0 == site.0) && list_any (λ e. bytes_eq e.name name.now) row.entries) (map seen_row table.now) }
+    ensures { result ≡ list_any (λ row. (row.object.site.0 == site.0)
+        && list_any (λ e. bytes_eq e.name name.now) row.entries) (map seen_row table.now) }
 {
     for (_, object, entries) in table {
         if object.site.0 == site.0 && is_among(entries, name) {
@@ -39,7 +40,10 @@ fn has_property(table: &[TableRow], site: Site, name: &[u16]) -> bool
 
 /// Whether one of two objects of a table has a property of the name.
 fn has_either(table: &[TableRow], first: Site, second: Site, name: &[u16]) -> bool
-    ensures { result ≡ (list_any (λ row. (row.object.site.0 == first.0) && list_any (λ e. bytes_eq e.name name.now) row.entries) (map seen_row table.now) || list_any (λ row. (row.object.site.0 == second.0) && list_any (λ e. bytes_eq e.name name.now) row.entries) (map seen_row table.now)) }
+    ensures { result ≡ (list_any (λ row. (row.object.site.0 == first.0)
+        && list_any (λ e. bytes_eq e.name name.now) row.entries) (map seen_row table.now)
+        || list_any (λ row. (row.object.site.0 == second.0)
+        && list_any (λ e. bytes_eq e.name name.now) row.entries) (map seen_row table.now)) }
 {
     has_property(table, first, name) || has_property(table, second, name)
 }
@@ -63,7 +67,8 @@ fn is_device(hosts: &[Signature], name: &[u16]) -> bool
     false
 }
 
-/// Whether a name is `arguments`, that of a property of the global object or of its prototype, or that of one of these devices.
+/// Whether a name is `arguments`, that of a property of the global object or of its prototype, or
+/// that of one of these devices.
 #[tactic(auto, unfolding(crate::specs::Built::is_excluded))]
 pub(crate) fn is_excluded(hosts: &[Signature], name: &[u16]) -> bool
     ensures { result ≡ spec.is_excluded (device_names hosts.now) name.now }

@@ -60,7 +60,8 @@ pub(crate) fn add_device_sites(
 ) -> Result<(), Memory>
     requires first { first ≤ 4096 }
     requires few { length signatures.now ≤ 64 }
-    ensures { OnOk result (sites.new.items ≡ sites.old.items ++ spec.device_sites first signatures.now) }
+    ensures { OnOk result (sites.new.items ≡ sites.old.items
+        ++ spec.device_sites first signatures.now) }
 {
     for (which, _signature) in signatures.iter().enumerate() {
         sites.push(device_info(first + which as u32))?;
@@ -68,7 +69,8 @@ pub(crate) fn add_device_sites(
     Ok(())
 }
 
-/// The number of a name: its first place among the names, or the number behind the last one where it isn't one of them.
+/// The number of a name: its first place among the names, or the number behind the last one where
+/// it isn't one of them.
 fn number(names: &[Text16], name: &Text16) -> NameId
     requires { length names.now ≤ 1048576 }
     ensures { result ≡ number_in names.now name.now }
@@ -84,7 +86,8 @@ fn number(names: &[Text16], name: &Text16) -> NameId
 /// The numbers of the names of devices.
 fn numbers(alloc: Global, names: &[Text16], signatures: &[Signature]) -> Result<Vec<NameId>, Memory>
     requires { length names.now ≤ 1048576 }
-    ensures { IfOk result (λ numbers. numbers.items ≡ map (λ s. number_in names.now s.name) signatures.now) }
+    ensures { IfOk result (λ numbers. numbers.items
+        ≡ map (λ s. number_in names.now s.name) signatures.now) }
 {
     let mut numbers = Vec::with_capacity(alloc, signatures.len())?;
     for signature in signatures {
@@ -118,19 +121,23 @@ fn property_named(name: NameId, which: u32) -> PropertySpec
 
 /// Properties without those of these names.
 fn without(mut properties: Vec<PropertySpec>, names: &[NameId]) -> Vec<PropertySpec>
-    ensures { result.items ≡ filter (λ q. not (list_any (λ n. n.0 == q.name.0) names.now)) properties.items }
+    ensures { result.items ≡ filter (λ q. not (list_any (λ n. n.0 == q.name.0) names.now))
+        properties.items }
 {
     properties.retain(|property| !is_among(names, property.name));
     properties
 }
 
-/// The properties of the global object with those of the devices of these names, in place of others of their names.
+/// The properties of the global object with those of the devices of these names, in place of others
+/// of their names.
 fn with_devices(
     properties: Seq<PropertySpec>,
     names: &[NameId],
 ) -> Result<Seq<PropertySpec>, Memory>
     requires { length names.now ≤ 64 }
-    ensures { IfOk result (λ all. all ≡ filter (λ q. not (list_any (λ n. n.0 == q.name.0) names.now)) properties ++ map (λ row. spec.property_named row.1 row.0) (enumerate_from 0 names.now)) }
+    ensures { IfOk result (λ all. all ≡ filter
+        (λ q. not (list_any (λ n. n.0 == q.name.0) names.now)) properties
+        ++ map (λ row. spec.property_named row.1 row.0) (enumerate_from 0 names.now)) }
 {
     let mut all = without(properties.into_vec(), names);
     for (which, name) in names.iter().enumerate() {
@@ -142,7 +149,12 @@ fn with_devices(
 /// A built-in object, with the devices of these names where it is the global object.
 fn object_with(object: ObjectSpec, names: &[NameId]) -> Result<ObjectSpec, Memory>
     requires { length names.now ≤ 64 }
-    ensures { IfOk result (λ o. o ≡ (if object.site.0 == GLOBAL.0 then record object { properties = filter (λ q. not (list_any (λ n. n.0 == q.name.0) names.now)) object.properties ++ map (λ row. spec.property_named row.1 row.0) (enumerate_from 0 names.now) } else object)) }
+    ensures { IfOk result (λ o. o ≡ (if object.site.0 == GLOBAL.0
+        then record object {
+          properties = filter
+              (λ q. not (list_any (λ n. n.0 == q.name.0) names.now)) object.properties
+              ++ map (λ row. spec.property_named row.1 row.0) (enumerate_from 0 names.now);
+        } else object)) }
 {
     if object.site.0 == GLOBAL.0 {
         let properties = with_devices(object.properties, names)?;
@@ -163,7 +175,8 @@ fn built_in(
 ) -> Result<Vec<ObjectSpec>, Memory>
     requires names { length names.now ≤ 1048576 }
     requires few { length signatures.now ≤ 64 }
-    ensures { IfOk result (λ objects. objects.items ≡ map (spec.object_with_devices names.now signatures.now) table_objects) }
+    ensures { IfOk result (λ objects. objects.items
+        ≡ map (spec.object_with_devices names.now signatures.now) table_objects) }
 {
     let numbers = numbers(alloc, names, signatures)?;
     let mut objects = Vec::new(alloc);
@@ -197,7 +210,8 @@ fn device_object(alloc: Global, which: u32) -> Result<ObjectSpec, Memory>
     })
 }
 
-/// The objects that are there when the run of a program with these names begins: the built-in ones, and behind them those of devices.
+/// The objects that are there when the run of a program with these names begins: the built-in ones,
+/// and behind them those of devices.
 #[tactic(auto, unfolding(crate::specs::Hosts::opening_with))]
 pub(crate) fn opening_with(
     alloc: Global,

@@ -37,7 +37,8 @@ fn add_names(alloc: Global, names: &mut Vec<Text16>, signatures: &[Signature]) -
     Ok(())
 }
 
-/// The names that come before those of a text: those of the built-in functions, and then those of the devices.
+/// The names that come before those of a text: those of the built-in functions, and then those of
+/// the devices.
 fn names_before(
     alloc: Global,
     prelude: &Prelude,
@@ -54,7 +55,8 @@ fn names_before(
     Ok(names)
 }
 
-/// How many sites stand before those of a text: one for each built-in object, and one for each device.
+/// How many sites stand before those of a text: one for each built-in object, and one for each
+/// device.
 fn sites_before(signatures: &[Signature]) -> u32
     requires { length signatures.now ≤ 64 }
     ensures { result ≡ sites_before signatures.now }
@@ -62,7 +64,8 @@ fn sites_before(signatures: &[Signature]) -> u32
     BUILTIN_CLASSES.len() as u32 + signatures.len() as u32
 }
 
-/// What a tree within the limits comes to, behind the names and the sites that come before those of a text.
+/// What a tree within the limits comes to, behind the names and the sites that come before those of
+/// a text.
 #[tactic(auto, using(ja_prelude::proofs::TableLemmas::classes_count))]
 fn lower_within(
     alloc: Global,
@@ -72,7 +75,8 @@ fn lower_within(
 ) -> Result<Lowered, LoadFault>
     requires prelude { prelude.now ≡ code.the_prelude }
     requires few { length signatures.now ≤ 64 }
-    ensures lowered { IfOk result (λ l. l ≡ lowered (names_before signatures.now) (sites_before signatures.now) tree.now.statements) }
+    ensures lowered { IfOk result (λ l. l ≡ lowered (names_before signatures.now)
+        (sites_before signatures.now) tree.now.statements) }
     ensures within { IfOk result (λ _. IsWithin (names_before signatures.now) tree.now.statements) }
     ensures registers { IfOk result (λ l. AllByRecursion (λ fn. fn.registers ≤ 262144) l.functions) }
     ensures names { IfOk result (λ l. length l.names ≤ 1048576) }
@@ -89,7 +93,8 @@ fn lower_within(
     }
 }
 
-/// The number of the site behind this and as many others. Past the last number that a site may have counts as refused memory.
+/// The number of the site behind this and as many others. Past the last number that a site may have
+/// counts as refused memory.
 fn site_behind(first: u32, count: usize) -> Result<u32, Memory>
     ensures { IfOk result (λ n. n ≡ first + count) }
 {
@@ -99,7 +104,8 @@ fn site_behind(first: u32, count: usize) -> Result<u32, Memory>
     }
 }
 
-/// The functions of devices, and behind them the built-in ones, whose sites and which themselves are numbered from these numbers on.
+/// The functions of devices, and behind them the built-in ones, whose sites and which themselves
+/// are numbered from these numbers on.
 fn built_in(
     alloc: Global,
     prelude: &Prelude,
@@ -110,7 +116,9 @@ fn built_in(
     requires prelude { prelude.now ≡ code.the_prelude }
     requires few { length signatures.now ≤ 64 }
     requires functions { first_function ≤ 4160 }
-    ensures lowered { IfOk result (λ l. l ≡ behind_devices signatures.now (lowered_prelude graph.builtin_names spec.prelude_paths first_site first_function spec.prelude_statements)) }
+    ensures lowered { IfOk result (λ l. l ≡ behind_devices signatures.now
+        (lowered_prelude graph.builtin_names spec.prelude_paths first_site first_function
+        spec.prelude_statements)) }
     ensures registers { IfOk result (λ l. AllByRecursion (λ fn. fn.registers ≤ 262144) l.functions) }
 {
     let built_in = prelude.functions(alloc, first_site, first_function)?;
@@ -134,7 +142,10 @@ fn with_built_in(
     requires devices { length signatures.now ≤ 64 }
     requires few { length text.functions ≤ 4096 }
     requires registers { AllByRecursion (λ fn. fn.registers ≤ 262144) text.functions }
-    ensures lowered { IfOk result (λ l. l ≡ followed_by text (behind_devices signatures.now (lowered_prelude graph.builtin_names spec.prelude_paths (sites_before signatures.now + length text.sites) (length text.functions + length signatures.now) spec.prelude_statements))) }
+    ensures lowered { IfOk result (λ l. l ≡ followed_by text
+        (behind_devices signatures.now (lowered_prelude graph.builtin_names spec.prelude_paths
+        (sites_before signatures.now + length text.sites)
+        (length text.functions + length signatures.now) spec.prelude_statements))) }
     ensures registers { IfOk result (λ l. AllByRecursion (λ fn. fn.registers ≤ 262144) l.functions) }
 {
     let first_site = site_behind(sites_before(signatures), text.sites.len())?;
@@ -151,7 +162,8 @@ fn with_built_in(
     })
 }
 
-/// The sites of the built-in objects, those of devices behind them, and then others, where a text has so many functions.
+/// The sites of the built-in objects, those of devices behind them, and then others, where a text
+/// has so many functions.
 fn all_sites(
     alloc: Global,
     own: u32,
@@ -160,7 +172,8 @@ fn all_sites(
 ) -> Result<Seq<SiteInfo>, Memory>
     requires few { own ≤ 4096 }
     requires devices { length signatures.now ≤ 64 }
-    ensures { IfOk result (λ sites. sites ≡ builtin_sites (own + length signatures.now) ++ device_sites own signatures.now ++ others) }
+    ensures { IfOk result (λ sites. sites ≡ builtin_sites (own + length signatures.now)
+        ++ device_sites own signatures.now ++ others) }
 {
     let mut sites = builtin_sites(alloc, own + signatures.len() as u32)?;
     add_device_sites(&mut sites, own, signatures)?;
@@ -168,7 +181,8 @@ fn all_sites(
     Ok(Seq::from_vec(sites))
 }
 
-/// The program of so many functions of a text with those of devices and the built-in ones behind them.
+/// The program of so many functions of a text with those of devices and the built-in ones behind
+/// them.
 fn program_with(
     alloc: Global,
     own: u32,
@@ -245,7 +259,8 @@ fn built_program(
     ensures program { IfOk result (λ p. p ≡ program_of p.text signatures.now tree.now.statements) }
     ensures text { IfOk result (λ p. string_bytes p.text ≡ text.now) }
     ensures within { IfOk result (λ _. IsWithin (names_before signatures.now) tree.now.statements) }
-    ensures built { IfOk result (λ _. built.unbuilt (device_names signatures.now) tree.now.statements ≡ None) }
+    ensures built { IfOk result (λ _. built.unbuilt (device_names signatures.now)
+        tree.now.statements ≡ None) }
     ensures well_formed { IfOk result graph.IsWellFormed }
     ensures signatures { IfOk result (λ p. p.signatures ≡ signatures.now) }
     ensures fault { IfErr result (ExplainsAnalysis signatures.now tree.now.statements) }
@@ -261,7 +276,8 @@ fn built_program(
 ///
 /// # Errors
 ///
-/// Those of `load_to_run`; else `Unbuilt` exactly where a form is not built, with the place of the first one.
+/// Those of `load_to_run`; else `Unbuilt` exactly where a form is not built, with the place of the
+/// first one.
 #[tactic(auto, using(crate::proofs::PlainPrograms::is_program))]
 pub fn load(alloc: Global, text: &str, signatures: &[Signature]) -> Result<Program, LoadFault>
     requires text { length text.now ≤ 16777216 }
@@ -282,10 +298,10 @@ pub fn load(alloc: Global, text: &str, signatures: &[Signature]) -> Result<Progr
 ///
 /// # Errors
 ///
-/// `Parse` exactly where the text isn't in the language, or where memory was refused; else `Functions`
-/// exactly where it has more than 4,096 functions, the program among them; else `Nodes` exactly where
-/// these have more than 65,536 nodes, each parameter of a function counted as one more; else `Names` exactly
-/// where the program has more than 1,048,576 names.
+/// `Parse` exactly where the text isn't in the language, or where memory was refused; else
+/// `Functions` exactly where it has more than 4,096 functions, the program among them; else `Nodes`
+/// exactly where these have more than 65,536 nodes, each parameter of a function counted as one
+/// more; else `Names` exactly where the program has more than 1,048,576 names.
 pub fn load_to_run(
     alloc: Global,
     text: &str,

@@ -1,4 +1,5 @@
--- What numbering the sites of nodes changes: the sites alone, which then have the numbers from the first on.
+-- What numbering the sites of nodes changes: the sites alone, which then have the numbers from the
+-- first on.
 use Rattle.std.proofs.Common.{◌≡◌, ℕ, zero, suc, ◌+◌, ◌≤◌, List, [], ◌∷◌, ◌++◌, length, map, Some, None, refl, sym, ap, ◌∙◌, arith, map-id, length-append}
 use Rattle.std.specs.List.{AllByRecursion, flat_map, range_with_len}
 use Rattle.std.specs.Option.{option_map}
@@ -18,13 +19,15 @@ use Rattle.ja_lower.specs.Lowering.{shifting, site_count, numbered, sites_in, fu
 
 -- ---- one node
 
-makings_renamed : (r : Renaming) (n : Node) → makings (renamed r n) ≡ map (λ (m : Making). making (r.site m.site) m.class) (makings n)
+makings_renamed : (r : Renaming) (n : Node)
+    → makings (renamed r n) ≡ map (λ (m : Making). making (r.site m.site) m.class) (makings n)
 unfolding makings renamed
 makings_renamed r (node.Enter site None) = refl
 makings_renamed r (node.Enter site (Some arguments)) = refl
 makings_renamed r n = refl
 
-named_renamed : (r : Renaming) (n : Node) → registers_named (renamed r n) ≡ map r.register (registers_named n)
+named_renamed : (r : Renaming) (n : Node)
+    → registers_named (renamed r n) ≡ map r.register (registers_named n)
 unfolding registers_named renamed
 named_renamed r (node.Convert dst src hint None) = refl
 named_renamed r (node.Convert dst src hint (Some other)) = refl
@@ -38,7 +41,8 @@ unfolding name_in renamed
 name_renamed r (node.Declare name) = refl
 name_renamed r n = refl
 
-function_renamed : (r : Renaming) (n : Node) → function_in (renamed r n) ≡ option_map r.function (function_in n)
+function_renamed : (r : Renaming) (n : Node)
+    → function_in (renamed r n) ≡ option_map r.function (function_in n)
 unfolding function_in renamed
 function_renamed r (node.MakeFunction dst function site proto_site) = refl
 function_renamed r n = refl
@@ -47,20 +51,23 @@ function_renamed r n = refl
 pub sets_kept : (first : ℕ) (n : Node) → register_set (renamed (shifting first) n) ≡ register_set n
 sets_kept first n = sets_renamed (shifting first) n ∙ option_map_id (register_set n)
 
-pub named_kept : (first : ℕ) (n : Node) → registers_named (renamed (shifting first) n) ≡ registers_named n
+pub named_kept : (first : ℕ) (n : Node) → registers_named (renamed (shifting first) n)
+    ≡ registers_named n
 named_kept first n = named_renamed (shifting first) n ∙ map-id (registers_named n)
 
 pub name_kept : (first : ℕ) (n : Node) → name_in (renamed (shifting first) n) ≡ name_in n
 name_kept first n = name_renamed (shifting first) n ∙ option_map_id (name_in n)
 
-pub function_kept : (first : ℕ) (n : Node) → function_in (renamed (shifting first) n) ≡ function_in n
+pub function_kept : (first : ℕ) (n : Node)
+    → function_in (renamed (shifting first) n) ≡ function_in n
 function_kept first n = function_renamed (shifting first) n ∙ option_map_id (function_in n)
 
 -- what it makes, it makes at sites from the number on
 abbrev pub shifted : ℕ → Making → Making
 shifted first m = making (record { 0 = first + m.site.0 }) m.class
 
-pub makings_shifted : (first : ℕ) (n : Node) → makings (renamed (shifting first) n) ≡ map (shifted first) (makings n)
+pub makings_shifted : (first : ℕ) (n : Node)
+    → makings (renamed (shifting first) n) ≡ map (shifted first) (makings n)
 makings_shifted first n = makings_renamed (shifting first) n
 
 -- a node has at most four sites
@@ -74,10 +81,14 @@ few_makings n = omega arith
 
 -- the sites of a node are numbered from 0 on
 abbrev pub IsSited : NodeInfo → Type 0
-IsSited info = map (λ (m : Making). m.site.0) (makings info.node) ≡ range_with_len 0 (length (makings info.node))
+IsSited info =
+    map (λ (m : Making). m.site.0) (makings info.node)
+    ≡ range_with_len 0 (length (makings info.node))
 
-range_append : (a m n : ℕ) → range_with_len a m ++ range_with_len (a + m) n ≡ range_with_len a (m + n)
-range_append a zero n = let here : a + 0 ≡ a = omega arith in let all : 0 + n ≡ n = omega arith in rw (here, all) refl
+range_append : (a m n : ℕ) → range_with_len a m ++ range_with_len (a + m) n
+    ≡ range_with_len a (m + n)
+range_append a zero n = let here : a + 0 ≡ a = omega arith in let all : 0 + n ≡ n = omega arith in
+    rw (here, all) refl
 range_append a (suc m) n =
     let there : a + suc m ≡ a + 1 + m = omega arith in
     let all : suc m + n ≡ suc (m + n) = omega arith in
@@ -93,11 +104,16 @@ range_shifted a b (suc n) =
 abbrev pub number_of : OwnedMaking → ℕ
 number_of m = m.making.site.0
 
-numbers_of_makings : (f first : ℕ) (ms : List Making) → map number_of (map (owned f) (map (shifted first) ms)) ≡ map (λ k. first + k) (map (λ (m : Making). m.site.0) ms)
+numbers_of_makings : (f first : ℕ) (ms : List Making)
+    → map number_of (map (owned f) (map (shifted first) ms))
+    ≡ map (λ k. first + k) (map (λ (m : Making). m.site.0) ms)
 numbers_of_makings f first [] = refl
-numbers_of_makings f first (m ∷ ms) = ap (λ ns. (first + m.site.0) ∷ ns) (numbers_of_makings f first ms)
+numbers_of_makings f first (m ∷ ms) =
+    ap (λ ns. (first + m.site.0) ∷ ns) (numbers_of_makings f first ms)
 
-numbers_of_node : (f first : ℕ) (info : NodeInfo) → IsSited info → map number_of (map (owned f) (makings (renamed (shifting first) info.node))) ≡ range_with_len first (site_count info.node)
+numbers_of_node : (f first : ℕ) (info : NodeInfo) → IsSited info
+    → map number_of (map (owned f) (makings (renamed (shifting first) info.node)))
+    ≡ range_with_len first (site_count info.node)
 numbers_of_node f first info sited =
     let all : first + 0 ≡ first = omega arith in
     ap (λ ms. map number_of (map (owned f) ms)) (makings_shifted first info.node)
@@ -106,7 +122,8 @@ numbers_of_node f first info sited =
     ∙ range_shifted first 0 (site_count info.node)
     ∙ ap (λ a. range_with_len a (site_count info.node)) all
 
-pub sites_in-cons : (info : NodeInfo) (infos : List NodeInfo) → sites_in (info ∷ infos) ≡ site_count info.node + sites_in infos
+pub sites_in-cons : (info : NodeInfo) (infos : List NodeInfo)
+    → sites_in (info ∷ infos) ≡ site_count info.node + sites_in infos
 unfolding sites_in
 sites_in-cons info infos = sum_by-cons (λ (i : NodeInfo). site_count i.node) info infos
 
@@ -115,7 +132,8 @@ unfolding sites_in
 sites_in-nil = refl
 
 -- of nodes
-numbers_of_nodes : (f first : ℕ) (infos : List NodeInfo) → AllByRecursion IsSited infos → map number_of (makings_of f (numbered first infos)) ≡ range_with_len first (sites_in infos)
+numbers_of_nodes : (f first : ℕ) (infos : List NodeInfo) → AllByRecursion IsSited infos
+    → map number_of (makings_of f (numbered first infos)) ≡ range_with_len first (sites_in infos)
 unfolding numbered
 numbers_of_nodes f first [] sited = rw sites_in-nil refl
 numbers_of_nodes f first (info ∷ infos) sited =
@@ -123,32 +141,46 @@ numbers_of_nodes f first (info ∷ infos) sited =
     let rest = makings_of f (numbered (first + site_count info.node) infos) in
     map-append number_of here rest
     ∙ ap (λ ns. ns ++ map number_of rest) (numbers_of_node f first info sited.0)
-    ∙ ap (λ ns. range_with_len first (site_count info.node) ++ ns) (numbers_of_nodes f (first + site_count info.node) infos sited.1)
+    ∙ ap (λ ns. range_with_len first (site_count info.node) ++ ns)
+    (numbers_of_nodes f (first + site_count info.node) infos sited.1)
     ∙ range_append first (site_count info.node) (sites_in infos)
     ∙ ap (range_with_len first) (sym (sites_in-cons info infos))
 
 -- ---- sites of functions
 
-pub count_of_nodes : (f : ℕ) (infos : List NodeInfo) → length (sites_of_nodes f infos) ≡ sites_in infos
+pub count_of_nodes : (f : ℕ) (infos : List NodeInfo)
+    → length (sites_of_nodes f infos) ≡ sites_in infos
 unfolding sites_of_nodes
 count_of_nodes f [] = sym sites_in-nil
 count_of_nodes f (info ∷ infos) =
-    omega (arith, length-append (map (site_of f info) (makings info.node)) (flat_map (λ (i : NodeInfo). map (site_of f i) (makings i.node)) infos), length-map (makings info.node) (site_of f info), count_of_nodes f infos, sites_in-cons info infos)
+    omega (
+      arith,
+      length-append (map (site_of f info) (makings info.node))
+          (flat_map (λ (i : NodeInfo). map (site_of f i) (makings i.node)) infos),
+      length-map (makings info.node) (site_of f info),
+      count_of_nodes f infos,
+      sites_in-cons info infos,
+    )
 
 -- the sites of the nodes of each function are numbered from 0 on, node by node
 abbrev pub AreSited : List Body → Type 0
 AreSited bodies = AllByRecursion (λ (body : Body). AllByRecursion IsSited body.nodes) bodies
 
-pub numbers_of_bodies : (f first : ℕ) (bodies : List Body) → AreSited bodies → map number_of (makings_from f (functions_of first bodies)) ≡ range_with_len first (length (sites_of f bodies))
+pub numbers_of_bodies : (f first : ℕ) (bodies : List Body) → AreSited bodies
+    → map number_of (makings_from f (functions_of first bodies))
+    ≡ range_with_len first (length (sites_of f bodies))
 unfolding functions_of sites_of
 numbers_of_bodies f first [] sited = refl
 numbers_of_bodies f first (body ∷ bodies) sited =
     let here = makings_of f (numbered first body.nodes) in
     let rest = makings_from (suc f) (functions_of (first + sites_in body.nodes) bodies) in
     let sites = sites_of (suc f) bodies in
-    let count : sites_in body.nodes + length sites ≡ length (sites_of_nodes f body.nodes ++ sites) = omega (arith, length-append (sites_of_nodes f body.nodes) sites, count_of_nodes f body.nodes) in
+    let count : sites_in body.nodes + length sites
+    ≡ length (sites_of_nodes f body.nodes ++ sites) = omega
+    (arith, length-append (sites_of_nodes f body.nodes) sites, count_of_nodes f body.nodes) in
     map-append number_of here rest
     ∙ ap (λ ns. ns ++ map number_of rest) (numbers_of_nodes f first body.nodes sited.0)
-    ∙ ap (λ ns. range_with_len first (sites_in body.nodes) ++ ns) (numbers_of_bodies (suc f) (first + sites_in body.nodes) bodies sited.1)
+    ∙ ap (λ ns. range_with_len first (sites_in body.nodes) ++ ns)
+    (numbers_of_bodies (suc f) (first + sites_in body.nodes) bodies sited.1)
     ∙ range_append first (sites_in body.nodes) (length sites)
     ∙ ap (range_with_len first) count

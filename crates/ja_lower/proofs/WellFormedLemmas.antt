@@ -1,4 +1,5 @@
--- What is lowered is well formed, a text with the functions of devices and the built-in ones behind its own.
+-- What is lowered is well formed, a text with the functions of devices and the built-in ones behind
+-- its own.
 use Rattle.std.proofs.Common.{◌≡◌, ℕ, ◌+◌, ◌*◌, ◌<◌, ◌≤◌, true, false, List, [], ◌∷◌, ◌++◌, length, map, Some, refl, sym, ap, ◌∙◌, subst, arith, length-append}
 use Rattle.std.specs.List.{AllByRecursion, flat_map, slice_get, range_with_len}
 use Rattle.std.proofs.lemmas.List.{length-map}
@@ -35,24 +36,36 @@ use Rattle.ja_lower.proofs.FunctionLemmas.{FitsIn, all-from, IsListed, functions
 abbrev IsListedIn : Scene → Body → Type 0
 IsListedIn scene body = IsListed scene.specials (length scene.names) (length scene.functions) body
 
-function_listed : (scene : Scene) (f : FunctionOf Statement) → HasFunction scene f → IsListedIn scene (function_body scene f)
+function_listed : (scene : Scene) (f : FunctionOf Statement) → HasFunction scene f
+    → IsListedIn scene (function_body scene f)
 function_listed scene f has =
-    let count : length f.parameters ≡ length (map (λ (p : Name). number scene.names p.text) f.parameters) = sym (length-map f.parameters (λ (p : Name). number scene.names p.text)) in
-    let inside = all_right (HasPart scene) (if_any in_name f.name) (flat_map in_name f.parameters ++ flat_map in_statement f.body) has.1 in
+    let count : length f.parameters ≡ length
+    (map (λ (p : Name). number scene.names p.text) f.parameters) = sym
+    (length-map f.parameters (λ (p : Name). number scene.names p.text)) in
+    let inside = all_right (HasPart scene) (if_any in_name f.name)
+    (flat_map in_name f.parameters ++ flat_map in_statement f.body) has.1 in
     record {
       listing = function_listing scene f;
       nodes = refl;
-      in_range = subst (λ n. AllInRange (limits_of n scene) (function_listing scene f)) count (function_in_range scene f has);
+      in_range =
+          subst (λ n. AllInRange (limits_of n scene) (function_listing scene f)) count
+          (function_in_range scene f has);
       copies = function_copies scene f has;
       ends = function_ends scene f;
-      parameters = parameters_named scene f.parameters (all_left (HasPart scene) (flat_map in_name f.parameters) (flat_map in_statement f.body) inside);
+      parameters =
+          parameters_named scene f.parameters (all_left (HasPart scene)
+          (flat_map in_name f.parameters) (flat_map in_statement f.body) inside);
     }
 
-functions_listed : (scene : Scene) (fs : List (FunctionOf Statement)) → AllByRecursion (HasFunction scene) fs → AllByRecursion (IsListedIn scene) (map (function_body scene) fs)
+functions_listed : (scene : Scene) (fs : List (FunctionOf Statement))
+    → AllByRecursion (HasFunction scene) fs
+    → AllByRecursion (IsListedIn scene) (map (function_body scene) fs)
 functions_listed scene [] has = tt
-functions_listed scene (f ∷ fs) has = (function_listed scene f has.0, functions_listed scene fs has.1)
+functions_listed scene (f ∷ fs) has =
+    (function_listed scene f has.0, functions_listed scene fs has.1)
 
-bodies_listed : (scene : Scene) (statements : List Statement) → HasText scene statements → AllByRecursion (IsListedIn scene) (bodies_of scene statements)
+bodies_listed : (scene : Scene) (statements : List Statement) → HasText scene statements
+    → AllByRecursion (IsListedIn scene) (bodies_of scene statements)
 unfolding bodies_of
 bodies_listed scene statements has = (
   record {
@@ -84,7 +97,13 @@ module _ (names : List (List ℕ)) (statements : List Statement) where
 
   -- the program is one more than the functions of its text
   text_functions : length text_scene.functions < length text_bodies
-  text_functions = omega (arith, text_count, length-map (functions_in statements) (λ (g : FunctionOf Statement). g.place))
+  text_functions =
+      omega (
+        arith,
+        text_count,
+        length-map (functions_in statements)
+            (λ (g : FunctionOf Statement). g.place),
+      )
 
   abbrev prelude_scene : Scene
   prelude_scene = scene_with true (prelude_names names statements) statements
@@ -94,7 +113,9 @@ module _ (names : List (List ℕ)) (statements : List Statement) where
 
   own_listed : AllByRecursion (IsListedIn prelude_scene) own_bodies
   unfolding prelude_bodies
-  own_listed = functions_listed prelude_scene (functions_in statements) (functions_found prelude_scene statements (scene_has_its_text true names statements))
+  own_listed =
+      functions_listed prelude_scene (functions_in statements)
+      (functions_found prelude_scene statements (scene_has_its_text true names statements))
 
   own_count : length own_bodies ≡ prelude_count statements
   unfolding prelude_bodies
@@ -105,7 +126,8 @@ module _ (names : List (List ℕ)) (statements : List Statement) where
 
 -- ---- a text with the functions of devices and the built-in ones behind its own
 
-module _ (names paths : List (List ℕ)) (prelude : List Statement) (signatures : List Signature) (first : ℕ) (statements : List Statement) where
+module _ (names paths : List (List ℕ)) (prelude : List Statement) (signatures : List Signature)
+    (first : ℕ) (statements : List Statement) where
   abbrev before : List (List ℕ)
   before = first_names names prelude signatures
 
@@ -132,7 +154,8 @@ module _ (names paths : List (List ℕ)) (prelude : List Statement) (signatures 
   whole_sites : whole.sites ≡ sites_of 0 bodies
   unfolding lowered_with_prelude lowered
   whole_sites =
-      let count : length (functions_of first text) ≡ 0 + length text = omega (arith, length-functions first text) in
+      let count : length (functions_of first text) ≡ 0
+      + length text = omega (arith, length-functions first text) in
       ap (λ n. sites_of 0 text ++ sites_of n others) count ∙ sym (sites_append 0 text others)
 
   whole_names : whole.names ≡ names_of false before statements
@@ -144,118 +167,265 @@ module _ (names paths : List (List ℕ)) (prelude : List Statement) (signatures 
       let AreOwn : Body → Type 0 = λ body. AllByRecursion IsSited body.nodes in
       let texts = text_scene before statements in
       let own = prelude_scene names prelude in
-      let of_text = all-from (IsListedIn texts) AreOwn text (listed_sited texts.specials (length texts.names) (length texts.functions)) (text_listed before statements) in
-      let of_devices = all-from (IsListed true 0 0) AreOwn (device_bodies signatures) (listed_sited true 0 0) (devices_listed signatures) in
-      let of_prelude = all-from (IsListedIn own) AreOwn built_in (listed_sited own.specials (length own.names) (length own.functions)) (paths_listed own.specials (length own.names) (length own.functions) paths (own_bodies names prelude) (own_listed names prelude)) in
-      all_append AreOwn text others of_text (all_append AreOwn (device_bodies signatures) built_in of_devices of_prelude)
+      let of_text = all-from (IsListedIn texts) AreOwn text
+      (listed_sited texts.specials (length texts.names) (length texts.functions))
+      (text_listed before statements) in
+      let of_devices = all-from (IsListed true 0 0) AreOwn (device_bodies signatures)
+      (listed_sited true 0 0) (devices_listed signatures) in
+      let of_prelude = all-from (IsListedIn own) AreOwn built_in
+      (listed_sited own.specials (length own.names) (length own.functions))
+      (paths_listed own.specials (length own.names) (length own.functions) paths
+      (own_bodies names prelude) (own_listed names prelude)) in
+      all_append AreOwn text others of_text (all_append AreOwn (device_bodies signatures) built_in
+      of_devices of_prelude)
 
-  count : length paths ≡ prelude_count prelude → length bodies ≡ function_count statements + length signatures + prelude_count prelude
+  count : length paths ≡ prelude_count prelude
+      → length bodies ≡ function_count statements + length signatures + prelude_count prelude
   count path_each =
-      omega (arith, length-append text others, length-append (device_bodies signatures) built_in, text_count before statements, length-devices signatures, length-at_paths paths (own_bodies names prelude) (path_each ∙ sym (own_count names prelude)), path_each)
+      omega (
+        arith,
+        length-append text others,
+        length-append (device_bodies signatures) built_in,
+        text_count before statements,
+        length-devices signatures,
+        length-at_paths paths (own_bodies names prelude)
+            (path_each ∙ sym (own_count names prelude)),
+        path_each,
+      )
 
-  module _ (p : Program) (path_each : length paths ≡ prelude_count prelude) (functions : p.functions ≡ whole.functions) where
-    count_in : length p.functions ≡ function_count statements + length signatures + prelude_count prelude
-    count_in = ap length functions ∙ ap length whole_functions ∙ length-functions first bodies ∙ count path_each
+  module _ (p : Program) (path_each : length paths ≡ prelude_count prelude)
+      (functions : p.functions ≡ whole.functions) where
+    count_in : length p.functions ≡ function_count statements + length signatures
+        + prelude_count prelude
+    count_in =
+        ap length functions ∙ ap length whole_functions ∙ length-functions first bodies
+        ∙ count path_each
 
     many_for_text : length (text_scene before statements).functions < length p.functions
-    many_for_text = omega (arith, count_in, text_count before statements, text_functions before statements)
+    many_for_text =
+        omega (arith, count_in, text_count before statements, text_functions before statements)
 
     many_for_prelude : length (prelude_scene names prelude).functions < length p.functions
     many_for_prelude = omega (arith, count_in, own_functions names prelude)
 
-    are_well_formed : AreAllowed (own_bodies names prelude) → p.names ≡ whole.names → p.signatures ≡ signatures → (f : ℕ) (fn : Function) → slice_get p.functions f ≡ Some fn → fn.registers ≤ 262144 → IsFunctionWellFormed p fn
+    are_well_formed : AreAllowed (own_bodies names prelude) → p.names ≡ whole.names
+        → p.signatures ≡ signatures → (f : ℕ) (fn : Function) → slice_get p.functions f ≡ Some fn
+        → fn.registers ≤ 262144 → IsFunctionWellFormed p fn
     are_well_formed allowed same asked f fn is few =
         let in_names : p.names ≡ names_of false before statements = same ∙ whole_names in
-        let there : length (names_of false before statements) ≤ length p.names = omega (arith, ap length in_names) in
+        let there : length (names_of false before statements)
+        ≤ length p.names = omega (arith, ap length in_names) in
         let begins = first_names_stay names (device_names signatures) prelude statements in
-        let enough : length (prelude_names names prelude) ≤ length p.names = omega (arith, ap length in_names, ap length begins.1, length-append (prelude_names names prelude) begins.0) in
+        let enough : length (prelude_names names prelude)
+        ≤ length p.names = omega (
+          arith,
+          ap length in_names,
+          ap length begins.1,
+          length-append (prelude_names names prelude) begins.0,
+        ) in
         let texts = text_scene before statements in
-        let of_text = all-from (IsListedIn texts) (FitsIn p) text (λ body listed. text_fits p (length texts.names) (length texts.functions) body there many_for_text listed) (text_listed before statements) in
+        let of_text = all-from (IsListedIn texts) (FitsIn p) text
+        (λ body listed. text_fits p (length texts.names) (length texts.functions) body there
+        many_for_text listed) (text_listed before statements) in
         let of_devices = devices_fit p signatures (omega (arith, many_for_prelude)) asked in
         let own = prelude_scene names prelude in
-        let of_prelude = preludes_fit p (length own.names) (length own.functions) paths (own_bodies names prelude) enough many_for_prelude (own_listed names prelude) allowed in
-        let of_others = all_append (FitsIn p) (device_bodies signatures) built_in of_devices of_prelude in
-        functions_well_formed p first bodies (all_append (FitsIn p) text others of_text of_others) (functions ∙ whole_functions) f fn is few
+        let of_prelude = preludes_fit p (length own.names) (length own.functions) paths
+        (own_bodies names prelude) enough many_for_prelude (own_listed names prelude) allowed in
+        let of_others = all_append (FitsIn p) (device_bodies signatures) built_in of_devices
+        of_prelude in
+        functions_well_formed p first bodies (all_append (FitsIn p) text others of_text of_others)
+        (functions ∙ whole_functions) f fn is few
 
     name_functions : AllByRecursion (NamesFunctions p) whole.sites
     name_functions =
         let Makes : Body → Type 0 = λ body. AllByRecursion (MakesFunctions p) body.nodes in
         let texts = text_scene before statements in
         let own = prelude_scene names prelude in
-        let of_text = all-from (IsListedIn texts) Makes text (λ body listed. listed_named p texts.specials (length texts.names) (length texts.functions) body many_for_text listed) (text_listed before statements) in
-        let of_devices = all-from (IsListed true 0 0) Makes (device_bodies signatures) (λ body listed. listed_named p true 0 0 body (omega (arith, many_for_prelude)) listed) (devices_listed signatures) in
-        let of_prelude = all-from (IsListedIn own) Makes built_in (λ body listed. listed_named p own.specials (length own.names) (length own.functions) body many_for_prelude listed) (paths_listed own.specials (length own.names) (length own.functions) paths (own_bodies names prelude) (own_listed names prelude)) in
-        let of_others = all_append Makes (device_bodies signatures) built_in of_devices of_prelude in
-        subst (AllByRecursion (NamesFunctions p)) (sym whole_sites) (named_bodies p 0 bodies (omega (arith, count_in, count path_each)) (all_append Makes text others of_text of_others))
+        let of_text = all-from (IsListedIn texts) Makes text
+        (λ body listed. listed_named p texts.specials (length texts.names)
+        (length texts.functions) body many_for_text listed) (text_listed before statements) in
+        let of_devices = all-from (IsListed true 0 0) Makes (device_bodies signatures)
+        (λ body listed. listed_named p true 0 0 body (omega (arith, many_for_prelude)) listed)
+        (devices_listed signatures) in
+        let of_prelude = all-from (IsListedIn own) Makes built_in
+        (λ body listed. listed_named p own.specials (length own.names) (length own.functions)
+        body many_for_prelude listed) (paths_listed own.specials (length own.names)
+        (length own.functions) paths (own_bodies names prelude) (own_listed names prelude)) in
+        let of_others = all_append Makes (device_bodies signatures) built_in of_devices
+        of_prelude in
+        subst (AllByRecursion (NamesFunctions p)) (sym whole_sites)
+        (named_bodies p 0 bodies (omega (arith, count_in, count path_each))
+        (all_append Makes text others of_text of_others))
 
-  -- the parts: devices have no sites, so they stand before the built-in functions wherever sites are numbered from
-  parts : (l : Lowered) → l ≡ lowered before first statements → whole ≡ followed_by l (behind_devices signatures (lowered_prelude names paths (first + length l.sites) (length l.functions + length signatures) prelude))
+  -- the parts: devices have no sites, so they stand before the built-in functions wherever sites
+  -- are numbered from
+  parts : (l : Lowered) → l ≡ lowered before first statements
+      → whole ≡ followed_by l (behind_devices signatures
+      (lowered_prelude names paths (first + length l.sites) (length l.functions + length signatures)
+      prelude))
   unfolding lowered_with_prelude lowered_prelude
   parts l is =
       let devices = device_bodies signatures in
-      let built : ℕ → ℕ → Lowered = λ site function. record { functions = functions_of site built_in; sites = sites_of function built_in; names = prelude_names names prelude } in
+      let built : ℕ → ℕ → Lowered = λ site function.
+      record {
+        functions = functions_of site built_in;
+        sites = sites_of function built_in;
+        names = prelude_names names prelude;
+      } in
       let site = first + length l.sites in
       let function = length l.functions in
       let none = devices_siteless function signatures in
-      let functions : functions_of site others ≡ functions_of 0 devices ++ functions_of site built_in =
+      let functions : functions_of site others ≡ functions_of 0 devices
+      ++ functions_of site built_in =
       functions_append site function devices built_in
-      ∙ ap (λ fns. fns ++ functions_of (site + length (sites_of function devices)) built_in) (sym (devices_alike site signatures))
-      ∙ ap (λ n. functions_of 0 devices ++ functions_of n built_in) (omega (arith, ap length none)) in
+      ∙ ap (λ fns. fns ++ functions_of (site + length (sites_of function devices)) built_in)
+      (sym (devices_alike site signatures))
+      ∙ ap (λ n. functions_of 0 devices ++ functions_of n built_in)
+      (omega (arith, ap length none)) in
       let sites : sites_of function others ≡ sites_of (function + length signatures) built_in =
       sites_append function devices built_in
       ∙ ap (λ ss. ss ++ sites_of (function + length devices) built_in) none
       ∙ ap (λ n. sites_of (function + n) built_in) (length-devices signatures) in
-      ap (λ (t : Lowered). followed_by t (record { functions = functions_of (first + length t.sites) others; sites = sites_of (length t.functions) others; names = prelude_names names prelude })) (sym is)
-      ∙ ap (λ fns. followed_by l (record { functions = fns; sites = sites_of function others; names = prelude_names names prelude })) functions
-      ∙ ap (λ ss. followed_by l (record { functions = functions_of 0 devices ++ functions_of site built_in; sites = ss; names = prelude_names names prelude })) sites
+      ap (λ (t : Lowered). followed_by t (record {
+        functions = functions_of (first + length t.sites) others;
+        sites = sites_of (length t.functions) others;
+        names = prelude_names names prelude;
+      }))
+      (sym is)
+      ∙ ap (λ fns. followed_by l (record {
+        functions = fns;
+        sites = sites_of function others;
+        names = prelude_names names prelude;
+      })) functions
+      ∙ ap (λ ss. followed_by l (record {
+        functions = functions_of 0 devices
+            ++ functions_of site built_in;
+        sites = ss;
+        names = prelude_names names prelude;
+      })) sites
 
-pub functions_are_well_formed : (names paths : List (List ℕ)) (prelude : List Statement) (signatures : List Signature) (first : ℕ) (statements : List Statement) (p : Program) (f : ℕ) (fn : Function) → length paths ≡ prelude_count prelude → AreAllowed (prelude_bodies (prelude_names names prelude) prelude) → p.functions ≡ (lowered_with_prelude names paths prelude signatures first statements).functions → p.names ≡ (lowered_with_prelude names paths prelude signatures first statements).names → p.signatures ≡ signatures → slice_get p.functions f ≡ Some fn → fn.registers ≤ 262144 → IsFunctionWellFormed p fn
-functions_are_well_formed names paths prelude signatures first statements p f fn path_each allowed functions same asked is few =
-    are_well_formed names paths prelude signatures first statements p path_each functions allowed same asked f fn is few
+pub functions_are_well_formed : (names paths : List (List ℕ)) (prelude : List Statement)
+    (signatures : List Signature) (first : ℕ) (statements : List Statement) (p : Program) (f : ℕ)
+    (fn : Function) → length paths ≡ prelude_count prelude
+    → AreAllowed (prelude_bodies (prelude_names names prelude) prelude)
+    → p.functions ≡ (lowered_with_prelude names paths prelude signatures first statements).functions
+    → p.names ≡ (lowered_with_prelude names paths prelude signatures first statements).names
+    → p.signatures ≡ signatures → slice_get p.functions f ≡ Some fn → fn.registers ≤ 262144
+    → IsFunctionWellFormed p fn
+functions_are_well_formed names paths prelude signatures first statements p f fn path_each allowed
+    functions same asked is few =
+    are_well_formed names paths prelude signatures first statements p path_each functions allowed
+    same asked f fn is few
 
-pub sites_are_numbered : (names paths : List (List ℕ)) (prelude : List Statement) (signatures : List Signature) (first : ℕ) (statements : List Statement) → map (λ (m : OwnedMaking). m.making.site.0) (makings_from 0 (lowered_with_prelude names paths prelude signatures first statements).functions) ≡ range_with_len first (length (lowered_with_prelude names paths prelude signatures first statements).sites)
+pub sites_are_numbered : (names paths : List (List ℕ)) (prelude : List Statement)
+    (signatures : List Signature) (first : ℕ) (statements : List Statement)
+    → map (λ (m : OwnedMaking). m.making.site.0)
+    (makings_from 0 (lowered_with_prelude names paths prelude signatures first
+    statements).functions) ≡ range_with_len first
+    (length (lowered_with_prelude names paths prelude signatures first statements).sites)
 sites_are_numbered names paths prelude signatures first statements =
     let all = bodies names paths prelude signatures first statements in
-    ap (λ fns. map (λ (m : OwnedMaking). m.making.site.0) (makings_from 0 fns)) (whole_functions names paths prelude signatures first statements)
+    ap (λ fns. map (λ (m : OwnedMaking). m.making.site.0) (makings_from 0 fns))
+    (whole_functions names paths prelude signatures first statements)
     ∙ numbers_of_bodies 0 first all (all_sited names paths prelude signatures first statements)
-    ∙ ap (λ (ss : List SiteInfo). range_with_len first (length ss)) (sym (whole_sites names paths prelude signatures first statements))
+    ∙ ap (λ (ss : List SiteInfo). range_with_len first (length ss))
+    (sym (whole_sites names paths prelude signatures first statements))
 
-pub sites_are_told : (names paths : List (List ℕ)) (prelude : List Statement) (signatures : List Signature) (front : List SiteInfo) (statements : List Statement) (p : Program) → p.sites ≡ front ++ (lowered_with_prelude names paths prelude signatures (length front) statements).sites → AllByRecursion (IsSiteTold p) (makings_from 0 (lowered_with_prelude names paths prelude signatures (length front) statements).functions)
+pub sites_are_told : (names paths : List (List ℕ)) (prelude : List Statement)
+    (signatures : List Signature) (front : List SiteInfo) (statements : List Statement)
+    (p : Program) → p.sites ≡ front ++ (lowered_with_prelude names paths prelude signatures
+    (length front) statements).sites → AllByRecursion (IsSiteTold p)
+    (makings_from 0 (lowered_with_prelude names paths prelude signatures (length front)
+    statements).functions)
 sites_are_told names paths prelude signatures front statements p sites =
     let first = length front in
-    let here = sites ∙ ap (λ ss. front ++ ss) (whole_sites names paths prelude signatures first statements) in
-    subst (λ fns. AllByRecursion (IsSiteTold p) (makings_from 0 fns)) (sym (whole_functions names paths prelude signatures first statements)) (told_bodies p 0 first (bodies names paths prelude signatures first statements) front here refl (all_sited names paths prelude signatures first statements))
+    let here = sites ∙ ap (λ ss. front ++ ss)
+    (whole_sites names paths prelude signatures first statements) in
+    subst (λ fns. AllByRecursion (IsSiteTold p) (makings_from 0 fns))
+    (sym (whole_functions names paths prelude signatures first statements))
+    (told_bodies p 0 first (bodies names paths prelude signatures first statements) front here
+    refl (all_sited names paths prelude signatures first statements))
 
-pub sites_name_functions : (names paths : List (List ℕ)) (prelude : List Statement) (signatures : List Signature) (first : ℕ) (statements : List Statement) (p : Program) → length paths ≡ prelude_count prelude → p.functions ≡ (lowered_with_prelude names paths prelude signatures first statements).functions → AllByRecursion (NamesFunctions p) (lowered_with_prelude names paths prelude signatures first statements).sites
+pub sites_name_functions : (names paths : List (List ℕ)) (prelude : List Statement)
+    (signatures : List Signature) (first : ℕ) (statements : List Statement) (p : Program)
+    → length paths ≡ prelude_count prelude → p.functions
+    ≡ (lowered_with_prelude names paths prelude signatures first statements).functions
+    → AllByRecursion (NamesFunctions p) (lowered_with_prelude names paths prelude signatures first
+    statements).sites
 sites_name_functions names paths prelude signatures first statements p path_each functions =
     name_functions names paths prelude signatures first statements p path_each functions
 
-pub sites_are_few : (names paths : List (List ℕ)) (prelude : List Statement) (signatures : List Signature) (first : ℕ) (statements : List Statement) → length (lowered_with_prelude names paths prelude signatures first statements).sites ≤ 4 * node_count (lowered_with_prelude names paths prelude signatures first statements).functions
+pub sites_are_few : (names paths : List (List ℕ)) (prelude : List Statement)
+    (signatures : List Signature) (first : ℕ) (statements : List Statement)
+    → length (lowered_with_prelude names paths prelude signatures first statements).sites
+    ≤ 4 * node_count (lowered_with_prelude names paths prelude signatures first
+    statements).functions
 sites_are_few names paths prelude signatures first statements =
-    omega (arith, ap length (whole_sites names paths prelude signatures first statements), ap node_count (whole_functions names paths prelude signatures first statements), few_sites 0 first (bodies names paths prelude signatures first statements))
+    omega (
+      arith,
+      ap length (whole_sites names paths prelude signatures first statements),
+      ap node_count (whole_functions names paths prelude signatures first statements),
+      few_sites 0 first (bodies names paths prelude signatures first statements),
+    )
 
-pub nodes_are_within_the_size : (names paths : List (List ℕ)) (prelude : List Statement) (signatures : List Signature) (first : ℕ) (statements : List Statement) → node_count (lowered_with_prelude names paths prelude signatures first statements).functions ≤ size_of (first_names names prelude signatures) statements + 3 * length signatures + prelude_size_of names prelude
+pub nodes_are_within_the_size : (names paths : List (List ℕ)) (prelude : List Statement)
+    (signatures : List Signature) (first : ℕ) (statements : List Statement)
+    → node_count (lowered_with_prelude names paths prelude signatures first statements).functions
+    ≤ size_of (first_names names prelude signatures) statements + 3 * length signatures
+    + prelude_size_of names prelude
 unfolding size_of prelude_size_of
 nodes_are_within_the_size names paths prelude signatures first statements =
     let all = bodies names paths prelude signatures first statements in
     let behind = others names paths prelude signatures first statements in
     let built = built_in names paths prelude signatures first statements in
-    omega (arith, ap node_count (whole_functions names paths prelude signatures first statements), few_nodes first all, size-append (text names paths prelude signatures first statements) behind, size-append (device_bodies signatures) built, size-devices signatures, size-at_paths paths (own_bodies names prelude))
+    omega (
+      arith,
+      ap node_count (whole_functions names paths prelude signatures first statements),
+      few_nodes first all,
+      size-append (text names paths prelude signatures first statements)
+          behind,
+      size-append (device_bodies signatures) built,
+      size-devices signatures,
+      size-at_paths paths (own_bodies names prelude),
+    )
 
-pub prelude_names_come_first : (names more : List (List ℕ)) (prelude : List Statement) (first : ℕ) (statements : List Statement) → (own : List (List ℕ)) × ((lowered (prelude_names names prelude ++ more) first statements).names ≡ prelude_names names prelude ++ own)
+pub prelude_names_come_first : (names more : List (List ℕ)) (prelude : List Statement) (first : ℕ)
+    (statements : List Statement) → (own : List (List ℕ))
+    × ((lowered (prelude_names names prelude ++ more) first statements).names
+    ≡ prelude_names names prelude ++ own)
 unfolding lowered
-prelude_names_come_first names more prelude first statements = first_names_stay names more prelude statements
+prelude_names_come_first names more prelude first statements =
+    first_names_stay names more prelude statements
 
-pub parts_follow : (names paths : List (List ℕ)) (prelude : List Statement) (signatures : List Signature) (first : ℕ) (statements : List Statement) (text : Lowered) → text ≡ lowered (first_names names prelude signatures) first statements → lowered_with_prelude names paths prelude signatures first statements ≡ followed_by text (behind_devices signatures (lowered_prelude names paths (first + length text.sites) (length text.functions + length signatures) prelude))
-parts_follow names paths prelude signatures first statements text is = parts names paths prelude signatures first statements text is
+pub parts_follow : (names paths : List (List ℕ)) (prelude : List Statement)
+    (signatures : List Signature) (first : ℕ) (statements : List Statement) (text : Lowered)
+    → text ≡ lowered (first_names names prelude signatures) first statements
+    → lowered_with_prelude names paths prelude signatures first statements
+    ≡ followed_by text (behind_devices signatures
+    (lowered_prelude names paths (first + length text.sites)
+    (length text.functions + length signatures) prelude))
+parts_follow names paths prelude signatures first statements text is =
+    parts names paths prelude signatures first statements text is
 
 -- ---- how many functions
 
-pub text_counted : (names : List (List ℕ)) (first : ℕ) (statements : List Statement) → length (lowered names first statements).functions ≡ function_count statements
+pub text_counted : (names : List (List ℕ)) (first : ℕ) (statements : List Statement)
+    → length (lowered names first statements).functions ≡ function_count statements
 unfolding lowered
-text_counted names first statements = length-functions first (text_bodies names statements) ∙ text_count names statements
+text_counted names first statements =
+    length-functions first (text_bodies names statements) ∙ text_count names statements
 
-pub whole_counted : (names paths : List (List ℕ)) (prelude : List Statement) (signatures : List Signature) (first : ℕ) (statements : List Statement) → length paths ≡ prelude_count prelude → length (lowered_with_prelude names paths prelude signatures first statements).functions ≡ function_count statements + length signatures + length paths
+pub whole_counted : (names paths : List (List ℕ)) (prelude : List Statement)
+    (signatures : List Signature) (first : ℕ) (statements : List Statement)
+    → length paths ≡ prelude_count prelude → length
+    (lowered_with_prelude names paths prelude signatures first statements).functions
+    ≡ function_count statements + length signatures + length paths
 whole_counted names paths prelude signatures first statements path_each =
     let all = bodies names paths prelude signatures first statements in
-    omega (arith, ap length (whole_functions names paths prelude signatures first statements), length-functions first all, count names paths prelude signatures first statements path_each, path_each)
+    omega (
+      arith,
+      ap length (whole_functions names paths prelude signatures first statements),
+      length-functions first all,
+      count names paths prelude signatures first statements path_each,
+      path_each,
+    )

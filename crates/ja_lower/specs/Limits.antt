@@ -30,10 +30,12 @@ size_of_bodies bodies = sum_by size_of_body bodies
 
 -- of a text whose program has these names first, and of built-in functions
 unfoldable pub size_of : List (List ℕ) → List Statement → ℕ
-size_of names statements = size_of_bodies (bodies_of (scene_of (names_of false names statements) statements) statements)
+size_of names statements =
+    size_of_bodies (bodies_of (scene_of (names_of false names statements) statements) statements)
 
 unfoldable pub prelude_size_of : List (List ℕ) → List Statement → ℕ
-prelude_size_of names statements = size_of_bodies (prelude_bodies (prelude_names names statements) statements)
+prelude_size_of names statements =
+    size_of_bodies (prelude_bodies (prelude_names names statements) statements)
 
 -- what holds of so many functions of this size that are lowered
 pub record IsWithinSize (count size : ℕ) : Type 0 where

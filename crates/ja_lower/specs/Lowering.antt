@@ -1,5 +1,5 @@
--- What a tree is lowered to: the functions of its text with their nodes, the sites of these nodes, and the names; and behind them the
--- functions of host devices, and built-in functions.
+-- What a tree is lowered to: the functions of its text with their nodes, the sites of these nodes,
+-- and the names; and behind them the functions of host devices, and built-in functions.
 use Rattle.std.specs.Prelude.{ℕ, Bool, true, false, suc, ◌+◌, List, [], ◌∷◌, ◌++◌, map, filter, length, Option, Some, None}
 use Rattle.std.specs.List.{AllByRecursion, enumerate_from, fold, flat_map, sum_by, zip}
 use Rattle.std.specs.Option.{option_map_or}
@@ -33,9 +33,11 @@ use Rattle.ja_syntax.specs.declared.tree.Statement.{Statement}
 -- the names of a program: some come first, then those of the text, each once
 unfoldable pub names_of : Bool → List (List ℕ) → List Statement → List (List ℕ)
 names_of specials first statements =
-    fold with_name (fold with_name [] first) (map (λ (n : Named). n.text) (filter (is_name specials) (names_in statements)))
+    fold with_name (fold with_name [] first)
+    (map (λ (n : Named). n.text) (filter (is_name specials) (names_in statements)))
 
--- what the forms of a text need of the program: the texts of built-in functions have special forms, others have none
+-- what the forms of a text need of the program: the texts of built-in functions have special forms,
+-- others have none
 abbrev pub scene_with : Bool → List (List ℕ) → List Statement → Scene
 scene_with specials names statements = record {
   names = names;
@@ -50,7 +52,8 @@ scene_of names statements = scene_with false names statements
 -- ---- functions, whose nodes have their sites numbered each for itself
 
 abbrev pub program_body : Scene → List Statement → Body
-program_body scene statements = record { name = []; parameters = []; nodes = assembled (program_listing scene statements) }
+program_body scene statements =
+    record { name = []; parameters = []; nodes = assembled (program_listing scene statements) }
 
 -- a function without a name has an empty one
 abbrev pub function_body : Scene → FunctionOf Statement → Body
@@ -62,13 +65,15 @@ function_body scene f = record {
 
 -- the program, and the functions of its text in the order of the text
 unfoldable pub bodies_of : Scene → List Statement → List Body
-bodies_of scene statements = program_body scene statements ∷ map (function_body scene) (functions_in statements)
+bodies_of scene statements =
+    program_body scene statements ∷ map (function_body scene) (functions_in statements)
 
 -- ---- registers: those that each function has, and as many as its nodes name
 
 unfoldable pub registers_of : ℕ → List NodeInfo → ℕ
 registers_of parameters nodes =
-    registers_with (FIXED_REGISTERS + parameters) (flat_map (λ (info : NodeInfo). registers_in info.node) nodes)
+    registers_with (FIXED_REGISTERS + parameters)
+    (flat_map (λ (info : NodeInfo). registers_in info.node) nodes)
 
 -- ---- sites: they are numbered by function and node
 
@@ -83,7 +88,8 @@ site_count node = length (makings node)
 unfoldable pub numbered : ℕ → List NodeInfo → List NodeInfo
 numbered first [] = []
 numbered first (info ∷ infos) =
-    record info { node = renamed (shifting first) info.node } ∷ numbered (first + site_count info.node) infos
+    record info { node = renamed (shifting first) info.node }
+    ∷ numbered (first + site_count info.node) infos
 
 unfoldable pub sites_in : List NodeInfo → ℕ
 sites_in nodes = sum_by (λ (info : NodeInfo). site_count info.node) nodes
@@ -98,7 +104,8 @@ function_of first body = record {
 
 unfoldable pub functions_of : ℕ → List Body → List Function
 functions_of first [] = []
-functions_of first (body ∷ bodies) = function_of first body ∷ functions_of (first + sites_in body.nodes) bodies
+functions_of first (body ∷ bodies) =
+    function_of first body ∷ functions_of (first + sites_in body.nodes) bodies
 
 -- the function that is called, and that constructs, where a node makes a function object
 abbrev pub run_by : Node → Class → Option FnId
@@ -117,19 +124,26 @@ site_of function info making = record {
 }
 
 unfoldable pub sites_of_nodes : ℕ → List NodeInfo → List SiteInfo
-sites_of_nodes function nodes = flat_map (λ (info : NodeInfo). map (site_of function info) (makings info.node)) nodes
+sites_of_nodes function nodes =
+    flat_map (λ (info : NodeInfo). map (site_of function info) (makings info.node)) nodes
 
 -- the sites of functions, the first of which has this number
 unfoldable pub sites_of : ℕ → List Body → List SiteInfo
 sites_of function [] = []
-sites_of function (body ∷ bodies) = sites_of_nodes function body.nodes ++ sites_of (suc function) bodies
+sites_of function (body ∷ bodies) =
+    sites_of_nodes function body.nodes ++ sites_of (suc function) bodies
 
 -- ---- the whole
 
--- functions whose sites are numbered from a number on, and which are numbered from another on themselves
+-- functions whose sites are numbered from a number on, and which are numbered from another on
+-- themselves
 abbrev pub lowered_bodies : List (List ℕ) → ℕ → ℕ → List Body → Lowered
 lowered_bodies names first_site first_function bodies =
-    record { functions = functions_of first_site bodies; sites = sites_of first_function bodies; names = names }
+    record {
+      functions = functions_of first_site bodies;
+      sites = sites_of first_function bodies;
+      names = names;
+    }
 
 -- a text, where these names come first, and its sites are numbered from a number on
 unfoldable pub lowered : List (List ℕ) → ℕ → List Statement → Lowered
@@ -139,13 +153,16 @@ lowered first first_site statements =
 
 -- ---- built-in functions, whose texts have special forms
 
--- the names of a program with built-in functions: some come first, then those of their texts, each once
+-- the names of a program with built-in functions: some come first, then those of their texts, each
+-- once
 abbrev pub prelude_names : List (List ℕ) → List Statement → List (List ℕ)
 prelude_names first statements = names_of true first statements
 
--- the functions of their texts, in a program with these names; what else stands in these texts is nothing
+-- the functions of their texts, in a program with these names; what else stands in these texts is
+-- nothing
 unfoldable pub prelude_bodies : List (List ℕ) → List Statement → List Body
-prelude_bodies names statements = map (function_body (scene_with true names statements)) (functions_in statements)
+prelude_bodies names statements =
+    map (function_body (scene_with true names statements)) (functions_in statements)
 
 -- a function by its path
 abbrev pub at_path : List ℕ → Body → Body
@@ -155,16 +172,22 @@ at_path path body = record body { name = path }
 abbrev pub at_paths : List (List ℕ) → List Body → List Body
 at_paths paths bodies = map (λ row. at_path row.0 row.1) (zip paths bodies)
 
--- built-in functions by their paths, where these names come first, the sites are numbered from a number on, and so are the functions
+-- built-in functions by their paths, where these names come first, the sites are numbered from a
+-- number on, and so are the functions
 unfoldable pub lowered_prelude : List (List ℕ) → List (List ℕ) → ℕ → ℕ → List Statement → Lowered
 lowered_prelude first paths first_site first_function statements =
     let names = prelude_names first statements in
-    lowered_bodies names first_site first_function (at_paths paths (prelude_bodies names statements))
+    lowered_bodies names first_site first_function
+    (at_paths paths (prelude_bodies names statements))
 
 -- a text, and other functions behind its own, which know some of its names
 abbrev pub followed_by : Lowered → Lowered → Lowered
 followed_by text others =
-    record { functions = text.functions ++ others.functions; sites = text.sites ++ others.sites; names = text.names }
+    record {
+      functions = text.functions ++ others.functions;
+      sites = text.sites ++ others.sites;
+      names = text.names;
+    }
 
 -- ---- the functions of host devices
 
@@ -187,7 +210,9 @@ abbrev pub device_body : ℕ → Signature → Body
 device_body which s = record {
   name = s.name;
   parameters = [];
-  nodes = device_node (Device device_register which) 1 ∷ device_node (Return device_register) 2 ∷ device_node Escape 2 ∷ [];
+  nodes =
+      device_node (Device device_register which) 1 ∷ device_node (Return device_register) 2
+      ∷ device_node Escape 2 ∷ [];
 }
 
 unfoldable pub device_bodies : List Signature → List Body
@@ -198,23 +223,29 @@ device_names signatures = map (λ (s : Signature). s.name) signatures
 
 -- ---- all together
 
--- the names that come before those of a text: those of the built-in functions, and then those of the devices
+-- the names that come before those of a text: those of the built-in functions, and then those of
+-- the devices
 abbrev pub first_names : List (List ℕ) → List Statement → List Signature → List (List ℕ)
 first_names first prelude signatures = prelude_names first prelude ++ device_names signatures
 
 -- built-in functions behind those of devices, which have no sites
 abbrev pub behind_devices : List Signature → Lowered → Lowered
-behind_devices signatures built_in = record built_in { functions = functions_of 0 (device_bodies signatures) ++ built_in.functions }
+behind_devices signatures built_in =
+    record built_in { functions = functions_of 0 (device_bodies signatures) ++ built_in.functions }
 
 -- a text, and behind it the functions of devices and the built-in ones
-unfoldable pub lowered_with_prelude : List (List ℕ) → List (List ℕ) → List Statement → List Signature → ℕ → List Statement → Lowered
+unfoldable pub lowered_with_prelude : List (List ℕ) → List (List ℕ) → List Statement
+    → List Signature → ℕ → List Statement → Lowered
 lowered_with_prelude first paths prelude signatures first_site statements =
     let names = prelude_names first prelude in
     let text = lowered (first_names first prelude signatures) first_site statements in
     let behind = device_bodies signatures ++ at_paths paths (prelude_bodies names prelude) in
-    followed_by text (lowered_bodies names (first_site + length text.sites) (length text.functions) behind)
+    followed_by text (lowered_bodies names (first_site + length text.sites) (length text.functions)
+    behind)
 
 -- each node of functions is allowed whatever the program is
 abbrev pub AreAllowed : List Body → Type 0
 AreAllowed bodies =
-    AllByRecursion (λ (body : Body). AllByRecursion (λ (info : NodeInfo). (p : Program) → IsAllowed p (function_of 0 body) info.node) body.nodes) bodies
+    AllByRecursion (λ (body : Body). AllByRecursion
+    (λ (info : NodeInfo). (p : Program) → IsAllowed p (function_of 0 body) info.node)
+    body.nodes) bodies

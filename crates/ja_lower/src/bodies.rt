@@ -1,4 +1,5 @@
-//! The functions of a text, or those that are built in, each with the sites of its nodes numbered for itself.
+//! The functions of a text, or those that are built in, each with the sites of its nodes numbered
+//! for itself.
 
 ghost use Rattle.std.specs.Prelude.{◌≡◌, ◌≤◌, ◌+◌, ◌++◌, [], length, map, IfOk, IfErr, OnOk};
 ghost use Rattle.std.specs.List.{sum_by};
@@ -70,7 +71,8 @@ fn program_body(
     requires { room ≤ 65536 }
     ensures body { IfOk result (λ body. body ≡ spec.program_body scene.now statements.now) }
     ensures within { IfOk result (λ body. size_of_body body ≤ room) }
-    ensures fault { IfErr result (Exceeds room (size_of_body (spec.program_body scene.now statements.now))) }
+    ensures fault { IfErr result (Exceeds room
+        (size_of_body (spec.program_body scene.now statements.now))) }
 {
     let listing = program_listing(scene, statements)?;
     let nodes = nodes_of(scene.alloc, listing, room)?;
@@ -90,7 +92,8 @@ fn function_body(
     requires { room ≤ 65536 }
     ensures body { IfOk result (λ body. body ≡ spec.function_body scene.now function.now) }
     ensures within { IfOk result (λ body. size_of_body body ≤ room) }
-    ensures fault { IfErr result (Exceeds room (size_of_body (spec.function_body scene.now function.now))) }
+    ensures fault { IfErr result (Exceeds room
+        (size_of_body (spec.function_body scene.now function.now))) }
 {
     let count = function.parameters.len();
     if count > room {
@@ -115,9 +118,12 @@ fn add_functions(
     bodies: &mut Vec<Body>,
 ) -> Result<(), LowerFault>
     requires { room ≤ 65536 }
-    ensures bodies { OnOk result (bodies.new.items ≡ bodies.old.items ++ map (λ f. spec.function_body scene.now f.now) functions.now) }
-    ensures within { OnOk result (sum_by (λ f. size_of_body (spec.function_body scene.now f.now)) functions.now ≤ room) }
-    ensures fault { IfErr result (Exceeds room (sum_by (λ f. size_of_body (spec.function_body scene.now f.now)) functions.now)) }
+    ensures bodies { OnOk result (bodies.new.items ≡ bodies.old.items
+        ++ map (λ f. spec.function_body scene.now f.now) functions.now) }
+    ensures within { OnOk result (sum_by (λ f. size_of_body (spec.function_body scene.now f.now))
+        functions.now ≤ room) }
+    ensures fault { IfErr result (Exceeds room
+        (sum_by (λ f. size_of_body (spec.function_body scene.now f.now)) functions.now)) }
 {
     let mut left = room;
     for function in functions {
@@ -136,8 +142,10 @@ fn all_bodies(
 ) -> Result<Vec<Body>, LowerFault>
     requires functions { map (λ f. f.now) functions.now ≡ text.functions_in statements.now }
     ensures bodies { IfOk result (λ bodies. bodies.items ≡ spec.bodies_of scene.now statements.now) }
-    ensures within { IfOk result (λ bodies. size_of_bodies (spec.bodies_of scene.now statements.now) ≤ 65536) }
-    ensures fault { IfErr result (Exceeds 65536 (size_of_bodies (spec.bodies_of scene.now statements.now))) }
+    ensures within { IfOk result (λ bodies. size_of_bodies (spec.bodies_of scene.now statements.now)
+        ≤ 65536) }
+    ensures fault { IfErr result (Exceeds 65536
+        (size_of_bodies (spec.bodies_of scene.now statements.now))) }
 {
     let program = program_body(scene, statements, MAX_NODES)?;
     let room = MAX_NODES - program.nodes.len();
@@ -149,7 +157,8 @@ fn all_bodies(
 
 /// The places of functions.
 fn places_of(alloc: Global, functions: &[&FunctionTree]) -> Result<Vec<Place>, Memory>
-    ensures { IfOk result (λ places. places.items ≡ map (λ f. f.place) (map (λ f. f.now) functions.now)) }
+    ensures { IfOk result (λ places. places.items
+        ≡ map (λ f. f.place) (map (λ f. f.now) functions.now)) }
 {
     let mut places = Vec::with_capacity(alloc, functions.len())?;
     for function in functions {
@@ -158,7 +167,8 @@ fn places_of(alloc: Global, functions: &[&FunctionTree]) -> Result<Vec<Place>, M
     Ok(places)
 }
 
-/// The program and the functions of its text, where the program has these names; or `Nodes` exactly where they are too large.
+/// The program and the functions of its text, where the program has these names; or `Nodes` exactly
+/// where they are too large.
 pub(crate) fn bodies_of(
     alloc: Global,
     names: &Names<'_>,
@@ -166,9 +176,13 @@ pub(crate) fn bodies_of(
     functions: &[&FunctionTree],
 ) -> Result<Vec<Body>, LowerFault>
     requires functions { map (λ f. f.now) functions.now ≡ text.functions_in statements.now }
-    ensures bodies { IfOk result (λ bodies. bodies.items ≡ spec.bodies_of (spec.scene_of names.now statements.now) statements.now) }
-    ensures within { IfOk result (λ bodies. size_of_bodies (spec.bodies_of (spec.scene_of names.now statements.now) statements.now) ≤ 65536) }
-    ensures fault { IfErr result (Exceeds 65536 (size_of_bodies (spec.bodies_of (spec.scene_of names.now statements.now) statements.now))) }
+    ensures bodies { IfOk result (λ bodies. bodies.items
+        ≡ spec.bodies_of (spec.scene_of names.now statements.now) statements.now) }
+    ensures within { IfOk result (λ bodies.
+        size_of_bodies (spec.bodies_of (spec.scene_of names.now statements.now) statements.now)
+        ≤ 65536) }
+    ensures fault { IfErr result (Exceeds 65536
+        (size_of_bodies (spec.bodies_of (spec.scene_of names.now statements.now) statements.now))) }
 {
     let places = places_of(alloc, functions)?;
     let scene = Scene {
@@ -201,7 +215,8 @@ fn at_paths(alloc: Global, paths: &[Text16], bodies: Vec<Body>) -> Result<Vec<Bo
     Ok(list)
 }
 
-/// The functions of the texts of built-in functions, each by its path, or `Nodes` exactly where they are too large.
+/// The functions of the texts of built-in functions, each by its path, or `Nodes` exactly where
+/// they are too large.
 fn all_prelude(
     scene: &Scene<'_, '_>,
     paths: &[Text16],
@@ -209,9 +224,14 @@ fn all_prelude(
     functions: &[&FunctionTree],
 ) -> Result<Vec<Body>, LowerFault>
     requires functions { map (λ f. f.now) functions.now ≡ text.functions_in statements.now }
-    ensures bodies { IfOk result (λ bodies. bodies.items ≡ spec.at_paths paths.now (map (spec.function_body scene.now) (text.functions_in statements.now))) }
-    ensures within { IfOk result (λ bodies. size_of_bodies (map (spec.function_body scene.now) (text.functions_in statements.now)) ≤ 65536) }
-    ensures fault { IfErr result (Exceeds 65536 (size_of_bodies (map (spec.function_body scene.now) (text.functions_in statements.now)))) }
+    ensures bodies { IfOk result (λ bodies. bodies.items
+        ≡ spec.at_paths paths.now (map (spec.function_body scene.now)
+        (text.functions_in statements.now))) }
+    ensures within { IfOk result (λ bodies.
+        size_of_bodies (map (spec.function_body scene.now) (text.functions_in statements.now))
+        ≤ 65536) }
+    ensures fault { IfErr result (Exceeds 65536
+        (size_of_bodies (map (spec.function_body scene.now) (text.functions_in statements.now)))) }
 {
     let mut bodies = Vec::with_capacity(scene.alloc, functions.len())?;
     add_functions(scene, functions, MAX_NODES, &mut bodies)?;
@@ -219,8 +239,8 @@ fn all_prelude(
     Ok(named)
 }
 
-/// The functions of the texts of built-in functions, where the program has these names, each by its path; or `Nodes` exactly where
-/// they are too large.
+/// The functions of the texts of built-in functions, where the program has these names, each by its
+/// path; or `Nodes` exactly where they are too large.
 #[tactic(auto, unfolding(crate::specs::Lowering::prelude_bodies))]
 pub(crate) fn prelude_bodies(
     alloc: Global,
@@ -230,9 +250,12 @@ pub(crate) fn prelude_bodies(
     functions: &[&FunctionTree],
 ) -> Result<Vec<Body>, LowerFault>
     requires functions { map (λ f. f.now) functions.now ≡ text.functions_in statements.now }
-    ensures bodies { IfOk result (λ bodies. bodies.items ≡ spec.at_paths paths.now (spec.prelude_bodies names.now statements.now)) }
-    ensures within { IfOk result (λ bodies. size_of_bodies (spec.prelude_bodies names.now statements.now) ≤ 65536) }
-    ensures fault { IfErr result (Exceeds 65536 (size_of_bodies (spec.prelude_bodies names.now statements.now))) }
+    ensures bodies { IfOk result (λ bodies. bodies.items
+        ≡ spec.at_paths paths.now (spec.prelude_bodies names.now statements.now)) }
+    ensures within { IfOk result (λ bodies.
+        size_of_bodies (spec.prelude_bodies names.now statements.now) ≤ 65536) }
+    ensures fault { IfErr result (Exceeds 65536
+        (size_of_bodies (spec.prelude_bodies names.now statements.now))) }
 {
     let places = places_of(alloc, functions)?;
     let scene = Scene {

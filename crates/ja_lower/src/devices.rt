@@ -60,13 +60,15 @@ fn device_bodies(alloc: Global, signatures: &[Signature]) -> Result<Vec<Body>, M
     Ok(bodies)
 }
 
-/// The functions of at most 64 devices, one for each, in their order. They make nothing, so they are the same wherever sites are
-/// numbered from. The error is want of memory.
+/// The functions of at most 64 devices, one for each, in their order. They make nothing, so they
+/// are the same wherever sites are numbered from. The error is want of memory.
 #[tactic(auto, using(crate::proofs::DeviceBodies::devices_alike))]
 pub fn device_functions(alloc: Global, signatures: &[Signature]) -> Result<Seq<Function>, Memory>
     requires few { length signatures.now ≤ 64 }
-    ensures functions { IfOk result (λ functions. (first : ℕ) → functions ≡ spec.functions_of first (spec.device_bodies signatures.now)) }
-    ensures registers { IfOk result (λ functions. AllByRecursion (λ fn. fn.registers ≤ max_registers) functions) }
+    ensures functions { IfOk result (λ functions. (first : ℕ)
+        → functions ≡ spec.functions_of first (spec.device_bodies signatures.now)) }
+    ensures registers { IfOk result (λ functions.
+        AllByRecursion (λ fn. fn.registers ≤ max_registers) functions) }
 {
     let bodies = device_bodies(alloc, signatures)?;
     let whole = whole_of(alloc, 0, 0, bodies)?;

@@ -1,5 +1,5 @@
-//! What lowered functions are in a program that has them, those of a text, and behind them those of devices and the built-in ones. The
-//! functions do nothing; their contracts are the laws.
+//! What lowered functions are in a program that has them, those of a text, and behind them those of
+//! devices and the built-in ones. The functions do nothing; their contracts are the laws.
 
 ghost use Rattle.std.specs.Prelude.{◌≡◌, ◌≤◌, ◌+◌, ◌*◌, ◌++◌, ℕ, Bool, List, Some, length, map, slice_get};
 ghost use Rattle.std.specs.List.{AllByRecursion, range_with_len};
@@ -14,66 +14,113 @@ ghost use Rattle.ja_prim.specs.declared.signature.Signature.{Signature};
 ghost use Rattle.ja_lower_ranges.specs.Found.{HasText};
 ghost use Rattle.ja_syntax.specs.declared.tree.Statement.{Statement};
 
-/// Each name and each function that a text looks up is found among those that it is lowered with, with or without special forms.
+/// Each name and each function that a text looks up is found among those that it is lowered with,
+/// with or without special forms.
 pub fn scenes_have_their_texts()
-    ensures { (specials : Bool) (names : List (List ℕ)) (statements : List Statement) → HasText (scene_with specials (names_of specials names statements) statements) statements }
+    ensures { (specials : Bool) (names : List (List ℕ)) (statements : List Statement)
+        → HasText (scene_with specials (names_of specials names statements) statements) statements }
 {}
 
-/// The names of built-in functions keep their numbers where a text is lowered with them first, whatever more names it is lowered with:
-/// these and its own only follow.
+/// The names of built-in functions keep their numbers where a text is lowered with them first,
+/// whatever more names it is lowered with: these and its own only follow.
 pub fn prelude_names_come_first()
-    ensures { (names more : List (List ℕ)) (prelude : List Statement) (first : ℕ) (statements : List Statement) → (own : List (List ℕ)) × ((lowered (prelude_names names prelude ++ more) first statements).names ≡ prelude_names names prelude ++ own) }
+    ensures { (names more : List (List ℕ)) (prelude : List Statement) (first : ℕ)
+        (statements : List Statement) → (own : List (List ℕ))
+        × ((lowered (prelude_names names prelude ++ more) first statements).names
+        ≡ prelude_names names prelude ++ own) }
 {}
 
-/// What a text is lowered to has its parts one after the other: the text, then the functions of devices, which have no sites, then the
-/// built-in ones.
+/// What a text is lowered to has its parts one after the other: the text, then the functions of
+/// devices, which have no sites, then the built-in ones.
 #[tactic(auto, using(crate::proofs::WellFormedLemmas::parts_follow))]
 pub fn parts_follow_one_another()
-    ensures { (names paths : List (List ℕ)) (prelude : List Statement) (signatures : List Signature) (first : ℕ) (statements : List Statement) (text : Lowered) → text ≡ lowered (first_names names prelude signatures) first statements → lowered_with_prelude names paths prelude signatures first statements ≡ followed_by text (behind_devices signatures (lowered_prelude names paths (first + length text.sites) (length text.functions + length signatures) prelude)) }
+    ensures { (names paths : List (List ℕ)) (prelude : List Statement) (signatures : List Signature)
+        (first : ℕ) (statements : List Statement) (text : Lowered)
+        → text ≡ lowered (first_names names prelude signatures) first statements
+        → lowered_with_prelude names paths prelude signatures first statements
+        ≡ followed_by text (behind_devices signatures
+        (lowered_prelude names paths (first + length text.sites)
+        (length text.functions + length signatures) prelude)) }
 {}
 
-/// Each function is well formed in a program that has these functions, names and devices, and at most 262,144 registers in each, where
-/// there is a path for each built-in function and each of their nodes is allowed.
+/// Each function is well formed in a program that has these functions, names and devices, and at
+/// most 262,144 registers in each, where there is a path for each built-in function and each of
+/// their nodes is allowed.
 #[tactic(auto, using(crate::proofs::WellFormedLemmas::functions_are_well_formed))]
 pub fn functions_are_well_formed()
-    ensures { (names paths : List (List ℕ)) (prelude : List Statement) (signatures : List Signature) (first : ℕ) (statements : List Statement) (p : Program) (f : ℕ) (fn : Function) → length paths ≡ prelude_count prelude → AreAllowed (prelude_bodies (prelude_names names prelude) prelude) → p.functions ≡ (lowered_with_prelude names paths prelude signatures first statements).functions → p.names ≡ (lowered_with_prelude names paths prelude signatures first statements).names → p.signatures ≡ signatures → slice_get p.functions f ≡ Some fn → fn.registers ≤ max_registers → IsFunctionWellFormed p fn }
+    ensures { (names paths : List (List ℕ)) (prelude : List Statement) (signatures : List Signature)
+        (first : ℕ) (statements : List Statement) (p : Program) (f : ℕ) (fn : Function)
+        → length paths ≡ prelude_count prelude
+        → AreAllowed (prelude_bodies (prelude_names names prelude) prelude)
+        → p.functions ≡ (lowered_with_prelude names paths prelude signatures first
+        statements).functions → p.names ≡ (lowered_with_prelude names paths prelude signatures first
+        statements).names → p.signatures ≡ signatures → slice_get p.functions f ≡ Some fn
+        → fn.registers ≤ max_registers → IsFunctionWellFormed p fn }
 {}
 
 /// The sites of the nodes are numbered by function and node, without a gap.
 #[tactic(auto, using(crate::proofs::WellFormedLemmas::sites_are_numbered))]
 pub fn sites_are_numbered()
-    ensures { (names paths : List (List ℕ)) (prelude : List Statement) (signatures : List Signature) (first : ℕ) (statements : List Statement) → map (λ (m : OwnedMaking). m.making.site.0) (makings_from 0 (lowered_with_prelude names paths prelude signatures first statements).functions) ≡ range_with_len first (length (lowered_with_prelude names paths prelude signatures first statements).sites) }
+    ensures { (names paths : List (List ℕ)) (prelude : List Statement) (signatures : List Signature)
+        (first : ℕ) (statements : List Statement)
+        → map (λ (m : OwnedMaking). m.making.site.0)
+        (makings_from 0 (lowered_with_prelude names paths prelude signatures first
+        statements).functions) ≡ range_with_len first
+        (length (lowered_with_prelude names paths prelude signatures first statements).sites) }
 {}
 
-/// A program tells the class and the owner of each site of a node, where it has these sites behind as many others as the number of
-/// the first one says.
+/// A program tells the class and the owner of each site of a node, where it has these sites behind
+/// as many others as the number of the first one says.
 pub fn sites_are_told()
-    ensures { (names paths : List (List ℕ)) (prelude : List Statement) (signatures : List Signature) (front : List SiteInfo) (statements : List Statement) (p : Program) → p.sites ≡ front ++ (lowered_with_prelude names paths prelude signatures (length front) statements).sites → AllByRecursion (IsSiteTold p) (makings_from 0 (lowered_with_prelude names paths prelude signatures (length front) statements).functions) }
+    ensures { (names paths : List (List ℕ)) (prelude : List Statement) (signatures : List Signature)
+        (front : List SiteInfo) (statements : List Statement) (p : Program)
+        → p.sites ≡ front ++ (lowered_with_prelude names paths prelude signatures (length front)
+        statements).sites → AllByRecursion (IsSiteTold p)
+        (makings_from 0 (lowered_with_prelude names paths prelude signatures (length front)
+        statements).functions) }
 {}
 
-/// The functions that are told of each site of a node are those of a program that has these functions, where there is a path for each
-/// built-in one.
+/// The functions that are told of each site of a node are those of a program that has these
+/// functions, where there is a path for each built-in one.
 pub fn sites_name_functions()
-    ensures { (names paths : List (List ℕ)) (prelude : List Statement) (signatures : List Signature) (first : ℕ) (statements : List Statement) (p : Program) → length paths ≡ prelude_count prelude → p.functions ≡ (lowered_with_prelude names paths prelude signatures first statements).functions → AllByRecursion (NamesFunctions p) (lowered_with_prelude names paths prelude signatures first statements).sites }
+    ensures { (names paths : List (List ℕ)) (prelude : List Statement) (signatures : List Signature)
+        (first : ℕ) (statements : List Statement) (p : Program)
+        → length paths ≡ prelude_count prelude
+        → p.functions ≡ (lowered_with_prelude names paths prelude signatures first
+        statements).functions → AllByRecursion (NamesFunctions p)
+        (lowered_with_prelude names paths prelude signatures first statements).sites }
 {}
 
 /// There are at most four sites for each node.
 #[tactic(auto, using(crate::proofs::WellFormedLemmas::sites_are_few))]
 pub fn sites_are_few()
-    ensures { (names paths : List (List ℕ)) (prelude : List Statement) (signatures : List Signature) (first : ℕ) (statements : List Statement) → length (lowered_with_prelude names paths prelude signatures first statements).sites ≤ 4 * node_count (lowered_with_prelude names paths prelude signatures first statements).functions }
+    ensures { (names paths : List (List ℕ)) (prelude : List Statement) (signatures : List Signature)
+        (first : ℕ) (statements : List Statement)
+        → length (lowered_with_prelude names paths prelude signatures first statements).sites
+        ≤ 4 * node_count (lowered_with_prelude names paths prelude signatures first
+        statements).functions }
 {}
 
-/// The functions have no more nodes than what is counted against the limit, of the text and of the built-in functions, and three for each
-/// device.
+/// The functions have no more nodes than what is counted against the limit, of the text and of the
+/// built-in functions, and three for each device.
 #[tactic(auto, using(crate::proofs::WellFormedLemmas::nodes_are_within_the_size))]
 pub fn nodes_are_within_the_size()
-    ensures { (names paths : List (List ℕ)) (prelude : List Statement) (signatures : List Signature) (first : ℕ) (statements : List Statement) → node_count (lowered_with_prelude names paths prelude signatures first statements).functions ≤ size_of (first_names names prelude signatures) statements + 3 * length signatures + prelude_size_of names prelude }
+    ensures { (names paths : List (List ℕ)) (prelude : List Statement) (signatures : List Signature)
+        (first : ℕ) (statements : List Statement)
+        → node_count (lowered_with_prelude names paths prelude signatures first
+        statements).functions ≤ size_of (first_names names prelude signatures) statements
+        + 3 * length signatures + prelude_size_of names prelude }
 {}
 
-/// There are as many functions as the text has, and then one for each device and one for each path of a built-in one, where each of these
-/// has a path.
-#[tactic(auto, using(crate::proofs::WellFormedLemmas::text_counted, crate::proofs::WellFormedLemmas::whole_counted))]
+/// There are as many functions as the text has, and then one for each device and one for each path
+/// of a built-in one, where each of these has a path.
+#[tactic(auto, using(crate::proofs::Rulesets::for_functions_are_counted))]
 pub fn functions_are_counted()
-    ensures text { (names : List (List ℕ)) (first : ℕ) (statements : List Statement) → length (lowered names first statements).functions ≡ function_count statements }
-    ensures whole { (names paths : List (List ℕ)) (prelude : List Statement) (signatures : List Signature) (first : ℕ) (statements : List Statement) → length paths ≡ prelude_count prelude → length (lowered_with_prelude names paths prelude signatures first statements).functions ≡ function_count statements + length signatures + length paths }
+    ensures text { (names : List (List ℕ)) (first : ℕ) (statements : List Statement)
+        → length (lowered names first statements).functions ≡ function_count statements }
+    ensures whole { (names paths : List (List ℕ)) (prelude : List Statement)
+        (signatures : List Signature) (first : ℕ) (statements : List Statement)
+        → length paths ≡ prelude_count prelude
+        → length (lowered_with_prelude names paths prelude signatures first statements).functions
+        ≡ function_count statements + length signatures + length paths }
 {}

@@ -55,9 +55,11 @@ const MAX_FUNCTIONS: usize = 4_096;
 /// The most names that a program may have.
 const MAX_NAMES: usize = 1_048_576;
 
-/// Adds the names of a text, each once; where the text has special forms, a variable that is one is no name.
+/// Adds the names of a text, each once; where the text has special forms, a variable that is one is
+/// no name.
 fn add_names<'a>(names: &mut Names<'a>, specials: bool, texts: &[Named<'a>]) -> Result<(), Memory>
-    ensures { OnOk result (names.new ≡ fold with_name names.old (map (λ n. n.text) (filter (is_name specials) (map named_of texts.now)))) }
+    ensures { OnOk result (names.new ≡ fold with_name names.old
+        (map (λ n. n.text) (filter (is_name specials) (map named_of texts.now)))) }
 {
     for named in texts {
         if named.variable && specials && special_of(named.text.units()).is_some() {
@@ -100,8 +102,10 @@ fn lowered_bodies(
     bodies: Vec<Body>,
 ) -> Result<Lowered, LowerFault>
     requires few { first_function + length bodies.items ≤ 2 ^ 32 }
-    ensures lowered { IfOk result (λ l. l ≡ spec.lowered_bodies names.now first_site first_function bodies.items) }
-    ensures registers { IfOk result (λ l. AllByRecursion (λ fn. fn.registers ≤ max_registers) l.functions) }
+    ensures lowered { IfOk result (λ l. l ≡ spec.lowered_bodies names.now first_site first_function
+        bodies.items) }
+    ensures registers { IfOk result (λ l. AllByRecursion (λ fn. fn.registers ≤ max_registers)
+        l.functions) }
     ensures names { IfOk result (λ l. length l.names ≤ max_names) }
     ensures fault { IfErr result (HasTooMany (length names.now)) }
 {
@@ -116,16 +120,17 @@ fn lowered_bodies(
     })
 }
 
-/// Lowers a tree, whatever its forms are. The names of the program begin with `names`, of which it takes each once, and
-/// the sites of its nodes are numbered from `first_site` on.
+/// Lowers a tree, whatever its forms are. The names of the program begin with `names`, of which it
+/// takes each once, and the sites of its nodes are numbered from `first_site` on.
 ///
 /// # Errors
 ///
-/// `Functions` exactly where there are more than 4,096 functions, the program among them; else `Nodes`
-/// exactly where they have more than 65,536 nodes, each parameter of a function counted as one more; else `Names` exactly
-/// where the program has more than 1,048,576 names; else `Memory`, where memory was refused. More than 262,144 registers in a
-/// function, or a site or a name whose number isn't in 32 bits, count as refused memory.
-#[tactic(auto, using(crate::proofs::Sizes::exceeds_explains, crate::proofs::Sizes::too_many_explain), unfolding(crate::specs::Limits::size_of, crate::specs::Lowering::lowered))]
+/// `Functions` exactly where there are more than 4,096 functions, the program among them; else
+/// `Nodes` exactly where they have more than 65,536 nodes, each parameter of a function counted as
+/// one more; else `Names` exactly where the program has more than 1,048,576 names; else `Memory`,
+/// where memory was refused. More than 262,144 registers in a function, or a site or a name whose
+/// number isn't in 32 bits, count as refused memory.
+#[tactic(auto, using(crate::proofs::Rulesets::for_lower), unfolding(crate::specs::Limits::size_of, crate::specs::Lowering::lowered))]
 pub fn lower(
     alloc: Global,
     tree: &Tree,
@@ -135,7 +140,8 @@ pub fn lower(
     requires names { length names.now ≤ 65536 }
     ensures lowered { IfOk result (λ l. l ≡ spec.lowered names.now first_site tree.now.statements) }
     ensures within { IfOk result (λ l. IsWithin names.now tree.now.statements) }
-    ensures registers { IfOk result (λ l. AllByRecursion (λ fn. fn.registers ≤ max_registers) l.functions) }
+    ensures registers { IfOk result (λ l. AllByRecursion (λ fn. fn.registers ≤ max_registers)
+        l.functions) }
     ensures names { IfOk result (λ l. length l.names ≤ max_names) }
     ensures fault { IfErr result (Explains names.now tree.now.statements) }
 {
@@ -149,8 +155,9 @@ pub fn lower(
     lowered_bodies(alloc, &names, first_site, 0, bodies)
 }
 
-/// The names of a program with built-in functions: these, each once, and then those of the functions' texts. A variable that
-/// is in the table of special forms (`ja_lower_expressions::SPECIALS`) is no name.
+/// The names of a program with built-in functions: these, each once, and then those of the
+/// functions' texts. A variable that is in the table of special forms
+/// (`ja_lower_expressions::SPECIALS`) is no name.
 #[tactic(auto)]
 pub fn prelude_names(
     alloc: Global,
@@ -164,15 +171,16 @@ pub fn prelude_names(
     names.texts(alloc)
 }
 
-/// Lowers the functions of the texts of built-in functions, each by its path: as `lower`, but the names of the table of special
-/// forms (`ja_lower_expressions::SPECIALS`) stand for these where they are variables, which then are no names of the program. The call of a
-/// special form that doesn't have its arguments, or such a variable that isn't called, is undefined. The functions are numbered from
-/// `first_function` on, and nothing else of these texts is lowered.
+/// Lowers the functions of the texts of built-in functions, each by its path: as `lower`, but the
+/// names of the table of special forms (`ja_lower_expressions::SPECIALS`) stand for these where
+/// they are variables, which then are no names of the program. The call of a special form that
+/// doesn't have its arguments, or such a variable that isn't called, is undefined. The functions
+/// are numbered from `first_function` on, and nothing else of these texts is lowered.
 ///
 /// # Errors
 ///
 /// `Functions` exactly where there are more than 4,096 functions; the others are those of `lower`.
-#[tactic(auto, using(crate::proofs::Sizes::exceeds_explains, crate::proofs::Sizes::too_many_explain), unfolding(crate::specs::Limits::prelude_size_of, crate::specs::Lowering::lowered_prelude))]
+#[tactic(auto, using(crate::proofs::Rulesets::for_lower), unfolding(crate::specs::Limits::prelude_size_of, crate::specs::Lowering::lowered_prelude))]
 pub fn lower_prelude(
     alloc: Global,
     statements: &[Statement],
@@ -183,9 +191,11 @@ pub fn lower_prelude(
 ) -> Result<Lowered, LowerFault>
     requires names { length names.now ≤ 65536 }
     requires functions { first_function ≤ 4160 }
-    ensures lowered { IfOk result (λ l. l ≡ spec.lowered_prelude names.now paths.now first_site first_function statements.now) }
+    ensures lowered { IfOk result (λ l. l ≡ spec.lowered_prelude names.now paths.now first_site
+        first_function statements.now) }
     ensures within { IfOk result (λ l. IsPreludeWithin names.now statements.now) }
-    ensures registers { IfOk result (λ l. AllByRecursion (λ fn. fn.registers ≤ max_registers) l.functions) }
+    ensures registers { IfOk result (λ l. AllByRecursion (λ fn. fn.registers ≤ max_registers)
+        l.functions) }
     ensures names { IfOk result (λ l. length l.names ≤ max_names) }
     ensures fault { IfErr result (ExplainsPrelude names.now statements.now) }
 {

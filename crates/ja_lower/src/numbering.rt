@@ -41,7 +41,8 @@ impl Renames for Shift {
     }
 }
 
-/// The number behind so many sites. Past the last number that a site may have counts as refused memory.
+/// The number behind so many sites. Past the last number that a site may have counts as refused
+/// memory.
 pub(crate) fn behind(first: u32, count: usize) -> Result<u32, Memory>
     ensures { IfOk result (λ n. n ≡ first + count) }
 {
@@ -70,7 +71,8 @@ fn shifted(
     makings: &[Making],
 ) -> Result<NodeInfo, Memory>
     requires makings { makings.now ≡ graph.makings info.now.node }
-    ensures { IfOk result (λ copy. copy ≡ record info.now { node = renamed (spec.shifting first) info.now.node }) }
+    ensures { IfOk result (λ copy. copy ≡ record info.now
+        { node = renamed (spec.shifting first) info.now.node }) }
 {
     check_sites(first, makings)?;
     let node = renamed(alloc, &info.node, &Shift { first })?;

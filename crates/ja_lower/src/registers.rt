@@ -9,8 +9,8 @@ use ja_graph::{NodeInfo, registers_with};
 /// The most registers that a function may have.
 const MAX_REGISTERS: u64 = 262_144;
 
-/// How many registers a function has: those that each function has, its parameters, and what its nodes name. More than
-/// 262,144 count as refused memory.
+/// How many registers a function has: those that each function has, its parameters, and what its
+/// nodes name. More than 262,144 count as refused memory.
 #[tactic(auto, unfolding(crate::specs::Lowering::registers_of))]
 pub(crate) fn register_count(parameters: usize, nodes: &[NodeInfo]) -> Result<u32, Memory>
     ensures count { IfOk result (λ count. count ≡ spec.registers_of parameters nodes.now) }

@@ -35,7 +35,8 @@ fn site_of(function: FnId, info: &NodeInfo, making: &Making) -> SiteInfo
 
 /// Adds the sites of a node of a function.
 fn add_node(sites: &mut Vec<SiteInfo>, function: FnId, info: &NodeInfo) -> Result<(), Memory>
-    ensures { OnOk result (sites.new.items ≡ sites.old.items ++ map (spec.site_of function.0 info.now) (graph.makings info.now.node)) }
+    ensures { OnOk result (sites.new.items ≡ sites.old.items
+        ++ map (spec.site_of function.0 info.now) (graph.makings info.now.node)) }
 {
     let makings = makings(&info.node);
     for making in makings.as_slice() {
@@ -51,7 +52,8 @@ pub(crate) fn add_sites(
     function: FnId,
     nodes: &[NodeInfo],
 ) -> Result<(), Memory>
-    ensures { OnOk result (sites.new.items ≡ sites.old.items ++ spec.sites_of_nodes function.0 nodes.now) }
+    ensures { OnOk result (sites.new.items ≡ sites.old.items
+        ++ spec.sites_of_nodes function.0 nodes.now) }
 {
     for info in nodes {
         add_node(sites, function, info)?;

@@ -34,12 +34,16 @@ fn function_of(alloc: Global, first: u32, body: Body) -> Result<Function, Memory
     })
 }
 
-/// Adds a function and its sites, where the first site of all and the first function have these numbers.
+/// Adds a function and its sites, where the first site of all and the first function have these
+/// numbers.
 fn add(whole: &mut Whole, first_site: u32, first_function: u32, body: Body) -> Result<(), Memory>
     requires few { first_function + length whole.old.functions.items < 2 ^ 32 }
-    ensures functions { OnOk result (whole.new.functions.items ≡ whole.old.functions.items ++ spec.function_of (first_site + length whole.old.sites.items) body ∷ []) }
-    ensures sites { OnOk result (whole.new.sites.items ≡ whole.old.sites.items ++ spec.sites_of_nodes (first_function + length whole.old.functions.items) body.nodes) }
-    ensures registers { OnOk result ((spec.function_of (first_site + length whole.old.sites.items) body).registers ≤ 262144) }
+    ensures functions { OnOk result (whole.new.functions.items ≡ whole.old.functions.items
+        ++ spec.function_of (first_site + length whole.old.sites.items) body ∷ []) }
+    ensures sites { OnOk result (whole.new.sites.items ≡ whole.old.sites.items
+        ++ spec.sites_of_nodes (first_function + length whole.old.functions.items) body.nodes) }
+    ensures registers { OnOk result ((spec.function_of (first_site + length whole.old.sites.items)
+        body).registers ≤ 262144) }
 {
     let function = FnId(first_function + whole.functions.len() as u32);
     let first = behind(first_site, whole.sites.len())?;
@@ -49,7 +53,8 @@ fn add(whole: &mut Whole, first_site: u32, first_function: u32, body: Body) -> R
     Ok(())
 }
 
-/// The functions of these bodies and their sites, where the first site and the first function have these numbers.
+/// The functions of these bodies and their sites, where the first site and the first function have
+/// these numbers.
 pub(crate) fn whole_of(
     alloc: Global,
     first_site: u32,
@@ -57,9 +62,11 @@ pub(crate) fn whole_of(
     bodies: Vec<Body>,
 ) -> Result<Whole, Memory>
     requires few { first_function + length bodies.items ≤ 2 ^ 32 }
-    ensures functions { IfOk result (λ w. w.functions.items ≡ spec.functions_of first_site bodies.items) }
+    ensures functions { IfOk result (λ w. w.functions.items
+        ≡ spec.functions_of first_site bodies.items) }
     ensures sites { IfOk result (λ w. w.sites.items ≡ spec.sites_of first_function bodies.items) }
-    ensures registers { IfOk result (λ w. AllByRecursion (λ f. f.registers ≤ 262144) w.functions.items) }
+    ensures registers { IfOk result (λ w. AllByRecursion (λ f. f.registers ≤ 262144)
+        w.functions.items) }
 {
     let mut whole = Whole {
         functions: Vec::with_capacity(alloc, bodies.len())?,

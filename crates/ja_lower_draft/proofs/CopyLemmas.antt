@@ -21,7 +21,13 @@ not_moved first r = either (nat_le first r.0)
     either false = refl
 
 node_stays : (first : ℕ) (n : Node) → renamed (moving first 0) n ≡ n
-node_stays first n = ap (λ (f : Reg → Reg). renamed (record { register = f; name = λ x. x; function = λ x. x; site = λ x. x }) n) (fun_ext (not_moved first)) ∙ identity_keeps n
+node_stays first n =
+    ap (λ (f : Reg → Reg). renamed (record {
+      register = f;
+      name = λ x. x;
+      function = λ x. x;
+      site = λ x. x;
+    }) n) (fun_ext (not_moved first)) ∙ identity_keeps n
 
 -- ---- the nodes of a copy
 
@@ -30,16 +36,26 @@ module _ (first : ℕ) (above : Reg) where
   by = above.0 + 1 - first
 
   -- with or without temporaries of the block
-  node_moved : (n : BlockNode) (b : Bool) → record n { node = renamed (moving first (if b then by else 0)) n.node; above = if b then Some above else n.above } ≡ (if b then record n { node = moved_up first by n.node; above = Some above } else n)
+  node_moved : (n : BlockNode) (b : Bool) → record n {
+    node = renamed (moving first (if b then by else 0)) n.node;
+    above = if b then Some above
+        else n.above;
+  } ≡ (if b then record n { node = moved_up first by n.node; above = Some above }
+      else n)
   node_moved n true = refl
   node_moved n false = ap (λ (m : Node). record n { node = m }) (node_stays first n.node)
 
-  nodes_moved : (ns : List BlockNode) → map (moved_node first above by) ns ≡ map (in_copy first above) ns
+  nodes_moved : (ns : List BlockNode) → map (moved_node first above by) ns
+      ≡ map (in_copy first above) ns
   nodes_moved [] = refl
   nodes_moved (n ∷ ns) =
       ap (λ m. m ∷ map (moved_node first above by) ns) (node_moved n (moves_with first n.above))
       ∙ ap (λ ms. in_copy first above n ∷ ms) (nodes_moved ns)
 
-pub copy_alike : (t : Template) (above : Reg) (l : Listing) → (with_block t above l).items ≡ l.items ++ item.Copy (block_in_copy t.temporary above t.block) ∷ []
+pub copy_alike : (t : Template) (above : Reg) (l : Listing)
+    → (with_block t above l).items ≡ l.items ++ item.Copy (block_in_copy t.temporary above t.block)
+    ∷ []
 unfolding with_block
-copy_alike t above l = ap (λ ns. l.items ++ item.Copy (record t.block { nodes = ns }) ∷ []) (nodes_moved t.temporary above t.block.nodes)
+copy_alike t above l =
+    ap (λ ns. l.items ++ item.Copy (record t.block { nodes = ns }) ∷ [])
+    (nodes_moved t.temporary above t.block.nodes)

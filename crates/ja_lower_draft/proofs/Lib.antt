@@ -1,5 +1,6 @@
-pub mod MovingLemmas
 pub mod CopyLemmas
-pub mod PartLemmas
 pub mod KeptLemmas
+pub mod MovingLemmas
+pub mod PartLemmas
+pub mod Rulesets
 pub mod Walks

@@ -12,15 +12,18 @@ pub record Template : Type 0 where
   pub block : Block
   pub temporary : ℕ
 
--- the temporaries of the block are moved up; the registers below them are those of what is around it
+-- the temporaries of the block are moved up; the registers below them are those of what is around
+-- it
 abbrev pub moved_register : ℕ → ℕ → Reg → Reg
 moved_register first by r = if nat_le first r.0 then record { 0 = r.0 + by } else r
 
 abbrev pub moving : ℕ → ℕ → Renaming
-moving first by = record { register = moved_register first by; name = λ n. n; function = λ f. f; site = λ s. s }
+moving first by =
+    record { register = moved_register first by; name = λ n. n; function = λ f. f; site = λ s. s }
 
--- A block whose temporaries begin at a register may have copies of other blocks in it. One that stands above a temporary of the
--- block moves as that does; one that a jump took above the register of a `try` around the block stays where it is.
+-- A block whose temporaries begin at a register may have copies of other blocks in it. One that
+-- stands above a temporary of the block moves as that does; one that a jump took above the register
+-- of a `try` around the block stays where it is.
 abbrev pub moves_with : ℕ → Option Reg → Bool
 moves_with first None = true
 moves_with first (Some inner) = nat_le first inner.0
@@ -29,11 +32,16 @@ moves_with first (Some inner) = nat_le first inner.0
 abbrev pub moved_node : ℕ → Reg → ℕ → BlockNode → BlockNode
 moved_node first above by n =
     let moves = moves_with first n.above in
-    record n { node = renamed (moving first (if moves then by else 0)) n.node; above = if moves then Some above else n.above }
+    record n {
+      node = renamed (moving first (if moves then by else 0)) n.node;
+      above = if moves
+          then Some above else n.above;
+    }
 
 abbrev pub moved_block : ℕ → Reg → ℕ → Block → Block
 moved_block first above by b = record b { nodes = map (moved_node first above by) b.nodes }
 
 -- a copy behind a listing, whose temporaries begin behind a register
 unfoldable pub with_block : Template → Reg → Listing → Listing
-with_block t above l = with_item l (item.Copy (moved_block t.temporary above (above.0 + 1 - t.temporary) t.block))
+with_block t above l =
+    with_item l (item.Copy (moved_block t.temporary above (above.0 + 1 - t.temporary) t.block))

@@ -8,16 +8,23 @@ use Rattle.ja_lower_listing.specs.declared.item.BlockNode.{BlockNode}
 
 -- a node whose registers from a first one on are moved up by so many
 abbrev pub moved_up : ℕ → ℕ → Node → Node
-moved_up first by node = renamed (record { register = λ r. if nat_le first r.0 then record { 0 = r.0 + by } else r; name = λ n. n; function = λ f. f; site = λ s. s }) node
+moved_up first by node =
+    renamed (record {
+      register = λ r. if nat_le first r.0 then record { 0 = r.0 + by } else r;
+      name = λ n. n;
+      function = λ f. f;
+      site = λ s. s;
+    }) node
 
--- whether a node of a block whose temporaries begin at a register has some of these: it stands in no copy, or in one above such a
--- temporary
+-- whether a node of a block whose temporaries begin at a register has some of these: it stands in
+-- no copy, or in one above such a temporary
 abbrev pub has_temporaries : ℕ → Option Reg → Bool
 has_temporaries temporary None = true
 has_temporaries temporary (Some inner) = nat_le temporary inner.0
 
--- A node of a block in a copy above a register: the temporaries of the block are moved up, the first one to behind the register. Its
--- edges and its place are as they were, and so is all of a node without such temporaries.
+-- A node of a block in a copy above a register: the temporaries of the block are moved up, the
+-- first one to behind the register. Its edges and its place are as they were, and so is all of a
+-- node without such temporaries.
 abbrev pub in_copy : ℕ → Reg → BlockNode → BlockNode
 in_copy temporary above n =
     if has_temporaries temporary n.above
@@ -26,4 +33,5 @@ in_copy temporary above n =
 
 -- a block in a copy: it is entered where it was
 abbrev pub block_in_copy : ℕ → Reg → Block → Block
-block_in_copy temporary above block = record block { nodes = map (in_copy temporary above) block.nodes }
+block_in_copy temporary above block =
+    record block { nodes = map (in_copy temporary above) block.nodes }

@@ -16,7 +16,8 @@ use Rattle.ja_lower_listing.specs.declared.item.Spot.{Spot}
 use Rattle.ja_lower_listing.specs.declared.item.Item.{Item}
 use Rattle.ja_lower_listing.specs.declared.item.Item.TheVariants as item
 
--- What is listed of a function so far, and the numbers of its next temporary (as a register) and its next spot.
+-- What is listed of a function so far, and the numbers of its next temporary (as a register) and
+-- its next spot.
 pub record Listing : Type 0 where
   pub items : List Item
   pub temporary : ℕ
@@ -34,9 +35,9 @@ register n = record { 0 = n }
 abbrev pub site : ℕ → Site
 site n = record { 0 = n }
 
--- What a form needs of the program: its names, and the places of its words `function`, in the order of the text; the spot to which
--- what is thrown goes, if something around the form handles it; and whether names that begin with `$` are special forms, as in the
--- texts of built-in functions.
+-- What a form needs of the program: its names, and the places of its words `function`, in the order
+-- of the text; the spot to which what is thrown goes, if something around the form handles it; and
+-- whether names that begin with `$` are special forms, as in the texts of built-in functions.
 pub record Scene : Type 0 where
   pub names : List (List ℕ)
   pub functions : List Place
@@ -62,7 +63,9 @@ with_branch scene place node other l = with_item l (item.Node node (Some other) 
 -- a node that sets the next temporary
 abbrev pub with_result : Scene → Place → (Reg → Node) → Listing → Valued
 with_result scene place node l = record {
-  listing = with_node scene place (node (register l.temporary)) (record l { temporary = l.temporary + 1 });
+  listing =
+      with_node scene place (node (register l.temporary))
+      (record l { temporary = l.temporary + 1 });
   value = register l.temporary;
 }
 
@@ -96,11 +99,13 @@ with_unary scene place op src l = with_result scene place (λ dst. Unary dst op 
 -- ToNumber, ToString and ToBoolean (9.3, 9.8, 9.2) of any value
 unfoldable pub with_number : Scene → Place → Reg → Listing → Valued
 with_number scene place src l =
-    let v = with_default scene place hint.Number src l in with_unary scene place ToNum v.value v.listing
+    let v = with_default scene place hint.Number src l in
+    with_unary scene place ToNum v.value v.listing
 
 unfoldable pub with_text : Scene → Place → Reg → Listing → Valued
 with_text scene place src l =
-    let v = with_default scene place hint.Text src l in with_unary scene place ToText v.value v.listing
+    let v = with_default scene place hint.Text src l in
+    with_unary scene place ToText v.value v.listing
 
 abbrev pub with_truth : Scene → Place → Reg → Listing → Valued
 with_truth scene place src l = with_unary scene place ToBool src l

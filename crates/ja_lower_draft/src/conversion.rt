@@ -30,7 +30,8 @@ pub fn literal(
     prim: &Primitive,
     draft: &mut Draft,
 ) -> Result<Reg, Memory>
-    ensures { code_lines.Gives (lines.with_const scene.now place prim.now draft.old) result draft.new }
+    ensures { code_lines.Gives (lines.with_const scene.now place prim.now draft.old) result
+        draft.new }
 {
     let prim = prim.copy()?;
     let dst = constant(scene, place, prim, draft)?;
@@ -68,7 +69,8 @@ pub fn default_value(
     src: Reg,
     draft: &mut Draft,
 ) -> Result<Reg, Memory>
-    ensures { code_lines.Gives (lines.with_default scene.now place hint src draft.old) result draft.new }
+    ensures { code_lines.Gives (lines.with_default scene.now place hint src draft.old) result
+        draft.new }
 {
     let dst = draft.fresh()?;
     draft.node(

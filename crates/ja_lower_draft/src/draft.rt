@@ -117,8 +117,8 @@ impl Draft {
         Ok(())
     }
 
-    /// Adds a copy of a block, which has so many nodes. Behind 16,777,216 lines that are kept memory counts
-    /// as refused.
+    /// Adds a copy of a block, which has so many nodes. Behind 16,777,216 lines that are kept
+    /// memory counts as refused.
     pub(crate) fn copy(&mut self, copy: Part, nodes: u32) -> Result<(), Memory>
         requires { nodes ≡ nodes_counted (line_of copy ∷ []) }
         ensures { code_lines.Adds (lines.with_item self.old (line_of copy)) result self.new }
@@ -133,17 +133,20 @@ impl Draft {
     pub(crate) fn long_copy(&mut self, block: &Listed, moves: Moves, nodes: u32)
         requires long { 65536 < nodes }
         requires counted { nodes ≡ min (length (block_of block.now.lines).nodes) 4294967295 }
-        ensures { self.new ≡ lines.with_item self.old (item.Copy (moved_by moves (block_of block.now.lines))) }
+        ensures { self.new ≡ lines.with_item self.old
+            (item.Copy (moved_by moves (block_of block.now.lines))) }
     {
         self.nodes = self.nodes.saturating_add(nodes);
         self.begins = self.begins.or(Some(false));
         self.listed = Listed::grown(&Growth::WithCopy(&self.listed, block, moves));
     }
 
-    /// Takes the next temporary. Past the last number that a register may have memory counts as refused.
+    /// Takes the next temporary. Past the last number that a register may have memory counts as
+    /// refused.
     pub fn fresh(&mut self) -> Result<Reg, Memory>
         ensures value { IfOk result (λ reg. reg.0 ≡ self.old.temporary) }
-        ensures next { OnOk result (self.new ≡ record self.old { temporary = self.old.temporary + 1 }) }
+        ensures next { OnOk result (self.new ≡ record self.old
+            { temporary = self.old.temporary + 1 }) }
     {
         if self.temporary == u32::MAX {
             return Err(Memory);
@@ -220,7 +223,8 @@ impl Draft {
         handler: Option<Spot>,
         place: Place,
     ) -> Result<(), Memory>
-        ensures { code_lines.Adds (lines.with_item self.old (item.Node node other handler place)) result self.new }
+        ensures { code_lines.Adds (lines.with_item self.old (item.Node node other handler place))
+            result self.new }
     {
         let part = Part::Node {
             node,
@@ -233,7 +237,8 @@ impl Draft {
 
     /// Adds a node.
     pub fn node(&mut self, handler: Option<Spot>, place: Place, node: Node) -> Result<(), Memory>
-        ensures { code_lines.Adds (lines.with_item self.old (item.Node node None handler place)) result self.new }
+        ensures { code_lines.Adds (lines.with_item self.old (item.Node node None handler place))
+            result self.new }
     {
         self.with_edges(node, None, handler, place)
     }
@@ -246,7 +251,8 @@ impl Draft {
         node: Node,
         other: Spot,
     ) -> Result<(), Memory>
-        ensures { code_lines.Adds (lines.with_item self.old (item.Node node (Some other) handler place)) result self.new }
+        ensures { code_lines.Adds (lines.with_item self.old
+            (item.Node node (Some other) handler place)) result self.new }
     {
         self.with_edges(node, Some(other), handler, place)
     }
@@ -260,7 +266,8 @@ impl Draft {
 
     /// This listing with another one behind it, whose temporaries and spots go on.
     pub fn then(self, listing: Draft) -> Result<Draft, Memory>
-        ensures { IfOk result (λ whole. whole ≡ record listing { items = self.items ++ listing.items }) }
+        ensures { IfOk result (λ whole. whole
+            ≡ record listing { items = self.items ++ listing.items }) }
     {
         let listed = Listed::grown(&Growth::Both(&self.listed, &listing.listed));
         let parts = joined(self.parts, listing.parts)?;
@@ -274,8 +281,8 @@ impl Draft {
         })
     }
 
-    /// The lines, their parts, which are kept of at most 65,536 nodes, and how many nodes there are, or
-    /// 4,294,967,295 where there are more.
+    /// The lines, their parts, which are kept of at most 65,536 nodes, and how many nodes there
+    /// are, or 4,294,967,295 where there are more.
     pub(crate) fn into_parts(self) -> (Listed, Vec<Part>, u32)
         ensures lines { result.0.lines ≡ self.items }
         ensures parts { result.2 ≤ 65536 → lines_of result.1.items ≡ self.items }

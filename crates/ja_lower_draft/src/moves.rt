@@ -31,7 +31,8 @@ impl Moves {
 
     /// A node of the copy.
     fn node(self, alloc: Global, node: &BlockNode) -> Result<BlockNode, Memory>
-        ensures { IfOk result (λ n. n ≡ copies.moved_node self.temporary self.above self.by node.now) }
+        ensures { IfOk result (λ n. n ≡ copies.moved_node self.temporary self.above self.by
+            node.now) }
     {
         let takes = self.takes(node.above);
         let by = if takes { self.by } else { 0 };

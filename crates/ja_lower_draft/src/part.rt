@@ -1,5 +1,5 @@
-//! The parts of a listing: its lines, where those of copies refer to their blocks and are written out
-//! when the listing is read.
+//! The parts of a listing: its lines, where those of copies refer to their blocks and are written
+//! out when the listing is read.
 
 ghost use Rattle.std.specs.Prelude.{◌≡◌, List, ◌∷◌, unwrap_or, IfOk};
 ghost use Rattle.ja_graph.specs.Renaming.{identity};
@@ -71,7 +71,7 @@ fn copy_of(alloc: Global, node: &Node) -> Result<Node, Memory>
 
 /// The line of a part.
 #[cycle(lines)]
-#[tactic(auto, using(crate::proofs::PartLemmas::of_node, crate::proofs::PartLemmas::of_spot, crate::proofs::PartLemmas::of_jump, crate::proofs::PartLemmas::of_written, crate::proofs::PartLemmas::of_copy))]
+#[tactic(auto, using(crate::proofs::Rulesets::for_line))]
 fn line(alloc: Global, part: &Part) -> Result<Item, Memory>
     ensures { IfOk result (λ item. item ≡ spec.line_of part.now) }
 {
@@ -115,9 +115,10 @@ pub(crate) fn lines(alloc: Global, parts: &[Part]) -> Result<Vec<Item>, Memory>
 }
 
 /// Whether a line is a node, unless it is a spot.
-#[tactic(auto, unfolding(ja_lower_listing::specs::Listing::begins_with_node), using(crate::proofs::PartLemmas::of_node, crate::proofs::PartLemmas::of_spot, crate::proofs::PartLemmas::of_jump, crate::proofs::PartLemmas::of_written, crate::proofs::PartLemmas::of_copy))]
+#[tactic(auto, unfolding(ja_lower_listing::specs::Listing::begins_with_node), using(crate::proofs::Rulesets::for_line))]
 pub(crate) fn is_node(part: &Part) -> Option<bool>
-    ensures { (items : List Item) → begins_with_node (spec.line_of part.now ∷ items) ≡ unwrap_or result (begins_with_node items) }
+    ensures { (items : List Item) → begins_with_node (spec.line_of part.now ∷ items)
+        ≡ unwrap_or result (begins_with_node items) }
 {
     match part {
         Part::Node { .. } => Some(true),

@@ -26,7 +26,12 @@ impl<'a, 't> Model for Scene<'a, 't> {
 
     ghost Value = { lines.Scene };
 
-    ghost view = { λ s. record { names = s.names.now; functions = s.functions.now; handler = s.handler; specials = s.specials } };
+    ghost view = { λ s. record {
+      names = s.names.now;
+      functions = s.functions.now;
+      handler = s.handler;
+      specials = s.specials;
+    } };
 }
 
 impl<'a, 't> Scene<'a, 't> {

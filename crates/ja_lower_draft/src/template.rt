@@ -25,8 +25,8 @@ pub enum Source {
     TooLong(Listed),
 }
 
-/// The block of a `finally`, how many nodes it has, or 4,294,967,295 where it has more, and where its
-/// temporaries begin.
+/// The block of a `finally`, how many nodes it has, or 4,294,967,295 where it has more, and where
+/// its temporaries begin.
 #[derive(Drop)]
 pub struct Template {
     source: Source,
@@ -50,10 +50,14 @@ impl Model for Template {
 const MOST_WRITTEN: u32 = 4_096;
 
 impl Template {
-    /// The block that was listed, whose temporaries begin at this one, with so many nodes listed around it.
+    /// The block that was listed, whose temporaries begin at this one, with so many nodes listed
+    /// around it.
     #[tactic(auto, using(ja_lower_listing::proofs::Kept::block_counted))]
     pub fn new(alloc: Global, draft: Draft, temporary: u32, around: u32) -> Result<Template, Memory>
-        ensures { IfOk result (λ t. t ≡ record { block = block_of draft.items; temporary = temporary }) }
+        ensures { IfOk result (λ t. t ≡ record {
+          block = block_of draft.items;
+          temporary = temporary;
+        }) }
     {
         let (listed, parts, nodes) = draft.into_parts();
         let source = if nodes > MOST_NODES {
@@ -76,7 +80,7 @@ impl Template {
 impl Draft {
     /// Adds a copy of a block, whose temporaries begin behind a register. Past the last number of a
     /// register, and behind 16,777,216 lines that are kept, memory counts as refused.
-    #[tactic(auto, unfolding(crate::specs::Copies::with_block), using(crate::proofs::PartLemmas::of_written, crate::proofs::PartLemmas::of_copy, crate::proofs::PartLemmas::count_written, crate::proofs::PartLemmas::count_copy))]
+    #[tactic(auto, unfolding(crate::specs::Copies::with_block), using(crate::proofs::Rulesets::for_block))]
     pub fn block(&mut self, template: &Template, above: Reg) -> Result<(), Memory>
         ensures { lines.Adds (copies.with_block template.now above self.old) result self.new }
     {

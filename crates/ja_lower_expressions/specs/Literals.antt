@@ -53,7 +53,9 @@ unfoldable pub list_array : List (Option Form) → Place → Scene → Listing �
 list_array elements place scene l =
     let array = new_object scene place made.Array l in
     record {
-      listing = write_length scene place array.value (length elements) (write_elements scene place array.value 0 elements array.listing);
+      listing =
+          write_length scene place array.value (length elements)
+          (write_elements scene place array.value 0 elements array.listing);
       value = array.value;
     }
 
@@ -71,7 +73,8 @@ pub record Member : Type 0 where
 
 unfoldable pub write_member : Scene → Place → Reg → Member → Listing → Listing
 write_member scene place object m l =
-    let v = value_of m.value scene l in write_known scene place object (property_text m.name) v.value v.listing
+    let v = value_of m.value scene l in
+    write_known scene place object (property_text m.name) v.value v.listing
 
 unfoldable pub write_members : Scene → Place → Reg → List Member → Listing → Listing
 write_members scene place object [] l = l
@@ -81,7 +84,10 @@ write_members scene place object (m ∷ members) l =
 unfoldable pub list_object : List Member → Place → Scene → Listing → Valued
 list_object members place scene l =
     let object = new_object scene place made.Object l in
-    record { listing = write_members scene place object.value members object.listing; value = object.value }
+    record {
+      listing = write_members scene place object.value members object.listing;
+      value = object.value;
+    }
 
 -- ---- functions
 
@@ -89,8 +95,8 @@ list_object members place scene l =
 abbrev pub same_place : Place → Place → Bool
 same_place a b = (a.line == b.line) && (a.column == b.column)
 
--- the number of a function: the program is 0, then those of the text by the places of their words `function`; where no function of the
--- text has the place, the number is behind the last one
+-- the number of a function: the program is 0, then those of the text by the places of their words
+-- `function`; where no function of the text has the place, the number is behind the last one
 abbrev pub function_id : Scene → Place → FnId
 function_id scene place = record { 0 = 1 + position_or_len (same_place place) scene.functions }
 
@@ -102,9 +108,13 @@ make_function scene place l =
 unfoldable pub list_named_function : Name → Place → Scene → Listing → Valued
 list_named_function name place scene l =
     let saved = with_copy scene place scope l in
-    let function = make_function scene place (with_node scene place (PushScope (site 0)) saved.listing) in
+    let function = make_function scene place
+    (with_node scene place (PushScope (site 0)) saved.listing) in
     record {
-      listing = with_move scene place scope saved.value (with_node scene place (Bind (name_id scene name.text) function.value true) function.listing);
+      listing =
+          with_move scene place scope saved.value
+          (with_node scene place (Bind (name_id scene name.text) function.value true)
+          function.listing);
       value = function.value;
     }
 

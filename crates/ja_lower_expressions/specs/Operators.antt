@@ -23,32 +23,41 @@ use Rattle.ja_lower_expressions.specs.References.{Form, get_value, put_value, va
 
 -- ---- unary operators (11.4)
 
--- `delete` doesn't read a reference; what is no reference is listed for its effects, and the answer is true (11.4.1)
+-- `delete` doesn't read a reference; what is no reference is listed for its effects, and the answer
+-- is true (11.4.1)
 abbrev pub with_delete : Scene → Place → Outcome → Listing → Valued
 with_delete scene place (Value v) l = with_const scene place (primitive.Bool true) l
-with_delete scene place (Name base name at) l = with_result scene place (λ dst. DeleteRef dst base name) l
-with_delete scene place (Member object key at) l = with_result scene place (λ dst. DeleteProp dst object key) l
+with_delete scene place (Name base name at) l =
+    with_result scene place (λ dst. DeleteRef dst base name) l
+with_delete scene place (Member object key at) l =
+    with_result scene place (λ dst. DeleteProp dst object key) l
 with_delete scene place (Special form at) l = with_const scene place (primitive.Bool true) l
 
 -- a name that nothing binds is no error for `typeof` (11.4.3)
 abbrev pub get_softly : Scene → Outcome → Listing → Valued
-get_softly scene (Name base name place) l = with_result scene place (λ dst. ReadSoft dst base name) l
+get_softly scene (Name base name place) l =
+    with_result scene place (λ dst. ReadSoft dst base name) l
 get_softly scene outcome l = get_value scene outcome l
 
 abbrev pub with_type : Scene → Place → Outcome → Listing → Valued
-with_type scene place outcome l = let v = get_softly scene outcome l in with_unary scene place TypeOf v.value v.listing
+with_type scene place outcome l = let v = get_softly scene outcome l in
+    with_unary scene place TypeOf v.value v.listing
 
 -- what an operator does with the value of its operand
 abbrev pub apply_unary : UnaryOperator → Scene → Place → Reg → Listing → Valued
 apply_unary unary.Void scene place v l = with_const scene place primitive.Undefined l
 apply_unary unary.Plus scene place v l = with_number scene place v l
-apply_unary unary.Minus scene place v l = let n = with_number scene place v l in with_unary scene place Neg n.value n.listing
-apply_unary unary.Complement scene place v l = let n = with_number scene place v l in with_unary scene place BitNot n.value n.listing
-apply_unary unary.Not scene place v l = let b = with_truth scene place v l in with_unary scene place Not b.value b.listing
+apply_unary unary.Minus scene place v l = let n = with_number scene place v l in
+    with_unary scene place Neg n.value n.listing
+apply_unary unary.Complement scene place v l = let n = with_number scene place v l in
+    with_unary scene place BitNot n.value n.listing
+apply_unary unary.Not scene place v l = let b = with_truth scene place v l in
+    with_unary scene place Not b.value b.listing
 apply_unary operator scene place v l = record { listing = l; value = v }
 
 abbrev pub on_value : UnaryOperator → Scene → Place → Outcome → Listing → Valued
-on_value operator scene place outcome l = let v = get_value scene outcome l in apply_unary operator scene place v.value v.listing
+on_value operator scene place outcome l = let v = get_value scene outcome l in
+    apply_unary operator scene place v.value v.listing
 
 -- an operator before what its operand comes to
 abbrev pub on_outcome : UnaryOperator → Scene → Place → Outcome → Listing → Valued
@@ -57,7 +66,8 @@ on_outcome unary.Typeof scene place outcome l = with_type scene place outcome l
 on_outcome operator scene place outcome l = on_value operator scene place outcome l
 
 unfoldable pub list_unary : UnaryOperator → Form → Place → Scene → Listing → Valued
-list_unary operator operand place scene l = let r = operand scene l in on_outcome operator scene place r.outcome r.listing
+list_unary operator operand place scene l = let r = operand scene l in
+    on_outcome operator scene place r.outcome r.listing
 
 -- ---- `++` and `--` (11.3, 11.4.4, 11.4.5)
 
@@ -79,7 +89,8 @@ update_outcome operator scene place outcome l =
     let v = get_value scene outcome l in
     let old = with_number scene place v.value v.listing in
     let one = with_const scene place (primitive.Number (Whole (pos 1))) old.listing in
-    let new = with_result scene place (λ dst. Binary dst (update_op operator) old.value one.value) one.listing in
+    let new = with_result scene place (λ dst. Binary dst (update_op operator) old.value one.value)
+    one.listing in
     record {
       listing = put_value scene place outcome new.value new.listing;
       value = update_value operator old.value new.value;
@@ -129,9 +140,11 @@ on_numbers o scene place a b l =
     let y = with_number scene place b x.listing in
     with_binary scene place o x.value y.value y.listing
 
--- `==` and `!=` take the default value of an object against a primitive that is neither undefined nor null (11.9.1 to 11.9.3)
+-- `==` and `!=` take the default value of an object against a primitive that is neither undefined
+-- nor null (11.9.1 to 11.9.3)
 abbrev pub beside : Scene → Place → Reg → Reg → Listing → Valued
-beside scene place src other l = with_result scene place (λ dst. Convert dst src hint.Number (Some other)) l
+beside scene place src other l =
+    with_result scene place (λ dst. Convert dst src hint.Number (Some other)) l
 
 unfoldable pub on_loose : BinaryOp → Scene → Place → Reg → Reg → Listing → Valued
 on_loose o scene place a b l =
@@ -147,7 +160,8 @@ on_in scene place a b l =
 
 -- 11.8.6
 abbrev pub on_instance : Scene → Place → Reg → Reg → Listing → Valued
-on_instance scene place a b l = with_result scene place (λ dst. InstanceOf dst a b (site 0) (site 1)) l
+on_instance scene place a b l =
+    with_result scene place (λ dst. InstanceOf dst a b (site 0) (site 1)) l
 
 abbrev pub apply_binary : BinaryOperator → Scene → Place → Reg → Reg → Listing → Valued
 apply_binary operator.Plus scene place a b l = on_defaults op.Add scene place a b l
@@ -165,15 +179,18 @@ apply_binary operator scene place a b l = on_numbers (binary_op operator) scene 
 
 -- ---- `&&`, `||` and `?` (11.11, 11.12)
 
--- From the value of the left operand: it is moved to where the value of both stands; the right operand is listed where the left one
--- doesn't decide.
+-- From the value of the left operand: it is moved to where the value of both stands; the right
+-- operand is listed where the left one doesn't decide.
 unfoldable pub and_then : Form → Place → Scene → Reg → Listing → Valued
 and_then right place scene a l =
     let end = spot_of l 0 in
     let value = with_copy scene place a (behind_spots 1 l) in
     let b = with_truth scene place a value.listing in
     let y = value_of right scene (with_branch scene place (Branch b.value) end b.listing) in
-    record { listing = with_spot end (with_move scene place value.value y.value y.listing); value = value.value }
+    record {
+      listing = with_spot end (with_move scene place value.value y.value y.listing);
+      value = value.value;
+    }
 
 unfoldable pub or_else : Form → Place → Scene → Reg → Listing → Valued
 or_else right place scene a l =
@@ -181,8 +198,12 @@ or_else right place scene a l =
     let other = spot_of l 1 in
     let value = with_copy scene place a (behind_spots 2 l) in
     let b = with_truth scene place a value.listing in
-    let y = value_of right scene (with_spot other (with_jump end (with_branch scene place (Branch b.value) other b.listing))) in
-    record { listing = with_spot end (with_move scene place value.value y.value y.listing); value = value.value }
+    let y = value_of right scene (with_spot other
+    (with_jump end (with_branch scene place (Branch b.value) other b.listing))) in
+    record {
+      listing = with_spot end (with_move scene place value.value y.value y.listing);
+      value = value.value;
+    }
 
 -- what is listed of `?` behind its condition
 pub record Choice : Type 0 where
@@ -197,27 +218,35 @@ consequence consequent place scene condition l =
     let b = with_truth scene place condition l in
     let other = spot_of b.listing 0 in
     let end = spot_of b.listing 1 in
-    let y = value_of consequent scene (with_branch scene place (Branch b.value) other (behind_spots 2 b.listing)) in
+    let y = value_of consequent scene (with_branch scene place (Branch b.value) other
+    (behind_spots 2 b.listing)) in
     let value = with_copy scene place y.value y.listing in
     record { listing = value.listing; value = value.value; other = other; end = end }
 
 -- the other expression behind it
 unfoldable pub alternative : Form → Place → Scene → Choice → Valued
 alternative otherwise place scene choice =
-    let z = value_of otherwise scene (with_spot choice.other (with_jump choice.end choice.listing)) in
-    record { listing = with_spot choice.end (with_move scene place choice.value z.value z.listing); value = choice.value }
+    let z = value_of otherwise scene (with_spot choice.other
+    (with_jump choice.end choice.listing)) in
+    record {
+      listing = with_spot choice.end (with_move scene place choice.value z.value z.listing);
+      value = choice.value;
+    }
 
 unfoldable pub list_conditional : Form → Form → Form → Place → Scene → Listing → Valued
 list_conditional condition consequent otherwise place scene l =
     let c = value_of condition scene l in
     alternative otherwise place scene (consequence consequent place scene c.value c.listing)
 
--- an operation behind what was listed: `&&` and `||` stand at the first token of the form, any other at its operator
+-- an operation behind what was listed: `&&` and `||` stand at the first token of the form, any
+-- other at its operator
 unfoldable pub apply_operation : BinaryOperator → Form → Place → Place → Scene → Valued → Valued
-apply_operation operator.And right first place scene v = and_then right first scene v.value v.listing
+apply_operation operator.And right first place scene v =
+    and_then right first scene v.value v.listing
 apply_operation operator.Or right first place scene v = or_else right first scene v.value v.listing
 apply_operation operator right first place scene v =
-    let y = value_of right scene v.listing in apply_binary operator scene place v.value y.value y.listing
+    let y = value_of right scene v.listing in
+    apply_binary operator scene place v.value y.value y.listing
 
 -- ---- assignments (11.13)
 
@@ -235,7 +264,8 @@ assign_to_by operator value place scene target l =
     record { listing = put_value scene place target new.value new.listing; value = new.value }
 
 unfoldable pub assign : Form → Form → Place → Scene → Listing → Valued
-assign target value place scene l = let r = target scene l in assign_to value place scene r.outcome r.listing
+assign target value place scene l = let r = target scene l in
+    assign_to value place scene r.outcome r.listing
 
 unfoldable pub assign_by : BinaryOperator → Form → Form → Place → Scene → Listing → Valued
 assign_by operator target value place scene l =

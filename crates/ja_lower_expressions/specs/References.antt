@@ -1,4 +1,5 @@
--- What an expression comes to, a value or a reference, and how a reference is read and written (ES3 8.7).
+-- What an expression comes to, a value or a reference, and how a reference is read and written (ES3
+-- 8.7).
 use Rattle.std.specs.Prelude.{ℕ, if◌then◌else◌, List, Option, Some, None}
 use Rattle.ja_base.specs.declared.ids.Place.{Place}
 use Rattle.ja_base.specs.declared.ids.Reg.{Reg}
@@ -27,15 +28,19 @@ valued v = record { listing = v.listing; outcome = Value v.value }
 -- GetValue (8.7.1); no text of a built-in function reads the name of a special form
 abbrev pub get_value : Scene → Outcome → Listing → Valued
 get_value scene (Value v) l = record { listing = l; value = v }
-get_value scene (Name base name place) l = with_result scene place (λ dst. ReadRef dst base name (site 0)) l
-get_value scene (Member object key place) l = with_result scene place (λ dst. ReadProp dst object key) l
+get_value scene (Name base name place) l =
+    with_result scene place (λ dst. ReadRef dst base name (site 0)) l
+get_value scene (Member object key place) l =
+    with_result scene place (λ dst. ReadProp dst object key) l
 get_value scene (outcome.Special form place) l = with_const scene place primitive.Undefined l
 
--- PutValue (8.7.2), at the place of the form that writes; nothing is written to a value or a special form
+-- PutValue (8.7.2), at the place of the form that writes; nothing is written to a value or a
+-- special form
 abbrev pub put_value : Scene → Place → Outcome → Reg → Listing → Listing
 put_value scene place (Value v) src l = l
 put_value scene place (Name base name at) src l = with_node scene place (WriteRef base name src) l
-put_value scene place (Member object key at) src l = with_node scene place (WriteProp object key src (site 0)) l
+put_value scene place (Member object key at) src l =
+    with_node scene place (WriteProp object key src (site 0)) l
 put_value scene place (outcome.Special form at) src l = l
 
 -- an expression's value
@@ -47,7 +52,8 @@ wrappers = record { boolean = site 0; number = site 1; text = site 2 }
 
 -- the object of a value (9.9)
 abbrev pub with_object : Scene → Place → Reg → Listing → Valued
-with_object scene place src l = with_result scene place (λ dst. ToObject dst src wrappers (site 3)) l
+with_object scene place src l =
+    with_result scene place (λ dst. ToObject dst src wrappers (site 3)) l
 
 -- the name of a variable (10.1.4)
 abbrev pub with_variable : List ℕ → Place → Scene → Listing → Listed
@@ -60,7 +66,8 @@ abbrev pub special_in : Scene → List ℕ → Option Special
 special_in scene name = if scene.specials then special_of name else None
 
 abbrev pub with_special_or_variable : Option Special → List ℕ → Place → Scene → Listing → Listed
-with_special_or_variable (Some form) name place scene l = record { listing = l; outcome = outcome.Special form place }
+with_special_or_variable (Some form) name place scene l =
+    record { listing = l; outcome = outcome.Special form place }
 with_special_or_variable None name place scene l = with_variable name place scene l
 
 -- a name

@@ -22,7 +22,9 @@ use Rattle.ja_lower_expressions.specs.Specials.{special_of, list_special}
 -- the call of a name, whose arguments are in these registers, lists this
 abbrev pub Lists : List ℕ → List Reg → (Scene → Place → Listing → Valued) → Type 0
 Lists name arguments row =
-    (scene : Scene) (place : Place) (l : Listing) → option_map (λ form. list_special form scene place arguments l) (special_of name) ≡ Some (row scene place l)
+    (scene : Scene) (place : Place) (l : Listing)
+    → option_map (λ form. list_special form scene place arguments l) (special_of name)
+    ≡ Some (row scene place l)
 
 -- a node that gives a value
 abbrev pub giving : (Reg → Node) → Scene → Place → Listing → Valued
@@ -31,18 +33,25 @@ giving form scene place l = with_result scene place form l
 -- the kinds of errors, and the reasons to stop, by their names
 abbrev pub error_names : List (List ℕ × ErrorKind)
 error_names =
-    (codes "Error", kind.Error) ∷ (codes "EvalError", kind.EvalError) ∷ (codes "RangeError", kind.RangeError)
-    ∷ (codes "ReferenceError", kind.ReferenceError) ∷ (codes "SyntaxError", kind.SyntaxError) ∷ (codes "TypeError", kind.TypeError)
+    (codes "Error", kind.Error) ∷ (codes "EvalError", kind.EvalError)
+    ∷ (codes "RangeError", kind.RangeError)
+    ∷ (codes "ReferenceError", kind.ReferenceError) ∷ (codes "SyntaxError", kind.SyntaxError)
+    ∷ (codes "TypeError", kind.TypeError)
     ∷ (codes "URIError", kind.URIError) ∷ []
 
 abbrev pub stop_names : List (List ℕ × ScopeKind)
 stop_names =
-    (codes "Eval", scope.Eval) ∷ (codes "With", scope.With) ∷ (codes "RegExp", scope.RegExp) ∷ (codes "Octal", scope.Octal)
-    ∷ (codes "Number", scope.Number) ∷ (codes "NonAscii", scope.NonAscii) ∷ (codes "IdentifierEscape", scope.IdentifierEscape)
-    ∷ (codes "ReservedWord", scope.ReservedWord) ∷ (codes "ArgumentsName", scope.ArgumentsName) ∷ (codes "TextLength", scope.TextLength)
-    ∷ (codes "Fraction", scope.Fraction) ∷ (codes "Range", scope.Range) ∷ (codes "Row", scope.Row) ∷ (codes "CodeMaker", scope.CodeMaker)
+    (codes "Eval", scope.Eval) ∷ (codes "With", scope.With) ∷ (codes "RegExp", scope.RegExp)
+    ∷ (codes "Octal", scope.Octal)
+    ∷ (codes "Number", scope.Number) ∷ (codes "NonAscii", scope.NonAscii)
+    ∷ (codes "IdentifierEscape", scope.IdentifierEscape)
+    ∷ (codes "ReservedWord", scope.ReservedWord) ∷ (codes "ArgumentsName", scope.ArgumentsName)
+    ∷ (codes "TextLength", scope.TextLength)
+    ∷ (codes "Fraction", scope.Fraction) ∷ (codes "Range", scope.Range) ∷ (codes "Row", scope.Row)
+    ∷ (codes "CodeMaker", scope.CodeMaker)
     ∷ (codes "DeviceObject", scope.DeviceObject) ∷ (codes "LengthObject", scope.LengthObject)
-    ∷ (codes "SharedArgument", scope.SharedArgument) ∷ (codes "CaseChange", scope.CaseChange) ∷ (codes "Radix", scope.Radix)
+    ∷ (codes "SharedArgument", scope.SharedArgument) ∷ (codes "CaseChange", scope.CaseChange)
+    ∷ (codes "Radix", scope.Radix)
     ∷ (codes "Register", scope.Register) ∷ []
 
 -- the operations of the built-in functions, each with its number
@@ -51,15 +60,39 @@ numbered_intrinsics = zip (range_with_len 0 (length INTRINSICS)) (map (λ row. r
 
 -- each special form by its name, with its node
 pub record AreSpecialForms : Type 0 where
-  pub get : (object key : Reg) → Lists (codes "$get") (object ∷ key ∷ []) (giving (λ dst. node.ReadProp dst object key))
-  pub put : (object key src : Reg) → Lists (codes "$put") (object ∷ key ∷ src ∷ []) (λ scene place l. record { listing = with_node scene place (node.WriteProp object key src (site 0)) l; value = src })
-  pub delete : (object key : Reg) → Lists (codes "$delete") (object ∷ key ∷ []) (giving (λ dst. node.DeleteProp dst object key))
-  pub has : (object key : Reg) → Lists (codes "$has") (object ∷ key ∷ []) (giving (λ dst. node.HasProp dst object key))
-  pub object : (src : Reg) → Lists (codes "$object") (src ∷ []) (giving (λ dst. node.ToObject dst src (record { boolean = site 0; number = site 1; text = site 2 }) (site 3)))
-  pub text : (src : Reg) → Lists (codes "$text") (src ∷ []) (λ scene place l. let v = with_default scene place hint.Text src l in with_unary scene place ToText v.value v.listing)
-  pub call : (callee receiver : Reg) (arguments : List Reg) → Lists (codes "$call") (callee ∷ receiver ∷ arguments) (giving (λ dst. node.Call dst callee receiver (Registers arguments) (site 0)))
-  pub spread : (callee receiver array : Reg) → Lists (codes "$spread") (callee ∷ receiver ∷ array ∷ []) (giving (λ dst. node.Call dst callee receiver (Elements array) (site 0)))
-  pub tail : (callee receiver : Reg) → Lists (codes "$tail") (callee ∷ receiver ∷ []) (giving (λ dst. node.Call dst callee receiver Tail (site 0)))
-  pub make : AllByRecursion (λ (row : List ℕ × ErrorKind). Lists (codes "$make_" ++ row.0) [] (giving (λ dst. node.NewObject dst (site 0) (Error row.1)))) error_names
-  pub stop : AllByRecursion (λ (row : List ℕ × ScopeKind). Lists (codes "$stop_" ++ row.0) [] (λ scene place l. record { listing = with_node scene place (node.Stop row.1) l; value = register l.temporary })) stop_names
-  pub intrinsic : AllByRecursion (λ (row : ℕ × List ℕ). (arguments : List Reg) → Lists row.1 arguments (giving (λ dst. node.Intrinsic dst row.0 arguments))) numbered_intrinsics
+  pub get : (object key : Reg) → Lists (codes "$get") (object ∷ key ∷ [])
+      (giving (λ dst. node.ReadProp dst object key))
+  pub put : (object key src : Reg) → Lists (codes "$put") (object ∷ key ∷ src ∷ [])
+      (λ scene place l. record {
+        listing = with_node scene place
+            (node.WriteProp object key src (site 0)) l;
+        value = src;
+      })
+  pub delete : (object key : Reg) → Lists (codes "$delete") (object ∷ key ∷ [])
+      (giving (λ dst. node.DeleteProp dst object key))
+  pub has : (object key : Reg) → Lists (codes "$has") (object ∷ key ∷ [])
+      (giving (λ dst. node.HasProp dst object key))
+  pub object : (src : Reg) → Lists (codes "$object") (src ∷ [])
+      (giving (λ dst. node.ToObject dst src (record
+      { boolean = site 0; number = site 1; text = site 2 }) (site 3)))
+  pub text : (src : Reg) → Lists (codes "$text") (src ∷ [])
+      (λ scene place l. let v = with_default scene place hint.Text src l in
+      with_unary scene place ToText v.value v.listing)
+  pub call : (callee receiver : Reg) (arguments : List Reg)
+      → Lists (codes "$call") (callee ∷ receiver ∷ arguments)
+      (giving (λ dst. node.Call dst callee receiver (Registers arguments) (site 0)))
+  pub spread : (callee receiver array : Reg)
+      → Lists (codes "$spread") (callee ∷ receiver ∷ array ∷ [])
+      (giving (λ dst. node.Call dst callee receiver (Elements array) (site 0)))
+  pub tail : (callee receiver : Reg) → Lists (codes "$tail") (callee ∷ receiver ∷ [])
+      (giving (λ dst. node.Call dst callee receiver Tail (site 0)))
+  pub make : AllByRecursion (λ (row : List ℕ × ErrorKind).
+      Lists (codes "$make_" ++ row.0) [] (giving
+      (λ dst. node.NewObject dst (site 0) (Error row.1)))) error_names
+  pub stop : AllByRecursion (λ (row : List ℕ × ScopeKind).
+      Lists (codes "$stop_" ++ row.0) [] (λ scene place l.
+      record { listing = with_node scene place (node.Stop row.1) l; value = register l.temporary }))
+      stop_names
+  pub intrinsic : AllByRecursion (λ (row : ℕ × List ℕ). (arguments : List Reg)
+      → Lists row.1 arguments (giving (λ dst. node.Intrinsic dst row.0 arguments)))
+      numbered_intrinsics

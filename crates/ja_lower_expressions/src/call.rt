@@ -25,7 +25,8 @@ fn list_arguments(
     arguments: &[Expression],
     draft: &mut Draft,
 ) -> Result<Vec<Reg>, Memory>
-    ensures { code.Lists (spec.list_arguments (map expressions.form arguments.now) scene.now draft.old []) result draft.new }
+    ensures { code.Lists (spec.list_arguments (map expressions.form arguments.now) scene.now
+        draft.old []) result draft.new }
 {
     let mut values = Vec::new(scene.alloc);
     for argument in arguments {
@@ -44,14 +45,15 @@ fn add_call(
     values: Vec<Reg>,
     draft: &mut Draft,
 ) -> Result<Reg, Memory>
-    ensures { lines.Gives (spec.with_call scene.now place callee receiver values.items draft.old) result draft.new }
+    ensures { lines.Gives (spec.with_call scene.now place callee receiver values.items draft.old)
+        result draft.new }
 {
     let args = Args::Registers(Seq::from_vec(values));
     call_with(scene, place, callee, receiver, args, draft)
 }
 
-/// Calls what an expression comes to: a reference is read, and its object is the receiver. A special
-/// form is listed.
+/// Calls what an expression comes to: a reference is read, and its object is the receiver. A
+/// special form is listed.
 fn call_outcome(
     callee: Outcome,
     scene: &Scene<'_, '_>,
@@ -59,7 +61,8 @@ fn call_outcome(
     values: Vec<Reg>,
     draft: &mut Draft,
 ) -> Result<Reg, Memory>
-    ensures { lines.Gives (spec.call_outcome callee scene.now place values.items draft.old) result draft.new }
+    ensures { lines.Gives (spec.call_outcome callee scene.now place values.items draft.old) result
+        draft.new }
 {
     match callee {
         Outcome::Value(function) => {
@@ -88,7 +91,8 @@ pub(crate) fn call(
     callee: Outcome,
     draft: &mut Draft,
 ) -> Result<Reg, Memory>
-    ensures { lines.Gives (spec.list_call (map expressions.form arguments.now) place scene.now callee draft.old) result draft.new }
+    ensures { lines.Gives (spec.list_call (map expressions.form arguments.now) place scene.now
+        callee draft.old) result draft.new }
 {
     let values = list_arguments(scene, arguments, draft)?;
     call_outcome(callee, scene, place, values, draft)
@@ -104,7 +108,8 @@ pub(crate) fn new_of(
     callee: Reg,
     draft: &mut Draft,
 ) -> Result<Reg, Memory>
-    ensures { lines.Gives (spec.new_of (map expressions.form arguments.now) place scene.now callee draft.old) result draft.new }
+    ensures { lines.Gives (spec.new_of (map expressions.form arguments.now) place scene.now callee
+        draft.old) result draft.new }
 {
     let values = list_arguments(scene, arguments, draft)?;
     let dst = draft.fresh()?;

@@ -23,7 +23,8 @@ pub(crate) fn and_then(
     left: Reg,
     draft: &mut Draft,
 ) -> Result<Reg, Memory>
-    ensures { lines.Gives (spec.and_then (expressions.form right.now) place scene.now left draft.old) result draft.new }
+    ensures { lines.Gives (spec.and_then (expressions.form right.now) place scene.now left
+        draft.old) result draft.new }
 {
     let end = draft.fresh_spot()?;
     let dst = copy(scene, place, left, draft)?;
@@ -45,7 +46,8 @@ pub(crate) fn or_else(
     left: Reg,
     draft: &mut Draft,
 ) -> Result<Reg, Memory>
-    ensures { lines.Gives (spec.or_else (expressions.form right.now) place scene.now left draft.old) result draft.new }
+    ensures { lines.Gives (spec.or_else (expressions.form right.now) place scene.now left draft.old)
+        result draft.new }
 {
     let end = draft.fresh_spot()?;
     let other = draft.fresh_spot()?;
@@ -79,7 +81,13 @@ pub(crate) fn consequence(
     condition: Reg,
     draft: &mut Draft,
 ) -> Result<Choice, Memory>
-    ensures { IfOk result (λ choice. spec.consequence (expressions.form consequent.now) place scene.now condition draft.old ≡ record { listing = draft.new; value = choice.value; other = choice.other; end = choice.end }) }
+    ensures { IfOk result (λ choice. spec.consequence (expressions.form consequent.now) place
+        scene.now condition draft.old ≡ record {
+          listing = draft.new;
+          value = choice.value;
+          other = choice.other;
+          end = choice.end;
+        }) }
 {
     let test = truth(scene, place, condition, draft)?;
     let other = draft.fresh_spot()?;
@@ -100,7 +108,13 @@ pub(crate) fn alternative(
     choice: Choice,
     draft: &mut Draft,
 ) -> Result<Reg, Memory>
-    ensures { lines.Gives (spec.alternative (expressions.form otherwise.now) place scene.now (record { listing = draft.old; value = choice.value; other = choice.other; end = choice.end })) result draft.new }
+    ensures { lines.Gives (spec.alternative (expressions.form otherwise.now) place scene.now
+        (record {
+          listing = draft.old;
+          value = choice.value;
+          other = choice.other;
+          end = choice.end;
+        })) result draft.new }
 {
     draft.jump(choice.end)?;
     draft.mark(choice.other)?;

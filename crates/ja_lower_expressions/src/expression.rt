@@ -26,7 +26,8 @@ const THIS: Reg = Reg(1);
 
 /// What comes to a value, unless memory was refused.
 fn valued(value: Result<Reg, Memory>) -> Result<Outcome, Memory>
-    ensures { (v : Valued) (new : Listing) → lines.Gives v value new → code_references.Comes (references.valued v) result new }
+    ensures { (v : Valued) (new : Listing) → lines.Gives v value new
+        → code_references.Comes (references.valued v) result new }
 {
     match value {
         Ok(value) => Ok(Outcome::Value(value)),
@@ -42,7 +43,9 @@ fn suffix(
     before: Outcome,
     draft: &mut Draft,
 ) -> Result<Outcome, Memory>
-    ensures { code_references.Comes (spec.with_suffix scene.now (record { listing = draft.old; outcome = before }) (code.suffix_of suffix.now)) result draft.new }
+    ensures { code_references.Comes (spec.with_suffix scene.now
+        (record { listing = draft.old; outcome = before }) (code.suffix_of suffix.now)) result
+        draft.new }
 {
     match suffix {
         Suffix::Member { name, place } => {
@@ -68,7 +71,9 @@ fn suffixes(
     head: Outcome,
     draft: &mut Draft,
 ) -> Result<Outcome, Memory>
-    ensures { code_references.Comes (fold (spec.with_suffix scene.now) (record { listing = draft.old; outcome = head }) (map code.suffix_of suffixes.now)) result draft.new }
+    ensures { code_references.Comes (fold (spec.with_suffix scene.now)
+        (record { listing = draft.old; outcome = head }) (map code.suffix_of suffixes.now)) result
+        draft.new }
 {
     let mut outcome = head;
     for next in suffixes {
@@ -87,7 +92,9 @@ fn operation(
     left: Reg,
     draft: &mut Draft,
 ) -> Result<Reg, Memory>
-    ensures { lines.Gives (operators.apply_operation operation.now.operator (spec.form operation.now.right) first operation.now.place scene.now (record { listing = draft.old; value = left })) result draft.new }
+    ensures { lines.Gives (operators.apply_operation operation.now.operator
+        (spec.form operation.now.right) first operation.now.place scene.now
+        (record { listing = draft.old; value = left })) result draft.new }
 {
     match operation.operator {
         BinaryOperator::And => and_then(scene, &operation.right, first, left, draft),
@@ -109,7 +116,8 @@ fn operations(
     first: Reg,
     draft: &mut Draft,
 ) -> Result<Reg, Memory>
-    ensures { lines.Gives (spec.apply_operations place (map code.operation_of operations.now) scene.now (record { listing = draft.old; value = first })) result draft.new }
+    ensures { lines.Gives (spec.apply_operations place (map code.operation_of operations.now)
+        scene.now (record { listing = draft.old; value = first })) result draft.new }
 {
     let mut left = first;
     for next in operations {
@@ -127,7 +135,8 @@ fn others(
     first: Reg,
     draft: &mut Draft,
 ) -> Result<Reg, Memory>
-    ensures { lines.Gives (spec.list_others (map spec.form others.now) scene.now (record { listing = draft.old; value = first })) result draft.new }
+    ensures { lines.Gives (spec.list_others (map spec.form others.now) scene.now
+        (record { listing = draft.old; value = first })) result draft.new }
 {
     let mut last = first;
     for other in others {
@@ -146,7 +155,8 @@ fn assign_to(
     target: Outcome,
     draft: &mut Draft,
 ) -> Result<Reg, Memory>
-    ensures { lines.Gives (operators.assign_to (spec.form source.now) place scene.now target draft.old) result draft.new }
+    ensures { lines.Gives (operators.assign_to (spec.form source.now) place scene.now target
+        draft.old) result draft.new }
 {
     let src = value(scene, source, draft)?;
     put_value(scene, place, target, src, draft)?;
@@ -164,7 +174,8 @@ fn assign_to_by(
     target: Outcome,
     draft: &mut Draft,
 ) -> Result<Reg, Memory>
-    ensures { lines.Gives (operators.assign_to_by operator (spec.form source.now) place scene.now target draft.old) result draft.new }
+    ensures { lines.Gives (operators.assign_to_by operator (spec.form source.now) place scene.now
+        target draft.old) result draft.new }
 {
     let old = get_value(scene, target, draft)?;
     let right = value(scene, source, draft)?;
@@ -176,7 +187,7 @@ fn assign_to_by(
 /// Lists an expression, and says what it comes to. It fails where memory is refused, or where the
 /// numbers of temporaries, spots or functions are used up.
 #[cycle(forms)]
-#[tactic(auto, using(crate::proofs::FormLemmas::of_this, crate::proofs::FormLemmas::of_name, crate::proofs::FormLemmas::of_literal, crate::proofs::FormLemmas::of_array, crate::proofs::FormLemmas::of_object, crate::proofs::FormLemmas::of_function, crate::proofs::FormLemmas::of_chain, crate::proofs::FormLemmas::of_new, crate::proofs::FormLemmas::of_unary, crate::proofs::FormLemmas::of_update, crate::proofs::FormLemmas::of_binary, crate::proofs::FormLemmas::of_conditional, crate::proofs::FormLemmas::of_assign, crate::proofs::FormLemmas::of_sequence), unfolding(crate::specs::Operators::list_unary, crate::specs::Operators::list_update, crate::specs::Operators::list_conditional, crate::specs::Operators::assign, crate::specs::Operators::assign_by, crate::specs::Calls::list_new))]
+#[tactic(auto, using(crate::proofs::Rulesets::for_form), unfolding(crate::specs::Operators::list_unary, crate::specs::Operators::list_update, crate::specs::Operators::list_conditional, crate::specs::Operators::assign, crate::specs::Operators::assign_by, crate::specs::Calls::list_new))]
 pub fn form(
     scene: &Scene<'_, '_>,
     expression: &Expression,
@@ -282,7 +293,8 @@ pub fn value(
     expression: &Expression,
     draft: &mut Draft,
 ) -> Result<Reg, Memory>
-    ensures { lines.Gives (references.value_of (spec.form expression.now) scene.now draft.old) result draft.new }
+    ensures { lines.Gives (references.value_of (spec.form expression.now) scene.now draft.old)
+        result draft.new }
 {
     let outcome = form(scene, expression, draft)?;
     get_value(scene, outcome, draft)
@@ -298,7 +310,8 @@ pub fn assign(
     place: Place,
     draft: &mut Draft,
 ) -> Result<Reg, Memory>
-    ensures { lines.Gives (operators.assign (references.with_name target.now.text target.now.place) (spec.form source.now) place scene.now draft.old) result draft.new }
+    ensures { lines.Gives (operators.assign (references.with_name target.now.text target.now.place)
+        (spec.form source.now) place scene.now draft.old) result draft.new }
 {
     let outcome = name(scene, &target.text, target.place, draft)?;
     assign_to(scene, source, place, outcome, draft)

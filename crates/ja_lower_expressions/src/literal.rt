@@ -66,7 +66,8 @@ fn write_known(
     src: Reg,
     draft: &mut Draft,
 ) -> Result<(), Memory>
-    ensures { lines.Adds (spec.write_known scene.now place object key src draft.old) result draft.new }
+    ensures { lines.Adds (spec.write_known scene.now place object key src draft.old) result
+        draft.new }
 {
     let key = constant(scene, place, Primitive::Text(key), draft)?;
     let node = Node::WriteProp {
@@ -132,7 +133,8 @@ fn write_element(
     element: &Option<Expression>,
     draft: &mut Draft,
 ) -> Result<(), Memory>
-    ensures { lines.Adds (spec.write_element scene.now place array index (expressions.element_of element.now) draft.old) result draft.new }
+    ensures { lines.Adds (spec.write_element scene.now place array index
+        (expressions.element_of element.now) draft.old) result draft.new }
 {
     match element {
         None => Ok(()),
@@ -154,7 +156,8 @@ fn write_elements(
     elements: &[Option<Expression>],
     draft: &mut Draft,
 ) -> Result<(), Memory>
-    ensures { lines.Adds (spec.write_elements scene.now place array 0 (map expressions.element_of elements.now) draft.old) result draft.new }
+    ensures { lines.Adds (spec.write_elements scene.now place array 0
+        (map expressions.element_of elements.now) draft.old) result draft.new }
 {
     let mut index: usize = 0;
     for element in elements {
@@ -173,7 +176,8 @@ pub(crate) fn array(
     place: Place,
     draft: &mut Draft,
 ) -> Result<Reg, Memory>
-    ensures { lines.Gives (spec.list_array (map expressions.element_of elements.now) place scene.now draft.old) result draft.new }
+    ensures { lines.Gives (spec.list_array (map expressions.element_of elements.now) place scene.now
+        draft.old) result draft.new }
 {
     let array = new_object(scene, place, Made::Array, draft)?;
     write_elements(scene, place, array, elements, draft)?;
@@ -191,7 +195,8 @@ fn write_member(
     property: &Property<Expression>,
     draft: &mut Draft,
 ) -> Result<(), Memory>
-    ensures { lines.Adds (spec.write_member scene.now place object (expressions.property_of property.now) draft.old) result draft.new }
+    ensures { lines.Adds (spec.write_member scene.now place object
+        (expressions.property_of property.now) draft.old) result draft.new }
 {
     let src = value(scene, &property.value, draft)?;
     let key = property_text(scene.alloc, &property.name)?;
@@ -207,7 +212,8 @@ pub(crate) fn object(
     place: Place,
     draft: &mut Draft,
 ) -> Result<Reg, Memory>
-    ensures { lines.Gives (spec.list_object (map expressions.property_of properties.now) place scene.now draft.old) result draft.new }
+    ensures { lines.Gives (spec.list_object (map expressions.property_of properties.now) place
+        scene.now draft.old) result draft.new }
 {
     let object = new_object(scene, place, Made::Object, draft)?;
     for property in properties {
@@ -223,8 +229,8 @@ fn same_place(a: Place, b: Place) -> bool
     a.line == b.line && a.column == b.column
 }
 
-/// The number of a function, or the one behind the last where no function of the text has the place. Past the last number
-/// that a function may have memory counts as refused.
+/// The number of a function, or the one behind the last where no function of the text has the
+/// place. Past the last number that a function may have memory counts as refused.
 fn function_id(scene: &Scene<'_, '_>, place: Place) -> Result<FnId, Memory>
     ensures { IfOk result (λ id. id ≡ spec.function_id scene.now place) }
 {
@@ -265,7 +271,8 @@ fn named_function(
     place: Place,
     draft: &mut Draft,
 ) -> Result<Reg, Memory>
-    ensures { lines.Gives (spec.list_named_function name.now place scene.now draft.old) result draft.new }
+    ensures { lines.Gives (spec.list_named_function name.now place scene.now draft.old) result
+        draft.new }
 {
     let saved = copy(scene, place, SCOPE, draft)?;
     draft.node(scene.handler, place, Node::PushScope { site: Site(0) })?;

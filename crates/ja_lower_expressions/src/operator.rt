@@ -77,7 +77,8 @@ fn apply_unary(
     value: Reg,
     draft: &mut Draft,
 ) -> Result<Reg, Memory>
-    ensures { code_lines.Gives (spec.apply_unary operator scene.now place value draft.old) result draft.new }
+    ensures { code_lines.Gives (spec.apply_unary operator scene.now place value draft.old) result
+        draft.new }
 {
     match operator {
         UnaryOperator::Void => constant(scene, place, Primitive::Undefined, draft),
@@ -106,7 +107,8 @@ pub(crate) fn on_outcome(
     outcome: Outcome,
     draft: &mut Draft,
 ) -> Result<Reg, Memory>
-    ensures { code_lines.Gives (spec.on_outcome operator scene.now place outcome draft.old) result draft.new }
+    ensures { code_lines.Gives (spec.on_outcome operator scene.now place outcome draft.old) result
+        draft.new }
 {
     match operator {
         UnaryOperator::Delete => delete(scene, place, outcome, draft),
@@ -124,7 +126,8 @@ pub(crate) fn on_outcome(
 
 /// The constant 1.
 fn one(scene: &Scene<'_, '_>, place: Place, draft: &mut Draft) -> Result<Reg, Memory>
-    ensures { code_lines.Gives (lines.with_const scene.now place (Primitive.Number (Num.Whole (pos 1))) draft.old) result draft.new }
+    ensures { code_lines.Gives (lines.with_const scene.now place
+        (Primitive.Number (Num.Whole (pos 1))) draft.old) result draft.new }
 {
     match Int::new(1) {
         None => Err(Memory),
@@ -195,7 +198,8 @@ fn on_defaults_backwards(
     b: Reg,
     draft: &mut Draft,
 ) -> Result<Reg, Memory>
-    ensures { code_lines.Gives (spec.on_defaults_backwards op scene.now place a b draft.old) result draft.new }
+    ensures { code_lines.Gives (spec.on_defaults_backwards op scene.now place a b draft.old) result
+        draft.new }
 {
     let y = default_value(scene, place, Hint::Number, b, draft)?;
     let x = default_value(scene, place, Hint::Number, a, draft)?;
@@ -295,7 +299,8 @@ fn on_instance(
     right: Reg,
     draft: &mut Draft,
 ) -> Result<Reg, Memory>
-    ensures { code_lines.Gives (spec.on_instance scene.now place left right draft.old) result draft.new }
+    ensures { code_lines.Gives (spec.on_instance scene.now place left right draft.old) result
+        draft.new }
 {
     let dst = draft.fresh()?;
     let node = Node::InstanceOf {
@@ -337,7 +342,8 @@ pub(crate) fn apply_binary(
     b: Reg,
     draft: &mut Draft,
 ) -> Result<Reg, Memory>
-    ensures { code_lines.Gives (spec.apply_binary operator scene.now place a b draft.old) result draft.new }
+    ensures { code_lines.Gives (spec.apply_binary operator scene.now place a b draft.old) result
+        draft.new }
 {
     match operator {
         BinaryOperator::Plus => on_defaults(BinaryOp::Add, scene, place, a, b, draft),
@@ -364,7 +370,8 @@ pub(crate) fn update_outcome(
     outcome: Outcome,
     draft: &mut Draft,
 ) -> Result<Reg, Memory>
-    ensures { code_lines.Gives (spec.update_outcome operator scene.now place outcome draft.old) result draft.new }
+    ensures { code_lines.Gives (spec.update_outcome operator scene.now place outcome draft.old)
+        result draft.new }
 {
     let value = get_value(scene, outcome, draft)?;
     let old = number(scene, place, value, draft)?;

@@ -1,4 +1,5 @@
-//! The special forms of the texts of built-in functions: calls of names that begin with `$`, which are no variables.
+//! The special forms of the texts of built-in functions: calls of names that begin with `$`, which
+//! are no variables.
 
 ghost use Rattle.std.specs.Prelude.{◌≡◌};
 ghost use Rattle.ja_lower_expressions.specs.SpecialForms.{AreSpecialForms};
@@ -37,7 +38,8 @@ pub enum Special {
     Intrinsic(u32),
 }
 
-/// The names of the special forms: the operations of the built-in functions come last, as `ja_graph::INTRINSICS` numbers them.
+/// The names of the special forms: the operations of the built-in functions come last, as
+/// `ja_graph::INTRINSICS` numbers them.
 pub const SPECIALS: [(&[u8], Special); 44] = [
     (b"$get", Special::Get),
     (b"$put", Special::Put),
@@ -121,8 +123,8 @@ pub fn special_of(name: &[u16]) -> Option<Special>
     None
 }
 
-/// Each special form, each operation of `ja_graph::INTRINSICS` among them, is found by its name, and its call lists its node. The
-/// function does nothing; its contract is the law.
+/// Each special form, each operation of `ja_graph::INTRINSICS` among them, is found by its name,
+/// and its call lists its node. The function does nothing; its contract is the law.
 pub fn special_forms_list_their_nodes()
     ensures { AreSpecialForms }
 {}

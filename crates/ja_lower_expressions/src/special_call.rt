@@ -14,7 +14,8 @@ use ja_prim::Primitive;
 
 /// Adds `undefined`, where a special form has other arguments than it takes.
 fn undefined(scene: &Scene<'_, '_>, place: Place, draft: &mut Draft) -> Result<Reg, Memory>
-    ensures { code_lines.Gives (lines.with_const scene.now place Primitive.Undefined draft.old) result draft.new }
+    ensures { code_lines.Gives (lines.with_const scene.now place Primitive.Undefined draft.old)
+        result draft.new }
 {
     constant(scene, place, Primitive::Undefined, draft)
 }
@@ -27,7 +28,8 @@ fn get(
     values: &[Reg],
     draft: &mut Draft,
 ) -> Result<Reg, Memory>
-    ensures { code_lines.Gives (spec.list_special Special.Get scene.now place values.now draft.old) result draft.new }
+    ensures { code_lines.Gives (spec.list_special Special.Get scene.now place values.now draft.old)
+        result draft.new }
 {
     match values {
         [object, key] => {
@@ -48,7 +50,8 @@ fn put(
     values: &[Reg],
     draft: &mut Draft,
 ) -> Result<Reg, Memory>
-    ensures { code_lines.Gives (spec.list_special Special.Put scene.now place values.now draft.old) result draft.new }
+    ensures { code_lines.Gives (spec.list_special Special.Put scene.now place values.now draft.old)
+        result draft.new }
 {
     match values {
         [object, key, src] => {
@@ -74,7 +77,8 @@ fn delete(
     values: &[Reg],
     draft: &mut Draft,
 ) -> Result<Reg, Memory>
-    ensures { code_lines.Gives (spec.list_special Special.Delete scene.now place values.now draft.old) result draft.new }
+    ensures { code_lines.Gives (spec.list_special Special.Delete scene.now place values.now
+        draft.old) result draft.new }
 {
     match values {
         [object, key] => {
@@ -95,7 +99,8 @@ fn has(
     values: &[Reg],
     draft: &mut Draft,
 ) -> Result<Reg, Memory>
-    ensures { code_lines.Gives (spec.list_special Special.Has scene.now place values.now draft.old) result draft.new }
+    ensures { code_lines.Gives (spec.list_special Special.Has scene.now place values.now draft.old)
+        result draft.new }
 {
     match values {
         [object, key] => {
@@ -116,7 +121,8 @@ fn to_object(
     values: &[Reg],
     draft: &mut Draft,
 ) -> Result<Reg, Memory>
-    ensures { code_lines.Gives (spec.list_special Special.Object scene.now place values.now draft.old) result draft.new }
+    ensures { code_lines.Gives (spec.list_special Special.Object scene.now place values.now
+        draft.old) result draft.new }
 {
     match values {
         [src] => object(scene, place, *src, draft),
@@ -132,7 +138,8 @@ fn to_text(
     values: &[Reg],
     draft: &mut Draft,
 ) -> Result<Reg, Memory>
-    ensures { code_lines.Gives (spec.list_special Special.Text scene.now place values.now draft.old) result draft.new }
+    ensures { code_lines.Gives (spec.list_special Special.Text scene.now place values.now draft.old)
+        result draft.new }
 {
     match values {
         [src] => text(scene, place, *src, draft),
@@ -149,7 +156,8 @@ fn make(
     values: &[Reg],
     draft: &mut Draft,
 ) -> Result<Reg, Memory>
-    ensures { code_lines.Gives (spec.list_special (Special.Make kind) scene.now place values.now draft.old) result draft.new }
+    ensures { code_lines.Gives (spec.list_special (Special.Make kind) scene.now place values.now
+        draft.old) result draft.new }
 {
     match values {
         [] => {
@@ -175,7 +183,8 @@ pub(crate) fn call_with(
     args: Args,
     draft: &mut Draft,
 ) -> Result<Reg, Memory>
-    ensures { code_lines.Gives (lines.with_result scene.now place (λ dst. Node.Call dst callee receiver args (lines.site 0)) draft.old) result draft.new }
+    ensures { code_lines.Gives (lines.with_result scene.now place
+        (λ dst. Node.Call dst callee receiver args (lines.site 0)) draft.old) result draft.new }
 {
     let dst = draft.fresh()?;
     let node = Node::Call {
@@ -197,7 +206,8 @@ fn call(
     values: &[Reg],
     draft: &mut Draft,
 ) -> Result<Reg, Memory>
-    ensures { code_lines.Gives (spec.list_special Special.Call scene.now place values.now draft.old) result draft.new }
+    ensures { code_lines.Gives (spec.list_special Special.Call scene.now place values.now draft.old)
+        result draft.new }
 {
     match values {
         [callee, receiver, arguments @ ..] => {
@@ -217,7 +227,8 @@ fn spread(
     values: &[Reg],
     draft: &mut Draft,
 ) -> Result<Reg, Memory>
-    ensures { code_lines.Gives (spec.list_special Special.Spread scene.now place values.now draft.old) result draft.new }
+    ensures { code_lines.Gives (spec.list_special Special.Spread scene.now place values.now
+        draft.old) result draft.new }
 {
     match values {
         [callee, receiver, array] => {
@@ -236,7 +247,8 @@ fn tail(
     values: &[Reg],
     draft: &mut Draft,
 ) -> Result<Reg, Memory>
-    ensures { code_lines.Gives (spec.list_special Special.Tail scene.now place values.now draft.old) result draft.new }
+    ensures { code_lines.Gives (spec.list_special Special.Tail scene.now place values.now draft.old)
+        result draft.new }
 {
     match values {
         [callee, receiver] => call_with(scene, place, *callee, *receiver, Args::Tail, draft),
@@ -253,7 +265,8 @@ fn stop(
     values: &[Reg],
     draft: &mut Draft,
 ) -> Result<Reg, Memory>
-    ensures { code_lines.Gives (spec.list_special (Special.Stop kind) scene.now place values.now draft.old) result draft.new }
+    ensures { code_lines.Gives (spec.list_special (Special.Stop kind) scene.now place values.now
+        draft.old) result draft.new }
 {
     match values {
         [] => {
@@ -274,7 +287,8 @@ fn intrinsic(
     values: Vec<Reg>,
     draft: &mut Draft,
 ) -> Result<Reg, Memory>
-    ensures { code_lines.Gives (spec.list_special (Special.Intrinsic which) scene.now place values.items draft.old) result draft.new }
+    ensures { code_lines.Gives (spec.list_special (Special.Intrinsic which) scene.now place
+        values.items draft.old) result draft.new }
 {
     let dst = draft.fresh()?;
     let args = Seq::from_vec(values);
@@ -290,7 +304,8 @@ pub(crate) fn list_special(
     values: Vec<Reg>,
     draft: &mut Draft,
 ) -> Result<Reg, Memory>
-    ensures { code_lines.Gives (spec.list_special special scene.now place values.items draft.old) result draft.new }
+    ensures { code_lines.Gives (spec.list_special special scene.now place values.items draft.old)
+        result draft.new }
 {
     let given = values.as_slice();
     match special {

@@ -31,7 +31,8 @@ pub record LeadsInside (nodes : ℕ) (info : NodeInfo) : Type 0 where
 
 -- the edges of each node lead to nodes of its function
 abbrev pub EdgesLeadInside : List NodeInfo → Type 0
-EdgesLeadInside nodes = (n : ℕ) (info : NodeInfo) → slice_get nodes n ≡ Some info → LeadsInside (length nodes) info
+EdgesLeadInside nodes =
+    (n : ℕ) (info : NodeInfo) → slice_get nodes n ≡ Some info → LeadsInside (length nodes) info
 
 -- a target of a block of so many nodes, where it is a node, is one of them
 abbrev pub IsWithin : ℕ → Target → Type 0

@@ -1,4 +1,5 @@
--- Listings: the nodes of a function in order, with spots and jumps between them and copies of blocks, and the graph that they come to.
+-- Listings: the nodes of a function in order, with spots and jumps between them and copies of
+-- blocks, and the graph that they come to.
 use Rattle.std.specs.Prelude.{ℕ, zero, suc, ◌+◌, ◌-◌, ◌==◌, Bool, true, false, if◌then◌else◌, List, [], ◌∷◌, ◌++◌, length, map, Option, Some, None}
 use Rattle.std.specs.Option.{option_or, option_map_or}
 use Rattle.ja_base.specs.declared.ids.NodeId.{NodeId}
@@ -26,35 +27,42 @@ node_count (item.Copy block ∷ items) = length block.nodes + node_count items
 unfoldable pub behind : Spot → List Item → Option (List Item)
 behind s [] = None
 behind s (item.Node node other handler place ∷ items) = behind s items
-behind s (item.Spot t ∷ items) = option_or (behind s items) (if t.0 == s.0 then Some items else None)
+behind s (item.Spot t ∷ items) =
+    option_or (behind s items) (if t.0 == s.0 then Some items else None)
 behind s (item.Jump t ∷ items) = behind s items
 behind s (item.Copy block ∷ items) = behind s items
 
 -- ---- where a run goes on
 
--- Where a target of a copy leads: to a node of the copy, whose first node has a number, to a spot around it, or to what stands behind it.
+-- Where a target of a copy leads: to a node of the copy, whose first node has a number, to a spot
+-- around it, or to what stands behind it.
 abbrev pub led : ℕ → (Spot → Target) → Target → Target → Target
 led first jump next (target.Node n) = target.Node (first + n)
 led first jump next (target.Spot s) = jump s
 led first jump next target.Behind = next
 led first jump next target.Out = target.Out
 
--- Where a run goes on from lines at the end of a listing: at the first node, or where a jump before it leads. A copy is entered where
--- its block is.
+-- Where a run goes on from lines at the end of a listing: at the first node, or where a jump before
+-- it leads. A copy is entered where its block is.
 unfoldable pub goes : List Item → (Spot → Target) → List Item → Target
 goes whole jump [] = target.Behind
-goes whole jump (item.Node node other handler place ∷ items) = target.Node (node_count whole - suc (node_count items))
+goes whole jump (item.Node node other handler place ∷ items) =
+    target.Node (node_count whole - suc (node_count items))
 goes whole jump (item.Spot s ∷ items) = goes whole jump items
 goes whole jump (item.Jump s ∷ items) = jump s
 goes whole jump (item.Copy block ∷ items) =
-    led (node_count whole - (length block.nodes + node_count items)) jump (goes whole jump items) block.entry
+    led (node_count whole - (length block.nodes + node_count items)) jump (goes whole jump items)
+    block.entry
 
--- Where a spot leads by fewer jumps than so many; one that doesn't stand in the listing is around it. More jumps lead out.
+-- Where a spot leads by fewer jumps than so many; one that doesn't stand in the listing is around
+-- it. More jumps lead out.
 unfoldable pub leads : List Item → ℕ → Spot → Target
 leads whole zero s = target.Out
-leads whole (suc jumps) s = option_map_or (goes whole (leads whole jumps)) (behind s whole) (target.Spot s)
+leads whole (suc jumps) s =
+    option_map_or (goes whole (leads whole jumps)) (behind s whole) (target.Spot s)
 
--- Where a jump leads: it makes no node. More jumps than the listing has lines go round, and lead out.
+-- Where a jump leads: it makes no node. More jumps than the listing has lines go round, and lead
+-- out.
 abbrev pub jump_of : List Item → Spot → Target
 jump_of whole s = leads whole (suc (length whole)) s
 
@@ -96,7 +104,8 @@ nodes_from whole (item.Node node other handler place ∷ items) =
 nodes_from whole (item.Spot s ∷ items) = nodes_from whole items
 nodes_from whole (item.Jump s ∷ items) = nodes_from whole items
 nodes_from whole (item.Copy block ∷ items) =
-    map (with_edges (led (node_count whole - (length block.nodes + node_count items)) (jump_of whole) (way_on whole items))) block.nodes
+    map (with_edges (led (node_count whole - (length block.nodes + node_count items))
+    (jump_of whole) (way_on whole items))) block.nodes
     ++ nodes_from whole items
 
 -- the block that lines come to

@@ -90,7 +90,9 @@ impl Edges {
         place: Place,
         here: Target,
     ) -> BlockNode
-        ensures { (whole items : List Item) → AreEdges self.now whole → IsEnd whole items → here ≡ (seen whole items).here → nodes_from whole (item.Node node other handler place ∷ items) ≡ result ∷ nodes_from whole items }
+        ensures { (whole items : List Item) → AreEdges self.now whole → IsEnd whole items
+            → here ≡ (seen whole items).here → nodes_from whole
+            (item.Node node other handler place ∷ items) ≡ result ∷ nodes_from whole items }
     {
         let next = if goes_on(&node) {
             self.landing(here)
@@ -108,10 +110,11 @@ impl Edges {
         }
     }
 
-    /// Where a target of a copy leads, whose first node has this number, where `next` is what stands
-    /// behind it. Past the last number of a node memory counts as refused.
+    /// Where a target of a copy leads, whose first node has this number, where `next` is what
+    /// stands behind it. Past the last number of a node memory counts as refused.
     fn led(&self, first: u32, next: Target, target: Target) -> Result<Target, Memory>
-        ensures { (whole : List Item) → AreEdges self.now whole → IfOk result (λ t. t ≡ led first (jump_of whole) next target) }
+        ensures { (whole : List Item) → AreEdges self.now whole
+            → IfOk result (λ t. t ≡ led first (jump_of whole) next target) }
     {
         match target {
             Target::Node(node) => node_of(first, node),
@@ -123,7 +126,8 @@ impl Edges {
 
     /// A node of a copy.
     fn copied(&self, first: u32, next: Target, node: BlockNode) -> Result<BlockNode, Memory>
-        ensures { (whole : List Item) → AreEdges self.now whole → IfOk result (λ n. n ≡ with_edges (led first (jump_of whole) next) node) }
+        ensures { (whole : List Item) → AreEdges self.now whole
+            → IfOk result (λ n. n ≡ with_edges (led first (jump_of whole) next) node) }
     {
         Ok(BlockNode {
             next: self.led(first, next, node.next)?,
@@ -143,7 +147,9 @@ impl Edges {
         block: Vec<BlockNode>,
         nodes: &mut Vec<BlockNode>,
     ) -> Result<(), Memory>
-        ensures { (whole : List Item) → AreEdges self.now whole → OnOk result (nodes.new.items ≡ nodes.old.items ++ map (with_edges (led first (jump_of whole) next)) block.items) }
+        ensures { (whole : List Item) → AreEdges self.now whole
+            → OnOk result (nodes.new.items ≡ nodes.old.items
+            ++ map (with_edges (led first (jump_of whole) next)) block.items) }
     {
         for node in block {
             nodes.push(self.copied(first, next, node)?)?;
@@ -152,8 +158,8 @@ impl Edges {
     }
 }
 
-/// The nodes of a listing, where `ways` are where a run goes on behind each of its nodes and copies,
-/// the last one first.
+/// The nodes of a listing, where `ways` are where a run goes on behind each of its nodes and
+/// copies, the last one first.
 fn linked(
     alloc: Global,
     items: Vec<Item>,

@@ -7,7 +7,8 @@ use crate::Item;
 use ja_base::Memory;
 use ja_graph::Node;
 
-/// Whether a run goes on to what follows a node: it does, unless the node leaves the function or throws.
+/// Whether a run goes on to what follows a node: it does, unless the node leaves the function or
+/// throws.
 #[tactic(auto, unfolding(crate::specs::Listing::goes_on))]
 pub fn goes_on(node: &Node) -> bool
     ensures { result ≡ goes_on node.now }

@@ -59,7 +59,8 @@ impl Backward {
     #[tactic(auto, unfolding(crate::specs::Listing::node_count, crate::specs::code::Passes::seen, crate::specs::code::Passes::ways_on))]
     fn pass(&mut self, item: &Item) -> Result<(), Memory>
         requires { node_count (item.now ∷ []) ≤ self.old.before }
-        ensures { OnOk result ((whole items : List Item) → HasPassed self.old whole items → HasPassed self.new whole (item.now ∷ items)) }
+        ensures { OnOk result ((whole items : List Item) → HasPassed self.old whole items
+            → HasPassed self.new whole (item.now ∷ items)) }
     {
         let nodes = more(0, nodes_of(item))?;
         match item {

@@ -35,7 +35,8 @@ impl Spots {
 
     /// Adds a spot, unless it is known.
     pub fn put(&mut self, spot: Spot, target: Target) -> Result<(), Memory>
-        ensures { OnOk result ((q : ℕ) → target_of self.new q ≡ option_or (target_of self.old q) (if spot.0 == q then Some target else None)) }
+        ensures { OnOk result ((q : ℕ) → target_of self.new q
+            ≡ option_or (target_of self.old q) (if spot.0 == q then Some target else None)) }
     {
         if self.get(spot).is_some() {
             return Ok(());

@@ -15,19 +15,23 @@ Texts = List (Bor (List ℕ))
 abbrev pub nows : Texts → List (List ℕ)
 nows ts = map (λ t. t.now) ts
 
-any_now : (t : List ℕ) (ks : Texts) → list_any (λ k. bytes_eq t k.now) ks ≡ list_any (bytes_eq t) (nows ks)
+any_now : (t : List ℕ) (ks : Texts) → list_any (λ k. bytes_eq t k.now) ks
+    ≡ list_any (bytes_eq t) (nows ks)
 any_now t [] = refl
 any_now t (k ∷ ks) = ap (λ b. bytes_eq t k.now || b) (any_now t ks)
 
-pub position_now : (t : List ℕ) (ks : Texts) → position_or_len (λ k. bytes_eq t k.now) ks ≡ position_or_len (bytes_eq t) (nows ks)
+pub position_now : (t : List ℕ) (ks : Texts)
+    → position_or_len (λ k. bytes_eq t k.now) ks ≡ position_or_len (bytes_eq t) (nows ks)
 position_now t [] = refl
 position_now t (k ∷ ks) = ap (λ n. cond (not (bytes_eq t k.now)) (1 + n) 0) (position_now t ks)
 
 -- a text that is put into the set is a name that is added
-pub inserted_now : (ks : Texts) (k : Bor (List ℕ)) → nows (insert_key (λ a b. bytes_eq a.now b.now) ks k) ≡ with_name (nows ks) k.now
+pub inserted_now : (ks : Texts) (k : Bor (List ℕ))
+    → nows (insert_key (λ a b. bytes_eq a.now b.now) ks k) ≡ with_name (nows ks) k.now
 inserted_now ks k = either (list_any (λ t. bytes_eq k.now t.now) ks) (any_now k.now ks)
   where
-    either : (b : Bool) → b ≡ list_any (bytes_eq k.now) (nows ks) → nows (if b then ks else ks ++ k ∷ []) ≡ with_name (nows ks) k.now
+    either : (b : Bool) → b ≡ list_any (bytes_eq k.now) (nows ks)
+        → nows (if b then ks else ks ++ k ∷ []) ≡ with_name (nows ks) k.now
     either true is = rw (← is) refl
     either false is = rw (← is) (map_push (λ t. t.now) ks k)
 
@@ -36,13 +40,20 @@ module _ {X : Type 0} (p : X → Bool) (xs : List X) where
   pub found_at : (i : ℕ) → Some i ≡ position p xs → i ≡ position_or_len p xs
   found_at i is = at (nat_lt (position_or_len p xs) (length xs)) is
     where
-      at : (b : Bool) → Some i ≡ cond b (Some (position_or_len p xs)) None → i ≡ position_or_len p xs
+      at : (b : Bool) → Some i ≡ cond b (Some (position_or_len p xs)) None
+          → i ≡ position_or_len p xs
       at true e = cc
       at false e = absurd (cc)
 
   pub found_nowhere : None ≡ position p xs → length xs ≡ position_or_len p xs
   found_nowhere is = at (nat_lt (position_or_len p xs) (length xs)) refl is
     where
-      at : (b : Bool) → nat_lt (position_or_len p xs) (length xs) ≡ b → None ≡ cond b (Some (position_or_len p xs)) None → length xs ≡ position_or_len p xs
+      at : (b : Bool) → nat_lt (position_or_len p xs) (length xs) ≡ b
+          → None ≡ cond b (Some (position_or_len p xs)) None → length xs ≡ position_or_len p xs
       at true low e = absurd (cc)
-      at false low e = omega (arith, ltb-false (position_or_len p xs) (length xs) low, prefix_len-le-length (λ x. not (p x)) xs)
+      at false low e =
+          omega (
+            arith,
+            ltb-false (position_or_len p xs) (length xs) low,
+            prefix_len-le-length (λ x. not (p x)) xs,
+          )

@@ -24,7 +24,8 @@ use Rattle.ja_syntax.specs.declared.tree.Expression.{Expression}
 use Rattle.ja_syntax.specs.declared.tree.Expression.TheOpen.{Expression-F, Statement-F, Case-F}
 use Rattle.ja_syntax.specs.declared.tree.Expression.TheFolds.{para-Statement}
 
--- A name where it stands in a text, and whether it is an expression there, that is, a variable (ES3 11.1.2).
+-- A name where it stands in a text, and whether it is an expression there, that is, a variable (ES3
+-- 11.1.2).
 pub record Named : Type 0 where
   pub text : List ℕ
   pub variable : Bool
@@ -103,40 +104,57 @@ in_catch statement c = in_name c.parameter ++ flat_map statement c.body
 -- a function stands before those in it; its name and its parameters stand before its body (13)
 abbrev pub in_function : {X : Type 0} → (X → Statement) → (X → Parts) → FunctionOf X → Parts
 in_function tree statement f =
-    a_function (record { name = f.name; parameters = f.parameters; body = map tree f.body; place = f.place })
+    a_function (record {
+      name = f.name;
+      parameters = f.parameters;
+      body = map tree f.body;
+      place = f.place;
+    })
     ∷ (if_any in_name f.name ++ (flat_map in_name f.parameters ++ flat_map statement f.body))
 
 -- Below, each form inside stands beside its own parts.
 
 -- one level of an expression (11)
-abbrev pub expression_step : Expression-F (Expression × Parts) (Statement × Parts) (Case × Parts) → Parts
+abbrev pub expression_step : Expression-F (Expression × Parts) (Statement × Parts) (Case × Parts)
+    → Parts
 expression_step (Expression-F.This place) = []
 expression_step (Expression-F.Name name) = one_variable name.text
 expression_step (Expression-F.Literal value place) = in_literal value
 expression_step (Expression-F.Array elements place) = flat_map (if_any (λ e. e.1)) elements
-expression_step (Expression-F.Object properties place) = flat_map (in_property (λ e. e.1)) properties
-expression_step (Expression-F.Expression::Function function) = in_function (λ s. s.0) (λ s. s.1) function
-expression_step (Expression-F.Chain head suffixes) = head.1 ++ flat_map (in_suffix (λ e. e.1)) suffixes
-expression_step (Expression-F.New callee arguments place) = callee.1 ++ flat_map (λ e. e.1) arguments
+expression_step (Expression-F.Object properties place) =
+    flat_map (in_property (λ e. e.1)) properties
+expression_step (Expression-F.Expression::Function function) =
+    in_function (λ s. s.0) (λ s. s.1) function
+expression_step (Expression-F.Chain head suffixes) =
+    head.1 ++ flat_map (in_suffix (λ e. e.1)) suffixes
+expression_step (Expression-F.New callee arguments place) =
+    callee.1 ++ flat_map (λ e. e.1) arguments
 expression_step (Expression-F.Unary operator operand place) = operand.1
 expression_step (Expression-F.Update operator operand place) = operand.1
-expression_step (Expression-F.Binary first operations place) = first.1 ++ flat_map (in_operation (λ e. e.1)) operations
-expression_step (Expression-F.Conditional condition consequent otherwise place) = condition.1 ++ (consequent.1 ++ otherwise.1)
+expression_step (Expression-F.Binary first operations place) =
+    first.1 ++ flat_map (in_operation (λ e. e.1)) operations
+expression_step (Expression-F.Conditional condition consequent otherwise place) =
+    condition.1 ++ (consequent.1 ++ otherwise.1)
 expression_step (Expression-F.Assign goal operator value place) = goal.1 ++ value.1
 expression_step (Expression-F.Sequence first others place) = first.1 ++ flat_map (λ e. e.1) others
 
 -- one level of a statement (12); labels are no names
-abbrev pub statement_step : Statement-F (Expression × Parts) (Statement × Parts) (Case × Parts) → Parts
+abbrev pub statement_step : Statement-F (Expression × Parts) (Statement × Parts) (Case × Parts)
+    → Parts
 statement_step (Statement-F.Block body place) = flat_map (λ s. s.1) body
-statement_step (Statement-F.Variables declarations place) = flat_map (in_declaration (λ e. e.1)) declarations
+statement_step (Statement-F.Variables declarations place) =
+    flat_map (in_declaration (λ e. e.1)) declarations
 statement_step (Statement-F.Empty place) = []
 statement_step (Statement-F.Expression value place) = value.1
-statement_step (Statement-F.If condition consequent otherwise place) = condition.1 ++ (consequent.1 ++ if_any (λ s. s.1) otherwise)
+statement_step (Statement-F.If condition consequent otherwise place) =
+    condition.1 ++ (consequent.1 ++ if_any (λ s. s.1) otherwise)
 statement_step (Statement-F.Do body condition place) = body.1 ++ condition.1
 statement_step (Statement-F.While condition body place) = condition.1 ++ body.1
 statement_step (Statement-F.For head condition update body place) =
-    in_first (λ e. e.1) head ++ (if_any (λ e. e.1) condition ++ (if_any (λ e. e.1) update ++ body.1))
-statement_step (Statement-F.ForIn goal object body place) = in_target (λ e. e.1) goal ++ (object.1 ++ body.1)
+    in_first (λ e. e.1) head ++ (if_any (λ e. e.1) condition
+    ++ (if_any (λ e. e.1) update ++ body.1))
+statement_step (Statement-F.ForIn goal object body place) =
+    in_target (λ e. e.1) goal ++ (object.1 ++ body.1)
 statement_step (Statement-F.Continue label place) = []
 statement_step (Statement-F.Break label place) = []
 statement_step (Statement-F.Return value place) = if_any (λ e. e.1) value
@@ -144,8 +162,10 @@ statement_step (Statement-F.Labelled label body) = body.1
 statement_step (Statement-F.Switch value cases place) = value.1 ++ flat_map (λ c. c.1) cases
 statement_step (Statement-F.Throw value place) = value.1
 statement_step (Statement-F.Try block caught finally place) =
-    flat_map (λ s. s.1) block ++ (if_any (in_catch (λ s. s.1)) caught ++ if_any (flat_map (λ s. s.1)) finally)
-statement_step (Statement-F.Statement::Function function) = in_function (λ s. s.0) (λ s. s.1) function
+    flat_map (λ s. s.1) block ++ (if_any (in_catch (λ s. s.1)) caught
+    ++ if_any (flat_map (λ s. s.1)) finally)
+statement_step (Statement-F.Statement::Function function) =
+    in_function (λ s. s.0) (λ s. s.1) function
 
 -- a clause of a `switch` (12.11)
 abbrev pub case_step : Case-F (Expression × Parts) (Statement × Parts) (Case × Parts) → Parts
@@ -157,7 +177,8 @@ in_statement = para-Statement Parts Parts Parts expression_step statement_step c
 -- the parts of a function of the text
 abbrev pub function_parts : FunctionOf Statement → Parts
 function_parts f =
-    a_function f ∷ (if_any in_name f.name ++ (flat_map in_name f.parameters ++ flat_map in_statement f.body))
+    a_function f ∷ (if_any in_name f.name ++ (flat_map in_name f.parameters
+    ++ flat_map in_statement f.body))
 
 -- the functions among parts, and the names
 abbrev pub if_function : Part → List (FunctionOf Statement)
@@ -168,7 +189,8 @@ abbrev pub if_name : Part → List Named
 if_name (a_function f) = []
 if_name (a_name n) = n ∷ []
 
--- the functions of statements, functions in functions among them, and the names, each as often as it stands there
+-- the functions of statements, functions in functions among them, and the names, each as often as
+-- it stands there
 unfoldable pub functions_in : List Statement → List (FunctionOf Statement)
 functions_in statements = flat_map if_function (flat_map in_statement statements)
 

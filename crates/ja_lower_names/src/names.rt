@@ -9,8 +9,8 @@ use ja_prim::Text16;
 use std::alloc::Global;
 use std::marker::Model;
 
-/// Names, each once, in the order in which they were added, and the number of each. They are fewer than 2^32. Contracts see
-/// the list of texts.
+/// Names, each once, in the order in which they were added, and the number of each. They are fewer
+/// than 2^32. Contracts see the list of texts.
 #[derive(Drop)]
 pub struct Names<'a> {
     texts: IndexSet<&'a [u16]>,
@@ -45,7 +45,8 @@ impl<'a> Names<'a> {
         self.texts.len()
     }
 
-    /// The number of a name: its place among the names, or the number behind the last one where it isn't one of them.
+    /// The number of a name: its place among the names, or the number behind the last one where it
+    /// isn't one of them.
     pub fn number(&self, text: &[u16]) -> NameId
         ensures { result ≡ spec.number self.now text.now }
     {

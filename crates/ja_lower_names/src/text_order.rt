@@ -57,7 +57,7 @@ fn add_identifier<'a>(parts: &mut Parts<'a>, name: &'a Option<Name>) -> Result<(
 
 /// Adds the parts of an expression.
 #[cycle(text)]
-#[tactic(auto, using(crate::proofs::TextOrderLemmas::of_this, crate::proofs::TextOrderLemmas::of_name, crate::proofs::TextOrderLemmas::of_literal, crate::proofs::TextOrderLemmas::of_array, crate::proofs::TextOrderLemmas::of_object, crate::proofs::TextOrderLemmas::of_function, crate::proofs::TextOrderLemmas::of_chain, crate::proofs::TextOrderLemmas::of_new, crate::proofs::TextOrderLemmas::of_unary, crate::proofs::TextOrderLemmas::of_update, crate::proofs::TextOrderLemmas::of_binary, crate::proofs::TextOrderLemmas::of_conditional, crate::proofs::TextOrderLemmas::of_assign, crate::proofs::TextOrderLemmas::of_sequence))]
+#[tactic(auto, using(crate::proofs::Rulesets::for_add_expression))]
 fn add_expression<'a>(parts: &mut Parts<'a>, expression: &'a Expression) -> Result<(), Memory>
     ensures { OnOk result (parts.new ≡ parts.old ++ code.in_expression expression.now) }
 {
@@ -146,7 +146,8 @@ fn add_optional_boxed<'a>(
 
 #[cycle(text)]
 fn add_elements<'a>(parts: &mut Parts<'a>, elements: &'a [Option<Expression>]) -> Result<(), Memory>
-    ensures { OnOk result (parts.new ≡ parts.old ++ flat_map (spec.if_any code.in_expression) elements.now) }
+    ensures { OnOk result (parts.new ≡ parts.old
+        ++ flat_map (spec.if_any code.in_expression) elements.now) }
 {
     for element in elements {
         add_optional(parts, element)?;
@@ -156,7 +157,8 @@ fn add_elements<'a>(parts: &mut Parts<'a>, elements: &'a [Option<Expression>]) -
 
 #[cycle(text)]
 fn add_property<'a>(parts: &mut Parts<'a>, property: &'a Property<Expression>) -> Result<(), Memory>
-    ensures { OnOk result (parts.new ≡ parts.old ++ spec.in_property code.in_expression property.now) }
+    ensures { OnOk result (parts.new ≡ parts.old
+        ++ spec.in_property code.in_expression property.now) }
 {
     add_property_name(parts, &property.name)?;
     add_expression(parts, &property.value)
@@ -167,7 +169,8 @@ fn add_properties<'a>(
     parts: &mut Parts<'a>,
     properties: &'a [Property<Expression>],
 ) -> Result<(), Memory>
-    ensures { OnOk result (parts.new ≡ parts.old ++ flat_map (spec.in_property code.in_expression) properties.now) }
+    ensures { OnOk result (parts.new ≡ parts.old
+        ++ flat_map (spec.in_property code.in_expression) properties.now) }
 {
     for property in properties {
         add_property(parts, property)?;
@@ -180,7 +183,8 @@ fn add_operations<'a>(
     parts: &mut Parts<'a>,
     operations: &'a [Operation<Expression>],
 ) -> Result<(), Memory>
-    ensures { OnOk result (parts.new ≡ parts.old ++ flat_map (spec.in_operation code.in_expression) operations.now) }
+    ensures { OnOk result (parts.new ≡ parts.old
+        ++ flat_map (spec.in_operation code.in_expression) operations.now) }
 {
     for operation in operations {
         add_expression(parts, &operation.right)?;
@@ -201,7 +205,8 @@ fn add_suffix<'a>(parts: &mut Parts<'a>, suffix: &'a Suffix<Expression>) -> Resu
 
 #[cycle(text)]
 fn add_suffixes<'a>(parts: &mut Parts<'a>, suffixes: &'a [Suffix<Expression>]) -> Result<(), Memory>
-    ensures { OnOk result (parts.new ≡ parts.old ++ flat_map (spec.in_suffix code.in_expression) suffixes.now) }
+    ensures { OnOk result (parts.new ≡ parts.old
+        ++ flat_map (spec.in_suffix code.in_expression) suffixes.now) }
 {
     for suffix in suffixes {
         add_suffix(parts, suffix)?;
@@ -225,7 +230,8 @@ fn add_initialiser<'a>(
     parts: &mut Parts<'a>,
     initialiser: &'a Option<Initialiser<Expression>>,
 ) -> Result<(), Memory>
-    ensures { OnOk result (parts.new ≡ parts.old ++ spec.if_any (spec.in_initialiser code.in_expression) initialiser.now) }
+    ensures { OnOk result (parts.new ≡ parts.old
+        ++ spec.if_any (spec.in_initialiser code.in_expression) initialiser.now) }
 {
     match initialiser {
         None => Ok(()),
@@ -238,7 +244,8 @@ fn add_declaration<'a>(
     parts: &mut Parts<'a>,
     declaration: &'a Declaration<Expression>,
 ) -> Result<(), Memory>
-    ensures { OnOk result (parts.new ≡ parts.old ++ spec.in_declaration code.in_expression declaration.now) }
+    ensures { OnOk result (parts.new ≡ parts.old
+        ++ spec.in_declaration code.in_expression declaration.now) }
 {
     parts.add_name(&declaration.name.text)?;
     add_initialiser(parts, &declaration.initialiser)
@@ -249,7 +256,8 @@ fn add_declarations<'a>(
     parts: &mut Parts<'a>,
     declarations: &'a [Declaration<Expression>],
 ) -> Result<(), Memory>
-    ensures { OnOk result (parts.new ≡ parts.old ++ flat_map (spec.in_declaration code.in_expression) declarations.now) }
+    ensures { OnOk result (parts.new ≡ parts.old
+        ++ flat_map (spec.in_declaration code.in_expression) declarations.now) }
 {
     for declaration in declarations {
         add_declaration(parts, declaration)?;
@@ -280,7 +288,7 @@ fn add_target<'a>(parts: &mut Parts<'a>, target: &'a ForTarget<Expression>) -> R
 
 /// Adds the parts of a statement.
 #[cycle(text)]
-#[tactic(auto, using(crate::proofs::TextOrderLemmas::of_block, crate::proofs::TextOrderLemmas::of_variables, crate::proofs::TextOrderLemmas::of_empty, crate::proofs::TextOrderLemmas::of_value, crate::proofs::TextOrderLemmas::of_if, crate::proofs::TextOrderLemmas::of_do, crate::proofs::TextOrderLemmas::of_while, crate::proofs::TextOrderLemmas::of_for, crate::proofs::TextOrderLemmas::of_for_in, crate::proofs::TextOrderLemmas::of_continue, crate::proofs::TextOrderLemmas::of_break, crate::proofs::TextOrderLemmas::of_return, crate::proofs::TextOrderLemmas::of_labelled, crate::proofs::TextOrderLemmas::of_switch, crate::proofs::TextOrderLemmas::of_throw, crate::proofs::TextOrderLemmas::of_try, crate::proofs::TextOrderLemmas::of_declared))]
+#[tactic(auto, using(crate::proofs::Rulesets::for_add_statement))]
 fn add_statement<'a>(parts: &mut Parts<'a>, statement: &'a Statement) -> Result<(), Memory>
     ensures { OnOk result (parts.new ≡ parts.old ++ spec.in_statement statement.now) }
 {
@@ -377,7 +385,8 @@ fn add_otherwise<'a>(
 
 #[cycle(text)]
 fn add_catch<'a>(parts: &mut Parts<'a>, catch: &'a Option<CatchOf<Statement>>) -> Result<(), Memory>
-    ensures { OnOk result (parts.new ≡ parts.old ++ spec.if_any (spec.in_catch spec.in_statement) catch.now) }
+    ensures { OnOk result (parts.new ≡ parts.old
+        ++ spec.if_any (spec.in_catch spec.in_statement) catch.now) }
 {
     match catch {
         None => Ok(()),
@@ -393,7 +402,8 @@ fn add_finally<'a>(
     parts: &mut Parts<'a>,
     finally: &'a Option<Items<Statement>>,
 ) -> Result<(), Memory>
-    ensures { OnOk result (parts.new ≡ parts.old ++ spec.if_any (flat_map spec.in_statement) finally.now) }
+    ensures { OnOk result (parts.new ≡ parts.old
+        ++ spec.if_any (flat_map spec.in_statement) finally.now) }
 {
     match finally {
         None => Ok(()),
@@ -444,8 +454,9 @@ pub fn functions_in<'a>(
     parts.functions(alloc)
 }
 
-/// The names of a text, in its order, each as often as it stands there: identifiers but labels, strings, and the names
-/// of properties; with each whether it is a variable there. `Err` comes where memory is refused, and only then.
+/// The names of a text, in its order, each as often as it stands there: identifiers but labels,
+/// strings, and the names of properties; with each whether it is a variable there. `Err` comes
+/// where memory is refused, and only then.
 #[tactic(auto, unfolding(crate::specs::TextOrder::names_in))]
 pub fn names_in<'a>(alloc: Global, statements: &'a [Statement]) -> Result<Vec<Named<'a>>, Memory>
     ensures { IfOk result (λ names. map named_of names.items ≡ spec.names_in statements.now) }

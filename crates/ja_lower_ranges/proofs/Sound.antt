@@ -38,8 +38,8 @@ pub record IsSoundValued (limits : Limits) (v : Valued) : Type 0 where
   pub listing : IsSound limits v.listing
   pub value : IsTemporary limits v.value.0
 
--- what an expression comes to: the register of a value is a temporary, and the number of a name is that of one; a special form is
--- where names may be special forms
+-- what an expression comes to: the register of a value is a temporary, and the number of a name is
+-- that of one; a special form is where names may be special forms
 abbrev pub IsSoundOutcome : Limits → Outcome → Type 0
 IsSoundOutcome limits (outcome.Value v) = IsTemporary limits v.0
 IsSoundOutcome limits (outcome.Name base name place) = name.0 < limits.names
@@ -55,7 +55,8 @@ abbrev pub IsSoundForm : Parts → Form → Type 0
 IsSoundForm parts x =
     (parameters : ℕ) (scene : Scene) (l : Listing)
     → HasParts scene parts
-    → IsSound (limits_of parameters scene) l → IsSoundListed (limits_of parameters scene) (x scene l)
+    → IsSound (limits_of parameters scene) l
+    → IsSoundListed (limits_of parameters scene) (x scene l)
 
 -- a way that a jump leaves: the block of a `finally` is in range, and its temporaries begin at one
 abbrev pub IsSoundWay : Limits → Way → Type 0
@@ -63,7 +64,8 @@ IsSoundWay limits (of_loop labels end turn) = Unit {0}
 IsSoundWay limits (of_switch end) = Unit {0}
 IsSoundWay limits (of_label label end) = Unit {0}
 IsSoundWay limits (of_catch saved) = Unit {0}
-IsSoundWay limits (of_finally saved t) = IsSoundBlock limits t.block × IsTemporary limits t.temporary
+IsSoundWay limits (of_finally saved t) =
+    IsSoundBlock limits t.block × IsTemporary limits t.temporary
 
 -- a statement
 abbrev pub IsSoundDoes : Parts → Does → Type 0
@@ -72,4 +74,5 @@ IsSoundDoes parts d =
     → HasParts around.scene parts
     → AllByRecursion (IsSoundWay (limits_of parameters around.scene)) around.ways
     → IsTemporary (limits_of parameters around.scene) base
-    → IsSound (limits_of parameters around.scene) l → IsSound (limits_of parameters around.scene) (d around base l)
+    → IsSound (limits_of parameters around.scene) l
+    → IsSound (limits_of parameters around.scene) (d around base l)

@@ -66,13 +66,32 @@ order n i = either (n == i) (nat_le n i) refl refl
     either false false e f = lower (omega (arith, leb-false n i f))
 
 -- the first free number is taken
-pub taken : (whole first next i : ℕ) → whole ≡ first → next ≡ first + 1 → same first i + free next i ≡ free whole i
+pub taken : (whole first next i : ℕ) → whole ≡ first → next ≡ first + 1
+    → same first i + free next i ≡ free whole i
 taken whole first next i here on = by_order (order first i)
   where
     by_order : Order first i → same first i + free next i ≡ free whole i
-    by_order (lower low) = omega (arith, same_not first i (λ e. omega (arith, low, e)), free_below next i (omega (arith, low, on)), free_below whole i (omega (arith, low, here)))
-    by_order (equal e) = omega (arith, same_is first i e, free_below next i (omega (arith, e, on)), free_from whole i (omega (arith, e, here)))
-    by_order (higher high) = omega (arith, same_not first i (λ e. omega (arith, high, e)), free_from next i (omega (arith, high, on)), free_from whole i (omega (arith, high, here)))
+    by_order (lower low) =
+        omega (
+          arith,
+          same_not first i (λ e. omega (arith, low, e)),
+          free_below next i (omega (arith, low, on)),
+          free_below whole i (omega (arith, low, here)),
+        )
+    by_order (equal e) =
+        omega (
+          arith,
+          same_is first i e,
+          free_below next i (omega (arith, e, on)),
+          free_from whole i (omega (arith, e, here)),
+        )
+    by_order (higher high) =
+        omega (
+          arith,
+          same_not first i (λ e. omega (arith, high, e)),
+          free_from next i (omega (arith, high, on)),
+          free_from whole i (omega (arith, high, here)),
+        )
 
 -- ---- lists of spots
 
@@ -100,7 +119,8 @@ pub below_later : (n m : ℕ) (ks : List Spot) → n ≤ m → AreBelow n ks →
 below_later n m [] more low = tt
 below_later n m (k ∷ ks) more low = (omega (arith, more, low.0), below_later n m ks more low.1)
 
-pub below_append : (n : ℕ) (ps ks : List Spot) → AreBelow n ps → AreBelow n ks → AreBelow n (ps ++ ks)
+pub below_append : (n : ℕ) (ps ks : List Spot) → AreBelow n ps → AreBelow n ks
+    → AreBelow n (ps ++ ks)
 below_append n [] ks first second = second
 below_append n (p ∷ ps) ks first second = (first.0, below_append n ps ks first.1 second)
 
@@ -110,31 +130,41 @@ among_more (p ∷ ps) ks s there = inr (among_more ps ks s there)
 
 -- ---- what holds of spots and of edges
 
-pub spot_map : {P Q : Spot → Type 0} → ((s : Spot) → P s → Q s) → (o : Option Spot) → OfSpot P o → OfSpot Q o
+pub spot_map : {P Q : Spot → Type 0} → ((s : Spot) → P s → Q s) → (o : Option Spot) → OfSpot P o
+    → OfSpot Q o
 spot_map f None h = tt
 spot_map f (Some s) h = f s h
 
-target_map : {P Q : Spot → Type 0} → ((s : Spot) → P s → Q s) → (t : Target) → OfTarget P t → OfTarget Q t
+target_map : {P Q : Spot → Type 0} → ((s : Spot) → P s → Q s) → (t : Target) → OfTarget P t
+    → OfTarget Q t
 target_map f (target.Node n) h = tt
 target_map f (target.Spot s) h = f s h
 target_map f target.Behind h = tt
 target_map f target.Out h = tt
 
-pub nodes_map : {P Q : Spot → Type 0} → ((s : Spot) → P s → Q s) → (ns : List BlockNode) → AllByRecursion (OfTargets P) ns → AllByRecursion (OfTargets Q) ns
+pub nodes_map : {P Q : Spot → Type 0} → ((s : Spot) → P s → Q s) → (ns : List BlockNode)
+    → AllByRecursion (OfTargets P) ns → AllByRecursion (OfTargets Q) ns
 nodes_map f [] h = tt
-nodes_map f (n ∷ ns) h = ((target_map f n.next h.0.0, target_map f n.other h.0.1, target_map f n.handler h.0.2), nodes_map f ns h.1)
+nodes_map f (n ∷ ns) h = (
+  (target_map f n.next h.0.0, target_map f n.other h.0.1, target_map f n.handler h.0.2),
+  nodes_map f ns h.1,
+)
 
-pub block_map : {P Q : Spot → Type 0} → ((s : Spot) → P s → Q s) → (block : Block) → OfBlock P block → OfBlock Q block
+pub block_map : {P Q : Spot → Type 0} → ((s : Spot) → P s → Q s) → (block : Block) → OfBlock P block
+    → OfBlock Q block
 block_map f block h = (target_map f block.entry h.0, nodes_map f block.nodes h.1)
 
-pub edges_map : {P Q : Spot → Type 0} → ((s : Spot) → P s → Q s) → (items : List Item) → AllByRecursion (OfEdges P) items → AllByRecursion (OfEdges Q) items
+pub edges_map : {P Q : Spot → Type 0} → ((s : Spot) → P s → Q s) → (items : List Item)
+    → AllByRecursion (OfEdges P) items → AllByRecursion (OfEdges Q) items
 edges_map f [] h = tt
-edges_map f (item.Node node other handler place ∷ items) h = ((spot_map f other h.0.0, spot_map f handler h.0.1), edges_map f items h.1)
+edges_map f (item.Node node other handler place ∷ items) h =
+    ((spot_map f other h.0.0, spot_map f handler h.0.1), edges_map f items h.1)
 edges_map f (item.Spot s ∷ items) h = (tt, edges_map f items h.1)
 edges_map f (item.Jump s ∷ items) h = (f s h.0, edges_map f items h.1)
 edges_map f (item.Copy block ∷ items) h = (block_map f block h.0, edges_map f items h.1)
 
-pub edges_append : (P : Spot → Type 0) (xs ys : List Item) → AllByRecursion (OfEdges P) xs → AllByRecursion (OfEdges P) ys → AllByRecursion (OfEdges P) (xs ++ ys)
+pub edges_append : (P : Spot → Type 0) (xs ys : List Item) → AllByRecursion (OfEdges P) xs
+    → AllByRecursion (OfEdges P) ys → AllByRecursion (OfEdges P) (xs ++ ys)
 edges_append P [] ys first second = second
 edges_append P (x ∷ xs) ys first second = (first.0, edges_append P xs ys first.1 second)
 

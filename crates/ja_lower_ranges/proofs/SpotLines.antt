@@ -1,4 +1,5 @@
--- What a listing keeps of its spots while lines are added: each that is taken stands once or is pending, and lines lead to taken ones.
+-- What a listing keeps of its spots while lines are added: each that is taken stands once or is
+-- pending, and lines lead to taken ones.
 use Rattle.std.proofs.Common.{◌≡◌, ◌<◌, ◌≤◌, ◌+◌, ℕ, List, [], ◌∷◌, ◌++◌, Option, Some, None, arith}
 use Rattle.std.specs.List.{AllByRecursion}
 use Rattle.ja_base.specs.declared.ids.Place.{Place}
@@ -11,22 +12,26 @@ use Rattle.ja_lower_draft.specs.Lines.{Listing, Scene}
 use Rattle.ja_lower_ranges.specs.Spots.{times, OfSpot, OfBlock, OfEdges}
 use Rattle.ja_lower_ranges.proofs.SpotCounts.{free, taken, pending_times, Among, IsBelow, AreBelow, among_below, below_later, below_append, spot_map, edges_map, edges_append, times_append}
 
--- From a listing `o` on lines were added, up to `items` with the next spot `n`. Of the spots that were taken some are pending: they don't
--- stand yet. Lines lead to taken spots.
-pub record Kept (scene : Scene) (ks ps : List Spot) (o : Listing) (items : List Item) (n : ℕ) : Type 0 where
+-- From a listing `o` on lines were added, up to `items` with the next spot `n`. Of the spots that
+-- were taken some are pending: they don't stand yet. Lines lead to taken spots.
+pub record Kept (scene : Scene) (ks ps : List Spot) (o : Listing) (items : List Item) (n : ℕ) : Type
+    0 where
   pub handler : OfSpot (IsBelow o.spot) scene.handler
   pub known : AreBelow o.spot ks
   pub pending : AreBelow n ps
   pub low : o.spot ≤ n
-  pub stand : (i : ℕ) → times i items + free n i + pending_times ps i ≡ times i o.items + free o.spot i
-  pub led : AllByRecursion (OfEdges (IsBelow o.spot)) o.items → AllByRecursion (OfEdges (IsBelow n)) items
+  pub stand : (i : ℕ) → times i items + free n i + pending_times ps i ≡ times i o.items
+      + free o.spot i
+  pub led : AllByRecursion (OfEdges (IsBelow o.spot)) o.items
+      → AllByRecursion (OfEdges (IsBelow n)) items
 
 abbrev pub KeptAt : Scene → List Spot → List Spot → Listing → Listing → Type 0
 KeptAt scene ks ps o l = Kept scene ks ps o l.items l.spot
 
 -- ---- nothing is added yet
 
-pub begun : (scene : Scene) (ks : List Spot) (o : Listing) → OfSpot (IsBelow o.spot) scene.handler → AreBelow o.spot ks → Kept scene ks [] o o.items o.spot
+pub begun : (scene : Scene) (ks : List Spot) (o : Listing) → OfSpot (IsBelow o.spot) scene.handler
+    → AreBelow o.spot ks → Kept scene ks [] o o.items o.spot
 begun scene ks o handler known = record {
   handler = handler;
   known = known;
@@ -38,14 +43,22 @@ begun scene ks o handler known = record {
 
 -- ---- a line
 
-pub below_now : {scene : Scene} {ks ps : List Spot} {o : Listing} {items : List Item} {n : ℕ} (s : Spot) → Kept scene ks ps o items n → Among (ps ++ ks) s → s.0 < n
-below_now {ks = ks} {ps = ps} {o = o} {n = n} s k there = among_below n (ps ++ ks) s (below_append n ps ks k.pending (below_later o.spot n ks k.low k.known)) there
+pub below_now : {scene : Scene} {ks ps : List Spot} {o : Listing} {items : List Item} {n : ℕ}
+    (s : Spot) → Kept scene ks ps o items n → Among (ps ++ ks) s → s.0 < n
+below_now {ks = ks} {ps = ps} {o = o} {n = n} s k there =
+    among_below n (ps ++ ks) s (below_append n ps ks k.pending
+    (below_later o.spot n ks k.low k.known)) there
 
-pub handler_now : {scene : Scene} {ks ps : List Spot} {o : Listing} {items : List Item} {n : ℕ} → Kept scene ks ps o items n → OfSpot (IsBelow n) scene.handler
-handler_now {scene = scene} k = spot_map (λ s low. omega (arith, low, k.low)) scene.handler k.handler
+pub handler_now : {scene : Scene} {ks ps : List Spot} {o : Listing} {items : List Item} {n : ℕ}
+    → Kept scene ks ps o items n → OfSpot (IsBelow n) scene.handler
+handler_now {scene = scene} k =
+    spot_map (λ s low. omega (arith, low, k.low)) scene.handler k.handler
 
 -- a node, whose edges lead to taken spots
-pub one_with : {scene : Scene} {ks ps : List Spot} {o : Listing} {items : List Item} {n : ℕ} (node : Node) (place : Place) (other handler : Option Spot) → OfSpot (IsBelow n) other → OfSpot (IsBelow n) handler → Kept scene ks ps o items n → Kept scene ks ps o (items ++ item.Node node other handler place ∷ []) n
+pub one_with : {scene : Scene} {ks ps : List Spot} {o : Listing} {items : List Item} {n : ℕ}
+    (node : Node) (place : Place) (other handler : Option Spot) → OfSpot (IsBelow n) other
+    → OfSpot (IsBelow n) handler → Kept scene ks ps o items n
+    → Kept scene ks ps o (items ++ item.Node node other handler place ∷ []) n
 unfolding times
 one_with {scene} {ks} {ps} {o} {items} {n} node place other handler first second k =
     let line = item.Node node other handler place in
@@ -58,15 +71,23 @@ one_with {scene} {ks} {ps} {o} {items} {n} node place other handler first second
       led = λ h. edges_append (IsBelow n) items (line ∷ []) (k.led h) ((first, second), tt);
     }
 
-pub one : {scene : Scene} {ks ps : List Spot} {o : Listing} {items : List Item} {n : ℕ} (node : Node) (place : Place) → Kept scene ks ps o items n → Kept scene ks ps o (items ++ item.Node node None scene.handler place ∷ []) n
+pub one : {scene : Scene} {ks ps : List Spot} {o : Listing} {items : List Item} {n : ℕ}
+    (node : Node) (place : Place) → Kept scene ks ps o items n
+    → Kept scene ks ps o (items ++ item.Node node None scene.handler place ∷ []) n
 one {scene = scene} node place k = one_with node place None scene.handler tt (handler_now k) k
 
 -- a node that leads to a spot
-pub branch : {scene : Scene} {ks ps : List Spot} {o : Listing} {items : List Item} {n : ℕ} (node : Node) (place : Place) (other : Spot) → Among (ps ++ ks) other → Kept scene ks ps o items n → Kept scene ks ps o (items ++ item.Node node (Some other) scene.handler place ∷ []) n
-branch {scene = scene} node place other there k = one_with node place (Some other) scene.handler (below_now other k there) (handler_now k) k
+pub branch : {scene : Scene} {ks ps : List Spot} {o : Listing} {items : List Item} {n : ℕ}
+    (node : Node) (place : Place) (other : Spot) → Among (ps ++ ks) other
+    → Kept scene ks ps o items n → Kept scene ks ps o
+    (items ++ item.Node node (Some other) scene.handler place ∷ []) n
+branch {scene = scene} node place other there k =
+    one_with node place (Some other) scene.handler (below_now other k there) (handler_now k) k
 
 -- a jump to a pending spot or to one that is known
-pub jump : {scene : Scene} {ks ps : List Spot} {o : Listing} {items : List Item} {n : ℕ} (s : Spot) → Among (ps ++ ks) s → Kept scene ks ps o items n → Kept scene ks ps o (items ++ item.Jump s ∷ []) n
+pub jump : {scene : Scene} {ks ps : List Spot} {o : Listing} {items : List Item} {n : ℕ} (s : Spot)
+    → Among (ps ++ ks) s → Kept scene ks ps o items n
+    → Kept scene ks ps o (items ++ item.Jump s ∷ []) n
 unfolding times
 jump {scene} {ks} {ps} {o} {items} {n} s there k =
     record {
@@ -75,11 +96,15 @@ jump {scene} {ks} {ps} {o} {items} {n} s there k =
       pending = k.pending;
       low = k.low;
       stand = λ i. omega (arith, k.stand i, times_append i items (item.Jump s ∷ []));
-      led = λ h. edges_append (IsBelow n) items (item.Jump s ∷ []) (k.led h) (below_now s k there, tt);
+      led =
+          λ h. edges_append (IsBelow n) items (item.Jump s ∷ []) (k.led h)
+          (below_now s k there, tt);
     }
 
 -- a jump back, to a spot taken before a pending one
-pub jump_back : {scene : Scene} {ks ps : List Spot} {p : Spot} {o : Listing} {items : List Item} {n : ℕ} (s : Spot) → s.0 ≤ p.0 → Kept scene ks (p ∷ ps) o items n → Kept scene ks (p ∷ ps) o (items ++ item.Jump s ∷ []) n
+pub jump_back : {scene : Scene} {ks ps : List Spot} {p : Spot} {o : Listing} {items : List Item}
+    {n : ℕ} (s : Spot) → s.0 ≤ p.0 → Kept scene ks (p ∷ ps) o items n
+    → Kept scene ks (p ∷ ps) o (items ++ item.Jump s ∷ []) n
 unfolding times
 jump_back {scene} {ks} {ps} {p} {o} {items} {n} s before k =
     record {
@@ -88,11 +113,14 @@ jump_back {scene} {ks} {ps} {p} {o} {items} {n} s before k =
       pending = k.pending;
       low = k.low;
       stand = λ i. omega (arith, k.stand i, times_append i items (item.Jump s ∷ []));
-      led = λ h. edges_append (IsBelow n) items (item.Jump s ∷ []) (k.led h) (omega (arith, before, k.pending.0), tt);
+      led =
+          λ h. edges_append (IsBelow n) items (item.Jump s ∷ []) (k.led h)
+          (omega (arith, before, k.pending.0), tt);
     }
 
 -- a pending spot
-pub stands : {scene : Scene} {ks ps : List Spot} {o : Listing} {items : List Item} {n : ℕ} (p : Spot) → Kept scene ks (p ∷ ps) o items n → Kept scene ks ps o (items ++ item.Spot p ∷ []) n
+pub stands : {scene : Scene} {ks ps : List Spot} {o : Listing} {items : List Item} {n : ℕ}
+    (p : Spot) → Kept scene ks (p ∷ ps) o items n → Kept scene ks ps o (items ++ item.Spot p ∷ []) n
 unfolding times
 stands {scene} {ks} {ps} {o} {items} {n} p k =
     record {
@@ -105,7 +133,9 @@ stands {scene} {ks} {ps} {o} {items} {n} p k =
     }
 
 -- a copy of a block that leads to taken spots
-pub copy : {scene : Scene} {ks ps : List Spot} {o : Listing} {items : List Item} {n : ℕ} (block : Block) → OfBlock (IsBelow n) block → Kept scene ks ps o items n → Kept scene ks ps o (items ++ item.Copy block ∷ []) n
+pub copy : {scene : Scene} {ks ps : List Spot} {o : Listing} {items : List Item} {n : ℕ}
+    (block : Block) → OfBlock (IsBelow n) block → Kept scene ks ps o items n
+    → Kept scene ks ps o (items ++ item.Copy block ∷ []) n
 unfolding times
 copy {scene} {ks} {ps} {o} {items} {n} block h k = record {
   handler = k.handler;
@@ -119,7 +149,10 @@ copy {scene} {ks} {ps} {o} {items} {n} block h k = record {
 -- ---- spots are taken
 
 -- so that others are pending
-pub take : {scene : Scene} {ks ps : List Spot} {o : Listing} {items : List Item} {n : ℕ} (qs : List Spot) (m : ℕ) → n ≤ m → AreBelow m qs → ((i : ℕ) → pending_times qs i + free m i ≡ free n i + pending_times ps i) → Kept scene ks ps o items n → Kept scene ks qs o items m
+pub take : {scene : Scene} {ks ps : List Spot} {o : Listing} {items : List Item} {n : ℕ}
+    (qs : List Spot) (m : ℕ) → n ≤ m → AreBelow m qs
+    → ((i : ℕ) → pending_times qs i + free m i ≡ free n i + pending_times ps i)
+    → Kept scene ks ps o items n → Kept scene ks qs o items m
 take {items = items} {n = n} qs m more below counted k = record {
   handler = k.handler;
   known = k.known;
@@ -132,28 +165,69 @@ take {items = items} {n = n} qs m more below counted k = record {
 abbrev pub nth : ℕ → ℕ → Spot
 nth n i = record { 0 = n + i }
 
-pub take_1 : {scene : Scene} {ks ps : List Spot} {o : Listing} {items : List Item} {n : ℕ} → Kept scene ks ps o items n → Kept scene ks (nth n 0 ∷ ps) o items (n + 1)
+pub take_1 : {scene : Scene} {ks ps : List Spot} {o : Listing} {items : List Item} {n : ℕ}
+    → Kept scene ks ps o items n → Kept scene ks (nth n 0 ∷ ps) o items (n + 1)
 take_1 {ps = ps} {n = n} k =
-    take (nth n 0 ∷ ps) (n + 1) (omega arith) (omega arith, below_later n (n + 1) ps (omega arith) k.pending)
+    take (nth n 0 ∷ ps) (n + 1) (omega arith)
+    (omega arith, below_later n (n + 1) ps (omega arith) k.pending)
     (λ i. omega (arith, taken n (n + 0) (n + 1) i (omega arith) (omega arith))) k
 
-pub take_2 : {scene : Scene} {ks ps : List Spot} {o : Listing} {items : List Item} {n : ℕ} → Kept scene ks ps o items n → Kept scene ks (nth n 0 ∷ nth n 1 ∷ ps) o items (n + 2)
+pub take_2 : {scene : Scene} {ks ps : List Spot} {o : Listing} {items : List Item} {n : ℕ}
+    → Kept scene ks ps o items n → Kept scene ks (nth n 0 ∷ nth n 1 ∷ ps) o items (n + 2)
 take_2 {ps = ps} {n = n} k =
-    take (nth n 0 ∷ nth n 1 ∷ ps) (n + 2) (omega arith) (omega arith, (omega arith, below_later n (n + 2) ps (omega arith) k.pending))
-    (λ i. omega (arith, taken n (n + 0) (n + 1) i (omega arith) (omega arith), taken (n + 1) (n + 1) (n + 2) i (omega arith) (omega arith))) k
+    take (nth n 0 ∷ nth n 1 ∷ ps) (n + 2) (omega arith)
+    (omega arith, (omega arith, below_later n (n + 2) ps (omega arith) k.pending))
+    (λ i. omega (
+      arith,
+      taken n (n + 0) (n + 1) i (omega arith) (omega arith),
+      taken (n + 1) (n + 1) (n + 2) i (omega arith) (omega arith),
+    )) k
 
-pub take_3 : {scene : Scene} {ks ps : List Spot} {o : Listing} {items : List Item} {n : ℕ} → Kept scene ks ps o items n → Kept scene ks (nth n 0 ∷ nth n 1 ∷ nth n 2 ∷ ps) o items (n + 3)
+pub take_3 : {scene : Scene} {ks ps : List Spot} {o : Listing} {items : List Item} {n : ℕ}
+    → Kept scene ks ps o items n → Kept scene ks (nth n 0 ∷ nth n 1 ∷ nth n 2 ∷ ps) o items (n + 3)
 take_3 {ps = ps} {n = n} k =
-    take (nth n 0 ∷ nth n 1 ∷ nth n 2 ∷ ps) (n + 3) (omega arith) (omega arith, (omega arith, (omega arith, below_later n (n + 3) ps (omega arith) k.pending)))
-    (λ i. omega (arith, taken n (n + 0) (n + 1) i (omega arith) (omega arith), taken (n + 1) (n + 1) (n + 2) i (omega arith) (omega arith), taken (n + 2) (n + 2) (n + 3) i (omega arith) (omega arith))) k
+    take (nth n 0 ∷ nth n 1 ∷ nth n 2 ∷ ps) (n + 3) (omega arith) (
+      omega arith,
+      (
+        omega arith,
+        (
+          omega arith,
+          below_later n (n + 3) ps (omega arith) k.pending,
+        ),
+      ),
+    )
+    (λ i. omega (
+      arith,
+      taken n (n + 0) (n + 1) i (omega arith) (omega arith),
+      taken (n + 1) (n + 1) (n + 2) i (omega arith) (omega arith),
+      taken (n + 2) (n + 2) (n + 3) i (omega arith) (omega arith),
+    )) k
 
-pub take_4 : {scene : Scene} {ks ps : List Spot} {o : Listing} {items : List Item} {n : ℕ} → Kept scene ks ps o items n → Kept scene ks (nth n 0 ∷ nth n 1 ∷ nth n 2 ∷ nth n 3 ∷ ps) o items (n + 4)
+pub take_4 : {scene : Scene} {ks ps : List Spot} {o : Listing} {items : List Item} {n : ℕ}
+    → Kept scene ks ps o items n → Kept scene ks (nth n 0 ∷ nth n 1 ∷ nth n 2 ∷ nth n 3 ∷ ps) o
+    items (n + 4)
 take_4 {ps = ps} {n = n} k =
-    take (nth n 0 ∷ nth n 1 ∷ nth n 2 ∷ nth n 3 ∷ ps) (n + 4) (omega arith) (omega arith, (omega arith, (omega arith, (omega arith, below_later n (n + 4) ps (omega arith) k.pending))))
-    (λ i. omega (arith, taken n (n + 0) (n + 1) i (omega arith) (omega arith), taken (n + 1) (n + 1) (n + 2) i (omega arith) (omega arith), taken (n + 2) (n + 2) (n + 3) i (omega arith) (omega arith), taken (n + 3) (n + 3) (n + 4) i (omega arith) (omega arith))) k
+    take (nth n 0 ∷ nth n 1 ∷ nth n 2 ∷ nth n 3 ∷ ps) (n + 4) (omega arith) (
+      omega arith,
+      (
+        omega arith,
+        (
+          omega arith,
+          (omega arith, below_later n (n + 4) ps (omega arith) k.pending),
+        ),
+      ),
+    )
+    (λ i. omega (
+      arith,
+      taken n (n + 0) (n + 1) i (omega arith) (omega arith),
+      taken (n + 1) (n + 1) (n + 2) i (omega arith) (omega arith),
+      taken (n + 2) (n + 2) (n + 3) i (omega arith) (omega arith),
+      taken (n + 3) (n + 3) (n + 4) i (omega arith) (omega arith),
+    )) k
 
 -- the order of pending spots is free
-pub swap : {scene : Scene} {ks ps : List Spot} {p q : Spot} {o : Listing} {items : List Item} {n : ℕ} → Kept scene ks (p ∷ q ∷ ps) o items n → Kept scene ks (q ∷ p ∷ ps) o items n
+pub swap : {scene : Scene} {ks ps : List Spot} {p q : Spot} {o : Listing} {items : List Item}
+    {n : ℕ} → Kept scene ks (p ∷ q ∷ ps) o items n → Kept scene ks (q ∷ p ∷ ps) o items n
 swap {ks = ks} {ps = ps} {p = p} {q = q} {items = items} k = record {
   handler = k.handler;
   known = k.known;
@@ -165,7 +239,9 @@ swap {ks = ks} {ps = ps} {p = p} {q = q} {items = items} k = record {
 
 -- ---- lines that were begun anew
 
-pub on_from : {scene : Scene} {ks ps : List Spot} {o : Listing} {inner : Scene} {l : Listing} {items : List Item} {n : ℕ} → Kept scene ks ps o l.items l.spot → Kept inner (ps ++ ks) [] l items n → Kept scene ks ps o items n
+pub on_from : {scene : Scene} {ks ps : List Spot} {o : Listing} {inner : Scene} {l : Listing}
+    {items : List Item} {n : ℕ} → Kept scene ks ps o l.items l.spot
+    → Kept inner (ps ++ ks) [] l items n → Kept scene ks ps o items n
 on_from {ps = ps} {l = l} {n = n} k r = record {
   handler = k.handler;
   known = k.known;
@@ -176,7 +252,9 @@ on_from {ps = ps} {l = l} {n = n} k r = record {
 }
 
 -- other spots may be known inside
-pub on_from_inside : {scene : Scene} {ks ps : List Spot} {o : Listing} {inner : Scene} {l : Listing} {items : List Item} {n : ℕ} (xs : List Spot) → Kept scene ks ps o l.items l.spot → Kept inner (xs ++ (ps ++ ks)) [] l items n → Kept scene ks ps o items n
+pub on_from_inside : {scene : Scene} {ks ps : List Spot} {o : Listing} {inner : Scene} {l : Listing}
+    {items : List Item} {n : ℕ} (xs : List Spot) → Kept scene ks ps o l.items l.spot
+    → Kept inner (xs ++ (ps ++ ks)) [] l items n → Kept scene ks ps o items n
 on_from_inside {ps = ps} {l = l} {n = n} xs k r = record {
   handler = k.handler;
   known = k.known;

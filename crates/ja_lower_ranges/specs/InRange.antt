@@ -1,4 +1,5 @@
--- The numbers in what is listed of a function are in range: registers that are set, names, functions and sites.
+-- The numbers in what is listed of a function are in range: registers that are set, names,
+-- functions and sites.
 use Rattle.std.specs.Prelude.{◌≡◌, ◌<◌, ◌≤◌, ◌⊎◌, ◌+◌, ℕ, Bool, false, List, length, map}
 use Rattle.std.specs.List.{AllByRecursion, range_with_len}
 use Rattle.std.specs.Option.{option_to_list}
@@ -16,15 +17,16 @@ use Rattle.ja_lower_listing.specs.declared.item.Item.{Item}
 use Rattle.ja_lower_listing.specs.declared.item.Item.TheVariants as item
 use Rattle.ja_lower_draft.specs.Lines.{Scene}
 
--- how many parameters a function has, and how many names its program and how many functions its text; and whether names may be
--- special forms, as in the texts of built-in functions
+-- how many parameters a function has, and how many names its program and how many functions its
+-- text; and whether names may be special forms, as in the texts of built-in functions
 pub record Limits : Type 0 where
   pub parameters : ℕ
   pub names : ℕ
   pub functions : ℕ
   pub specials : Bool
 
--- a temporary: it stands behind the registers that each function has, its parameters and the rest of its arguments
+-- a temporary: it stands behind the registers that each function has, its parameters and the rest
+-- of its arguments
 abbrev pub IsTemporary : Limits → ℕ → Type 0
 IsTemporary limits r = FIXED_REGISTERS + limits.parameters ≤ r
 
@@ -45,15 +47,18 @@ IsOfTextsWithoutFunctions (MakeFunction dst function site proto_site) = ⊥
 IsOfTextsWithoutFunctions (Enter site arguments) = ⊥
 IsOfTextsWithoutFunctions node = Unit {0}
 
--- The numbers of a node are in range. The program is function 0, and those of its text follow. The sites of a node are numbered from 0
--- on, in the order of its fields. The texts of built-in functions have more kinds of nodes, and those without functions have fewer.
+-- The numbers of a node are in range. The program is function 0, and those of its text follow. The
+-- sites of a node are numbered from 0 on, in the order of its fields. The texts of built-in
+-- functions have more kinds of nodes, and those without functions have fewer.
 pub record IsInRange (limits : Limits) (node : Node) : Type 0 where
   pub sets : AllByRecursion (IsDestination limits) (option_to_list (register_set node))
   pub name : AllByRecursion (λ (n : NameId). n.0 < limits.names) (option_to_list (name_in node))
-  pub function : AllByRecursion (λ (f : FnId). f.0 ≤ limits.functions) (option_to_list (function_in node))
+  pub function : AllByRecursion (λ (f : FnId). f.0 ≤ limits.functions)
+      (option_to_list (function_in node))
   pub of_texts : limits.specials ≡ false → IsOfTexts node
   pub without_functions : limits.functions ≡ 0 → IsOfTextsWithoutFunctions node
-  pub sites : map (λ (m : Making). m.site.0) (makings node) ≡ range_with_len 0 (length (makings node))
+  pub sites : map (λ (m : Making). m.site.0) (makings node)
+      ≡ range_with_len 0 (length (makings node))
 
 -- what holds of each node of a block, and of a line
 abbrev pub OfNodes : (Node → Type 0) → Block → Type 0

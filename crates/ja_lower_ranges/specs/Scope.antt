@@ -1,4 +1,5 @@
--- What register `scope` has behind straight lines of a listing, and what is asked of the ways out of a `catch` (ES3 12.14).
+-- What register `scope` has behind straight lines of a listing, and what is asked of the ways out
+-- of a `catch` (ES3 12.14).
 use Rattle.std.specs.Prelude.{◌≡◌, ◌<◌, ◌==◌, ℕ, Bool, true, false, if◌then◌else◌, List, [], ◌∷◌, ◌++◌, Option, Some, None}
 use Rattle.std.specs.List.{AllByRecursion, fold, list_any}
 use Rattle.ja_base.specs.declared.ids.Place.{Place}
@@ -16,8 +17,8 @@ use Rattle.ja_lower_statements.specs.Ways.{Way, of_catch, of_finally}
 
 -- ---- the scope chain in force
 
--- what register `scope` has: what it had before the lines, what a register has kept, a new object before a scope chain, or
--- anything
+-- what register `scope` has: what it had before the lines, what a register has kept, a new object
+-- before a scope chain, or anything
 pub data Chain : Type 0 where
   as_before : Chain
   kept_in : Reg → Chain
@@ -71,7 +72,8 @@ kept_by (of_catch saved) = Some saved
 kept_by (of_finally saved block) = Some saved
 kept_by way = None
 
--- Of the ways that are left, one kept the scope chain at its `try`, and no `catch` is left outside of it: what it kept is in force.
+-- Of the ways that are left, one kept the scope chain at its `try`, and no `catch` is left outside
+-- of it: what it kept is in force.
 pub record IsThatOutside (ways : List Way) (chain : Chain) : Type 0 where
   pub inner : List Way
   pub way : Way
@@ -88,34 +90,43 @@ pub record Arrives (spot : Spot) (IsInForce : Chain → Type 0) (new : Listing) 
   pub jumps : new ≡ with_jump spot before
   pub scope : IsInForce (scope_behind before.items)
 
--- the block of a `finally` is copied above a register, with a scope chain in force, and the listing goes on behind it
-pub record RunsBlock (block : Template) (above : Reg) (chain : Chain) (on : Listing → Listing) (new : Listing) : Type 0 where
+-- the block of a `finally` is copied above a register, with a scope chain in force, and the listing
+-- goes on behind it
+pub record RunsBlock (block : Template) (above : Reg) (chain : Chain) (on : Listing → Listing)
+    (new : Listing) : Type 0 where
   pub before : Listing
   pub scope : scope_behind before.items ≡ chain
   pub goes_on : new ≡ on (with_block block above before)
 
--- before the block of a `finally` behind ways that are left: what its `try` kept, if a `catch` is among them
+-- before the block of a `finally` behind ways that are left: what its `try` kept, if a `catch` is
+-- among them
 abbrev pub before_block : List Way → Reg → Chain → Chain
 before_block ways saved chain = if list_any is_catch ways then kept_in saved else chain
 
 -- ---- `try`
 
--- A `try` first moves `scope` to a register, and lists its block behind that, with temporaries above the register.
-pub record KeepsScope (scene : Scene) (place : Place) (saved : Reg) (base : ℕ) (l new : Listing) (block : Listing → Listing) : Type 0 where
+-- A `try` first moves `scope` to a register, and lists its block behind that, with temporaries
+-- above the register.
+pub record KeepsScope (scene : Scene) (place : Place) (saved : Reg) (base : ℕ) (l new : Listing)
+    (block : Listing → Listing) : Type 0 where
   pub before : Listing
   pub kept : before.items ≡ l.items ++ item.Node (Move saved scope) None scene.handler place ∷ []
   pub below : saved.0 < base
   pub listed : new ≡ block before
 
 -- where a handler begins, `scope` is set first to what a register has
-pub record SetsScope (scene : Scene) (place : Place) (handler : Spot) (saved : Reg) (items : List Item) : Type 0 where
+pub record SetsScope (scene : Scene) (place : Place) (handler : Spot) (saved : Reg)
+    (items : List Item) : Type 0 where
   pub front : List Item
   pub behind : List Item
-  pub split : items ≡ front ++ item.Spot handler ∷ item.Node (Move scope saved) None scene.handler place ∷ behind
+  pub split : items ≡ front ++ item.Spot handler
+      ∷ item.Node (Move scope saved) None scene.handler place ∷ behind
 
--- The body of a `catch` is listed with a new object before what its `try` kept, inside the way that sets the register again, which is
--- also set behind the body.
-pub record CatchesWith (scene : Scene) (place : Place) (saved : Reg) (end : Spot) (body : Way → Listing → Listing) (new : Listing) : Type 0 where
+-- The body of a `catch` is listed with a new object before what its `try` kept, inside the way that
+-- sets the register again, which is also set behind the body.
+pub record CatchesWith (scene : Scene) (place : Place) (saved : Reg) (end : Spot)
+    (body : Way → Listing → Listing) (new : Listing) : Type 0 where
   pub handler : Listing
   pub scope_of_handler : scope_behind handler.items ≡ new_object_before (kept_in saved)
-  pub listed : new ≡ with_spot end (with_move scene place scope saved (body (of_catch saved) handler))
+  pub listed : new ≡ with_spot end (with_move scene place scope saved
+      (body (of_catch saved) handler))

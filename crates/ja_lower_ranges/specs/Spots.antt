@@ -37,7 +37,8 @@ OfTargets P n = OfTarget P n.next × OfTarget P n.other × OfTarget P n.handler
 abbrev pub OfBlock : (Spot → Type 0) → Block → Type 0
 OfBlock P block = OfTarget P block.entry × AllByRecursion (OfTargets P) block.nodes
 
--- what holds of each spot to which a line leads, by an edge of its node, by its jump, or by its copy of a block
+-- what holds of each spot to which a line leads, by an edge of its node, by its jump, or by its
+-- copy of a block
 abbrev pub OfEdges : (Spot → Type 0) → Item → Type 0
 OfEdges P (item.Node node other handler place) = OfSpot P other × OfSpot P handler
 OfEdges P (item.Spot s) = Unit {0}

@@ -29,43 +29,52 @@ ghost use Rattle.ja_lower_ranges.specs.InRange.{AllInRange, limits_of};
 /// The numbers of the nodes of a program are in range, where its names and functions are found.
 #[tactic(auto, using(crate::proofs::FunctionRanges::program_in_range))]
 pub fn programs_are_in_range()
-    ensures { (scene : Scene) (statements : List Statement) → HasText scene statements → AllInRange (limits_of 0 scene) (program_listing scene statements) }
+    ensures { (scene : Scene) (statements : List Statement) → HasText scene statements
+        → AllInRange (limits_of 0 scene) (program_listing scene statements) }
 {}
 
 /// The numbers of the nodes of a function are in range, where its names and functions are found.
 #[tactic(auto, using(crate::proofs::FunctionRanges::function_in_range))]
 pub fn functions_are_in_range()
-    ensures { (scene : Scene) (f : FunctionOf Statement) → HasFunction scene f → AllInRange (limits_of (length f.parameters) scene) (function_listing scene f) }
+    ensures { (scene : Scene) (f : FunctionOf Statement) → HasFunction scene f
+        → AllInRange (limits_of (length f.parameters) scene) (function_listing scene f) }
 {}
 
-/// A scene that has the names and the functions of a text has each function of the text, with the names and the functions
-/// in it.
+/// A scene that has the names and the functions of a text has each function of the text, with the
+/// names and the functions in it.
 pub fn functions_have_their_parts()
-    ensures { (scene : Scene) (statements : List Statement) → HasText scene statements → AllByRecursion (HasFunction scene) (functions_in statements) }
+    ensures { (scene : Scene) (statements : List Statement) → HasText scene statements
+        → AllByRecursion (HasFunction scene) (functions_in statements) }
 {}
 
-/// The block of each copy in the listing of a program or of a function has the nodes to which its edges lead, where its names and
-/// functions are found.
-#[tactic(auto, using(crate::proofs::FunctionRanges::program_copies, crate::proofs::FunctionRanges::function_copies))]
+/// The block of each copy in the listing of a program or of a function has the nodes to which its
+/// edges lead, where its names and functions are found.
+#[tactic(auto, using(crate::proofs::Rulesets::for_copies_are_whole))]
 pub fn copies_are_whole()
-    ensures program { (scene : Scene) (statements : List Statement) → HasText scene statements → CopiesAreWhole (program_listing scene statements) }
-    ensures function { (scene : Scene) (f : FunctionOf Statement) → HasFunction scene f → CopiesAreWhole (function_listing scene f) }
+    ensures program { (scene : Scene) (statements : List Statement) → HasText scene statements
+        → CopiesAreWhole (program_listing scene statements) }
+    ensures function { (scene : Scene) (f : FunctionOf Statement) → HasFunction scene f
+        → CopiesAreWhole (function_listing scene f) }
 {}
 
 /// The listing of a program ends with Escape.
 #[tactic(auto, using(crate::proofs::FunctionRanges::program_ends))]
 pub fn programs_end_with_escape()
-    ensures { (scene : Scene) (statements : List Statement) → EndsWithEscape (program_listing scene statements) }
+    ensures { (scene : Scene) (statements : List Statement)
+        → EndsWithEscape (program_listing scene statements) }
 {}
 
 /// The listing of a function ends with Escape.
 #[tactic(auto, using(crate::proofs::FunctionRanges::function_ends))]
 pub fn functions_end_with_escape()
-    ensures { (scene : Scene) (f : FunctionOf Statement) → EndsWithEscape (function_listing scene f) }
+    ensures { (scene : Scene) (f : FunctionOf Statement)
+        → EndsWithEscape (function_listing scene f) }
 {}
 
 /// A run of a program begins at its first node: that is where its listing leads from the beginning.
 #[tactic(auto, using(crate::proofs::FunctionRanges::program_begins))]
 pub fn programs_begin_at_their_first_node()
-    ensures { (scene : Scene) (statements : List Statement) → way_on (program_listing scene statements) (program_listing scene statements) ≡ target.Node 0 }
+    ensures { (scene : Scene) (statements : List Statement)
+        → way_on (program_listing scene statements) (program_listing scene statements)
+        ≡ target.Node 0 }
 {}

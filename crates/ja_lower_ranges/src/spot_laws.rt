@@ -1,4 +1,5 @@
-//! The spots of a listing stand where they are led to. The functions do nothing; their contracts are the laws.
+//! The spots of a listing stand where they are led to. The functions do nothing; their contracts
+//! are the laws.
 
 ghost use Rattle.std.specs.Prelude.{List};
 ghost use Rattle.ja_syntax.specs.declared.tree.FunctionOf.{FunctionOf};
@@ -10,7 +11,8 @@ ghost use Rattle.ja_lower_ranges.specs.Spots.{HasItsSpots};
 /// Each spot to which an edge or a jump of a program leads stands in its listing, and only once.
 #[tactic(auto, using(crate::proofs::SpotFunctions::program_has_spots))]
 pub fn programs_have_their_spots()
-    ensures { (scene : Scene) (statements : List Statement) → HasItsSpots (program_listing scene statements) }
+    ensures { (scene : Scene) (statements : List Statement)
+        → HasItsSpots (program_listing scene statements) }
 {}
 
 /// Each spot to which an edge or a jump of a function leads stands in its listing, and only once.

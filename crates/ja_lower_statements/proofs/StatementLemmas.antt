@@ -30,26 +30,41 @@ abbrev clause : Case → Clause
 clause = para-Case (Unit {0}) Does Clause (λ x. tt) statement_level clause_level
 
 -- a level of a statement, with what each part is beside it
-abbrev layer : Statement-F Expression Statement Case → Statement-F Expressions (Statement × Does) (Case × Clause)
-layer = map-Statement Expression Statement Case Expressions (Statement × Does) (Case × Clause) (λ e. (e, para-Expression (Unit {0}) Does Clause (λ x. tt) statement_level clause_level e)) (λ x. (x, does x)) (λ c. (c, clause c))
+abbrev layer : Statement-F Expression Statement Case
+    → Statement-F Expressions (Statement × Does) (Case × Clause)
+layer =
+    map-Statement Expression Statement Case Expressions (Statement × Does) (Case × Clause)
+    (λ e. (e, para-Expression (Unit {0}) Does Clause (λ x. tt) statement_level clause_level e))
+    (λ x. (x, does x)) (λ c. (c, clause c))
 
-opened : (x : Statement-F Expression Statement Case) → does (roll-Statement x) ≡ statement_level (layer x)
+opened : (x : Statement-F Expression Statement Case)
+    → does (roll-Statement x) ≡ statement_level (layer x)
 unfolding does
 opened x = para-roll-Statement (Unit {0}) Does Clause (λ y. tt) statement_level clause_level x
 
 -- each statement of a list, beside what it is listed as
-many : (xs : List Statement) → map (λ (p : Statement × Does). p.1) (map (λ x. (x, does x)) xs) ≡ map does xs
+many : (xs : List Statement) → map (λ (p : Statement × Does). p.1) (map (λ x. (x, does x)) xs)
+    ≡ map does xs
 many xs = map_after (λ x. (x, does x)) (λ (p : Statement × Does). p.1) does (λ x. refl) xs
 
 at : {f g : Does} → f ≡ g → (a : Around) (b : ℕ) (l : Listing) → f a b l ≡ g a b l
 at e a b l = ap (λ (d : Does). d a b l) e
 
-module _ (x : Statement) (y : Statement-F Expression Statement Case) (rolled : roll-Statement y ≡ x) (d : Does) (same : statement_level (layer y) ≡ d) where
+module _ (x : Statement) (y : Statement-F Expression Statement Case) (rolled : roll-Statement y ≡ x)
+    (d : Does) (same : statement_level (layer y) ≡ d) where
   listed : (a : Around) (b : ℕ) (l : Listing) → does x a b l ≡ d a b l
   listed = at (ap does (sym rolled) ∙ (opened y ∙ same))
 
-module _ (f : Declaration Expression → Declaration Expressions) (k : Declaration Expressions → Declaration Form) (empty : (n : Name) → k (f (record { name = n; initialiser = None })) ≡ record { name = n; initialiser = None }) (full : (n : Name) (i : Initialiser Expression) → k (f (record { name = n; initialiser = Some i })) ≡ record { name = n; initialiser = Some (initialiser_of i) }) where
-  declaration_is : (n : Name) (i : Option (Initialiser Expression)) → k (f (record { name = n; initialiser = i })) ≡ declaration_of (record { name = n; initialiser = i })
+module _ (f : Declaration Expression → Declaration Expressions)
+    (k : Declaration Expressions → Declaration Form)
+    (empty : (n : Name) → k (f (record { name = n; initialiser = None }))
+    ≡ record { name = n; initialiser = None })
+    (full : (n : Name) (i : Initialiser Expression)
+    → k (f (record { name = n; initialiser = Some i }))
+    ≡ record { name = n; initialiser = Some (initialiser_of i) }) where
+  declaration_is : (n : Name) (i : Option (Initialiser Expression))
+      → k (f (record { name = n; initialiser = i }))
+      ≡ declaration_of (record { name = n; initialiser = i })
   declaration_is n None = empty n
   declaration_is n (Some i) = full n i
 
@@ -58,55 +73,113 @@ module _ (f : Declaration Expression → Declaration Expressions) (k : Declarati
 
 clause_is : (case : Case) → clause case ≡ clause_of case
 unfolding does
-clause_is case = para-roll-Case (Unit {0}) Does Clause (λ y. tt) statement_level clause_level (out-Case case) ∙ clause_layer (out-Case case).test (out-Case case).body (out-Case case).place
+clause_is case =
+    para-roll-Case (Unit {0}) Does Clause (λ y. tt) statement_level clause_level (out-Case case)
+    ∙ clause_layer (out-Case case).test (out-Case case).body (out-Case case).place
   where
     clause_layer : (test : Option Expression) (body : List Statement) (place : Place)
-        → clause_level (map-Case Expression Statement Case Expressions (Statement × Does) (Case × Clause) (λ e. (e, para-Expression (Unit {0}) Does Clause (λ x. tt) statement_level clause_level e)) (λ x. (x, does x)) (λ c. (c, clause c)) (record { test = test; body = body; place = place }))
+        → clause_level (map-Case Expression Statement Case Expressions (Statement × Does)
+        (Case × Clause) (λ e. (
+          e,
+          para-Expression (Unit {0}) Does Clause (λ x. tt)
+              statement_level clause_level e,
+        )) (λ x. (x, does x)) (λ c. (c, clause c))
+        (record { test = test; body = body; place = place }))
         ≡ record { test = option_map form test; body = map does body }
-    clause_layer None body place = ap (λ (ds : List Does). let c : Clause = record { test = None; body = ds } in c) (many body)
-    clause_layer (Some test) body place = ap (λ (ds : List Does). let c : Clause = record { test = Some (form test); body = ds } in c) (many body)
+    clause_layer None body place =
+        ap (λ (ds : List Does). let c : Clause = record { test = None; body = ds } in c) (many body)
+    clause_layer (Some test) body place =
+        ap (λ (ds : List Does). let c : Clause = record { test = Some (form test); body = ds } in c)
+        (many body)
 
-clauses_are : (cases : List Case) → map (λ (p : Case × Clause). p.1) (map (λ c. (c, clause c)) cases) ≡ map clause_of cases
-clauses_are cases = map_after (λ c. (c, clause c)) (λ (p : Case × Clause). p.1) clause_of clause_is cases
+clauses_are : (cases : List Case) → map (λ (p : Case × Clause). p.1)
+    (map (λ c. (c, clause c)) cases) ≡ map clause_of cases
+clauses_are cases =
+    map_after (λ c. (c, clause c)) (λ (p : Case × Clause). p.1) clause_of clause_is cases
 
 pub body_of : (case : Case) → (clause_of case).body ≡ map does (out-Case case).body
 body_of case = refl
 
-pub does_block : (body : List Statement) (place : Place) (a : Around) (b : ℕ) (l : Listing) → does (s.Block body place) a b l ≡ list_all_statements (map does body) a b l
-does_block body place = listed (s.Block body place) (Statement-F.Block body place) (rolls-Block body place) (list_all_statements (map does body)) (ap list_all_statements (many body))
+pub does_block : (body : List Statement) (place : Place) (a : Around) (b : ℕ) (l : Listing)
+    → does (s.Block body place) a b l ≡ list_all_statements (map does body) a b l
+does_block body place =
+    listed (s.Block body place) (Statement-F.Block body place) (rolls-Block body place)
+    (list_all_statements (map does body)) (ap list_all_statements (many body))
 
 abbrev declared : List (Declaration Form) → Does
 declared ds around base m = declare_all ds around.scene base m
 
-variables_layer : (declarations : List (Declaration Expression)) (place : Place) → statement_level (layer (Statement-F.Variables declarations place)) ≡ declared (map declaration_of declarations)
-variables_layer declarations place = ap declared (declarations_are _ _ (λ n. refl) (λ n i. refl) declarations)
+variables_layer : (declarations : List (Declaration Expression)) (place : Place)
+    → statement_level (layer (Statement-F.Variables declarations place))
+    ≡ declared (map declaration_of declarations)
+variables_layer declarations place =
+    ap declared (declarations_are _ _ (λ n. refl) (λ n i. refl) declarations)
 
-pub does_variables : (declarations : List (Declaration Expression)) (place : Place) (a : Around) (b : ℕ) (l : Listing) → does (s.Variables declarations place) a b l ≡ declare_all (map declaration_of declarations) a.scene b l
-does_variables declarations place = listed (s.Variables declarations place) (Statement-F.Variables declarations place) (rolls-Variables declarations place) (declared (map declaration_of declarations)) (variables_layer declarations place)
+pub does_variables : (declarations : List (Declaration Expression)) (place : Place) (a : Around)
+    (b : ℕ) (l : Listing) → does (s.Variables declarations place) a b l
+    ≡ declare_all (map declaration_of declarations) a.scene b l
+does_variables declarations place =
+    listed (s.Variables declarations place) (Statement-F.Variables declarations place)
+    (rolls-Variables declarations place) (declared (map declaration_of declarations))
+    (variables_layer declarations place)
 
-pub does_empty : (place : Place) (a : Around) (b : ℕ) (l : Listing) → does (s.Empty place) a b l ≡ (λ (around : Around) (base : ℕ) (m : Listing). m) a b l
-does_empty place = listed (s.Empty place) (Statement-F.Empty place) (rolls-Empty place) ((λ (around : Around) (base : ℕ) (m : Listing). m)) (refl)
+pub does_empty : (place : Place) (a : Around) (b : ℕ) (l : Listing)
+    → does (s.Empty place) a b l ≡ (λ (around : Around) (base : ℕ) (m : Listing). m) a b l
+does_empty place =
+    listed (s.Empty place) (Statement-F.Empty place) (rolls-Empty place)
+    ((λ (around : Around) (base : ℕ) (m : Listing). m)) (refl)
 
-pub does_expression : (value : Expression) (place : Place) (a : Around) (b : ℕ) (l : Listing) → does (s.Expression value place) a b l ≡ (λ (around : Around) (base : ℕ) (m : Listing). (value_of (form value) around.scene (restarted base m)).listing) a b l
-does_expression value place = listed (s.Expression value place) (Statement-F.Expression value place) (rolls-Expression value place) ((λ (around : Around) (base : ℕ) (m : Listing). (value_of (form value) around.scene (restarted base m)).listing)) (refl)
+pub does_expression : (value : Expression) (place : Place) (a : Around) (b : ℕ) (l : Listing)
+    → does (s.Expression value place) a b l
+    ≡ (λ (around : Around) (base : ℕ) (m : Listing).
+    (value_of (form value) around.scene (restarted base m)).listing) a b l
+does_expression value place =
+    listed (s.Expression value place) (Statement-F.Expression value place)
+    (rolls-Expression value place) ((λ (around : Around) (base : ℕ) (m : Listing).
+    (value_of (form value) around.scene (restarted base m)).listing)) (refl)
 
-if_layer : (condition : Expression) (then : Statement) (otherwise : Option Statement) (place : Place) → statement_level (layer (Statement-F.If condition then otherwise place)) ≡ list_if (form condition) (does then) (option_map does otherwise) place
+if_layer : (condition : Expression) (then : Statement) (otherwise : Option Statement)
+    (place : Place) → statement_level (layer (Statement-F.If condition then otherwise place))
+    ≡ list_if (form condition) (does then) (option_map does otherwise) place
 if_layer condition then None place = refl
 if_layer condition then (Some otherwise) place = refl
 
-pub does_if_alone : (condition : Expression) (then : Statement) (place : Place) (a : Around) (b : ℕ) (l : Listing) → does (s.If condition then None place) a b l ≡ list_if_alone (form condition) (does then) place a b l
-does_if_alone condition then place = listed (s.If condition then None place) (Statement-F.If condition then None place) (rolls-If condition then None place) (list_if (form condition) (does then) None place) (if_layer condition then None place)
+pub does_if_alone : (condition : Expression) (then : Statement) (place : Place) (a : Around) (b : ℕ)
+    (l : Listing) → does (s.If condition then None place) a b l
+    ≡ list_if_alone (form condition) (does then) place a b l
+does_if_alone condition then place =
+    listed (s.If condition then None place) (Statement-F.If condition then None place)
+    (rolls-If condition then None place) (list_if (form condition) (does then) None place)
+    (if_layer condition then None place)
 
-pub does_if_else : (condition : Expression) (then otherwise : Statement) (place : Place) (a : Around) (b : ℕ) (l : Listing) → does (s.If condition then (Some otherwise) place) a b l ≡ list_else (does otherwise) a b (list_then (form condition) (does then) place a b l)
-does_if_else condition then otherwise place = listed (s.If condition then (Some otherwise) place) (Statement-F.If condition then (Some otherwise) place) (rolls-If condition then (Some otherwise) place) (list_if (form condition) (does then) (Some (does otherwise)) place) (if_layer condition then (Some otherwise) place)
+pub does_if_else : (condition : Expression) (then otherwise : Statement) (place : Place)
+    (a : Around) (b : ℕ) (l : Listing) → does (s.If condition then (Some otherwise) place) a b l
+    ≡ list_else (does otherwise) a b (list_then (form condition) (does then) place a b l)
+does_if_else condition then otherwise place =
+    listed (s.If condition then (Some otherwise) place)
+    (Statement-F.If condition then (Some otherwise) place)
+    (rolls-If condition then (Some otherwise) place)
+    (list_if (form condition) (does then) (Some (does otherwise)) place)
+    (if_layer condition then (Some otherwise) place)
 
-pub does_do : (body : Statement) (condition : Expression) (place : Place) (a : Around) (b : ℕ) (l : Listing) → does (s.Do body condition place) a b l ≡ list_do (does body) (form condition) place a b l
-does_do body condition place = listed (s.Do body condition place) (Statement-F.Do body condition place) (rolls-Do body condition place) (list_do (does body) (form condition) place) (refl)
+pub does_do : (body : Statement) (condition : Expression) (place : Place) (a : Around) (b : ℕ)
+    (l : Listing) → does (s.Do body condition place) a b l
+    ≡ list_do (does body) (form condition) place a b l
+does_do body condition place =
+    listed (s.Do body condition place) (Statement-F.Do body condition place)
+    (rolls-Do body condition place) (list_do (does body) (form condition) place) (refl)
 
-pub does_while : (condition : Expression) (body : Statement) (place : Place) (a : Around) (b : ℕ) (l : Listing) → does (s.While condition body place) a b l ≡ list_while (form condition) (does body) place a b l
-does_while condition body place = listed (s.While condition body place) (Statement-F.While condition body place) (rolls-While condition body place) (list_while (form condition) (does body) place) (refl)
+pub does_while : (condition : Expression) (body : Statement) (place : Place) (a : Around) (b : ℕ)
+    (l : Listing) → does (s.While condition body place) a b l
+    ≡ list_while (form condition) (does body) place a b l
+does_while condition body place =
+    listed (s.While condition body place) (Statement-F.While condition body place)
+    (rolls-While condition body place) (list_while (form condition) (does body) place) (refl)
 
-for_layer : (head : ForFirst Expression) (condition update : Option Expression) (body : Statement) (place : Place) → statement_level (layer (Statement-F.For head condition update body place)) ≡ list_for (for_first_of head) (option_map form condition) (option_map form update) (does body) place
+for_layer : (head : ForFirst Expression) (condition update : Option Expression) (body : Statement)
+    (place : Place) → statement_level (layer (Statement-F.For head condition update body place))
+    ≡ list_for (for_first_of head) (option_map form condition) (option_map form update) (does body)
+    place
 for_layer first.Nothing None None body place = refl
 for_layer first.Nothing None (Some update) body place = refl
 for_layer first.Nothing (Some condition) None body place = refl
@@ -115,65 +188,163 @@ for_layer (first.Expression value) None None body place = refl
 for_layer (first.Expression value) None (Some update) body place = refl
 for_layer (first.Expression value) (Some condition) None body place = refl
 for_layer (first.Expression value) (Some condition) (Some update) body place = refl
-for_layer (first.Variables declarations) None None body place = ap (λ (ds : List (Declaration Form)). list_for (first.Variables ds) None None (does body) place) (declarations_are _ _ (λ n. refl) (λ n i. refl) declarations)
-for_layer (first.Variables declarations) None (Some update) body place = ap (λ (ds : List (Declaration Form)). list_for (first.Variables ds) None (Some (form update)) (does body) place) (declarations_are _ _ (λ n. refl) (λ n i. refl) declarations)
-for_layer (first.Variables declarations) (Some condition) None body place = ap (λ (ds : List (Declaration Form)). list_for (first.Variables ds) (Some (form condition)) None (does body) place) (declarations_are _ _ (λ n. refl) (λ n i. refl) declarations)
-for_layer (first.Variables declarations) (Some condition) (Some update) body place = ap (λ (ds : List (Declaration Form)). list_for (first.Variables ds) (Some (form condition)) (Some (form update)) (does body) place) (declarations_are _ _ (λ n. refl) (λ n i. refl) declarations)
+for_layer (first.Variables declarations) None None body place =
+    ap (λ (ds : List (Declaration Form)). list_for (first.Variables ds) None None (does body) place)
+    (declarations_are _ _ (λ n. refl) (λ n i. refl) declarations)
+for_layer (first.Variables declarations) None (Some update) body place =
+    ap (λ (ds : List (Declaration Form)). list_for (first.Variables ds) None (Some (form update))
+    (does body) place) (declarations_are _ _ (λ n. refl) (λ n i. refl) declarations)
+for_layer (first.Variables declarations) (Some condition) None body place =
+    ap (λ (ds : List (Declaration Form)). list_for (first.Variables ds) (Some (form condition)) None
+    (does body) place) (declarations_are _ _ (λ n. refl) (λ n i. refl) declarations)
+for_layer (first.Variables declarations) (Some condition) (Some update) body place =
+    ap (λ (ds : List (Declaration Form)). list_for (first.Variables ds) (Some (form condition))
+    (Some (form update)) (does body) place)
+    (declarations_are _ _ (λ n. refl) (λ n i. refl) declarations)
 
-pub does_for : (head : ForFirst Expression) (condition update : Option Expression) (body : Statement) (place : Place) (a : Around) (b : ℕ) (l : Listing) → does (s.For head condition update body place) a b l ≡ list_for (for_first_of head) (option_map form condition) (option_map form update) (does body) place a b l
-does_for head condition update body place = listed (s.For head condition update body place) (Statement-F.For head condition update body place) (rolls-For head condition update body place) (list_for (for_first_of head) (option_map form condition) (option_map form update) (does body) place) (for_layer head condition update body place)
+pub does_for : (head : ForFirst Expression) (condition update : Option Expression)
+    (body : Statement) (place : Place) (a : Around) (b : ℕ) (l : Listing)
+    → does (s.For head condition update body place) a b l
+    ≡ list_for (for_first_of head) (option_map form condition) (option_map form update) (does body)
+    place a b l
+does_for head condition update body place =
+    listed (s.For head condition update body place)
+    (Statement-F.For head condition update body place) (rolls-For head condition update body place)
+    (list_for (for_first_of head) (option_map form condition) (option_map form update) (does body)
+    place) (for_layer head condition update body place)
 
-variable_layer : (n : Name) (i : Option (Initialiser Expression)) (object : Expression) (body : Statement) (place : Place) → statement_level (layer (Statement-F.ForIn (target.Variable (record { name = n; initialiser = i })) object body place)) ≡ list_for_in (target_of (target.Variable (record { name = n; initialiser = i }))) (form object) (does body) place
+variable_layer : (n : Name) (i : Option (Initialiser Expression)) (object : Expression)
+    (body : Statement) (place : Place) → statement_level
+    (layer (Statement-F.ForIn (target.Variable (record { name = n; initialiser = i })) object body
+    place)) ≡ list_for_in (target_of (target.Variable (record { name = n; initialiser = i })))
+    (form object) (does body) place
 variable_layer n None object body place = refl
 variable_layer n (Some i) object body place = refl
 
-for_in_layer : (goal : ForTarget Expression) (object : Expression) (body : Statement) (place : Place) → statement_level (layer (Statement-F.ForIn goal object body place)) ≡ list_for_in (target_of goal) (form object) (does body) place
-for_in_layer (target.Variable d) object body place = variable_layer d.name d.initialiser object body place
+for_in_layer : (goal : ForTarget Expression) (object : Expression) (body : Statement)
+    (place : Place) → statement_level (layer (Statement-F.ForIn goal object body place))
+    ≡ list_for_in (target_of goal) (form object) (does body) place
+for_in_layer (target.Variable d) object body place =
+    variable_layer d.name d.initialiser object body place
 for_in_layer (target.Reference value) object body place = refl
 
-pub does_for_in_variable : (d : Declaration Expression) (object : Expression) (body : Statement) (place : Place) (a : Around) (b : ℕ) (l : Listing) → does (s.ForIn (target.Variable d) object body place) a b l ≡ list_for_in (target.Variable (declaration_of d)) (form object) (does body) place a b l
-does_for_in_variable d object body place = listed (s.ForIn (target.Variable d) object body place) (Statement-F.ForIn (target.Variable d) object body place) (rolls-ForIn (target.Variable d) object body place) (list_for_in (target_of (target.Variable d)) (form object) (does body) place) (for_in_layer (target.Variable d) object body place)
+pub does_for_in_variable : (d : Declaration Expression) (object : Expression) (body : Statement)
+    (place : Place) (a : Around) (b : ℕ) (l : Listing)
+    → does (s.ForIn (target.Variable d) object body place) a b l
+    ≡ list_for_in (target.Variable (declaration_of d)) (form object) (does body) place a b l
+does_for_in_variable d object body place =
+    listed (s.ForIn (target.Variable d) object body place)
+    (Statement-F.ForIn (target.Variable d) object body place)
+    (rolls-ForIn (target.Variable d) object body place)
+    (list_for_in (target_of (target.Variable d)) (form object) (does body) place)
+    (for_in_layer (target.Variable d) object body place)
 
-pub does_for_in : (goal : ForTarget Expression) (object : Expression) (body : Statement) (place : Place) (a : Around) (b : ℕ) (l : Listing) → does (s.ForIn goal object body place) a b l ≡ list_for_in (target_of goal) (form object) (does body) place a b l
-does_for_in goal object body place = listed (s.ForIn goal object body place) (Statement-F.ForIn goal object body place) (rolls-ForIn goal object body place) (list_for_in (target_of goal) (form object) (does body) place) (for_in_layer goal object body place)
+pub does_for_in : (goal : ForTarget Expression) (object : Expression) (body : Statement)
+    (place : Place) (a : Around) (b : ℕ) (l : Listing)
+    → does (s.ForIn goal object body place) a b l
+    ≡ list_for_in (target_of goal) (form object) (does body) place a b l
+does_for_in goal object body place =
+    listed (s.ForIn goal object body place) (Statement-F.ForIn goal object body place)
+    (rolls-ForIn goal object body place) (list_for_in (target_of goal) (form object) (does body)
+    place) (for_in_layer goal object body place)
 
-pub does_continue : (label : Option Name) (place : Place) (a : Around) (b : ℕ) (l : Listing) → does (s.Continue label place) a b l ≡ (λ (around : Around) (base : ℕ) (m : Listing). jump_to around.scene place (continue_target (label_text label)) around.ways (leaving m)) a b l
-does_continue label place = listed (s.Continue label place) (Statement-F.Continue label place) (rolls-Continue label place) ((λ (around : Around) (base : ℕ) (m : Listing). jump_to around.scene place (continue_target (label_text label)) around.ways (leaving m))) (refl)
+pub does_continue : (label : Option Name) (place : Place) (a : Around) (b : ℕ) (l : Listing)
+    → does (s.Continue label place) a b l ≡ (λ (around : Around) (base : ℕ) (m : Listing).
+    jump_to around.scene place (continue_target (label_text label)) around.ways (leaving m)) a b l
+does_continue label place =
+    listed (s.Continue label place) (Statement-F.Continue label place) (rolls-Continue label place)
+    ((λ (around : Around) (base : ℕ) (m : Listing).
+    jump_to around.scene place (continue_target (label_text label)) around.ways (leaving m))) (refl)
 
-pub does_break : (label : Option Name) (place : Place) (a : Around) (b : ℕ) (l : Listing) → does (s.Break label place) a b l ≡ (λ (around : Around) (base : ℕ) (m : Listing). jump_to around.scene place (break_target (label_text label)) around.ways (leaving m)) a b l
-does_break label place = listed (s.Break label place) (Statement-F.Break label place) (rolls-Break label place) ((λ (around : Around) (base : ℕ) (m : Listing). jump_to around.scene place (break_target (label_text label)) around.ways (leaving m))) (refl)
+pub does_break : (label : Option Name) (place : Place) (a : Around) (b : ℕ) (l : Listing)
+    → does (s.Break label place) a b l ≡ (λ (around : Around) (base : ℕ) (m : Listing).
+    jump_to around.scene place (break_target (label_text label)) around.ways (leaving m)) a b l
+does_break label place =
+    listed (s.Break label place) (Statement-F.Break label place) (rolls-Break label place)
+    ((λ (around : Around) (base : ℕ) (m : Listing).
+    jump_to around.scene place (break_target (label_text label)) around.ways (leaving m))) (refl)
 
-return_layer : (value : Option Expression) (place : Place) → statement_level (layer (Statement-F.Return value place)) ≡ list_return (option_map form value) place
+return_layer : (value : Option Expression) (place : Place)
+    → statement_level (layer (Statement-F.Return value place))
+    ≡ list_return (option_map form value) place
 return_layer None place = refl
 return_layer (Some value) place = refl
 
-pub does_return : (value : Option Expression) (place : Place) (a : Around) (b : ℕ) (l : Listing) → does (s.Return value place) a b l ≡ list_return (option_map form value) place a b l
-does_return value place = listed (s.Return value place) (Statement-F.Return value place) (rolls-Return value place) (list_return (option_map form value) place) (return_layer value place)
+pub does_return : (value : Option Expression) (place : Place) (a : Around) (b : ℕ) (l : Listing)
+    → does (s.Return value place) a b l ≡ list_return (option_map form value) place a b l
+does_return value place =
+    listed (s.Return value place) (Statement-F.Return value place) (rolls-Return value place)
+    (list_return (option_map form value) place) (return_layer value place)
 
-pub does_labelled : (label : Name) (body : Statement) (a : Around) (b : ℕ) (l : Listing) → does (s.Labelled label body) a b l ≡ list_labelled label (does body) a b l
-does_labelled label body = listed (s.Labelled label body) (Statement-F.Labelled label body) (rolls-Labelled label body) (list_labelled label (does body)) (refl)
+pub does_labelled : (label : Name) (body : Statement) (a : Around) (b : ℕ) (l : Listing)
+    → does (s.Labelled label body) a b l ≡ list_labelled label (does body) a b l
+does_labelled label body =
+    listed (s.Labelled label body) (Statement-F.Labelled label body) (rolls-Labelled label body)
+    (list_labelled label (does body)) (refl)
 
-pub does_switch : (value : Expression) (cases : List Case) (place : Place) (a : Around) (b : ℕ) (l : Listing) → does (s.Switch value cases place) a b l ≡ list_switch (form value) (map clause_of cases) place a b l
-does_switch value cases place = listed (s.Switch value cases place) (Statement-F.Switch value cases place) (rolls-Switch value cases place) (list_switch (form value) (map clause_of cases) place) (ap (λ (cs : List Clause). list_switch (form value) cs place) (clauses_are cases))
+pub does_switch : (value : Expression) (cases : List Case) (place : Place) (a : Around) (b : ℕ)
+    (l : Listing) → does (s.Switch value cases place) a b l
+    ≡ list_switch (form value) (map clause_of cases) place a b l
+does_switch value cases place =
+    listed (s.Switch value cases place) (Statement-F.Switch value cases place)
+    (rolls-Switch value cases place) (list_switch (form value) (map clause_of cases) place)
+    (ap (λ (cs : List Clause). list_switch (form value) cs place) (clauses_are cases))
 
-pub does_throw : (value : Expression) (place : Place) (a : Around) (b : ℕ) (l : Listing) → does (s.Throw value place) a b l ≡ (λ (around : Around) (base : ℕ) (m : Listing). list_throw (form value) place around.scene base m) a b l
-does_throw value place = listed (s.Throw value place) (Statement-F.Throw value place) (rolls-Throw value place) ((λ (around : Around) (base : ℕ) (m : Listing). list_throw (form value) place around.scene base m)) (refl)
+pub does_throw : (value : Expression) (place : Place) (a : Around) (b : ℕ) (l : Listing)
+    → does (s.Throw value place) a b l ≡ (λ (around : Around) (base : ℕ) (m : Listing).
+    list_throw (form value) place around.scene base m) a b l
+does_throw value place =
+    listed (s.Throw value place) (Statement-F.Throw value place) (rolls-Throw value place)
+    ((λ (around : Around) (base : ℕ) (m : Listing).
+    list_throw (form value) place around.scene base m)) (refl)
 
-try_layer : (block : List Statement) (caught : Option (CatchOf Statement)) (finally : Option (List Statement)) (place : Place) → statement_level (layer (Statement-F.Try block caught finally place)) ≡ list_try (map does block) (option_map catch_of caught) (option_map (map does) finally) place
+try_layer : (block : List Statement) (caught : Option (CatchOf Statement))
+    (finally : Option (List Statement)) (place : Place)
+    → statement_level (layer (Statement-F.Try block caught finally place))
+    ≡ list_try (map does block) (option_map catch_of caught) (option_map (map does) finally) place
 try_layer block None None place = ap (λ (ds : List Does). list_try ds None None place) (many block)
 try_layer block (Some caught) None place =
-    ap (λ (ds : List Does). list_try ds (Some (record { parameter = caught.parameter; body = map (λ (p : Statement × Does). p.1) (map (λ x. (x, does x)) caught.body) })) None place) (many block)
-    ∙ ap (λ (ds : List Does). list_try (map does block) (Some (record { parameter = caught.parameter; body = ds })) None place) (many caught.body)
+    ap (λ (ds : List Does). list_try ds (Some
+    (record {
+      parameter = caught.parameter;
+      body = map (λ (p : Statement × Does). p.1) (map (λ x. (x, does x)) caught.body);
+    })) None
+    place) (many block)
+    ∙ ap (λ (ds : List Does). list_try (map does block)
+    (Some (record { parameter = caught.parameter; body = ds })) None place) (many caught.body)
 try_layer block None (Some finally) place =
-    ap (λ (ds : List Does). list_try ds None (Some (map (λ (p : Statement × Does). p.1) (map (λ x. (x, does x)) finally))) place) (many block)
+    ap (λ (ds : List Does). list_try ds None
+    (Some (map (λ (p : Statement × Does). p.1) (map (λ x. (x, does x)) finally))) place)
+    (many block)
     ∙ ap (λ (ds : List Does). list_try (map does block) None (Some ds) place) (many finally)
 try_layer block (Some caught) (Some finally) place =
-    ap (λ (ds : List Does). list_try ds (Some (record { parameter = caught.parameter; body = map (λ (p : Statement × Does). p.1) (map (λ x. (x, does x)) caught.body) })) (Some (map (λ (p : Statement × Does). p.1) (map (λ x. (x, does x)) finally))) place) (many block)
-    ∙ (ap (λ (ds : List Does). list_try (map does block) (Some (record { parameter = caught.parameter; body = ds })) (Some (map (λ (p : Statement × Does). p.1) (map (λ x. (x, does x)) finally))) place) (many caught.body)
-    ∙ ap (λ (ds : List Does). list_try (map does block) (Some (record { parameter = caught.parameter; body = map does caught.body })) (Some ds) place) (many finally))
+    ap (λ (ds : List Does). list_try ds (Some
+    (record {
+      parameter = caught.parameter;
+      body = map (λ (p : Statement × Does). p.1) (map (λ x. (x, does x)) caught.body);
+    }))
+    (Some (map (λ (p : Statement × Does). p.1) (map (λ x. (x, does x)) finally))) place)
+    (many block)
+    ∙ (ap (λ (ds : List Does). list_try (map does block)
+    (Some (record { parameter = caught.parameter; body = ds }))
+    (Some (map (λ (p : Statement × Does). p.1) (map (λ x. (x, does x)) finally))) place)
+    (many caught.body)
+    ∙ ap (λ (ds : List Does). list_try (map does block)
+    (Some (record { parameter = caught.parameter; body = map does caught.body })) (Some ds)
+    place) (many finally))
 
-pub does_try : (block : List Statement) (caught : Option (CatchOf Statement)) (finally : Option (List Statement)) (place : Place) (a : Around) (b : ℕ) (l : Listing) → does (s.Try block caught finally place) a b l ≡ list_try (map does block) (option_map catch_of caught) (option_map (map does) finally) place a b l
-does_try block caught finally place = listed (s.Try block caught finally place) (Statement-F.Try block caught finally place) (rolls-Try block caught finally place) (list_try (map does block) (option_map catch_of caught) (option_map (map does) finally) place) (try_layer block caught finally place)
+pub does_try : (block : List Statement) (caught : Option (CatchOf Statement))
+    (finally : Option (List Statement)) (place : Place) (a : Around) (b : ℕ) (l : Listing)
+    → does (s.Try block caught finally place) a b l
+    ≡ list_try (map does block) (option_map catch_of caught) (option_map (map does) finally) place a
+    b l
+does_try block caught finally place =
+    listed (s.Try block caught finally place) (Statement-F.Try block caught finally place)
+    (rolls-Try block caught finally place) (list_try (map does block) (option_map catch_of caught)
+    (option_map (map does) finally) place) (try_layer block caught finally place)
 
-pub does_function : (function : FunctionOf Statement) (a : Around) (b : ℕ) (l : Listing) → does (s.Function function) a b l ≡ (λ (around : Around) (base : ℕ) (m : Listing). m) a b l
-does_function function = listed (s.Function function) (Statement-F.Statement::Function function) (rolls-Function function) ((λ (around : Around) (base : ℕ) (m : Listing). m)) (refl)
+pub does_function : (function : FunctionOf Statement) (a : Around) (b : ℕ) (l : Listing)
+    → does (s.Function function) a b l ≡ (λ (around : Around) (base : ℕ) (m : Listing). m) a b l
+does_function function =
+    listed (s.Function function) (Statement-F.Statement::Function function)
+    (rolls-Function function) ((λ (around : Around) (base : ℕ) (m : Listing). m)) (refl)

@@ -39,7 +39,8 @@ bind_function scene place (Some name) base l =
     with_node scene place (Bind (name_id scene name.text) f.value false) f.listing
 
 abbrev pub declare_function : Scene → Statement-F Expression Statement Case → ℕ → Listing → Listing
-declare_function scene (Statement-F.Statement::Function function) base l = bind_function scene function.place function.name base l
+declare_function scene (Statement-F.Statement::Function function) base l =
+    bind_function scene function.place function.name base l
 declare_function scene _ base l = l
 
 abbrev pub declare_function_of : Scene → Statement → ℕ → Listing → Listing
@@ -47,7 +48,8 @@ declare_function_of scene s base l = declare_function scene (out-Statement s) ba
 
 unfoldable pub declare_functions : Scene → List Statement → ℕ → Listing → Listing
 declare_functions scene [] base l = l
-declare_functions scene (s ∷ ss) base l = declare_functions scene ss base (declare_function_of scene s base l)
+declare_functions scene (s ∷ ss) base l =
+    declare_functions scene ss base (declare_function_of scene s base l)
 
 -- the variables (10.1.3), at the place of the function
 unfoldable pub declare_variables : Scene → Place → List (List ℕ) → Listing → Listing
@@ -64,7 +66,10 @@ ended scene place base l =
 -- what a body does: its function declarations, its variables, its statements, and its end
 abbrev pub with_body : Scene → Place → List Statement → ℕ → Listing → Listing
 with_body scene place statements base l =
-    ended scene place base (list_all_statements (map does statements) (record { scene = scene; ways = []; labels = [] }) base (declare_variables scene place (hoisted_variables statements) (declare_functions scene statements base l)))
+    ended scene place base (list_all_statements (map does statements)
+    (record { scene = scene; ways = []; labels = [] }) base
+    (declare_variables scene place (hoisted_variables statements)
+    (declare_functions scene statements base l)))
 
 -- nothing around a function handles what it throws
 abbrev pub unhandled : Scene → Scene
@@ -73,20 +78,27 @@ unhandled scene = record scene { handler = None }
 abbrev pub first_place : Place
 first_place = record { line = 1; column = 1 }
 
--- a node before the first one, at which a program begins whose first line is a jump: what stands behind the jump isn't run
+-- a node before the first one, at which a program begins whose first line is a jump: what stands
+-- behind the jump isn't run
 abbrev pub first_const : Scene → List Item
-first_const scene = (with_const scene first_place primitive.Undefined (nothing_listed (first_temporary 0))).listing.items
+first_const scene =
+    (with_const scene first_place primitive.Undefined
+    (nothing_listed (first_temporary 0))).listing.items
 
 unfoldable pub beginning_with_node : Scene → List Item → List Item
-beginning_with_node scene items = if begins_with_node items then items else first_const scene ++ items
+beginning_with_node scene items =
+    if begins_with_node items then items else first_const scene ++ items
 
 -- the listing of the program: as a function without parameters, but with no activation of its own
 unfoldable pub program_listing : Scene → List Statement → List Item
 program_listing scene statements =
-    beginning_with_node (unhandled scene) (with_body (unhandled scene) first_place statements (first_temporary 0) (nothing_listed (first_temporary 0))).items
+    beginning_with_node (unhandled scene) (with_body (unhandled scene) first_place statements
+    (first_temporary 0) (nothing_listed (first_temporary 0))).items
 
 -- the listing of a function, at the place of its word `function`
 unfoldable pub function_listing : Scene → FunctionOf Statement → List Item
 function_listing scene f =
     let base = first_temporary (length f.parameters) in
-    (with_body (unhandled scene) f.place f.body base (with_entry (unhandled scene) f.place (mentions_arguments f.body) (nothing_listed base))).items
+    (with_body (unhandled scene) f.place f.body base
+    (with_entry (unhandled scene) f.place (mentions_arguments f.body)
+    (nothing_listed base))).items

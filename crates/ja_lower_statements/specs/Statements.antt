@@ -29,7 +29,8 @@ use Rattle.ja_lower_expressions.specs.Expressions.{form}
 use Rattle.ja_lower_draft.specs.Copies.{Template, with_block}
 use Rattle.ja_lower_statements.specs.Ways.{Way, of_loop, of_switch, of_label, of_catch, of_finally, break_target, continue_target, jump_to, leave_all, leaving}
 
--- What is around a statement: the scene, what its jumps leave, the innermost first, and the labels right before it.
+-- What is around a statement: the scene, what its jumps leave, the innermost first, and the labels
+-- right before it.
 pub record Around : Type 0 where
   pub scene : Scene
   pub ways : List Way
@@ -51,7 +52,8 @@ handled_at handler around = record around { scene = record around.scene { handle
 
 unfoldable pub list_all_statements : List Does → Does
 list_all_statements [] around base l = l
-list_all_statements (s ∷ ss) around base l = list_all_statements ss around base (s (unlabelled around) base l)
+list_all_statements (s ∷ ss) around base l =
+    list_all_statements ss around base (s (unlabelled around) base l)
 
 -- ---- `var` (12.2): the numbers of temporaries begin again at each name
 
@@ -61,7 +63,8 @@ declare_with name (Some initialiser) scene l =
     (assign (with_name name.text name.place) initialiser.value initialiser.place scene l).listing
 
 abbrev pub declare_one : Declaration Form → Scene → ℕ → Listing → Listing
-declare_one declaration scene base l = declare_with declaration.name declaration.initialiser scene (restarted base l)
+declare_one declaration scene base l =
+    declare_with declaration.name declaration.initialiser scene (restarted base l)
 
 unfoldable pub declare_all : List (Declaration Form) → Scene → ℕ → Listing → Listing
 declare_all [] scene base l = l
@@ -86,7 +89,9 @@ unfoldable pub list_branch : ℕ → Form → Scene → Place → Listing → Sp
 list_branch spots condition scene place l =
     let b = with_condition condition scene place l in
     record {
-      listing = with_branch scene place (Branch b.value) (nth_spot b.listing.spot 0) (behind_spots spots b.listing);
+      listing =
+          with_branch scene place (Branch b.value) (nth_spot b.listing.spot 0)
+          (behind_spots spots b.listing);
       first = b.listing.spot;
     }
 
@@ -98,7 +103,8 @@ list_then condition consequent place around base l =
 
 unfoldable pub list_else : Does → Around → ℕ → Spotted → Listing
 list_else otherwise around base y =
-    with_spot (nth_spot y.first 1) (otherwise (unlabelled around) base (with_spot (nth_spot y.first 0) (with_jump (nth_spot y.first 1) y.listing)))
+    with_spot (nth_spot y.first 1) (otherwise (unlabelled around) base
+    (with_spot (nth_spot y.first 0) (with_jump (nth_spot y.first 1) y.listing)))
 
 unfoldable pub list_if_alone : Form → Does → Place → Does
 list_if_alone condition consequent place around base l =
@@ -106,7 +112,8 @@ list_if_alone condition consequent place around base l =
     with_spot (nth_spot b.first 0) (consequent (unlabelled around) base b.listing)
 
 abbrev pub list_if : Form → Does → Option Does → Place → Does
-list_if condition consequent None place around base l = list_if_alone condition consequent place around base l
+list_if condition consequent None place around base l =
+    list_if_alone condition consequent place around base l
 list_if condition consequent (Some otherwise) place around base l =
     list_else otherwise around base (list_then condition consequent place around base l)
 
@@ -130,14 +137,17 @@ unfoldable pub list_while : Form → Does → Place → Does
 list_while condition body place around base l =
     let turn = spot_of l 0 in
     let end = spot_of l 1 in
-    let b = with_condition condition around.scene place (restarted base (with_spot turn (behind_spots 2 l))) in
-    let y = list_body body around base end turn (with_branch around.scene place (Branch b.value) end b.listing) in
+    let b = with_condition condition around.scene place
+    (restarted base (with_spot turn (behind_spots 2 l))) in
+    let y = list_body body around base end turn
+    (with_branch around.scene place (Branch b.value) end b.listing) in
     with_spot end (with_jump turn y)
 
 -- a missing condition is true
 abbrev pub for_condition : Option Form → Scene → Place → Listing → Valued
 for_condition None scene place l =
-    let c = with_const scene place (primitive.Bool true) l in with_truth scene place c.value c.listing
+    let c = with_const scene place (primitive.Bool true) l in
+    with_truth scene place c.value c.listing
 for_condition (Some condition) scene place l = with_condition condition scene place l
 
 abbrev pub for_update : Option Form → Scene → Listing → Listing
@@ -157,17 +167,20 @@ list_for head condition update body place around base l =
     let end = spot_of l 2 in
     let i = for_first head around.scene base (restarted base (behind_spots 3 l)) in
     let b = for_condition condition around.scene place (with_spot top i) in
-    let y = list_body body around base end turn (with_branch around.scene place (Branch b.value) end b.listing) in
+    let y = list_body body around base end turn
+    (with_branch around.scene place (Branch b.value) end b.listing) in
     let u = for_update update around.scene (restarted b.listing.temporary (with_spot turn y)) in
     with_spot end (with_jump top u)
 
 -- what a `for`-`in` writes, and what its head does first (12.6.4)
 abbrev pub for_in_reference : ForTarget Form → Form
-for_in_reference (target.Variable declaration) = with_name declaration.name.text declaration.name.place
+for_in_reference (target.Variable declaration) =
+    with_name declaration.name.text declaration.name.place
 for_in_reference (target.Reference value) = value
 
 abbrev pub for_in_first : ForTarget Form → Scene → Listing → Listing
-for_in_first (target.Variable declaration) scene l = declare_with declaration.name declaration.initialiser scene l
+for_in_first (target.Variable declaration) scene l =
+    declare_with declaration.name declaration.initialiser scene l
 for_in_first (target.Reference value) scene l = l
 
 -- a turn of it up to the body, and the register of the list
@@ -206,18 +219,23 @@ returned (Some value) scene place l = value_of value scene l
 abbrev pub list_return : Option Form → Place → Does
 list_return value place around base l =
     let v = returned value around.scene place (restarted base l) in
-    with_node around.scene place (Return v.value) (leave_all around.scene place v.value around.ways (leaving v.listing))
+    with_node around.scene place (Return v.value)
+    (leave_all around.scene place v.value around.ways (leaving v.listing))
 
 -- `throw` (12.13)
 abbrev pub list_throw : Form → Place → Scene → ℕ → Listing → Listing
 list_throw value place scene base l =
-    let v = value_of value scene (restarted base l) in with_node scene place (Throw v.value) v.listing
+    let v = value_of value scene (restarted base l) in
+    with_node scene place (Throw v.value) v.listing
 
 -- a label (12.12)
 unfoldable pub list_labelled : Name → Does → Does
 list_labelled label body around base l =
     let end = spot_of l 0 in
-    with_spot end (body (record around { ways = of_label label.text end ∷ around.ways; labels = label.text ∷ around.labels }) base (behind_spots 1 l))
+    with_spot end (body (record around {
+      ways = of_label label.text end ∷ around.ways;
+      labels = label.text ∷ around.labels;
+    }) base (behind_spots 1 l))
 
 -- ---- `switch` (12.11): the tests in the order of the text, then the bodies; each body has a spot
 
@@ -233,13 +251,15 @@ list_test (Some test) scene place value body l =
     let v = value_of test scene l in
     let b = with_result scene place (λ dst. Binary dst StrictEq value v.value) v.listing in
     let next = spot_of b.listing 0 in
-    with_spot next (with_jump body (with_branch scene place (Branch b.value) next (behind_spots 1 b.listing)))
+    with_spot next (with_jump body (with_branch scene place (Branch b.value) next
+    (behind_spots 1 b.listing)))
 
 -- the tests of clauses whose bodies have spots from i on
 unfoldable pub list_tests : List Clause → Scene → Place → Reg → ℕ → Listing → Listing
 list_tests [] scene place value i l = l
 list_tests (c ∷ cs) scene place value i l =
-    list_tests cs scene place value (i + 1) (list_test c.test scene place value (record { 0 = i }) l)
+    list_tests cs scene place value (i + 1)
+    (list_test c.test scene place value (record { 0 = i }) l)
 
 -- the spot of `default`, or of the end
 abbrev pub default_or : Option Form → Spot → Spot → Spot
@@ -253,7 +273,8 @@ default_spot (c ∷ cs) i end = default_or c.test (record { 0 = i }) (default_sp
 unfoldable pub list_bodies : List Clause → Around → ℕ → ℕ → Listing → Listing
 list_bodies [] around base i l = l
 list_bodies (c ∷ cs) around base i l =
-    list_bodies cs around base (i + 1) (list_all_statements c.body around base (with_spot (record { 0 = i }) l))
+    list_bodies cs around base (i + 1) (list_all_statements c.body around base
+    (with_spot (record { 0 = i }) l))
 
 abbrev pub count : List Clause → ℕ
 count [] = 0
@@ -264,13 +285,17 @@ list_switch value clauses place around base l =
     let v = value_of value around.scene (restarted base l) in
     let end = spot_of v.listing 0 in
     let first = v.listing.spot + 1 in
-    let tests = list_tests clauses around.scene place v.value first (behind_spots (1 + count clauses) v.listing) in
-    let bodies = list_bodies clauses (inside (of_switch end) around) (v.value.0 + 1) first (with_jump (default_spot clauses first end) tests) in
+    let tests = list_tests clauses around.scene place v.value first
+    (behind_spots (1 + count clauses) v.listing) in
+    let bodies = list_bodies clauses (inside (of_switch end) around) (v.value.0 + 1) first
+    (with_jump (default_spot clauses first end) tests) in
     with_spot end bodies
 
--- ---- `try` (12.14): the scope chain is kept in a register, and set again where the block is left by an error
+-- ---- `try` (12.14): the scope chain is kept in a register, and set again where the block is left
+-- by an error
 
--- a listing, the number of the first of the spots that a `try` has taken, and the register that keeps the scope chain
+-- a listing, the number of the first of the spots that a `try` has taken, and the register that
+-- keeps the scope chain
 pub record Guarded : Type 0 where
   pub listing : Listing
   pub first : ℕ
@@ -281,7 +306,9 @@ unfoldable pub list_guarded : List Does → Place → Around → ℕ → Listing
 list_guarded block place around base l =
     let saved = with_copy around.scene place scope (restarted base (behind_spots 2 l)) in
     record {
-      listing = list_all_statements block (handled_at (nth_spot l.spot 0) (unlabelled around)) (base + 1) saved.listing;
+      listing =
+          list_all_statements block (handled_at (nth_spot l.spot 0) (unlabelled around)) (base + 1)
+          saved.listing;
       first = l.spot;
       saved = saved.value;
     }
@@ -289,20 +316,24 @@ list_guarded block place around base l =
 -- the handler: the scope chain is set again, and an object before it binds the parameter
 unfoldable pub list_handler : Name → Place → Scene → Guarded → Listing
 list_handler parameter place scene y =
-    let back = with_move scene place scope y.saved (with_spot (nth_spot y.first 0) (with_jump (nth_spot y.first 1) y.listing)) in
-    with_node scene place (Bind (name_id scene parameter.text) (register 0) false) (with_node scene place (PushScope (site 0)) back)
+    let back = with_move scene place scope y.saved
+    (with_spot (nth_spot y.first 0) (with_jump (nth_spot y.first 1) y.listing)) in
+    with_node scene place (Bind (name_id scene parameter.text) (register 0) false)
+    (with_node scene place (PushScope (site 0)) back)
 
 unfoldable pub list_caught : Name → List Does → Place → Around → ℕ → Guarded → Listing
 list_caught parameter body place around base y =
-    let z = list_all_statements body (inside (of_catch y.saved) around) (base + 1) (list_handler parameter place around.scene y) in
+    let z = list_all_statements body (inside (of_catch y.saved) around) (base + 1)
+    (list_handler parameter place around.scene y) in
     with_spot (nth_spot y.first 1) (with_move around.scene place scope y.saved z)
 
 unfoldable pub list_catch : List Does → Name → List Does → Place → Does
 list_catch block parameter body place around base l =
     list_caught parameter body place around base (list_guarded block place around base l)
 
--- The block of a `finally` is listed once, around the statement, and copied on each way out: the normal one, that of an error,
--- and that of each jump. The spots are those of the handler, of the normal way, of the way of an error, and of the end.
+-- The block of a `finally` is listed once, around the statement, and copied on each way out: the
+-- normal one, that of an error, and that of each jump. The spots are those of the handler, of the
+-- normal way, of the way of an error, and of the end.
 pub record Kept : Type 0 where
   pub listing : Listing
   pub first : ℕ
@@ -312,7 +343,8 @@ pub record Kept : Type 0 where
 unfoldable pub keep_block : List Does → Place → Around → ℕ → Listing → Kept
 keep_block finally place around base l =
     let saved = with_copy around.scene place scope (restarted base (behind_spots 4 l)) in
-    let listed = list_all_statements finally (unlabelled around) (base + 1) (record { items = []; temporary = base + 1; spot = saved.listing.spot }) in
+    let listed = list_all_statements finally (unlabelled around) (base + 1)
+    (record { items = []; temporary = base + 1; spot = saved.listing.spot }) in
     record {
       listing = saved.listing;
       first = l.spot;
@@ -329,9 +361,13 @@ list_rethrow t place scene base l =
 -- the ways out of a block that are no jumps
 unfoldable pub list_ways_out : Place → Scene → ℕ → ℕ → Reg → Template → Listing → Listing
 list_ways_out place scene base first saved t y =
-    let back = with_jump (nth_spot first 2) (with_move scene place scope saved (with_spot (nth_spot first 0) (with_jump (nth_spot first 1) y))) in
-    let way = with_jump (nth_spot first 3) (with_block t saved (with_spot (nth_spot first 1) back)) in
-    with_spot (nth_spot first 3) (list_rethrow t place scene base (with_spot (nth_spot first 2) way))
+    let back = with_jump (nth_spot first 2)
+    (with_move scene place scope saved (with_spot (nth_spot first 0)
+    (with_jump (nth_spot first 1) y))) in
+    let way = with_jump (nth_spot first 3) (with_block t saved
+    (with_spot (nth_spot first 1) back)) in
+    with_spot (nth_spot first 3) (list_rethrow t place scene base
+    (with_spot (nth_spot first 2) way))
 
 -- what is around a block with a `finally`
 abbrev pub protected : Kept → Around → Around
@@ -340,12 +376,15 @@ protected k around = handled_at (nth_spot k.first 0) (inside (of_finally k.saved
 unfoldable pub list_finally : Does → List Does → Place → Does
 list_finally block finally place around base l =
     let k = keep_block finally place around base l in
-    list_ways_out place around.scene base k.first k.saved k.template (block (protected k around) (base + 1) k.listing)
+    list_ways_out place around.scene base k.first k.saved k.template
+    (block (protected k around) (base + 1) k.listing)
 
 abbrev pub list_try : List Does → Option (CatchOf Does) → Option (List Does) → Place → Does
 list_try block None None place around base l = list_all_statements block around base l
-list_try block (Some caught) None place around base l = list_catch block caught.parameter caught.body place around base l
-list_try block None (Some finally) place around base l = list_finally (list_all_statements block) finally place around base l
+list_try block (Some caught) None place around base l =
+    list_catch block caught.parameter caught.body place around base l
+list_try block None (Some finally) place around base l =
+    list_finally (list_all_statements block) finally place around base l
 list_try block (Some caught) (Some finally) place around base l =
     list_finally (list_catch block caught.parameter caught.body place) finally place around base l
 
@@ -353,23 +392,35 @@ list_try block (Some caught) (Some finally) place around base l =
 
 abbrev pub statement_step : Statement-F Form Does Clause → Does
 statement_step (Statement-F.Block body place) around base l = list_all_statements body around base l
-statement_step (Statement-F.Variables declarations place) around base l = declare_all declarations around.scene base l
+statement_step (Statement-F.Variables declarations place) around base l =
+    declare_all declarations around.scene base l
 statement_step (Statement-F.Empty place) around base l = l
-statement_step (Statement-F.Expression value place) around base l = (value_of value around.scene (restarted base l)).listing
-statement_step (Statement-F.If condition consequent otherwise place) around base l = list_if condition consequent otherwise place around base l
-statement_step (Statement-F.Do body condition place) around base l = list_do body condition place around base l
-statement_step (Statement-F.While condition body place) around base l = list_while condition body place around base l
-statement_step (Statement-F.For head condition update body place) around base l = list_for head condition update body place around base l
-statement_step (Statement-F.ForIn goal object body place) around base l = list_for_in goal object body place around base l
+statement_step (Statement-F.Expression value place) around base l =
+    (value_of value around.scene (restarted base l)).listing
+statement_step (Statement-F.If condition consequent otherwise place) around base l =
+    list_if condition consequent otherwise place around base l
+statement_step (Statement-F.Do body condition place) around base l =
+    list_do body condition place around base l
+statement_step (Statement-F.While condition body place) around base l =
+    list_while condition body place around base l
+statement_step (Statement-F.For head condition update body place) around base l =
+    list_for head condition update body place around base l
+statement_step (Statement-F.ForIn goal object body place) around base l =
+    list_for_in goal object body place around base l
 statement_step (Statement-F.Continue label place) around base l =
     jump_to around.scene place (continue_target (label_text label)) around.ways (leaving l)
 statement_step (Statement-F.Break label place) around base l =
     jump_to around.scene place (break_target (label_text label)) around.ways (leaving l)
-statement_step (Statement-F.Return value place) around base l = list_return value place around base l
-statement_step (Statement-F.Labelled label body) around base l = list_labelled label body around base l
-statement_step (Statement-F.Switch value clauses place) around base l = list_switch value clauses place around base l
-statement_step (Statement-F.Throw value place) around base l = list_throw value place around.scene base l
-statement_step (Statement-F.Try block caught finally place) around base l = list_try block caught finally place around base l
+statement_step (Statement-F.Return value place) around base l =
+    list_return value place around base l
+statement_step (Statement-F.Labelled label body) around base l =
+    list_labelled label body around base l
+statement_step (Statement-F.Switch value clauses place) around base l =
+    list_switch value clauses place around base l
+statement_step (Statement-F.Throw value place) around base l =
+    list_throw value place around.scene base l
+statement_step (Statement-F.Try block caught finally place) around base l =
+    list_try block caught finally place around base l
 -- a function declaration is done at the beginning of its function
 statement_step (Statement-F.Statement::Function function) around base l = l
 
@@ -381,10 +432,14 @@ abbrev pub Expressions : Type 0
 Expressions = Expression × Unit {0}
 
 abbrev pub statement_level : Statement-F Expressions (Statement × Does) (Case × Clause) → Does
-statement_level x = statement_step (map-Statement Expressions (Statement × Does) (Case × Clause) Form Does Clause (λ e. form e.0) (λ s. s.1) (λ c. c.1) x)
+statement_level x =
+    statement_step (map-Statement Expressions (Statement × Does) (Case × Clause) Form Does Clause
+    (λ e. form e.0) (λ s. s.1) (λ c. c.1) x)
 
 abbrev pub clause_level : Case-F Expressions (Statement × Does) (Case × Clause) → Clause
-clause_level x = clause_step (map-Case Expressions (Statement × Does) (Case × Clause) Form Does Clause (λ e. form e.0) (λ s. s.1) (λ c. c.1) x)
+clause_level x =
+    clause_step (map-Case Expressions (Statement × Does) (Case × Clause) Form Does Clause
+    (λ e. form e.0) (λ s. s.1) (λ c. c.1) x)
 
 -- how a statement is listed
 unfoldable pub does : Statement → Does

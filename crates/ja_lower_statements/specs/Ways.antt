@@ -1,4 +1,5 @@
--- The ways out of a statement (ES3 12.7 to 12.9): what a jump leaves, and the blocks of `finally` that it runs on its way.
+-- The ways out of a statement (ES3 12.7 to 12.9): what a jump leaves, and the blocks of `finally`
+-- that it runs on its way.
 use Rattle.std.specs.Prelude.{ℕ, if◌then◌else◌, List, [], ◌∷◌, Option, Some, None, unwrap_or}
 use Rattle.std.specs.List.{list_any}
 use Rattle.std.specs.Str.{bytes_eq}
@@ -32,11 +33,13 @@ break_target label way = None
 
 abbrev pub continue_target : Option (List ℕ) → Way → Option Spot
 continue_target None (of_loop labels end turn) = Some turn
-continue_target (Some label) (of_loop labels end turn) = if list_any (bytes_eq label) labels then Some turn else None
+continue_target (Some label) (of_loop labels end turn) =
+    if list_any (bytes_eq label) labels then Some turn else None
 continue_target label way = None
 
--- What a jump does on its way. Blocks of `catch` that it left have put an object before the scope chain: the register that the
--- outermost of them kept has the scope chain that is to be in force, unless a `finally` has set it since.
+-- What a jump does on its way. Blocks of `catch` that it left have put an object before the scope
+-- chain: the register that the outermost of them kept has the scope chain that is to be in force,
+-- unless a `finally` has set it since.
 pub record Leaving : Type 0 where
   pub listing : Listing
   pub kept : Option Reg
@@ -46,7 +49,8 @@ abbrev pub with_scope : Scene → Place → Option Reg → Reg → Listing → L
 with_scope scene place None saved l = l
 with_scope scene place (Some kept) saved l = with_move scene place scope saved l
 
--- the register above which a copy stands: that of the scope chain that the `try` kept, or of a value that is returned
+-- the register above which a copy stands: that of the scope chain that the `try` kept, or of a
+-- value that is returned
 abbrev pub copied_above : Option Reg → Reg → Reg
 copied_above value saved = unwrap_or value saved
 
@@ -75,12 +79,14 @@ arrive_or None there on = on
 unfoldable pub jump_to : Scene → Place → (Way → Option Spot) → List Way → Leaving → Listing
 jump_to scene place target [] v = v.listing
 jump_to scene place target (w ∷ ws) v =
-    arrive_or (target w) (arrive scene place v) (jump_to scene place target ws (leave scene place None w v))
+    arrive_or (target w) (arrive scene place v)
+    (jump_to scene place target ws (leave scene place None w v))
 
 -- all ways of a function, which a `return` leaves with a value in a register
 unfoldable pub leave_all : Scene → Place → Reg → List Way → Leaving → Listing
 leave_all scene place value [] v = v.listing
-leave_all scene place value (w ∷ ws) v = leave_all scene place value ws (leave scene place (Some value) w v)
+leave_all scene place value (w ∷ ws) v =
+    leave_all scene place value ws (leave scene place (Some value) w v)
 
 abbrev pub leaving : Listing → Leaving
 leaving l = record { listing = l; kept = None }

@@ -11,8 +11,8 @@ use ja_lower_draft::{Draft, Scene};
 use ja_lower_listing::Spot;
 use std::alloc::Global;
 
-/// What is around a statement: the scene, the ways that its jumps leave, the innermost first, and the labels right
-/// before it.
+/// What is around a statement: the scene, the ways that its jumps leave, the innermost first, and
+/// the labels right before it.
 #[derive(Clone, Copy)]
 pub struct Around<'s, 't, 'a> {
     pub scene: &'a Scene<'s, 't>,
@@ -53,7 +53,8 @@ pub(crate) fn with_label<'a>(
     label: &'a [u16],
     labels: &[&'a [u16]],
 ) -> Result<Vec<&'a [u16]>, Memory>
-    ensures { IfOk result (λ all. map (λ t. t.now) all.items ≡ label.now ∷ map (λ t. t.now) labels.now) }
+    ensures { IfOk result (λ all. map (λ t. t.now) all.items ≡ label.now
+        ∷ map (λ t. t.now) labels.now) }
 {
     let mut all = Vec::new(alloc);
     all.push(label)?;
@@ -91,7 +92,8 @@ pub(crate) fn nth_spot(first: u32, index: u32) -> Result<Spot, Memory>
     }
 }
 
-/// The first two of the spots that a statement has taken. Past the last number memory counts as refused.
+/// The first two of the spots that a statement has taken. Past the last number memory counts as
+/// refused.
 pub(crate) fn two_spots(first: u32) -> Result<(Spot, Spot), Memory>
     ensures { IfOk result (λ spots. spots ≡ (spec.nth_spot first 0, spec.nth_spot first 1)) }
 {
@@ -103,7 +105,12 @@ pub(crate) fn two_spots(first: u32) -> Result<(Spot, Spot), Memory>
 
 /// The four of the spots that a statement has taken. Past the last number memory counts as refused.
 pub(crate) fn four_spots(first: u32) -> Result<(Spot, Spot, Spot, Spot), Memory>
-    ensures { IfOk result (λ spots. spots ≡ (spec.nth_spot first 0, spec.nth_spot first 1, spec.nth_spot first 2, spec.nth_spot first 3)) }
+    ensures { IfOk result (λ spots. spots ≡ (
+      spec.nth_spot first 0,
+      spec.nth_spot first 1,
+      spec.nth_spot first 2,
+      spec.nth_spot first 3,
+    )) }
 {
     match first.checked_add(3) {
         Some(fourth) => Ok((Spot(first), Spot(first + 1), Spot(first + 2), Spot(fourth))),
@@ -113,7 +120,8 @@ pub(crate) fn four_spots(first: u32) -> Result<(Spot, Spot, Spot, Spot), Memory>
 
 /// Takes two spots. Past the last number memory counts as refused.
 pub(crate) fn take_two(draft: &mut Draft) -> Result<(Spot, Spot), Memory>
-    ensures spots { IfOk result (λ spots. spots ≡ (lines.spot_of draft.old 0, lines.spot_of draft.old 1)) }
+    ensures spots { IfOk result (λ spots. spots
+        ≡ (lines.spot_of draft.old 0, lines.spot_of draft.old 1)) }
     ensures next { OnOk result (draft.new ≡ lines.behind_spots 2 draft.old) }
 {
     let first = draft.take_spots(2)?;
@@ -122,7 +130,8 @@ pub(crate) fn take_two(draft: &mut Draft) -> Result<(Spot, Spot), Memory>
 
 /// Takes three spots. Past the last number memory counts as refused.
 pub(crate) fn take_three(draft: &mut Draft) -> Result<(Spot, Spot, Spot), Memory>
-    ensures spots { IfOk result (λ spots. spots ≡ (lines.spot_of draft.old 0, lines.spot_of draft.old 1, lines.spot_of draft.old 2)) }
+    ensures spots { IfOk result (λ spots. spots
+        ≡ (lines.spot_of draft.old 0, lines.spot_of draft.old 1, lines.spot_of draft.old 2)) }
     ensures next { OnOk result (draft.new ≡ lines.behind_spots 3 draft.old) }
 {
     let first = draft.take_spots(3)?;

@@ -26,7 +26,8 @@ fn guarded(
     place: Place,
     draft: &mut Draft,
 ) -> Result<Guarded, Memory>
-    ensures { Guards (spec.list_guarded (map spec.does block.now) place (around_of around.now) base draft.old) result draft.new }
+    ensures { Guards (spec.list_guarded (map spec.does block.now) place (around_of around.now) base
+        draft.old) result draft.new }
 {
     let outer = around.scene;
     let first = draft.take_spots(2)?;
@@ -55,7 +56,8 @@ fn caught(
     guarded: Guarded,
     draft: &mut Draft,
 ) -> Result<(), Memory>
-    ensures { lines.Adds (spec.list_caught parameter.now (map spec.does body.now) place (around_of around.now) base (guarded_at guarded draft.old)) result draft.new }
+    ensures { lines.Adds (spec.list_caught parameter.now (map spec.does body.now) place
+        (around_of around.now) base (guarded_at guarded draft.old)) result draft.new }
 {
     let scene = around.scene;
     handler(parameter, scene, place, guarded, draft)?;
@@ -82,7 +84,8 @@ fn keep(
     place: Place,
     draft: &mut Draft,
 ) -> Result<Kept, Memory>
-    ensures { Keeps (spec.keep_block (map spec.does block.now) place (around_of around.now) base draft.old) result draft.new }
+    ensures { Keeps (spec.keep_block (map spec.does block.now) place (around_of around.now) base
+        draft.old) result draft.new }
 {
     let scene = around.scene;
     let first = draft.take_spots(4)?;
@@ -110,7 +113,8 @@ pub(crate) fn trial(
     base: u32,
     draft: &mut Draft,
 ) -> Result<(), Memory>
-    ensures { lines.Adds (code.does_trial statement.now (around_of around.now) base draft.old) result draft.new }
+    ensures { lines.Adds (code.does_trial statement.now (around_of around.now) base draft.old)
+        result draft.new }
 {
     let scene = around.scene;
     match statement {

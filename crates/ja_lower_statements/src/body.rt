@@ -58,7 +58,8 @@ fn bind_function(
     base: u32,
     draft: &mut Draft,
 ) -> Result<(), Memory>
-    ensures { lines.Adds (spec.bind_function scene.now place name.now base draft.old) result draft.new }
+    ensures { lines.Adds (spec.bind_function scene.now place name.now base draft.old) result
+        draft.new }
 {
     match name {
         None => Ok(()),
@@ -82,7 +83,8 @@ fn declare_function(
     base: u32,
     draft: &mut Draft,
 ) -> Result<(), Memory>
-    ensures { lines.Adds (spec.declare_function_of scene.now statement.now base draft.old) result draft.new }
+    ensures { lines.Adds (spec.declare_function_of scene.now statement.now base draft.old) result
+        draft.new }
 {
     match statement {
         Statement::Function(function) => {
@@ -100,7 +102,8 @@ fn declare_functions(
     base: u32,
     draft: &mut Draft,
 ) -> Result<(), Memory>
-    ensures { lines.Adds (spec.declare_functions scene.now statements.now base draft.old) result draft.new }
+    ensures { lines.Adds (spec.declare_functions scene.now statements.now base draft.old) result
+        draft.new }
 {
     for statement in statements {
         declare_function(scene, statement, base, draft)?;
@@ -116,7 +119,8 @@ fn declare_variables(
     variables: &[Text16],
     draft: &mut Draft,
 ) -> Result<(), Memory>
-    ensures { lines.Adds (spec.declare_variables scene.now place variables.now draft.old) result draft.new }
+    ensures { lines.Adds (spec.declare_variables scene.now place variables.now draft.old) result
+        draft.new }
 {
     for variable in variables {
         let name = scene.name(variable.units());
@@ -157,8 +161,8 @@ fn body(
     end(scene, place, base, draft)
 }
 
-/// The first temporary of a function with that many parameters. Past the last number that a register
-/// may have memory counts as refused.
+/// The first temporary of a function with that many parameters. Past the last number that a
+/// register may have memory counts as refused.
 fn first_temporary(parameters: usize) -> Result<u32, Memory>
     ensures { IfOk result (λ r. r ≡ spec.first_temporary parameters) }
 {
@@ -193,8 +197,8 @@ pub fn program_listing(scene: &Scene<'_, '_>, inside: &[Statement]) -> Result<Dr
     beginning_with_node(&scene, draft)
 }
 
-/// The listing of a function, at the place of its word `function`. It fails as `program_listing` does,
-/// and where there are more than 1,000,000,000 parameters.
+/// The listing of a function, at the place of its word `function`. It fails as `program_listing`
+/// does, and where there are more than 1,000,000,000 parameters.
 #[tactic(auto, unfolding(crate::specs::Functions::function_listing))]
 pub fn function_listing(scene: &Scene<'_, '_>, function: &FunctionTree) -> Result<Draft, Memory>
     ensures { IfOk result (λ draft. draft.items ≡ spec.function_listing scene.now function.now) }

@@ -29,7 +29,8 @@ pub(crate) fn if_alone(
     place: Place,
     draft: &mut Draft,
 ) -> Result<(), Memory>
-    ensures { lines.Adds (spec.list_if_alone (form condition.now) (spec.does then.now) place (around_of around.now) base draft.old) result draft.new }
+    ensures { lines.Adds (spec.list_if_alone (form condition.now) (spec.does then.now) place
+        (around_of around.now) base draft.old) result draft.new }
 {
     let inner = around.unlabelled();
     draft.restart(base);
@@ -49,7 +50,8 @@ pub(crate) fn if_then(
     place: Place,
     draft: &mut Draft,
 ) -> Result<u32, Memory>
-    ensures { code.Spots (spec.list_then (form condition.now) (spec.does then.now) place (around_of around.now) base draft.old) result draft.new }
+    ensures { code.Spots (spec.list_then (form condition.now) (spec.does then.now) place
+        (around_of around.now) base draft.old) result draft.new }
 {
     let inner = around.unlabelled();
     draft.restart(base);
@@ -68,7 +70,8 @@ pub(crate) fn if_else(
     base: u32,
     draft: &mut Draft,
 ) -> Result<(), Memory>
-    ensures { lines.Adds (spec.list_else (spec.does otherwise.now) (around_of around.now) base (record { listing = draft.old; first = first })) result draft.new }
+    ensures { lines.Adds (spec.list_else (spec.does otherwise.now) (around_of around.now) base
+        (record { listing = draft.old; first = first })) result draft.new }
 {
     let inner = around.unlabelled();
     let (other, end) = two_spots(first)?;
@@ -88,7 +91,8 @@ pub(crate) fn labelled(
     base: u32,
     draft: &mut Draft,
 ) -> Result<(), Memory>
-    ensures { lines.Adds (spec.list_labelled label.now (spec.does body.now) (around_of around.now) base draft.old) result draft.new }
+    ensures { lines.Adds (spec.list_labelled label.now (spec.does body.now) (around_of around.now)
+        base draft.old) result draft.new }
 {
     let scene = around.scene;
     let first = draft.take_spots(1)?;
@@ -115,7 +119,8 @@ fn bodies(
     first: u32,
     draft: &mut Draft,
 ) -> Result<(), Memory>
-    ensures { lines.Adds (spec.list_bodies (map code.clause_of cases.now) (around_of around.now) base first draft.old) result draft.new }
+    ensures { lines.Adds (spec.list_bodies (map code.clause_of cases.now) (around_of around.now)
+        base first draft.old) result draft.new }
 {
     let mut number = first;
     for case in cases {
@@ -137,7 +142,8 @@ pub(crate) fn switch(
     place: Place,
     draft: &mut Draft,
 ) -> Result<(), Memory>
-    ensures { lines.Adds (spec.list_switch (form subject.now) (map code.clause_of cases.now) place (around_of around.now) base draft.old) result draft.new }
+    ensures { lines.Adds (spec.list_switch (form subject.now) (map code.clause_of cases.now) place
+        (around_of around.now) base draft.old) result draft.new }
 {
     let scene = around.scene;
     draft.restart(base);

@@ -34,7 +34,8 @@ pub(crate) fn test(
     body: Spot,
     draft: &mut Draft,
 ) -> Result<(), Memory>
-    ensures { lines.Adds (spec.list_test (code.clause_of case.now).test scene.now place switched body draft.old) result draft.new }
+    ensures { lines.Adds (spec.list_test (code.clause_of case.now).test scene.now place switched
+        body draft.old) result draft.new }
 {
     match &case.test {
         None => Ok(()),
@@ -67,7 +68,8 @@ pub(crate) fn tests(
     first: u32,
     draft: &mut Draft,
 ) -> Result<(), Memory>
-    ensures { lines.Adds (spec.list_tests (map code.clause_of cases.now) scene.now place switched first draft.old) result draft.new }
+    ensures { lines.Adds (spec.list_tests (map code.clause_of cases.now) scene.now place switched
+        first draft.old) result draft.new }
 {
     let mut number = first;
     for case in cases {
@@ -80,7 +82,8 @@ pub(crate) fn tests(
 /// The spot of `default`, or of the end.
 #[tactic(auto, unfolding(crate::specs::Statements::default_spot))]
 pub(crate) fn default_spot(cases: &[Case], first: u32, end: Spot) -> Result<Spot, Memory>
-    ensures { IfOk result (λ spot. spot ≡ spec.default_spot (map code.clause_of cases.now) first end) }
+    ensures { IfOk result (λ spot. spot ≡ spec.default_spot (map code.clause_of cases.now) first
+        end) }
 {
     let mut number = first;
     for case in cases {

@@ -32,7 +32,8 @@ fn turn_body(
     turn: Spot,
     draft: &mut Draft,
 ) -> Result<(), Memory>
-    ensures { lines.Adds (spec.list_body (spec.does body.now) (around_of around.now) base end turn draft.old) result draft.new }
+    ensures { lines.Adds (spec.list_body (spec.does body.now) (around_of around.now) base end turn
+        draft.old) result draft.new }
 {
     let scene = around.scene;
     let ways = with_way(
@@ -59,7 +60,8 @@ pub(crate) fn do_loop(
     place: Place,
     draft: &mut Draft,
 ) -> Result<(), Memory>
-    ensures { lines.Adds (spec.list_do (spec.does body.now) (form test.now) place (around_of around.now) base draft.old) result draft.new }
+    ensures { lines.Adds (spec.list_do (spec.does body.now) (form test.now) place
+        (around_of around.now) base draft.old) result draft.new }
 {
     let scene = around.scene;
     let (top, turn, end) = take_three(draft)?;
@@ -84,7 +86,8 @@ pub(crate) fn while_loop(
     place: Place,
     draft: &mut Draft,
 ) -> Result<(), Memory>
-    ensures { lines.Adds (spec.list_while (form test.now) (spec.does body.now) place (around_of around.now) base draft.old) result draft.new }
+    ensures { lines.Adds (spec.list_while (form test.now) (spec.does body.now) place
+        (around_of around.now) base draft.old) result draft.new }
 {
     let scene = around.scene;
     let (turn, end) = take_two(draft)?;
@@ -110,7 +113,9 @@ pub(crate) fn for_loop(
     place: Place,
     draft: &mut Draft,
 ) -> Result<(), Memory>
-    ensures { lines.Adds (spec.list_for (code.for_first_of head.now) (option_map form test.now) (option_map form update.now) (spec.does body.now) place (around_of around.now) base draft.old) result draft.new }
+    ensures { lines.Adds (spec.list_for (code.for_first_of head.now) (option_map form test.now)
+        (option_map form update.now) (spec.does body.now) place (around_of around.now) base
+        draft.old) result draft.new }
 {
     let scene = around.scene;
     let (top, turn, end) = take_three(draft)?;
@@ -139,7 +144,8 @@ fn for_in_turn(
     end: Spot,
     draft: &mut Draft,
 ) -> Result<Reg, Memory>
-    ensures { lines.Gives (spec.for_in_turn (code.target_of target.now) (form subject.now) place scene.now base turn end draft.old) result draft.new }
+    ensures { lines.Gives (spec.for_in_turn (code.target_of target.now) (form subject.now) place
+        scene.now base turn end draft.old) result draft.new }
 {
     draft.restart(base);
     for_in_first(target, scene, draft)?;
@@ -167,7 +173,8 @@ pub(crate) fn for_in_loop(
     place: Place,
     draft: &mut Draft,
 ) -> Result<(), Memory>
-    ensures { lines.Adds (spec.list_for_in (code.target_of target.now) (form subject.now) (spec.does body.now) place (around_of around.now) base draft.old) result draft.new }
+    ensures { lines.Adds (spec.list_for_in (code.target_of target.now) (form subject.now)
+        (spec.does body.now) place (around_of around.now) base draft.old) result draft.new }
 {
     let (turn, end) = take_two(draft)?;
     let list = for_in_turn(target, subject, around.scene, base, place, turn, end, draft)?;

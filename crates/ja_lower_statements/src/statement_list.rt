@@ -24,7 +24,8 @@ pub fn statements(
     statements: &[Statement],
     draft: &mut Draft,
 ) -> Result<(), Memory>
-    ensures { lines.Adds (spec.list_all_statements (map spec.does statements.now) (around_of around.now) base draft.old) result draft.new }
+    ensures { lines.Adds (spec.list_all_statements (map spec.does statements.now)
+        (around_of around.now) base draft.old) result draft.new }
 {
     let inner = around.unlabelled();
     for next in statements {
@@ -33,8 +34,8 @@ pub fn statements(
     Ok(())
 }
 
-/// Lists a statement, with temporaries from a register on. It fails where memory is refused, or where
-/// the numbers of temporaries, spots or functions are used up.
+/// Lists a statement, with temporaries from a register on. It fails where memory is refused, or
+/// where the numbers of temporaries, spots or functions are used up.
 #[cycle(statements)]
 #[tactic(auto, using(crate::proofs::StatementLemmas::does_if_else))]
 pub fn statement(
@@ -43,7 +44,8 @@ pub fn statement(
     statement: &Statement,
     draft: &mut Draft,
 ) -> Result<(), Memory>
-    ensures { lines.Adds (spec.does statement.now (around_of around.now) base draft.old) result draft.new }
+    ensures { lines.Adds (spec.does statement.now (around_of around.now) base draft.old) result
+        draft.new }
 {
     let scene = around.scene;
     match statement {

@@ -32,7 +32,8 @@ pub(crate) fn branch(
     other: Spot,
     draft: &mut Draft,
 ) -> Result<(), Memory>
-    ensures { code_lines.Adds (lines.with_branch scene.now place node other draft.old) result draft.new }
+    ensures { code_lines.Adds (lines.with_branch scene.now place node other draft.old) result
+        draft.new }
 {
     draft.branch(scene.handler, place, node, other)
 }
@@ -43,7 +44,8 @@ pub(crate) fn declare(
     scene: &Scene<'_, '_>,
     draft: &mut Draft,
 ) -> Result<(), Memory>
-    ensures { code_lines.Adds (spec.declare_with declaration.now.name (code.declaration_of declaration.now).initialiser scene.now draft.old) result draft.new }
+    ensures { code_lines.Adds (spec.declare_with declaration.now.name
+        (code.declaration_of declaration.now).initialiser scene.now draft.old) result draft.new }
 {
     match &declaration.initialiser {
         None => Ok(()),
@@ -63,7 +65,8 @@ pub(crate) fn declare_all(
     base: u32,
     draft: &mut Draft,
 ) -> Result<(), Memory>
-    ensures { code_lines.Adds (spec.declare_all (map code.declaration_of declarations.now) scene.now base draft.old) result draft.new }
+    ensures { code_lines.Adds (spec.declare_all (map code.declaration_of declarations.now) scene.now
+        base draft.old) result draft.new }
 {
     for declaration in declarations {
         draft.restart(base);
@@ -79,7 +82,8 @@ pub(crate) fn condition(
     place: Place,
     draft: &mut Draft,
 ) -> Result<Reg, Memory>
-    ensures { code_lines.Gives (spec.with_condition (form condition.now) scene.now place draft.old) result draft.new }
+    ensures { code_lines.Gives (spec.with_condition (form condition.now) scene.now place draft.old)
+        result draft.new }
 {
     let value = value(scene, condition, draft)?;
     truth(scene, place, value, draft)
@@ -94,7 +98,8 @@ pub(crate) fn branch_on(
     place: Place,
     draft: &mut Draft,
 ) -> Result<u32, Memory>
-    ensures { code.Spots (spec.list_branch spots (form test.now) scene.now place draft.old) result draft.new }
+    ensures { code.Spots (spec.list_branch spots (form test.now) scene.now place draft.old) result
+        draft.new }
 {
     let src = condition(test, scene, place, draft)?;
     let first = draft.take_spots(spots)?;
@@ -109,7 +114,8 @@ pub(crate) fn for_condition(
     place: Place,
     draft: &mut Draft,
 ) -> Result<Reg, Memory>
-    ensures { code_lines.Gives (spec.for_condition (option_map form test.now) scene.now place draft.old) result draft.new }
+    ensures { code_lines.Gives (spec.for_condition (option_map form test.now) scene.now place
+        draft.old) result draft.new }
 {
     match test {
         None => {
@@ -126,7 +132,8 @@ pub(crate) fn for_update(
     scene: &Scene<'_, '_>,
     draft: &mut Draft,
 ) -> Result<(), Memory>
-    ensures { code_lines.Adds (spec.for_update (option_map form update.now) scene.now draft.old) result draft.new }
+    ensures { code_lines.Adds (spec.for_update (option_map form update.now) scene.now draft.old)
+        result draft.new }
 {
     match update {
         None => Ok(()),
@@ -144,7 +151,8 @@ pub(crate) fn for_first(
     base: u32,
     draft: &mut Draft,
 ) -> Result<(), Memory>
-    ensures { code_lines.Adds (spec.for_first (code.for_first_of first.now) scene.now base draft.old) result draft.new }
+    ensures { code_lines.Adds (spec.for_first (code.for_first_of first.now) scene.now base
+        draft.old) result draft.new }
 {
     match first {
         ForFirst::Nothing => Ok(()),
@@ -164,7 +172,8 @@ pub(crate) fn for_in_reference(
     scene: &Scene<'_, '_>,
     draft: &mut Draft,
 ) -> Result<Outcome, Memory>
-    ensures { code_references.Comes (spec.for_in_reference (code.target_of target.now) scene.now draft.old) result draft.new }
+    ensures { code_references.Comes (spec.for_in_reference (code.target_of target.now) scene.now
+        draft.old) result draft.new }
 {
     match target {
         ForTarget::Variable(declaration) => {
@@ -181,7 +190,8 @@ pub(crate) fn for_in_first(
     scene: &Scene<'_, '_>,
     draft: &mut Draft,
 ) -> Result<(), Memory>
-    ensures { code_lines.Adds (spec.for_in_first (code.target_of target.now) scene.now draft.old) result draft.new }
+    ensures { code_lines.Adds (spec.for_in_first (code.target_of target.now) scene.now draft.old)
+        result draft.new }
 {
     match target {
         ForTarget::Variable(declaration) => declare(declaration, scene, draft),
@@ -196,7 +206,8 @@ fn returned(
     place: Place,
     draft: &mut Draft,
 ) -> Result<Reg, Memory>
-    ensures { code_lines.Gives (spec.returned (option_map form value.now) scene.now place draft.old) result draft.new }
+    ensures { code_lines.Gives (spec.returned (option_map form value.now) scene.now place draft.old)
+        result draft.new }
 {
     match value {
         None => constant(scene, place, Primitive::Undefined, draft),
@@ -212,7 +223,8 @@ pub(crate) fn return_from(
     place: Place,
     draft: &mut Draft,
 ) -> Result<(), Memory>
-    ensures { code_lines.Adds (spec.list_return (option_map form value.now) place (around_of around.now) base draft.old) result draft.new }
+    ensures { code_lines.Adds (spec.list_return (option_map form value.now) place
+        (around_of around.now) base draft.old) result draft.new }
 {
     let scene = around.scene;
     draft.restart(base);
@@ -229,7 +241,8 @@ pub(crate) fn throw(
     place: Place,
     draft: &mut Draft,
 ) -> Result<(), Memory>
-    ensures { code_lines.Adds (spec.list_throw (form expression.now) place scene.now base draft.old) result draft.new }
+    ensures { code_lines.Adds (spec.list_throw (form expression.now) place scene.now base draft.old)
+        result draft.new }
 {
     draft.restart(base);
     let src = value(scene, expression, draft)?;
@@ -243,7 +256,8 @@ pub(crate) fn evaluate(
     base: u32,
     draft: &mut Draft,
 ) -> Result<(), Memory>
-    ensures { code_lines.Adds (references.value_of (form expression.now) scene.now (lines.restarted base draft.old)).listing result draft.new }
+    ensures { code_lines.Adds (references.value_of (form expression.now) scene.now
+        (lines.restarted base draft.old)).listing result draft.new }
 {
     draft.restart(base);
     value(scene, expression, draft)?;

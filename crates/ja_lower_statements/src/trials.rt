@@ -47,7 +47,8 @@ pub(crate) fn handler(
     guarded: Guarded,
     draft: &mut Draft,
 ) -> Result<(), Memory>
-    ensures { lines.Adds (spec.list_handler parameter.now place scene.now (guarded_at guarded draft.old)) result draft.new }
+    ensures { lines.Adds (spec.list_handler parameter.now place scene.now
+        (guarded_at guarded draft.old)) result draft.new }
 {
     let (handler, end) = two_spots(guarded.first)?;
     draft.jump(end)?;
@@ -71,7 +72,8 @@ pub(crate) fn rethrow(
     base: u32,
     draft: &mut Draft,
 ) -> Result<(), Memory>
-    ensures { lines.Adds (spec.list_rethrow template.now place scene.now base draft.old) result draft.new }
+    ensures { lines.Adds (spec.list_rethrow template.now place scene.now base draft.old) result
+        draft.new }
 {
     let inner = later(base, 1)?;
     draft.restart(inner);
@@ -89,7 +91,8 @@ pub(crate) fn ways_out(
     base: u32,
     draft: &mut Draft,
 ) -> Result<(), Memory>
-    ensures { lines.Adds (spec.list_ways_out place scene.now base kept.now.first kept.now.saved kept.now.template draft.old) result draft.new }
+    ensures { lines.Adds (spec.list_ways_out place scene.now base kept.now.first kept.now.saved
+        kept.now.template draft.old) result draft.new }
 {
     let (handler, normal, exceptional, end) = four_spots(kept.first)?;
     draft.jump(normal)?;

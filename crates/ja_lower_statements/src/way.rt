@@ -189,7 +189,8 @@ fn leave_finally(
     kept: Option<Reg>,
     draft: &mut Draft,
 ) -> Result<Option<Reg>, Memory>
-    ensures { Leaves (spec.leave scene.now place value (spec.of_finally saved block.now) (record { listing = draft.old; kept = kept })) result draft.new }
+    ensures { Leaves (spec.leave scene.now place value (spec.of_finally saved block.now)
+        (record { listing = draft.old; kept = kept })) result draft.new }
 {
     set_scope(scene, place, kept, saved, draft)?;
     draft.block(block, value.unwrap_or(saved))?;
@@ -206,7 +207,8 @@ fn leave(
     kept: Option<Reg>,
     draft: &mut Draft,
 ) -> Result<Option<Reg>, Memory>
-    ensures { Leaves (spec.leave scene.now place value (way_of way.now) (record { listing = draft.old; kept = kept })) result draft.new }
+    ensures { Leaves (spec.leave scene.now place value (way_of way.now)
+        (record { listing = draft.old; kept = kept })) result draft.new }
 {
     match way.step {
         Step::Catch { saved } => Ok(Some(saved)),
@@ -226,7 +228,8 @@ fn arrive(
     target: Spot,
     draft: &mut Draft,
 ) -> Result<(), Memory>
-    ensures { lines.Adds (spec.arrive scene.now place (record { listing = draft.old; kept = kept }) target) result draft.new }
+    ensures { lines.Adds (spec.arrive scene.now place (record { listing = draft.old; kept = kept })
+        target) result draft.new }
 {
     if let Some(kept) = kept {
         set(scene, place, SCOPE, kept, draft)?;
@@ -243,7 +246,8 @@ pub(crate) fn break_out(
     ways: &[Way<'_>],
     draft: &mut Draft,
 ) -> Result<(), Memory>
-    ensures { lines.Adds (spec.jump_to scene.now place (spec.break_target (label_text label.now)) (map way_of ways.now) (spec.leaving draft.old)) result draft.new }
+    ensures { lines.Adds (spec.jump_to scene.now place (spec.break_target (label_text label.now))
+        (map way_of ways.now) (spec.leaving draft.old)) result draft.new }
 {
     let mut kept = None;
     for way in ways {
@@ -264,7 +268,8 @@ pub(crate) fn continue_out(
     ways: &[Way<'_>],
     draft: &mut Draft,
 ) -> Result<(), Memory>
-    ensures { lines.Adds (spec.jump_to scene.now place (spec.continue_target (label_text label.now)) (map way_of ways.now) (spec.leaving draft.old)) result draft.new }
+    ensures { lines.Adds (spec.jump_to scene.now place (spec.continue_target (label_text label.now))
+        (map way_of ways.now) (spec.leaving draft.old)) result draft.new }
 {
     let mut kept = None;
     for way in ways {
@@ -285,7 +290,8 @@ pub(crate) fn leave_all(
     ways: &[Way<'_>],
     draft: &mut Draft,
 ) -> Result<(), Memory>
-    ensures { lines.Adds (spec.leave_all scene.now place value (map way_of ways.now) (spec.leaving draft.old)) result draft.new }
+    ensures { lines.Adds (spec.leave_all scene.now place value (map way_of ways.now)
+        (spec.leaving draft.old)) result draft.new }
 {
     let mut kept = None;
     for way in ways {

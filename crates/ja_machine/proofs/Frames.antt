@@ -1,4 +1,5 @@
--- The frames of a state stay as they should be: in a heap that grows, with a register set, and at the entry of a function.
+-- The frames of a state stay as they should be: in a heap that grows, with a register set, and at
+-- the entry of a function.
 use Rattle.std.proofs.Common.{◌≡◌, ◌≢◌, ◌⊎◌, ℕ, suc, ◌+◌, ◌-◌, ◌<◌, ◌≤◌, List, [], ◌∷◌, ◌++◌, length, map, replicate, Some, None, Option, inl, inr, refl, sym, ap, ◌∙◌, subst, arith, length-set, length-append}
 use Rattle.std.specs.Prelude.{slice_get, slice_set, unwrap_or}
 use Rattle.std.specs.List.{AllByRecursion, range_with_len}
@@ -27,25 +28,31 @@ use Rattle.ja_machine.proofs.Heaps.{Grows, value_grows}
 -- ---- registers
 
 -- a register of the frame holds its value
-pub register_held : (f : Frame) (r : Reg) → r.0 < length f.registers → slice_get f.registers r.0 ≡ Some (register_of f r)
-register_held f r l = let (v, e) = element_within f.registers r.0 l in e ∙ ap Some (sym (ap (λ o. unwrap_or o undefined) e))
+pub register_held : (f : Frame) (r : Reg) → r.0 < length f.registers
+    → slice_get f.registers r.0 ≡ Some (register_of f r)
+register_held f r l = let (v, e) = element_within f.registers r.0 l in
+    e ∙ ap Some (sym (ap (λ o. unwrap_or o undefined) e))
 
 -- .. which is one of the heap
-pub register_value : (p : Program) (h : Heap) (f : Frame) (k : IsFrame p h f) (r : Reg) → IsRegister k.function r → IsValueOf h (register_of f r)
+pub register_value : (p : Program) (h : Heap) (f : Frame) (k : IsFrame p h f) (r : Reg)
+    → IsRegister k.function r → IsValueOf h (register_of f r)
 register_value p h f k r fits =
     let e : length f.registers ≡ k.function.registers = k.registers in
     k.values r.0 (register_of f r) (register_held f r (omega arith))
 
 -- what a register holds after a write
-written_cases : (registers : List Value) (d r : ℕ) (v u : Value) → d < length registers → slice_get (slice_set registers d v) r ≡ Some u → (v ≡ u) ⊎ (slice_get registers r ≡ Some u)
+written_cases : (registers : List Value) (d r : ℕ) (v u : Value) → d < length registers
+    → slice_get (slice_set registers d v) r ≡ Some u → (v ≡ u) ⊎ (slice_get registers r ≡ Some u)
 written_cases registers d r v u l e =
     elim (cases_eq r d) [
-      | inl f ↦ inl (same_Some v u (sym (slice_get-set_same registers d v l) ∙ (ap (slice_get (slice_set registers d v)) (sym f) ∙ e)))
+      | inl f ↦ inl (same_Some v u (sym (slice_get-set_same registers d v l)
+          ∙ (ap (slice_get (slice_set registers d v)) (sym f) ∙ e)))
       | inr f ↦ inr (sym (slice_get-set_other registers d r v f) ∙ e)
     ]
 
 -- `this`, `callee`, `count`, the parameters and the rest of the arguments aren't set
-not_set : (fn : Function) (dst : Reg) (i : ℕ) → IsDestination fn dst → i < fixed_registers fn → (i ≡ 0 → ⊥) → (i ≡ 2 → ⊥) → i ≢ dst.0
+not_set : (fn : Function) (dst : Reg) (i : ℕ) → IsDestination fn dst → i < fixed_registers fn
+    → (i ≡ 0 → ⊥) → (i ≡ 2 → ⊥) → i ≢ dst.0
 not_set fn dst i (fits, inl first) below not_thrown not_scope e = not_thrown (e ∙ first)
 not_set fn dst i (fits, inr (inl third)) below not_thrown not_scope e = not_scope (e ∙ third)
 not_set fn dst i (fits, inr (inr late)) below not_thrown not_scope e = omega arith
@@ -54,7 +61,8 @@ not_set fn dst i (fits, inr (inr late)) below not_thrown not_scope e = omega ari
 
 module _ (p : Program) (h now : Heap) (grows : Grows h now) (f : Frame) (k : IsFrame p h f) where
   -- at another node, with other lists
-  pub frame_moved : (n : NodeId) (lists : List Remaining) → n.0 < length k.function.nodes → IsFrame p now (record f { node = n; lists = lists })
+  pub frame_moved : (n : NodeId) (lists : List Remaining) → n.0 < length k.function.nodes
+      → IsFrame p now (record f { node = n; lists = lists })
   frame_moved n lists fits = record {
     function = k.function;
     function_is = k.function_is;
@@ -73,13 +81,23 @@ module _ (p : Program) (h now : Heap) (grows : Grows h now) (f : Frame) (k : IsF
   }
 
   -- .. and with a register set
-  pub frame_set : (dst : Reg) (v : Value) (n : NodeId) (lists : List Remaining) → IsDestination k.function dst → IsValueOf now v → n.0 < length k.function.nodes → IsFrame p now (record f { registers = slice_set f.registers dst.0 v; node = n; lists = lists })
+  pub frame_set : (dst : Reg) (v : Value) (n : NodeId) (lists : List Remaining)
+      → IsDestination k.function dst → IsValueOf now v → n.0 < length k.function.nodes
+      → IsFrame p now (record f {
+        registers = slice_set f.registers dst.0 v;
+        node = n;
+        lists = lists;
+      })
   frame_set dst v n lists to of_heap fits = record {
     function = k.function;
     function_is = k.function_is;
     node_fits = fits;
     registers = length-set f.registers dst.0 v ∙ k.registers;
-    values = λ r u e. elim (written_cases f.registers dst.0 r v u in_frame e) [ inl g ↦ subst (IsValueOf now) g of_heap | inr g ↦ value_grows h now grows u (k.values r u g) ];
+    values =
+        λ r u e. elim (written_cases f.registers dst.0 r v u in_frame e) [
+          | inl g ↦ subst (IsValueOf now) g of_heap
+          | inr g ↦ value_grows h now grows u (k.values r u g)
+        ];
     receiver = grows f.receiver k.receiver;
     callee = λ a e. grows a (k.callee a e);
     scope = grows f.scope k.scope;
@@ -87,29 +105,40 @@ module _ (p : Program) (h now : Heap) (grows : Grows h now) (f : Frame) (k : IsF
     this_is = stays 1 (omega arith) (λ e. omega arith) (λ e. omega arith) ∙ k.this_is;
     callee_is = stays 3 (omega arith) (λ e. omega arith) (λ e. omega arith) ∙ k.callee_is;
     count_is = stays 4 (omega arith) (λ e. omega arith) (λ e. omega arith) ∙ k.count_is;
-    parameters_are = λ i l. stays (5 + i) (omega arith) (λ e. omega arith) (λ e. omega arith) ∙ k.parameters_are i l;
-    rest_is = stays (5 + length k.function.parameters) (omega arith) (λ e. omega arith) (λ e. omega arith) ∙ k.rest_is;
+    parameters_are =
+        λ i l. stays (5 + i) (omega arith) (λ e. omega arith) (λ e. omega arith)
+        ∙ k.parameters_are i l;
+    rest_is =
+        stays (5 + length k.function.parameters) (omega arith) (λ e. omega arith) (λ e. omega arith)
+        ∙ k.rest_is;
   }
     where
       in_frame : dst.0 < length f.registers
-      in_frame = let e : length f.registers ≡ k.function.registers = k.registers in let l : dst.0 < k.function.registers = to.0 in omega arith
+      in_frame = let e : length f.registers ≡ k.function.registers = k.registers in
+          let l : dst.0 < k.function.registers = to.0 in omega arith
 
-      stays : (i : ℕ) → i < fixed_registers k.function → (i ≡ 0 → ⊥) → (i ≡ 2 → ⊥) → slice_get (slice_set f.registers dst.0 v) i ≡ slice_get f.registers i
-      stays i below not_thrown not_scope = slice_get-set_other f.registers dst.0 i v (not_set k.function dst i to below not_thrown not_scope)
+      stays : (i : ℕ) → i < fixed_registers k.function → (i ≡ 0 → ⊥) → (i ≡ 2 → ⊥)
+          → slice_get (slice_set f.registers dst.0 v) i ≡ slice_get f.registers i
+      stays i below not_thrown not_scope =
+          slice_get-set_other f.registers dst.0 i v
+          (not_set k.function dst i to below not_thrown not_scope)
 
   -- .. or as it is
   pub frame_grows : IsFrame p now f
   frame_grows = frame_moved f.node f.lists k.node_fits
 
 -- .. and so do all frames
-pub frames_grow : (p : Program) (h now : Heap) → Grows h now → (fs : List Frame) → AreFrames p h fs → AreFrames p now fs
+pub frames_grow : (p : Program) (h now : Heap) → Grows h now → (fs : List Frame) → AreFrames p h fs
+    → AreFrames p now fs
 frames_grow p h now grows [] all = tt
-frames_grow p h now grows (f ∷ fs) all = (frame_grows p h now grows f all.0, frames_grow p h now grows fs all.1)
+frames_grow p h now grows (f ∷ fs) all =
+    (frame_grows p h now grows f all.0, frames_grow p h now grows fs all.1)
 
 -- ---- entry
 
 -- an argument is a value of the heap, missing ones too
-pub argument_value : (h : Heap) (arguments : List Value) → AllByRecursion (IsValueOf h) arguments → (i : ℕ) → IsValueOf h (argument arguments i)
+pub argument_value : (h : Heap) (arguments : List Value) → AllByRecursion (IsValueOf h) arguments
+    → (i : ℕ) → IsValueOf h (argument arguments i)
 argument_value h arguments all i = at (slice_get arguments i) refl
   where
     at : (r : Option Value) → slice_get arguments i ≡ r → IsValueOf h (unwrap_or r undefined)
@@ -117,16 +146,22 @@ argument_value h arguments all i = at (slice_get arguments i) refl
     at (Some v) e = all_at (IsValueOf h) arguments all i v e
 
 -- .. and so is the function object, if there is one
-pub callee_value : (h : Heap) (callee : Option Addr) → ((a : Addr) → callee ≡ Some a → IsObjectOf h a) → IsValueOf h (object_or_undefined callee)
+pub callee_value : (h : Heap) (callee : Option Addr)
+    → ((a : Addr) → callee ≡ Some a → IsObjectOf h a) → IsValueOf h (object_or_undefined callee)
 callee_value h None there = tt
 callee_value h (Some a) there = there a refl
 
-behind_five : (u v w x y : Value) (rest : List Value) (i : ℕ) → slice_get (u ∷ v ∷ w ∷ x ∷ y ∷ rest) (5 + i) ≡ slice_get rest i
+behind_five : (u v w x y : Value) (rest : List Value) (i : ℕ)
+    → slice_get (u ∷ v ∷ w ∷ x ∷ y ∷ rest) (5 + i) ≡ slice_get rest i
 behind_five u v w x y rest i =
     let e : 5 + i ≡ suc (suc (suc (suc (suc i)))) = omega arith in
     ap (slice_get (u ∷ v ∷ w ∷ x ∷ y ∷ rest)) e
 
-module _ (p : Program) (good : IsWellFormed p) (h : Heap) (steps : ℕ) (f : FnId) (receiver : Addr) (callee : Option Addr) (chain : Addr) (arguments : List Value) (fits : IsFunction p f) (receiver_there : IsObjectOf h receiver) (callee_there : (a : Addr) → callee ≡ Some a → IsObjectOf h a) (chain_there : IsObjectOf h chain) (values : AllByRecursion (IsValueOf h) arguments) where
+module _ (p : Program) (good : IsWellFormed p) (h : Heap) (steps : ℕ) (f : FnId) (receiver : Addr)
+    (callee : Option Addr) (chain : Addr) (arguments : List Value) (fits : IsFunction p f)
+    (receiver_there : IsObjectOf h receiver)
+    (callee_there : (a : Addr) → callee ≡ Some a → IsObjectOf h a)
+    (chain_there : IsObjectOf h chain) (values : AllByRecursion (IsValueOf h) arguments) where
   function_at : (fn : Function) × (slice_get p.functions f.0 ≡ Some fn)
   function_at = element_within p.functions f.0 fits
 
@@ -148,13 +183,23 @@ module _ (p : Program) (good : IsWellFormed p) (h : Heap) (steps : ℕ) (f : FnI
     others = registers_of p f - 5 - parameters_of p f
 
     given_length : length given ≡ length fn.parameters
-    given_length = length-map-range_with_len (argument arguments) 0 (parameters_of p f) ∙ parameters_are_of
+    given_length =
+        length-map-range_with_len (argument arguments) 0 (parameters_of p f) ∙ parameters_are_of
 
     enough : fixed_registers fn ≤ registers_of p f
-    enough = let e : registers_of p f ≡ fn.registers = registers_are in let l : fixed_registers fn ≤ fn.registers = known.registers in omega arith
+    enough = let e : registers_of p f ≡ fn.registers = registers_are in
+        let l : fixed_registers fn ≤ fn.registers = known.registers in omega arith
 
     rest_length : length (given ++ replicate others undefined) + 5 ≡ registers_of p f
-    rest_length = omega (arith, enough, parameters_are_of, given_length, length-append given (replicate others undefined), length-replicate others undefined)
+    rest_length =
+        omega (
+          arith,
+          enough,
+          parameters_are_of,
+          given_length,
+          length-append given (replicate others undefined),
+          length-replicate others undefined,
+        )
 
     abbrev Entry : List Value
     Entry = entry_registers (registers_of p f) (parameters_of p f) receiver callee chain arguments
@@ -163,23 +208,48 @@ module _ (p : Program) (good : IsWellFormed p) (h : Heap) (steps : ℕ) (f : FnI
     entry_length = omega (arith, rest_length, registers_are)
 
     entry_values : AllByRecursion (IsValueOf h) Entry
-    entry_values =
-        (tt, (receiver_there, (chain_there, (callee_value h callee callee_there, (tt, all_append (IsValueOf h) given (replicate others undefined) (all_map (λ (i : ℕ). Unit {0}) (IsValueOf h) (argument arguments) (λ i k. argument_value h arguments values i) (range_with_len 0 (parameters_of p f)) (all_of (λ (i : ℕ). Unit {0}) (λ i. tt) (range_with_len 0 (parameters_of p f)))) (all_replicate (IsValueOf h) others undefined tt))))))
+    entry_values = (
+      tt,
+      (
+        receiver_there,
+        (
+          chain_there,
+          (
+            callee_value h callee callee_there,
+            (
+              tt,
+              all_append (IsValueOf h) given (replicate others undefined)
+                  (all_map (λ (i : ℕ). Unit {0}) (IsValueOf h) (argument arguments)
+                  (λ i k. argument_value h arguments values i) (range_with_len 0 (parameters_of p f))
+                  (all_of (λ (i : ℕ). Unit {0}) (λ i. tt) (range_with_len 0 (parameters_of p f))))
+                  (all_replicate (IsValueOf h) others undefined tt),
+            ),
+          ),
+        ),
+      ),
+    )
 
-    parameter_at : (i : ℕ) → i < length fn.parameters → slice_get Entry (5 + i) ≡ Some (argument arguments i)
+    parameter_at : (i : ℕ) → i < length fn.parameters
+        → slice_get Entry (5 + i) ≡ Some (argument arguments i)
     parameter_at i l =
         let below : i < parameters_of p f = omega (arith, parameters_are_of) in
         let first : 0 + i ≡ i = omega arith in
-        behind_five _ _ _ _ _ (given ++ replicate others undefined) i ∙ (slice_get-append_left given (replicate others undefined) i (omega (arith, given_length)) ∙ (slice_get-map_range (argument arguments) 0 (parameters_of p f) i below ∙ ap (λ j. Some (argument arguments j)) first))
+        behind_five _ _ _ _ _ (given ++ replicate others undefined) i
+        ∙ (slice_get-append_left given (replicate others undefined) i
+        (omega (arith, given_length)) ∙ (slice_get-map_range (argument arguments) 0
+        (parameters_of p f) i below ∙ ap (λ j. Some (argument arguments j)) first))
 
     rest_at : slice_get Entry (5 + length fn.parameters) ≡ Some undefined
     rest_at =
         let some : 0 < others = omega (arith, enough, parameters_are_of) in
-        behind_five _ _ _ _ _ (given ++ replicate others undefined) (length fn.parameters) ∙ slice_get-append_replicate given others undefined (length fn.parameters) (sym given_length) some
+        behind_five _ _ _ _ _ (given ++ replicate others undefined) (length fn.parameters)
+        ∙ slice_get-append_replicate given others undefined (length fn.parameters)
+        (sym given_length) some
 
     some_node : 0 < length fn.nodes
     some_node =
-        let l : length fn.nodes - 1 < length fn.nodes = within_from_some fn.nodes (length fn.nodes - 1) (is_some_from _ known.last known.last_is) in
+        let l : length fn.nodes - 1 < length fn.nodes = within_from_some fn.nodes
+        (length fn.nodes - 1) (is_some_from _ known.last known.last_is) in
         omega arith
 
     entered_at : IsFrame p h (entered p steps f receiver callee chain arguments)

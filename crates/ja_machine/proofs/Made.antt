@@ -1,4 +1,5 @@
--- The objects that nodes make fit: their links lead to objects of the heap, and their properties hold values of it.
+-- The objects that nodes make fit: their links lead to objects of the heap, and their properties
+-- hold values of it.
 use Rattle.std.proofs.Common.{◌≡◌, ℕ, ◌+◌, List, [], ◌∷◌, Some, None, Option, ap, sym, ◌∙◌, subst}
 use Rattle.std.specs.Prelude.{Bool, drop}
 use Rattle.std.specs.List.{AllByRecursion}
@@ -30,7 +31,8 @@ IsThereIf h None = Unit {0}
 IsThereIf h (Some a) = IsObjectOf h a
 
 -- so it leads to one of the heap
-pub there_if : (h : Heap) (link : Option Addr) → IsThereIf h link → (b : Addr) → link ≡ Some b → IsObjectOf h b
+pub there_if : (h : Heap) (link : Option Addr) → IsThereIf h link → (b : Addr) → link ≡ Some b
+    → IsObjectOf h b
 there_if h None there b e = absurd (false≢true (ap is_some e))
 there_if h (Some a) there b e = subst (IsObjectOf h) (same_Some a b e) there
 
@@ -56,17 +58,24 @@ fitting p h m o made class scope prototype outer names = record {
 
 module _ (h : Heap) where
   -- a property in place of one, or last
-  pub hold-with_property : (qs : List Property) (q : Property) → IsContentOf h q.content → Hold (IsContentOf h) qs → Hold (IsContentOf h) (with_property qs q)
+  pub hold-with_property : (qs : List Property) (q : Property) → IsContentOf h q.content
+      → Hold (IsContentOf h) qs → Hold (IsContentOf h) (with_property qs q)
   hold-with_property [] q new all = (new, tt)
   hold-with_property (r ∷ rs) q new all =
-      either_way (Hold (IsContentOf h)) (same_text r.name q.name) (q ∷ rs) (r ∷ with_property rs q) (λ e. (new, all.1)) (λ e. (all.0, hold-with_property rs q new all.1))
+      either_way (Hold (IsContentOf h)) (same_text r.name q.name) (q ∷ rs) (r ∷ with_property rs q)
+      (λ e. (new, all.1)) (λ e. (all.0, hold-with_property rs q new all.1))
 
   -- the parameters, with the arguments
-  pub hold-with_parameters : (names : List (List ℕ)) (qs : List Property) (arguments : List Value) (flags : List Bool) → AllByRecursion (IsValueOf h) arguments → Hold (IsContentOf h) qs → Hold (IsContentOf h) (with_parameters qs names arguments flags)
+  pub hold-with_parameters : (names : List (List ℕ)) (qs : List Property) (arguments : List Value)
+      (flags : List Bool) → AllByRecursion (IsValueOf h) arguments → Hold (IsContentOf h) qs
+      → Hold (IsContentOf h) (with_parameters qs names arguments flags)
   hold-with_parameters [] qs arguments flags values all = all
   hold-with_parameters (name ∷ names) qs arguments flags values all =
-      let q : Property = with_flag (property_with name (argument arguments 0) dont_delete) (first_flag flags) in
-      hold-with_parameters names (with_property qs q) (drop 1 arguments) (drop 1 flags) (all_drop (IsValueOf h) 1 arguments values) (hold-with_property qs q (argument_value h arguments values 0) all)
+      let q : Property = with_flag (property_with name (argument arguments 0) dont_delete)
+      (first_flag flags) in
+      hold-with_parameters names (with_property qs q) (drop 1 arguments) (drop 1 flags)
+      (all_drop (IsValueOf h) 1 arguments values)
+      (hold-with_property qs q (argument_value h arguments values 0) all)
 
   -- the elements of `arguments`
   pub hold-with_elements :

@@ -1,4 +1,5 @@
--- The built-in objects of a program are there, and the sites of its nodes stand in order, each with its class.
+-- The built-in objects of a program are there, and the sites of its nodes stand in order, each with
+-- its class.
 use Rattle.std.proofs.Common.{◌≡◌, ℕ, zero, suc, ◌+◌, ◌-◌, ◌<◌, ◌≤◌, List, [], ◌∷◌, ◌++◌, length, map, Some, refl, sym, ap, ◌∙◌, subst, arith}
 use Rattle.std.specs.Prelude.{slice_get}
 use Rattle.std.specs.Option.{is_some, option_map_or}
@@ -31,10 +32,12 @@ use Rattle.ja_machine.proofs.Growing.{IsNodeSite}
 
 module _ (p : Program) (good : IsWellFormed p) (h : Heap) (known : IsHeap p h) where
   -- the only object of a built-in site
-  builtin : (s : Site) (c : Class) → slice_get builtins.BUILTIN_CLASSES s.0 ≡ Some c → IsObjectOf h (first_of s)
+  builtin : (s : Site) (c : Class) → slice_get builtins.BUILTIN_CLASSES s.0 ≡ Some c
+      → IsObjectOf h (first_of s)
   builtin s c is =
       let (info, info_is, class_is, fits) = good.builtins s.0 c is in
-      object_from_ordinal h (first_of s) (let one : count h s ≡ 1 = known.opening s fits in omega arith)
+      object_from_ordinal h (first_of s) (let one : count h s ≡ 1 = known.opening s fits in
+      omega arith)
 
   -- the global object
   pub global_there : IsObjectOf h (first_of global)
@@ -67,11 +70,16 @@ module _ (p : Program) (good : IsWellFormed p) (h : Heap) (known : IsHeap p h) w
   -- .. and of errors
   pub error_prototype_there : (kind : ErrorKind) → IsObjectOf h (first_of (prototype_of_error kind))
   error_prototype_there error_kind.Error = builtin builtins.ERROR_PROTOTYPE class.Error refl
-  error_prototype_there error_kind.EvalError = builtin builtins.EVAL_ERROR_PROTOTYPE class.Error refl
-  error_prototype_there error_kind.RangeError = builtin builtins.RANGE_ERROR_PROTOTYPE class.Error refl
-  error_prototype_there error_kind.ReferenceError = builtin builtins.REFERENCE_ERROR_PROTOTYPE class.Error refl
-  error_prototype_there error_kind.SyntaxError = builtin builtins.SYNTAX_ERROR_PROTOTYPE class.Error refl
-  error_prototype_there error_kind.TypeError = builtin builtins.TYPE_ERROR_PROTOTYPE class.Error refl
+  error_prototype_there error_kind.EvalError =
+      builtin builtins.EVAL_ERROR_PROTOTYPE class.Error refl
+  error_prototype_there error_kind.RangeError =
+      builtin builtins.RANGE_ERROR_PROTOTYPE class.Error refl
+  error_prototype_there error_kind.ReferenceError =
+      builtin builtins.REFERENCE_ERROR_PROTOTYPE class.Error refl
+  error_prototype_there error_kind.SyntaxError =
+      builtin builtins.SYNTAX_ERROR_PROTOTYPE class.Error refl
+  error_prototype_there error_kind.TypeError =
+      builtin builtins.TYPE_ERROR_PROTOTYPE class.Error refl
   error_prototype_there error_kind.URIError = builtin builtins.URI_ERROR_PROTOTYPE class.Error refl
 
 -- ---- the sites of nodes
@@ -106,11 +114,13 @@ order_left : (xs ys : List OwnedMaking) (n : ℕ) → AreInOrder n (xs ++ ys) �
 order_left [] ys n all = tt
 order_left (x ∷ xs) ys n all = (all.0, order_left xs ys (suc n) all.1)
 
-order_right : (xs ys : List OwnedMaking) (n : ℕ) → AreInOrder n (xs ++ ys) → (b : ℕ) × AreInOrder b ys
+order_right : (xs ys : List OwnedMaking) (n : ℕ) → AreInOrder n (xs ++ ys)
+    → (b : ℕ) × AreInOrder b ys
 order_right [] ys n all = (n, all)
 order_right (x ∷ xs) ys n all = order_right xs ys (suc n) all.1
 
-order_from : (k a : ℕ) (ms : List OwnedMaking) → map (λ (m : OwnedMaking). m.making.site.0) ms ≡ range_with_len a k → AreInOrder a ms
+order_from : (k a : ℕ) (ms : List OwnedMaking)
+    → map (λ (m : OwnedMaking). m.making.site.0) ms ≡ range_with_len a k → AreInOrder a ms
 order_from zero a [] e = tt
 order_from zero a (m ∷ ms) e = absurd (cc)
 order_from (suc k) a [] e = absurd (cc)
@@ -129,45 +139,76 @@ module _ (p : Program) where
   Made m = IsMade p m.making
 
   owned_left : (xs ys : List OwnedMaking) → AreOwned p (xs ++ ys) → AreOwned p xs
-  owned_left xs ys k = record { first = k.first; in_order = order_left xs ys k.first k.in_order; each = all_left Made xs ys k.each }
+  owned_left xs ys k =
+      record {
+        first = k.first;
+        in_order = order_left xs ys k.first k.in_order;
+        each = all_left Made xs ys k.each;
+      }
 
   owned_right : (xs ys : List OwnedMaking) → AreOwned p (xs ++ ys) → AreOwned p ys
   owned_right xs ys k =
       let (first, in_order) = order_right xs ys k.first k.in_order in
       record { first = first; in_order = in_order; each = all_right Made xs ys k.each }
 
-  owned_of_function : (g : ℕ) (fns : List Function) (i : ℕ) (fn : Function) → slice_get fns i ≡ Some fn → AreOwned p (makings_from g fns) → (f : ℕ) × AreOwned p (makings_of f fn.nodes)
+  owned_of_function : (g : ℕ) (fns : List Function) (i : ℕ) (fn : Function)
+      → slice_get fns i ≡ Some fn → AreOwned p (makings_from g fns)
+      → (f : ℕ) × AreOwned p (makings_of f fn.nodes)
   owned_of_function g [] i fn e k = absurd (false≢true (ap is_some e))
-  owned_of_function g (x ∷ fns) zero fn e k =
-      (g, subst (λ (y : Function). AreOwned p (makings_of g y.nodes)) (same_Some x fn e) (owned_left (makings_of g x.nodes) (makings_from (suc g) fns) k))
-  owned_of_function g (x ∷ fns) (suc i) fn e k = owned_of_function (suc g) fns i fn e (owned_right (makings_of g x.nodes) (makings_from (suc g) fns) k)
+  owned_of_function g (x ∷ fns) zero fn e k = (
+    g,
+    subst (λ (y : Function). AreOwned p (makings_of g y.nodes)) (same_Some x fn e)
+        (owned_left (makings_of g x.nodes) (makings_from (suc g) fns) k),
+  )
+  owned_of_function g (x ∷ fns) (suc i) fn e k =
+      owned_of_function (suc g) fns i fn e (owned_right (makings_of g x.nodes)
+      (makings_from (suc g) fns) k)
 
-  owned_of_node : (f : ℕ) (nodes : List NodeInfo) (n : ℕ) (info : NodeInfo) → slice_get nodes n ≡ Some info → AreOwned p (makings_of f nodes) → AreOwned p (map (owned f) (makings info.node))
+  owned_of_node : (f : ℕ) (nodes : List NodeInfo) (n : ℕ) (info : NodeInfo)
+      → slice_get nodes n ≡ Some info → AreOwned p (makings_of f nodes)
+      → AreOwned p (map (owned f) (makings info.node))
   owned_of_node f [] n info e k = absurd (false≢true (ap is_some e))
   owned_of_node f (x ∷ nodes) zero info e k =
-      subst (λ (y : NodeInfo). AreOwned p (map (owned f) (makings y.node))) (same_Some x info e) (owned_left (map (owned f) (makings x.node)) (makings_of f nodes) k)
-  owned_of_node f (x ∷ nodes) (suc n) info e k = owned_of_node f nodes n info e (owned_right (map (owned f) (makings x.node)) (makings_of f nodes) k)
+      subst (λ (y : NodeInfo). AreOwned p (map (owned f) (makings y.node))) (same_Some x info e)
+      (owned_left (map (owned f) (makings x.node)) (makings_of f nodes) k)
+  owned_of_node f (x ∷ nodes) (suc n) info e k =
+      owned_of_node f nodes n info e (owned_right (map (owned f) (makings x.node))
+      (makings_of f nodes) k)
 
   class_told : (m : OwnedMaking) → IsSiteTold p m → class_of_site p m.making.site.0 ≡ m.making.class
-  class_told m told = ap (λ r. option_map_or (λ (i : SiteInfo). i.class) r class.Object) told.info_is ∙ told.class
+  class_told m told =
+      ap (λ r. option_map_or (λ (i : SiteInfo). i.class) r class.Object) told.info_is ∙ told.class
 
   all_owned : IsWellFormed p → AreOwned p (makings_from 0 p.functions)
   all_owned good =
       let all : List OwnedMaking = makings_from 0 p.functions in
-      let Within : ℕ → Type 0 = λ x. (length p.opening ≤ x) × (x < length p.opening + (length p.sites - length p.opening)) in
-      let within : AllByRecursion (λ (m : OwnedMaking). Within m.making.site.0) all = all_unmap Within (λ (m : OwnedMaking). m.making.site.0) all (subst (AllByRecursion Within) (sym good.numbered) (range_within (length p.opening) (length p.sites - length p.opening))) in
+      let Within : ℕ → Type 0 = λ x. (length p.opening ≤ x)
+      × (x < length p.opening + (length p.sites - length p.opening)) in
+      let within : AllByRecursion (λ (m : OwnedMaking). Within m.making.site.0) all = all_unmap
+      Within (λ (m : OwnedMaking). m.making.site.0) all
+      (subst (AllByRecursion Within) (sym good.numbered)
+      (range_within (length p.opening) (length p.sites - length p.opening))) in
       let enough : length p.opening ≤ length p.sites = good.sites in
       record {
         first = length p.opening;
-        in_order = order_from (length p.sites - length p.opening) (length p.opening) all good.numbered;
-        each = all_both (λ (m : OwnedMaking). Within m.making.site.0) (IsSiteTold p) Made (λ m k told. let low : length p.opening ≤ m.making.site.0 = k.0 in let high : m.making.site.0 < length p.opening + (length p.sites - length p.opening) = k.1 in record { site = (low, omega arith); class = class_told m told }) all within good.told;
+        in_order =
+            order_from (length p.sites - length p.opening) (length p.opening) all good.numbered;
+        each =
+            all_both (λ (m : OwnedMaking). Within m.making.site.0) (IsSiteTold p) Made
+            (λ m k told. let low : length p.opening ≤ m.making.site.0 = k.0 in
+            let high : m.making.site.0 < length p.opening
+            + (length p.sites - length p.opening) = k.1 in
+            record { site = (low, omega arith); class = class_told m told }) all within good.told;
       }
 
   -- the sites of a node of the program
-  pub node_makings : IsWellFormed p → (f : ℕ) (fn : Function) (n : ℕ) (info : NodeInfo) → slice_get p.functions f ≡ Some fn → slice_get fn.nodes n ≡ Some info → AreMade p (makings info.node)
+  pub node_makings : IsWellFormed p → (f : ℕ) (fn : Function) (n : ℕ) (info : NodeInfo)
+      → slice_get p.functions f ≡ Some fn → slice_get fn.nodes n ≡ Some info
+      → AreMade p (makings info.node)
   node_makings good f fn n info fn_is info_is =
       let (g, of_function) = owned_of_function 0 p.functions f fn fn_is (all_owned good) in
-      let k : AreOwned p (map (owned g) (makings info.node)) = owned_of_node g fn.nodes n info info_is of_function in
+      let k : AreOwned p (map (owned g) (makings info.node)) = owned_of_node g fn.nodes n info
+      info_is of_function in
       record {
         first = k.first;
         in_order = order_of_owned g k.first (makings info.node) k.in_order;

@@ -40,39 +40,51 @@ use Rattle.ja_machine.proofs.Nodes.{global_there, object_prototype_there}
 use Rattle.ja_machine.proofs.Frames.{register_value}
 
 -- the first that passes stands in the list
-found_in : {X : Type 0} (test : X → Bool) (xs : List X) (x : X) → find test xs ≡ Some x → (i : ℕ) × (slice_get xs i ≡ Some x)
+found_in : {X : Type 0} (test : X → Bool) (xs : List X) (x : X) → find test xs ≡ Some x
+    → (i : ℕ) × (slice_get xs i ≡ Some x)
 found_in test [] x e = absurd (false≢true (ap is_some e))
 found_in test (y ∷ ys) x e =
-    either_way (λ o. o ≡ Some x → (i : ℕ) × (slice_get (y ∷ ys) i ≡ Some x)) (test y) (Some y) (find test ys) (λ k f. (0, f)) (λ k f. let (i, at) = found_in test ys x f in (suc i, at)) e
+    either_way (λ o. o ≡ Some x → (i : ℕ) × (slice_get (y ∷ ys) i ≡ Some x)) (test y) (Some y)
+    (find test ys) (λ k f. (0, f)) (λ k f. let (i, at) = found_in test ys x f in (suc i, at)) e
 
 -- ---- properties
 
 module _ (p : Program) (h : Heap) (good : IsHeap p h) where
-  own_content : (a : Addr) (name : List ℕ) (q : Property) → own h a name ≡ Some q → IsContentOf h q.content
+  own_content : (a : Addr) (name : List ℕ) (q : Property) → own h a name ≡ Some q
+      → IsContentOf h q.content
   own_content a name q e =
-      option_and_then_some (λ (o : Object). property_of o name) (object_at h a) q e (λ o is found. all_find (λ (r : Property). IsContentOf h r.content) (λ (r : Property). same_text r.name name) o.properties q (held_of p h good a o is) found)
+      option_and_then_some (λ (o : Object). property_of o name) (object_at h a) q e
+      (λ o is found. all_find (λ (r : Property). IsContentOf h r.content)
+      (λ (r : Property). same_text r.name name) o.properties q (held_of p h good a o is) found)
 
-  first_content : (name : List ℕ) (xs : List Addr) (q : Property) → first_own h name xs ≡ Some q → IsContentOf h q.content
+  first_content : (name : List ℕ) (xs : List Addr) (q : Property) → first_own h name xs ≡ Some q
+      → IsContentOf h q.content
   first_content name [] q e = absurd (false≢true (ap is_some e))
   first_content name (a ∷ xs) q e = at (first_content name xs q) (own h a name) refl e
     where
-      at : (first_own h name xs ≡ Some q → IsContentOf h q.content) → (r : Option Property) → own h a name ≡ r → or_else r (first_own h name xs) ≡ Some q → IsContentOf h q.content
+      at : (first_own h name xs ≡ Some q → IsContentOf h q.content) → (r : Option Property)
+          → own h a name ≡ r → or_else r (first_own h name xs) ≡ Some q → IsContentOf h q.content
       at further None is found = further found
       at further (Some r) is found = own_content a name q (is ∙ found)
 
   -- what [[Get]] finds
-  pub content_found : (a : Addr) (name : List ℕ) (c : Content) → content_at h a name ≡ Some c → IsContentOf h c
+  pub content_found : (a : Addr) (name : List ℕ) (c : Content) → content_at h a name ≡ Some c
+      → IsContentOf h c
   content_found a name c e = at (get h a name) refl e
     where
-      at : (r : Option Property) → get h a name ≡ r → option_map (λ (q : Property). q.content) r ≡ Some c → IsContentOf h c
+      at : (r : Option Property) → get h a name ≡ r
+          → option_map (λ (q : Property). q.content) r ≡ Some c → IsContentOf h c
       at None is found = absurd (false≢true (ap is_some found))
-      at (Some q) is found = subst (IsContentOf h) (same_Some q.content c found) (first_content name (prototypes h a) q is)
+      at (Some q) is found =
+          subst (IsContentOf h) (same_Some q.content c found)
+          (first_content name (prototypes h a) q is)
 
   -- .. or undefined
   pub read_content : (a : Addr) (name : List ℕ) → IsContentOf h (read h a name)
   read_content a name = at (content_at h a name) refl
     where
-      at : (r : Option Content) → content_at h a name ≡ r → IsContentOf h (unwrap_or r (contents.Value undefined))
+      at : (r : Option Content) → content_at h a name ≡ r
+          → IsContentOf h (unwrap_or r (contents.Value undefined))
       at None is = tt
       at (Some c) is = content_found a name c is
 
@@ -80,7 +92,8 @@ module _ (p : Program) (h : Heap) (good : IsHeap p h) where
   pub base_value : (a : Addr) (name : List ℕ) → IsObjectOf h a → IsValueOf h (find_name h a name)
   base_value a name there = at (find (λ b. has h b name) (scopes h a)) refl
     where
-      at : (r : Option Addr) → find (λ b. has h b name) (scopes h a) ≡ r → IsValueOf h (object_or_null r)
+      at : (r : Option Addr) → find (λ b. has h b name) (scopes h a) ≡ r
+          → IsValueOf h (object_or_null r)
       at None is = tt
       at (Some b) is =
           let (i, place) = found_in (λ c. has h c name) (scopes h a) b is in
@@ -97,45 +110,63 @@ module _ (p : Program) (h : Heap) (good : IsHeap p h) where
   IsGiven (Ok v) = IsValueOf h v
   IsGiven (Err kind) = Unit {0}
 
-  element_given : (r : Option Content) → ((c : Content) → r ≡ Some c → IsContentOf h c) → IsGiven (element r)
+  element_given : (r : Option Content) → ((c : Content) → r ≡ Some c → IsContentOf h c)
+      → IsGiven (element r)
   element_given None each = tt
   element_given (Some contents.Row) each = tt
   element_given (Some (contents.Value v)) each = each (contents.Value v) refl
 
-  first_given : (v : Value) (vs : ArgumentsRead) → IsValueOf h v → AreGiven vs → AreGiven (with_first v vs)
+  first_given : (v : Value) (vs : ArgumentsRead) → IsValueOf h v → AreGiven vs
+      → AreGiven (with_first v vs)
   first_given v (Ok vs) first rest = (first, rest)
   first_given v (Err kind) first rest = tt
 
-  all_are_given : (rs : List (Result Value ScopeKind)) → AllByRecursion IsGiven rs → AreGiven (all_given rs)
+  all_are_given : (rs : List (Result Value ScopeKind)) → AllByRecursion IsGiven rs
+      → AreGiven (all_given rs)
   all_are_given [] all = tt
   all_are_given (Ok v ∷ rs) all = first_given v (all_given rs) all.0 (all_are_given rs all.1)
   all_are_given (Err kind ∷ rs) all = tt
 
   elements_given : (a : Addr) (n : Result ℕ ScopeKind) → AreGiven (elements_up_to h a n)
   elements_given a (Ok n) =
-      let each : (i : ℕ) → IsGiven (element (content_at h a (index_text i))) = λ i. element_given (content_at h a (index_text i)) (content_found a (index_text i)) in
-      all_are_given (map (λ i. element (content_at h a (index_text i))) (range_with_len 0 n)) (all_map (λ (i : ℕ). Unit {0}) IsGiven (λ i. element (content_at h a (index_text i))) (λ i k. each i) (range_with_len 0 n) (all_of (λ (i : ℕ). Unit {0}) (λ i. tt) (range_with_len 0 n)))
+      let each : (i : ℕ) → IsGiven (element (content_at h a (index_text i))) = λ i.
+      element_given (content_at h a (index_text i)) (content_found a (index_text i)) in
+      all_are_given (map (λ i. element (content_at h a (index_text i))) (range_with_len 0 n))
+      (all_map (λ (i : ℕ). Unit {0}) IsGiven (λ i. element (content_at h a (index_text i)))
+      (λ i k. each i) (range_with_len 0 n)
+      (all_of (λ (i : ℕ). Unit {0}) (λ i. tt) (range_with_len 0 n)))
   elements_given a (Err kind) = tt
 
   elements_of_value : (v : Value) → AreGiven (elements h v)
   elements_of_value (value.Object a) =
-      either_way AreGiven (option_map_or has_elements (object_at h a) false) (elements_up_to h a (element_count (content_at h a length_name))) (Err scope_kind.Register) (λ e. elements_given a (element_count (content_at h a length_name))) (λ e. tt)
+      either_way AreGiven (option_map_or has_elements (object_at h a) false)
+      (elements_up_to h a (element_count (content_at h a length_name)))
+      (Err scope_kind.Register) (λ e. elements_given a
+      (element_count (content_at h a length_name))) (λ e. tt)
   elements_of_value (value.Primitive q) = tt
 
   -- the values of registers
-  pub registers_given : (f : Frame) (k : IsFrame p h f) (rs : List Reg) → AllByRecursion (IsRegister k.function) rs → AllByRecursion (IsValueOf h) (map (register_of f) rs)
-  registers_given f k rs all = all_map (IsRegister k.function) (IsValueOf h) (register_of f) (λ r fits. register_value p h f k r fits) rs all
+  pub registers_given : (f : Frame) (k : IsFrame p h f) (rs : List Reg)
+      → AllByRecursion (IsRegister k.function) rs
+      → AllByRecursion (IsValueOf h) (map (register_of f) rs)
+  registers_given f k rs all =
+      all_map (IsRegister k.function) (IsValueOf h) (register_of f)
+      (λ r fits. register_value p h f k r fits) rs all
 
   -- .. and of the arguments of each kind
-  pub arguments_given : (f : Frame) (k : IsFrame p h f) (arguments : Args) → AllByRecursion (IsRegister k.function) (argument_registers arguments) → AreGiven (given h f arguments)
+  pub arguments_given : (f : Frame) (k : IsFrame p h f) (arguments : Args)
+      → AllByRecursion (IsRegister k.function) (argument_registers arguments)
+      → AreGiven (given h f arguments)
   arguments_given f k (args.Registers list) all = registers_given f k list all
   arguments_given f k (args.Elements array) all = elements_of_value (register_of f array)
-  arguments_given f k args.Tail all = all_drop (IsValueOf h) 1 f.arguments (all_from (IsValueOf h) f.arguments k.arguments)
+  arguments_given f k args.Tail all =
+      all_drop (IsValueOf h) 1 f.arguments (all_from (IsValueOf h) f.arguments k.arguments)
 
   -- ---- what is called
 
   -- the object of a value
-  pub object_in_there : (v : Value) → IsValueOf h v → (a : Addr) → object_in v ≡ Some a → IsObjectOf h a
+  pub object_in_there : (v : Value) → IsValueOf h v → (a : Addr) → object_in v ≡ Some a
+      → IsObjectOf h a
   object_in_there (value.Object b) there a e = subst (IsObjectOf h) (same_Some b a e) there
   object_in_there (value.Primitive q) there a e = absurd (false≢true (ap is_some e))
 
@@ -145,32 +176,48 @@ module _ (p : Program) (h : Heap) (good : IsHeap p h) where
     chain_there None = global_there p program h good
     chain_there (Some a) = at (object_at h a) refl
       where
-        linked : (o : Object) → object_at h a ≡ Some o → (r : Option Addr) → o.slots.scope ≡ r → IsObjectOf h (unwrap_or r (first_of global))
+        linked : (o : Object) → object_at h a ≡ Some o → (r : Option Addr) → o.slots.scope ≡ r
+            → IsObjectOf h (unwrap_or r (first_of global))
         linked o is None e = global_there p program h good
         linked o is (Some b) e = good.scope a b o is e
 
-        at : (r : Option Object) → object_at h a ≡ r → IsObjectOf h (unwrap_or (option_and_then (λ (o : Object). o.slots.scope) r) (first_of global))
+        at : (r : Option Object) → object_at h a ≡ r
+            → IsObjectOf h (unwrap_or (option_and_then (λ (o : Object). o.slots.scope) r)
+            (first_of global))
         at None e = global_there p program h good
         at (Some o) e = linked o e o.slots.scope refl
 
     -- the receiver of a call
-    pub receiver_there : (v : Value) → IsValueOf h v → (a : Addr) → receiver_of h v ≡ Some a → IsObjectOf h a
+    pub receiver_there : (v : Value) → IsValueOf h v → (a : Addr) → receiver_of h v ≡ Some a
+        → IsObjectOf h a
     receiver_there (value.Object b) there a e =
-        subst (IsObjectOf h) (same_Some _ a e) (either_way (IsObjectOf h) (is_activation (class_at h b)) (first_of global) b (λ k. global_there p program h good) (λ k. there))
-    receiver_there (value.Primitive primitive.Undefined) there a e = subst (IsObjectOf h) (same_Some _ a e) (global_there p program h good)
-    receiver_there (value.Primitive primitive.Null) there a e = subst (IsObjectOf h) (same_Some _ a e) (global_there p program h good)
-    receiver_there (value.Primitive (primitive.Bool q)) there a e = absurd (false≢true (ap is_some e))
-    receiver_there (value.Primitive (primitive.Number q)) there a e = absurd (false≢true (ap is_some e))
-    receiver_there (value.Primitive (primitive.Text q)) there a e = absurd (false≢true (ap is_some e))
+        subst (IsObjectOf h) (same_Some _ a e)
+        (either_way (IsObjectOf h) (is_activation (class_at h b)) (first_of global) b
+        (λ k. global_there p program h good) (λ k. there))
+    receiver_there (value.Primitive primitive.Undefined) there a e =
+        subst (IsObjectOf h) (same_Some _ a e) (global_there p program h good)
+    receiver_there (value.Primitive primitive.Null) there a e =
+        subst (IsObjectOf h) (same_Some _ a e) (global_there p program h good)
+    receiver_there (value.Primitive (primitive.Bool q)) there a e =
+        absurd (false≢true (ap is_some e))
+    receiver_there (value.Primitive (primitive.Number q)) there a e =
+        absurd (false≢true (ap is_some e))
+    receiver_there (value.Primitive (primitive.Text q)) there a e =
+        absurd (false≢true (ap is_some e))
 
     -- the prototype of what is constructed
-    prototype_there : (r : Option Content) → ((c : Content) → r ≡ Some c → IsContentOf h c) → IsObjectOf h (prototype_for r)
-    prototype_there (Some (contents.Value (value.Object a))) each = each (contents.Value (value.Object a)) refl
-    prototype_there (Some (contents.Value (value.Primitive q))) each = object_prototype_there p program h good
+    prototype_there : (r : Option Content) → ((c : Content) → r ≡ Some c → IsContentOf h c)
+        → IsObjectOf h (prototype_for r)
+    prototype_there (Some (contents.Value (value.Object a))) each =
+        each (contents.Value (value.Object a)) refl
+    prototype_there (Some (contents.Value (value.Primitive q))) each =
+        object_prototype_there p program h good
     prototype_there (Some contents.Row) each = object_prototype_there p program h good
     prototype_there None each = object_prototype_there p program h good
 
     -- .. by what its callee has
-    pub callee_prototype_there : (callee : Option Addr) → IsObjectOf h (prototype_of_callee h callee)
+    pub callee_prototype_there : (callee : Option Addr)
+        → IsObjectOf h (prototype_of_callee h callee)
     callee_prototype_there None = object_prototype_there p program h good
-    callee_prototype_there (Some a) = prototype_there (content_at h a (codes "prototype")) (content_found a (codes "prototype"))
+    callee_prototype_there (Some a) =
+        prototype_there (content_at h a (codes "prototype")) (content_found a (codes "prototype"))

@@ -44,7 +44,8 @@ use Rattle.ja_machine.proofs.Standing.{OnStep}
 use Rattle.ja_machine.proofs.Keeping.{step_kept}
 
 -- what an event leads to has what is kept on the way
-on_event : (P : Conf → Type 0) (o : Option Event) (c : Conf) → OnStep P o → option_and_then next_of o ≡ Some c → P c
+on_event : (P : Conf → Type 0) (o : Option Event) (c : Conf) → OnStep P o
+    → option_and_then next_of o ≡ Some c → P c
 on_event P None c k e = absurd (false≢true (ap is_some e))
 on_event P (Some (event.Next d)) c k e = subst P (same_Some d c e) k
 on_event P (Some (event.End x d)) c k e = absurd (false≢true (ap is_some e))
@@ -57,24 +58,45 @@ module _ (p : Program) (good : IsWellFormed p) where
       let there = global_there p good (opening_heap p) (heap-opening p good) in
       record {
         heap = heap-opening p good;
-        frames = (frame_entered p good (opening_heap p) 0 program_function (first_of global) None (first_of global) [] (within_from_some p.functions 0 (is_some_from _ good.text good.text_is)) there (λ a e. absurd (cc)) there tt, tt);
+        frames = (
+          frame_entered p good (opening_heap p) 0 program_function (first_of global) None
+              (first_of global) [] (within_from_some p.functions 0
+              (is_some_from _ good.text good.text_is)) there (λ a e. absurd (cc)) there tt,
+          tt,
+        );
         waiting = tt;
         lowest = refl;
-        counts = λ s late. let none : count (opening_heap p) s ≡ 0 = none-opening p good s late in omega arith;
+        counts = λ s late. let none : count (opening_heap p) s ≡ 0 = none-opening p good s late in
+            omega arith;
       }
 
-  frames_kept : (c : Conf) (answer : Answer) → IsState p c → (fs : List Frame) → AreFrames p c.heap fs → AreWaiting p (below_top fs) → IsLowest fs → OnStep (IsState p) (frames_step p c answer fs)
+  frames_kept : (c : Conf) (answer : Answer) → IsState p c → (fs : List Frame)
+      → AreFrames p c.heap fs → AreWaiting p (below_top fs) → IsLowest fs
+      → OnStep (IsState p) (frames_step p c answer fs)
   frames_kept c answer k [] frames waiting lowest = tt
   frames_kept c answer k (f ∷ below) frames waiting lowest = at (node_at p f.function f.node) refl
     where
-      at : (r : Option NodeInfo) → node_at p f.function f.node ≡ r → OnStep (IsState p) (option_and_then (λ (info : NodeInfo). node_step p (record { conf = c; top = f; below = below; info = info }) answer info.node) r)
+      at : (r : Option NodeInfo) → node_at p f.function f.node ≡ r
+          → OnStep (IsState p) (option_and_then
+          (λ (info : NodeInfo). node_step p (record
+          { conf = c; top = f; below = below; info = info }) answer info.node) r)
       at None e = tt
       at (Some info) e =
-          step_kept p good (record { conf = c; top = f; below = below; info = info }) (record { heap = k.heap; top = frames.0; below = frames.1; waiting = waiting; lowest = lowest; counts = k.counts; info_is = e }) answer
+          step_kept p good (record { conf = c; top = f; below = below; info = info })
+          (record {
+            heap = k.heap;
+            top = frames.0;
+            below = frames.1;
+            waiting = waiting;
+            lowest = lowest;
+            counts = k.counts;
+            info_is = e;
+          }) answer
 
   state_kept : (c : Conf) (answer : Answer) → IsState p c → OnStep (IsState p) (step p c answer)
   state_kept c answer k =
-      either_way (OnStep (IsState p)) (fits p (wants p c) answer) (frames_step p c answer c.frames) None (λ e. frames_kept c answer k c.frames k.frames k.waiting k.lowest) (λ e. tt)
+      either_way (OnStep (IsState p)) (fits p (wants p c) answer) (frames_step p c answer c.frames)
+      None (λ e. frames_kept c answer k c.frames k.frames k.waiting k.lowest) (λ e. tt)
 
   -- a step leads to a state that is as it should be
   pub steps_keep_states : StepsKeepStates p
@@ -86,7 +108,10 @@ module _ (p : Program) (good : IsWellFormed p) where
   pub states_are_kept : AreStates p
   states_are_kept [] c e = subst (IsState p) (same_Some (opening_state p) c e) opening_kept
   states_are_kept (answer ∷ earlier) c e =
-      option_and_then_some (λ (d : Conf). option_and_then next_of (step p d answer)) (state_of p earlier) c e (λ d was next. on_event (IsState p) (step p d answer) c (state_kept d answer (states_are_kept earlier d was)) next)
+      option_and_then_some (λ (d : Conf). option_and_then next_of (step p d answer))
+      (state_of p earlier) c e (λ d was next.
+      on_event (IsState p) (step p d answer) c
+      (state_kept d answer (states_are_kept earlier d was)) next)
 
   -- so prototypes and scopes are chained
   pub chains_end : ChainsEnd p
@@ -96,35 +121,47 @@ module _ (p : Program) (good : IsWellFormed p) where
 
   -- ---- no run is stuck
 
-  module _ (c : Conf) (f : Frame) (below : List Frame) (info : NodeInfo) (waiting : AreWaiting p below) where
+  module _ (c : Conf) (f : Frame) (below : List Frame) (info : NodeInfo)
+      (waiting : AreWaiting p below) where
     abbrev s : Standing
     s = record { conf = c; top = f; below = below; info = info }
 
     -- a place among names has its name
-    picks : (list dst : Reg) (a : Addr) (i : ℕ) (ns : List (List ℕ)) → shown c.heap f list a ≡ ns → fits p (pick_wanted ns) (answers.Pick i) ≡ true → IsSome (pick s list dst a (answers.Pick i))
+    picks : (list dst : Reg) (a : Addr) (i : ℕ) (ns : List (List ℕ)) → shown c.heap f list a ≡ ns
+        → fits p (pick_wanted ns) (answers.Pick i) ≡ true
+        → IsSome (pick s list dst a (answers.Pick i))
     picks list dst a i [] is fit = absurd (false≢true fit)
     picks list dst a i (n ∷ ns) is fit =
         let (name, name_is) = element_within (n ∷ ns) i (ltb-true i (length (n ∷ ns)) fit) in
-        ap (λ r. is_some (option_map (takes s list dst) r)) (ap (λ (xs : List (List ℕ)). slice_get xs i) is ∙ name_is)
+        ap (λ r. is_some (option_map (takes s list dst) r))
+        (ap (λ (xs : List (List ℕ)). slice_get xs i) is ∙ name_is)
 
-    no_device : (ns : List (List ℕ)) (q : Primitive) → fits p (pick_wanted ns) (answers.Device q) ≡ true → ⊥
+    no_device : (ns : List (List ℕ)) (q : Primitive)
+        → fits p (pick_wanted ns) (answers.Device q) ≡ true → ⊥
     no_device [] q fit = false≢true fit
     no_device (n ∷ ns) q fit = false≢true fit
 
-    pick_some : (list dst : Reg) (answer : Answer) (x : Value) → fits p (pick_wants c.heap f list x) answer ≡ true → IsSome (pick_step s list dst answer x)
+    pick_some : (list dst : Reg) (answer : Answer) (x : Value)
+        → fits p (pick_wants c.heap f list x) answer ≡ true → IsSome (pick_step s list dst answer x)
     pick_some list dst answer (value.Primitive q) fit = refl
-    pick_some list dst (answers.Pick i) (value.Object a) fit = picks list dst a i (shown c.heap f list a) refl fit
+    pick_some list dst (answers.Pick i) (value.Object a) fit =
+        picks list dst a i (shown c.heap f list a) refl fit
     pick_some list dst answers.Tick (value.Object a) fit = refl
-    pick_some list dst (answers.Device q) (value.Object a) fit = absurd (no_device (shown c.heap f list a) q fit)
+    pick_some list dst (answers.Device q) (value.Object a) fit =
+        absurd (no_device (shown c.heap f list a) q fit)
 
-    device_some : (dst : Reg) (which : ℕ) (answer : Answer) → fits p (device_wants f which) answer ≡ true → IsSome (device_step s dst answer)
+    device_some : (dst : Reg) (which : ℕ) (answer : Answer)
+        → fits p (device_wants f which) answer ≡ true → IsSome (device_step s dst answer)
     device_some dst which (answers.Device q) fit = refl
     device_some dst which answers.Tick fit = refl
     device_some dst which (answers.Pick i) fit =
-        absurd (either_way (λ w. fits p w (answers.Pick i) ≡ true → ⊥) (list_any is_object f.arguments) wanted.Tick (wanted.Device which) (λ e g. false≢true g) (λ e g. false≢true g) fit)
+        absurd (either_way (λ w. fits p w (answers.Pick i) ≡ true → ⊥)
+        (list_any is_object f.arguments) wanted.Tick (wanted.Device which) (λ e g. false≢true g)
+        (λ e g. false≢true g) fit)
 
     -- a caller that waits goes on
-    returns_some : (caller : Frame) (fs : List Frame) (v : Value) (i : NodeInfo) (n : Node) → enters_functions n ≡ true → IsSome (returns s caller fs v i n)
+    returns_some : (caller : Frame) (fs : List Frame) (v : Value) (i : NodeInfo) (n : Node)
+        → enters_functions n ≡ true → IsSome (returns s caller fs v i n)
     returns_some caller fs v i (node.Call dst callee receiver args error) e = refl
     returns_some caller fs v i (node.New dst callee args site error) e = refl
     returns_some caller fs v i (node.Convert dst src hint other) e = refl
@@ -133,32 +170,46 @@ module _ (p : Program) (good : IsWellFormed p) where
     return_some : (fs : List Frame) → AreWaiting p fs → (v : Value) → IsSome (return_step p s fs v)
     return_some [] all v = refl
     return_some (caller ∷ fs) all v =
-        subst (λ r. IsSome (option_and_then (λ (i : NodeInfo). returns s caller fs v i i.node) r)) (sym all.0.info_is) (returns_some caller fs v all.0.info all.0.info.node all.0.enters)
+        subst (λ r. IsSome (option_and_then (λ (i : NodeInfo). returns s caller fs v i i.node) r))
+        (sym all.0.info_is) (returns_some caller fs v all.0.info all.0.info.node all.0.enters)
 
     escape_some : (fs : List Frame) → AreWaiting p fs → (v : Value) → IsSome (escape_step p s fs v)
     escape_some [] all v = refl
     escape_some (caller ∷ fs) all v =
-        ap (λ r. is_some (option_map (λ (i : NodeInfo). next_state c c.heap (with_result caller thrown v i.handler ∷ fs)) r)) all.0.info_is
+        ap (λ r. is_some (option_map (λ (i : NodeInfo).
+        next_state c c.heap (with_result caller thrown v i.handler ∷ fs)) r)) all.0.info_is
 
-    node_some : (answer : Answer) (n : Node) → fits p (node_wants c.heap f n) answer ≡ true → IsSome (node_step p s answer n)
-    node_some answer (node.Pick list dst object) fit = pick_some list dst answer (register_of f object) fit
+    node_some : (answer : Answer) (n : Node) → fits p (node_wants c.heap f n) answer ≡ true
+        → IsSome (node_step p s answer n)
+    node_some answer (node.Pick list dst object) fit =
+        pick_some list dst answer (register_of f object) fit
     node_some answer (node.Device dst which) fit = device_some dst which answer fit
     node_some answer (node.Return src) fit = return_some below waiting (register_of f src)
     node_some answer node.Escape fit = escape_some below waiting (register_of f thrown)
     node_some answer n fit = refl
 
   -- a frame stands at a node
-  stands : (c : Conf) (f : Frame) → IsFrame p c.heap f → (info : NodeInfo) × (node_at p f.function f.node ≡ Some info)
+  stands : (c : Conf) (f : Frame) → IsFrame p c.heap f
+      → (info : NodeInfo) × (node_at p f.function f.node ≡ Some info)
   stands c f k =
-      let (info, info_is) = element_within k.function.nodes f.node.0 k.node_fits in
-      (info, ap (λ o. slice_get (option_map_or (λ (fn : Function). fn.nodes) o []) f.node.0) k.function_is ∙ info_is)
+      let (info, info_is) = element_within k.function.nodes f.node.0 k.node_fits in (
+        info,
+        ap (λ o. slice_get (option_map_or (λ (fn : Function). fn.nodes) o []) f.node.0)
+            k.function_is ∙ info_is,
+      )
 
-  frames_some : (c : Conf) (answer : Answer) (fs : List Frame) → AreFrames p c.heap fs → AreWaiting p (below_top fs) → IsLowest fs → fits p (frames_want p c.heap fs) answer ≡ true → IsSome (frames_step p c answer fs)
+  frames_some : (c : Conf) (answer : Answer) (fs : List Frame) → AreFrames p c.heap fs
+      → AreWaiting p (below_top fs) → IsLowest fs → fits p (frames_want p c.heap fs) answer ≡ true
+      → IsSome (frames_step p c answer fs)
   frames_some c answer [] frames waiting lowest fit = elim lowest [ ]
   frames_some c answer (f ∷ below) frames waiting lowest fit =
       let (info, at) = stands c f frames.0 in
-      let fit_node : fits p (node_wants c.heap f info.node) answer ≡ true = subst (λ r. fits p (option_map_or (λ (i : NodeInfo). node_wants c.heap f i.node) r wanted.Tick) answer ≡ true) at fit in
-      subst (λ r. IsSome (option_and_then (λ (i : NodeInfo). node_step p (record { conf = c; top = f; below = below; info = i }) answer i.node) r)) (sym at) (node_some c f below info waiting answer info.node fit_node)
+      let fit_node : fits p (node_wants c.heap f info.node) answer
+      ≡ true = subst (λ r. fits p (option_map_or (λ (i : NodeInfo). node_wants c.heap f i.node)
+      r wanted.Tick) answer ≡ true) at fit in
+      subst (λ r. IsSome (option_and_then (λ (i : NodeInfo).
+      node_step p (record { conf = c; top = f; below = below; info = i }) answer i.node) r))
+      (sym at) (node_some c f below info waiting answer info.node fit_node)
 
   -- a state has a step with each answer that it wants, and with no other
   pub states_have_steps : HaveSteps p

@@ -1,4 +1,5 @@
--- Calls, constructions and conversions, and how a function is left (ES3 8.6.2.6, 10.2, 11.2.2, 11.2.3, 13.2.1, 13.2.2).
+-- Calls, constructions and conversions, and how a function is left (ES3 8.6.2.6, 10.2, 11.2.2,
+-- 11.2.3, 13.2.1, 13.2.2).
 use Rattle.std.specs.Prelude.{ℕ, ◌+◌, ◌||◌, Bool, true, false, if◌then◌else◌, List, [], ◌∷◌, map, drop, Option, Some, None, unwrap_or, Result, Ok, Err, slice_get}
 use Rattle.std.specs.Option.{option_and_then, option_map, option_map_or}
 use Rattle.std.specs.List.{range_with_len}
@@ -64,13 +65,15 @@ object_in (value.Primitive q) = None
 -- the scope chain of a function object ([[Scope]])
 abbrev pub chain_of : Heap → Option Addr → Addr
 chain_of h callee =
-    unwrap_or (option_and_then (λ a. option_and_then (λ (o : Object). o.slots.scope) (object_at h a)) callee) (first_of global)
+    unwrap_or (option_and_then (λ a. option_and_then (λ (o : Object). o.slots.scope)
+    (object_at h a)) callee) (first_of global)
 
 abbrev pub is_activation : Option Class → Bool
 is_activation (Some class.Activation) = true
 is_activation class = false
 
--- the receiver of a call (10.1.6, 11.2.3): in place of null, undefined and an activation the global object
+-- the receiver of a call (10.1.6, 11.2.3): in place of null, undefined and an activation the global
+-- object
 abbrev pub receiver_of : Heap → Value → Option Addr
 receiver_of h (value.Object a) = Some (if is_activation (class_at h a) then first_of global else a)
 receiver_of h (value.Primitive Undefined) = Some (first_of global)
@@ -82,7 +85,8 @@ receiver_of h (value.Primitive q) = None
 abbrev pub ArgumentsRead : Type 0
 ArgumentsRead = Result (List Value) ScopeKind
 
--- the number of elements that a `length` says, by ToUint32; there is none where it is missing or an object
+-- the number of elements that a `length` says, by ToUint32; there is none where it is missing or an
+-- object
 abbrev pub unsigned_count : Result Num Stop → Result ℕ ScopeKind
 unsigned_count (Ok n) = Ok (to_uint32 n)
 unsigned_count (Err stop) = Err (kind_of stop)
@@ -109,7 +113,8 @@ all_given (Ok v ∷ rest) = with_first v (all_given rest)
 all_given (Err kind ∷ rest) = Err kind
 
 abbrev pub elements_up_to : Heap → Addr → Result ℕ ScopeKind → ArgumentsRead
-elements_up_to h a (Ok n) = all_given (map (λ i. element (content_at h a (index_text i))) (range_with_len 0 n))
+elements_up_to h a (Ok n) =
+    all_given (map (λ i. element (content_at h a (index_text i))) (range_with_len 0 n))
 elements_up_to h a (Err kind) = Err kind
 
 -- the elements of an array or an arguments object, and of nothing else
@@ -135,15 +140,18 @@ given h f args.Tail = Ok (drop 1 f.arguments)
 -- a function is entered, with this heap; its caller stays at its node
 abbrev pub enters : Program → Standing → Heap → FnId → Addr → Option Addr → List Value → Event
 enters p s h f receiver callee arguments =
-    next_state s.conf h (entered p (s.conf.steps + 1) f receiver callee (chain_of h callee) arguments ∷ s.top ∷ s.below)
+    next_state s.conf h (entered p (s.conf.steps + 1) f receiver callee (chain_of h callee)
+    arguments ∷ s.top ∷ s.below)
 
 abbrev pub calls_with : Program → Standing → FnId → Value → Option Addr → ArgumentsRead → Event
 calls_with p s f callee None arguments = left_scope s Register
 calls_with p s f callee (Some receiver) (Err kind) = left_scope s kind
-calls_with p s f callee (Some receiver) (Ok arguments) = enters p s s.conf.heap f receiver (object_in callee) arguments
+calls_with p s f callee (Some receiver) (Ok arguments) =
+    enters p s s.conf.heap f receiver (object_in callee) arguments
 
 abbrev pub calls : Program → Standing → Value → Option Addr → Args → Site → Option FnId → Event
-calls p s callee receiver arguments error None = throws s error builtins.TYPE_ERROR_PROTOTYPE not_a_function_message
+calls p s callee receiver arguments error None =
+    throws s error builtins.TYPE_ERROR_PROTOTYPE not_a_function_message
 calls p s callee receiver arguments error (Some f) =
     calls_with p s f callee receiver (given s.conf.heap s.top arguments)
 
@@ -177,11 +185,13 @@ constructs p s callee arguments site error (Some f) =
     (map (register_of s.top) arguments)
 
 abbrev pub new_step : Program → Standing → Value → List Reg → Site → Site → Event
-new_step p s callee arguments site error = constructs p s callee arguments site error (function_constructing p callee)
+new_step p s callee arguments site error =
+    constructs p s callee arguments site error (function_constructing p callee)
 
 -- ---- default values (8.6.2.6)
 
--- an object stays as it is where the other operand of an equality is an object, undefined or null (11.9.3)
+-- an object stays as it is where the other operand of an equality is an object, undefined or null
+-- (11.9.3)
 abbrev pub stays : Option Value → Bool
 stays None = false
 stays (Some (value.Object a)) = true
@@ -196,7 +206,8 @@ default_function p hint.Text = p.text_first
 abbrev pub convert_step : Program → Standing → Reg → Hint → Option Value → Value → Event
 convert_step p s dst hint other (value.Primitive q) = sets s dst (value.Primitive q)
 convert_step p s dst hint other (value.Object a) =
-    if stays other then sets s dst (value.Object a) else enters p s s.conf.heap (default_function p hint) a None []
+    if stays other then sets s dst (value.Object a)
+    else enters p s s.conf.heap (default_function p hint) a None []
 
 -- ---- how a function is left
 
@@ -207,23 +218,28 @@ constructed receiver (value.Primitive q) = value.Object receiver
 
 -- the caller goes on behind its node, which takes the value
 abbrev pub returns_to : Standing → Frame → List Frame → NodeInfo → Reg → Value → Event
-returns_to s caller below info dst v = next_state s.conf s.conf.heap (with_result caller dst v info.next ∷ below)
+returns_to s caller below info dst v =
+    next_state s.conf s.conf.heap (with_result caller dst v info.next ∷ below)
 
 abbrev pub returns : Standing → Frame → List Frame → Value → NodeInfo → Node → Option Event
-returns s caller below v info (node.Call dst callee receiver args error) = Some (returns_to s caller below info dst v)
+returns s caller below v info (node.Call dst callee receiver args error) =
+    Some (returns_to s caller below info dst v)
 returns s caller below v info (node.New dst callee args site error) =
     Some (returns_to s caller below info dst (constructed s.top.receiver v))
-returns s caller below v info (node.Convert dst src hint other) = Some (returns_to s caller below info dst v)
+returns s caller below v info (node.Convert dst src hint other) =
+    Some (returns_to s caller below info dst v)
 returns s caller below v info node = None
 
 -- the program's Return ends the run
 abbrev pub return_step : Program → Standing → List Frame → Value → Option Event
 return_step p s [] v = Some (end_state s.conf ending.Normal)
 return_step p s (caller ∷ below) v =
-    option_and_then (λ (info : NodeInfo). returns s caller below v info info.node) (node_at p caller.function caller.node)
+    option_and_then (λ (info : NodeInfo). returns s caller below v info info.node)
+    (node_at p caller.function caller.node)
 
 -- what was thrown goes to the handler of the caller's node; the program's Escape ends the run
 abbrev pub escape_step : Program → Standing → List Frame → Value → Option Event
 escape_step p s [] v = Some (end_state s.conf (ending.Uncaught v))
 escape_step p s (caller ∷ below) v =
-    option_map (λ (info : NodeInfo). next_state s.conf s.conf.heap (with_result caller thrown v info.handler ∷ below)) (node_at p caller.function caller.node)
+    option_map (λ (info : NodeInfo). next_state s.conf s.conf.heap
+    (with_result caller thrown v info.handler ∷ below)) (node_at p caller.function caller.node)

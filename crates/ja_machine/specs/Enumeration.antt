@@ -16,12 +16,15 @@ shows h a name = option_map_or is_enumerable (get h a name) false
 
 abbrev pub own_names : Heap → Addr → List (List ℕ)
 own_names h a =
-    option_map_or (λ (o : Object). map (λ (q : Property). q.name) (filter is_enumerable o.properties)) (object_at h a) []
+    option_map_or (λ (o : Object). map (λ (q : Property). q.name)
+    (filter is_enumerable o.properties)) (object_at h a) []
 
--- those of the objects of a chain, the nearest first; an own property hides those of its name behind it
+-- those of the objects of a chain, the nearest first; an own property hides those of its name
+-- behind it
 abbrev pub names_along : Heap → List Addr → List (List ℕ)
 names_along h [] = []
-names_along h (a ∷ rest) = own_names h a ++ filter (λ name. not (is_some (own h a name))) (names_along h rest)
+names_along h (a ∷ rest) =
+    own_names h a ++ filter (λ name. not (is_some (own h a name))) (names_along h rest)
 
 -- the names that an object shows: its own in order of insertion, then those that it inherits
 abbrev pub names : Heap → Addr → List (List ℕ)

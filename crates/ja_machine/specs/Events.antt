@@ -23,7 +23,8 @@ use Rattle.ja_machine.specs.Frames.{thrown, moved_to, with_result}
 use Rattle.ja_machine.specs.Objects.{error_object}
 use Rattle.ja_machine.specs.Values.{OperatorOutcome, kind_of}
 
--- Where a step is taken: the state, its top frame, the frames below, and the node at which the top frame stands.
+-- Where a step is taken: the state, its top frame, the frames below, and the node at which the top
+-- frame stands.
 pub record Standing : Type 0 where
   pub conf : Conf
   pub top : Frame
@@ -60,7 +61,8 @@ throws_value s h v = next_state s.conf h (with_result s.top thrown v s.info.hand
 abbrev pub throws : Standing → Site → Site → List ℕ → Event
 throws s error prototype message =
     if is_short message
-    then throws_value s (with_new s.conf.heap error (error_object prototype message)) (value.Object (new_address s.conf.heap error))
+    then throws_value s (with_new s.conf.heap error (error_object prototype message))
+    (value.Object (new_address s.conf.heap error))
     else left_scope s TextLength
 
 -- a row that is read leaves the profile
@@ -68,7 +70,8 @@ abbrev pub sets_content : Standing → Reg → Content → Event
 sets_content s dst (contents.Value v) = sets s dst v
 sets_content s dst contents.Row = left_scope s Row
 
--- what an operation gives: an operation that doesn't take the values in its registers leaves the profile
+-- what an operation gives: an operation that doesn't take the values in its registers leaves the
+-- profile
 abbrev pub sets_outcome : Standing → Reg → OperatorOutcome → Event
 sets_outcome s dst None = left_scope s Register
 sets_outcome s dst (Some (Ok q)) = sets s dst (value.Primitive q)

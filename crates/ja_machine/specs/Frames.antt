@@ -1,4 +1,5 @@
--- Frames: the registers with which a function is entered, and the names that remain to a `for`-`in`.
+-- Frames: the registers with which a function is entered, and the names that remain to a
+-- `for`-`in`.
 use Rattle.std.specs.Prelude.{ℕ, ◌-◌, ◌==◌, if◌then◌else◌, List, [], ◌∷◌, ◌++◌, map, length, replicate, slice_get, slice_set, Option, Some, None, unwrap_or}
 use Rattle.std.specs.Option.{option_map_or}
 use Rattle.std.specs.List.{range_with_len}
@@ -43,7 +44,8 @@ with_result f dst v next = record f { registers = slice_set f.registers dst.0 v;
 -- ---- entry
 
 abbrev pub parameters_of : Program → FnId → ℕ
-parameters_of p f = option_map_or (λ (fn : Function). length fn.parameters) (slice_get p.functions f.0) 0
+parameters_of p f =
+    option_map_or (λ (fn : Function). length fn.parameters) (slice_get p.functions f.0) 0
 
 abbrev pub registers_of : Program → FnId → ℕ
 registers_of p f = option_map_or (λ (fn : Function). fn.registers) (slice_get p.functions f.0) 0
@@ -55,11 +57,14 @@ object_or_undefined (Some a) = value.Object a
 abbrev pub argument : List Value → ℕ → Value
 argument arguments i = unwrap_or (slice_get arguments i) undefined
 
--- `thrown`, `this`, `scope`, `callee`, `count`, the parameters, the rest of the arguments and the temporaries: an argument that is
--- missing is undefined, and so are the registers that no argument sets
+-- `thrown`, `this`, `scope`, `callee`, `count`, the parameters, the rest of the arguments and the
+-- temporaries: an argument that is missing is undefined, and so are the registers that no argument
+-- sets
 abbrev pub entry_registers : ℕ → ℕ → Addr → Option Addr → Addr → List Value → List Value
 entry_registers registers parameters receiver callee chain arguments =
-    undefined ∷ value.Object receiver ∷ value.Object chain ∷ object_or_undefined callee ∷ whole_number (length arguments) ∷ map (argument arguments) (range_with_len 0 parameters) ++ replicate (registers - 5 - parameters) undefined
+    undefined ∷ value.Object receiver ∷ value.Object chain ∷ object_or_undefined callee
+    ∷ whole_number (length arguments) ∷ map (argument arguments) (range_with_len 0 parameters)
+    ++ replicate (registers - 5 - parameters) undefined
 
 -- the frame of a function that is entered after so many steps
 abbrev pub entered : Program → ℕ → FnId → Addr → Option Addr → Addr → List Value → Frame
@@ -71,7 +76,8 @@ entered p steps f receiver callee chain arguments = record {
   callee = callee;
   scope = chain;
   arguments = arguments;
-  registers = entry_registers (registers_of p f) (parameters_of p f) receiver callee chain arguments;
+  registers =
+      entry_registers (registers_of p f) (parameters_of p f) receiver callee chain arguments;
   lists = [];
 }
 
@@ -84,9 +90,11 @@ remaining (r ∷ rs) list = if r.list.0 == list.0 then r.names else remaining rs
 abbrev pub with_remaining : List Remaining → Reg → List (List ℕ) → List Remaining
 with_remaining [] list names = record { list = list; names = names } ∷ []
 with_remaining (r ∷ rs) list names =
-    if r.list.0 == list.0 then record { list = list; names = names } ∷ rs else r ∷ with_remaining rs list names
+    if r.list.0 == list.0 then record { list = list; names = names } ∷ rs else r
+    ∷ with_remaining rs list names
 
 -- names without the first that is this one; none stands twice among those of a list
 abbrev pub without_first : List (List ℕ) → List ℕ → List (List ℕ)
 without_first [] name = []
-without_first (other ∷ names) name = if same_text other name then names else other ∷ without_first names name
+without_first (other ∷ names) name =
+    if same_text other name then names else other ∷ without_first names name

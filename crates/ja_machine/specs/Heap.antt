@@ -36,7 +36,8 @@ new_address h s = record { site = s; ordinal = count h s }
 
 -- the heap with another object at an address
 abbrev pub with_object : Heap → Addr → Object → Heap
-with_object h a o = record { objects = slice_set h.objects a.site.0 (slice_set (objects_of h a.site) a.ordinal o) }
+with_object h a o =
+    record { objects = slice_set h.objects a.site.0 (slice_set (objects_of h a.site) a.ordinal o) }
 
 -- an own property
 abbrev pub property_of : Object → List ℕ → Option Property
@@ -51,7 +52,8 @@ chain link h zero at = []
 chain link h (suc n) None = []
 chain link h (suc n) (Some a) = a ∷ chain link h n (option_and_then link (object_at h a))
 
--- an object and those that it inherits from (a chain meets no object twice, so it has at most as many as there are)
+-- an object and those that it inherits from (a chain meets no object twice, so it has at most as
+-- many as there are)
 abbrev pub prototype_of : Object → Option Addr
 prototype_of o = o.slots.prototype
 

@@ -1,4 +1,5 @@
--- The operations that the built-in functions are written with: what each gives of the values that it takes and of the heap.
+-- The operations that the built-in functions are written with: what each gives of the values that
+-- it takes and of the heap.
 use Rattle.std.specs.Prelude.{◌≡◌, ◌⊎◌, ℕ, suc, ◌∷◌, pos, negsuc, nat_le, Bool, false, ◌&&◌, if◌then◌else◌, List, [], map, length, Option, Some, None, is_some, Result, Ok, Err}
 use Rattle.std.specs.Fmt.{digits}
 use Rattle.std.specs.Option.{option_and_then, option_map, option_map_or}
@@ -64,12 +65,14 @@ class_name class.Math = codes "Math"
 class_name class.Activation = codes "Object"
 
 abbrev pub class_of : Heap → Value → IntrinsicOutcome
-class_of h (value.Object a) = if_any (option_map (λ (c : Class). Text (class_name c)) (class_at h a))
+class_of h (value.Object a) =
+    if_any (option_map (λ (c : Class). Text (class_name c)) (class_at h a))
 class_of h (value.Primitive q) = refused
 
 -- [[Value]]
 abbrev pub value_of : Heap → Value → IntrinsicOutcome
-value_of h (value.Object a) = if_any (option_and_then (λ (o : Object). o.slots.value) (object_at h a))
+value_of h (value.Object a) =
+    if_any (option_and_then (λ (o : Object). o.slots.value) (object_at h a))
 value_of h (value.Primitive q) = refused
 
 -- ---- properties and prototypes (15.2.4.5 to 15.2.4.7)

@@ -1,4 +1,5 @@
--- The machine: the first state of a program, what a state wants, one step, and the state after a list of answers.
+-- The machine: the first state of a program, what a state wants, one step, and the state after a
+-- list of answers.
 use Rattle.std.specs.Prelude.{ℕ, ◌-◌, Bool, true, false, if◌then◌else◌, nat_lt, List, [], ◌∷◌, map, length, drop, slice_get, Option, Some, None}
 use Rattle.std.specs.Option.{option_and_then, option_map, option_map_or, option_to_list}
 use Rattle.std.specs.List.{list_any, range_with_len}
@@ -75,7 +76,8 @@ opening_objects_at p s = option_to_list (option_map (opening_object p) (object_s
 abbrev pub opening_heap : Program → Heap
 opening_heap p = record { objects = map (opening_objects_at p) (range_with_len 0 (length p.sites)) }
 
--- the program is entered with the global object as its receiver and its scope chain, and without arguments
+-- the program is entered with the global object as its receiver and its scope chain, and without
+-- arguments
 abbrev pub program_function : FnId
 program_function = record { 0 = 0 }
 
@@ -107,7 +109,8 @@ node_wants h f node = wanted.Tick
 abbrev pub frames_want : Program → Heap → List Frame → Wants
 frames_want p h [] = wanted.Tick
 frames_want p h (f ∷ below) =
-    option_map_or (λ (info : NodeInfo). node_wants h f info.node) (node_at p f.function f.node) wanted.Tick
+    option_map_or (λ (info : NodeInfo). node_wants h f info.node) (node_at p f.function f.node)
+    wanted.Tick
 
 abbrev pub wants : Program → Conf → Wants
 wants p c = frames_want p c.heap c.frames
@@ -133,7 +136,9 @@ fits p wants answer = false
 abbrev pub frames_step : Program → Conf → Answer → List Frame → Option Event
 frames_step p c answer [] = None
 frames_step p c answer (f ∷ below) =
-    option_and_then (λ (info : NodeInfo). node_step p (record { conf = c; top = f; below = below; info = info }) answer info.node) (node_at p f.function f.node)
+    option_and_then (λ (info : NodeInfo). node_step p
+    (record { conf = c; top = f; below = below; info = info }) answer info.node)
+    (node_at p f.function f.node)
 
 -- nothing where the answer isn't one that the state wants
 abbrev pub step : Program → Conf → Answer → Option Event
@@ -144,7 +149,8 @@ abbrev pub next_of : Event → Option Conf
 next_of (event.Next c) = Some c
 next_of (event.End e c) = None
 
--- the state after a list of answers, the last one first; there is none where the run has ended before
+-- the state after a list of answers, the last one first; there is none where the run has ended
+-- before
 abbrev pub state_of : Program → List Answer → Option Conf
 state_of p [] = Some (opening_state p)
 state_of p (answer ∷ earlier) =

@@ -65,7 +65,8 @@ abbrev pub find_name : Heap → Addr → List ℕ → Value
 find_name h a name = object_or_null (find (λ b. has h b name) (scopes h a))
 
 abbrev pub find_name_step : Program → Standing → Reg → NameId → Value → Event
-find_name_step p s dst name (value.Object a) = sets s dst (find_name s.conf.heap a (name_text p name))
+find_name_step p s dst name (value.Object a) =
+    sets s dst (find_name s.conf.heap a (name_text p name))
 find_name_step p s dst name (value.Primitive q) = not_taken s
 
 -- what [[Get]] gives, or undefined
@@ -73,13 +74,15 @@ abbrev pub read : Heap → Addr → List ℕ → Content
 read h a name = unwrap_or (content_at h a name) (contents.Value undefined)
 
 abbrev pub read_ref_step : Program → Standing → Reg → NameId → Site → Value → Event
-read_ref_step p s dst name error (value.Object a) = sets_content s dst (read s.conf.heap a (name_text p name))
+read_ref_step p s dst name error (value.Object a) =
+    sets_content s dst (read s.conf.heap a (name_text p name))
 read_ref_step p s dst name error (value.Primitive primitive.Null) =
     throws s error builtins.REFERENCE_ERROR_PROTOTYPE (unbound_message (name_text p name))
 read_ref_step p s dst name error (value.Primitive q) = not_taken s
 
 abbrev pub read_soft_step : Program → Standing → Reg → NameId → Value → Event
-read_soft_step p s dst name (value.Object a) = sets_content s dst (read s.conf.heap a (name_text p name))
+read_soft_step p s dst name (value.Object a) =
+    sets_content s dst (read s.conf.heap a (name_text p name))
 read_soft_step p s dst name (value.Primitive primitive.Null) = sets s dst undefined
 read_soft_step p s dst name (value.Primitive q) = not_taken s
 
@@ -94,7 +97,8 @@ after_put s wrong_length h put_ends.LengthObject = left_scope s scope_kind.Lengt
 after_put s wrong_length h put_ends.SharedArgument = left_scope s scope_kind.SharedArgument
 
 abbrev pub puts : Standing → Event → Addr → List ℕ → Value → Event
-puts s wrong_length a name v = let w = put s.conf.heap a name v in after_put s wrong_length w.heap w.put
+puts s wrong_length a name v = let w = put s.conf.heap a name v in
+    after_put s wrong_length w.heap w.put
 
 -- the base of a name is no array, so no length is put (8.7.2)
 abbrev pub is_array_at : Heap → Addr → Bool
@@ -103,7 +107,8 @@ is_array_at h a = option_map_or is_array (class_at h a) false
 abbrev pub write_ref_step : Program → Standing → NameId → Value → Value → Event
 write_ref_step p s name v (value.Object a) =
     if is_array_at s.conf.heap a then not_taken s else puts s (not_taken s) a (name_text p name) v
-write_ref_step p s name v (value.Primitive primitive.Null) = puts s (not_taken s) (first_of global) (name_text p name) v
+write_ref_step p s name v (value.Primitive primitive.Null) =
+    puts s (not_taken s) (first_of global) (name_text p name) v
 write_ref_step p s name v (value.Primitive q) = not_taken s
 
 -- a deletion gives whether it was one (8.6.2.5); a shared value isn't deleted
@@ -133,7 +138,8 @@ wrong_length s error = throws s error builtins.RANGE_ERROR_PROTOTYPE array_lengt
 
 -- an object is made at a site
 abbrev pub makes : Standing → Reg → Site → Object → Event
-makes s dst site o = sets_in s (with_new s.conf.heap site o) dst (value.Object (new_address s.conf.heap site))
+makes s dst site o =
+    sets_in s (with_new s.conf.heap site o) dst (value.Object (new_address s.conf.heap site))
 
 -- ToObject (9.9)
 abbrev pub to_object_step : Standing → Reg → Wrappers → Site → Value → Event
@@ -143,21 +149,26 @@ to_object_step s dst sites error (value.Primitive primitive.Undefined) =
 to_object_step s dst sites error (value.Primitive primitive.Null) =
     throws s error builtins.TYPE_ERROR_PROTOTYPE nothing_message
 to_object_step s dst sites error (value.Primitive (primitive.Bool b)) =
-    makes s dst sites.boolean (wrapper class.Boolean builtins.BOOLEAN_PROTOTYPE (primitive.Bool b) [])
+    makes s dst sites.boolean (wrapper class.Boolean builtins.BOOLEAN_PROTOTYPE (primitive.Bool b)
+    [])
 to_object_step s dst sites error (value.Primitive (primitive.Number n)) =
-    makes s dst sites.number (wrapper class.Number builtins.NUMBER_PROTOTYPE (primitive.Number n) [])
+    makes s dst sites.number (wrapper class.Number builtins.NUMBER_PROTOTYPE (primitive.Number n)
+    [])
 to_object_step s dst sites error (value.Primitive (primitive.Text units)) =
-    makes s dst sites.text (wrapper class.String builtins.STRING_PROTOTYPE (primitive.Text units) (text_length units))
+    makes s dst sites.text (wrapper class.String builtins.STRING_PROTOTYPE (primitive.Text units)
+    (text_length units))
 
 abbrev pub need_object_step : Standing → Site → Value → Event
 need_object_step s error (value.Object a) = goes_on s s.conf.heap
-need_object_step s error (value.Primitive q) = throws s error builtins.TYPE_ERROR_PROTOTYPE not_an_object_message
+need_object_step s error (value.Primitive q) =
+    throws s error builtins.TYPE_ERROR_PROTOTYPE not_an_object_message
 
 -- `instanceof` (11.8.6, 15.3.5.3): whether the object inherits from the function's `prototype`
 abbrev pub has_instance : Standing → Reg → Site → Addr → Option Content → Event
 has_instance s dst not_object left (Some (contents.Value (value.Object a))) =
     sets s dst (bool_value (inherits_from s.conf.heap left a))
-has_instance s dst not_object left content = throws s not_object builtins.TYPE_ERROR_PROTOTYPE no_prototype_message
+has_instance s dst not_object left content =
+    throws s not_object builtins.TYPE_ERROR_PROTOTYPE no_prototype_message
 
 abbrev pub instance_of : Standing → Reg → Site → Addr → Value → Event
 instance_of s dst not_object function (value.Primitive q) = sets s dst (bool_value false)
@@ -188,35 +199,44 @@ make_function_step p s dst function site proto_site (value.Primitive q) = not_ta
 
 -- `scope` is set to an object that was made
 abbrev pub enters_scope : Standing → Heap → Addr → Event
-enters_scope s h a = next_state s.conf h (moved_to (with_register s.top scope (value.Object a)) s.info.next ∷ s.below)
+enters_scope s h a =
+    next_state s.conf h (moved_to (with_register s.top scope (value.Object a)) s.info.next
+    ∷ s.below)
 
 abbrev pub parameter_names : Program → FnId → List (List ℕ)
-parameter_names p f = option_map_or (λ (fn : Function). map (name_text p) fn.parameters) (slice_get p.functions f.0) []
+parameter_names p f =
+    option_map_or (λ (fn : Function). map (name_text p) fn.parameters) (slice_get p.functions f.0)
+    []
 
 -- the activation, with its arguments object, if the function has one
 abbrev pub enter : Standing → Site → Addr → List (List ℕ) → Option Site → Event
 enter s site outer names None =
     let h = s.conf.heap in
-    enters_scope s (with_new h site (activation outer (with_parameters [] names s.top.arguments []))) (new_address h site)
+    enters_scope s (with_new h site (activation outer
+    (with_parameters [] names s.top.arguments []))) (new_address h site)
 enter s site outer names (Some list) =
     let h = s.conf.heap in
     let flags = sharing names s.top.arguments in
     let bound = with_parameters [] names s.top.arguments flags in
-    let own = activation outer (with_property bound (property_with (codes "arguments") (value.Object (new_address h list)) dont_delete)) in
+    let own = activation outer (with_property bound
+    (property_with (codes "arguments") (value.Object (new_address h list)) dont_delete)) in
     enters_scope
     s
-    (with_new (with_new h site own) list (arguments_object (object_or_undefined s.top.callee) s.top.arguments flags))
+    (with_new (with_new h site own) list (arguments_object (object_or_undefined s.top.callee)
+    s.top.arguments flags))
     (new_address h site)
 
 abbrev pub enter_step : Program → Standing → Site → Option Site → Value → Event
-enter_step p s site arguments (value.Object outer) = enter s site outer (parameter_names p s.top.function) arguments
+enter_step p s site arguments (value.Object outer) =
+    enter s site outer (parameter_names p s.top.function) arguments
 enter_step p s site arguments (value.Primitive q) = not_taken s
 
 abbrev pub declare_step : Program → Standing → NameId → Value → Event
 declare_step p s name (value.Object a) =
     let h = s.conf.heap in
     let text = name_text p name in
-    goes_on s (if is_some (own h a text) then h else define h a text (contents.Value undefined) dont_delete)
+    goes_on s (if is_some (own h a text) then h
+    else define h a text (contents.Value undefined) dont_delete)
 declare_step p s name (value.Primitive q) = not_taken s
 
 abbrev pub bound_attrs : Bool → Attrs
@@ -225,7 +245,8 @@ bound_attrs read_only = record dont_delete { read_only = read_only }
 abbrev pub bind_step : Program → Standing → NameId → Bool → Value → Value → Event
 bind_step p s name read_only v (value.Object a) =
     if is_shared s.conf.heap a (name_text p name) then left_scope s scope_kind.SharedArgument
-    else goes_on s (define s.conf.heap a (name_text p name) (contents.Value v) (bound_attrs read_only))
+    else goes_on s (define s.conf.heap a (name_text p name) (contents.Value v)
+    (bound_attrs read_only))
 bind_step p s name read_only v (value.Primitive q) = not_taken s
 
 abbrev pub push_scope_step : Standing → Site → Value → Event
@@ -242,20 +263,23 @@ shown h f list a = filter (shows h a) (remaining f.lists list)
 abbrev pub names_step : Standing → Reg → Value → Event
 names_step s list (value.Object a) =
     let h = s.conf.heap in
-    next_state s.conf h (moved_to (record s.top { lists = with_remaining s.top.lists list (names h a) }) s.info.next ∷ s.below)
+    next_state s.conf h (moved_to (record s.top
+    { lists = with_remaining s.top.lists list (names h a) }) s.info.next ∷ s.below)
 names_step s list (value.Primitive q) = not_taken s
 
 -- the name that is taken remains no longer
 abbrev pub takes : Standing → Reg → Reg → List ℕ → Event
 takes s list dst name =
     let left = without_first (remaining s.top.lists list) name in
-    let f = with_register (record s.top { lists = with_remaining s.top.lists list left }) dst (value.Primitive (primitive.Text name)) in
+    let f = with_register (record s.top { lists = with_remaining s.top.lists list left }) dst
+    (value.Primitive (primitive.Text name)) in
     next_state s.conf s.conf.heap (moved_to f s.info.next ∷ s.below)
 
 abbrev pub pick : Standing → Reg → Reg → Addr → Answer → Option Event
 pick s list dst a (answers.Pick i) =
     option_map (takes s list dst) (slice_get (shown s.conf.heap s.top list a) i)
-pick s list dst a answers.Tick = Some (next_state s.conf s.conf.heap (moved_to s.top s.info.other ∷ s.below))
+pick s list dst a answers.Tick =
+    Some (next_state s.conf s.conf.heap (moved_to s.top s.info.other ∷ s.below))
 pick s list dst a (answers.Device q) = None
 
 abbrev pub pick_step : Standing → Reg → Reg → Answer → Value → Option Event
@@ -278,7 +302,8 @@ sets_given s dst (Some (Err kind)) = left_scope s kind
 
 abbrev pub intrinsic_step : Standing → Reg → ℕ → List Value → Event
 intrinsic_step s dst which arguments =
-    sets_given s dst (option_map (λ (row : Computation). row arguments s.conf.heap) (slice_get rows which))
+    sets_given s dst (option_map (λ (row : Computation). row arguments s.conf.heap)
+    (slice_get rows which))
 
 -- a device takes no objects
 abbrev pub device_step : Standing → Reg → Answer → Option Event
@@ -291,30 +316,39 @@ device_step s dst (answers.Pick i) = None
 abbrev pub node_step : Program → Standing → Answer → Node → Option Event
 node_step p s answer (node.Const dst q) = Some (sets s dst (value.Primitive q))
 node_step p s answer (node.Move dst src) = Some (sets s dst (register_of s.top src))
-node_step p s answer (node.FindName dst name) = Some (find_name_step p s dst name (register_of s.top scope))
+node_step p s answer (node.FindName dst name) =
+    Some (find_name_step p s dst name (register_of s.top scope))
 node_step p s answer (node.ReadRef dst base name error) =
     Some (read_ref_step p s dst name error (register_of s.top base))
-node_step p s answer (node.ReadSoft dst base name) = Some (read_soft_step p s dst name (register_of s.top base))
+node_step p s answer (node.ReadSoft dst base name) =
+    Some (read_soft_step p s dst name (register_of s.top base))
 node_step p s answer (node.WriteRef base name src) =
     Some (write_ref_step p s name (register_of s.top src) (register_of s.top base))
-node_step p s answer (node.DeleteRef dst base name) = Some (delete_ref_step p s dst name (register_of s.top base))
+node_step p s answer (node.DeleteRef dst base name) =
+    Some (delete_ref_step p s dst name (register_of s.top base))
 node_step p s answer (node.ToObject dst src sites error) =
     Some (to_object_step s dst sites error (register_of s.top src))
-node_step p s answer (node.NeedObject src error) = Some (need_object_step s error (register_of s.top src))
+node_step p s answer (node.NeedObject src error) =
+    Some (need_object_step s error (register_of s.top src))
 node_step p s answer (node.ReadProp dst object key) =
-    Some (on_property s (λ a name. sets_content s dst (read s.conf.heap a name)) (register_of s.top object) (key_of (register_of s.top key)))
+    Some (on_property s (λ a name. sets_content s dst (read s.conf.heap a name))
+    (register_of s.top object) (key_of (register_of s.top key)))
 node_step p s answer (node.WriteProp object key src error) =
-    Some (on_property s (λ a name. puts s (wrong_length s error) a name (register_of s.top src)) (register_of s.top object) (key_of (register_of s.top key)))
+    Some (on_property s (λ a name. puts s (wrong_length s error) a name (register_of s.top src))
+    (register_of s.top object) (key_of (register_of s.top key)))
 node_step p s answer (node.DeleteProp dst object key) =
     Some (on_property s (deletes s dst) (register_of s.top object) (key_of (register_of s.top key)))
 node_step p s answer (node.HasProp dst object key) =
-    Some (on_property s (λ a name. sets s dst (bool_value (has s.conf.heap a name))) (register_of s.top object) (key_of (register_of s.top key)))
+    Some (on_property s (λ a name. sets s dst (bool_value (has s.conf.heap a name)))
+    (register_of s.top object) (key_of (register_of s.top key)))
 node_step p s answer (node.InstanceOf dst left right not_function not_object) =
-    Some (instance_of_step s dst not_function not_object (register_of s.top left) (register_of s.top right))
+    Some (instance_of_step s dst not_function not_object (register_of s.top left)
+    (register_of s.top right))
 node_step p s answer (node.NewObject dst site kind) = Some (makes s dst site (empty_object kind))
 node_step p s answer (node.MakeFunction dst function site proto_site) =
     Some (make_function_step p s dst function site proto_site (register_of s.top scope))
-node_step p s answer (node.Enter site arguments) = Some (enter_step p s site arguments (register_of s.top scope))
+node_step p s answer (node.Enter site arguments) =
+    Some (enter_step p s site arguments (register_of s.top scope))
 node_step p s answer (node.Declare name) = Some (declare_step p s name (register_of s.top scope))
 node_step p s answer (node.Bind name src read_only) =
     Some (bind_step p s name read_only (register_of s.top src) (register_of s.top scope))
@@ -331,7 +365,8 @@ node_step p s answer (node.Call dst callee receiver args error) =
 node_step p s answer (node.New dst callee args site error) =
     Some (new_step p s (register_of s.top callee) args site error)
 node_step p s answer (node.Names list object) = Some (names_step s list (register_of s.top object))
-node_step p s answer (node.Pick list dst object) = pick_step s list dst answer (register_of s.top object)
+node_step p s answer (node.Pick list dst object) =
+    pick_step s list dst answer (register_of s.top object)
 node_step p s answer (node.Throw src) = Some (throws_value s s.conf.heap (register_of s.top src))
 node_step p s answer (node.Return src) = return_step p s s.below (register_of s.top src)
 node_step p s answer node.Escape = escape_step p s s.below (register_of s.top thrown)

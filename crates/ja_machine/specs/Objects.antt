@@ -54,10 +54,17 @@ first_of s = record { site = s; ordinal = 0 }
 
 abbrev pub inheriting : Site → Slots
 inheriting prototype =
-    record { prototype = Some (first_of prototype); outer = None; scope = None; value = None; arguments = false }
+    record {
+      prototype = Some (first_of prototype);
+      outer = None;
+      scope = None;
+      value = None;
+      arguments = false;
+    }
 
 abbrev pub object_with : Class → Slots → List Property → Object
-object_with class slots properties = record { class = class; slots = slots; properties = properties }
+object_with class slots properties =
+    record { class = class; slots = slots; properties = properties }
 
 -- the prototype of the errors of a kind (15.11.4, 15.11.7)
 abbrev pub prototype_of_error : ErrorKind → Site
@@ -72,25 +79,30 @@ prototype_of_error error_kind.URIError = builtins.URI_ERROR_PROTOTYPE
 -- an error of the machine's own: its message has no attributes
 abbrev pub error_object : Site → List ℕ → Object
 error_object prototype message =
-    object_with class.Error (inheriting prototype) (property_with (codes "message") (value.Primitive (Text message)) no_attrs ∷ [])
+    object_with class.Error (inheriting prototype)
+    (property_with (codes "message") (value.Primitive (Text message)) no_attrs ∷ [])
 
 -- a new empty object (15.2.2.1), array (15.4.2.1) or error (15.11.2.1)
 abbrev pub empty_object : Made → Object
 empty_object made.Object = object_with class.Object (inheriting builtins.OBJECT_PROTOTYPE) []
 empty_object made.Array =
-    object_with class.Array (inheriting builtins.ARRAY_PROTOTYPE) (property_with length_name (whole_number 0) kept_hidden ∷ [])
+    object_with class.Array (inheriting builtins.ARRAY_PROTOTYPE)
+    (property_with length_name (whole_number 0) kept_hidden ∷ [])
 empty_object (made.Error kind) = object_with class.Error (inheriting (prototype_of_error kind)) []
 
 -- the object of a boolean, a number or a text (9.9)
 abbrev pub wrapper : Class → Site → Primitive → List Property → Object
-wrapper class prototype q properties = object_with class (record (inheriting prototype) { value = Some q }) properties
+wrapper class prototype q properties =
+    object_with class (record (inheriting prototype) { value = Some q }) properties
 
 abbrev pub text_length : List ℕ → List Property
 text_length units = property_with length_name (whole_number (length units)) all_attrs ∷ []
 
 -- an object before a scope chain (12.14, 13), made as by `new Object()`
 abbrev pub scope_object : Addr → Object
-scope_object outer = object_with class.Object (record (inheriting builtins.OBJECT_PROTOTYPE) { outer = Some outer }) []
+scope_object outer =
+    object_with class.Object (record (inheriting builtins.OBJECT_PROTOTYPE) { outer = Some outer })
+    []
 
 -- ---- functions (13.2)
 
@@ -99,17 +111,20 @@ function_object parameters chain prototype =
     object_with
     class.Function
     (record (inheriting builtins.FUNCTION_PROTOTYPE) { scope = Some chain })
-    (property_with length_name (whole_number parameters) all_attrs ∷ property_with (codes "prototype") (value.Object prototype) dont_delete ∷ [])
+    (property_with length_name (whole_number parameters) all_attrs
+    ∷ property_with (codes "prototype") (value.Object prototype) dont_delete ∷ [])
 
 -- the object that its constructions inherit from
 abbrev pub prototype_object : Addr → Object
 prototype_object function =
-    object_with class.Object (inheriting builtins.OBJECT_PROTOTYPE) (property_with (codes "constructor") (value.Object function) dont_enum ∷ [])
+    object_with class.Object (inheriting builtins.OBJECT_PROTOTYPE)
+    (property_with (codes "constructor") (value.Object function) dont_enum ∷ [])
 
 -- what a construction makes (13.2.2)
 abbrev pub constructed_object : Addr → Object
 constructed_object prototype =
-    object_with class.Object (record (inheriting builtins.OBJECT_PROTOTYPE) { prototype = Some prototype }) []
+    object_with class.Object (record (inheriting builtins.OBJECT_PROTOTYPE)
+    { prototype = Some prototype }) []
 
 -- ---- activations and their arguments objects (10.1.6, 10.1.8)
 
@@ -118,12 +133,13 @@ abbrev pub with_property : List Property → Property → List Property
 with_property [] q = q ∷ []
 with_property (r ∷ rs) q = if same_text r.name q.name then q ∷ rs else r ∷ with_property rs q
 
--- Whether each parameter and the element of `arguments` at its place have one value: there is such an argument, and no later
--- parameter has the name.
+-- Whether each parameter and the element of `arguments` at its place have one value: there is such
+-- an argument, and no later parameter has the name.
 abbrev pub sharing : List (List ℕ) → List Value → List Bool
 sharing [] arguments = []
 sharing (name ∷ names) [] = []
-sharing (name ∷ names) (v ∷ arguments) = not (list_any (same_text name) names) ∷ sharing names arguments
+sharing (name ∷ names) (v ∷ arguments) =
+    not (list_any (same_text name) names) ∷ sharing names arguments
 
 abbrev pub first_flag : List Bool → Bool
 first_flag [] = false
@@ -136,7 +152,9 @@ with_flag q shared = record q { shared = shared }
 abbrev pub with_parameters : List Property → List (List ℕ) → List Value → List Bool → List Property
 with_parameters qs [] arguments flags = qs
 with_parameters qs (name ∷ names) arguments flags =
-    with_parameters (with_property qs (with_flag (property_with name (argument arguments 0) dont_delete) (first_flag flags))) names (drop 1 arguments) (drop 1 flags)
+    with_parameters (with_property qs (with_flag
+    (property_with name (argument arguments 0) dont_delete) (first_flag flags))) names
+    (drop 1 arguments) (drop 1 flags)
 
 abbrev pub index_text : ℕ → List ℕ
 index_text i = to_text (Number (Whole (pos i)))
@@ -172,6 +190,13 @@ arguments_object callee arguments flags =
 abbrev pub activation : Addr → List Property → Object
 activation outer properties = record {
   class = class.Activation;
-  slots = record { prototype = None; outer = Some outer; scope = None; value = None; arguments = false };
+  slots =
+      record {
+        prototype = None;
+        outer = Some outer;
+        scope = None;
+        value = None;
+        arguments = false;
+      };
   properties = properties;
 }

@@ -31,7 +31,8 @@ AreStates p = (answers : List Answer) (c : Conf) → state_of p answers ≡ Some
 -- No run is stuck: a state has a step with each answer that it wants, and with no other.
 abbrev pub NeverStuck : Program → Type 0
 NeverStuck p =
-    (answers : List Answer) (c : Conf) (answer : Answer) → state_of p answers ≡ Some c → IsTrue (fits p (wants p c) answer) ↔ IsSome (step p c answer)
+    (answers : List Answer) (c : Conf) (answer : Answer) → state_of p answers ≡ Some c
+    → IsTrue (fits p (wants p c) answer) ↔ IsSome (step p c answer)
 
 -- Of any state that is as it should be, whether a run comes to it or not: it has a step with each
 -- answer that it wants, and with no other, ..
@@ -70,7 +71,8 @@ pub record GoesAlongEdge (p : Program) (before after : List Frame) : Type 0 wher
   pub moved : Frame
   pub after_is : after ≡ moved ∷ below
   pub same : IsSameActivation top moved
-  pub edge : (moved.node ≡ info.next) ⊎ ((moved.node ≡ info.other) ⊎ (IsTrue (may_throw info.node) × (moved.node ≡ info.handler)))
+  pub edge : (moved.node ≡ info.next) ⊎ ((moved.node ≡ info.other)
+      ⊎ (IsTrue (may_throw info.node) × (moved.node ≡ info.handler)))
 
 -- A function is entered at its first node, above the frame that calls it, which stays as it is.
 pub record EntersFunction (p : Program) (c : Conf) (after : List Frame) : Type 0 where
@@ -85,7 +87,8 @@ pub record EntersFunction (p : Program) (c : Conf) (after : List Frame) : Type 0
   pub first_node : entered.node.0 ≡ 0
   pub born : entered.born ≡ c.steps + 1
 
--- where the caller goes on, by the node that leaves the function: behind its node after a Return, at its handler after an Escape
+-- where the caller goes on, by the node that leaves the function: behind its node after a Return,
+-- at its handler after an Escape
 abbrev pub ReturnsTo : Node → NodeInfo → NodeId → Type 0
 ReturnsTo (node.Return src) caller n = n ≡ caller.next
 ReturnsTo node.Escape caller n = n ≡ caller.handler
@@ -106,11 +109,12 @@ pub record LeavesFunction (p : Program) (before after : List Frame) : Type 0 whe
   pub same : IsSameActivation caller moved
   pub edge : ReturnsTo info.node caller_info moved.node
 
--- A step counts one more. Where the run goes on, the top frame goes along an edge, enters a function or leaves its own; where it ends,
--- nothing else changes.
+-- A step counts one more. Where the run goes on, the top frame goes along an edge, enters a
+-- function or leaves its own; where it ends, nothing else changes.
 abbrev pub IsStep : Program → Conf → Event → Type 0
 IsStep p c (event.Next d) =
-    (d.steps ≡ c.steps + 1) × (GoesAlongEdge p c.frames d.frames ⊎ (EntersFunction p c d.frames ⊎ LeavesFunction p c.frames d.frames))
+    (d.steps ≡ c.steps + 1) × (GoesAlongEdge p c.frames d.frames
+    ⊎ (EntersFunction p c d.frames ⊎ LeavesFunction p c.frames d.frames))
 IsStep p c (event.End e d) = d ≡ record c { steps = c.steps + 1 }
 
 abbrev pub AreSteps : Program → Type 0
@@ -130,7 +134,8 @@ pub record Stays (before after : Heap) (a : Addr) : Type 0 where
 -- no object goes
 abbrev pub ObjectsStay : Program → Type 0
 ObjectsStay p =
-    (c d : Conf) (answer : Answer) → step p c answer ≡ Some (event.Next d) → (a : Addr) → IsObjectOf c.heap a → Stays c.heap d.heap a
+    (c d : Conf) (answer : Answer) → step p c answer ≡ Some (event.Next d) → (a : Addr)
+    → IsObjectOf c.heap a → Stays c.heap d.heap a
 
 -- ---- the names that `for`-`in` shows
 
@@ -144,13 +149,17 @@ NamesAreDistinct p = (h : Heap) (a : Addr) → IsHeap p h → IsDistinct same_te
 abbrev pub AreDistinct : List Addr → Type 0
 AreDistinct xs = (i j : ℕ) (a : Addr) → slice_get xs i ≡ Some a → slice_get xs j ≡ Some a → i ≡ j
 
--- From an object on, the link leads to objects of the heap alone, to none of them twice, and ends: there are no more of
--- them than the heap has objects.
+-- From an object on, the link leads to objects of the heap alone, to none of them twice, and ends:
+-- there are no more of them than the heap has objects.
 pub record IsChained (h : Heap) (link : Object → Option Addr) : Type 0 where
-  pub objects : (n i : ℕ) (a b : Addr) → IsObjectOf h a → slice_get (chain link h n (Some a)) i ≡ Some b → IsObjectOf h b
+  pub objects : (n i : ℕ) (a b : Addr) → IsObjectOf h a
+      → slice_get (chain link h n (Some a)) i ≡ Some b → IsObjectOf h b
   pub distinct : (n : ℕ) (a : Addr) → IsObjectOf h a → AreDistinct (chain link h n (Some a))
-  pub ends : (n : ℕ) (a : Addr) → IsObjectOf h a → size h ≤ n → chain link h n (Some a) ≡ chain link h (size h) (Some a)
+  pub ends : (n : ℕ) (a : Addr) → IsObjectOf h a → size h ≤ n
+      → chain link h n (Some a) ≡ chain link h (size h) (Some a)
 
 -- prototypes and scopes are chained after each list of answers
 abbrev pub ChainsEnd : Program → Type 0
-ChainsEnd p = (answers : List Answer) (c : Conf) → state_of p answers ≡ Some c → IsChained c.heap prototype_of × IsChained c.heap outer_of
+ChainsEnd p =
+    (answers : List Answer) (c : Conf) → state_of p answers ≡ Some c
+    → IsChained c.heap prototype_of × IsChained c.heap outer_of

@@ -45,24 +45,30 @@ IsContentOf h contents.Row = Unit {0}
 abbrev pub HaveDistinctNames : List Property → Type 0
 HaveDistinctNames qs = IsDistinct same_text (map (λ (q : Property). q.name) qs)
 
--- The links and the properties of an object lead to objects of the heap. Its prototype and its outer object were made before it; its
--- rank is how many objects were. It has one property of a name at most.
+-- The links and the properties of an object lead to objects of the heap. Its prototype and its
+-- outer object were made before it; its rank is how many objects were. It has one property of a
+-- name at most.
 pub record IsHeap (p : Program) (h : Heap) : Type 0 where
   pub rows : length h.objects ≡ length p.sites
   pub class : (a : Addr) (o : Object) → object_at h a ≡ Some o → o.class ≡ class_of_site p a.site.0
-  pub properties : (a : Addr) (o : Object) (i : ℕ) (q : Property) → object_at h a ≡ Some o → slice_get o.properties i ≡ Some q → IsContentOf h q.content
+  pub properties : (a : Addr) (o : Object) (i : ℕ) (q : Property) → object_at h a ≡ Some o
+      → slice_get o.properties i ≡ Some q → IsContentOf h q.content
   pub names : (a : Addr) (o : Object) → object_at h a ≡ Some o → HaveDistinctNames o.properties
-  pub scope : (a b : Addr) (o : Object) → object_at h a ≡ Some o → o.slots.scope ≡ Some b → IsObjectOf h b
+  pub scope : (a b : Addr) (o : Object) → object_at h a ≡ Some o → o.slots.scope ≡ Some b
+      → IsObjectOf h b
   pub rank : Addr → ℕ
   pub ranked : (a : Addr) → IsObjectOf h a → rank a < size h
-  pub prototype_before : (a b : Addr) (o : Object) → object_at h a ≡ Some o → prototype_of o ≡ Some b → IsObjectOf h b × (rank b < rank a)
-  pub outer_before : (a b : Addr) (o : Object) → object_at h a ≡ Some o → outer_of o ≡ Some b → IsObjectOf h b × (rank b < rank a)
+  pub prototype_before : (a b : Addr) (o : Object) → object_at h a ≡ Some o
+      → prototype_of o ≡ Some b → IsObjectOf h b × (rank b < rank a)
+  pub outer_before : (a b : Addr) (o : Object) → object_at h a ≡ Some o → outer_of o ≡ Some b
+      → IsObjectOf h b × (rank b < rank a)
   pub opening : (s : Site) → s.0 < length p.opening → count h s ≡ 1
 
 -- ---- frames
 
--- A frame of a function of the program stands at one of its nodes and has its registers. `this`, `callee`, `count` and the parameters
--- hold what it was entered with, and the rest of the arguments is undefined.
+-- A frame of a function of the program stands at one of its nodes and has its registers. `this`,
+-- `callee`, `count` and the parameters hold what it was entered with, and the rest of the arguments
+-- is undefined.
 pub record IsFrame (p : Program) (h : Heap) (f : Frame) : Type 0 where
   pub function : Function
   pub function_is : slice_get p.functions f.function.0 ≡ Some function
@@ -76,7 +82,8 @@ pub record IsFrame (p : Program) (h : Heap) (f : Frame) : Type 0 where
   pub this_is : slice_get f.registers THIS.0 ≡ Some (value.Object f.receiver)
   pub callee_is : slice_get f.registers CALLEE_REGISTER.0 ≡ Some (object_or_undefined f.callee)
   pub count_is : slice_get f.registers COUNT.0 ≡ Some (whole_number (length f.arguments))
-  pub parameters_are : (i : ℕ) → i < length function.parameters → slice_get f.registers (REST.0 + i) ≡ Some (argument f.arguments i)
+  pub parameters_are : (i : ℕ) → i < length function.parameters
+      → slice_get f.registers (REST.0 + i) ≡ Some (argument f.arguments i)
   pub rest_is : slice_get f.registers (REST.0 + length function.parameters) ≡ Some undefined
 
 abbrev pub AreFrames : Program → Heap → List Frame → Type 0
@@ -112,8 +119,8 @@ below_top (f ∷ fs) = fs
 
 -- ---- states
 
--- A state has a frame, and its lowest one is the program's. Each frame below the top one waits for a function that it has entered. No
--- site of a node has more objects than steps were made.
+-- A state has a frame, and its lowest one is the program's. Each frame below the top one waits for
+-- a function that it has entered. No site of a node has more objects than steps were made.
 pub record IsState (p : Program) (c : Conf) : Type 0 where
   pub heap : IsHeap p c.heap
   pub frames : AreFrames p c.heap c.frames

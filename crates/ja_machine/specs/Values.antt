@@ -1,4 +1,5 @@
--- Operations on values (ES3 9, 11.4 to 11.10): those on primitives, and what they come to on objects.
+-- Operations on values (ES3 9, 11.4 to 11.10): those on primitives, and what they come to on
+-- objects.
 use Rattle.std.specs.Prelude.{ℕ, Bool, true, false, not, List, Option, Some, None, Result, Ok}
 use lib.Chars.{codes}
 use Rattle.ja_base.specs.declared.ids.ScopeKind.{ScopeKind}
@@ -82,19 +83,22 @@ unary h unary_op.TypeOf v = gives (primitive.Text (type_of h v))
 
 -- ---- of two values
 
-abbrev pub on_primitives : (Primitive → Primitive → Result Primitive Stop) → Value → Value → OperatorOutcome
+abbrev pub on_primitives : (Primitive → Primitive → Result Primitive Stop) → Value → Value
+    → OperatorOutcome
 on_primitives f (value.Primitive a) (value.Primitive b) = Some (f a b)
 on_primitives f (value.Primitive a) (value.Object b) = None
 on_primitives f (value.Object a) v = None
 
 -- an operation on the numbers of two values
-abbrev pub of_numbers : (Num → Num → Result Num Stop) → Primitive → Primitive → Result Primitive Stop
+abbrev pub of_numbers : (Num → Num → Result Num Stop) → Primitive → Primitive
+    → Result Primitive Stop
 of_numbers f a b = to_primitive primitive.Number (of_both f (to_number a) (to_number b))
 
 abbrev pub of_bits : (Num → Num → Num) → Primitive → Primitive → Result Primitive Stop
 of_bits f = of_numbers (λ m n. Ok (f m n))
 
--- `<` and `>` are true where the comparison gives true, `<=` and `>=` where it gives false: not where it gives undefined (11.8)
+-- `<` and `>` are true where the comparison gives true, `<=` and `>=` where it gives false: not
+-- where it gives undefined (11.8)
 abbrev pub is_true : Option Bool → Bool
 is_true None = false
 is_true (Some b) = b
@@ -136,7 +140,8 @@ binary binary_op.Gt a b = on_primitives (λ m n. compared is_true (less n m)) a 
 binary binary_op.Le a b = on_primitives (λ m n. compared is_false (less n m)) a b
 binary binary_op.Ge a b = on_primitives (λ m n. compared is_false (less m n)) a b
 binary binary_op.LooseEq a b = Some (to_primitive truth (loose_equal_values a b))
-binary binary_op.LooseNe a b = Some (to_primitive (λ equal. truth (not equal)) (loose_equal_values a b))
+binary binary_op.LooseNe a b =
+    Some (to_primitive (λ equal. truth (not equal)) (loose_equal_values a b))
 binary binary_op.StrictEq a b = gives (truth (strict_equal_values a b))
 binary binary_op.StrictNe a b = gives (truth (not (strict_equal_values a b)))
 

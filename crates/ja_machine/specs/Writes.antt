@@ -25,13 +25,15 @@ use Rattle.ja_machine.specs.Heap.{object_at, own, with_object, property_of, can_
 
 -- a property that is new: it comes last, and isn't shared
 abbrev pub new_property : List ℕ → Content → Attrs → Property
-new_property name content attrs = record { name = name; content = content; attrs = attrs; shared = false }
+new_property name content attrs =
+    record { name = name; content = content; attrs = attrs; shared = false }
 
 -- the properties after the value of a name is set: attributes stay, and a new property has none
 abbrev pub with_value : List Property → List ℕ → Value → List Property
 with_value [] name v = new_property name (contents.Value v) no_attrs ∷ []
 with_value (q ∷ qs) name v =
-    if same_text q.name name then record q { content = contents.Value v } ∷ qs else q ∷ with_value qs name v
+    if same_text q.name name then record q { content = contents.Value v } ∷ qs else q
+    ∷ with_value qs name v
 
 -- the properties after a name is defined, with content and attributes
 abbrev pub with_definition : List Property → List ℕ → Content → Attrs → List Property
@@ -61,7 +63,8 @@ can_delete h a name = option_map_or (λ (q : Property). not q.attrs.dont_delete)
 
 abbrev pub delete : Heap → Addr → List ℕ → Heap
 delete h a name =
-    if can_delete h a name then changed h a (λ o. record o { properties = without o.properties name }) else h
+    if can_delete h a name then changed h a
+    (λ o. record o { properties = without o.properties name }) else h
 
 -- ---- arrays (15.4.5)
 
@@ -83,16 +86,19 @@ property_number (Some q) = number_held q.content
 abbrev pub length_of : Object → Option ℤ
 length_of o = property_number (property_of o length_name)
 
--- an element is set: a length that isn't above its index becomes one more than the index (steps 8 to 10)
+-- an element is set: a length that isn't above its index becomes one more than the index (steps 8
+-- to 10)
 abbrev pub grown : ℕ → Option ℤ → Object → Object
 grown index None o = o
-grown index (Some n) o = if int_lt (pos index) n then o else object_with_value o length_name (whole_number (index + 1))
+grown index (Some n) o =
+    if int_lt (pos index) n then o else object_with_value o length_name (whole_number (index + 1))
 
 abbrev pub with_element : Object → List ℕ → Value → Option ℕ → Object
 with_element o name v None = object_with_value o name v
 with_element o name v (Some index) = grown index (length_of o) (object_with_value o name v)
 
--- the unsigned 32-bit number that a length is, if it is one (steps 12 and 13); a text whose number leaves the profile is none
+-- the unsigned 32-bit number that a length is, if it is one (steps 12 and 13); a text whose number
+-- leaves the profile is none
 abbrev pub unsigned_number : Result Num Stop → Option ℕ
 unsigned_number (Ok (Whole (pos n))) = if nat_lt n (2 ^ 32) then Some n else None
 unsigned_number (Ok (Whole (negsuc n))) = None
@@ -102,12 +108,17 @@ unsigned_number (Err stop) = None
 -- an element from a new length on, below the old one
 abbrev pub is_cut : ℕ → Option ℤ → Property → Bool
 is_cut new None q = false
-is_cut new (Some old) q = option_map_or (λ index. nat_le new index && int_lt (pos index) old) (index_of q.name) false
+is_cut new (Some old) q =
+    option_map_or (λ index. nat_le new index && int_lt (pos index) old) (index_of q.name) false
 
 -- the length is set: elements that aren't below it are deleted (steps 14 and 15)
 abbrev pub with_length : Object → ℕ → Object
 with_length o n =
-    object_with_value (record o { properties = filter (λ (q : Property). not (is_cut n (length_of o) q)) o.properties }) length_name (whole_number n)
+    object_with_value (record o {
+      properties = filter
+          (λ (q : Property). not (is_cut n (length_of o) q)) o.properties;
+    }) length_name
+    (whole_number n)
 
 -- ---- [[Put]] (8.6.2.2, 15.4.5.1)
 

@@ -1,4 +1,5 @@
-//! What holds of every run of a program, and of the operations that it may name. The functions do nothing; their contracts are the laws.
+//! What holds of every run of a program, and of the operations that it may name. The functions do
+//! nothing; their contracts are the laws.
 
 ghost use Rattle.std.specs.Prelude.{◌≡◌, map};
 ghost use Rattle.std.specs.List.{AllByRecursion};
@@ -11,15 +12,15 @@ ghost use Rattle.ja_machine.specs.Runs.{AreStates, NeverStuck, HaveSteps, StepsK
 ghost use Rattle.ja_machine.specs.Runs.{AreSteps, ObjectsStay, NamesAreDistinct, ChainsEnd};
 ghost use Rattle.ja_machine.specs.State.{IsState};
 
-/// After each list of answers a state has a frame, its frames and its heap are as they should be, each
-/// object has the class of its site, each site without a node has one object, and no other site has
-/// more than steps were made.
+/// After each list of answers a state has a frame, its frames and its heap are as they should be,
+/// each object has the class of its site, each site without a node has one object, and no other
+/// site has more than steps were made.
 pub fn states_are_kept()
     ensures { (p : Program) → IsWellFormed p → AreStates p }
 {}
 
-/// No run is stuck: each state that is reached has a step with each answer that it wants, and with no
-/// other.
+/// No run is stuck: each state that is reached has a step with each answer that it wants, and with
+/// no other.
 pub fn never_stuck()
     ensures { (p : Program) → IsWellFormed p → NeverStuck p }
 {}
@@ -37,10 +38,10 @@ pub fn steps_keep_states()
     ensures steps { (p : Program) → IsWellFormed p → StepsKeepStates p }
 {}
 
-/// Each step counts one more. Where the run goes on, the top frame stands at `next`, at `other` or, of
-/// a node that may throw, at `handler` of the node at which it stood; or a function is entered above it;
-/// or it is left, and its caller stands at `next` of its node after a Return, at `handler` after an Escape.
-/// Where the run ends, the heap and the frames stay.
+/// Each step counts one more. Where the run goes on, the top frame stands at `next`, at `other` or,
+/// of a node that may throw, at `handler` of the node at which it stood; or a function is entered
+/// above it; or it is left, and its caller stands at `next` of its node after a Return, at
+/// `handler` after an Escape. Where the run ends, the heap and the frames stay.
 pub fn steps_go_along_edges()
     ensures { (p : Program) → AreSteps p }
 {}
@@ -62,8 +63,8 @@ pub fn chains_end()
     ensures { (p : Program) → IsWellFormed p → ChainsEnd p }
 {}
 
-/// The operations of the built-in functions are those of `ja_graph::INTRINSICS`, by their numbers, and take as
-/// many values: one that is given fewer or more leaves the profile.
+/// The operations of the built-in functions are those of `ja_graph::INTRINSICS`, by their numbers,
+/// and take as many values: one that is given fewer or more leaves the profile.
 pub fn operations_are_listed()
     ensures names { map (λ (o : Operation). o.name) operations ≡ map (λ row. row.0.now) INTRINSICS }
     ensures counts { map (λ (o : Operation). o.takes) operations ≡ map (λ row. row.1) INTRINSICS }

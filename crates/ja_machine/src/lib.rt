@@ -4,10 +4,10 @@
 //! (`states_are_kept`), and has a step with each answer that it wants, and with no other
 //! (`never_stuck`), as has any state that is so, and a step leads to another one
 //! (`states_have_steps`, `steps_keep_states`); no object shows a name twice to `for`-`in`
-//! (`names_are_distinct`); a step counts one more and goes along an edge, enters a function or leaves one
-//! (`steps_go_along_edges`); no object goes (`objects_stay`); a chain of prototypes or scopes meets
-//! no object twice, and ends (`chains_end`). The operations of the built-in functions are those
-//! that `ja_graph` lists, and take as many values (`operations_are_listed`).
+//! (`names_are_distinct`); a step counts one more and goes along an edge, enters a function or
+//! leaves one (`steps_go_along_edges`); no object goes (`objects_stay`); a chain of prototypes or
+//! scopes meets no object twice, and ends (`chains_end`). The operations of the built-in functions
+//! are those that `ja_graph` lists, and take as many values (`operations_are_listed`).
 #![tactic(auto)]
 
 mod laws;

@@ -1,4 +1,5 @@
-//! The concrete machine (ES3 8.6, 10 to 12): whole heaps, and a frame for each function that was entered.
+//! The concrete machine (ES3 8.6, 10 to 12): whole heaps, and a frame for each function that was
+//! entered.
 
 use ja_base::{FnId, NodeId, Place, Reg, ScopeKind, Seq, Site};
 use ja_graph::{Attrs, Class};
@@ -25,8 +26,8 @@ pub enum Content {
     Row,
 }
 
-/// A property (ES3 8.6). It is shared where a parameter and an element of `arguments` have one value
-/// (10.1.8).
+/// A property (ES3 8.6). It is shared where a parameter and an element of `arguments` have one
+/// value (10.1.8).
 #[derive(Drop)]
 pub struct Property {
     pub name: Text16,
@@ -35,8 +36,8 @@ pub struct Property {
     pub shared: bool,
 }
 
-/// The internal properties of an object (ES3 8.6.2). `outer` is the next object of a scope chain, and
-/// `arguments` says that it is an arguments object.
+/// The internal properties of an object (ES3 8.6.2). `outer` is the next object of a scope chain,
+/// and `arguments` says that it is an arguments object.
 #[derive(Drop)]
 pub struct Slots {
     pub prototype: Option<Addr>,
@@ -60,9 +61,9 @@ pub struct Heap {
     pub objects: Seq<Seq<Object>>,
 }
 
-/// How a put ends: the value is set, or it is ignored, since the property or one that it would hide is
-/// read-only (8.6.2.2); an array's length is no unsigned 32-bit number (15.4.5.1); or the run leaves
-/// the profile.
+/// How a put ends: the value is set, or it is ignored, since the property or one that it would hide
+/// is read-only (8.6.2.2); an array's length is no unsigned 32-bit number (15.4.5.1); or the run
+/// leaves the profile.
 #[derive(Clone, Copy, Debug, PartialEq, Eq)]
 pub enum Put {
     Done,
@@ -79,9 +80,9 @@ pub struct Remaining {
     pub names: Seq<Text16>,
 }
 
-/// A function that was entered: the node that it stands at, the number of steps made at its entry, the
-/// receiver, the function object if it has one, the scope chain and the arguments with which it was
-/// entered, its registers, and the names that remain to its `for`-`in`s.
+/// A function that was entered: the node that it stands at, the number of steps made at its entry,
+/// the receiver, the function object if it has one, the scope chain and the arguments with which it
+/// was entered, its registers, and the names that remain to its `for`-`in`s.
 #[derive(Drop)]
 pub struct Frame {
     pub function: FnId,
@@ -103,8 +104,8 @@ pub struct Conf {
     pub steps: u64,
 }
 
-/// What the outside gives to a step: leave to go on, what a device answers, or the place of a name among
-/// those that a `for`-`in` may take.
+/// What the outside gives to a step: leave to go on, what a device answers, or the place of a name
+/// among those that a `for`-`in` may take.
 #[derive(Drop)]
 pub enum Answer {
     Tick,
@@ -112,7 +113,8 @@ pub enum Answer {
     Pick(u64),
 }
 
-/// What a state wants of the outside: leave to go on, an answer of a device, or a place below a number.
+/// What a state wants of the outside: leave to go on, an answer of a device, or a place below a
+/// number.
 #[derive(Clone, Copy, Debug, PartialEq, Eq)]
 pub enum Wants {
     Tick,

@@ -1,4 +1,5 @@
--- What a write at one object needs: the attributes that it leaves are known, and a new label has one object.
+-- What a write at one object needs: the attributes that it leaves are known, and a new label has
+-- one object.
 use Rattle.std.specs.Prelude.{◌≡◌, ◌+◌, ◌==◌, ℕ, false, not, if◌then◌else◌, IsTrue, List, Some, None}
 use Rattle.std.proofs.Common.{refl, sym, subst, ap, arith, ◌∙◌}
 use Rattle.std.proofs.lemmas.Bool.{cond-true, eqb-true, not-false}
@@ -27,7 +28,8 @@ last_ordinal : (i n : ℕ) → not (i + 1 == n) ≡ false → i + 1 ≡ n
 last_ordinal i n e = eqb-true (i + 1) n (not-false (i + 1 == n) e)
 
 -- objects of one label that is new are one object
-pub label_of-new : (h : Heap) (a b : Addr) → (label_of h a).old ≡ false → label_of h b ≡ label_of h a → b ≡ a
+pub label_of-new : (h : Heap) (a b : Addr) → (label_of h a).old ≡ false
+    → label_of h b ≡ label_of h a → b ≡ a
 label_of-new h a b new same =
     let site_is : b.site ≡ a.site = ap (λ (l : Label). l.site) same in
     let new_b : (label_of h b).old ≡ false = ap (λ (l : Label). l.old) same ∙ new in
@@ -37,7 +39,9 @@ label_of-new h a b new same =
     let ordinal_is : b.ordinal ≡ a.ordinal = omega arith in
     λ i. record { site = site_is i; ordinal = ordinal_is i }
 
-module _ (p : Program) (e c : Heap) (w : View) (r : IsRead p e c w) (t : List ℕ) (k : Key) (same : IsTrue (same_key (key_of p (named t)) k)) (a : Addr) (o : IsObjectOf c a) (filled : IsFilled w.entries (demands_of w.state (label_of c a) k)) where
+module _ (p : Program) (e c : Heap) (w : View) (r : IsRead p e c w) (t : List ℕ) (k : Key)
+    (same : IsTrue (same_key (key_of p (named t)) k)) (a : Addr) (o : IsObjectOf c a)
+    (filled : IsFilled w.entries (demands_of w.state (label_of c a) k)) where
   -- the label of the object
   abbrev here : Label
   here = label_of c a
@@ -51,14 +55,24 @@ module _ (p : Program) (e c : Heap) (w : View) (r : IsRead p e c w) (t : List �
   added = if may_be_absent w here k then of_attrs no_attrs else unknown_attrs
 
   -- the attributes of a property that is written over are those that it had
-  pub written_attrs-Some : (q : Property) → heap.own c a t ≡ Some q → IsTrue (allows_attrs (written_attrs w (label_of c a) k) q.attrs)
+  pub written_attrs-Some : (q : Property) → heap.own c a t ≡ Some q
+      → IsTrue (allows_attrs (written_attrs w (label_of c a) k) q.attrs)
   written_attrs-Some q some =
-      let there : IsTrue (may_be_present w here k) = may_be_present-own p e c w r t k same a o filled q some in
-      let known : IsTrue (allows_attrs (own w here k).attrs q.attrs) = allows_attrs-known c (own w here k) q.content q.attrs (knows-own p e c w r t k same a o filled q some) in
-      allows_attrs-join_left kept added q.attrs (subst (λ m. IsTrue (allows_attrs m q.attrs)) (sym (cond-true (may_be_present w here k) (own w here k).attrs unknown_attrs there)) known)
+      let there : IsTrue (may_be_present w here k) = may_be_present-own p e c w r t k same a o
+      filled q some in
+      let known : IsTrue (allows_attrs (own w here k).attrs q.attrs) = allows_attrs-known c
+      (own w here k) q.content q.attrs (knows-own p e c w r t k same a o filled q some) in
+      allows_attrs-join_left kept added q.attrs
+      (subst (λ m. IsTrue (allows_attrs m q.attrs))
+      (sym (cond-true (may_be_present w here k) (own w here k).attrs unknown_attrs there))
+      known)
 
   -- a property that is added has none
-  pub written_attrs-None : heap.own c a t ≡ None → IsTrue (allows_attrs (written_attrs w (label_of c a) k) no_attrs)
+  pub written_attrs-None : heap.own c a t ≡ None
+      → IsTrue (allows_attrs (written_attrs w (label_of c a) k) no_attrs)
   written_attrs-None none =
-      let absent : IsTrue (may_be_absent w here k) = may_be_absent-own p e c w r t k same a o filled none in
-      allows_attrs-join_right kept added no_attrs (subst (λ m. IsTrue (allows_attrs m no_attrs)) (sym (cond-true (may_be_absent w here k) (of_attrs no_attrs) unknown_attrs absent)) refl)
+      let absent : IsTrue (may_be_absent w here k) = may_be_absent-own p e c w r t k same a o filled
+      none in
+      allows_attrs-join_right kept added no_attrs
+      (subst (λ m. IsTrue (allows_attrs m no_attrs))
+      (sym (cond-true (may_be_absent w here k) (of_attrs no_attrs) unknown_attrs absent)) refl)

@@ -1,4 +1,5 @@
--- The frame of the program: what its registers hold, and that its result is kept by the state with a register set.
+-- The frame of the program: what its registers hold, and that its result is kept by the state with
+-- a register set.
 use Rattle.std.proofs.Common.{◌≡◌, ◌≢◌, ◌⊎◌, ℕ, zero, suc, ◌<◌, List, [], ◌∷◌, ◌++◌, length, map, replicate, Some, None, Option, inl, inr, refl, sym, ap, ◌∙◌, subst}
 use Rattle.std.specs.Prelude.{IsTrue, slice_get, slice_set, unwrap_or, ◌==◌}
 use Rattle.std.specs.Option.{is_some, option_and_then}
@@ -43,8 +44,11 @@ pub record IsHeld (p : Program) (t : Table) (c : Conf) : Type 0 where
   pub holds : Holds p (opening_heap p) c.heap frame state
 
 -- the only frame of a state
-pub frame_of : (p : Program) (c : Conf) (f : Frame) → IsState p c → c.frames ≡ f ∷ [] → IsFrame p c.heap f
-frame_of p c f known e = let frames : AreFrames p c.heap (f ∷ []) = subst (λ fs. AreFrames p c.heap fs) e known.frames in frames.0
+pub frame_of : (p : Program) (c : Conf) (f : Frame) → IsState p c → c.frames ≡ f ∷ []
+    → IsFrame p c.heap f
+frame_of p c f known e =
+    let frames : AreFrames p c.heap (f ∷ []) = subst (λ fs. AreFrames p c.heap fs) e known.frames in
+    frames.0
 
 -- of the state that an event leads to
 abbrev pub OnNext : (Conf → Type 0) → Event → Type 0
@@ -57,13 +61,16 @@ OnStep P None = Unit {0}
 OnStep P (Some e) = OnNext P e
 
 -- what is kept on the way to a state that an event leads to
-pub on_event : (P Q : Conf → Type 0) (o : Option Event) (c : Conf) → (OnStep P o → OnStep Q o) → option_and_then next_of o ≡ Some c → P c → Q c
+pub on_event : (P Q : Conf → Type 0) (o : Option Event) (c : Conf) → (OnStep P o → OnStep Q o)
+    → option_and_then next_of o ≡ Some c → P c → Q c
 on_event P Q None c k e = absurd (false≢true (ap is_some e))
 on_event P Q (Some (event.Next d)) c k e = subst (λ x. P x → Q x) (same_Some d c e) k
 on_event P Q (Some (event.End x d)) c k e = absurd (false≢true (ap is_some e))
 
 -- a state that is held from its parts
-pub held_next : (p : Program) (t : Table) (h : Heap) (f : Frame) (steps : ℕ) (b : AbstractState) → IsProgramFrame f → HasWithin p t f.node.0 b → Holds p (opening_heap p) h f b → IsHeld p t (record { heap = h; frames = f ∷ []; steps = steps })
+pub held_next : (p : Program) (t : Table) (h : Heap) (f : Frame) (steps : ℕ) (b : AbstractState)
+    → IsProgramFrame f → HasWithin p t f.node.0 b → Holds p (opening_heap p) h f b
+    → IsHeld p t (record { heap = h; frames = f ∷ []; steps = steps })
 held_next p t h f steps b program_frame has holds = record {
   frame = f;
   frames_are = refl;
@@ -82,47 +89,73 @@ of_replicate (suc n) zero x y e = same_Some x y e
 of_replicate (suc n) (suc i) x y e = of_replicate n i x y e
 
 -- .. and so is what the parameters and temporaries of a function that is given no arguments hold
-pub of_missing : (is : List ℕ) (n i : ℕ) (v : Value) → slice_get (map (argument []) is ++ replicate n undefined) i ≡ Some v → undefined ≡ v
+pub of_missing : (is : List ℕ) (n i : ℕ) (v : Value)
+    → slice_get (map (argument []) is ++ replicate n undefined) i ≡ Some v → undefined ≡ v
 of_missing [] n i v e = of_replicate n i undefined v e
 of_missing (j ∷ js) n zero v e = same_Some undefined v e
 of_missing (j ∷ js) n (suc i) v e = of_missing js n i v e
 
 -- a register of the frame holds its value
-pub register_held : (f : Frame) (r : Reg) → r.0 < length f.registers → slice_get f.registers r.0 ≡ Some (register_of f r)
-register_held f r l = let (v, e) = element_within f.registers r.0 l in e ∙ ap Some (sym (ap (λ o. unwrap_or o undefined) e))
+pub register_held : (f : Frame) (r : Reg) → r.0 < length f.registers
+    → slice_get f.registers r.0 ≡ Some (register_of f r)
+register_held f r l = let (v, e) = element_within f.registers r.0 l in
+    e ∙ ap Some (sym (ap (λ o. unwrap_or o undefined) e))
 
 -- .. which the state has
-pub register_has : (p : Program) (e h : Heap) (f : Frame) (a : AbstractState) (r : Reg) → Holds p e h f a → r.0 < length f.registers → IsTrue (has_value h (a.register r.0) (register_of f r))
+pub register_has : (p : Program) (e h : Heap) (f : Frame) (a : AbstractState) (r : Reg)
+    → Holds p e h f a → r.0 < length f.registers
+    → IsTrue (has_value h (a.register r.0) (register_of f r))
 register_has p e h f a r holds l = holds.registers r.0 (register_of f r) (register_held f r l)
 
 -- .. and which is one of the heap
-pub register_of_heap : (p : Program) (h : Heap) (f : Frame) (r : Reg) → IsFrame p h f → r.0 < length f.registers → IsValueOf h (register_of f r)
+pub register_of_heap : (p : Program) (h : Heap) (f : Frame) (r : Reg) → IsFrame p h f
+    → r.0 < length f.registers → IsValueOf h (register_of f r)
 register_of_heap p h f r k l = k.values r.0 (register_of f r) (register_held f r l)
 
 -- the frame of the program has the registers of the program's text
-pub registers_are : (p : Program) (good : IsWellFormed p) (h : Heap) (f : Frame) → IsFrame p h f → f.function ≡ program_function → length f.registers ≡ good.text.registers
+pub registers_are : (p : Program) (good : IsWellFormed p) (h : Heap) (f : Frame) → IsFrame p h f
+    → f.function ≡ program_function → length f.registers ≡ good.text.registers
 registers_are p good h f k function_is =
-    let same : k.function ≡ good.text = same_Some _ _ (sym k.function_is ∙ (ap (λ (g : FnId). slice_get p.functions g.0) function_is ∙ good.text_is)) in
+    let same : k.function ≡ good.text = same_Some _ _
+    (sym k.function_is ∙ (ap (λ (g : FnId). slice_get p.functions g.0) function_is
+    ∙ good.text_is)) in
     k.registers ∙ ap (λ (fn : Function). fn.registers) same
 
 -- what a register holds after a write
-pub written_cases : (registers : List Value) (d r : ℕ) (v u : Value) → d < length registers → slice_get (slice_set registers d v) r ≡ Some u → ((r ≡ d) × (v ≡ u)) ⊎ ((r ≢ d) × (slice_get registers r ≡ Some u))
+pub written_cases : (registers : List Value) (d r : ℕ) (v u : Value) → d < length registers
+    → slice_get (slice_set registers d v) r ≡ Some u
+    → ((r ≡ d) × (v ≡ u)) ⊎ ((r ≢ d) × (slice_get registers r ≡ Some u))
 written_cases registers d r v u l e =
     elim (cases_eq r d) [
-      | inl f ↦ inl (f, same_Some v u (sym (slice_get-set_same registers d v l) ∙ (ap (slice_get (slice_set registers d v)) (sym f) ∙ e)))
+      | inl f ↦ inl (
+        f,
+        same_Some v u (sym (slice_get-set_same registers d v l)
+            ∙ (ap (slice_get (slice_set registers d v)) (sym f) ∙ e)),
+      )
       | inr f ↦ inr (f, sym (slice_get-set_other registers d r v f) ∙ e)
     ]
 
 -- the register has its value in the state with that register set, and the others theirs
-pub registers_with_result : (h : Heap) (f : Frame) (a : AbstractState) (dst : Reg) (v : Value) (u : AbstractValue) → dst.0 < length f.registers → IsTrue (has_value h u v) → ((r : ℕ) (w : Value) → slice_get f.registers r ≡ Some w → IsTrue (has_value h (a.register r) w)) → (r : ℕ) (w : Value) → slice_get (slice_set f.registers dst.0 v) r ≡ Some w → IsTrue (has_value h ((with_register a dst u).register r) w)
+pub registers_with_result : (h : Heap) (f : Frame) (a : AbstractState) (dst : Reg) (v : Value)
+    (u : AbstractValue) → dst.0 < length f.registers → IsTrue (has_value h u v)
+    → ((r : ℕ) (w : Value) → slice_get f.registers r ≡ Some w
+    → IsTrue (has_value h (a.register r) w)) → (r : ℕ) (w : Value)
+    → slice_get (slice_set f.registers dst.0 v) r ≡ Some w
+    → IsTrue (has_value h ((with_register a dst u).register r) w)
 registers_with_result h f a dst v u l new old r w e =
     elim (written_cases f.registers dst.0 r v w l e) [
-      | inl g ↦ subst (λ (s : AbstractValue). IsTrue (has_value h s w)) (sym (cond-true (dst.0 == r) u (a.register r) (eq-eqb dst.0 r (sym g.0)))) (subst (λ x. IsTrue (has_value h u x)) g.1 new)
-      | inr g ↦ subst (λ (s : AbstractValue). IsTrue (has_value h s w)) (sym (cond-false (dst.0 == r) u (a.register r) (ne_eqb dst.0 r (λ k. g.0 (sym k))))) (old r w g.1)
+      | inl g ↦ subst (λ (s : AbstractValue). IsTrue (has_value h s w))
+          (sym (cond-true (dst.0 == r) u (a.register r) (eq-eqb dst.0 r (sym g.0))))
+          (subst (λ x. IsTrue (has_value h u x)) g.1 new)
+      | inr g ↦ subst (λ (s : AbstractValue). IsTrue (has_value h s w))
+          (sym (cond-false (dst.0 == r) u (a.register r) (ne_eqb dst.0 r (λ k. g.0 (sym k)))))
+          (old r w g.1)
     ]
 
 -- the state with the register set holds of the frame with the result
-pub holds_with_result : (p : Program) (e h : Heap) (f : Frame) (a : AbstractState) (dst : Reg) (v : Value) (u : AbstractValue) (next : NodeId) → Holds p e h f a → dst.0 < length f.registers → IsTrue (has_value h u v) → Holds p e h (with_result f dst v next) (with_register a dst u)
+pub holds_with_result : (p : Program) (e h : Heap) (f : Frame) (a : AbstractState) (dst : Reg)
+    (v : Value) (u : AbstractValue) (next : NodeId) → Holds p e h f a → dst.0 < length f.registers
+    → IsTrue (has_value h u v) → Holds p e h (with_result f dst v next) (with_register a dst u)
 holds_with_result p e h f a dst v u next holds l new = record {
   registers = registers_with_result h f a dst v u l new holds.registers;
   objects = holds.objects;

@@ -27,13 +27,17 @@ Grows before now = (s : Site) → count before s ≤ count now s
 abbrev pub IsFilled : Entries → Demands → Type 0
 IsFilled entries demands = (l : Label) (k : Key) → IsTrue (demands l k) → IsSome (entries l k)
 
--- a state and the values at entry hold of two heaps of a run, the one at a function's entry and the one now
+-- a state and the values at entry hold of two heaps of a run, the one at a function's entry and the
+-- one now
 pub record IsRead (p : Program) (at_entry now : Heap) (w : View) : Type 0 where
   pub labels : w.labels ≡ labels_of p
   pub heap_at_entry : IsHeap p at_entry
   pub heap_now : IsHeap p now
   pub grows : Grows at_entry now
-  pub objects : (a : Addr) (x : Spot) → IsObjectOf now a → let q = w.state.property (label_of now a) (key_of p x) in IsTrue (knows now q (content now a x)) ⊎ (IsTrue q.value.flags.entry × IsAsAtEntry at_entry now a x)
+  pub objects : (a : Addr) (x : Spot) → IsObjectOf now a → let q =
+      w.state.property (label_of now a) (key_of p x) in
+      IsTrue (knows now q (content now a x))
+      ⊎ (IsTrue q.value.flags.entry × IsAsAtEntry at_entry now a x)
   pub some : (t : Site) → count at_entry t < count now t → IsTrue (w.state.mask t.0).some
   pub none : (t : Site) → count at_entry t ≡ count now t → IsTrue (w.state.mask t.0).none
   pub entries : EntriesHold p at_entry w.entries

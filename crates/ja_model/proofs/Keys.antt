@@ -43,7 +43,9 @@ key_from-number (key.Name n) = ap key_from (six_more n.0)
 
 -- keys of one number are equal
 pub same_key-true : (j k : Key) → IsTrue (same_key j k) → j ≡ k
-same_key-true j k e = sym (key_from-number j) ∙ (ap key_from (eqb-true (key_number j) (key_number k) e) ∙ key_from-number k)
+same_key-true j k e =
+    sym (key_from-number j) ∙ (ap key_from (eqb-true (key_number j) (key_number k) e)
+    ∙ key_from-number k)
 
 -- a key is the same as itself
 pub same_key-self : (k : Key) → IsTrue (same_key k k)
@@ -56,23 +58,33 @@ same_key_from j k e = subst (λ i. IsTrue (same_key j i)) e (same_key-self j)
 -- ---- names
 
 -- a list in which no text stands twice has the text of place i first at i
-position_of : (names : List (List ℕ)) → ((i j : ℕ) (t : List ℕ) → slice_get names i ≡ Some t → slice_get names j ≡ Some t → i ≡ j) → (i : ℕ) → i < length names → position_or_len (λ name. pointwise nat_eq name (get_or names i [])) names ≡ i
+position_of : (names : List (List ℕ)) → ((i j : ℕ) (t : List ℕ) → slice_get names i ≡ Some t
+    → slice_get names j ≡ Some t → i ≡ j) → (i : ℕ) → i < length names
+    → position_or_len (λ name. pointwise nat_eq name (get_or names i [])) names ≡ i
 position_of names once i h =
     position_or_len_is (λ name. pointwise nat_eq name (get_or names i [])) names i [] (omega arith)
     (λ k below. false_from_ne_true (pointwise nat_eq (get_or names k []) (get_or names i [])) (λ e.
-    let same : get_or names k [] ≡ get_or names i [] = (bytes_decides (get_or names k []) (get_or names i [])).0 e in
-    let at_k : slice_get names k ≡ Some (get_or names i []) = slice_get-get_or names k [] (omega arith) ∙ ap Some same in
+    let same : get_or names k [] ≡ get_or names i
+    [] = (bytes_decides (get_or names k []) (get_or names i [])).0 e in
+    let at_k : slice_get names k ≡ Some (get_or names i []) = slice_get-get_or names k []
+    (omega arith) ∙ ap Some same in
     let places : k ≡ i = once k i (get_or names i []) at_k (slice_get-get_or names i [] h) in
     absurd (omega arith)))
     (λ _. (bytes_decides (get_or names i []) (get_or names i [])).1 refl)
 
 -- the name of the text of a name is that name
-name_of-name : (p : Program) → IsWellFormed p → (n : NameId) → n.0 < length p.names → name_of p (get_or p.names n.0 []) ≡ Some n.0
+name_of-name : (p : Program) → IsWellFormed p → (n : NameId) → n.0 < length p.names
+    → name_of p (get_or p.names n.0 []) ≡ Some n.0
 name_of-name p good n h =
-    let at : position_or_len (λ name. pointwise nat_eq name (get_or p.names n.0 [])) p.names ≡ n.0 = position_of p.names good.distinct n.0 h in
-    subst (λ i. cond (nat_lt i (length p.names)) (Some i) None ≡ Some n.0) (sym at) (cond-true (nat_lt n.0 (length p.names)) (Some n.0) None (lt-ltb n.0 (length p.names) h))
+    let at : position_or_len (λ name. pointwise nat_eq name (get_or p.names n.0 [])) p.names
+    ≡ n.0 = position_of p.names good.distinct n.0 h in
+    subst (λ i. cond (nat_lt i (length p.names)) (Some i) None ≡ Some n.0) (sym at)
+    (cond-true (nat_lt n.0 (length p.names)) (Some n.0) None (lt-ltb n.0 (length p.names) h))
 
 -- the key of a name's text is the name's
-pub key_of-name : (p : Program) → IsWellFormed p → (n : NameId) → n.0 < length p.names → key_of p (named (name_text p n)) ≡ key.Name n
+pub key_of-name : (p : Program) → IsWellFormed p → (n : NameId) → n.0 < length p.names
+    → key_of p (named (name_text p n)) ≡ key.Name n
 key_of-name p good n h =
-    subst (λ t. key_of p (named t) ≡ key.Name n) (sym (unwrap_or-slice_get p.names n.0 [])) (ap (λ o. option_map_or name_key o (rest_key (get_or p.names n.0 []))) (name_of-name p good n h))
+    subst (λ t. key_of p (named t) ≡ key.Name n) (sym (unwrap_or-slice_get p.names n.0 []))
+    (ap (λ o. option_map_or name_key o (rest_key (get_or p.names n.0 [])))
+    (name_of-name p good n h))

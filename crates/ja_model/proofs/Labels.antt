@@ -31,7 +31,9 @@ same_label-true l m e =
 
 -- a label is the same as itself
 pub same_label-self : (l : Label) → IsTrue (same_label l l)
-same_label-self l = and_from (l.site.0 == l.site.0) (beq l.old l.old) (eq-eqb l.site.0 l.site.0 refl) (beq_self l.old)
+same_label-self l =
+    and_from (l.site.0 == l.site.0) (beq l.old l.old) (eq-eqb l.site.0 l.site.0 refl)
+    (beq_self l.old)
 
 -- equal labels are the same to the test
 pub same_label_from : (l m : Label) → l ≡ m → IsTrue (same_label l m)
@@ -42,21 +44,25 @@ abbrev pub IsAmong : Label → List Label → Type 0
 IsAmong l labels = IsTrue (list_any (same_label l) labels)
 
 -- a test that a label of the list passes is passed by some label of it
-pub some_among : (test : Labels) (labels : List Label) (l : Label) → IsAmong l labels → IsTrue (test l) → IsTrue (list_any test labels)
+pub some_among : (test : Labels) (labels : List Label) (l : Label) → IsAmong l labels
+    → IsTrue (test l) → IsTrue (list_any test labels)
 some_among test [] l a e = absurd (false≢true a)
 some_among test (m ∷ ms) l a e =
     elim (or_cases (same_label l m) (list_any (same_label l) ms) a) [
-      | inl s ↦ or_left (test m) (list_any test ms) (subst (λ k. IsTrue (test k)) (same_label-true l m s) e)
+      | inl s ↦ or_left (test m) (list_any test ms)
+          (subst (λ k. IsTrue (test k)) (same_label-true l m s) e)
       | inr r ↦ or_right (test m) (list_any test ms) (some_among test ms l r e)
     ]
 
 -- .. and the other way round
-pub among_some : (test : Labels) (labels : List Label) → IsTrue (list_any test labels) → (l : Label) × IsAmong l labels × IsTrue (test l)
+pub among_some : (test : Labels) (labels : List Label) → IsTrue (list_any test labels)
+    → (l : Label) × IsAmong l labels × IsTrue (test l)
 among_some test [] e = absurd (false≢true e)
 among_some test (m ∷ ms) e =
     elim (or_cases (test m) (list_any test ms) e) [
       | inl s ↦ (m, or_left (same_label m m) (list_any (same_label m) ms) (same_label-self m), s)
-      | inr r ↦ let (l, a, t) = among_some test ms r in (l, or_right (same_label l m) (list_any (same_label l) ms) a, t)
+      | inr r ↦ let (l, a, t) = among_some test ms r in
+          (l, or_right (same_label l m) (list_any (same_label l) ms) a, t)
     ]
 
 -- ---- the labels of a program
@@ -66,24 +72,38 @@ abbrev pub site_labels : ℕ → List Label
 site_labels s = new (site_of s) ∷ old (site_of s) ∷ []
 
 -- a label of a site is among its two
-head_among : (s : ℕ) (rest : List Label) (l : Label) → l.site.0 ≡ s → IsAmong l (new (site_of s) ∷ old (site_of s) ∷ rest)
+head_among : (s : ℕ) (rest : List Label) (l : Label) → l.site.0 ≡ s
+    → IsAmong l (new (site_of s) ∷ old (site_of s) ∷ rest)
 head_among s rest l e =
     elim (cases_Bool l.old) [
-      | inl o ↦ or_right (same_label l (new (site_of s))) (same_label l (old (site_of s)) || list_any (same_label l) rest) (or_left (same_label l (old (site_of s))) (list_any (same_label l) rest) (and_from (l.site.0 == s) (beq l.old true) (eq-eqb l.site.0 s e) (subst (λ b. IsTrue (beq b true)) (sym o) refl)))
-      | inr o ↦ or_left (same_label l (new (site_of s))) (same_label l (old (site_of s)) || list_any (same_label l) rest) (and_from (l.site.0 == s) (beq l.old false) (eq-eqb l.site.0 s e) (subst (λ b. IsTrue (beq b false)) (sym o) refl))
+      | inl o ↦ or_right (same_label l (new (site_of s)))
+          (same_label l (old (site_of s)) || list_any (same_label l) rest)
+          (or_left (same_label l (old (site_of s))) (list_any (same_label l) rest)
+          (and_from (l.site.0 == s) (beq l.old true) (eq-eqb l.site.0 s e)
+          (subst (λ b. IsTrue (beq b true)) (sym o) refl)))
+      | inr o ↦ or_left (same_label l (new (site_of s)))
+          (same_label l (old (site_of s)) || list_any (same_label l) rest)
+          (and_from (l.site.0 == s) (beq l.old false) (eq-eqb l.site.0 s e)
+          (subst (λ b. IsTrue (beq b false)) (sym o) refl))
     ]
 
 -- .. or behind them
-tail_among : (s : ℕ) (rest : List Label) (l : Label) → IsAmong l rest → IsAmong l (new (site_of s) ∷ old (site_of s) ∷ rest)
-tail_among s rest l a = or_right (same_label l (new (site_of s))) (same_label l (old (site_of s)) || list_any (same_label l) rest) (or_right (same_label l (old (site_of s))) (list_any (same_label l) rest) a)
+tail_among : (s : ℕ) (rest : List Label) (l : Label) → IsAmong l rest
+    → IsAmong l (new (site_of s) ∷ old (site_of s) ∷ rest)
+tail_among s rest l a =
+    or_right (same_label l (new (site_of s)))
+    (same_label l (old (site_of s)) || list_any (same_label l) rest)
+    (or_right (same_label l (old (site_of s))) (list_any (same_label l) rest) a)
 
 -- a label whose site is in a range of sites is among their labels
-among_range : (a n : ℕ) (l : Label) → a ≤ l.site.0 → l.site.0 < a + n → IsAmong l (flat_map site_labels (range_with_len a n))
+among_range : (a n : ℕ) (l : Label) → a ≤ l.site.0 → l.site.0 < a + n
+    → IsAmong l (flat_map site_labels (range_with_len a n))
 among_range a zero l low high = absurd (omega arith)
 among_range a (suc n) l low high =
     elim (cases_eq l.site.0 a) [
       | inl e ↦ head_among a (flat_map site_labels (range_with_len (a + 1) n)) l e
-      | inr ne ↦ tail_among a (flat_map site_labels (range_with_len (a + 1) n)) l (among_range (a + 1) n l (omega arith) (omega arith))
+      | inr ne ↦ tail_among a (flat_map site_labels (range_with_len (a + 1) n)) l
+          (among_range (a + 1) n l (omega arith) (omega arith))
     ]
 
 -- both labels of each site of a program are labels of the program

@@ -22,11 +22,17 @@ member-append_right x (y ∷ xs) ys m = inr (member-append_right x xs ys m)
 
 -- ---- tests of lists
 
-any_of_filter : {X : Type 0} (test keep : X → Bool) (x : X) (xs : List X) (b : Bool) → (IsTrue (list_any (λ y. keep y && test y) xs) → IsTrue (list_any test (filter keep xs))) → IsTrue ((b && test x) || list_any (λ y. keep y && test y) xs) → IsTrue (list_any test (cond b (x ∷ filter keep xs) (filter keep xs)))
-any_of_filter test keep x xs true more h = elim (or_cases (test x) _ h) [ inl e ↦ or_left _ _ e | inr r ↦ or_right _ _ (more r) ]
+any_of_filter : {X : Type 0} (test keep : X → Bool) (x : X) (xs : List X) (b : Bool)
+    → (IsTrue (list_any (λ y. keep y && test y) xs) → IsTrue (list_any test (filter keep xs)))
+    → IsTrue ((b && test x) || list_any (λ y. keep y && test y) xs)
+    → IsTrue (list_any test (cond b (x ∷ filter keep xs) (filter keep xs)))
+any_of_filter test keep x xs true more h =
+    elim (or_cases (test x) _ h) [ inl e ↦ or_left _ _ e | inr r ↦ or_right _ _ (more r) ]
 any_of_filter test keep x xs false more h = more h
 
 -- what is kept and passes is found among what is kept
-pub list_any-filter : {X : Type 0} (test keep : X → Bool) (xs : List X) → IsTrue (list_any (λ x. keep x && test x) xs) → IsTrue (list_any test (filter keep xs))
+pub list_any-filter : {X : Type 0} (test keep : X → Bool) (xs : List X)
+    → IsTrue (list_any (λ x. keep x && test x) xs) → IsTrue (list_any test (filter keep xs))
 list_any-filter test keep [] h = h
-list_any-filter test keep (x ∷ xs) h = any_of_filter test keep x xs (keep x) (list_any-filter test keep xs) h
+list_any-filter test keep (x ∷ xs) h =
+    any_of_filter test keep x xs (keep x) (list_any-filter test keep xs) h

@@ -1,4 +1,5 @@
--- The order of abstract values, states and tables: joins are above what they join, and what is below each other is equal.
+-- The order of abstract values, states and tables: joins are above what they join, and what is
+-- below each other is equal.
 use Rattle.std.specs.Prelude.{◌≡◌, ℕ, ℤ, pos, negsuc, Bool, true, false, ◌||◌, ◌&&◌, if◌then◌else◌, ◌==◌, IsTrue, List, [], ◌∷◌, Option, Some, None, unwrap_or}
 use Rattle.std.specs.Ordering.{int_eq}
 use Rattle.std.specs.Option.{option_map}
@@ -85,25 +86,46 @@ flags_same a = λ i. record {
 
 flags_both : (a b c : Flags) → join_flags a b ≡ b → join_flags b c ≡ c → join_flags a c ≡ c
 flags_both a b c h k = λ i. record {
-  absent = below_both a.absent b.absent c.absent (ap (λ (f : Flags). f.absent) h) (ap (λ (f : Flags). f.absent) k) i;
-  entry = below_both a.entry b.entry c.entry (ap (λ (f : Flags). f.entry) h) (ap (λ (f : Flags). f.entry) k) i;
+  absent =
+      below_both a.absent b.absent c.absent (ap (λ (f : Flags). f.absent) h)
+      (ap (λ (f : Flags). f.absent) k) i;
+  entry =
+      below_both a.entry b.entry c.entry (ap (λ (f : Flags). f.entry) h)
+      (ap (λ (f : Flags). f.entry) k) i;
   row = below_both a.row b.row c.row (ap (λ (f : Flags). f.row) h) (ap (λ (f : Flags). f.row) k) i;
-  undefined = below_both a.undefined b.undefined c.undefined (ap (λ (f : Flags). f.undefined) h) (ap (λ (f : Flags). f.undefined) k) i;
-  null = below_both a.null b.null c.null (ap (λ (f : Flags). f.null) h) (ap (λ (f : Flags). f.null) k) i;
-  is_true = below_both a.is_true b.is_true c.is_true (ap (λ (f : Flags). f.is_true) h) (ap (λ (f : Flags). f.is_true) k) i;
-  is_false = below_both a.is_false b.is_false c.is_false (ap (λ (f : Flags). f.is_false) h) (ap (λ (f : Flags). f.is_false) k) i;
+  undefined =
+      below_both a.undefined b.undefined c.undefined (ap (λ (f : Flags). f.undefined) h)
+      (ap (λ (f : Flags). f.undefined) k) i;
+  null =
+      below_both a.null b.null c.null (ap (λ (f : Flags). f.null) h) (ap (λ (f : Flags). f.null) k)
+      i;
+  is_true =
+      below_both a.is_true b.is_true c.is_true (ap (λ (f : Flags). f.is_true) h)
+      (ap (λ (f : Flags). f.is_true) k) i;
+  is_false =
+      below_both a.is_false b.is_false c.is_false (ap (λ (f : Flags). f.is_false) h)
+      (ap (λ (f : Flags). f.is_false) k) i;
   nan = below_both a.nan b.nan c.nan (ap (λ (f : Flags). f.nan) h) (ap (λ (f : Flags). f.nan) k) i;
 }
 
 flags_equal : (a b : Flags) → join_flags a b ≡ b → join_flags b a ≡ a → a ≡ b
 flags_equal a b h k = λ i. record {
-  absent = below_equal a.absent b.absent (ap (λ (f : Flags). f.absent) h) (ap (λ (f : Flags). f.absent) k) i;
-  entry = below_equal a.entry b.entry (ap (λ (f : Flags). f.entry) h) (ap (λ (f : Flags). f.entry) k) i;
+  absent =
+      below_equal a.absent b.absent (ap (λ (f : Flags). f.absent) h)
+      (ap (λ (f : Flags). f.absent) k) i;
+  entry =
+      below_equal a.entry b.entry (ap (λ (f : Flags). f.entry) h) (ap (λ (f : Flags). f.entry) k) i;
   row = below_equal a.row b.row (ap (λ (f : Flags). f.row) h) (ap (λ (f : Flags). f.row) k) i;
-  undefined = below_equal a.undefined b.undefined (ap (λ (f : Flags). f.undefined) h) (ap (λ (f : Flags). f.undefined) k) i;
+  undefined =
+      below_equal a.undefined b.undefined (ap (λ (f : Flags). f.undefined) h)
+      (ap (λ (f : Flags). f.undefined) k) i;
   null = below_equal a.null b.null (ap (λ (f : Flags). f.null) h) (ap (λ (f : Flags). f.null) k) i;
-  is_true = below_equal a.is_true b.is_true (ap (λ (f : Flags). f.is_true) h) (ap (λ (f : Flags). f.is_true) k) i;
-  is_false = below_equal a.is_false b.is_false (ap (λ (f : Flags). f.is_false) h) (ap (λ (f : Flags). f.is_false) k) i;
+  is_true =
+      below_equal a.is_true b.is_true (ap (λ (f : Flags). f.is_true) h)
+      (ap (λ (f : Flags). f.is_true) k) i;
+  is_false =
+      below_equal a.is_false b.is_false (ap (λ (f : Flags). f.is_false) h)
+      (ap (λ (f : Flags). f.is_false) k) i;
   nan = below_equal a.nan b.nan (ap (λ (f : Flags). f.nan) h) (ap (λ (f : Flags). f.nan) k) i;
 }
 
@@ -116,7 +138,9 @@ may_same a = λ i. record { set = below_same a.set i; unset = below_same a.unset
 may_both : (a b c : May) → join_may a b ≡ b → join_may b c ≡ c → join_may a c ≡ c
 may_both a b c h k = λ i. record {
   set = below_both a.set b.set c.set (ap (λ (m : May). m.set) h) (ap (λ (m : May). m.set) k) i;
-  unset = below_both a.unset b.unset c.unset (ap (λ (m : May). m.unset) h) (ap (λ (m : May). m.unset) k) i;
+  unset =
+      below_both a.unset b.unset c.unset (ap (λ (m : May). m.unset) h) (ap (λ (m : May). m.unset) k)
+      i;
 }
 
 may_equal : (a b : May) → join_may a b ≡ b → join_may b a ≡ a → a ≡ b
@@ -126,23 +150,45 @@ may_equal a b h k = λ i. record {
 }
 
 attrs-join : (a b : AAttrs) → join_attrs a (join_attrs a b) ≡ join_attrs a b
-attrs-join a b = λ i. record { read_only = may-join a.read_only b.read_only i; dont_enum = may-join a.dont_enum b.dont_enum i; dont_delete = may-join a.dont_delete b.dont_delete i }
+attrs-join a b =
+    λ i. record {
+      read_only = may-join a.read_only b.read_only i;
+      dont_enum = may-join a.dont_enum b.dont_enum i;
+      dont_delete = may-join a.dont_delete b.dont_delete i;
+    }
 
 attrs_same : (a : AAttrs) → join_attrs a a ≡ a
-attrs_same a = λ i. record { read_only = may_same a.read_only i; dont_enum = may_same a.dont_enum i; dont_delete = may_same a.dont_delete i }
+attrs_same a =
+    λ i. record {
+      read_only = may_same a.read_only i;
+      dont_enum = may_same a.dont_enum i;
+      dont_delete = may_same a.dont_delete i;
+    }
 
 attrs_both : (a b c : AAttrs) → join_attrs a b ≡ b → join_attrs b c ≡ c → join_attrs a c ≡ c
 attrs_both a b c h k = λ i. record {
-  read_only = may_both a.read_only b.read_only c.read_only (ap (λ (m : AAttrs). m.read_only) h) (ap (λ (m : AAttrs). m.read_only) k) i;
-  dont_enum = may_both a.dont_enum b.dont_enum c.dont_enum (ap (λ (m : AAttrs). m.dont_enum) h) (ap (λ (m : AAttrs). m.dont_enum) k) i;
-  dont_delete = may_both a.dont_delete b.dont_delete c.dont_delete (ap (λ (m : AAttrs). m.dont_delete) h) (ap (λ (m : AAttrs). m.dont_delete) k) i;
+  read_only =
+      may_both a.read_only b.read_only c.read_only (ap (λ (m : AAttrs). m.read_only) h)
+      (ap (λ (m : AAttrs). m.read_only) k) i;
+  dont_enum =
+      may_both a.dont_enum b.dont_enum c.dont_enum (ap (λ (m : AAttrs). m.dont_enum) h)
+      (ap (λ (m : AAttrs). m.dont_enum) k) i;
+  dont_delete =
+      may_both a.dont_delete b.dont_delete c.dont_delete (ap (λ (m : AAttrs). m.dont_delete) h)
+      (ap (λ (m : AAttrs). m.dont_delete) k) i;
 }
 
 attrs_equal : (a b : AAttrs) → join_attrs a b ≡ b → join_attrs b a ≡ a → a ≡ b
 attrs_equal a b h k = λ i. record {
-  read_only = may_equal a.read_only b.read_only (ap (λ (m : AAttrs). m.read_only) h) (ap (λ (m : AAttrs). m.read_only) k) i;
-  dont_enum = may_equal a.dont_enum b.dont_enum (ap (λ (m : AAttrs). m.dont_enum) h) (ap (λ (m : AAttrs). m.dont_enum) k) i;
-  dont_delete = may_equal a.dont_delete b.dont_delete (ap (λ (m : AAttrs). m.dont_delete) h) (ap (λ (m : AAttrs). m.dont_delete) k) i;
+  read_only =
+      may_equal a.read_only b.read_only (ap (λ (m : AAttrs). m.read_only) h)
+      (ap (λ (m : AAttrs). m.read_only) k) i;
+  dont_enum =
+      may_equal a.dont_enum b.dont_enum (ap (λ (m : AAttrs). m.dont_enum) h)
+      (ap (λ (m : AAttrs). m.dont_enum) k) i;
+  dont_delete =
+      may_equal a.dont_delete b.dont_delete (ap (λ (m : AAttrs). m.dont_delete) h)
+      (ap (λ (m : AAttrs). m.dont_delete) k) i;
 }
 
 masks-join : (a b : Mask) → join_masks a (join_masks a b) ≡ join_masks a b
@@ -153,8 +199,10 @@ masks_same a = λ i. record { none = below_same a.none i; some = below_same a.so
 
 masks_both : (a b c : Mask) → join_masks a b ≡ b → join_masks b c ≡ c → join_masks a c ≡ c
 masks_both a b c h k = λ i. record {
-  none = below_both a.none b.none c.none (ap (λ (m : Mask). m.none) h) (ap (λ (m : Mask). m.none) k) i;
-  some = below_both a.some b.some c.some (ap (λ (m : Mask). m.some) h) (ap (λ (m : Mask). m.some) k) i;
+  none =
+      below_both a.none b.none c.none (ap (λ (m : Mask). m.none) h) (ap (λ (m : Mask). m.none) k) i;
+  some =
+      below_both a.some b.some c.some (ap (λ (m : Mask). m.some) h) (ap (λ (m : Mask). m.some) k) i;
 }
 
 masks_equal : (a b : Mask) → join_masks a b ≡ b → join_masks b a ≡ a → a ≡ b
@@ -175,35 +223,51 @@ number_itself : (m : ℤ) → IsTrue (int_eq m m)
 number_itself m = (Decides-int_eq m m).1 refl
 
 -- a constant has no two numbers
-one_alone : (m : ℤ) → (number_has (number_part.One m) (pos 0) ≡ true) → (number_has (number_part.One m) (pos 1) ≡ true) → ⊥
-one_alone m h k = let e : pos 0 ≡ pos 1 = sym (same_number m (pos 0) h) ∙ same_number m (pos 1) k in absurd (cc)
+one_alone : (m : ℤ) → (number_has (number_part.One m) (pos 0) ≡ true)
+    → (number_has (number_part.One m) (pos 1) ≡ true) → ⊥
+one_alone m h k = let e : pos 0 ≡ pos 1 = sym (same_number m (pos 0) h) ∙ same_number m (pos 1) k in
+    absurd (cc)
 
-one_alone_below : (m : ℤ) → (number_has (number_part.One m) (negsuc 0) ≡ true) → (number_has (number_part.One m) (negsuc 1) ≡ true) → ⊥
-one_alone_below m h k = let e : negsuc 0 ≡ negsuc 1 = sym (same_number m (negsuc 0) h) ∙ same_number m (negsuc 1) k in absurd (cc)
+one_alone_below : (m : ℤ) → (number_has (number_part.One m) (negsuc 0) ≡ true)
+    → (number_has (number_part.One m) (negsuc 1) ≡ true) → ⊥
+one_alone_below m h k =
+    let e : negsuc 0 ≡ negsuc 1 = sym (same_number m (negsuc 0) h) ∙ same_number m (negsuc 1) k in
+    absurd (cc)
 
 numbers_equal : (a b : NumberPart) → HasNumbers a b → HasNumbers b a → a ≡ b
 numbers_equal number_part.Nothing number_part.Nothing h k = refl
-numbers_equal number_part.Nothing (number_part.One n) h k = absurd (false≢true (k n (number_itself n)))
+numbers_equal number_part.Nothing (number_part.One n) h k =
+    absurd (false≢true (k n (number_itself n)))
 numbers_equal number_part.Nothing number_part.Index h k = absurd (false≢true (k (pos 0) refl))
-numbers_equal number_part.Nothing number_part.OtherWhole h k = absurd (false≢true (k (negsuc 0) refl))
+numbers_equal number_part.Nothing number_part.OtherWhole h k =
+    absurd (false≢true (k (negsuc 0) refl))
 numbers_equal number_part.Nothing number_part.Whole h k = absurd (false≢true (k (pos 0) refl))
-numbers_equal (number_part.One m) number_part.Nothing h k = absurd (false≢true (h m (number_itself m)))
-numbers_equal (number_part.One m) (number_part.One n) h k = ap number_part.One (sym (same_number n m (h m (number_itself m))))
-numbers_equal (number_part.One m) number_part.Index h k = absurd (one_alone m (k (pos 0) refl) (k (pos 1) refl))
-numbers_equal (number_part.One m) number_part.OtherWhole h k = absurd (one_alone_below m (k (negsuc 0) refl) (k (negsuc 1) refl))
-numbers_equal (number_part.One m) number_part.Whole h k = absurd (one_alone m (k (pos 0) refl) (k (pos 1) refl))
+numbers_equal (number_part.One m) number_part.Nothing h k =
+    absurd (false≢true (h m (number_itself m)))
+numbers_equal (number_part.One m) (number_part.One n) h k =
+    ap number_part.One (sym (same_number n m (h m (number_itself m))))
+numbers_equal (number_part.One m) number_part.Index h k =
+    absurd (one_alone m (k (pos 0) refl) (k (pos 1) refl))
+numbers_equal (number_part.One m) number_part.OtherWhole h k =
+    absurd (one_alone_below m (k (negsuc 0) refl) (k (negsuc 1) refl))
+numbers_equal (number_part.One m) number_part.Whole h k =
+    absurd (one_alone m (k (pos 0) refl) (k (pos 1) refl))
 numbers_equal number_part.Index number_part.Nothing h k = absurd (false≢true (h (pos 0) refl))
-numbers_equal number_part.Index (number_part.One n) h k = absurd (one_alone n (h (pos 0) refl) (h (pos 1) refl))
+numbers_equal number_part.Index (number_part.One n) h k =
+    absurd (one_alone n (h (pos 0) refl) (h (pos 1) refl))
 numbers_equal number_part.Index number_part.Index h k = refl
 numbers_equal number_part.Index number_part.OtherWhole h k = absurd (false≢true (h (pos 0) refl))
 numbers_equal number_part.Index number_part.Whole h k = absurd (false≢true (k (negsuc 0) refl))
-numbers_equal number_part.OtherWhole number_part.Nothing h k = absurd (false≢true (h (negsuc 0) refl))
-numbers_equal number_part.OtherWhole (number_part.One n) h k = absurd (one_alone_below n (h (negsuc 0) refl) (h (negsuc 1) refl))
+numbers_equal number_part.OtherWhole number_part.Nothing h k =
+    absurd (false≢true (h (negsuc 0) refl))
+numbers_equal number_part.OtherWhole (number_part.One n) h k =
+    absurd (one_alone_below n (h (negsuc 0) refl) (h (negsuc 1) refl))
 numbers_equal number_part.OtherWhole number_part.Index h k = absurd (false≢true (h (negsuc 0) refl))
 numbers_equal number_part.OtherWhole number_part.OtherWhole h k = refl
 numbers_equal number_part.OtherWhole number_part.Whole h k = absurd (false≢true (k (pos 0) refl))
 numbers_equal number_part.Whole number_part.Nothing h k = absurd (false≢true (h (pos 0) refl))
-numbers_equal number_part.Whole (number_part.One n) h k = absurd (one_alone n (h (pos 0) refl) (h (pos 1) refl))
+numbers_equal number_part.Whole (number_part.One n) h k =
+    absurd (one_alone n (h (pos 0) refl) (h (pos 1) refl))
 numbers_equal number_part.Whole number_part.Index h k = absurd (false≢true (h (negsuc 0) refl))
 numbers_equal number_part.Whole number_part.OtherWhole h k = absurd (false≢true (h (pos 0) refl))
 numbers_equal number_part.Whole number_part.Whole h k = refl
@@ -218,11 +282,17 @@ text_itself : (t : List ℕ) → IsTrue (text_has (text_part.One t) t)
 text_itself t = (bytes_decides t t).1 refl
 
 -- the texts 0 and 1 are those of indices, the empty one and "a" aren't
-one_text_alone : (s : List ℕ) → IsTrue (text_has (text_part.One s) (48 ∷ [])) → IsTrue (text_has (text_part.One s) (49 ∷ [])) → ⊥
-one_text_alone s h k = absurd (false≢true (subst (λ u. IsTrue (text_has (text_part.One u) (49 ∷ []))) (same_text s (48 ∷ []) h) k))
+one_text_alone : (s : List ℕ) → IsTrue (text_has (text_part.One s) (48 ∷ []))
+    → IsTrue (text_has (text_part.One s) (49 ∷ [])) → ⊥
+one_text_alone s h k =
+    absurd (false≢true (subst (λ u. IsTrue (text_has (text_part.One u) (49 ∷ [])))
+    (same_text s (48 ∷ []) h) k))
 
-one_text_alone_other : (s : List ℕ) → IsTrue (text_has (text_part.One s) []) → IsTrue (text_has (text_part.One s) (97 ∷ [])) → ⊥
-one_text_alone_other s h k = absurd (false≢true (subst (λ u. IsTrue (text_has (text_part.One u) (97 ∷ []))) (same_text s [] h) k))
+one_text_alone_other : (s : List ℕ) → IsTrue (text_has (text_part.One s) [])
+    → IsTrue (text_has (text_part.One s) (97 ∷ [])) → ⊥
+one_text_alone_other s h k =
+    absurd (false≢true (subst (λ u. IsTrue (text_has (text_part.One u) (97 ∷ [])))
+    (same_text s [] h) k))
 
 texts_equal : (a b : TextPart) → HasTexts a b → HasTexts b a → a ≡ b
 texts_equal text_part.Nothing text_part.Nothing h k = refl
@@ -231,22 +301,29 @@ texts_equal text_part.Nothing text_part.IndexText h k = absurd (false≢true (k 
 texts_equal text_part.Nothing text_part.OtherText h k = absurd (false≢true (k [] refl))
 texts_equal text_part.Nothing text_part.Text h k = absurd (false≢true (k [] refl))
 texts_equal (text_part.One s) text_part.Nothing h k = absurd (false≢true (h s (text_itself s)))
-texts_equal (text_part.One s) (text_part.One t) h k = ap text_part.One (sym (same_text t s (h s (text_itself s))))
-texts_equal (text_part.One s) text_part.IndexText h k = absurd (one_text_alone s (k (48 ∷ []) refl) (k (49 ∷ []) refl))
-texts_equal (text_part.One s) text_part.OtherText h k = absurd (one_text_alone_other s (k [] refl) (k (97 ∷ []) refl))
-texts_equal (text_part.One s) text_part.Text h k = absurd (one_text_alone s (k (48 ∷ []) refl) (k (49 ∷ []) refl))
+texts_equal (text_part.One s) (text_part.One t) h k =
+    ap text_part.One (sym (same_text t s (h s (text_itself s))))
+texts_equal (text_part.One s) text_part.IndexText h k =
+    absurd (one_text_alone s (k (48 ∷ []) refl) (k (49 ∷ []) refl))
+texts_equal (text_part.One s) text_part.OtherText h k =
+    absurd (one_text_alone_other s (k [] refl) (k (97 ∷ []) refl))
+texts_equal (text_part.One s) text_part.Text h k =
+    absurd (one_text_alone s (k (48 ∷ []) refl) (k (49 ∷ []) refl))
 texts_equal text_part.IndexText text_part.Nothing h k = absurd (false≢true (h (48 ∷ []) refl))
-texts_equal text_part.IndexText (text_part.One t) h k = absurd (one_text_alone t (h (48 ∷ []) refl) (h (49 ∷ []) refl))
+texts_equal text_part.IndexText (text_part.One t) h k =
+    absurd (one_text_alone t (h (48 ∷ []) refl) (h (49 ∷ []) refl))
 texts_equal text_part.IndexText text_part.IndexText h k = refl
 texts_equal text_part.IndexText text_part.OtherText h k = absurd (false≢true (h (48 ∷ []) refl))
 texts_equal text_part.IndexText text_part.Text h k = absurd (false≢true (k [] refl))
 texts_equal text_part.OtherText text_part.Nothing h k = absurd (false≢true (h [] refl))
-texts_equal text_part.OtherText (text_part.One t) h k = absurd (one_text_alone_other t (h [] refl) (h (97 ∷ []) refl))
+texts_equal text_part.OtherText (text_part.One t) h k =
+    absurd (one_text_alone_other t (h [] refl) (h (97 ∷ []) refl))
 texts_equal text_part.OtherText text_part.IndexText h k = absurd (false≢true (h [] refl))
 texts_equal text_part.OtherText text_part.OtherText h k = refl
 texts_equal text_part.OtherText text_part.Text h k = absurd (false≢true (k (48 ∷ []) refl))
 texts_equal text_part.Text text_part.Nothing h k = absurd (false≢true (h [] refl))
-texts_equal text_part.Text (text_part.One t) h k = absurd (one_text_alone t (h (48 ∷ []) refl) (h (49 ∷ []) refl))
+texts_equal text_part.Text (text_part.One t) h k =
+    absurd (one_text_alone t (h (48 ∷ []) refl) (h (49 ∷ []) refl))
 texts_equal text_part.Text text_part.IndexText h k = absurd (false≢true (h [] refl))
 texts_equal text_part.Text text_part.OtherText h k = absurd (false≢true (h (48 ∷ []) refl))
 texts_equal text_part.Text text_part.Text h k = refl
@@ -262,7 +339,8 @@ value-join a b = record {
 }
 
 pub value_same : (a : AbstractValue) → LeqValue a a
-value_same a = record { flags = flags_same a.flags; number = λ n h. h; text = λ t h. h; label = λ l h. h }
+value_same a =
+    record { flags = flags_same a.flags; number = λ n h. h; text = λ t h. h; label = λ l h. h }
 
 pub value_both : (a b c : AbstractValue) → LeqValue a b → LeqValue b c → LeqValue a c
 value_both a b c h k = record {
@@ -283,7 +361,8 @@ value_equal a b h k = λ i. record {
 -- ---- properties
 
 pub property-join : (a b : AbstractProperty) → LeqProperty a (join_properties a b)
-property-join a b = record { value = value-join a.value b.value; attrs = attrs-join a.attrs b.attrs }
+property-join a b =
+    record { value = value-join a.value b.value; attrs = attrs-join a.attrs b.attrs }
 
 pub property_same : (a : AbstractProperty) → LeqProperty a a
 property_same a = record { value = value_same a.value; attrs = attrs_same a.attrs }
@@ -310,19 +389,28 @@ state-join a b = record {
 }
 
 pub state_same : (a : AbstractState) → LeqState a a
-state_same a = record { register = λ r. value_same (a.register r); property = λ l k. property_same (a.property l k); mask = λ t. masks_same (a.mask t) }
+state_same a =
+    record {
+      register = λ r. value_same (a.register r);
+      property = λ l k. property_same (a.property l k);
+      mask = λ t. masks_same (a.mask t);
+    }
 
 pub state_both : (a b c : AbstractState) → LeqState a b → LeqState b c → LeqState a c
 state_both a b c h k = record {
-  register = λ r. value_both (a.register r) (b.register r) (c.register r) (h.register r) (k.register r);
-  property = λ l j. property_both (a.property l j) (b.property l j) (c.property l j) (h.property l j) (k.property l j);
+  register =
+      λ r. value_both (a.register r) (b.register r) (c.register r) (h.register r) (k.register r);
+  property =
+      λ l j. property_both (a.property l j) (b.property l j) (c.property l j) (h.property l j)
+      (k.property l j);
   mask = λ t. masks_both (a.mask t) (b.mask t) (c.mask t) (h.mask t) (k.mask t);
 }
 
 pub state_equal : (a b : AbstractState) → LeqState a b → LeqState b a → a ≡ b
 state_equal a b h k = λ i. record {
   register = λ r. value_equal (a.register r) (b.register r) (h.register r) (k.register r) i;
-  property = λ l j. property_equal (a.property l j) (b.property l j) (h.property l j) (k.property l j) i;
+  property =
+      λ l j. property_equal (a.property l j) (b.property l j) (h.property l j) (k.property l j) i;
   mask = λ t. masks_equal (a.mask t) (b.mask t) (h.mask t) (k.mask t) i;
 }
 
@@ -337,13 +425,15 @@ pub option_state_same : (a : Option AbstractState) → LeqOptionState a a
 option_state_same None = tt
 option_state_same (Some a) = state_same a
 
-pub option_state_both : (a b c : Option AbstractState) → LeqOptionState a b → LeqOptionState b c → LeqOptionState a c
+pub option_state_both : (a b c : Option AbstractState) → LeqOptionState a b → LeqOptionState b c
+    → LeqOptionState a c
 option_state_both None b c h k = tt
 option_state_both (Some a) None c h k = absurd h
 option_state_both (Some a) (Some b) None h k = absurd k
 option_state_both (Some a) (Some b) (Some c) h k = state_both a b c h k
 
-pub option_state_equal : (a b : Option AbstractState) → LeqOptionState a b → LeqOptionState b a → a ≡ b
+pub option_state_equal : (a b : Option AbstractState) → LeqOptionState a b → LeqOptionState b a
+    → a ≡ b
 option_state_equal None None h k = refl
 option_state_equal None (Some b) h k = absurd k
 option_state_equal (Some a) None h k = absurd h
@@ -358,13 +448,15 @@ pub option_property_same : (a : Option AbstractProperty) → LeqOptionProperty a
 option_property_same None = tt
 option_property_same (Some a) = property_same a
 
-pub option_property_both : (a b c : Option AbstractProperty) → LeqOptionProperty a b → LeqOptionProperty b c → LeqOptionProperty a c
+pub option_property_both : (a b c : Option AbstractProperty) → LeqOptionProperty a b
+    → LeqOptionProperty b c → LeqOptionProperty a c
 option_property_both None b c h k = tt
 option_property_both (Some a) None c h k = absurd h
 option_property_both (Some a) (Some b) None h k = absurd k
 option_property_both (Some a) (Some b) (Some c) h k = property_both a b c h k
 
-pub option_property_equal : (a b : Option AbstractProperty) → LeqOptionProperty a b → LeqOptionProperty b a → a ≡ b
+pub option_property_equal : (a b : Option AbstractProperty) → LeqOptionProperty a b
+    → LeqOptionProperty b a → a ≡ b
 option_property_equal None None h k = refl
 option_property_equal None (Some b) h k = absurd k
 option_property_equal (Some a) None h k = absurd h
@@ -379,7 +471,8 @@ pub entries_same : (e : Entries) → LeqEntries e e
 entries_same e = record { each = λ l k. option_property_same (e l k) }
 
 pub entries_both : (e f g : Entries) → LeqEntries e f → LeqEntries f g → LeqEntries e g
-entries_both e f g h k = record { each = λ l j. option_property_both (e l j) (f l j) (g l j) (h.each l j) (k.each l j) }
+entries_both e f g h k =
+    record { each = λ l j. option_property_both (e l j) (f l j) (g l j) (h.each l j) (k.each l j) }
 
 pub entries_equal : (e f : Entries) → LeqEntries e f → LeqEntries f e → e ≡ f
 entries_equal e f h k = λ i l j. option_property_equal (e l j) (f l j) (h.each l j) (k.each l j) i
@@ -391,37 +484,46 @@ pub record LeqTable (t u : Table) : Type 0 where
   pub entry : (x : Context) → LeqEntries (t.entry x) (u.entry x)
 
 pub table_same : (t : Table) → LeqTable t t
-table_same t = record { state = λ x n. option_state_same (t.state x n); entry = λ x. entries_same (t.entry x) }
+table_same t =
+    record { state = λ x n. option_state_same (t.state x n); entry = λ x. entries_same (t.entry x) }
 
 pub table_both : (t u v : Table) → LeqTable t u → LeqTable u v → LeqTable t v
 table_both t u v h k = record {
-  state = λ x n. option_state_both (t.state x n) (u.state x n) (v.state x n) (h.state x n) (k.state x n);
+  state =
+      λ x n. option_state_both (t.state x n) (u.state x n) (v.state x n) (h.state x n)
+      (k.state x n);
   entry = λ x. entries_both (t.entry x) (u.entry x) (v.entry x) (h.entry x) (k.entry x);
 }
 
 pub no_entries_back : (t u v : Entries) → LeqEntries t u → LeqEntries u v → (u ≡ t → ⊥) → v ≡ t → ⊥
-no_entries_back t u v h k apart back = apart (entries_equal u t (subst (λ (w : Entries). LeqEntries u w) back k) h)
+no_entries_back t u v h k apart back =
+    apart (entries_equal u t (subst (λ (w : Entries). LeqEntries u w) back k) h)
 
 -- ---- visits rise
 
-pub given-leq : (t : Option AbstractState) (b : Bool) (a : AbstractState) → LeqOptionState t (if b then Some (joined_state t a) else t)
+pub given-leq : (t : Option AbstractState) (b : Bool) (a : AbstractState)
+    → LeqOptionState t (if b then Some (joined_state t a) else t)
 given-leq None true a = tt
 given-leq None false a = tt
 given-leq (Some o) true a = state-join o a
 given-leq (Some o) false a = state_same o
 
-pub with_state-leq : (t : Table) (x : Context) (given : ℕ × AbstractState) → LeqTable t (with_state t x given)
+pub with_state-leq : (t : Table) (x : Context) (given : ℕ × AbstractState)
+    → LeqTable t (with_state t x given)
 with_state-leq t x given = record {
   state = λ y n. given-leq (t.state y n) (same_context x y && (given.0 == n)) given.1;
   entry = λ y. entries_same (t.entry y);
 }
 
-pub with_states-leq : (t : Table) (x : Context) (given : List (ℕ × AbstractState)) → LeqTable t (with_states t x given)
+pub with_states-leq : (t : Table) (x : Context) (given : List (ℕ × AbstractState))
+    → LeqTable t (with_states t x given)
 with_states-leq t x [] = table_same t
 with_states-leq t x (g ∷ more) =
-    table_both t (with_state t x g) (with_states (with_state t x g) x more) (with_state-leq t x g) (with_states-leq (with_state t x g) x more)
+    table_both t (with_state t x g) (with_states (with_state t x g) x more) (with_state-leq t x g)
+    (with_states-leq (with_state t x g) x more)
 
-demanded_one : (q : Option AbstractProperty) (b : Bool) → LeqOptionProperty q (if b then Some (unwrap_or q no_property) else q)
+demanded_one : (q : Option AbstractProperty) (b : Bool)
+    → LeqOptionProperty q (if b then Some (unwrap_or q no_property) else q)
 demanded_one None true = tt
 demanded_one None false = tt
 demanded_one (Some q) true = property_same q
@@ -437,10 +539,13 @@ entries_if false e f h = entries_same e
 pub with_demands-leq : (t : Table) (x : Context) (d : Demands) → LeqTable t (with_demands t x d)
 with_demands-leq t x d = record {
   state = λ y n. option_state_same (t.state y n);
-  entry = λ y. entries_if (same_context x y) (t.entry y) (demanded (t.entry y) d) (demanded-leq (t.entry y) d);
+  entry =
+      λ y. entries_if (same_context x y) (t.entry y) (demanded (t.entry y) d)
+      (demanded-leq (t.entry y) d);
 }
 
-opened_one : (q : Option AbstractProperty) (o : AbstractProperty) → LeqOptionProperty q (option_map (λ (r : AbstractProperty). join_properties r o) q)
+opened_one : (q : Option AbstractProperty) (o : AbstractProperty)
+    → LeqOptionProperty q (option_map (λ (r : AbstractProperty). join_properties r o) q)
 opened_one None o = tt
 opened_one (Some q) o = property-join q o
 
@@ -450,5 +555,7 @@ opened_entries-leq p e = record { each = λ l k. opened_one (e l k) (opened p l 
 pub visit_open-leq : (p : Program) (t : Table) → LeqTable t (visit_open p t)
 visit_open-leq p t = record {
   state = λ y n. option_state_same (t.state y n);
-  entry = λ y. entries_if (same_context root y) (t.entry y) (opened_entries p (t.entry y)) (opened_entries-leq p (t.entry y));
+  entry =
+      λ y. entries_if (same_context root y) (t.entry y) (opened_entries p (t.entry y))
+      (opened_entries-leq p (t.entry y));
 }

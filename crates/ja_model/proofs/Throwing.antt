@@ -91,8 +91,11 @@ null_value (value.Primitive (primitive.Text q)) e = absurd (false≢true e)
 null_value (value.Object a) e = absurd (false≢true e)
 
 -- what goes wrong at a call: its callee is no function
-pub call_fault_parts : (at : Place) (o : Option FnId) (kind : WarningKind) (place : Place) → call_fault at o ≡ Some (kind, place) → (o ≡ None) × (NotAFunction ≡ kind) × (at ≡ place)
-call_fault_parts at None kind place e = let parts : (NotAFunction ≡ kind) × (at ≡ place) = some_pair_parts _ _ _ _ e in (refl, parts.0, parts.1)
+pub call_fault_parts : (at : Place) (o : Option FnId) (kind : WarningKind) (place : Place)
+    → call_fault at o ≡ Some (kind, place) → (o ≡ None) × (NotAFunction ≡ kind) × (at ≡ place)
+call_fault_parts at None kind place e =
+    let parts : (NotAFunction ≡ kind) × (at ≡ place) = some_pair_parts _ _ _ _ e in
+    (refl, parts.0, parts.1)
 call_fault_parts at (Some f) kind place e = absurd (false≢true (ap is_some e))
 
 -- ---- what is thrown
@@ -109,7 +112,8 @@ module _ (c : Conf) (f : Frame) (below : List Frame) (info : NodeInfo) where
   s = record { conf = c; top = f; below = below; info = info }
 
   -- a throw is one
-  throws_so : (error proto : Site) (text : List ℕ) → IsThrow c f below info error proto text (Some (throws s error proto text))
+  throws_so : (error proto : Site) (text : List ℕ)
+      → IsThrow c f below info error proto text (Some (throws s error proto text))
   throws_so error proto text =
       elim (cases_Bool (is_short text)) [
         | inl e ↦ inl (fits_length text e, ap Some (cond-true _ _ _ e))
@@ -117,54 +121,88 @@ module _ (c : Conf) (f : Frame) (below : List Frame) (info : NodeInfo) where
       ]
 
   -- the end of a run is none, unless a text is too long
-  no_end : (error proto : Site) (text : List ℕ) (e : Event) → next_event e ≡ false → long_text e ≡ false → IsThrow c f below info error proto text (Some e) → ⊥
-  no_end error proto text e no_next no_text (inl x) = false≢true (sym no_next ∙ ap next_event (same_Some _ _ x.1))
-  no_end error proto text e no_next no_text (inr x) = false≢true (sym no_text ∙ ap long_text (same_Some _ _ x.1))
+  no_end : (error proto : Site) (text : List ℕ) (e : Event) → next_event e ≡ false
+      → long_text e ≡ false → IsThrow c f below info error proto text (Some e) → ⊥
+  no_end error proto text e no_next no_text (inl x) =
+      false≢true (sym no_next ∙ ap next_event (same_Some _ _ x.1))
+  no_end error proto text e no_next no_text (inr x) =
+      false≢true (sym no_text ∙ ap long_text (same_Some _ _ x.1))
 
   module _ (error : Site) (row : error.0 < length c.heap.objects) where
     -- .. nor is a step that makes no object
-    no_result : (proto : Site) (text : List ℕ) (d : Conf) → d.heap ≡ c.heap → IsThrow c f below info error proto text (Some (event.Next d)) → ⊥
+    no_result : (proto : Site) (text : List ℕ) (d : Conf) → d.heap ≡ c.heap
+        → IsThrow c f below info error proto text (Some (event.Next d)) → ⊥
     no_result proto text d same (inl x) =
-        let heap_is : d.heap ≡ with_new c.heap error (error_object proto text) = ap heap_after (same_Some _ _ x.1) in
-        let grown : size (with_new c.heap error (error_object proto text)) ≡ suc (size c.heap) = Heaps.size-with_new c.heap error (error_object proto text) row in
-        let size_is : size c.heap ≡ size (with_new c.heap error (error_object proto text)) = ap size (sym same ∙ heap_is) in
+        let heap_is : d.heap ≡ with_new c.heap error (error_object proto text) = ap heap_after
+        (same_Some _ _ x.1) in
+        let grown : size (with_new c.heap error (error_object proto text))
+        ≡ suc (size c.heap) = Heaps.size-with_new c.heap error (error_object proto text) row in
+        let size_is : size c.heap ≡ size (with_new c.heap error (error_object proto text)) = ap size
+        (sym same ∙ heap_is) in
         omega arith
     no_result proto text d same (inr x) = false≢true (sym (ap next_event (same_Some _ _ x.1)))
 
     -- objects that are made alike have one prototype
-    one_prototype : (proto other : Site) (text more : List ℕ) → with_new c.heap error (error_object proto text) ≡ with_new c.heap error (error_object other more) → proto.0 ≡ other.0
+    one_prototype : (proto other : Site) (text more : List ℕ)
+        → with_new c.heap error (error_object proto text)
+        ≡ with_new c.heap error (error_object other more) → proto.0 ≡ other.0
     one_prototype proto other text more e =
-        let made : Some (error_object proto text) ≡ Some (error_object other more) = sym (Heaps.object-with_new_new c.heap error (error_object proto text) row) ∙ (ap (λ h. object_at h (new_address c.heap error)) e ∙ Heaps.object-with_new_new c.heap error (error_object other more) row) in
-        let linked : Some (first_of proto) ≡ Some (first_of other) = ap (λ (o : Object). o.slots.prototype) (same_Some _ _ made) in
+        let made : Some (error_object proto text)
+        ≡ Some (error_object other more) = sym
+        (Heaps.object-with_new_new c.heap error (error_object proto text) row)
+        ∙ (ap (λ h. object_at h (new_address c.heap error)) e
+        ∙ Heaps.object-with_new_new c.heap error (error_object other more) row) in
+        let linked : Some (first_of proto) ≡ Some (first_of other) = ap
+        (λ (o : Object). o.slots.prototype) (same_Some _ _ made) in
         ap (λ (a : Addr). a.site.0) (same_Some _ _ linked)
 
     -- a throw is of one prototype, or its texts are too long
-    one_throw : (proto other : Site) (text more : List ℕ) → IsThrow c f below info error other more (Some (throws s error proto text)) → (proto.0 ≡ other.0) ⊎ ((max_units < length text) × (max_units < length more))
+    one_throw : (proto other : Site) (text more : List ℕ)
+        → IsThrow c f below info error other more (Some (throws s error proto text))
+        → (proto.0 ≡ other.0) ⊎ ((max_units < length text) × (max_units < length more))
     one_throw proto other text more throw =
         elim (cases_Bool (is_short text)) [
-          | inl e ↦ short_one proto other text more (subst (λ x. IsThrow c f below info error other more (Some x)) (cond-true _ _ _ e) throw)
-          | inr e ↦ inr (too_long text e, long_one other more _ refl (subst (λ x. IsThrow c f below info error other more (Some x)) (cond-false _ _ _ e) throw))
+          | inl e ↦ short_one proto other text more
+              (subst (λ x. IsThrow c f below info error other more (Some x)) (cond-true _ _ _ e)
+              throw)
+          | inr e ↦ inr (
+            too_long text e,
+            long_one other more _ refl
+                (subst (λ x. IsThrow c f below info error other more (Some x)) (cond-false _ _ _ e)
+                throw),
+          )
         ]
       where
-        short_one : (proto other : Site) (text more : List ℕ) → IsThrow c f below info error other more (Some (throws_value s (with_new c.heap error (error_object proto text)) (value.Object (new_address c.heap error)))) → (proto.0 ≡ other.0) ⊎ ((max_units < length text) × (max_units < length more))
-        short_one proto other text more (inl x) = inl (one_prototype proto other text more (ap heap_after (same_Some _ _ x.1)))
-        short_one proto other text more (inr x) = absurd (false≢true (sym (ap next_event (same_Some _ _ x.1))))
+        short_one : (proto other : Site) (text more : List ℕ)
+            → IsThrow c f below info error other more
+            (Some (throws_value s (with_new c.heap error (error_object proto text))
+            (value.Object (new_address c.heap error))))
+            → (proto.0 ≡ other.0) ⊎ ((max_units < length text) × (max_units < length more))
+        short_one proto other text more (inl x) =
+            inl (one_prototype proto other text more (ap heap_after (same_Some _ _ x.1)))
+        short_one proto other text more (inr x) =
+            absurd (false≢true (sym (ap next_event (same_Some _ _ x.1))))
 
-        long_one : (other : Site) (more : List ℕ) (e : Event) → next_event e ≡ false → IsThrow c f below info error other more (Some e) → max_units < length more
-        long_one other more e no_next (inl x) = absurd (false≢true (sym no_next ∙ ap next_event (same_Some _ _ x.1)))
+        long_one : (other : Site) (more : List ℕ) (e : Event) → next_event e ≡ false
+            → IsThrow c f below info error other more (Some e) → max_units < length more
+        long_one other more e no_next (inl x) =
+            absurd (false≢true (sym no_next ∙ ap next_event (same_Some _ _ x.1)))
         long_one other more e no_next (inr x) = x.0
 
 -- ---- from a fault to a throw, and back
 
-read_message : (p : Program) (dst base : Reg) (name : NameId) (error : Site) → error_message p (ReadRef dst base name error) UnboundName ≡ unbound_message (name_text p name)
+read_message : (p : Program) (dst base : Reg) (name : NameId) (error : Site)
+    → error_message p (ReadRef dst base name error) UnboundName ≡ unbound_message (name_text p name)
 unfolding name_in
 read_message p dst base name error = refl
 
-read_makes : (dst base : Reg) (name : NameId) (error : Site) → makings (ReadRef dst base name error) ≡ making error class.Error ∷ []
+read_makes : (dst base : Reg) (name : NameId) (error : Site)
+    → makings (ReadRef dst base name error) ≡ making error class.Error ∷ []
 unfolding makings
 read_makes dst base name error = refl
 
-call_makes : (dst callee receiver : Reg) (args : Args) (error : Site) → makings (Call dst callee receiver args error) ≡ making error class.Error ∷ []
+call_makes : (dst callee receiver : Reg) (args : Args) (error : Site)
+    → makings (Call dst callee receiver args error) ≡ making error class.Error ∷ []
 unfolding makings
 call_makes dst callee receiver args error = refl
 
@@ -173,21 +211,36 @@ module _ (p : Program) (c : Conf) (f : Frame) (below : List Frame) (info : NodeI
   at_node = record { conf = c; top = f; below = below; info = info }
 
   -- a call of what is no function throws
-  call_throws : (callee receiver : Value) (args : Args) (error : Site) → function_called p callee ≡ None → call_step p at_node callee receiver args error ≡ throws at_node error type_error_prototype not_a_function_message
-  call_throws callee receiver args error none = ap (calls p at_node callee (receiver_of c.heap receiver) args error) none
+  call_throws : (callee receiver : Value) (args : Args) (error : Site)
+      → function_called p callee ≡ None → call_step p at_node callee receiver args error
+      ≡ throws at_node error type_error_prototype not_a_function_message
+  call_throws callee receiver args error none =
+      ap (calls p at_node callee (receiver_of c.heap receiver) args error) none
 
-  module _ (frames_are : c.frames ≡ f ∷ below) (info_is : node_at p f.function f.node ≡ Some info) where
+  module _ (frames_are : c.frames ≡ f ∷ below)
+      (info_is : node_at p f.function f.node ≡ Some info) where
     -- the step is that of the node
-    step_is : (answer : Answer) → IsTrue (fits p (wants p c) answer) → step p c answer ≡ node_step p at_node answer info.node
+    step_is : (answer : Answer) → IsTrue (fits p (wants p c) answer)
+        → step p c answer ≡ node_step p at_node answer info.node
     step_is answer fit =
-        cond-true (fits p (wants p c) answer) (frames_step p c answer c.frames) None fit ∙ (ap (frames_step p c answer) frames_are ∙ ap (option_and_then (λ (i : NodeInfo). node_step p (record { conf = c; top = f; below = below; info = i }) answer i.node)) info_is)
+        cond-true (fits p (wants p c) answer) (frames_step p c answer c.frames) None fit
+        ∙ (ap (frames_step p c answer) frames_are
+        ∙ ap (option_and_then (λ (i : NodeInfo).
+        node_step p (record { conf = c; top = f; below = below; info = i }) answer i.node))
+        info_is)
 
     -- .. and so is what goes wrong
     fault_is : fault_of p c ≡ fault_at p f info info.node
-    fault_is = ap (fault_of_frames p) frames_are ∙ ap (option_and_then (λ (i : NodeInfo). fault_at p f i i.node)) info_is
+    fault_is =
+        ap (fault_of_frames p) frames_are ∙ ap
+        (option_and_then (λ (i : NodeInfo). fault_at p f i i.node)) info_is
 
     module _ (answer : Answer) (fit : IsTrue (fits p (wants p c) answer)) where
-      thrown_by : (kind : WarningKind) (place : Place) (node : Node) (error : Site) → info.node ≡ node → info.place ≡ place → makings node ≡ making error class.Error ∷ [] → node_step p at_node answer node ≡ Some (throws at_node error (error_prototype kind) (error_message p node kind)) → Throws p c answer kind place
+      thrown_by : (kind : WarningKind) (place : Place) (node : Node) (error : Site)
+          → info.node ≡ node → info.place ≡ place → makings node ≡ making error class.Error ∷ []
+          → node_step p at_node answer node ≡ Some
+          (throws at_node error (error_prototype kind) (error_message p node kind))
+          → Throws p c answer kind place
       thrown_by kind place node error is place_is makes steps = record {
         top = f;
         below = below;
@@ -196,98 +249,191 @@ module _ (p : Program) (c : Conf) (f : Frame) (below : List Frame) (info : NodeI
         info_is = info_is;
         place_is = place_is;
         error = error;
-        site = subst (λ ms. Contains ms (making error class.Error)) (sym (ap makings is ∙ makes)) (0, omega arith, refl);
-        throws = subst (λ n. IsThrow c f below info error (error_prototype kind) (error_message p n kind) (step p c answer)) (sym is) (subst (λ s. IsThrow c f below info error (error_prototype kind) (error_message p node kind) s) (sym (step_is answer fit ∙ (ap (node_step p at_node answer) is ∙ steps))) (throws_so c f below info error (error_prototype kind) (error_message p node kind)));
+        site =
+            subst (λ ms. Contains ms (making error class.Error)) (sym (ap makings is ∙ makes))
+            (0, omega arith, refl);
+        throws =
+            subst (λ n. IsThrow c f below info error (error_prototype kind) (error_message p n kind)
+            (step p c answer)) (sym is) (subst (λ s.
+            IsThrow c f below info error (error_prototype kind) (error_message p node kind) s)
+            (sym (step_is answer fit ∙ (ap (node_step p at_node answer) is ∙ steps)))
+            (throws_so c f below info error (error_prototype kind) (error_message p node kind)));
       }
 
-      fault_throws : (kind : WarningKind) (place : Place) (node : Node) → info.node ≡ node → fault_at p f info node ≡ Some (kind, place) → Throws p c answer kind place
+      fault_throws : (kind : WarningKind) (place : Place) (node : Node) → info.node ≡ node
+          → fault_at p f info node ≡ Some (kind, place) → Throws p c answer kind place
       fault_throws kind place (Call dst callee receiver args error) is e =
-          let (none, kind_is, place_is) = call_fault_parts info.place (function_called p (register_of f callee)) kind place e in
-          subst (λ k. Throws p c answer k place) kind_is (thrown_by NotAFunction place (Call dst callee receiver args error) error is place_is (call_makes dst callee receiver args error) (ap Some (call_throws (register_of f callee) (register_of f receiver) args error none)))
+          let (none, kind_is, place_is) = call_fault_parts info.place
+          (function_called p (register_of f callee)) kind place e in
+          subst (λ k. Throws p c answer k place) kind_is
+          (thrown_by NotAFunction place (Call dst callee receiver args error) error is place_is
+          (call_makes dst callee receiver args error)
+          (ap Some (call_throws (register_of f callee) (register_of f receiver) args error
+          none)))
       fault_throws kind place (ReadRef dst base name error) is e =
-          let parts : (is_null (register_of f base) ≡ true) × ((UnboundName, info.place) ≡ (kind, place)) = cond_some _ _ _ e in
-          let message_is : unbound_message (name_text p name) ≡ error_message p (ReadRef dst base name error) UnboundName = sym (read_message p dst base name error) in
-          subst (λ k. Throws p c answer k place) (ap (λ (u : WarningKind × Place). u.0) parts.1) (thrown_by UnboundName place (ReadRef dst base name error) error is (ap (λ (u : WarningKind × Place). u.1) parts.1) (read_makes dst base name error) (ap (λ v. Some (read_ref_step p at_node dst name error v)) (null_value (register_of f base) parts.0) ∙ ap (λ m. Some (throws at_node error reference_error_prototype m)) message_is))
+          let parts : (is_null (register_of f base) ≡ true)
+          × ((UnboundName, info.place) ≡ (kind, place)) = cond_some _ _ _ e in
+          let message_is : unbound_message (name_text p name)
+          ≡ error_message p (ReadRef dst base name error) UnboundName = sym
+          (read_message p dst base name error) in
+          subst (λ k. Throws p c answer k place) (ap (λ (u : WarningKind × Place). u.0) parts.1)
+          (thrown_by UnboundName place (ReadRef dst base name error) error is
+          (ap (λ (u : WarningKind × Place). u.1) parts.1) (read_makes dst base name error)
+          (ap (λ v. Some (read_ref_step p at_node dst name error v))
+          (null_value (register_of f base) parts.0)
+          ∙ ap (λ m. Some (throws at_node error reference_error_prototype m)) message_is))
       fault_throws kind place node is e = absurd (false≢true (ap is_some e))
 
   -- ---- back
 
   abbrev ThrowsAt : Node → Site → WarningKind → Option Event → Type 0
-  ThrowsAt node error kind o = IsThrow c f below info error (error_prototype kind) (error_message p node kind) o
+  ThrowsAt node error kind o =
+      IsThrow c f below info error (error_prototype kind) (error_message p node kind) o
 
   -- what is said of a kind at the node
   abbrev said : WarningKind → Option (WarningKind × Place)
   said kind = Some (kind, info.place)
 
-  call_back : (kind : WarningKind) (node : Node) (error : Site) → error.0 < length c.heap.objects → ThrowsAt node error kind (Some (throws at_node error type_error_prototype not_a_function_message)) → said NotAFunction ≡ said kind
+  call_back : (kind : WarningKind) (node : Node) (error : Site) → error.0 < length c.heap.objects
+      → ThrowsAt node error kind (Some (throws at_node error type_error_prototype
+      not_a_function_message)) → said NotAFunction ≡ said kind
   call_back NotAFunction node error row throw = refl
   call_back UnboundName node error row throw =
-      elim (one_throw c f below info error row type_error_prototype reference_error_prototype not_a_function_message _ throw) [ inl e ↦ absurd (other_prototype e) | inr l ↦ absurd (short_message l.0) ]
+      elim (one_throw c f below info error row type_error_prototype reference_error_prototype
+      not_a_function_message _ throw) [
+        | inl e ↦ absurd (other_prototype e)
+        | inr l ↦ absurd (short_message l.0)
+      ]
 
   abbrev read_fault : Value → Option (WarningKind × Place)
   read_fault v = if is_null v then Some (UnboundName, info.place) else None
 
-  null_back : (kind : WarningKind) (node : Node) (error : Site) (text : List ℕ) → error.0 < length c.heap.objects → ThrowsAt node error kind (Some (throws at_node error reference_error_prototype text)) → said UnboundName ≡ said kind
+  null_back : (kind : WarningKind) (node : Node) (error : Site) (text : List ℕ)
+      → error.0 < length c.heap.objects → ThrowsAt node error kind
+      (Some (throws at_node error reference_error_prototype text)) → said UnboundName ≡ said kind
   null_back UnboundName node error text row throw = refl
   null_back NotAFunction node error text row throw =
-      elim (one_throw c f below info error row reference_error_prototype type_error_prototype text not_a_function_message throw) [ inl e ↦ absurd (other_prototype (sym e)) | inr l ↦ absurd (short_message l.1) ]
+      elim (one_throw c f below info error row reference_error_prototype type_error_prototype text
+      not_a_function_message throw) [
+        | inl e ↦ absurd (other_prototype (sym e))
+        | inr l ↦ absurd (short_message l.1)
+      ]
 
-  no_read : (kind : WarningKind) (node : Node) (error : Site) → error.0 < length c.heap.objects → (dst : Reg) (x : Content) → ThrowsAt node error kind (Some (sets_content at_node dst x)) → ⊥
-  no_read kind node error row dst (contents.Value v) throw = no_result c f below info error row (error_prototype kind) (error_message p node kind) _ refl throw
-  no_read kind node error row dst contents.Row throw = no_end c f below info error (error_prototype kind) (error_message p node kind) _ refl refl throw
+  no_read : (kind : WarningKind) (node : Node) (error : Site) → error.0 < length c.heap.objects
+      → (dst : Reg) (x : Content) → ThrowsAt node error kind (Some (sets_content at_node dst x)) → ⊥
+  no_read kind node error row dst (contents.Value v) throw =
+      no_result c f below info error row (error_prototype kind) (error_message p node kind) _ refl
+      throw
+  no_read kind node error row dst contents.Row throw =
+      no_end c f below info error (error_prototype kind) (error_message p node kind) _ refl refl
+      throw
 
-  read_back : (kind : WarningKind) (node : Node) (error : Site) → error.0 < length c.heap.objects → (dst : Reg) (name : NameId) (v : Value) → ThrowsAt node error kind (Some (read_ref_step p at_node dst name error v)) → read_fault v ≡ Some (kind, info.place)
-  read_back kind node error row dst name (value.Object a) throw = absurd (no_read kind node error row dst (read c.heap a (name_text p name)) throw)
-  read_back kind node error row dst name (value.Primitive primitive.Null) throw = null_back kind node error (unbound_message (name_text p name)) row throw
-  read_back kind node error row dst name (value.Primitive primitive.Undefined) throw = absurd (no_end c f below info error (error_prototype kind) (error_message p node kind) _ refl refl throw)
-  read_back kind node error row dst name (value.Primitive (primitive.Bool q)) throw = absurd (no_end c f below info error (error_prototype kind) (error_message p node kind) _ refl refl throw)
-  read_back kind node error row dst name (value.Primitive (primitive.Number q)) throw = absurd (no_end c f below info error (error_prototype kind) (error_message p node kind) _ refl refl throw)
-  read_back kind node error row dst name (value.Primitive (primitive.Text q)) throw = absurd (no_end c f below info error (error_prototype kind) (error_message p node kind) _ refl refl throw)
+  read_back : (kind : WarningKind) (node : Node) (error : Site) → error.0 < length c.heap.objects
+      → (dst : Reg) (name : NameId) (v : Value)
+      → ThrowsAt node error kind (Some (read_ref_step p at_node dst name error v))
+      → read_fault v ≡ Some (kind, info.place)
+  read_back kind node error row dst name (value.Object a) throw =
+      absurd (no_read kind node error row dst (read c.heap a (name_text p name)) throw)
+  read_back kind node error row dst name (value.Primitive primitive.Null) throw =
+      null_back kind node error (unbound_message (name_text p name)) row throw
+  read_back kind node error row dst name (value.Primitive primitive.Undefined) throw =
+      absurd (no_end c f below info error (error_prototype kind) (error_message p node kind) _ refl
+      refl throw)
+  read_back kind node error row dst name (value.Primitive (primitive.Bool q)) throw =
+      absurd (no_end c f below info error (error_prototype kind) (error_message p node kind) _ refl
+      refl throw)
+  read_back kind node error row dst name (value.Primitive (primitive.Number q)) throw =
+      absurd (no_end c f below info error (error_prototype kind) (error_message p node kind) _ refl
+      refl throw)
+  read_back kind node error row dst name (value.Primitive (primitive.Text q)) throw =
+      absurd (no_end c f below info error (error_prototype kind) (error_message p node kind) _ refl
+      refl throw)
 
-  module _ (rows : length c.heap.objects ≡ length p.sites) (uncalled_here : (r : Reg) → function_called p (register_of f r) ≡ None) where
-    throw_faults : (kind : WarningKind) (answer : Answer) (node : Node) (error : Site) → is_built node ≡ true → HasNodeSites p node → Contains (makings node) (making error class.Error) → ThrowsAt node error kind (node_step p at_node answer node) → fault_at p f info node ≡ Some (kind, info.place)
+  module _ (rows : length c.heap.objects ≡ length p.sites)
+      (uncalled_here : (r : Reg) → function_called p (register_of f r) ≡ None) where
+    throw_faults : (kind : WarningKind) (answer : Answer) (node : Node) (error : Site)
+        → is_built node ≡ true → HasNodeSites p node
+        → Contains (makings node) (making error class.Error)
+        → ThrowsAt node error kind (node_step p at_node answer node)
+        → fault_at p f info node ≡ Some (kind, info.place)
     unfolding makings
     throw_faults kind answer (Call dst callee receiver args site) error is sites among throw =
         let same : site ≡ error = one_site site error among in
-        let in_range : site.0 < length p.sites = (call_site p dst callee receiver args site sites).1 in
+        let in_range : site.0 < length p.sites = (call_site p dst callee receiver args site
+        sites).1 in
         let row : site.0 < length c.heap.objects = omega arith in
-        ap (call_fault info.place) (uncalled_here callee) ∙ call_back kind (Call dst callee receiver args site) site row (subst (λ e. ThrowsAt (Call dst callee receiver args site) site kind (Some e)) (call_throws (register_of f callee) (register_of f receiver) args site (uncalled_here callee)) (subst (λ s. ThrowsAt (Call dst callee receiver args site) s kind (Some (call_step p at_node (register_of f callee) (register_of f receiver) args site))) (sym same) throw))
+        ap (call_fault info.place) (uncalled_here callee)
+        ∙ call_back kind (Call dst callee receiver args site) site row
+        (subst (λ e. ThrowsAt (Call dst callee receiver args site) site kind (Some e))
+        (call_throws (register_of f callee) (register_of f receiver) args site
+        (uncalled_here callee)) (subst (λ s.
+        ThrowsAt (Call dst callee receiver args site) s kind
+        (Some (call_step p at_node (register_of f callee) (register_of f receiver) args site)))
+        (sym same) throw))
     throw_faults kind answer (ReadRef dst base name site) error is sites among throw =
         let same : site ≡ error = one_site site error among in
         let in_range : site.0 < length p.sites = (read_site p dst base name site sites).1 in
         let row : site.0 < length c.heap.objects = omega arith in
-        read_back kind (ReadRef dst base name site) site row dst name (register_of f base) (subst (λ s. ThrowsAt (ReadRef dst base name site) s kind (Some (read_ref_step p at_node dst name site (register_of f base)))) (sym same) throw)
+        read_back kind (ReadRef dst base name site) site row dst name (register_of f base)
+        (subst (λ s. ThrowsAt (ReadRef dst base name site) s kind
+        (Some (read_ref_step p at_node dst name site (register_of f base)))) (sym same) throw)
     throw_faults kind answer (Const dst v) error is sites among throw = absurd (no_site _ among)
-    throw_faults kind answer (FindName dst name) error is sites among throw = absurd (no_site _ among)
-    throw_faults kind answer (WriteRef base name src) error is sites among throw = absurd (no_site _ among)
+    throw_faults kind answer (FindName dst name) error is sites among throw =
+        absurd (no_site _ among)
+    throw_faults kind answer (WriteRef base name src) error is sites among throw =
+        absurd (no_site _ among)
     throw_faults kind answer (Return src) error is sites among throw = absurd (no_site _ among)
     throw_faults kind answer Escape error is sites among throw = absurd (no_site _ among)
     throw_faults kind answer node error is sites among throw = absurd (false≢true is)
 
 -- ---- in each state of a run
 
-module _ (p : Program) (good : IsWellFormed p) (built : AreBuilt p) (c : Conf) (rows : length c.heap.objects ≡ length p.sites) (plain : IsPlainState p c) (answer : Answer) (fit : IsTrue (fits p (wants p c) answer)) (kind : WarningKind) (place : Place) where
-  faulted : (fs : List Frame) → c.frames ≡ fs → fault_of_frames p fs ≡ Some (kind, place) → Throws p c answer kind place
+module _ (p : Program) (good : IsWellFormed p) (built : AreBuilt p) (c : Conf)
+    (rows : length c.heap.objects ≡ length p.sites) (plain : IsPlainState p c) (answer : Answer)
+    (fit : IsTrue (fits p (wants p c) answer)) (kind : WarningKind) (place : Place) where
+  faulted : (fs : List Frame) → c.frames ≡ fs → fault_of_frames p fs ≡ Some (kind, place)
+      → Throws p c answer kind place
   faulted [] frames_are e = absurd (false≢true (ap is_some e))
   faulted (f ∷ below) frames_are e =
-      option_and_then_some (λ (info : NodeInfo). fault_at p f info info.node) (node_at p f.function f.node) (kind, place) e (λ info info_is fault. fault_throws p c f below info frames_are info_is answer fit kind place info.node refl fault)
+      option_and_then_some (λ (info : NodeInfo). fault_at p f info info.node)
+      (node_at p f.function f.node) (kind, place) e
+      (λ info info_is fault. fault_throws p c f below info frames_are info_is answer fit kind
+      place info.node refl fault)
 
   -- the top frame is the only one, and of the text
-  throw_in_text : (f : Frame) (below : List Frame) (info : NodeInfo) (error : Site) → c.frames ≡ f ∷ below → f.function ≡ program_function → below ≡ [] → node_at p f.function f.node ≡ Some info → info.place ≡ place → Contains (makings info.node) (making error class.Error) → IsThrow c f below info error (error_prototype kind) (error_message p info.node kind) (step p c answer) → fault_of p c ≡ Some (kind, place)
+  throw_in_text : (f : Frame) (below : List Frame) (info : NodeInfo) (error : Site)
+      → c.frames ≡ f ∷ below → f.function ≡ program_function → below ≡ []
+      → node_at p f.function f.node ≡ Some info → info.place ≡ place
+      → Contains (makings info.node) (making error class.Error)
+      → IsThrow c f below info error (error_prototype kind) (error_message p info.node kind)
+      (step p c answer) → fault_of p c ≡ Some (kind, place)
   throw_in_text f below info error frames_are function_is alone info_is place_is among throw =
-      let at : node_at p program_function f.node ≡ Some info = sym (ap (λ g. node_at p g f.node) function_is) ∙ info_is in
-      let no_function : (r : Reg) → function_called p (register_of f r) ≡ None = uncalled p c f plain (frames_are ∙ ap (λ fs. f ∷ fs) alone) in
-      let step_here : step p c answer ≡ node_step p (record { conf = c; top = f; below = below; info = info }) answer info.node = step_is p c f below info frames_are info_is answer fit in
-      fault_is p c f below info frames_are info_is ∙ (throw_faults p c f below info rows no_function kind answer info.node error (built.nodes f.node info at) (sites_at p good f.node info at) among (subst (λ s. IsThrow c f below info error (error_prototype kind) (error_message p info.node kind) s) step_here throw) ∙ ap (λ q. Some (kind, q)) place_is)
+      let at : node_at p program_function f.node
+      ≡ Some info = sym (ap (λ g. node_at p g f.node) function_is) ∙ info_is in
+      let no_function : (r : Reg) → function_called p (register_of f r)
+      ≡ None = uncalled p c f plain (frames_are ∙ ap (λ fs. f ∷ fs) alone) in
+      let step_here : step p c answer ≡ node_step p
+      (record { conf = c; top = f; below = below; info = info }) answer info.node = step_is p c
+      f below info frames_are info_is answer fit in
+      fault_is p c f below info frames_are info_is
+      ∙ (throw_faults p c f below info rows no_function kind answer info.node error
+      (built.nodes f.node info at) (sites_at p good f.node info at) among
+      (subst (λ s. IsThrow c f below info error (error_prototype kind)
+      (error_message p info.node kind) s) step_here throw) ∙ ap (λ q. Some (kind, q)) place_is)
 
   thrown_faults : Throws p c answer kind place → fault_of p c ≡ Some (kind, place)
   thrown_faults r =
       let same : plain.frame ∷ [] ≡ r.top ∷ r.below = sym plain.frames_are ∙ r.frames_are in
-      let top_is : plain.frame ≡ r.top = same_Some _ _ (ap (λ (fs : List Frame). slice_get fs 0) same) in
-      throw_in_text r.top r.below r.info r.error r.frames_are (sym (ap (λ (g : Frame). g.function) top_is) ∙ plain.function_is) (sym (ap (λ (fs : List Frame). drop 1 fs) same)) r.info_is r.place_is r.site r.throws
+      let top_is : plain.frame ≡ r.top = same_Some _ _
+      (ap (λ (fs : List Frame). slice_get fs 0) same) in
+      throw_in_text r.top r.below r.info r.error r.frames_are
+      (sym (ap (λ (g : Frame). g.function) top_is) ∙ plain.function_is)
+      (sym (ap (λ (fs : List Frame). drop 1 fs) same)) r.info_is r.place_is r.site r.throws
 
 pub faults_throw : (p : Program) → IsWellFormed p → AreBuilt p → AreStates p → FaultsThrow p
 faults_throw p good built states answers c answer kind place reached fit =
     let rows : length c.heap.objects ≡ length p.sites = (states answers c reached).heap.rows in
-    let plain : IsPlainState p c = plain_states p good built states answers c reached in
-    (faulted p good built c rows plain answer fit kind place c.frames refl, thrown_faults p good built c rows plain answer fit kind place)
+    let plain : IsPlainState p c = plain_states p good built states answers c reached in (
+      faulted p good built c rows plain answer fit kind place c.frames refl,
+      thrown_faults p good built c rows plain answer fit kind place,
+    )

@@ -30,43 +30,62 @@ one_number m z h = (Decides-int_eq m z).0 h
 
 -- the class of a constant has it
 class_of_constant : (m : ℤ) → IsTrue (number_has (number_class (number_part.One m)) m)
-class_of_constant m = cond_both (is_index m) number_part.Index number_part.OtherWhole (λ c. IsTrue (number_has c m)) (λ e. e) (λ e. grind (arith, e))
+class_of_constant m =
+    cond_both (is_index m) number_part.Index number_part.OtherWhole (λ c. IsTrue (number_has c m))
+    (λ e. e) (λ e. grind (arith, e))
 
 -- the class of a part has what the part has
-pub number_class_has : (a : NumberPart) (z : ℤ) → IsTrue (number_has a z) → IsTrue (number_has (number_class a) z)
+pub number_class_has : (a : NumberPart) (z : ℤ) → IsTrue (number_has a z)
+    → IsTrue (number_has (number_class a) z)
 number_class_has number_part.Nothing z h = h
-number_class_has (number_part.One m) z h = subst (λ n. IsTrue (number_has (number_class (number_part.One m)) n)) (one_number m z h) (class_of_constant m)
+number_class_has (number_part.One m) z h =
+    subst (λ n. IsTrue (number_has (number_class (number_part.One m)) n)) (one_number m z h)
+    (class_of_constant m)
 number_class_has number_part.Index z h = h
 number_class_has number_part.OtherWhole z h = h
 number_class_has number_part.Whole z h = h
 
 -- the join of two classes has what the left one has
-join_classes-left : (a b : NumberPart) (z : ℤ) → IsTrue (number_has a z) → IsTrue (number_has (join_classes a b) z)
+join_classes-left : (a b : NumberPart) (z : ℤ) → IsTrue (number_has a z)
+    → IsTrue (number_has (join_classes a b) z)
 join_classes-left number_part.Index number_part.Index z h = h
 join_classes-left number_part.OtherWhole number_part.OtherWhole z h = h
 join_classes-left a b z h = refl
 
 -- .. and what the right one has
-join_classes-right : (a b : NumberPart) (z : ℤ) → IsTrue (number_has b z) → IsTrue (number_has (join_classes a b) z)
+join_classes-right : (a b : NumberPart) (z : ℤ) → IsTrue (number_has b z)
+    → IsTrue (number_has (join_classes a b) z)
 join_classes-right number_part.Index number_part.Index z h = h
 join_classes-right number_part.OtherWhole number_part.OtherWhole z h = h
 join_classes-right a b z h = refl
 
 -- the join of two number parts has what the left one has
-pub number_has-join_left : (a b : NumberPart) (z : ℤ) → IsTrue (number_has a z) → IsTrue (number_has (join_numbers a b) z)
+pub number_has-join_left : (a b : NumberPart) (z : ℤ) → IsTrue (number_has a z)
+    → IsTrue (number_has (join_numbers a b) z)
 number_has-join_left number_part.Nothing b z h = absurd (false≢true h)
 number_has-join_left a number_part.Nothing z h = h
 number_has-join_left (number_part.One m) (number_part.One n) z h =
-    cond_both (int_eq m n) (number_part.One m) (join_classes (number_class (number_part.One m)) (number_class (number_part.One n))) (λ c. IsTrue (number_has c z)) (λ e. h) (λ e. join_classes-left (number_class (number_part.One m)) (number_class (number_part.One n)) z (number_class_has (number_part.One m) z h))
-number_has-join_left a b z h = join_classes-left (number_class a) (number_class b) z (number_class_has a z h)
+    cond_both (int_eq m n) (number_part.One m)
+    (join_classes (number_class (number_part.One m)) (number_class (number_part.One n)))
+    (λ c. IsTrue (number_has c z)) (λ e. h)
+    (λ e. join_classes-left (number_class (number_part.One m))
+    (number_class (number_part.One n)) z (number_class_has (number_part.One m) z h))
+number_has-join_left a b z h =
+    join_classes-left (number_class a) (number_class b) z (number_class_has a z h)
 
 -- .. and what the right one has
-pub number_has-join_right : (a b : NumberPart) (z : ℤ) → IsTrue (number_has b z) → IsTrue (number_has (join_numbers a b) z)
+pub number_has-join_right : (a b : NumberPart) (z : ℤ) → IsTrue (number_has b z)
+    → IsTrue (number_has (join_numbers a b) z)
 number_has-join_right number_part.Nothing b z h = h
 number_has-join_right a number_part.Nothing z h = absurd (false≢true h)
 number_has-join_right (number_part.One m) (number_part.One n) z h =
-    cond_both (int_eq m n) (number_part.One m) (join_classes (number_class (number_part.One m)) (number_class (number_part.One n))) (λ c. IsTrue (number_has c z)) (λ e. subst (λ k. IsTrue (int_eq k z)) (sym (one_number m n e)) h) (λ e. join_classes-right (number_class (number_part.One m)) (number_class (number_part.One n)) z (number_class_has (number_part.One n) z h))
-number_has-join_right a b z h = join_classes-right (number_class a) (number_class b) z (number_class_has b z h)
+    cond_both (int_eq m n) (number_part.One m)
+    (join_classes (number_class (number_part.One m)) (number_class (number_part.One n)))
+    (λ c. IsTrue (number_has c z)) (λ e. subst (λ k. IsTrue (int_eq k z))
+    (sym (one_number m n e)) h) (λ e. join_classes-right (number_class (number_part.One m))
+    (number_class (number_part.One n)) z (number_class_has (number_part.One n) z h))
+number_has-join_right a b z h =
+    join_classes-right (number_class a) (number_class b) z (number_class_has b z h)
 
 -- ---- texts
 
@@ -76,85 +95,114 @@ one_text s t h = (bytes_decides s t).0 h
 
 -- the class of a constant text has it
 class_of_text : (t : List ℕ) → IsTrue (text_has (text_class (text_part.One t)) t)
-class_of_text t = cond_both (is_index_text t) text_part.IndexText text_part.OtherText (λ c. IsTrue (text_has c t)) (λ e. e) (λ e. grind (arith, e))
+class_of_text t =
+    cond_both (is_index_text t) text_part.IndexText text_part.OtherText (λ c. IsTrue (text_has c t))
+    (λ e. e) (λ e. grind (arith, e))
 
 -- the class of a part has what the part has
-pub text_class_has : (a : TextPart) (t : List ℕ) → IsTrue (text_has a t) → IsTrue (text_has (text_class a) t)
+pub text_class_has : (a : TextPart) (t : List ℕ) → IsTrue (text_has a t)
+    → IsTrue (text_has (text_class a) t)
 text_class_has text_part.Nothing t h = h
-text_class_has (text_part.One s) t h = subst (λ u. IsTrue (text_has (text_class (text_part.One s)) u)) (one_text s t h) (class_of_text s)
+text_class_has (text_part.One s) t h =
+    subst (λ u. IsTrue (text_has (text_class (text_part.One s)) u)) (one_text s t h)
+    (class_of_text s)
 text_class_has text_part.IndexText t h = h
 text_class_has text_part.OtherText t h = h
 text_class_has text_part.Text t h = h
 
 -- the join of two classes has what the left one has
-join_text_classes-left : (a b : TextPart) (t : List ℕ) → IsTrue (text_has a t) → IsTrue (text_has (join_text_classes a b) t)
+join_text_classes-left : (a b : TextPart) (t : List ℕ) → IsTrue (text_has a t)
+    → IsTrue (text_has (join_text_classes a b) t)
 join_text_classes-left text_part.IndexText text_part.IndexText t h = h
 join_text_classes-left text_part.OtherText text_part.OtherText t h = h
 join_text_classes-left a b t h = refl
 
 -- .. and what the right one has
-join_text_classes-right : (a b : TextPart) (t : List ℕ) → IsTrue (text_has b t) → IsTrue (text_has (join_text_classes a b) t)
+join_text_classes-right : (a b : TextPart) (t : List ℕ) → IsTrue (text_has b t)
+    → IsTrue (text_has (join_text_classes a b) t)
 join_text_classes-right text_part.IndexText text_part.IndexText t h = h
 join_text_classes-right text_part.OtherText text_part.OtherText t h = h
 join_text_classes-right a b t h = refl
 
 -- the join of two text parts has what the left one has
-pub text_has-join_left : (a b : TextPart) (t : List ℕ) → IsTrue (text_has a t) → IsTrue (text_has (join_texts a b) t)
+pub text_has-join_left : (a b : TextPart) (t : List ℕ) → IsTrue (text_has a t)
+    → IsTrue (text_has (join_texts a b) t)
 text_has-join_left text_part.Nothing b t h = absurd (false≢true h)
 text_has-join_left a text_part.Nothing t h = h
 text_has-join_left (text_part.One s) (text_part.One u) t h =
-    cond_both (text_has (text_part.One s) u) (text_part.One s) (join_text_classes (text_class (text_part.One s)) (text_class (text_part.One u))) (λ c. IsTrue (text_has c t)) (λ e. h) (λ e. join_text_classes-left (text_class (text_part.One s)) (text_class (text_part.One u)) t (text_class_has (text_part.One s) t h))
-text_has-join_left a b t h = join_text_classes-left (text_class a) (text_class b) t (text_class_has a t h)
+    cond_both (text_has (text_part.One s) u) (text_part.One s)
+    (join_text_classes (text_class (text_part.One s)) (text_class (text_part.One u)))
+    (λ c. IsTrue (text_has c t)) (λ e. h)
+    (λ e. join_text_classes-left (text_class (text_part.One s)) (text_class (text_part.One u)) t
+    (text_class_has (text_part.One s) t h))
+text_has-join_left a b t h =
+    join_text_classes-left (text_class a) (text_class b) t (text_class_has a t h)
 
 -- .. and what the right one has
-pub text_has-join_right : (a b : TextPart) (t : List ℕ) → IsTrue (text_has b t) → IsTrue (text_has (join_texts a b) t)
+pub text_has-join_right : (a b : TextPart) (t : List ℕ) → IsTrue (text_has b t)
+    → IsTrue (text_has (join_texts a b) t)
 text_has-join_right text_part.Nothing b t h = h
 text_has-join_right a text_part.Nothing t h = absurd (false≢true h)
 text_has-join_right (text_part.One s) (text_part.One u) t h =
-    cond_both (text_has (text_part.One s) u) (text_part.One s) (join_text_classes (text_class (text_part.One s)) (text_class (text_part.One u))) (λ c. IsTrue (text_has c t)) (λ e. subst (λ v. IsTrue (text_has (text_part.One v) t)) (sym (one_text s u e)) h) (λ e. join_text_classes-right (text_class (text_part.One s)) (text_class (text_part.One u)) t (text_class_has (text_part.One u) t h))
-text_has-join_right a b t h = join_text_classes-right (text_class a) (text_class b) t (text_class_has b t h)
+    cond_both (text_has (text_part.One s) u) (text_part.One s)
+    (join_text_classes (text_class (text_part.One s)) (text_class (text_part.One u)))
+    (λ c. IsTrue (text_has c t)) (λ e. subst (λ v. IsTrue (text_has (text_part.One v) t))
+    (sym (one_text s u e)) h) (λ e. join_text_classes-right (text_class (text_part.One s))
+    (text_class (text_part.One u)) t (text_class_has (text_part.One u) t h))
+text_has-join_right a b t h =
+    join_text_classes-right (text_class a) (text_class b) t (text_class_has b t h)
 
 -- ---- values
 
 -- the join of two values has the primitives of the left one
-pub has_primitive-join_left : (a b : AbstractValue) (q : Primitive) → IsTrue (has_primitive a q) → IsTrue (has_primitive (join a b) q)
+pub has_primitive-join_left : (a b : AbstractValue) (q : Primitive) → IsTrue (has_primitive a q)
+    → IsTrue (has_primitive (join a b) q)
 has_primitive-join_left a b primitive.Undefined h = or_left a.flags.undefined b.flags.undefined h
 has_primitive-join_left a b primitive.Null h = or_left a.flags.null b.flags.null h
 has_primitive-join_left a b (primitive.Bool true) h = or_left a.flags.is_true b.flags.is_true h
 has_primitive-join_left a b (primitive.Bool false) h = or_left a.flags.is_false b.flags.is_false h
 has_primitive-join_left a b (primitive.Number NaN) h = or_left a.flags.nan b.flags.nan h
-has_primitive-join_left a b (primitive.Number (Whole n)) h = number_has-join_left a.number b.number n h
+has_primitive-join_left a b (primitive.Number (Whole n)) h =
+    number_has-join_left a.number b.number n h
 has_primitive-join_left a b (primitive.Text t) h = text_has-join_left a.text b.text t h
 
 -- .. and those of the right one
-pub has_primitive-join_right : (a b : AbstractValue) (q : Primitive) → IsTrue (has_primitive b q) → IsTrue (has_primitive (join a b) q)
+pub has_primitive-join_right : (a b : AbstractValue) (q : Primitive) → IsTrue (has_primitive b q)
+    → IsTrue (has_primitive (join a b) q)
 has_primitive-join_right a b primitive.Undefined h = or_right a.flags.undefined b.flags.undefined h
 has_primitive-join_right a b primitive.Null h = or_right a.flags.null b.flags.null h
 has_primitive-join_right a b (primitive.Bool true) h = or_right a.flags.is_true b.flags.is_true h
 has_primitive-join_right a b (primitive.Bool false) h = or_right a.flags.is_false b.flags.is_false h
 has_primitive-join_right a b (primitive.Number NaN) h = or_right a.flags.nan b.flags.nan h
-has_primitive-join_right a b (primitive.Number (Whole n)) h = number_has-join_right a.number b.number n h
+has_primitive-join_right a b (primitive.Number (Whole n)) h =
+    number_has-join_right a.number b.number n h
 has_primitive-join_right a b (primitive.Text t) h = text_has-join_right a.text b.text t h
 
 -- the join of two values has the values of the left one
-pub has_value-join_left : (h : Heap) (a b : AbstractValue) (v : Value) → IsTrue (has_value h a v) → IsTrue (has_value h (join a b) v)
+pub has_value-join_left : (h : Heap) (a b : AbstractValue) (v : Value) → IsTrue (has_value h a v)
+    → IsTrue (has_value h (join a b) v)
 has_value-join_left h a b (value.Primitive q) e = has_primitive-join_left a b q e
-has_value-join_left h a b (value.Object o) e = or_left (a.label (label_of h o)) (b.label (label_of h o)) e
+has_value-join_left h a b (value.Object o) e =
+    or_left (a.label (label_of h o)) (b.label (label_of h o)) e
 
 -- .. and those of the right one
-pub has_value-join_right : (h : Heap) (a b : AbstractValue) (v : Value) → IsTrue (has_value h b v) → IsTrue (has_value h (join a b) v)
+pub has_value-join_right : (h : Heap) (a b : AbstractValue) (v : Value) → IsTrue (has_value h b v)
+    → IsTrue (has_value h (join a b) v)
 has_value-join_right h a b (value.Primitive q) e = has_primitive-join_right a b q e
-has_value-join_right h a b (value.Object o) e = or_right (a.label (label_of h o)) (b.label (label_of h o)) e
+has_value-join_right h a b (value.Object o) e =
+    or_right (a.label (label_of h o)) (b.label (label_of h o)) e
 
 -- ---- properties
 
 -- what is known of an attribute on the left is known of the join
-pub allows-join_left : (a b : May) (x : Bool) → IsTrue (allows a x) → IsTrue (allows (join_may a b) x)
+pub allows-join_left : (a b : May) (x : Bool) → IsTrue (allows a x)
+    → IsTrue (allows (join_may a b) x)
 allows-join_left a b true e = or_left a.set b.set e
 allows-join_left a b false e = or_left a.unset b.unset e
 
 -- .. and what is known on the right
-pub allows-join_right : (a b : May) (x : Bool) → IsTrue (allows b x) → IsTrue (allows (join_may a b) x)
+pub allows-join_right : (a b : May) (x : Bool) → IsTrue (allows b x)
+    → IsTrue (allows (join_may a b) x)
 allows-join_right a b true e = or_right a.set b.set e
 allows-join_right a b false e = or_right a.unset b.unset e
 
@@ -173,35 +221,49 @@ and_three_parts true false z e = absurd (false≢true e)
 and_three_parts false y z e = absurd (false≢true e)
 
 -- what is known of attributes on the left is known of the join
-pub allows_attrs-join_left : (m n : AAttrs) (a : Attrs) → IsTrue (allows_attrs m a) → IsTrue (allows_attrs (join_attrs m n) a)
+pub allows_attrs-join_left : (m n : AAttrs) (a : Attrs) → IsTrue (allows_attrs m a)
+    → IsTrue (allows_attrs (join_attrs m n) a)
 allows_attrs-join_left m n a e =
-    let (r, s) = and_three_parts (allows m.read_only a.read_only) (allows m.dont_enum a.dont_enum) (allows m.dont_delete a.dont_delete) e in
-    and_three _ _ _ (allows-join_left m.read_only n.read_only a.read_only r) (allows-join_left m.dont_enum n.dont_enum a.dont_enum s.0) (allows-join_left m.dont_delete n.dont_delete a.dont_delete s.1)
+    let (r, s) = and_three_parts (allows m.read_only a.read_only) (allows m.dont_enum a.dont_enum)
+    (allows m.dont_delete a.dont_delete) e in
+    and_three _ _ _ (allows-join_left m.read_only n.read_only a.read_only r)
+    (allows-join_left m.dont_enum n.dont_enum a.dont_enum s.0)
+    (allows-join_left m.dont_delete n.dont_delete a.dont_delete s.1)
 
 -- .. and what is known on the right
-pub allows_attrs-join_right : (m n : AAttrs) (a : Attrs) → IsTrue (allows_attrs n a) → IsTrue (allows_attrs (join_attrs m n) a)
+pub allows_attrs-join_right : (m n : AAttrs) (a : Attrs) → IsTrue (allows_attrs n a)
+    → IsTrue (allows_attrs (join_attrs m n) a)
 allows_attrs-join_right m n a e =
-    let (r, s) = and_three_parts (allows n.read_only a.read_only) (allows n.dont_enum a.dont_enum) (allows n.dont_delete a.dont_delete) e in
-    and_three _ _ _ (allows-join_right m.read_only n.read_only a.read_only r) (allows-join_right m.dont_enum n.dont_enum a.dont_enum s.0) (allows-join_right m.dont_delete n.dont_delete a.dont_delete s.1)
+    let (r, s) = and_three_parts (allows n.read_only a.read_only) (allows n.dont_enum a.dont_enum)
+    (allows n.dont_delete a.dont_delete) e in
+    and_three _ _ _ (allows-join_right m.read_only n.read_only a.read_only r)
+    (allows-join_right m.dont_enum n.dont_enum a.dont_enum s.0)
+    (allows-join_right m.dont_delete n.dont_delete a.dont_delete s.1)
 
 -- the join of two properties has the contents of the left one
-pub knows-join_left : (h : Heap) (a b : AbstractProperty) (c : SpotContent) → IsTrue (knows h a c) → IsTrue (knows h (join_properties a b) c)
+pub knows-join_left : (h : Heap) (a b : AbstractProperty) (c : SpotContent) → IsTrue (knows h a c)
+    → IsTrue (knows h (join_properties a b) c)
 knows-join_left h a b missing e = or_left a.value.flags.absent b.value.flags.absent e
 knows-join_left h a b (held v) e = has_value-join_left h a.value b.value v e
 knows-join_left h a b (present v attrs) e =
     let (r, s) = and_parts (has_value h a.value v) (allows_attrs a.attrs attrs) e in
-    and_from _ _ (has_value-join_left h a.value b.value v r) (allows_attrs-join_left a.attrs b.attrs attrs s)
+    and_from _ _ (has_value-join_left h a.value b.value v r)
+    (allows_attrs-join_left a.attrs b.attrs attrs s)
 knows-join_left h a b (present_row attrs) e =
     let (r, s) = and_parts a.value.flags.row (allows_attrs a.attrs attrs) e in
-    and_from _ _ (or_left a.value.flags.row b.value.flags.row r) (allows_attrs-join_left a.attrs b.attrs attrs s)
+    and_from _ _ (or_left a.value.flags.row b.value.flags.row r)
+    (allows_attrs-join_left a.attrs b.attrs attrs s)
 
 -- .. and those of the right one
-pub knows-join_right : (h : Heap) (a b : AbstractProperty) (c : SpotContent) → IsTrue (knows h b c) → IsTrue (knows h (join_properties a b) c)
+pub knows-join_right : (h : Heap) (a b : AbstractProperty) (c : SpotContent) → IsTrue (knows h b c)
+    → IsTrue (knows h (join_properties a b) c)
 knows-join_right h a b missing e = or_right a.value.flags.absent b.value.flags.absent e
 knows-join_right h a b (held v) e = has_value-join_right h a.value b.value v e
 knows-join_right h a b (present v attrs) e =
     let (r, s) = and_parts (has_value h b.value v) (allows_attrs b.attrs attrs) e in
-    and_from _ _ (has_value-join_right h a.value b.value v r) (allows_attrs-join_right a.attrs b.attrs attrs s)
+    and_from _ _ (has_value-join_right h a.value b.value v r)
+    (allows_attrs-join_right a.attrs b.attrs attrs s)
 knows-join_right h a b (present_row attrs) e =
     let (r, s) = and_parts b.value.flags.row (allows_attrs b.attrs attrs) e in
-    and_from _ _ (or_right a.value.flags.row b.value.flags.row r) (allows_attrs-join_right a.attrs b.attrs attrs s)
+    and_from _ _ (or_right a.value.flags.row b.value.flags.row r)
+    (allows_attrs-join_right a.attrs b.attrs attrs s)

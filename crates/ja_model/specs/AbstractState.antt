@@ -1,4 +1,5 @@
--- Abstract states: maps from registers to values, from labels and keys to properties, from sites to masks.
+-- Abstract states: maps from registers to values, from labels and keys to properties, from sites to
+-- masks.
 use Rattle.std.specs.Prelude.{ℕ, ◌+◌, ◌*◌, pos, Bool, true, false, ◌&&◌, ◌||◌, if◌then◌else◌, ◌==◌, nat_lt, List, [], ◌∷◌, ◌++◌, map, length}
 use Rattle.std.specs.List.{flat_map, range_with_len}
 use Rattle.ja_base.specs.declared.ids.Label.{Label}
@@ -67,7 +68,8 @@ name_key n = key.Name (record { 0 = n })
 
 abbrev pub keys_below : ℕ → List Key
 keys_below n =
-    map name_key (range_with_len 0 n) ++ (key.OtherIndex ∷ key.OtherName ∷ key.Slot slot.Prototype ∷ key.Slot slot.Outer ∷ key.Slot slot.Scope ∷ key.Slot slot.Value ∷ [])
+    map name_key (range_with_len 0 n) ++ (key.OtherIndex ∷ key.OtherName ∷ key.Slot slot.Prototype
+    ∷ key.Slot slot.Outer ∷ key.Slot slot.Scope ∷ key.Slot slot.Value ∷ [])
 
 abbrev pub keys_of : Program → List Key
 keys_of p = keys_below (length p.names)
@@ -93,10 +95,16 @@ join_masks a b = record { none = a.none || b.none; some = a.some || b.some }
 -- at a function's entry each property is as it was, and nothing was made
 abbrev pub entry_registers : ℕ → AbstractValue
 entry_registers r =
-    if r == 1 then of_label (new global) else if r == 2 then of_label (new global) else if r == 4 then of_primitive (Number (Whole (pos 0))) else undefined_value
+    if r == 1 then of_label (new global) else if r == 2 then of_label (new global) else if r == 4
+    then of_primitive (Number (Whole (pos 0))) else undefined_value
 
 abbrev pub entry_state : AbstractState
-entry_state = record { register = entry_registers; property = λ l k. entry_property; mask = λ s. exactly_none }
+entry_state =
+    record {
+      register = entry_registers;
+      property = λ l k. entry_property;
+      mask = λ s. exactly_none;
+    }
 
 abbrev pub join_states : AbstractState → AbstractState → AbstractState
 join_states a b = record {
@@ -109,21 +117,29 @@ abbrev pub with_register : AbstractState → Reg → AbstractValue → AbstractS
 with_register s dst v = record s { register = λ r. if dst.0 == r then v else s.register r }
 
 abbrev pub with_property : AbstractState → Label → Key → AbstractProperty → AbstractState
-with_property s l k q = record s { property = λ m j. if same_label l m && same_key k j then q else s.property m j }
+with_property s l k q =
+    record s { property = λ m j. if same_label l m && same_key k j then q else s.property m j }
 
 -- ---- an object more
 
 -- a value after an object more was made at a site: the one that was new is old
 abbrev pub aged : Site → AbstractValue → AbstractValue
-aged s v = record v { label = λ l. if l.site.0 == s.0 then l.old && (v.label (old s) || v.label (new s)) else v.label l }
+aged s v =
+    record v {
+      label = λ l. if l.site.0 == s.0 then l.old && (v.label (old s) || v.label (new s))
+          else v.label l;
+    }
 
 abbrev pub aged_property : Site → AbstractProperty → AbstractProperty
 aged_property s q = record q { value = aged s q.value }
 
--- the new object's properties are exactly absent; the old ones are what the old ones or the one that was new had
+-- the new object's properties are exactly absent; the old ones are what the old ones or the one
+-- that was new had
 abbrev pub made_property : AbstractState → Site → Label → Key → AbstractProperty
 made_property a s l k =
-    if same_label (new s) l then absent_property else if same_label (old s) l then join_properties (aged_property s (a.property (old s) k)) (aged_property s (a.property (new s) k)) else aged_property s (a.property l k)
+    if same_label (new s) l then absent_property else if same_label (old s) l
+    then join_properties (aged_property s (a.property (old s) k))
+    (aged_property s (a.property (new s) k)) else aged_property s (a.property l k)
 
 abbrev pub with_made : AbstractState → Site → AbstractState
 with_made a s = record {

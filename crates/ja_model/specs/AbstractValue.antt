@@ -1,4 +1,5 @@
--- Abstract values and properties: what they have as parts, and their joins. A set of labels is a test.
+-- Abstract values and properties: what they have as parts, and their joins. A set of labels is a
+-- test.
 use Rattle.std.specs.Prelude.{Bool, true, false, not, ◌&&◌, ◌||◌, if◌then◌else◌, ◌==◌, nat_eq, List}
 use Rattle.std.specs.Bool.{beq}
 use Rattle.std.specs.List.{list_any}
@@ -41,7 +42,17 @@ pub record AbstractProperty : Type 0 where
 -- ---- parts
 
 abbrev pub no_flags : Flags
-no_flags = record { absent = false; entry = false; row = false; undefined = false; null = false; is_true = false; is_false = false; nan = false }
+no_flags =
+    record {
+      absent = false;
+      entry = false;
+      row = false;
+      undefined = false;
+      null = false;
+      is_true = false;
+      is_false = false;
+      nan = false;
+    }
 
 abbrev pub join_flags : Flags → Flags → Flags
 join_flags a b = record {
@@ -74,7 +85,8 @@ abbrev pub join_numbers : NumberPart → NumberPart → NumberPart
 join_numbers number_part.Nothing b = b
 join_numbers a number_part.Nothing = a
 join_numbers (number_part.One m) (number_part.One n) =
-    if int_eq m n then number_part.One m else join_classes (number_class (number_part.One m)) (number_class (number_part.One n))
+    if int_eq m n then number_part.One m else join_classes (number_class (number_part.One m))
+    (number_class (number_part.One n))
 join_numbers a b = join_classes (number_class a) (number_class b)
 
 abbrev pub text_class : TextPart → TextPart
@@ -90,7 +102,8 @@ abbrev pub join_texts : TextPart → TextPart → TextPart
 join_texts text_part.Nothing b = b
 join_texts a text_part.Nothing = a
 join_texts (text_part.One s) (text_part.One t) =
-    if pointwise nat_eq s t then text_part.One s else join_text_classes (text_class (text_part.One s)) (text_class (text_part.One t))
+    if pointwise nat_eq s t then text_part.One s
+    else join_text_classes (text_class (text_part.One s)) (text_class (text_part.One t))
 join_texts a b = join_text_classes (text_class a) (text_class b)
 
 abbrev pub has_number : NumberPart → Bool
@@ -104,7 +117,13 @@ has_text part = true
 -- ---- values
 
 abbrev pub no_value : AbstractValue
-no_value = record { flags = no_flags; number = number_part.Nothing; text = text_part.Nothing; label = no_labels }
+no_value =
+    record {
+      flags = no_flags;
+      number = number_part.Nothing;
+      text = text_part.Nothing;
+      label = no_labels;
+    }
 
 abbrev pub join : AbstractValue → AbstractValue → AbstractValue
 join a b = record {
@@ -150,7 +169,8 @@ of_primitive (primitive.Text t) = record no_value { text = text_part.One t }
 
 -- whether some part is there other than `absent` and `entry`; labels are sought among a program's
 abbrev pub is_present : List Label → AbstractValue → Bool
-is_present labels v = has_present_flag v.flags || has_number v.number || has_text v.text || list_any v.label labels
+is_present labels v =
+    has_present_flag v.flags || has_number v.number || has_text v.text || list_any v.label labels
 
 abbrev pub has_part : List Label → AbstractValue → Bool
 has_part labels v = v.flags.absent || v.flags.entry || is_present labels v
@@ -168,7 +188,8 @@ abbrev pub never_known : May
 never_known = record { set = false; unset = false }
 
 abbrev pub unknown_attrs : AAttrs
-unknown_attrs = record { read_only = never_known; dont_enum = never_known; dont_delete = never_known }
+unknown_attrs =
+    record { read_only = never_known; dont_enum = never_known; dont_delete = never_known }
 
 abbrev pub join_attrs : AAttrs → AAttrs → AAttrs
 join_attrs a b = record {
@@ -181,7 +202,12 @@ abbrev pub exactly : Bool → May
 exactly b = record { set = b; unset = not b }
 
 abbrev pub of_attrs : Attrs → AAttrs
-of_attrs a = record { read_only = exactly a.read_only; dont_enum = exactly a.dont_enum; dont_delete = exactly a.dont_delete }
+of_attrs a =
+    record {
+      read_only = exactly a.read_only;
+      dont_enum = exactly a.dont_enum;
+      dont_delete = exactly a.dont_delete;
+    }
 
 abbrev pub join_properties : AbstractProperty → AbstractProperty → AbstractProperty
 join_properties a b = record { value = join a.value b.value; attrs = join_attrs a.attrs b.attrs }

@@ -39,21 +39,33 @@ abbrev pub error_message : Program → Node → WarningKind → List ℕ
 error_message p node NotAFunction = not_a_function_message
 error_message p node UnboundName = unbound_message (option_map_or (name_text p) (name_in node) [])
 
--- the state after an error was thrown: one object more, made at the error's site, which `thrown` has at the node's handler
+-- the state after an error was thrown: one object more, made at the error's site, which `thrown`
+-- has at the node's handler
 abbrev pub thrown_state : Conf → Frame → List Frame → NodeInfo → Site → Object → Conf
 thrown_state c f below info error o = record {
   heap = with_new c.heap error o;
-  frames = record f { registers = slice_set f.registers thrown.0 (value.Object (new_address c.heap error)); node = info.handler } ∷ below;
+  frames =
+      record f {
+        registers = slice_set f.registers thrown.0
+            (value.Object (new_address c.heap error));
+        node = info.handler;
+      } ∷ below;
   steps = c.steps + 1;
 }
 
 -- an error is thrown, or the run leaves the profile, where its message is longer than any text
-abbrev pub IsThrow : Conf → Frame → List Frame → NodeInfo → Site → Site → List ℕ → Option Event → Type 0
+abbrev pub IsThrow : Conf → Frame → List Frame → NodeInfo → Site → Site → List ℕ → Option Event
+    → Type 0
 IsThrow c f below info error proto text step =
-    ((length text ≤ max_units) × (step ≡ Some (event.Next (thrown_state c f below info error (error_object proto text))))) ⊎ ((max_units < length text) × (step ≡ Some (event.End (ending.Scope TextLength info.place) (record c { steps = c.steps + 1 }))))
+    ((length text ≤ max_units) × (step ≡ Some
+    (event.Next (thrown_state c f below info error (error_object proto text)))))
+    ⊎ ((max_units < length text) × (step ≡ Some
+    (event.End (ending.Scope TextLength info.place) (record c { steps = c.steps + 1 }))))
 
--- the step throws the error of a kind, at a site for errors of the node at which the top frame stands
-pub record Throws (p : Program) (c : Conf) (answer : Answer) (kind : WarningKind) (place : Place) : Type 0 where
+-- the step throws the error of a kind, at a site for errors of the node at which the top frame
+-- stands
+pub record Throws (p : Program) (c : Conf) (answer : Answer) (kind : WarningKind)
+    (place : Place) : Type 0 where
   pub top : Frame
   pub below : List Frame
   pub frames_are : c.frames ≡ top ∷ below
@@ -62,9 +74,12 @@ pub record Throws (p : Program) (c : Conf) (answer : Answer) (kind : WarningKind
   pub place_is : info.place ≡ place
   pub error : Site
   pub site : Contains (makings info.node) (making error class.Error)
-  pub throws : IsThrow c top below info error (error_prototype kind) (error_message p info.node kind) (step p c answer)
+  pub throws : IsThrow c top below info error (error_prototype kind)
+      (error_message p info.node kind) (step p c answer)
 
 -- what goes wrong is what throws, with each answer that the state wants
 abbrev pub FaultsThrow : Program → Type 0
 FaultsThrow p =
-    (answers : List Answer) (c : Conf) (answer : Answer) (kind : WarningKind) (place : Place) → state_of p answers ≡ Some c → IsTrue (fits p (wants p c) answer) → (fault_of p c ≡ Some (kind, place)) ↔ Throws p c answer kind place
+    (answers : List Answer) (c : Conf) (answer : Answer) (kind : WarningKind) (place : Place)
+    → state_of p answers ≡ Some c → IsTrue (fits p (wants p c) answer)
+    → (fault_of p c ≡ Some (kind, place)) ↔ Throws p c answer kind place

@@ -1,5 +1,5 @@
--- What abstract values and states say of the machine's states: a state is covered where the table's state at its node
--- and context holds.
+-- What abstract values and states say of the machine's states: a state is covered where the table's
+-- state at its node and context holds.
 use Rattle.std.specs.Prelude.{◌≡◌, ◌⊎◌, ◌<◌, ℕ, ◌+◌, ℤ, Bool, true, false, not, ◌&&◌, if◌then◌else◌, ◌==◌, nat_eq, IsTrue, List, slice_get, Option, Some, None, IsSome, position}
 use Rattle.std.specs.Option.{option_map_or}
 use Rattle.std.specs.Ordering.{int_eq}
@@ -136,7 +136,9 @@ allows m true = m.set
 allows m false = m.unset
 
 abbrev pub allows_attrs : AAttrs → Attrs → Bool
-allows_attrs m a = allows m.read_only a.read_only && allows m.dont_enum a.dont_enum && allows m.dont_delete a.dont_delete
+allows_attrs m a =
+    allows m.read_only a.read_only && allows m.dont_enum a.dont_enum
+    && allows m.dont_delete a.dont_delete
 
 -- the property has the content of an object of the heap
 abbrev pub knows : Heap → AbstractProperty → SpotContent → Bool
@@ -152,17 +154,24 @@ pub record IsAsAtEntry (at_entry now : Heap) (a : Addr) (x : Spot) : Type 0 wher
   pub there : IsSome (object_at at_entry a)
   pub same : content now a x ≡ content at_entry a x
 
--- an abstract state holds of a heap and a frame, where at_entry is the heap when the frame was entered
+-- an abstract state holds of a heap and a frame, where at_entry is the heap when the frame was
+-- entered
 pub record Holds (p : Program) (at_entry now : Heap) (f : Frame) (s : AbstractState) : Type 0 where
-  pub registers : (r : ℕ) (v : Value) → slice_get f.registers r ≡ Some v → IsTrue (has_value now (s.register r) v)
-  pub objects : (a : Addr) (x : Spot) → IsSome (object_at now a) → let q = s.property (label_of now a) (key_of p x) in IsTrue (knows now q (content now a x)) ⊎ (IsTrue q.value.flags.entry × IsAsAtEntry at_entry now a x)
+  pub registers : (r : ℕ) (v : Value) → slice_get f.registers r ≡ Some v
+      → IsTrue (has_value now (s.register r) v)
+  pub objects : (a : Addr) (x : Spot) → IsSome (object_at now a) → let q =
+      s.property (label_of now a) (key_of p x) in
+      IsTrue (knows now q (content now a x))
+      ⊎ (IsTrue q.value.flags.entry × IsAsAtEntry at_entry now a x)
   pub some : (t : Site) → count at_entry t < count now t → IsTrue (s.mask t.0).some
   pub none : (t : Site) → count at_entry t ≡ count now t → IsTrue (s.mask t.0).none
 
 -- each value at entry that was demanded has the contents at entry
 abbrev pub EntriesHold : Program → Heap → Entries → Type 0
 EntriesHold p at_entry entries =
-    (l : Label) (k : Key) (q : AbstractProperty) → entries l k ≡ Some q → (a : Addr) (x : Spot) → IsSome (object_at at_entry a) → IsTrue (same_label (label_of at_entry a) l) → IsTrue (same_key (key_of p x) k) → IsTrue (knows at_entry q (content at_entry a x))
+    (l : Label) (k : Key) (q : AbstractProperty) → entries l k ≡ Some q → (a : Addr) (x : Spot)
+    → IsSome (object_at at_entry a) → IsTrue (same_label (label_of at_entry a) l)
+    → IsTrue (same_key (key_of p x) k) → IsTrue (knows at_entry q (content at_entry a x))
 
 abbrev pub context_of : Heap → Frame → Context
 context_of at_entry f = record { function = f.function; receiver = label_of at_entry f.receiver }
@@ -197,7 +206,8 @@ of_content h (held v) = bare (of_value h v)
 of_content h (present v attrs) = record { value = of_value h v; attrs = of_attrs attrs }
 of_content h (present_row attrs) = record { value = row_value; attrs = of_attrs attrs }
 
--- what the objects of a label have at a key; a site has one object there at most, whose label is new
+-- what the objects of a label have at a key; a site has one object there at most, whose label is
+-- new
 abbrev pub key_content : Program → Addr → Key → SpotContent
 key_content p a (key.Name n) = content (opening_heap p) a (named (name_text p n))
 key_content p a key.OtherIndex = missing
@@ -206,7 +216,8 @@ key_content p a (key.Slot s) = content (opening_heap p) a (internal s)
 
 abbrev pub opened_at : Program → Key → Addr → AbstractProperty
 opened_at p k a =
-    option_map_or (λ (o : Object). of_content (opening_heap p) (key_content p a k)) (object_at (opening_heap p) a) no_property
+    option_map_or (λ (o : Object). of_content (opening_heap p) (key_content p a k))
+    (object_at (opening_heap p) a) no_property
 
 abbrev pub opened : Program → Label → Key → AbstractProperty
 opened p l k = if l.old then no_property else opened_at p k (first_of l.site)

@@ -1,5 +1,5 @@
--- What an abstract state and the values at entry give at a label and a key, along prototypes and scopes, and which
--- values at entry are demanded for it (SAS 2010, lazy propagation).
+-- What an abstract state and the values at entry give at a label and a key, along prototypes and
+-- scopes, and which values at entry are demanded for it (SAS 2010, lazy propagation).
 use Rattle.std.specs.Prelude.{ℕ, zero, suc, Bool, false, ◌&&◌, ◌||◌, if◌then◌else◌, List, [], ◌∷◌, map, length, Option}
 use Rattle.std.specs.List.{list_any}
 use Rattle.std.specs.Option.{option_map_or}
@@ -11,7 +11,8 @@ use Rattle.ja_model.specs.declared.abstraction.Key.TheVariants as key
 use Rattle.ja_model.specs.AbstractValue.{Labels, AbstractValue, AbstractProperty, same_label, join, join_properties, present_part, is_present, no_value, absent_value, null_value, no_property, of_labels}
 use Rattle.ja_model.specs.AbstractState.{AbstractState, new, old, same_key}
 
--- the values at entry that were demanded: none where the pair was not, and one without parts where it isn't filled yet
+-- the values at entry that were demanded: none where the pair was not, and one without parts where
+-- it isn't filled yet
 abbrev pub Entries : Type 0
 Entries = Label → Key → Option AbstractProperty
 
@@ -24,19 +25,22 @@ Demands = Label → Key → Bool
 -- the labels at the entry of the objects that have this label now
 abbrev pub origins : (ℕ → Mask) → Label → List Label
 origins mask l =
-    if l.old then old l.site ∷ (if (mask l.site.0).some then new l.site ∷ [] else []) else (if (mask l.site.0).none then new l.site ∷ [] else [])
+    if l.old then old l.site ∷ (if (mask l.site.0).some then new l.site ∷ [] else [])
+    else (if (mask l.site.0).none then new l.site ∷ [] else [])
 
 -- the labels now of the objects that had these labels at the entry
 abbrev pub renamed_labels : (ℕ → Mask) → Labels → Labels
 renamed_labels mask set l =
-    if l.old then set (old l.site) || (set (new l.site) && (mask l.site.0).some) else set (new l.site) && (mask l.site.0).none
+    if l.old then set (old l.site) || (set (new l.site) && (mask l.site.0).some)
+    else set (new l.site) && (mask l.site.0).none
 
 abbrev pub renamed : (ℕ → Mask) → AbstractProperty → AbstractProperty
 renamed mask q = record q { value = record q.value { label = renamed_labels mask q.value.label } }
 
 -- the part that isn't as at entry
 abbrev pub known_part : AbstractProperty → AbstractProperty
-known_part q = record q { value = record q.value { flags = record q.value.flags { entry = false } } }
+known_part q =
+    record q { value = record q.value { flags = record q.value.flags { entry = false } } }
 
 abbrev pub join_all : List AbstractProperty → AbstractProperty
 join_all [] = no_property
@@ -45,15 +49,19 @@ join_all (q ∷ qs) = join_properties q (join_all qs)
 -- what the objects of a label now had at entry
 abbrev pub from_entry : AbstractState → Entries → Label → Key → AbstractProperty
 from_entry a entries l k =
-    join_all (map (λ (m : Label). option_map_or (renamed a.mask) (entries m k) no_property) (origins a.mask l))
+    join_all (map (λ (m : Label). option_map_or (renamed a.mask) (entries m k) no_property)
+    (origins a.mask l))
 
 -- the resolved reading: the property, with what was there at entry in the place of `entry`
 abbrev pub resolved : AbstractState → Entries → Label → Key → AbstractProperty
 resolved a entries l k =
-    let q = a.property l k in if q.value.flags.entry then join_properties (known_part q) (from_entry a entries l k) else q
+    let q = a.property l k in
+    if q.value.flags.entry then join_properties (known_part q) (from_entry a entries l k) else q
 
 abbrev pub demands_of : AbstractState → Label → Key → Demands
-demands_of a l k m j = (a.property l k).value.flags.entry && same_key k j && list_any (λ (o : Label). same_label o m) (origins a.mask l)
+demands_of a l k m j =
+    (a.property l k).value.flags.entry && same_key k j
+    && list_any (λ (o : Label). same_label o m) (origins a.mask l)
 
 -- ---- walks: the least sets of labels that are closed under a step
 
@@ -92,7 +100,8 @@ may_be_present w l k = is_present w.labels (own w l k).value
 abbrev pub some_label : View → Labels → Bool
 some_label w set = list_any set w.labels
 
--- the objects that are asked for a key, from one on: an object that may lack it leads to its prototypes
+-- the objects that are asked for a key, from one on: an object that may lack it leads to its
+-- prototypes
 abbrev pub next_prototype : View → Key → Label → Labels
 next_prototype w k l m = may_be_absent w l k && (own w l prototype).value.label m
 
@@ -116,19 +125,23 @@ join_values (v ∷ vs) = join v (join_values vs)
 
 abbrev pub got : View → Label → Key → AbstractValue
 got w l k =
-    join (join_values (map (λ (m : Label). if asked w l k m then present_part (own w m k).value else no_value) w.labels)) (if may_lack w l k then absent_value else no_value)
+    join (join_values (map (λ (m : Label). if asked w l k m then present_part (own w m k).value
+    else no_value) w.labels)) (if may_lack w l k then absent_value else no_value)
 
 -- [[CanPut]] may be false, and may be true
 abbrev pub may_refuse : View → Label → Key → Bool
-may_refuse w l k = some_label w (λ m. asked w l k m && may_be_present w m k && (own w m k).attrs.read_only.set)
+may_refuse w l k =
+    some_label w (λ m. asked w l k m && may_be_present w m k && (own w m k).attrs.read_only.set)
 
 abbrev pub may_accept : View → Label → Key → Bool
 may_accept w l k =
-    some_label w (λ m. asked w l k m && may_be_present w m k && (own w m k).attrs.read_only.unset) || may_lack w l k
+    some_label w (λ m. asked w l k m && may_be_present w m k && (own w m k).attrs.read_only.unset)
+    || may_lack w l k
 
 abbrev pub demands_of_walk : View → Label → Key → Demands
 demands_of_walk w l k m j =
-    some_label w (λ x. asked w l k x && (demands_of w.state x k m j || (may_be_absent w x k && demands_of w.state x prototype m j)))
+    some_label w (λ x. asked w l k x && (demands_of w.state x k m j
+    || (may_be_absent w x k && demands_of w.state x prototype m j)))
 
 -- ---- scope chains
 
@@ -141,8 +154,11 @@ searched w start k = reached (next_scope w k) w.labels start
 -- the objects of the chain that may have the name, and null where the chain may end without one
 abbrev pub found : View → Labels → Key → AbstractValue
 found w start k =
-    join (of_labels (λ l. searched w start k l && may_have w l k)) (if some_label w (λ l. searched w start k l && may_lack w l k && may_be_absent w l outer) then null_value else no_value)
+    join (of_labels (λ l. searched w start k l && may_have w l k))
+    (if some_label w (λ l. searched w start k l && may_lack w l k && may_be_absent w l outer)
+    then null_value else no_value)
 
 abbrev pub demands_of_search : View → Labels → Key → Demands
 demands_of_search w start k m j =
-    some_label w (λ x. searched w start k x && (demands_of_walk w x k m j || (may_lack w x k && demands_of w.state x outer m j)))
+    some_label w (λ x. searched w start k x
+    && (demands_of_walk w x k m j || (may_lack w x k && demands_of w.state x outer m j)))

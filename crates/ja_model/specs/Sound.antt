@@ -13,8 +13,8 @@ use Rattle.ja_model.specs.Meaning.{Holds, EntriesHold, context_of}
 use Rattle.ja_model.specs.Table.{Table}
 use Rattle.ja_model.specs.Warning.{fault_of}
 
--- The table has a state at the node and the context of the top frame. It holds of the heap at the frame's entry and of
--- the heap now, and the values at entry hold of the heap at the frame's entry.
+-- The table has a state at the node and the context of the top frame. It holds of the heap at the
+-- frame's entry and of the heap now, and the values at entry hold of the heap at the frame's entry.
 pub record IsCovered (p : Program) (t : Table) (answers : List Answer) (c : Conf) : Type 0 where
   pub top : Frame
   pub below : List Frame
@@ -29,9 +29,12 @@ pub record IsCovered (p : Program) (t : Table) (answers : List Answer) (c : Conf
 
 -- the state after each list of answers is covered
 abbrev pub CoversRuns : Program → Table → Type 0
-CoversRuns p t = (answers : List Answer) (c : Conf) → state_of p answers ≡ Some c → IsCovered p t answers c
+CoversRuns p t =
+    (answers : List Answer) (c : Conf) → state_of p answers ≡ Some c → IsCovered p t answers c
 
 -- an operation that goes wrong in some run has a warning
 abbrev pub WarnsOfFaults : Program → List Warning → Type 0
 WarnsOfFaults p ws =
-    (answers : List Answer) (c : Conf) (kind : WarningKind) (place : Place) → state_of p answers ≡ Some c → fault_of p c ≡ Some (kind, place) → Any (λ (w : Warning). (w.kind ≡ kind) × (w.place ≡ place)) ws
+    (answers : List Answer) (c : Conf) (kind : WarningKind) (place : Place)
+    → state_of p answers ≡ Some c → fault_of p c ≡ Some (kind, place)
+    → Any (λ (w : Warning). (w.kind ≡ kind) × (w.place ≡ place)) ws

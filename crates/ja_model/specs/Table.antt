@@ -37,17 +37,24 @@ opening_table = record {
 
 -- Open joins the contents of the opening heap into the values at entry that the program demands
 abbrev pub opened_entries : Program → Entries → Entries
-opened_entries p entries l k = option_map (λ (q : AbstractProperty). join_properties q (opened p l k)) (entries l k)
+opened_entries p entries l k =
+    option_map (λ (q : AbstractProperty). join_properties q (opened p l k)) (entries l k)
 
 abbrev pub visit_open : Program → Table → Table
-visit_open p t = record t { entry = λ x. if same_context root x then opened_entries p (t.entry x) else t.entry x }
+visit_open p t =
+    record t {
+      entry = λ x. if same_context root x then opened_entries p (t.entry x)
+          else t.entry x;
+    }
 
 -- a pair that is demanded for the first time has no value yet
 abbrev pub demanded : Entries → Demands → Entries
-demanded entries demands l k = if demands l k then Some (unwrap_or (entries l k) no_property) else entries l k
+demanded entries demands l k =
+    if demands l k then Some (unwrap_or (entries l k) no_property) else entries l k
 
 abbrev pub with_demands : Table → Context → Demands → Table
-with_demands t x demands = record t { entry = λ y. if same_context x y then demanded (t.entry y) demands else t.entry y }
+with_demands t x demands =
+    record t { entry = λ y. if same_context x y then demanded (t.entry y) demands else t.entry y }
 
 -- a state joined in at a node
 abbrev pub joined_state : Option AbstractState → AbstractState → AbstractState
@@ -56,7 +63,9 @@ joined_state (Some b) a = join_states b a
 
 abbrev pub with_state : Table → Context → ℕ × AbstractState → Table
 with_state t x given = record t {
-  state = λ y n. if same_context x y && (given.0 == n) then Some (joined_state (t.state y n) given.1) else t.state y n;
+  state =
+      λ y n. if same_context x y && (given.0 == n) then Some (joined_state (t.state y n) given.1)
+      else t.state y n;
 }
 
 abbrev pub with_states : Table → Context → List (ℕ × AbstractState) → Table
@@ -69,7 +78,9 @@ with_out t x out = with_states (with_demands t x out.demands) x out.states
 -- Step joins in what the node gives from its state
 abbrev pub visit_step : Program → Table → Context → NodeId → Table
 visit_step p t x n =
-    option_map_or (λ (info : NodeInfo). option_map_or (λ (a : AbstractState). with_out t x (transfer p (t.entry x) a info)) (t.state x n.0) t) (node_at p x.function n) t
+    option_map_or (λ (info : NodeInfo). option_map_or
+    (λ (a : AbstractState). with_out t x (transfer p (t.entry x) a info)) (t.state x n.0) t)
+    (node_at p x.function n) t
 
 abbrev pub visited : Program → Table → Item → Table
 visited p t Open = visit_open p t
@@ -96,7 +107,8 @@ pub record IsClosed (p : Program) (t : Table) : Type 0 where
 -- each visit is of an item of the table so far, and changes it; the last one leaves this table
 abbrev pub Builds : Program → Table → List Item → Table → Type 0
 Builds p from [] t = from ≡ t
-Builds p from (item ∷ items) t = IsItem p from item × (visited p from item ≢ from) × Builds p (visited p from item) items t
+Builds p from (item ∷ items) t =
+    IsItem p from item × (visited p from item ≢ from) × Builds p (visited p from item) items t
 
 abbrev pub IsBuilt : Program → List Item → Table → Type 0
 IsBuilt p items t = Builds p opening_table items t

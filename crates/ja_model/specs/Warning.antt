@@ -65,7 +65,8 @@ kind_of (node.Stop kind) = None
 
 -- the state allows it to go wrong: the callee has a part that can't be called, the base has null
 abbrev pub allows_fault : Program → AbstractState → Node → Bool
-allows_fault p a (node.Call dst callee receiver args error) = has_part (labels_of p) (uncalled_part p (a.register callee.0))
+allows_fault p a (node.Call dst callee receiver args error) =
+    has_part (labels_of p) (uncalled_part p (a.register callee.0))
 allows_fault p a (node.ReadRef dst base name error) = (a.register base.0).flags.null
 allows_fault p a (node.Const dst prim) = false
 allows_fault p a (node.Move dst src) = false
@@ -102,8 +103,10 @@ allows_fault p a (node.Stop kind) = false
 
 -- the state allows anything else: the callee has a label that can be called, the base has a label
 abbrev pub allows_more : Program → AbstractState → Node → Bool
-allows_more p a (node.Call dst callee receiver args error) = list_any (called_labels p (a.register callee.0)) (labels_of p)
-allows_more p a (node.ReadRef dst base name error) = list_any (a.register base.0).label (labels_of p)
+allows_more p a (node.Call dst callee receiver args error) =
+    list_any (called_labels p (a.register callee.0)) (labels_of p)
+allows_more p a (node.ReadRef dst base name error) =
+    list_any (a.register base.0).label (labels_of p)
 allows_more p a (node.Const dst prim) = false
 allows_more p a (node.Move dst src) = false
 allows_more p a (node.FindName dst name) = false
@@ -138,7 +141,8 @@ allows_more p a (node.Device dst which) = false
 allows_more p a (node.Stop kind) = false
 
 -- the table has a state at a node that is an operation of this kind at this place
-pub record IsReached (p : Program) (t : Table) (kind : WarningKind) (place : Place) (node : Node) (a : AbstractState) : Type 0 where
+pub record IsReached (p : Program) (t : Table) (kind : WarningKind) (place : Place) (node : Node)
+    (a : AbstractState) : Type 0 where
   pub context : Context
   pub number : NodeId
   pub info : NodeInfo
@@ -155,25 +159,31 @@ kind_number UnboundName = 3
 
 abbrev pub IsBefore : Warning → Warning → Type 0
 IsBefore v w =
-    (v.place.line < w.place.line) ⊎ ((v.place.line ≡ w.place.line) × ((v.place.column < w.place.column) ⊎ ((v.place.column ≡ w.place.column) × (kind_number v.kind < kind_number w.kind))))
+    (v.place.line < w.place.line) ⊎ ((v.place.line ≡ w.place.line)
+    × ((v.place.column < w.place.column) ⊎ ((v.place.column ≡ w.place.column)
+    × (kind_number v.kind < kind_number w.kind))))
 
 abbrev pub AreOrdered : List Warning → Type 0
 AreOrdered [] = Unit {0}
 AreOrdered (w ∷ ws) = AllByRecursion (IsBefore w) ws × AreOrdered ws
 
--- some state at the operation allows it to go wrong; the warning is certain where none allows anything else
+-- some state at the operation allows it to go wrong; the warning is certain where none allows
+-- anything else
 pub record IsWarned (p : Program) (t : Table) (w : Warning) : Type 0 where
   pub node : Node
   pub state : AbstractState
   pub reached : IsReached p t w.kind w.place node state
   pub fault : IsTrue (allows_fault p state node)
-  pub certain : IsTrue w.certain ↔ ((m : Node) (b : AbstractState) → IsReached p t w.kind w.place m b → allows_more p b m ≡ false)
+  pub certain : IsTrue w.certain ↔ ((m : Node) (b : AbstractState)
+      → IsReached p t w.kind w.place m b → allows_more p b m ≡ false)
 
 -- the warnings are in order, each operation is warned that may go wrong, and no other
 pub record AreWarnings (p : Program) (t : Table) (ws : List Warning) : Type 0 where
   pub ordered : AreOrdered ws
   pub warned : AllByRecursion (IsWarned p t) ws
-  pub complete : (kind : WarningKind) (place : Place) (node : Node) (a : AbstractState) → IsReached p t kind place node a → IsTrue (allows_fault p a node) → Any (λ (w : Warning). (w.kind ≡ kind) × (w.place ≡ place)) ws
+  pub complete : (kind : WarningKind) (place : Place) (node : Node) (a : AbstractState)
+      → IsReached p t kind place node a → IsTrue (allows_fault p a node)
+      → Any (λ (w : Warning). (w.kind ≡ kind) × (w.place ≡ place)) ws
 
 -- ---- in the machine
 
@@ -188,8 +198,10 @@ call_fault place (Some function) = None
 
 -- what goes wrong at the next step: the callee is no function, the base of a name is null
 abbrev pub fault_at : Program → Frame → NodeInfo → Node → Option (WarningKind × Place)
-fault_at p f info (node.Call dst callee receiver args error) = call_fault info.place (function_called p (register_of f callee))
-fault_at p f info (node.ReadRef dst base name error) = if is_null (register_of f base) then Some (UnboundName, info.place) else None
+fault_at p f info (node.Call dst callee receiver args error) =
+    call_fault info.place (function_called p (register_of f callee))
+fault_at p f info (node.ReadRef dst base name error) =
+    if is_null (register_of f base) then Some (UnboundName, info.place) else None
 fault_at p f info (node.Const dst prim) = None
 fault_at p f info (node.Move dst src) = None
 fault_at p f info (node.FindName dst name) = None
@@ -225,7 +237,8 @@ fault_at p f info (node.Stop kind) = None
 
 abbrev pub fault_of_frames : Program → List Frame → Option (WarningKind × Place)
 fault_of_frames p [] = None
-fault_of_frames p (f ∷ below) = option_and_then (λ (info : NodeInfo). fault_at p f info info.node) (node_at p f.function f.node)
+fault_of_frames p (f ∷ below) =
+    option_and_then (λ (info : NodeInfo). fault_at p f info info.node) (node_at p f.function f.node)
 
 abbrev pub fault_of : Program → Conf → Option (WarningKind × Place)
 fault_of p c = fault_of_frames p c.frames

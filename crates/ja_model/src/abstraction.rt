@@ -1,4 +1,5 @@
-//! The parts of abstract values, properties and objects (Jensen, Møller and Thiemann, SAS 2009 and 2010).
+//! The parts of abstract values, properties and objects (Jensen, Møller and Thiemann, SAS 2009 and
+//! 2010).
 
 use ja_base::NameId;
 use ja_prim::{Int, Text16};

@@ -10,14 +10,17 @@ use Rattle.ja_operations.specs.code.Operators.{number_operation}
 -- one of these operations
 abbrev pub IsOnNumbers : BinaryOp → Type 0
 IsOnNumbers op =
-    (op ≡ Sub) ⊎ ((op ≡ Mul) ⊎ ((op ≡ Div) ⊎ ((op ≡ Rem) ⊎ ((op ≡ Shl) ⊎ ((op ≡ Shr) ⊎ ((op ≡ Ushr) ⊎ ((op ≡ And) ⊎ ((op ≡ Or) ⊎ (op ≡ Xor)))))))))
+    (op ≡ Sub) ⊎ ((op ≡ Mul) ⊎ ((op ≡ Div) ⊎ ((op ≡ Rem)
+    ⊎ ((op ≡ Shl) ⊎ ((op ≡ Shr) ⊎ ((op ≡ Ushr) ⊎ ((op ≡ And) ⊎ ((op ≡ Or) ⊎ (op ≡ Xor)))))))))
 
 module _ (op : BinaryOp) (m n : Primitive) where
   Operated : BinaryOp → Type 0
-  Operated o = binary o (value.Primitive m) (value.Primitive n) ≡ Some (of_numbers (number_operation o) m n)
+  Operated o =
+      binary o (value.Primitive m) (value.Primitive n) ≡ Some (of_numbers (number_operation o) m n)
 
   -- it gives what the operation on two numbers gives
-  pub numbers_operated : IsOnNumbers op → binary op (value.Primitive m) (value.Primitive n) ≡ Some (of_numbers (number_operation op) m n)
+  pub numbers_operated : IsOnNumbers op → binary op (value.Primitive m) (value.Primitive n)
+      ≡ Some (of_numbers (number_operation op) m n)
   unfolding Operated
   numbers_operated (inl e) = subst Operated (sym e) refl
   numbers_operated (inr (inl e)) = subst Operated (sym e) refl
@@ -27,5 +30,7 @@ module _ (op : BinaryOp) (m n : Primitive) where
   numbers_operated (inr (inr (inr (inr (inr (inl e)))))) = subst Operated (sym e) refl
   numbers_operated (inr (inr (inr (inr (inr (inr (inl e))))))) = subst Operated (sym e) refl
   numbers_operated (inr (inr (inr (inr (inr (inr (inr (inl e)))))))) = subst Operated (sym e) refl
-  numbers_operated (inr (inr (inr (inr (inr (inr (inr (inr (inl e))))))))) = subst Operated (sym e) refl
-  numbers_operated (inr (inr (inr (inr (inr (inr (inr (inr (inr e))))))))) = subst Operated (sym e) refl
+  numbers_operated (inr (inr (inr (inr (inr (inr (inr (inr (inl e))))))))) =
+      subst Operated (sym e) refl
+  numbers_operated (inr (inr (inr (inr (inr (inr (inr (inr (inr e))))))))) =
+      subst Operated (sym e) refl

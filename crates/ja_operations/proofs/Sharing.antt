@@ -25,8 +25,10 @@ first_of_rest zero xs = refl
 first_of_rest (suc i) [] = refl
 first_of_rest (suc i) (x ∷ xs) = first_of_rest i xs
 
-pub argument_there : (arguments : List Value) (i : ℕ) → argument (drop i arguments) 0 ≡ argument arguments i
-argument_there arguments i = ap (λ (o : Option Value). unwrap_or o undefined) (first_of_rest i arguments)
+pub argument_there : (arguments : List Value) (i : ℕ)
+    → argument (drop i arguments) 0 ≡ argument arguments i
+argument_there arguments i =
+    ap (λ (o : Option Value). unwrap_or o undefined) (first_of_rest i arguments)
 
 -- ---- marks
 
@@ -38,40 +40,59 @@ module _ {X : Type 0} (text : X → List ℕ) (names : List X) (arguments : List
   -- the marks so far, before those of the rest, are all
   abbrev pub AreMarks : ℕ → List Bool → Type 0
   AreMarks i flags =
-      flags ++ sharing (map text (drop i names)) (drop i arguments) ≡ sharing (map text names) arguments
+      flags ++ sharing (map text (drop i names)) (drop i arguments)
+      ≡ sharing (map text names) arguments
 
-  pub marked : (i : ℕ) (flags : List Bool) (x : X) → i < length names → i < length arguments → drop i names ≡ x ∷ drop (i + 1) names → AreMarks i flags → AreMarks (i + 1) (flags ++ not (list_any (same_text (text x)) (map text (drop (i + 1) names))) ∷ [])
+  pub marked : (i : ℕ) (flags : List Bool) (x : X) → i < length names → i < length arguments
+      → drop i names ≡ x ∷ drop (i + 1) names → AreMarks i flags
+      → AreMarks (i + 1) (flags ++ not (list_any (same_text (text x))
+      (map text (drop (i + 1) names))) ∷ [])
   marked i flags x low given at marks =
       let mark : Bool = not (list_any (same_text (text x)) (map text (drop (i + 1) names))) in
       let rest : List Bool = sharing (map text (drop (i + 1) names)) (drop (i + 1) arguments) in
-      let step : sharing (map text (drop i names)) (drop i arguments) ≡ mark ∷ rest = rw (at, drop_more arguments i undefined given) refl in
+      let step : sharing (map text (drop i names)) (drop i arguments) ≡ mark
+      ∷ rest = rw (at, drop_more arguments i undefined given) refl in
       append_assoc flags (mark ∷ []) rest ∙ ap (λ (bs : List Bool). flags ++ bs) (sym step) ∙ marks
 
-  none_left : (i : ℕ) → (length names ≤ i) ⊎ (length arguments ≤ i) → sharing (map text (drop i names)) (drop i arguments) ≡ []
+  none_left : (i : ℕ) → (length names ≤ i) ⊎ (length arguments ≤ i)
+      → sharing (map text (drop i names)) (drop i arguments) ≡ []
   none_left i (inl high) = rw (drop_past i names high) refl
-  none_left i (inr high) = rw (drop_past i arguments high) (nothing_shared (map text (drop i names)))
+  none_left i (inr high) =
+      rw (drop_past i arguments high) (nothing_shared (map text (drop i names)))
 
-  past : (i : ℕ) → min (length names) (length arguments) ≤ i → (length names ≤ i) ⊎ (length arguments ≤ i)
+  past : (i : ℕ) → min (length names) (length arguments) ≤ i
+      → (length names ≤ i) ⊎ (length arguments ≤ i)
   past i high = grind (arith, high)
 
-  pub all_marked : (i : ℕ) (flags : List Bool) → min (length names) (length arguments) ≤ i → AreMarks i flags → flags ≡ sharing (map text names) arguments
+  pub all_marked : (i : ℕ) (flags : List Bool) → min (length names) (length arguments) ≤ i
+      → AreMarks i flags → flags ≡ sharing (map text names) arguments
   all_marked i flags high marks =
-      sym (append-nil flags) ∙ ap (λ (bs : List Bool). flags ++ bs) (sym (none_left i (past i high))) ∙ marks
+      sym (append-nil flags) ∙ ap (λ (bs : List Bool). flags ++ bs)
+      (sym (none_left i (past i high))) ∙ marks
 
 -- ---- parameters
 
-module _ {X : Type 0} (text : X → List ℕ) (names : List X) (arguments : List Value) (flags : List Bool) where
+module _ {X : Type 0} (text : X → List ℕ) (names : List X) (arguments : List Value)
+    (flags : List Bool) where
   -- with the rest bound
   abbrev pub all_bound : ℕ → List Property → List Property
   all_bound i qs = with_parameters qs (map text (drop i names)) (drop i arguments) (drop i flags)
 
-  pub bound : (i : ℕ) (qs : List Property) (x : X) → drop i names ≡ x ∷ drop (i + 1) names → all_bound i qs ≡ all_bound (i + 1) (with_property qs (with_flag (property_with (text x) (argument arguments i) dont_delete) (first_flag (drop i flags))))
+  pub bound : (i : ℕ) (qs : List Property) (x : X) → drop i names ≡ x ∷ drop (i + 1) names
+      → all_bound i qs ≡ all_bound (i + 1) (with_property qs
+      (with_flag (property_with (text x) (argument arguments i) dont_delete)
+      (first_flag (drop i flags))))
   bound i qs x at =
-      let put : Value → List Property = λ v. with_property qs (with_flag (property_with (text x) v dont_delete) (first_flag (drop i flags))) in
+      let put : Value → List Property = λ v.
+      with_property qs (with_flag (property_with (text x) v dont_delete)
+      (first_flag (drop i flags))) in
       ap (λ (ns : List X). with_parameters qs (map text ns) (drop i arguments) (drop i flags)) at
-      ∙ ap (λ (v : Value). with_parameters (put v) (map text (drop (i + 1) names)) (drop 1 (drop i arguments)) (drop 1 (drop i flags))) (argument_there arguments i)
-      ∙ ap (λ (vs : List Value). with_parameters (put (argument arguments i)) (map text (drop (i + 1) names)) vs (drop 1 (drop i flags))) (drop-drop 1 i arguments)
-      ∙ ap (λ (bs : List Bool). with_parameters (put (argument arguments i)) (map text (drop (i + 1) names)) (drop (i + 1) arguments) bs) (drop-drop 1 i flags)
+      ∙ ap (λ (v : Value). with_parameters (put v) (map text (drop (i + 1) names))
+      (drop 1 (drop i arguments)) (drop 1 (drop i flags))) (argument_there arguments i)
+      ∙ ap (λ (vs : List Value). with_parameters (put (argument arguments i))
+      (map text (drop (i + 1) names)) vs (drop 1 (drop i flags))) (drop-drop 1 i arguments)
+      ∙ ap (λ (bs : List Bool). with_parameters (put (argument arguments i))
+      (map text (drop (i + 1) names)) (drop (i + 1) arguments) bs) (drop-drop 1 i flags)
 
 -- ---- the elements of `arguments`
 

@@ -43,8 +43,8 @@ fn is_among(program: &Program, name: &Text16, parameters: &[NameId]) -> bool
     false
 }
 
-/// Whether each parameter and the element of `arguments` at its place have one value: there is such an argument, and
-/// no later parameter has the name.
+/// Whether each parameter and the element of `arguments` at its place have one value: there is such
+/// an argument, and no later parameter has the name.
 pub fn sharing(
     alloc: Global,
     program: &Program,
@@ -52,7 +52,8 @@ pub fn sharing(
     arguments: &[Value],
 ) -> Result<Vec<bool>, Memory>
     requires { All (IsName program.now) parameters.now }
-    ensures { IfOk result (λ flags. flags.items ≡ objects.sharing (map (name_text program.now) parameters.now) arguments.now) }
+    ensures { IfOk result (λ flags. flags.items
+        ≡ objects.sharing (map (name_text program.now) parameters.now) arguments.now) }
 {
     let mut flags = Vec::new(alloc);
     for index in 0..parameters.len().min(arguments.len()) {
@@ -72,7 +73,8 @@ fn flag(flags: &[bool], index: usize) -> bool
     }
 }
 
-/// An object with parameters bound, the last of equal names winning; a missing argument is undefined.
+/// An object with parameters bound, the last of equal names winning; a missing argument is
+/// undefined.
 pub fn with_parameters(
     alloc: Global,
     program: &Program,
@@ -82,7 +84,10 @@ pub fn with_parameters(
     flags: &[bool],
 ) -> Result<Object, Memory>
     requires { All (IsName program.now) parameters.now }
-    ensures { IfOk result (λ o. o ≡ record object { properties = objects.with_parameters object.properties (map (name_text program.now) parameters.now) arguments.now flags.now }) }
+    ensures { IfOk result (λ o. o ≡ record object {
+      properties = objects.with_parameters object.properties
+          (map (name_text program.now) parameters.now) arguments.now flags.now;
+    }) }
 {
     for index in 0..parameters.len() {
         let name = name_text(program, parameters[index]);
@@ -139,7 +144,8 @@ pub fn arguments_object(
     arguments: &[Value],
     flags: &[bool],
 ) -> Result<Object, Memory>
-    ensures { IfOk result (λ o. o ≡ objects.arguments_object (frames.object_or_undefined callee) arguments.now flags.now) }
+    ensures { IfOk result (λ o. o ≡ objects.arguments_object (frames.object_or_undefined callee)
+        arguments.now flags.now) }
 {
     let mut object = empty_arguments(alloc, callee, arguments)?;
     for index in 0..arguments.len() {

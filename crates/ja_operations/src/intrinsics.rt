@@ -158,10 +158,13 @@ fn digits_of(alloc: Global, heap: &Heap, value: &Value, radix: &Value) -> Result
     }
 }
 
-/// What an operation gives of the one value that it takes, by its number (its place in `INTRINSICS`).
+/// What an operation gives of the one value that it takes, by its number (its place in
+/// `INTRINSICS`).
 pub fn of_one(alloc: Global, heap: &Heap, which: u32, value: &Value) -> Result<Outcome, Memory>
     requires { arguments_taken which ≡ Some 1 }
-    ensures { IfOk result (λ outcome. Some outcome ≡ option_map (λ (row : spec.Computation). row (value.now ∷ []) heap.now) (slice_get spec.rows which)) }
+    ensures { IfOk result (λ outcome. Some outcome
+        ≡ option_map (λ (row : spec.Computation). row (value.now ∷ []) heap.now)
+        (slice_get spec.rows which)) }
 {
     match which {
         0 => Ok(tells(is_object(value))),
@@ -181,7 +184,9 @@ pub fn of_two(
     second: &Value,
 ) -> Result<Outcome, Memory>
     requires { arguments_taken which ≡ Some 2 }
-    ensures { IfOk result (λ outcome. Some outcome ≡ option_map (λ (row : spec.Computation). row (first.now ∷ second.now ∷ []) heap.now) (slice_get spec.rows which)) }
+    ensures { IfOk result (λ outcome. Some outcome
+        ≡ option_map (λ (row : spec.Computation). row (first.now ∷ second.now ∷ []) heap.now)
+        (slice_get spec.rows which)) }
 {
     match which {
         3 => Ok(has_own(heap, first, second)),

@@ -146,7 +146,8 @@ fn wrapper(alloc: Global, class: Class, prototype: Site, value: Primitive) -> Ob
 
 /// The object of a truth value (9.9).
 pub fn boolean_object(alloc: Global, value: bool) -> Object
-    ensures { result ≡ objects.wrapper Class.Boolean builtins.BOOLEAN_PROTOTYPE (primitive.Bool value) [] }
+    ensures { result ≡ objects.wrapper Class.Boolean builtins.BOOLEAN_PROTOTYPE
+        (primitive.Bool value) [] }
 {
     wrapper(
         alloc,
@@ -158,7 +159,8 @@ pub fn boolean_object(alloc: Global, value: bool) -> Object
 
 /// The object of a number (9.9).
 pub fn number_object(alloc: Global, value: Num) -> Object
-    ensures { result ≡ objects.wrapper Class.Number builtins.NUMBER_PROTOTYPE (primitive.Number value) [] }
+    ensures { result ≡ objects.wrapper Class.Number builtins.NUMBER_PROTOTYPE
+        (primitive.Number value) [] }
 {
     wrapper(
         alloc,
@@ -170,7 +172,8 @@ pub fn number_object(alloc: Global, value: Num) -> Object
 
 /// The object of a text, which has its length (9.9, 15.5.5.1).
 pub fn text_object(alloc: Global, text: &Text16) -> Result<Object, Memory>
-    ensures { IfOk result (λ o. o ≡ objects.wrapper Class.String builtins.STRING_PROTOTYPE (primitive.Text text.now) (objects.text_length text.now)) }
+    ensures { IfOk result (λ o. o ≡ objects.wrapper Class.String builtins.STRING_PROTOTYPE
+        (primitive.Text text.now) (objects.text_length text.now)) }
 {
     let name = Text16::from_ascii(alloc, b"length")?;
     let length = whole_number(text.units().len() as u64);
@@ -193,8 +196,8 @@ pub fn scope_object(alloc: Global, outer: Addr) -> Object
     Object::new(alloc, Class::Object, slots)
 }
 
-/// A function object with so many parameters, at most 9,007,199,254,740,991, a scope chain, and the object that its
-/// constructions inherit from (13.2).
+/// A function object with so many parameters, at most 9,007,199,254,740,991, a scope chain, and the
+/// object that its constructions inherit from (13.2).
 pub fn function_object(
     alloc: Global,
     parameters: u64,

@@ -21,8 +21,8 @@ use ja_prim::{
 };
 use std::alloc::Global;
 
-/// What an operation gives: nothing, where it doesn't take its operands; else a value, or why the run
-/// leaves the profile.
+/// What an operation gives: nothing, where it doesn't take its operands; else a value, or why the
+/// run leaves the profile.
 pub type Outcome = Option<Result<Primitive, Stop>>;
 
 /// ToBoolean (9.2): an object is true.
@@ -94,7 +94,8 @@ fn complement(value: &Value) -> Outcome
 
 /// The text of a primitive value (9.8).
 fn text(alloc: Global, value: &Value) -> Result<Outcome, Memory>
-    ensures { IfOk result (λ outcome. outcome ≡ on_primitive (λ q. Ok (primitive.Text (to_text q))) value.now) }
+    ensures { IfOk result (λ outcome. outcome
+        ≡ on_primitive (λ q. Ok (primitive.Text (to_text q))) value.now) }
 {
     match value {
         Value::Primitive(primitive) => match to_text(alloc, primitive) {
@@ -225,7 +226,8 @@ fn of_primitives(
     n: &Primitive,
 ) -> Result<Result<Primitive, Stop>, Memory>
     requires { is_equality op ≡ false }
-    ensures { IfOk result (λ given. binary op (value.Primitive m.now) (value.Primitive n.now) ≡ Some given) }
+    ensures { IfOk result (λ given. binary op (value.Primitive m.now) (value.Primitive n.now)
+        ≡ Some given) }
 {
     match op {
         BinaryOp::Add => sum(alloc, m, n),

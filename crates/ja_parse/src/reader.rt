@@ -30,9 +30,9 @@ fn token_fault(place: Place, scope: Option<ScopeKind>) -> ParseFault
     }
 }
 
-/// What is answered to a refusal at the next token. `Broken`, `Operand` and `Alone` are answered at an
-/// earlier word: the one whose rule the next token breaks, the `++` or `--` whose operand is complete and
-/// no reference, and the `break` that has no label and nothing to leave.
+/// What is answered to a refusal at the next token. `Broken`, `Operand` and `Alone` are answered at
+/// an earlier word: the one whose rule the next token breaks, the `++` or `--` whose operand is
+/// complete and no reference, and the `break` that has no label and nothing to leave.
 fn fault_at(why: Refusal, cursor: &Cursor<'_>) -> ParseFault
     ensures { result ≡ spec.fault_at why (head cursor.now) }
 {
@@ -72,25 +72,28 @@ pub fn read(alloc: Global, tokens: &[Token]) -> Result<Items<Statement>, ParseFa
     }
 }
 
-/// The tree of a text of at most 16,777,216 bytes (ES3 sections 7 and 11 to 14): the one that the grammar
-/// relates to its tokens, which keeps the rules on trees.
+/// The tree of a text of at most 16,777,216 bytes (ES3 sections 7 and 11 to 14): the one that the
+/// grammar relates to its tokens, which keeps the rules on trees.
 ///
 /// # Errors
 ///
-/// `Syntax`, `Scope` or `Depth` exactly where the text has no tree with at most 200 levels. The text is
-/// refused at the first token with which none goes on, or at its end, and by the rule that stands in the
-/// way, so by one kind and one place. `Syntax` where a rule of an earlier word is broken, at that word; else
-/// `Scope` where the token leaves the profile, at its place; `Depth` where more levels alone would do, at the
-/// place of the token that counts one too many; else `Syntax`, at the token's place or, where that is a jump
-/// with nothing to leave and an unknown label behind it, at that label. `Memory` where memory was refused.
-#[tactic(auto, using(ja_grammar::proofs::Theorem::answered_tree, ja_grammar::proofs::Theorem::answered_only, ja_grammar::proofs::Theorem::answered_fault, ja_grammar::proofs::Theorem::answered_none, ja_grammar::proofs::KeepsPrograms::spelled_keeps))]
+/// `Syntax`, `Scope` or `Depth` exactly where the text has no tree with at most 200 levels. The
+/// text is refused at the first token with which none goes on, or at its end, and by the rule that
+/// stands in the way, so by one kind and one place. `Syntax` where a rule of an earlier word is
+/// broken, at that word; else `Scope` where the token leaves the profile, at its place; `Depth`
+/// where more levels alone would do, at the place of the token that counts one too many; else
+/// `Syntax`, at the token's place or, where that is a jump with nothing to leave and an unknown
+/// label behind it, at that label. `Memory` where memory was refused.
+#[tactic(auto, using(crate::proofs::Rulesets::for_parse))]
 pub fn parse(alloc: Global, text: &str) -> Result<Tree, ParseFault>
     requires { length text.now ≤ 16777216 }
     ensures tree { IfOk result (λ tree. Spells max_levels (tokens text.now) tree.statements) }
-    ensures only { IfOk result (λ tree. (levels : ℕ) (others : List StatementOf) → Spells levels (tokens text.now) others → others ≡ tree.statements) }
+    ensures only { IfOk result (λ tree. (levels : ℕ) (others : List StatementOf)
+        → Spells levels (tokens text.now) others → others ≡ tree.statements) }
     ensures rules { IfOk result (λ tree. KeepsRules tree.statements) }
     ensures fault { IfErr result (Explains (tokens text.now)) }
-    ensures none { IfErr result (λ why. why ≢ fault.Memory → (others : List StatementOf) → Spells max_levels (tokens text.now) others → ⊥) }
+    ensures none { IfErr result (λ why. why ≢ fault.Memory → (others : List StatementOf)
+        → Spells max_levels (tokens text.now) others → ⊥) }
 {
     let Ok(tokens) = tokens(alloc, text) else {
         return Err(ParseFault::Memory);

@@ -51,7 +51,8 @@ fn marked<'a>(
     labels: &[Label<'a>],
     count: usize,
 ) -> Result<Vec<Label<'a>>, AllocError>
-    ensures { IfOk result (λ copy. map label_of copy.items ≡ spec.marked count (map label_of labels.now)) }
+    ensures { IfOk result (λ copy. map label_of copy.items
+        ≡ spec.marked count (map label_of labels.now)) }
 {
     let mut copy = Vec::new(alloc);
     let mut left = count;
@@ -96,7 +97,8 @@ fn labels_behind<'a>(
     labels: &[Label<'a>],
     name: &'a [u16],
 ) -> Result<Vec<Label<'a>>, AllocError>
-    ensures { IfOk result (λ copy. map label_of copy.items ≡ (record { name = name.now; is_loop = false }) ∷ map label_of labels.now) }
+    ensures { IfOk result (λ copy. map label_of copy.items
+        ≡ (record { name = name.now; is_loop = false }) ∷ map label_of labels.now) }
 {
     let mut copy = Vec::new(alloc);
     copy.push(Label {
@@ -113,7 +115,8 @@ pub fn labelled_context<'a>(
     context: &Context<'a>,
     name: &'a [u16],
 ) -> Result<Context<'a>, AllocError>
-    ensures { IfOk result (λ c. context_of c ≡ spec.labelled_context (context_of context.now) name.now) }
+    ensures { IfOk result (λ c. context_of c
+        ≡ spec.labelled_context (context_of context.now) name.now) }
 {
     Ok(Context {
         in_function: context.in_function,
@@ -135,7 +138,8 @@ fn names_label(labels: &[Label<'_>], name: &[u16]) -> bool
 }
 
 fn names_loop(labels: &[Label<'_>], name: &[u16]) -> bool
-    ensures { result ≡ list_any (λ l. l.is_loop && bytes_eq l.name name.now) (map label_of labels.now) }
+    ensures { result ≡ list_any (λ l. l.is_loop && bytes_eq l.name name.now)
+        (map label_of labels.now) }
 {
     for label in labels {
         if label.is_loop && label.name == name {

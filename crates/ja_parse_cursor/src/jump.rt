@@ -1,5 +1,5 @@
-//! Statements within which nothing stands one level below: the empty one, and jumps to a label (ES3 12.3, 12.7,
-//! 12.8).
+//! Statements within which nothing stands one level below: the empty one, and jumps to a label (ES3
+//! 12.3, 12.7, 12.8).
 
 ghost use Rattle.std.specs.Prelude.{ℕ};
 ghost use Rattle.ja_syntax.specs.declared.tree.Statement.TheVariants as s;
@@ -28,14 +28,16 @@ pub fn empty_statement(alloc: Global, cursor: &mut Cursor<'_>) -> Result<Held<St
     Ok(Held::new(alloc, Statement::Empty { place })?)
 }
 
-/// Reads a `continue` statement (12.7). Where no loop is around, it is refused as `without_target` says; a
-/// label behind it as `continue_target` does, and what stands behind as `ended` does.
+/// Reads a `continue` statement (12.7). Where no loop is around, it is refused as `without_target`
+/// says; a label behind it as `continue_target` does, and what stands behind as `ended` does.
 pub fn continue_statement(
     alloc: Global,
     cursor: &mut Cursor<'_>,
     context: &Context<'_>,
 ) -> Result<Held<Statement>, Stop>
-    ensures { (depth : ℕ) (below : Below) → Follows (spec.continue_by (strict depth) below (context_of context.now) context.now.in_loop cursor.old) result cursor.new }
+    ensures { (depth : ℕ) (below : Below) → Follows
+        (spec.continue_by (strict depth) below (context_of context.now) context.now.in_loop
+        cursor.old) result cursor.new }
 {
     if !context.in_loop {
         return Err(Stop::Refused(without_target(cursor, context)));
@@ -47,14 +49,17 @@ pub fn continue_statement(
     Ok(Held::new(alloc, Statement::Continue { label, place })?)
 }
 
-/// Reads a `break` statement (12.8). Where there is nothing to break, it is refused as `without_target`
-/// says; a label behind it as `break_target` does, and what stands behind as `ended` does.
+/// Reads a `break` statement (12.8). Where there is nothing to break, it is refused as
+/// `without_target` says; a label behind it as `break_target` does, and what stands behind as
+/// `ended` does.
 pub fn break_statement(
     alloc: Global,
     cursor: &mut Cursor<'_>,
     context: &Context<'_>,
 ) -> Result<Held<Statement>, Stop>
-    ensures { (depth : ℕ) (below : Below) → Follows (spec.break_by (strict depth) below (context_of context.now) (may_break (context_of context.now)) cursor.old) result cursor.new }
+    ensures { (depth : ℕ) (below : Below) → Follows
+        (spec.break_by (strict depth) below (context_of context.now)
+        (may_break (context_of context.now)) cursor.old) result cursor.new }
 {
     if !may_break(context) {
         return Err(Stop::Refused(without_target(cursor, context)));

@@ -13,8 +13,8 @@ use ja_syntax::{Name, Symbol};
 use sqlite_items::Items;
 use std::alloc::Global;
 
-/// Reads a name that is declared (12.2, 13). It is refused as `Arguments` where it is `arguments`, and
-/// as `Unexpected` where the next token is no name.
+/// Reads a name that is declared (12.2, 13). It is refused as `Arguments` where it is `arguments`,
+/// and as `Unexpected` where the next token is no name.
 #[tactic(auto, unfolding(ja_grammar::specs::ReadExpression::declared, ja_grammar::specs::Input::strict))]
 pub fn declared(alloc: Global, cursor: &mut Cursor<'_>) -> Result<Name, Stop>
     ensures { (depth : ℕ) → Follows (spec.declared (strict depth) cursor.old) result cursor.new }
@@ -40,7 +40,8 @@ pub fn function_name(
     cursor: &mut Cursor<'_>,
     required: bool,
 ) -> Result<Option<Name>, Stop>
-    ensures { (depth : ℕ) → Follows (spec.function_name (strict depth) required cursor.old) result cursor.new }
+    ensures { (depth : ℕ) → Follows (spec.function_name (strict depth) required cursor.old) result
+        cursor.new }
 {
     match cursor.symbol() {
         Symbol::Name => Ok(Some(declared(alloc, cursor)?)),
@@ -56,7 +57,8 @@ pub fn function_name(
 
 /// Reads declared names with commas between.
 fn names(alloc: Global, cursor: &mut Cursor<'_>) -> Result<Items<Name>, Stop>
-    ensures { (depth : ℕ) → Follows (separated (spec.declared (strict depth)) cursor.old) result cursor.new }
+    ensures { (depth : ℕ) → Follows (separated (spec.declared (strict depth)) cursor.old) result
+        cursor.new }
 {
     let mut found = Items::new(alloc);
     let first = declared(alloc, cursor)?;
@@ -75,7 +77,8 @@ fn names(alloc: Global, cursor: &mut Cursor<'_>) -> Result<Items<Name>, Stop>
 /// Reads the parameters of a function and their `)`.
 #[tactic(auto, unfolding(ja_grammar::specs::Input::listed))]
 fn parameters_list(alloc: Global, cursor: &mut Cursor<'_>) -> Result<Items<Name>, Stop>
-    ensures { (depth : ℕ) → Follows (listed k.CloseParenthesis (spec.declared (strict depth)) cursor.old) result cursor.new }
+    ensures { (depth : ℕ) → Follows (listed k.CloseParenthesis (spec.declared (strict depth))
+        cursor.old) result cursor.new }
 {
     if cursor.sees(Symbol::CloseParenthesis) {
         cursor.take();
@@ -86,11 +89,12 @@ fn parameters_list(alloc: Global, cursor: &mut Cursor<'_>) -> Result<Items<Name>
     Ok(found)
 }
 
-/// Reads the parameters of a function with their parentheses (13), which count, where `depth` levels are
-/// left.
+/// Reads the parameters of a function with their parentheses (13), which count, where `depth`
+/// levels are left.
 #[tactic(auto, unfolding(ja_grammar::specs::ReadExpression::parameters))]
 pub fn parameters(alloc: Global, cursor: &mut Cursor<'_>, depth: usize) -> Result<Items<Name>, Stop>
-    ensures { Follows (spec.parameters (strict depth) (below strict depth) cursor.old) result cursor.new }
+    ensures { Follows (spec.parameters (strict depth) (below strict depth) cursor.old) result
+        cursor.new }
 {
     cursor.opening(depth, Symbol::OpenParenthesis)?;
     parameters_list(alloc, cursor)

@@ -274,7 +274,8 @@ pub fn ends_clause(symbol: Symbol) -> bool
     }
 }
 
-/// Whether a symbol ends the statements of a block: `}`, or the end of the text, where that is missed.
+/// Whether a symbol ends the statements of a block: `}`, or the end of the text, where that is
+/// missed.
 pub fn is_close_brace(symbol: Symbol) -> bool
     ensures { result ≡ expressions.is_close_brace symbol }
 {
@@ -285,7 +286,8 @@ pub fn is_close_brace(symbol: Symbol) -> bool
     }
 }
 
-/// Whether a symbol ends the elements of an array: `]`, or the end of the text, where that is missed.
+/// Whether a symbol ends the elements of an array: `]`, or the end of the text, where that is
+/// missed.
 pub fn is_close_bracket(symbol: Symbol) -> bool
     ensures { result ≡ expressions.is_close_bracket symbol }
 {

@@ -7,8 +7,8 @@ use crate::cursor::Cursor;
 use ja_grammar::{Refusal, Stop};
 use ja_syntax::Symbol;
 
-/// Ends a statement: takes `;`, or inserts it before `}`, the text's end or a new line (7.9). Any other
-/// token is refused as `Unexpected`.
+/// Ends a statement: takes `;`, or inserts it before `}`, the text's end or a new line (7.9). Any
+/// other token is refused as `Unexpected`.
 #[tactic(auto, unfolding(ja_grammar::specs::ReadStatement::ended))]
 pub fn ended(cursor: &mut Cursor<'_>) -> Result<(), Stop>
     ensures { Follows (spec.ended cursor.old) result cursor.new }

@@ -27,7 +27,8 @@ fn allowed_label(
     known: bool,
     place: Place,
 ) -> Result<Option<Name>, Stop>
-    ensures { (depth : ℕ) → Follows (spec.labelled_by (strict depth) place (head cursor.old) allowed known cursor.old) result cursor.new }
+    ensures { (depth : ℕ) → Follows (spec.labelled_by (strict depth) place (head cursor.old) allowed
+        known cursor.old) result cursor.new }
 {
     if allowed {
         let name = cursor.name(alloc)?;
@@ -41,8 +42,8 @@ fn allowed_label(
     }
 }
 
-/// Reads the label behind the `continue` at `place`, if there is one on its line (12.7). A label of no
-/// loop is refused as `Broken` at `place`, and one that is unknown as `Unexpected`.
+/// Reads the label behind the `continue` at `place`, if there is one on its line (12.7). A label of
+/// no loop is refused as `Broken` at `place`, and one that is unknown as `Unexpected`.
 #[tactic(auto, unfolding(ja_grammar::specs::ReadStatement::jump_target))]
 pub fn continue_target(
     alloc: Global,
@@ -50,7 +51,9 @@ pub fn continue_target(
     context: &Context<'_>,
     place: Place,
 ) -> Result<Option<Name>, Stop>
-    ensures { (depth : ℕ) → Follows (spec.jump_target (strict depth) (contexts.has_loop (context_of context.now)) (contexts.has_label (context_of context.now)) true place cursor.old) result cursor.new }
+    ensures { (depth : ℕ) → Follows (spec.jump_target (strict depth)
+        (contexts.has_loop (context_of context.now)) (contexts.has_label (context_of context.now))
+        true place cursor.old) result cursor.new }
 {
     if !is_label_behind(cursor) {
         return Ok(None);
@@ -61,9 +64,9 @@ pub fn continue_target(
     allowed_label(alloc, cursor, allowed, known, place)
 }
 
-/// Reads the label behind the `break` at `place`, if there is one on its line (12.8). One that is unknown
-/// is refused as `Unexpected`; where there is none, and nothing to leave without one, `Alone` at `place`
-/// is the refusal.
+/// Reads the label behind the `break` at `place`, if there is one on its line (12.8). One that is
+/// unknown is refused as `Unexpected`; where there is none, and nothing to leave without one,
+/// `Alone` at `place` is the refusal.
 #[tactic(auto, unfolding(ja_grammar::specs::ReadStatement::jump_target))]
 pub fn break_target(
     alloc: Global,
@@ -71,7 +74,9 @@ pub fn break_target(
     context: &Context<'_>,
     place: Place,
 ) -> Result<Option<Name>, Stop>
-    ensures { (depth : ℕ) → Follows (spec.jump_target (strict depth) (contexts.has_label (context_of context.now)) (contexts.has_label (context_of context.now)) context.now.in_breakable place cursor.old) result cursor.new }
+    ensures { (depth : ℕ) → Follows (spec.jump_target (strict depth)
+        (contexts.has_label (context_of context.now)) (contexts.has_label (context_of context.now))
+        context.now.in_breakable place cursor.old) result cursor.new }
 {
     if !is_label_behind(cursor) {
         return if context.in_breakable {
@@ -84,8 +89,9 @@ pub fn break_target(
     allowed_label(alloc, cursor, known, known, place)
 }
 
-/// Why the word of a jump is refused where there is nothing to leave (12.7, 12.8): `UnknownLabel` where a
-/// label follows on its line that is none around, at that label's place, and else `Unexpected`.
+/// Why the word of a jump is refused where there is nothing to leave (12.7, 12.8): `UnknownLabel`
+/// where a label follows on its line that is none around, at that label's place, and else
+/// `Unexpected`.
 #[tactic(auto, unfolding(ja_grammar::specs::ReadStatement::without_target))]
 pub fn without_target(cursor: &Cursor<'_>, context: &Context<'_>) -> Refusal
     ensures { result ≡ spec.without_target (context_of context.now) (head (behind cursor.now)) }
@@ -98,8 +104,8 @@ pub fn without_target(cursor: &Cursor<'_>, context: &Context<'_>) -> Refusal
     }
 }
 
-/// Takes the `:` behind the label at `place`, which counts. Where no level is left, that is refused as
-/// `DeepLabel` at `place`.
+/// Takes the `:` behind the label at `place`, which counts. Where no level is left, that is refused
+/// as `DeepLabel` at `place`.
 #[tactic(auto, unfolding(ja_grammar::specs::ReadStatement::enter_label, ja_grammar::specs::Input::strict))]
 fn enter_label(cursor: &mut Cursor<'_>, depth: usize, place: Place) -> Result<(), Stop>
     ensures { Takes (spec.enter_label (strict depth) place cursor.old) cursor.old result cursor.new }
@@ -111,11 +117,13 @@ fn enter_label(cursor: &mut Cursor<'_>, depth: usize, place: Place) -> Result<()
     Ok(())
 }
 
-/// Takes a label and its `:` (12.12), which counts, where `depth` levels are left. A label that is around
-/// already is refused as `Broken` at its place; where no level is left, it is `DeepLabel` there.
+/// Takes a label and its `:` (12.12), which counts, where `depth` levels are left. A label that is
+/// around already is refused as `Broken` at its place; where no level is left, it is `DeepLabel`
+/// there.
 #[tactic(auto, unfolding(ja_grammar::specs::ReadStatement::label))]
 pub fn label(cursor: &mut Cursor<'_>, depth: usize, context: &Context<'_>) -> Result<(), Stop>
-    ensures { Takes (spec.label (strict depth) (below strict depth) (context_of context.now) cursor.old) cursor.old result cursor.new }
+    ensures { Takes (spec.label (strict depth) (below strict depth) (context_of context.now)
+        cursor.old) cursor.old result cursor.new }
 {
     let place = cursor.place();
     let word = cursor.word();

@@ -58,8 +58,8 @@ pub fn operated(
     )
 }
 
-/// Expressions between commas (11.14), the first of them at this place; one stands for itself, and for
-/// none, which no text has, `this`.
+/// Expressions between commas (11.14), the first of them at this place; one stands for itself, and
+/// for none, which no text has, `this`.
 pub fn sequence(
     alloc: Global,
     place: Place,
@@ -142,7 +142,8 @@ pub fn update(
     )
 }
 
-/// A condition with the value of each of its cases (11.12), at the place where the condition begins.
+/// A condition with the value of each of its cases (11.12), at the place where the condition
+/// begins.
 pub fn conditional(
     alloc: Global,
     condition: Held<Expression>,

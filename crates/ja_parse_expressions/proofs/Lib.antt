@@ -1,3 +1,4 @@
 pub mod Levels
 pub mod Operators
 pub mod Refusals
+pub mod Rulesets

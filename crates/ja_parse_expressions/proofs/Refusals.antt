@@ -18,6 +18,7 @@ module _ (d : ℕ) (b : Below) (i : Tokens) where
   at_divide_assign h = rw h refl
 
   -- a prefix operator behind the `++` or `--` at a place
-  pub at_prefix : (place : Place) → is_prefix (next i) ≡ true → updated (strict d) b place i ≡ Refused (Broken place) i
+  pub at_prefix : (place : Place) → is_prefix (next i) ≡ true
+      → updated (strict d) b place i ≡ Refused (Broken place) i
   unfolding updated strict
   at_prefix place h = rw h refl

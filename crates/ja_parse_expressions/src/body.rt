@@ -37,9 +37,9 @@ fn is_end(end: ListEnd, symbol: Symbol) -> bool
     }
 }
 
-/// Reads a part of a statement one level below `depth` levels, by the function that is given. It is refused
-/// as `Deep` where no level is left.
-#[tactic(auto, using(crate::proofs::Levels::statement_below, crate::proofs::Levels::no_statement_below))]
+/// Reads a part of a statement one level below `depth` levels, by the function that is given. It is
+/// refused as `Deep` where no level is left.
+#[tactic(auto, using(crate::proofs::Rulesets::for_statement_below))]
 pub fn statement_below<
     G: Fn(
         Global,
@@ -57,7 +57,8 @@ pub fn statement_below<
     part: StatementPart,
 ) -> Result<Held<Statement>, Stop>
     requires { Nests depth (G.pre statement.now) (G.post statement.now) }
-    ensures { Follows ((below strict depth).statement (context_of context.now) part cursor.old) result cursor.new }
+    ensures { Follows ((below strict depth).statement (context_of context.now) part cursor.old)
+        result cursor.new }
 {
     if depth == 0 {
         return Err(Stop::Refused(Refusal::Deep));
@@ -85,7 +86,8 @@ pub fn statements_below<
     outermost: bool,
 ) -> Result<Items<Statement>, Stop>
     requires { Nests depth (G.pre statement.now) (G.post statement.now) }
-    ensures { Follows (until (ends end) ((below strict depth).statement (context_of context.now) (of_statement.Whole 0 outermost)) cursor.old) result cursor.new }
+    ensures { Follows (until (ends end) ((below strict depth).statement (context_of context.now)
+        (of_statement.Whole 0 outermost)) cursor.old) result cursor.new }
 {
     let mut found = Items::new(alloc);
     for _turn in 0..cursor.left() {
@@ -119,7 +121,8 @@ fn function_body<
     statement: &G,
 ) -> Result<Items<Statement>, Stop>
     requires { Nests depth (G.pre statement.now) (G.post statement.now) }
-    ensures { Follows (spec.function_body (strict depth) (below strict depth) cursor.old) result cursor.new }
+    ensures { Follows (spec.function_body (strict depth) (below strict depth) cursor.old) result
+        cursor.new }
 {
     cursor.opening(depth, Symbol::OpenBrace)?;
     let context = function_context(alloc);
@@ -136,9 +139,9 @@ fn function_body<
     Ok(body)
 }
 
-/// Reads a function (13), where `depth` levels are left, with the function that reads the statements of its
-/// body; `required`: it must have a name. What is refused, `spec.function` says. `Memory` comes only where
-/// memory was refused.
+/// Reads a function (13), where `depth` levels are left, with the function that reads the
+/// statements of its body; `required`: it must have a name. What is refused, `spec.function` says.
+/// `Memory` comes only where memory was refused.
 #[tactic(auto, unfolding(ja_grammar::specs::ReadExpression::function))]
 pub fn function<
     G: Fn(
@@ -156,7 +159,8 @@ pub fn function<
     required: bool,
 ) -> Result<FunctionTree, Stop>
     requires { Nests depth (G.pre statement.now) (G.post statement.now) }
-    ensures { Follows (spec.function (strict depth) (below strict depth) required cursor.old) result cursor.new }
+    ensures { Follows (spec.function (strict depth) (below strict depth) required cursor.old) result
+        cursor.new }
 {
     let place = cursor.place();
     cursor.expect(Symbol::Function)?;

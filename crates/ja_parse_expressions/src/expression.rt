@@ -34,8 +34,10 @@ impl<F: Fn(Global, &mut Cursor<'_>, usize, Piece, &G) -> Result<Held<Expression>
     /// Reads a primary expression, or `new` and what stands behind it (11.2).
     #[tactic(auto, unfolding(ja_grammar::specs::ReadExpression::chain_head))]
     fn chain_head(&self, cursor: &mut Cursor<'_>) -> Result<Held<Expression>, Stop>
-        requires { Reads self.now.depth self.now.statement (F.pre self.now.read) (F.post self.now.read) }
-        ensures { Follows (spec.chain_head (strict self.now.depth) (below strict self.now.depth) cursor.old) result cursor.new }
+        requires { Reads self.now.depth self.now.statement (F.pre self.now.read)
+            (F.post self.now.read) }
+        ensures { Follows (spec.chain_head (strict self.now.depth) (below strict self.now.depth)
+            cursor.old) result cursor.new }
     {
         match cursor.symbol() {
             Symbol::New => {
@@ -50,8 +52,10 @@ impl<F: Fn(Global, &mut Cursor<'_>, usize, Piece, &G) -> Result<Held<Expression>
     /// Reads `[KEY]` (11.2.1).
     #[tactic(auto, unfolding(ja_grammar::specs::ReadExpression::indexed))]
     fn indexed(&self, cursor: &mut Cursor<'_>) -> Result<Suffix<Expression>, Stop>
-        requires { Reads self.now.depth self.now.statement (F.pre self.now.read) (F.post self.now.read) }
-        ensures { Follows (spec.indexed (strict self.now.depth) (below strict self.now.depth) cursor.old) result cursor.new }
+        requires { Reads self.now.depth self.now.statement (F.pre self.now.read)
+            (F.post self.now.read) }
+        ensures { Follows (spec.indexed (strict self.now.depth) (below strict self.now.depth)
+            cursor.old) result cursor.new }
     {
         let place = cursor.place();
         cursor.enter(self.depth)?;
@@ -66,8 +70,10 @@ impl<F: Fn(Global, &mut Cursor<'_>, usize, Piece, &G) -> Result<Held<Expression>
     /// Reads a suffix of a member.
     #[tactic(auto, unfolding(ja_grammar::specs::ReadExpression::property_suffix))]
     fn property_suffix(&self, cursor: &mut Cursor<'_>) -> Result<Suffix<Expression>, Stop>
-        requires { Reads self.now.depth self.now.statement (F.pre self.now.read) (F.post self.now.read) }
-        ensures { Follows (spec.property_suffix (strict self.now.depth) (below strict self.now.depth) cursor.old) result cursor.new }
+        requires { Reads self.now.depth self.now.statement (F.pre self.now.read)
+            (F.post self.now.read) }
+        ensures { Follows (spec.property_suffix (strict self.now.depth)
+            (below strict self.now.depth) cursor.old) result cursor.new }
     {
         match cursor.symbol() {
             Symbol::Dot => dotted(self.alloc, cursor),
@@ -79,8 +85,10 @@ impl<F: Fn(Global, &mut Cursor<'_>, usize, Piece, &G) -> Result<Held<Expression>
     /// Reads the arguments of a call with their parentheses (11.2.4).
     #[tactic(auto, unfolding(ja_grammar::specs::ReadExpression::arguments))]
     fn arguments(&self, cursor: &mut Cursor<'_>) -> Result<Items<Expression>, Stop>
-        requires { Reads self.now.depth self.now.statement (F.pre self.now.read) (F.post self.now.read) }
-        ensures { Follows (spec.arguments (strict self.now.depth) (below strict self.now.depth) cursor.old) result cursor.new }
+        requires { Reads self.now.depth self.now.statement (F.pre self.now.read)
+            (F.post self.now.read) }
+        ensures { Follows (spec.arguments (strict self.now.depth) (below strict self.now.depth)
+            cursor.old) result cursor.new }
     {
         cursor.enter(self.depth)?;
         self.arguments_list(cursor)
@@ -89,8 +97,10 @@ impl<F: Fn(Global, &mut Cursor<'_>, usize, Piece, &G) -> Result<Held<Expression>
     /// Reads a suffix of a member or call.
     #[tactic(auto, unfolding(ja_grammar::specs::ReadExpression::any_suffix))]
     fn any_suffix(&self, cursor: &mut Cursor<'_>) -> Result<Suffix<Expression>, Stop>
-        requires { Reads self.now.depth self.now.statement (F.pre self.now.read) (F.post self.now.read) }
-        ensures { Follows (spec.any_suffix (strict self.now.depth) (below strict self.now.depth) cursor.old) result cursor.new }
+        requires { Reads self.now.depth self.now.statement (F.pre self.now.read)
+            (F.post self.now.read) }
+        ensures { Follows (spec.any_suffix (strict self.now.depth) (below strict self.now.depth)
+            cursor.old) result cursor.new }
     {
         match cursor.symbol() {
             Symbol::OpenParenthesis => {
@@ -104,8 +114,11 @@ impl<F: Fn(Global, &mut Cursor<'_>, usize, Piece, &G) -> Result<Held<Expression>
 
     /// Reads the suffixes of a member.
     fn property_suffixes(&self, cursor: &mut Cursor<'_>) -> Result<Items<Suffix<Expression>>, Stop>
-        requires { Reads self.now.depth self.now.statement (F.pre self.now.read) (F.post self.now.read) }
-        ensures { Follows (until (λ found. not (forms.begins_property found)) (spec.property_suffix (strict self.now.depth) (below strict self.now.depth)) cursor.old) result cursor.new }
+        requires { Reads self.now.depth self.now.statement (F.pre self.now.read)
+            (F.post self.now.read) }
+        ensures { Follows (until (λ found. not (forms.begins_property found))
+            (spec.property_suffix (strict self.now.depth) (below strict self.now.depth)) cursor.old)
+            result cursor.new }
     {
         let mut found = Items::new(self.alloc);
         for _turn in 0..cursor.left() {
@@ -120,8 +133,11 @@ impl<F: Fn(Global, &mut Cursor<'_>, usize, Piece, &G) -> Result<Held<Expression>
 
     /// Reads the suffixes of a member or call.
     fn suffixes(&self, cursor: &mut Cursor<'_>) -> Result<Items<Suffix<Expression>>, Stop>
-        requires { Reads self.now.depth self.now.statement (F.pre self.now.read) (F.post self.now.read) }
-        ensures { Follows (until (λ found. not (forms.begins_suffix found)) (spec.any_suffix (strict self.now.depth) (below strict self.now.depth)) cursor.old) result cursor.new }
+        requires { Reads self.now.depth self.now.statement (F.pre self.now.read)
+            (F.post self.now.read) }
+        ensures { Follows (until (λ found. not (forms.begins_suffix found))
+            (spec.any_suffix (strict self.now.depth) (below strict self.now.depth)) cursor.old)
+            result cursor.new }
     {
         let mut found = Items::new(self.alloc);
         for _turn in 0..cursor.left() {
@@ -137,8 +153,10 @@ impl<F: Fn(Global, &mut Cursor<'_>, usize, Piece, &G) -> Result<Held<Expression>
     /// Reads a member expression (11.2).
     #[tactic(auto, unfolding(ja_grammar::specs::ReadExpression::member))]
     fn member(&self, cursor: &mut Cursor<'_>) -> Result<Held<Expression>, Stop>
-        requires { Reads self.now.depth self.now.statement (F.pre self.now.read) (F.post self.now.read) }
-        ensures { Follows (spec.member (strict self.now.depth) (below strict self.now.depth) cursor.old) result cursor.new }
+        requires { Reads self.now.depth self.now.statement (F.pre self.now.read)
+            (F.post self.now.read) }
+        ensures { Follows (spec.member (strict self.now.depth) (below strict self.now.depth)
+            cursor.old) result cursor.new }
     {
         let head = self.chain_head(cursor)?;
         let suffixes = self.property_suffixes(cursor)?;
@@ -148,8 +166,10 @@ impl<F: Fn(Global, &mut Cursor<'_>, usize, Piece, &G) -> Result<Held<Expression>
     /// Reads what stands behind the `new` at `place` (11.2.2).
     #[tactic(auto, unfolding(ja_grammar::specs::ReadExpression::created))]
     fn created(&self, cursor: &mut Cursor<'_>, place: Place) -> Result<Held<Expression>, Stop>
-        requires { Reads self.now.depth self.now.statement (F.pre self.now.read) (F.post self.now.read) }
-        ensures { Follows (spec.created (strict self.now.depth) (below strict self.now.depth) place cursor.old) result cursor.new }
+        requires { Reads self.now.depth self.now.statement (F.pre self.now.read)
+            (F.post self.now.read) }
+        ensures { Follows (spec.created (strict self.now.depth) (below strict self.now.depth) place
+            cursor.old) result cursor.new }
     {
         let callee = self.member(cursor)?;
         match cursor.symbol() {
@@ -164,8 +184,10 @@ impl<F: Fn(Global, &mut Cursor<'_>, usize, Piece, &G) -> Result<Held<Expression>
     /// Reads a member or call expression (11.2).
     #[tactic(auto, unfolding(ja_grammar::specs::ReadExpression::left_hand))]
     fn left_hand(&self, cursor: &mut Cursor<'_>) -> Result<Held<Expression>, Stop>
-        requires { Reads self.now.depth self.now.statement (F.pre self.now.read) (F.post self.now.read) }
-        ensures { Follows (spec.left_hand (strict self.now.depth) (below strict self.now.depth) cursor.old) result cursor.new }
+        requires { Reads self.now.depth self.now.statement (F.pre self.now.read)
+            (F.post self.now.read) }
+        ensures { Follows (spec.left_hand (strict self.now.depth) (below strict self.now.depth)
+            cursor.old) result cursor.new }
     {
         let head = self.chain_head(cursor)?;
         let suffixes = self.suffixes(cursor)?;
@@ -179,8 +201,10 @@ impl<F: Fn(Global, &mut Cursor<'_>, usize, Piece, &G) -> Result<Held<Expression>
         x: Held<Expression>,
         operator: UpdateOperator,
     ) -> Result<Held<Expression>, Stop>
-        requires { Reads self.now.depth self.now.statement (F.pre self.now.read) (F.post self.now.read) }
-        ensures { Follows (spec.updated_behind (strict self.now.depth) (below strict self.now.depth) x (head cursor.old) operator (references.is_reference x) cursor.old) result cursor.new }
+        requires { Reads self.now.depth self.now.statement (F.pre self.now.read)
+            (F.post self.now.read) }
+        ensures { Follows (spec.updated_behind (strict self.now.depth) (below strict self.now.depth)
+            x (head cursor.old) operator (references.is_reference x) cursor.old) result cursor.new }
     {
         if !is_reference(x.get()) {
             return Err(Stop::Refused(Refusal::Unexpected));
@@ -193,8 +217,10 @@ impl<F: Fn(Global, &mut Cursor<'_>, usize, Piece, &G) -> Result<Held<Expression>
     /// Reads an operand with the `++` or `--` behind it (11.3).
     #[tactic(auto, unfolding(ja_grammar::specs::ReadExpression::postfix))]
     fn postfix(&self, cursor: &mut Cursor<'_>) -> Result<Held<Expression>, Stop>
-        requires { Reads self.now.depth self.now.statement (F.pre self.now.read) (F.post self.now.read) }
-        ensures { Follows (spec.postfix (strict self.now.depth) (below strict self.now.depth) cursor.old) result cursor.new }
+        requires { Reads self.now.depth self.now.statement (F.pre self.now.read)
+            (F.post self.now.read) }
+        ensures { Follows (spec.postfix (strict self.now.depth) (below strict self.now.depth)
+            cursor.old) result cursor.new }
     {
         let x = self.left_hand(cursor)?;
         match postfix_of(cursor) {
@@ -203,12 +229,14 @@ impl<F: Fn(Global, &mut Cursor<'_>, usize, Piece, &G) -> Result<Held<Expression>
         }
     }
 
-    /// Reads the operand of the `++` or `--` at `place` (11.4.4, 11.4.5). A prefix operator is refused as
-    /// `Broken` at `place`, and a complete operand as `operand_close` says.
+    /// Reads the operand of the `++` or `--` at `place` (11.4.4, 11.4.5). A prefix operator is
+    /// refused as `Broken` at `place`, and a complete operand as `operand_close` says.
     #[tactic(auto, unfolding(ja_grammar::specs::ReadExpression::updated))]
     fn updated(&self, cursor: &mut Cursor<'_>, place: Place) -> Result<Held<Expression>, Stop>
-        requires { Reads self.now.depth self.now.statement (F.pre self.now.read) (F.post self.now.read) }
-        ensures { Follows (spec.updated (strict self.now.depth) (below strict self.now.depth) place cursor.old) result cursor.new }
+        requires { Reads self.now.depth self.now.statement (F.pre self.now.read)
+            (F.post self.now.read) }
+        ensures { Follows (spec.updated (strict self.now.depth) (below strict self.now.depth) place
+            cursor.old) result cursor.new }
     {
         if is_prefix(cursor.symbol()) {
             return Err(Stop::Refused(Refusal::Broken(place)));
@@ -223,8 +251,10 @@ impl<F: Fn(Global, &mut Cursor<'_>, usize, Piece, &G) -> Result<Held<Expression>
         cursor: &mut Cursor<'_>,
         operator: UnaryOperator,
     ) -> Result<Held<Expression>, Stop>
-        requires { Reads self.now.depth self.now.statement (F.pre self.now.read) (F.post self.now.read) }
-        ensures { Follows (spec.unary_by (strict self.now.depth) (below strict self.now.depth) (head cursor.old) (Some operator) None cursor.old) result cursor.new }
+        requires { Reads self.now.depth self.now.statement (F.pre self.now.read)
+            (F.post self.now.read) }
+        ensures { Follows (spec.unary_by (strict self.now.depth) (below strict self.now.depth)
+            (head cursor.old) (Some operator) None cursor.old) result cursor.new }
     {
         let place = cursor.place();
         cursor.enter(self.depth)?;
@@ -238,8 +268,10 @@ impl<F: Fn(Global, &mut Cursor<'_>, usize, Piece, &G) -> Result<Held<Expression>
         cursor: &mut Cursor<'_>,
         operator: UpdateOperator,
     ) -> Result<Held<Expression>, Stop>
-        requires { Reads self.now.depth self.now.statement (F.pre self.now.read) (F.post self.now.read) }
-        ensures { Follows (spec.unary_by (strict self.now.depth) (below strict self.now.depth) (head cursor.old) None (Some operator) cursor.old) result cursor.new }
+        requires { Reads self.now.depth self.now.statement (F.pre self.now.read)
+            (F.post self.now.read) }
+        ensures { Follows (spec.unary_by (strict self.now.depth) (below strict self.now.depth)
+            (head cursor.old) None (Some operator) cursor.old) result cursor.new }
     {
         let place = cursor.place();
         cursor.enter(self.depth)?;
@@ -250,8 +282,10 @@ impl<F: Fn(Global, &mut Cursor<'_>, usize, Piece, &G) -> Result<Held<Expression>
     /// Reads an operand with the operators before and behind it (11.4).
     #[tactic(auto, unfolding(ja_grammar::specs::ReadExpression::unary))]
     fn unary(&self, cursor: &mut Cursor<'_>) -> Result<Held<Expression>, Stop>
-        requires { Reads self.now.depth self.now.statement (F.pre self.now.read) (F.post self.now.read) }
-        ensures { Follows (spec.unary (strict self.now.depth) (below strict self.now.depth) cursor.old) result cursor.new }
+        requires { Reads self.now.depth self.now.statement (F.pre self.now.read)
+            (F.post self.now.read) }
+        ensures { Follows (spec.unary (strict self.now.depth) (below strict self.now.depth)
+            cursor.old) result cursor.new }
     {
         match unary_operator(cursor.symbol()) {
             Some(operator) => self.operated_before(cursor, operator),
@@ -271,9 +305,12 @@ impl<F: Fn(Global, &mut Cursor<'_>, usize, Piece, &G) -> Result<Held<Expression>
         no_in: bool,
         level: usize,
     ) -> Result<Operation<Expression>, Stop>
-        requires nests { Reads self.now.depth self.now.statement (F.pre self.now.read) (F.post self.now.read) }
+        requires nests { Reads self.now.depth self.now.statement (F.pre self.now.read)
+            (F.post self.now.read) }
         requires small { level < 10 }
-        ensures { Follows (spec.operation (strict self.now.depth) (below strict self.now.depth) no_in (suc level) (spec.binary (strict self.now.depth) (below strict self.now.depth) no_in level) cursor.old) result cursor.new }
+        ensures { Follows (spec.operation (strict self.now.depth) (below strict self.now.depth)
+            no_in (suc level) (spec.binary (strict self.now.depth) (below strict self.now.depth)
+            no_in level) cursor.old) result cursor.new }
     {
         let Some(operator) = binary_operator(no_in, level + 1, cursor.symbol()) else {
             return Err(Stop::Refused(Refusal::Unexpected));
@@ -296,9 +333,14 @@ impl<F: Fn(Global, &mut Cursor<'_>, usize, Piece, &G) -> Result<Held<Expression>
         no_in: bool,
         level: usize,
     ) -> Result<Items<Operation<Expression>>, Stop>
-        requires nests { Reads self.now.depth self.now.statement (F.pre self.now.read) (F.post self.now.read) }
+        requires nests { Reads self.now.depth self.now.statement (F.pre self.now.read)
+            (F.post self.now.read) }
         requires small { level < 10 }
-        ensures { Follows (until (λ found. is_none (operators.binary_operator no_in (suc level) found)) (spec.operation (strict self.now.depth) (below strict self.now.depth) no_in (suc level) (spec.binary (strict self.now.depth) (below strict self.now.depth) no_in level)) cursor.old) result cursor.new }
+        ensures { Follows (until (λ found. is_none
+            (operators.binary_operator no_in (suc level) found))
+            (spec.operation (strict self.now.depth) (below strict self.now.depth) no_in (suc level)
+            (spec.binary (strict self.now.depth) (below strict self.now.depth) no_in level))
+            cursor.old) result cursor.new }
     {
         let mut found = Items::new(self.alloc);
         for _turn in 0..cursor.left() {
@@ -319,9 +361,11 @@ impl<F: Fn(Global, &mut Cursor<'_>, usize, Piece, &G) -> Result<Held<Expression>
         no_in: bool,
         level: usize,
     ) -> Result<Held<Expression>, Stop>
-        requires nests { Reads self.now.depth self.now.statement (F.pre self.now.read) (F.post self.now.read) }
+        requires nests { Reads self.now.depth self.now.statement (F.pre self.now.read)
+            (F.post self.now.read) }
         requires small { level ≤ 10 }
-        ensures { Follows (spec.binary (strict self.now.depth) (below strict self.now.depth) no_in level cursor.old) result cursor.new }
+        ensures { Follows (spec.binary (strict self.now.depth) (below strict self.now.depth) no_in
+            level cursor.old) result cursor.new }
     {
         let place = cursor.place();
         let mut x = self.unary(cursor)?;
@@ -340,8 +384,10 @@ impl<F: Fn(Global, &mut Cursor<'_>, usize, Piece, &G) -> Result<Held<Expression>
         place: Place,
         x: Held<Expression>,
     ) -> Result<Held<Expression>, Stop>
-        requires { Reads self.now.depth self.now.statement (F.pre self.now.read) (F.post self.now.read) }
-        ensures { Follows (spec.conditional_by (strict self.now.depth) (below strict self.now.depth) no_in place x k.Question cursor.old) result cursor.new }
+        requires { Reads self.now.depth self.now.statement (F.pre self.now.read)
+            (F.post self.now.read) }
+        ensures { Follows (spec.conditional_by (strict self.now.depth) (below strict self.now.depth)
+            no_in place x k.Question cursor.old) result cursor.new }
     {
         cursor.enter(self.depth)?;
         let y = self.expression_below(cursor, ExpressionPart::Assignment { no_in })?;
@@ -353,8 +399,10 @@ impl<F: Fn(Global, &mut Cursor<'_>, usize, Piece, &G) -> Result<Held<Expression>
     /// Reads a conditional expression (11.12).
     #[tactic(auto, unfolding(ja_grammar::specs::ReadExpression::conditional))]
     fn conditional(&self, cursor: &mut Cursor<'_>, no_in: bool) -> Result<Held<Expression>, Stop>
-        requires { Reads self.now.depth self.now.statement (F.pre self.now.read) (F.post self.now.read) }
-        ensures { Follows (spec.conditional (strict self.now.depth) (below strict self.now.depth) no_in cursor.old) result cursor.new }
+        requires { Reads self.now.depth self.now.statement (F.pre self.now.read)
+            (F.post self.now.read) }
+        ensures { Follows (spec.conditional (strict self.now.depth) (below strict self.now.depth)
+            no_in cursor.old) result cursor.new }
     {
         let place = cursor.place();
         let x = self.binary(cursor, no_in, LEVELS)?;
@@ -372,8 +420,10 @@ impl<F: Fn(Global, &mut Cursor<'_>, usize, Piece, &G) -> Result<Held<Expression>
         x: Held<Expression>,
         operator: Option<BinaryOperator>,
     ) -> Result<Held<Expression>, Stop>
-        requires { Reads self.now.depth self.now.statement (F.pre self.now.read) (F.post self.now.read) }
-        ensures { Follows (spec.assigned (strict self.now.depth) (below strict self.now.depth) no_in x (head cursor.old) operator (references.is_reference x) cursor.old) result cursor.new }
+        requires { Reads self.now.depth self.now.statement (F.pre self.now.read)
+            (F.post self.now.read) }
+        ensures { Follows (spec.assigned (strict self.now.depth) (below strict self.now.depth) no_in
+            x (head cursor.old) operator (references.is_reference x) cursor.old) result cursor.new }
     {
         if !is_reference(x.get()) {
             return Err(Stop::Refused(Refusal::Unexpected));
@@ -387,8 +437,10 @@ impl<F: Fn(Global, &mut Cursor<'_>, usize, Piece, &G) -> Result<Held<Expression>
     /// Reads an assignment expression (11.13).
     #[tactic(auto, unfolding(ja_grammar::specs::ReadExpression::assignment))]
     pub fn assignment(&self, cursor: &mut Cursor<'_>, no_in: bool) -> Result<Held<Expression>, Stop>
-        requires { Reads self.now.depth self.now.statement (F.pre self.now.read) (F.post self.now.read) }
-        ensures { Follows (spec.assignment (strict self.now.depth) (below strict self.now.depth) no_in cursor.old) result cursor.new }
+        requires { Reads self.now.depth self.now.statement (F.pre self.now.read)
+            (F.post self.now.read) }
+        ensures { Follows (spec.assignment (strict self.now.depth) (below strict self.now.depth)
+            no_in cursor.old) result cursor.new }
     {
         let x = self.conditional(cursor, no_in)?;
         match assignment_operator(cursor.symbol()) {
@@ -399,8 +451,10 @@ impl<F: Fn(Global, &mut Cursor<'_>, usize, Piece, &G) -> Result<Held<Expression>
 
     /// Reads assignment expressions with commas between.
     fn assignments(&self, cursor: &mut Cursor<'_>, no_in: bool) -> Result<Items<Expression>, Stop>
-        requires { Reads self.now.depth self.now.statement (F.pre self.now.read) (F.post self.now.read) }
-        ensures { Follows (separated (spec.assignment (strict self.now.depth) (below strict self.now.depth) no_in) cursor.old) result cursor.new }
+        requires { Reads self.now.depth self.now.statement (F.pre self.now.read)
+            (F.post self.now.read) }
+        ensures { Follows (separated (spec.assignment (strict self.now.depth)
+            (below strict self.now.depth) no_in) cursor.old) result cursor.new }
     {
         let mut found = Items::new(self.alloc);
         let first = self.assignment(cursor, no_in)?;
@@ -419,8 +473,10 @@ impl<F: Fn(Global, &mut Cursor<'_>, usize, Piece, &G) -> Result<Held<Expression>
     /// Reads an expression, with commas (11.14).
     #[tactic(auto, unfolding(ja_grammar::specs::ReadExpression::whole))]
     pub fn whole(&self, cursor: &mut Cursor<'_>, no_in: bool) -> Result<Held<Expression>, Stop>
-        requires { Reads self.now.depth self.now.statement (F.pre self.now.read) (F.post self.now.read) }
-        ensures { Follows (spec.whole (strict self.now.depth) (below strict self.now.depth) no_in cursor.old) result cursor.new }
+        requires { Reads self.now.depth self.now.statement (F.pre self.now.read)
+            (F.post self.now.read) }
+        ensures { Follows (spec.whole (strict self.now.depth) (below strict self.now.depth) no_in
+            cursor.old) result cursor.new }
     {
         let place = cursor.place();
         let found = self.assignments(cursor, no_in)?;
@@ -434,8 +490,10 @@ impl<F: Fn(Global, &mut Cursor<'_>, usize, Piece, &G) -> Result<Held<Expression>
         cursor: &mut Cursor<'_>,
         part: ExpressionPart,
     ) -> Result<Held<Expression>, Stop>
-        requires { Reads self.now.depth self.now.statement (F.pre self.now.read) (F.post self.now.read) }
-        ensures { Follows (spec.expression_part (strict self.now.depth) (below strict self.now.depth) part cursor.old) result cursor.new }
+        requires { Reads self.now.depth self.now.statement (F.pre self.now.read)
+            (F.post self.now.read) }
+        ensures { Follows (spec.expression_part (strict self.now.depth)
+            (below strict self.now.depth) part cursor.old) result cursor.new }
     {
         match part {
             ExpressionPart::Whole { no_in } => self.whole(cursor, no_in),

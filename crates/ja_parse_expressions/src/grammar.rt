@@ -1,5 +1,5 @@
-//! The rules take the function that reads the parts one level below as a parameter, so that each is proved by
-//! itself.
+//! The rules take the function that reads the parts one level below as a parameter, so that each is
+//! proved by itself.
 
 ghost use Rattle.ja_grammar.specs.Input.{strict};
 ghost use Rattle.ja_grammar.specs.code.Input.{Follows};
@@ -37,14 +37,16 @@ impl<F: Fn(Global, &mut Cursor<'_>, usize, Piece, &G) -> Result<Held<Expression>
     G,
 > {
     /// Reads a part of an expression one level below.
-    #[tactic(auto, using(crate::proofs::Levels::expression_below, crate::proofs::Levels::no_expression_below))]
+    #[tactic(auto, using(crate::proofs::Rulesets::for_expression_below))]
     pub fn expression_below(
         &self,
         cursor: &mut Cursor<'_>,
         part: ExpressionPart,
     ) -> Result<Held<Expression>, Stop>
-        requires { Reads self.now.depth self.now.statement (F.pre self.now.read) (F.post self.now.read) }
-        ensures { Follows ((below strict self.now.depth).expression part cursor.old) result cursor.new }
+        requires { Reads self.now.depth self.now.statement (F.pre self.now.read)
+            (F.post self.now.read) }
+        ensures { Follows ((below strict self.now.depth).expression part cursor.old) result
+            cursor.new }
     {
         if self.depth == 0 {
             return Err(Stop::Refused(Refusal::Deep));

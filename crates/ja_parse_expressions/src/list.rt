@@ -23,8 +23,11 @@ impl<F: Fn(Global, &mut Cursor<'_>, usize, Piece, &G) -> Result<Held<Expression>
 > {
     /// Reads the elements of an array literal.
     pub fn elements(&self, cursor: &mut Cursor<'_>) -> Result<Items<Option<Expression>>, Stop>
-        requires { Reads self.now.depth self.now.statement (F.pre self.now.read) (F.post self.now.read) }
-        ensures { Follows (until spec.is_close_bracket (spec.element (strict self.now.depth) (below strict self.now.depth)) cursor.old) result cursor.new }
+        requires { Reads self.now.depth self.now.statement (F.pre self.now.read)
+            (F.post self.now.read) }
+        ensures { Follows (until spec.is_close_bracket
+            (spec.element (strict self.now.depth) (below strict self.now.depth)) cursor.old) result
+            cursor.new }
     {
         let mut found = Items::new(self.alloc);
         for _turn in 0..cursor.left() {
@@ -42,8 +45,10 @@ impl<F: Fn(Global, &mut Cursor<'_>, usize, Piece, &G) -> Result<Held<Expression>
         &self,
         cursor: &mut Cursor<'_>,
     ) -> Result<Items<Property<Expression>>, Stop>
-        requires { Reads self.now.depth self.now.statement (F.pre self.now.read) (F.post self.now.read) }
-        ensures { Follows (separated (spec.property (strict self.now.depth) (below strict self.now.depth)) cursor.old) result cursor.new }
+        requires { Reads self.now.depth self.now.statement (F.pre self.now.read)
+            (F.post self.now.read) }
+        ensures { Follows (separated (spec.property (strict self.now.depth)
+            (below strict self.now.depth)) cursor.old) result cursor.new }
     {
         let mut found = Items::new(self.alloc);
         let first = self.property(cursor)?;
@@ -62,8 +67,11 @@ impl<F: Fn(Global, &mut Cursor<'_>, usize, Piece, &G) -> Result<Held<Expression>
     /// Reads the properties of an object literal and its `}`.
     #[tactic(auto, unfolding(ja_grammar::specs::Input::listed))]
     pub fn properties(&self, cursor: &mut Cursor<'_>) -> Result<Items<Property<Expression>>, Stop>
-        requires { Reads self.now.depth self.now.statement (F.pre self.now.read) (F.post self.now.read) }
-        ensures { Follows (listed k.CloseBrace (spec.property (strict self.now.depth) (below strict self.now.depth)) cursor.old) result cursor.new }
+        requires { Reads self.now.depth self.now.statement (F.pre self.now.read)
+            (F.post self.now.read) }
+        ensures { Follows (listed k.CloseBrace
+            (spec.property (strict self.now.depth) (below strict self.now.depth)) cursor.old) result
+            cursor.new }
     {
         if cursor.sees(Symbol::CloseBrace) {
             cursor.take();
@@ -76,8 +84,10 @@ impl<F: Fn(Global, &mut Cursor<'_>, usize, Piece, &G) -> Result<Held<Expression>
 
     /// Reads arguments with commas between.
     fn arguments_between(&self, cursor: &mut Cursor<'_>) -> Result<Items<Expression>, Stop>
-        requires { Reads self.now.depth self.now.statement (F.pre self.now.read) (F.post self.now.read) }
-        ensures { Follows (separated ((below strict self.now.depth).expression (of_expression.Assignment false)) cursor.old) result cursor.new }
+        requires { Reads self.now.depth self.now.statement (F.pre self.now.read)
+            (F.post self.now.read) }
+        ensures { Follows (separated ((below strict self.now.depth).expression
+            (of_expression.Assignment false)) cursor.old) result cursor.new }
     {
         let mut found = Items::new(self.alloc);
         let first = self.expression_below(cursor, ExpressionPart::Assignment { no_in: false })?;
@@ -96,8 +106,11 @@ impl<F: Fn(Global, &mut Cursor<'_>, usize, Piece, &G) -> Result<Held<Expression>
     /// Reads arguments and their `)`.
     #[tactic(auto, unfolding(ja_grammar::specs::Input::listed))]
     pub fn arguments_list(&self, cursor: &mut Cursor<'_>) -> Result<Items<Expression>, Stop>
-        requires { Reads self.now.depth self.now.statement (F.pre self.now.read) (F.post self.now.read) }
-        ensures { Follows (listed k.CloseParenthesis ((below strict self.now.depth).expression (of_expression.Assignment false)) cursor.old) result cursor.new }
+        requires { Reads self.now.depth self.now.statement (F.pre self.now.read)
+            (F.post self.now.read) }
+        ensures { Follows (listed k.CloseParenthesis
+            ((below strict self.now.depth).expression (of_expression.Assignment false)) cursor.old)
+            result cursor.new }
     {
         if cursor.sees(Symbol::CloseParenthesis) {
             cursor.take();

@@ -23,8 +23,10 @@ impl<F: Fn(Global, &mut Cursor<'_>, usize, Piece, &G) -> Result<Held<Expression>
     /// Reads an element of an array literal, or a hole (11.1.4).
     #[tactic(auto, unfolding(ja_grammar::specs::ReadExpression::element))]
     pub fn element(&self, cursor: &mut Cursor<'_>) -> Result<Option<Expression>, Stop>
-        requires { Reads self.now.depth self.now.statement (F.pre self.now.read) (F.post self.now.read) }
-        ensures { Follows (spec.element (strict self.now.depth) (below strict self.now.depth) cursor.old) result cursor.new }
+        requires { Reads self.now.depth self.now.statement (F.pre self.now.read)
+            (F.post self.now.read) }
+        ensures { Follows (spec.element (strict self.now.depth) (below strict self.now.depth)
+            cursor.old) result cursor.new }
     {
         match cursor.symbol() {
             Symbol::Comma => {
@@ -41,8 +43,10 @@ impl<F: Fn(Global, &mut Cursor<'_>, usize, Piece, &G) -> Result<Held<Expression>
     /// Reads a property of an object literal (11.1.5).
     #[tactic(auto, unfolding(ja_grammar::specs::ReadExpression::property))]
     pub fn property(&self, cursor: &mut Cursor<'_>) -> Result<Property<Expression>, Stop>
-        requires { Reads self.now.depth self.now.statement (F.pre self.now.read) (F.post self.now.read) }
-        ensures { Follows (spec.property (strict self.now.depth) (below strict self.now.depth) cursor.old) result cursor.new }
+        requires { Reads self.now.depth self.now.statement (F.pre self.now.read)
+            (F.post self.now.read) }
+        ensures { Follows (spec.property (strict self.now.depth) (below strict self.now.depth)
+            cursor.old) result cursor.new }
     {
         let place = cursor.place();
         let Some(name) = property_name(self.alloc, cursor)? else {
@@ -61,8 +65,10 @@ impl<F: Fn(Global, &mut Cursor<'_>, usize, Piece, &G) -> Result<Held<Expression>
     /// Reads an array literal (11.1.4).
     #[tactic(auto, unfolding(ja_grammar::specs::ReadExpression::array))]
     fn array(&self, cursor: &mut Cursor<'_>) -> Result<Held<Expression>, Stop>
-        requires { Reads self.now.depth self.now.statement (F.pre self.now.read) (F.post self.now.read) }
-        ensures { Follows (spec.array (strict self.now.depth) (below strict self.now.depth) cursor.old) result cursor.new }
+        requires { Reads self.now.depth self.now.statement (F.pre self.now.read)
+            (F.post self.now.read) }
+        ensures { Follows (spec.array (strict self.now.depth) (below strict self.now.depth)
+            cursor.old) result cursor.new }
     {
         let place = cursor.place();
         cursor.enter(self.depth)?;
@@ -74,8 +80,10 @@ impl<F: Fn(Global, &mut Cursor<'_>, usize, Piece, &G) -> Result<Held<Expression>
     /// Reads an object literal (11.1.5).
     #[tactic(auto, unfolding(ja_grammar::specs::ReadExpression::object))]
     fn object(&self, cursor: &mut Cursor<'_>) -> Result<Held<Expression>, Stop>
-        requires { Reads self.now.depth self.now.statement (F.pre self.now.read) (F.post self.now.read) }
-        ensures { Follows (spec.object (strict self.now.depth) (below strict self.now.depth) cursor.old) result cursor.new }
+        requires { Reads self.now.depth self.now.statement (F.pre self.now.read)
+            (F.post self.now.read) }
+        ensures { Follows (spec.object (strict self.now.depth) (below strict self.now.depth)
+            cursor.old) result cursor.new }
     {
         let place = cursor.place();
         cursor.enter(self.depth)?;
@@ -86,8 +94,10 @@ impl<F: Fn(Global, &mut Cursor<'_>, usize, Piece, &G) -> Result<Held<Expression>
     /// Reads an expression in parentheses (11.1.6).
     #[tactic(auto, unfolding(ja_grammar::specs::ReadExpression::parenthesized))]
     fn parenthesized(&self, cursor: &mut Cursor<'_>) -> Result<Held<Expression>, Stop>
-        requires { Reads self.now.depth self.now.statement (F.pre self.now.read) (F.post self.now.read) }
-        ensures { Follows (spec.parenthesized (strict self.now.depth) (below strict self.now.depth) cursor.old) result cursor.new }
+        requires { Reads self.now.depth self.now.statement (F.pre self.now.read)
+            (F.post self.now.read) }
+        ensures { Follows (spec.parenthesized (strict self.now.depth) (below strict self.now.depth)
+            cursor.old) result cursor.new }
     {
         cursor.enter(self.depth)?;
         let x = self.expression_below(cursor, ExpressionPart::Whole { no_in: false })?;
@@ -98,8 +108,10 @@ impl<F: Fn(Global, &mut Cursor<'_>, usize, Piece, &G) -> Result<Held<Expression>
     /// Reads a primary expression (11.1).
     #[tactic(auto, unfolding(ja_grammar::specs::ReadExpression::primary))]
     pub fn primary(&self, cursor: &mut Cursor<'_>) -> Result<Held<Expression>, Stop>
-        requires { Reads self.now.depth self.now.statement (F.pre self.now.read) (F.post self.now.read) }
-        ensures { Follows (spec.primary (strict self.now.depth) (below strict self.now.depth) cursor.old) result cursor.new }
+        requires { Reads self.now.depth self.now.statement (F.pre self.now.read)
+            (F.post self.now.read) }
+        ensures { Follows (spec.primary (strict self.now.depth) (below strict self.now.depth)
+            cursor.old) result cursor.new }
     {
         match cursor.symbol() {
             Symbol::This => this_expression(self.alloc, cursor),

@@ -14,9 +14,10 @@ use ja_syntax::{Expression, Statement};
 use sqlite_items::Boxed;
 use std::alloc::Global;
 
-/// Reads a part of an expression, or a function, where `depth` levels are left, with the function that reads
-/// the statements of a function's body. Where the tokens are none, the cursor stands at the first token that
-/// none has behind those before it. `Memory` comes only where memory was refused.
+/// Reads a part of an expression, or a function, where `depth` levels are left, with the function
+/// that reads the statements of a function's body. Where the tokens are none, the cursor stands at
+/// the first token that none has behind those before it. `Memory` comes only where memory was
+/// refused.
 #[cycle(expressions)]
 pub fn expression_at<
     G: Fn(

@@ -8,15 +8,18 @@ use Rattle.ja_grammar.specs.ReadStatement.{single, continue, continue_by, break,
 use Rattle.ja_parse_statements.specs.code.Clauses.{try_whole}
 
 module _ (g : Rules) (b : Below) (c : Context) (labels : ℕ) (outermost : Bool) where
-  pub continue_is : (i : Tokens) → next i ≡ k.Continue → single g b c labels outermost i ≡ continue_by g b c c.in_loop i
+  pub continue_is : (i : Tokens) → next i ≡ k.Continue
+      → single g b c labels outermost i ≡ continue_by g b c c.in_loop i
   unfolding single continue
   continue_is i e = rw e refl
 
-  pub break_is : (i : Tokens) → next i ≡ k.Break → single g b c labels outermost i ≡ break_by g b c (may_break c) i
+  pub break_is : (i : Tokens) → next i ≡ k.Break
+      → single g b c labels outermost i ≡ break_by g b c (may_break c) i
   unfolding single break
   break_is i e = rw e refl
 
-  pub return_is : (i : Tokens) → next i ≡ k.Return → single g b c labels outermost i ≡ return_by g b c.in_function i
+  pub return_is : (i : Tokens) → next i ≡ k.Return
+      → single g b c labels outermost i ≡ return_by g b c.in_function i
   unfolding single return
   return_is i e = rw e refl
 

@@ -1,3 +1,4 @@
 pub mod Cases
 pub mod Keywords
+pub mod Rulesets
 pub mod Variables

@@ -14,13 +14,15 @@ use Rattle.ja_grammar.specs.ReadStatement.{in_rest, for_variables_by}
 use Rattle.ja_parse_statements.specs.code.Clauses.{for_rest_behind, variables_behind}
 
 module _ (g : Rules) (b : Below) (c : Context) (place : Place) where
-  by_in : (xs : List (Declaration Expression)) (x : Declaration Expression) (i : Tokens) → length xs ≡ 1 → slice_get xs 0 ≡ Some x
+  by_in : (xs : List (Declaration Expression)) (x : Declaration Expression) (i : Tokens)
+      → length xs ≡ 1 → slice_get xs 0 ≡ Some x
       → for_variables_by g b c place xs k.In i ≡ in_rest g b c place (target.Variable x) i
   by_in [] x i h e = absurd (omega (arith, h))
   by_in (y ∷ []) x i h e = cc e
   by_in (y ∷ z ∷ ys) x i h e = absurd (omega (arith, h))
 
-  pub variable_in : (xs : List (Declaration Expression)) (x : Declaration Expression) (i : Tokens) → length xs ≡ 1 → slice_get xs 0 ≡ Some x → next i ≡ k.In
+  pub variable_in : (xs : List (Declaration Expression)) (x : Declaration Expression) (i : Tokens)
+      → length xs ≡ 1 → slice_get xs 0 ≡ Some x → next i ≡ k.In
       → variables_behind g b c place xs i ≡ in_rest g b c place (target.Variable x) i
   variable_in xs x i h e q = rw q (by_in xs x i h e)
 

@@ -34,7 +34,8 @@ impl<
         context: &Context<'_>,
     ) -> Result<Items<Statement>, Stop>
         requires { Nests self.now.depth (G.pre self.now.statement) (G.post self.now.statement) }
-        ensures { Follows (spec.block (strict self.now.depth) (below strict self.now.depth) (context_of context.now) cursor.old) result cursor.new }
+        ensures { Follows (spec.block (strict self.now.depth) (below strict self.now.depth)
+            (context_of context.now) cursor.old) result cursor.new }
     {
         cursor.opening(self.depth, Symbol::OpenBrace)?;
         let found = self.list_below(cursor, context, ListEnd::Brace)?;
@@ -46,7 +47,8 @@ impl<
     #[tactic(auto, unfolding(ja_grammar::specs::ReadStatement::bracketed))]
     pub fn bracketed(&self, cursor: &mut Cursor<'_>) -> Result<Held<Expression>, Stop>
         requires { Nests self.now.depth (G.pre self.now.statement) (G.post self.now.statement) }
-        ensures { Follows (spec.bracketed (strict self.now.depth) (below strict self.now.depth) cursor.old) result cursor.new }
+        ensures { Follows (spec.bracketed (strict self.now.depth) (below strict self.now.depth)
+            cursor.old) result cursor.new }
     {
         cursor.opening(self.depth, Symbol::OpenParenthesis)?;
         let x = self.expression_below(cursor, ExpressionPart::Whole { no_in: false })?;
@@ -61,7 +63,8 @@ impl<
         in_head: bool,
     ) -> Result<Held<Expression>, Stop>
         requires { Nests self.now.depth (G.pre self.now.statement) (G.post self.now.statement) }
-        ensures { Follows (variable_value (strict self.now.depth) (below strict self.now.depth) in_head cursor.old) result cursor.new }
+        ensures { Follows (variable_value (strict self.now.depth) (below strict self.now.depth)
+            in_head cursor.old) result cursor.new }
     {
         if in_head {
             self.expression_below(cursor, ExpressionPart::Assignment { no_in: true })
@@ -78,7 +81,9 @@ impl<
         in_head: bool,
     ) -> Result<Declaration<Expression>, Stop>
         requires { Nests self.now.depth (G.pre self.now.statement) (G.post self.now.statement) }
-        ensures { Follows (spec.variable (strict self.now.depth) (variable_value (strict self.now.depth) (below strict self.now.depth) in_head) cursor.old) result cursor.new }
+        ensures { Follows (spec.variable (strict self.now.depth)
+            (variable_value (strict self.now.depth) (below strict self.now.depth) in_head)
+            cursor.old) result cursor.new }
     {
         let name = declared(self.alloc, cursor)?;
         match cursor.symbol() {
@@ -108,7 +113,9 @@ impl<
         in_head: bool,
     ) -> Result<Items<Declaration<Expression>>, Stop>
         requires { Nests self.now.depth (G.pre self.now.statement) (G.post self.now.statement) }
-        ensures { Follows (separated (spec.variable (strict self.now.depth) (variable_value (strict self.now.depth) (below strict self.now.depth) in_head)) cursor.old) result cursor.new }
+        ensures { Follows (separated (spec.variable (strict self.now.depth)
+            (variable_value (strict self.now.depth) (below strict self.now.depth) in_head))
+            cursor.old) result cursor.new }
     {
         let mut found = Items::new(self.alloc);
         let first = self.variable(cursor, in_head)?;
@@ -128,7 +135,8 @@ impl<
     #[tactic(auto, unfolding(ja_grammar::specs::ReadStatement::variables))]
     pub fn variables(&self, cursor: &mut Cursor<'_>) -> Result<Held<Statement>, Stop>
         requires { Nests self.now.depth (G.pre self.now.statement) (G.post self.now.statement) }
-        ensures { Follows (spec.variables (strict self.now.depth) (below strict self.now.depth) cursor.old) result cursor.new }
+        ensures { Follows (spec.variables (strict self.now.depth) (below strict self.now.depth)
+            cursor.old) result cursor.new }
     {
         let place = cursor.place();
         cursor.take();
@@ -147,7 +155,8 @@ impl<
     #[tactic(auto, unfolding(ja_grammar::specs::ReadStatement::expression_statement))]
     pub fn expression_statement(&self, cursor: &mut Cursor<'_>) -> Result<Held<Statement>, Stop>
         requires { Nests self.now.depth (G.pre self.now.statement) (G.post self.now.statement) }
-        ensures { Follows (spec.expression_statement (strict self.now.depth) (below strict self.now.depth) cursor.old) result cursor.new }
+        ensures { Follows (spec.expression_statement (strict self.now.depth)
+            (below strict self.now.depth) cursor.old) result cursor.new }
     {
         let place = cursor.place();
         let value = self.whole(cursor)?;

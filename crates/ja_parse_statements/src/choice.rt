@@ -36,7 +36,8 @@ impl<
         context: &Context<'_>,
     ) -> Result<Items<Statement>, Stop>
         requires { Nests self.now.depth (G.pre self.now.statement) (G.post self.now.statement) }
-        ensures { Follows (spec.clause (strict self.now.depth) (below strict self.now.depth) (context_of context.now) cursor.old) result cursor.new }
+        ensures { Follows (spec.clause (strict self.now.depth) (below strict self.now.depth)
+            (context_of context.now) cursor.old) result cursor.new }
     {
         cursor.expect(Symbol::Colon)?;
         self.list_below(cursor, context, ListEnd::Clause)
@@ -46,7 +47,8 @@ impl<
     #[tactic(auto, unfolding(ja_grammar::specs::ReadStatement::case))]
     fn case(&self, cursor: &mut Cursor<'_>, context: &Context<'_>) -> Result<Case, Stop>
         requires { Nests self.now.depth (G.pre self.now.statement) (G.post self.now.statement) }
-        ensures { Follows (spec.case (strict self.now.depth) (below strict self.now.depth) (context_of context.now) cursor.old) result cursor.new }
+        ensures { Follows (spec.case (strict self.now.depth) (below strict self.now.depth)
+            (context_of context.now) cursor.old) result cursor.new }
     {
         let place = cursor.place();
         cursor.take();
@@ -63,7 +65,8 @@ impl<
     #[tactic(auto, unfolding(ja_grammar::specs::ReadStatement::default))]
     fn default_case(&self, cursor: &mut Cursor<'_>, context: &Context<'_>) -> Result<Case, Stop>
         requires { Nests self.now.depth (G.pre self.now.statement) (G.post self.now.statement) }
-        ensures { Follows (spec.default (strict self.now.depth) (below strict self.now.depth) (context_of context.now) cursor.old) result cursor.new }
+        ensures { Follows (spec.default (strict self.now.depth) (below strict self.now.depth)
+            (context_of context.now) cursor.old) result cursor.new }
     {
         let place = cursor.place();
         cursor.take();
@@ -78,7 +81,8 @@ impl<
     /// Reads the clauses of a `switch` and its `}`.
     fn clauses(&self, cursor: &mut Cursor<'_>, context: &Context<'_>) -> Result<Items<Case>, Stop>
         requires { Nests self.now.depth (G.pre self.now.statement) (G.post self.now.statement) }
-        ensures { Follows (clauses_behind (strict self.now.depth) (below strict self.now.depth) (context_of context.now) cursor.old) result cursor.new }
+        ensures { Follows (clauses_behind (strict self.now.depth) (below strict self.now.depth)
+            (context_of context.now) cursor.old) result cursor.new }
     {
         let mut found = Items::new(self.alloc);
         let mut defaulted = false;
@@ -112,7 +116,8 @@ impl<
     #[tactic(auto, unfolding(ja_grammar::specs::ReadStatement::cases, crate::specs::code::Clauses::clauses_behind))]
     fn cases(&self, cursor: &mut Cursor<'_>, context: &Context<'_>) -> Result<Items<Case>, Stop>
         requires { Nests self.now.depth (G.pre self.now.statement) (G.post self.now.statement) }
-        ensures { Follows (spec.cases (strict self.now.depth) (below strict self.now.depth) (context_of context.now) cursor.old) result cursor.new }
+        ensures { Follows (spec.cases (strict self.now.depth) (below strict self.now.depth)
+            (context_of context.now) cursor.old) result cursor.new }
     {
         cursor.opening(self.depth, Symbol::OpenBrace)?;
         self.clauses(cursor, context)
@@ -126,7 +131,8 @@ impl<
         context: &Context<'_>,
     ) -> Result<Held<Statement>, Stop>
         requires { Nests self.now.depth (G.pre self.now.statement) (G.post self.now.statement) }
-        ensures { Follows (spec.switch (strict self.now.depth) (below strict self.now.depth) (context_of context.now) cursor.old) result cursor.new }
+        ensures { Follows (spec.switch (strict self.now.depth) (below strict self.now.depth)
+            (context_of context.now) cursor.old) result cursor.new }
     {
         let place = cursor.place();
         cursor.take();
@@ -151,7 +157,8 @@ impl<
         context: &Context<'_>,
     ) -> Result<Held<CatchOf<Statement>>, Stop>
         requires { Nests self.now.depth (G.pre self.now.statement) (G.post self.now.statement) }
-        ensures { Follows (spec.catch (strict self.now.depth) (below strict self.now.depth) (context_of context.now) cursor.old) result cursor.new }
+        ensures { Follows (spec.catch (strict self.now.depth) (below strict self.now.depth)
+            (context_of context.now) cursor.old) result cursor.new }
     {
         cursor.take();
         cursor.opening(self.depth, Symbol::OpenParenthesis)?;
@@ -169,7 +176,8 @@ impl<
         context: &Context<'_>,
     ) -> Result<Items<Statement>, Stop>
         requires { Nests self.now.depth (G.pre self.now.statement) (G.post self.now.statement) }
-        ensures { Follows (spec.finally (strict self.now.depth) (below strict self.now.depth) (context_of context.now) cursor.old) result cursor.new }
+        ensures { Follows (spec.finally (strict self.now.depth) (below strict self.now.depth)
+            (context_of context.now) cursor.old) result cursor.new }
     {
         cursor.take();
         self.block(cursor, context)
@@ -182,7 +190,8 @@ impl<
         context: &Context<'_>,
     ) -> Result<Held<Statement>, Stop>
         requires { Nests self.now.depth (G.pre self.now.statement) (G.post self.now.statement) }
-        ensures { Follows (try_whole (strict self.now.depth) (below strict self.now.depth) (context_of context.now) cursor.old) result cursor.new }
+        ensures { Follows (try_whole (strict self.now.depth) (below strict self.now.depth)
+            (context_of context.now) cursor.old) result cursor.new }
     {
         let place = cursor.place();
         cursor.take();
@@ -218,7 +227,8 @@ impl<
         place: Place,
     ) -> Result<Held<Statement>, Stop>
         requires { Nests self.now.depth (G.pre self.now.statement) (G.post self.now.statement) }
-        ensures { Follows (try_behind_catch (strict self.now.depth) (below strict self.now.depth) (context_of context.now) place block catch cursor.old) result cursor.new }
+        ensures { Follows (try_behind_catch (strict self.now.depth) (below strict self.now.depth)
+            (context_of context.now) place block catch cursor.old) result cursor.new }
     {
         match cursor.symbol() {
             Symbol::Finally => {
@@ -255,7 +265,8 @@ impl<
         then: Held<Statement>,
     ) -> Result<Held<Statement>, Stop>
         requires { Nests self.now.depth (G.pre self.now.statement) (G.post self.now.statement) }
-        ensures { Follows (spec.else_by (strict self.now.depth) (below strict self.now.depth) (context_of context.now) place condition then k.Else cursor.old) result cursor.new }
+        ensures { Follows (spec.else_by (strict self.now.depth) (below strict self.now.depth)
+            (context_of context.now) place condition then k.Else cursor.old) result cursor.new }
     {
         cursor.enter(self.depth)?;
         let otherwise = self.statement_below(
@@ -278,7 +289,8 @@ impl<
         place: Place,
     ) -> Result<Held<Statement>, Stop>
         requires { Nests self.now.depth (G.pre self.now.statement) (G.post self.now.statement) }
-        ensures { Follows (spec.if_part (strict self.now.depth) (below strict self.now.depth) (context_of context.now) place cursor.old) result cursor.new }
+        ensures { Follows (spec.if_part (strict self.now.depth) (below strict self.now.depth)
+            (context_of context.now) place cursor.old) result cursor.new }
     {
         let condition = self.bracketed(cursor)?;
         let then = self.single(cursor, context, 0, false)?;

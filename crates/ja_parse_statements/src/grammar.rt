@@ -1,5 +1,5 @@
-//! The rules take the function that reads the parts of statements one level below as a parameter, so that
-//! each is proved by itself.
+//! The rules take the function that reads the parts of statements one level below as a parameter,
+//! so that each is proved by itself.
 
 ghost use Rattle.std.specs.Prelude.{false};
 ghost use Rattle.ja_grammar.specs.declared.part.StatementPart.TheVariants as part;
@@ -37,14 +37,15 @@ impl<
     ) -> Result<Held<Statement>, Stop>,
 > Grammar<G> {
     /// Reads a part of an expression one level below.
-    #[tactic(auto, using(ja_parse_expressions::proofs::Levels::expression_below, ja_parse_expressions::proofs::Levels::no_expression_below))]
+    #[tactic(auto, using(crate::proofs::Rulesets::for_expression_below))]
     pub fn expression_below(
         &self,
         cursor: &mut Cursor<'_>,
         part: ExpressionPart,
     ) -> Result<Held<Expression>, Stop>
         requires { Nests self.now.depth (G.pre self.now.statement) (G.post self.now.statement) }
-        ensures { Follows ((below strict self.now.depth).expression part cursor.old) result cursor.new }
+        ensures { Follows ((below strict self.now.depth).expression part cursor.old) result
+            cursor.new }
     {
         if self.depth == 0 {
             return Err(Stop::Refused(Refusal::Deep));
@@ -62,7 +63,8 @@ impl<
     #[tactic(auto, unfolding(ja_grammar::specs::ReadExpression::expression_part))]
     pub fn whole(&self, cursor: &mut Cursor<'_>) -> Result<Held<Expression>, Stop>
         requires { Nests self.now.depth (G.pre self.now.statement) (G.post self.now.statement) }
-        ensures { Follows (expressions.whole (strict self.now.depth) (below strict self.now.depth) false cursor.old) result cursor.new }
+        ensures { Follows (expressions.whole (strict self.now.depth) (below strict self.now.depth)
+            false cursor.old) result cursor.new }
     {
         let part = ExpressionPart::Whole { no_in: false };
         expression_at(
@@ -78,7 +80,8 @@ impl<
     #[tactic(auto, unfolding(ja_grammar::specs::ReadExpression::expression_part))]
     pub fn assignment(&self, cursor: &mut Cursor<'_>) -> Result<Held<Expression>, Stop>
         requires { Nests self.now.depth (G.pre self.now.statement) (G.post self.now.statement) }
-        ensures { Follows (expressions.assignment (strict self.now.depth) (below strict self.now.depth) false cursor.old) result cursor.new }
+        ensures { Follows (expressions.assignment (strict self.now.depth)
+            (below strict self.now.depth) false cursor.old) result cursor.new }
     {
         let part = ExpressionPart::Assignment { no_in: false };
         expression_at(
@@ -98,7 +101,8 @@ impl<
         part: StatementPart,
     ) -> Result<Held<Statement>, Stop>
         requires { Nests self.now.depth (G.pre self.now.statement) (G.post self.now.statement) }
-        ensures { Follows ((below strict self.now.depth).statement (context_of context.now) part cursor.old) result cursor.new }
+        ensures { Follows ((below strict self.now.depth).statement (context_of context.now) part
+            cursor.old) result cursor.new }
     {
         statement_below(
             self.alloc,
@@ -118,7 +122,8 @@ impl<
         end: ListEnd,
     ) -> Result<Items<Statement>, Stop>
         requires { Nests self.now.depth (G.pre self.now.statement) (G.post self.now.statement) }
-        ensures { Follows (until (ends end) ((below strict self.now.depth).statement (context_of context.now) (part.Whole 0 false)) cursor.old) result cursor.new }
+        ensures { Follows (until (ends end) ((below strict self.now.depth).statement
+            (context_of context.now) (part.Whole 0 false)) cursor.old) result cursor.new }
     {
         statements_below(
             self.alloc,

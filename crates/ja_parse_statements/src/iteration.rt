@@ -37,7 +37,8 @@ impl<
         labels: usize,
     ) -> Result<Held<Statement>, Stop>
         requires { Nests self.now.depth (G.pre self.now.statement) (G.post self.now.statement) }
-        ensures { Follows (spec.do_part (strict self.now.depth) (below strict self.now.depth) (context_of context.now) place labels cursor.old) result cursor.new }
+        ensures { Follows (spec.do_part (strict self.now.depth) (below strict self.now.depth)
+            (context_of context.now) place labels cursor.old) result cursor.new }
     {
         let inner = loop_context(self.alloc, context, labels)?;
         let body = self.single(cursor, &inner, 0, false)?;
@@ -47,7 +48,8 @@ impl<
         Ok(do_of(self.alloc, body, condition, place)?)
     }
 
-    /// Reads the rest of the `while` at `place`, which `labels` labels stand directly before (12.6.2).
+    /// Reads the rest of the `while` at `place`, which `labels` labels stand directly before
+    /// (12.6.2).
     #[tactic(auto, unfolding(ja_grammar::specs::ReadStatement::while_part))]
     pub fn while_part(
         &self,
@@ -57,7 +59,8 @@ impl<
         labels: usize,
     ) -> Result<Held<Statement>, Stop>
         requires { Nests self.now.depth (G.pre self.now.statement) (G.post self.now.statement) }
-        ensures { Follows (spec.while_part (strict self.now.depth) (below strict self.now.depth) (context_of context.now) place labels cursor.old) result cursor.new }
+        ensures { Follows (spec.while_part (strict self.now.depth) (below strict self.now.depth)
+            (context_of context.now) place labels cursor.old) result cursor.new }
     {
         let condition = self.bracketed(cursor)?;
         let inner = loop_context(self.alloc, context, labels)?;
@@ -73,7 +76,8 @@ impl<
         close: Symbol,
     ) -> Result<Option<Held<Expression>>, Stop>
         requires { Nests self.now.depth (G.pre self.now.statement) (G.post self.now.statement) }
-        ensures { Follows (spec.optional (strict self.now.depth) (below strict self.now.depth) close cursor.old) result cursor.new }
+        ensures { Follows (spec.optional (strict self.now.depth) (below strict self.now.depth) close
+            cursor.old) result cursor.new }
     {
         if cursor.sees(close) {
             cursor.take();
@@ -94,7 +98,8 @@ impl<
         first: Held<ForFirst<Expression>>,
     ) -> Result<Held<Statement>, Stop>
         requires { Nests self.now.depth (G.pre self.now.statement) (G.post self.now.statement) }
-        ensures { Follows (spec.for_rest (strict self.now.depth) (below strict self.now.depth) (context_of context.now) place first cursor.old) result cursor.new }
+        ensures { Follows (spec.for_rest (strict self.now.depth) (below strict self.now.depth)
+            (context_of context.now) place first cursor.old) result cursor.new }
     {
         let condition = self.optional(cursor, Symbol::Semicolon)?;
         let update = self.optional(cursor, Symbol::CloseParenthesis)?;
@@ -112,7 +117,8 @@ impl<
         target: Held<ForTarget<Expression>>,
     ) -> Result<Held<Statement>, Stop>
         requires { Nests self.now.depth (G.pre self.now.statement) (G.post self.now.statement) }
-        ensures { Follows (spec.in_rest (strict self.now.depth) (below strict self.now.depth) (context_of context.now) place target cursor.old) result cursor.new }
+        ensures { Follows (spec.in_rest (strict self.now.depth) (below strict self.now.depth)
+            (context_of context.now) place target cursor.old) result cursor.new }
     {
         cursor.take();
         let object = self.expression_below(cursor, ExpressionPart::Whole { no_in: false })?;
@@ -130,7 +136,8 @@ impl<
         found: Items<Declaration<Expression>>,
     ) -> Result<Held<Statement>, Stop>
         requires { Nests self.now.depth (G.pre self.now.statement) (G.post self.now.statement) }
-        ensures { Follows (for_rest_behind (strict self.now.depth) (below strict self.now.depth) (context_of context.now) place (first.Variables found) cursor.old) result cursor.new }
+        ensures { Follows (for_rest_behind (strict self.now.depth) (below strict self.now.depth)
+            (context_of context.now) place (first.Variables found) cursor.old) result cursor.new }
     {
         cursor.expect(Symbol::Semicolon)?;
         let first = Held::new(self.alloc, ForFirst::Variables(found))?;
@@ -138,7 +145,7 @@ impl<
     }
 
     /// Reads a `for` from the token behind its variables on.
-    #[tactic(auto, using(crate::proofs::Variables::variable_in, crate::proofs::Variables::variables_many, crate::proofs::Variables::variables_other))]
+    #[tactic(auto, using(crate::proofs::Rulesets::for_for_variables_behind))]
     fn for_variables_behind(
         &self,
         cursor: &mut Cursor<'_>,
@@ -147,7 +154,8 @@ impl<
         mut found: Items<Declaration<Expression>>,
     ) -> Result<Held<Statement>, Stop>
         requires { Nests self.now.depth (G.pre self.now.statement) (G.post self.now.statement) }
-        ensures { Follows (variables_behind (strict self.now.depth) (below strict self.now.depth) (context_of context.now) place found cursor.old) result cursor.new }
+        ensures { Follows (variables_behind (strict self.now.depth) (below strict self.now.depth)
+            (context_of context.now) place found cursor.old) result cursor.new }
     {
         if found.len() == 1 {
             return match cursor.symbol() {
@@ -170,7 +178,8 @@ impl<
         place: Place,
     ) -> Result<Held<Statement>, Stop>
         requires { Nests self.now.depth (G.pre self.now.statement) (G.post self.now.statement) }
-        ensures { Follows (spec.for_variables (strict self.now.depth) (below strict self.now.depth) (context_of context.now) place cursor.old) result cursor.new }
+        ensures { Follows (spec.for_variables (strict self.now.depth) (below strict self.now.depth)
+            (context_of context.now) place cursor.old) result cursor.new }
     {
         cursor.take();
         let found = self.declarations(cursor, true)?;
@@ -186,7 +195,8 @@ impl<
         place: Place,
     ) -> Result<Held<Statement>, Stop>
         requires { Nests self.now.depth (G.pre self.now.statement) (G.post self.now.statement) }
-        ensures { Follows (spec.for_expression (strict self.now.depth) (below strict self.now.depth) (context_of context.now) place cursor.old) result cursor.new }
+        ensures { Follows (spec.for_expression (strict self.now.depth) (below strict self.now.depth)
+            (context_of context.now) place cursor.old) result cursor.new }
     {
         let x = self.expression_below(cursor, ExpressionPart::Whole { no_in: true })?;
         match cursor.symbol() {
@@ -213,7 +223,8 @@ impl<
         place: Place,
     ) -> Result<Held<Statement>, Stop>
         requires { Nests self.now.depth (G.pre self.now.statement) (G.post self.now.statement) }
-        ensures { Follows (for_behind (strict self.now.depth) (below strict self.now.depth) (context_of context.now) place cursor.old) result cursor.new }
+        ensures { Follows (for_behind (strict self.now.depth) (below strict self.now.depth)
+            (context_of context.now) place cursor.old) result cursor.new }
     {
         match cursor.symbol() {
             Symbol::Var => self.for_variables(cursor, context, place),
@@ -226,7 +237,8 @@ impl<
         }
     }
 
-    /// Reads the rest of the `for` at `place`, which `labels` labels stand directly before (12.6.3).
+    /// Reads the rest of the `for` at `place`, which `labels` labels stand directly before
+    /// (12.6.3).
     #[tactic(auto, unfolding(ja_grammar::specs::ReadStatement::for_part))]
     pub fn for_part(
         &self,
@@ -236,7 +248,8 @@ impl<
         labels: usize,
     ) -> Result<Held<Statement>, Stop>
         requires { Nests self.now.depth (G.pre self.now.statement) (G.post self.now.statement) }
-        ensures { Follows (spec.for_part (strict self.now.depth) (below strict self.now.depth) (context_of context.now) place labels cursor.old) result cursor.new }
+        ensures { Follows (spec.for_part (strict self.now.depth) (below strict self.now.depth)
+            (context_of context.now) place labels cursor.old) result cursor.new }
     {
         cursor.opening(self.depth, Symbol::OpenParenthesis)?;
         let inner = loop_context(self.alloc, context, labels)?;

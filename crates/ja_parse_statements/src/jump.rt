@@ -29,7 +29,8 @@ impl<
     #[tactic(auto, unfolding(ja_grammar::specs::ReadStatement::returned))]
     fn returned(&self, cursor: &mut Cursor<'_>) -> Result<Option<Held<Expression>>, Stop>
         requires { Nests self.now.depth (G.pre self.now.statement) (G.post self.now.statement) }
-        ensures { Follows (spec.returned (strict self.now.depth) (below strict self.now.depth) cursor.old) result cursor.new }
+        ensures { Follows (spec.returned (strict self.now.depth) (below strict self.now.depth)
+            cursor.old) result cursor.new }
     {
         if ends_return(cursor) {
             return Ok(None);
@@ -44,7 +45,8 @@ impl<
         context: &Context<'_>,
     ) -> Result<Held<Statement>, Stop>
         requires { Nests self.now.depth (G.pre self.now.statement) (G.post self.now.statement) }
-        ensures { Follows (spec.return_by (strict self.now.depth) (below strict self.now.depth) context.now.in_function cursor.old) result cursor.new }
+        ensures { Follows (spec.return_by (strict self.now.depth) (below strict self.now.depth)
+            context.now.in_function cursor.old) result cursor.new }
     {
         if !context.in_function {
             return Err(Stop::Refused(Refusal::Unexpected));
@@ -66,7 +68,8 @@ impl<
     #[tactic(auto, unfolding(ja_grammar::specs::ReadStatement::thrown))]
     fn thrown(&self, cursor: &mut Cursor<'_>) -> Result<Held<Expression>, Stop>
         requires { Nests self.now.depth (G.pre self.now.statement) (G.post self.now.statement) }
-        ensures { Follows (spec.thrown (strict self.now.depth) (below strict self.now.depth) cursor.old) result cursor.new }
+        ensures { Follows (spec.thrown (strict self.now.depth) (below strict self.now.depth)
+            cursor.old) result cursor.new }
     {
         if cursor.line_before() {
             return Err(Stop::Refused(Refusal::Unexpected));
@@ -78,7 +81,8 @@ impl<
     #[tactic(auto, unfolding(ja_grammar::specs::ReadStatement::throw))]
     pub fn throw_statement(&self, cursor: &mut Cursor<'_>) -> Result<Held<Statement>, Stop>
         requires { Nests self.now.depth (G.pre self.now.statement) (G.post self.now.statement) }
-        ensures { Follows (spec.throw (strict self.now.depth) (below strict self.now.depth) cursor.old) result cursor.new }
+        ensures { Follows (spec.throw (strict self.now.depth) (below strict self.now.depth)
+            cursor.old) result cursor.new }
     {
         let place = cursor.place();
         cursor.take();
@@ -102,7 +106,8 @@ impl<
         labels: usize,
     ) -> Result<Held<Statement>, Stop>
         requires { Nests self.now.depth (G.pre self.now.statement) (G.post self.now.statement) }
-        ensures { Follows (spec.labelled (strict self.now.depth) (below strict self.now.depth) (context_of context.now) labels cursor.old) result cursor.new }
+        ensures { Follows (spec.labelled (strict self.now.depth) (below strict self.now.depth)
+            (context_of context.now) labels cursor.old) result cursor.new }
     {
         let name = cursor.name(self.alloc)?;
         let word = cursor.word();

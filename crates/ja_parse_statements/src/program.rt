@@ -25,7 +25,8 @@ fn statement_at(
     context: &Context<'_>,
     part: StatementPart,
 ) -> Result<Held<Statement>, Stop>
-    ensures { Follows (spec.statement_part (strict depth) (below strict depth) (context_of context.now) part cursor.old) result cursor.new }
+    ensures { Follows (spec.statement_part (strict depth) (below strict depth)
+        (context_of context.now) part cursor.old) result cursor.new }
 {
     Grammar {
         alloc,

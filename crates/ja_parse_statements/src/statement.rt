@@ -36,7 +36,8 @@ impl<
         part: StatementPart,
     ) -> Result<Held<Statement>, Stop>
         requires { Nests self.now.depth (G.pre self.now.statement) (G.post self.now.statement) }
-        ensures { Follows (spec.headed (strict self.now.depth) (below strict self.now.depth) (context_of context.now) part cursor.old) result cursor.new }
+        ensures { Follows (spec.headed (strict self.now.depth) (below strict self.now.depth)
+            (context_of context.now) part cursor.old) result cursor.new }
     {
         cursor.enter(self.depth)?;
         self.statement_below(cursor, context, part)
@@ -49,7 +50,8 @@ impl<
         outermost: bool,
     ) -> Result<Held<Statement>, Stop>
         requires { Nests self.now.depth (G.pre self.now.statement) (G.post self.now.statement) }
-        ensures { Follows (spec.function_statement (strict self.now.depth) (below strict self.now.depth) outermost cursor.old) result cursor.new }
+        ensures { Follows (spec.function_statement (strict self.now.depth)
+            (below strict self.now.depth) outermost cursor.old) result cursor.new }
     {
         if !outermost {
             return Err(Stop::Refused(Refusal::Unexpected));
@@ -65,15 +67,17 @@ impl<
         context: &Context<'_>,
     ) -> Result<Held<Statement>, Stop>
         requires { Nests self.now.depth (G.pre self.now.statement) (G.post self.now.statement) }
-        ensures { Follows (spec.single_by (strict self.now.depth) (below strict self.now.depth) (context_of context.now) 0 false (head cursor.old) k.OpenBrace cursor.old) result cursor.new }
+        ensures { Follows (spec.single_by (strict self.now.depth) (below strict self.now.depth)
+            (context_of context.now) 0 false (head cursor.old) k.OpenBrace cursor.old) result
+            cursor.new }
     {
         let place = cursor.place();
         let body = self.block(cursor, context)?;
         Ok(Held::new(self.alloc, Statement::Block { body, place })?)
     }
 
-    /// Reads a statement, which `labels` labels stand directly before; `outermost`: it stands directly
-    /// in the program or in the body of a function.
+    /// Reads a statement, which `labels` labels stand directly before; `outermost`: it stands
+    /// directly in the program or in the body of a function.
     #[tactic(auto, unfolding(ja_grammar::specs::ReadStatement::single))]
     pub fn single(
         &self,
@@ -83,7 +87,8 @@ impl<
         outermost: bool,
     ) -> Result<Held<Statement>, Stop>
         requires { Nests self.now.depth (G.pre self.now.statement) (G.post self.now.statement) }
-        ensures { Follows (spec.single (strict self.now.depth) (below strict self.now.depth) (context_of context.now) labels outermost cursor.old) result cursor.new }
+        ensures { Follows (spec.single (strict self.now.depth) (below strict self.now.depth)
+            (context_of context.now) labels outermost cursor.old) result cursor.new }
     {
         let place = cursor.place();
         match cursor.symbol() {
@@ -121,7 +126,8 @@ impl<
         part: StatementPart,
     ) -> Result<Held<Statement>, Stop>
         requires { Nests self.now.depth (G.pre self.now.statement) (G.post self.now.statement) }
-        ensures { Follows (spec.statement_part (strict self.now.depth) (below strict self.now.depth) (context_of context.now) part cursor.old) result cursor.new }
+        ensures { Follows (spec.statement_part (strict self.now.depth) (below strict self.now.depth)
+            (context_of context.now) part cursor.old) result cursor.new }
     {
         match part {
             StatementPart::Whole { labels, outermost } => self.single(
@@ -143,7 +149,9 @@ impl<
         context: &Context<'_>,
     ) -> Result<Items<Statement>, Stop>
         requires { Nests self.now.depth (G.pre self.now.statement) (G.post self.now.statement) }
-        ensures { Follows (until spec.is_end (spec.single (strict self.now.depth) (below strict self.now.depth) (context_of context.now) 0 true) cursor.old) result cursor.new }
+        ensures { Follows (until spec.is_end (spec.single (strict self.now.depth)
+            (below strict self.now.depth) (context_of context.now) 0 true) cursor.old) result
+            cursor.new }
     {
         let mut found = Items::new(self.alloc);
         for _turn in 0..cursor.left() {

@@ -38,13 +38,17 @@ pub texts_are_few : list_all (λ f. is_few f.1.now) FUNCTIONS ≡ true
 unfolding reading
 texts_are_few = refl
 
-spelled_by : (i : Tokens) (o : Outcome (List Statement)) → program strict max_levels i ≡ o → is_read o ≡ true → Spells max_levels i (statements_in o)
+spelled_by : (i : Tokens) (o : Outcome (List Statement)) → program strict max_levels i ≡ o
+    → is_read o ≡ true → Spells max_levels i (statements_in o)
 spelled_by i (Done xs r) is read = answered_tree i xs (subst (λ o. Answers o (Ok xs)) (sym is) refl)
 spelled_by i (Refused why r) is read = absurd (cc)
 
-pub spelled : (text : List ℕ) → is_text text ≡ true → Spells max_levels (numbered 1 (tokens text)) (tree_of text)
+pub spelled : (text : List ℕ) → is_text text ≡ true
+    → Spells max_levels (numbered 1 (tokens text)) (tree_of text)
 unfolding is_text tree_of
-spelled text read = spelled_by (numbered 1 (tokens text)) (program strict max_levels (numbered 1 (tokens text))) refl read
+spelled text read =
+    spelled_by (numbered 1 (tokens text)) (program strict max_levels (numbered 1 (tokens text)))
+    refl read
 
 -- ---- functions and names
 
@@ -52,9 +56,12 @@ one_each : list_all (λ f. length (functions_by computing (tree_of f.1.now)) == 
 unfolding reading listing
 one_each = refl
 
-pub texts_are_functions : list_all (λ f. length (functions_in (tree_of f.1.now)) == 1) FUNCTIONS ≡ true
+pub texts_are_functions : list_all (λ f. length (functions_in (tree_of f.1.now)) == 1) FUNCTIONS
+    ≡ true
 unfolding functions_in
-texts_are_functions = subst (λ r. list_all (λ f. length (functions_by r (tree_of f.1.now)) == 1) FUNCTIONS ≡ true) computing_is one_each
+texts_are_functions =
+    subst (λ r. list_all (λ f. length (functions_by r (tree_of f.1.now)) == 1) FUNCTIONS ≡ true)
+    computing_is one_each
 
 counted : length (functions_by computing prelude_statements) ≡ 43
 unfolding reading listing
@@ -62,7 +69,8 @@ counted = refl
 
 pub functions_counted : prelude_count prelude_statements ≡ 43
 unfolding functions_in
-functions_counted = subst (λ r. length (functions_by r prelude_statements) ≡ 43) computing_is counted
+functions_counted =
+    subst (λ r. length (functions_by r prelude_statements) ≡ 43) computing_is counted
 
 pub paths_counted : length prelude_paths ≡ 43
 unfolding prelude_paths
@@ -74,7 +82,9 @@ named = refl
 
 pub names_are : prelude_names ≡ builtin_names ++ own_names
 unfolding lower.names_of names_in
-names_are = subst (λ r. names_by r builtin_names prelude_statements ≡ builtin_names ++ own_names) computing_is named
+names_are =
+    subst (λ r. names_by r builtin_names prelude_statements ≡ builtin_names ++ own_names)
+    computing_is named
 
 pub names_counted : length prelude_names ≡ 118
 names_counted = ap length names_are
@@ -86,10 +96,13 @@ unfolding reading listing
 plain = refl
 
 pub nodes_are_allowed : lower.AreAllowed bodies
-nodes_are_allowed = all_allowed bodies (subst (λ rows. are_plain rows ≡ true) (sym rows_computed) plain)
+nodes_are_allowed =
+    all_allowed bodies (subst (λ rows. are_plain rows ≡ true) (sym rows_computed) plain)
 
-pub nodes_stand_alone : AllByRecursion (λ (body : Body). AllByRecursion (λ (info : NodeInfo). function_in info.node ≡ None) body.nodes) bodies
-nodes_stand_alone = all_alone bodies (subst (λ rows. are_plain rows ≡ true) (sym rows_computed) plain)
+pub nodes_stand_alone : AllByRecursion (λ (body : Body).
+    AllByRecursion (λ (info : NodeInfo). function_in info.node ≡ None) body.nodes) bodies
+nodes_stand_alone =
+    all_alone bodies (subst (λ rows. are_plain rows ≡ true) (sym rows_computed) plain)
 
 sized : sum_by size_of_row (rows_by computing) ≡ 1095
 unfolding reading listing
@@ -99,11 +112,13 @@ pub nodes_are_few : prelude_size_of builtin_names prelude_statements ≤ 1100
 unfolding prelude_size_of
 nodes_are_few = omega (arith, size_computed ∙ sized)
 
-stopping : by_path_of stops prelude_paths (rows_by computing) ≡ (codes "Function", CodeMaker) ∷ (codes "Function", CodeMaker) ∷ (codes "Number.prototype.toString", Radix) ∷ []
+stopping : by_path_of stops prelude_paths (rows_by computing) ≡ (codes "Function", CodeMaker)
+    ∷ (codes "Function", CodeMaker) ∷ (codes "Number.prototype.toString", Radix) ∷ []
 unfolding reading listing
 stopping = refl
 
-pub stops_are : by_path stops prelude_bodies ≡ (codes "Function", CodeMaker) ∷ (codes "Function", CodeMaker) ∷ (codes "Number.prototype.toString", Radix) ∷ []
+pub stops_are : by_path stops prelude_bodies ≡ (codes "Function", CodeMaker)
+    ∷ (codes "Function", CodeMaker) ∷ (codes "Number.prototype.toString", Radix) ∷ []
 stops_are = by_path_computed stops ∙ stopping
 
 using : by_path_of uses prelude_paths (rows_by computing) ≡ uses_told
@@ -113,11 +128,15 @@ using = refl
 pub uses_are : by_path uses prelude_bodies ≡ uses_told
 uses_are = by_path_computed uses ∙ using
 
-parametrised : map (λ (x : List ℕ × Row). x.1.parameters) (zip prelude_paths (rows_by computing)) ≡ 0 ∷ 1 ∷ 1 ∷ 1 ∷ 1 ∷ 1 ∷ 1 ∷ 1 ∷ 1 ∷ 1 ∷ 1 ∷ 1 ∷ 1 ∷ 1 ∷ 1 ∷ 1 ∷ 1 ∷ 1 ∷ 1 ∷ 1 ∷ 1 ∷ 1 ∷ 1 ∷ 1 ∷ 1 ∷ 1 ∷ 1 ∷ 0 ∷ 0 ∷ 1 ∷ 1 ∷ 1 ∷ 2 ∷ 1 ∷ 0 ∷ 0 ∷ 0 ∷ 0 ∷ 1 ∷ 0 ∷ 0 ∷ 0 ∷ 0 ∷ []
+parametrised : map (λ (x : List ℕ × Row). x.1.parameters) (zip prelude_paths (rows_by computing))
+    ≡ 0 ∷ 1 ∷ 1 ∷ 1 ∷ 1 ∷ 1 ∷ 1 ∷ 1 ∷ 1 ∷ 1 ∷ 1 ∷ 1 ∷ 1 ∷ 1 ∷ 1 ∷ 1 ∷ 1 ∷ 1 ∷ 1 ∷ 1 ∷ 1 ∷ 1 ∷ 1 ∷ 1
+    ∷ 1 ∷ 1 ∷ 1 ∷ 0 ∷ 0 ∷ 1 ∷ 1 ∷ 1 ∷ 2 ∷ 1 ∷ 0 ∷ 0 ∷ 0 ∷ 0 ∷ 1 ∷ 0 ∷ 0 ∷ 0 ∷ 0 ∷ []
 unfolding reading listing
 parametrised = refl
 
-parameters_are : parameter_counts ≡ 0 ∷ 1 ∷ 1 ∷ 1 ∷ 1 ∷ 1 ∷ 1 ∷ 1 ∷ 1 ∷ 1 ∷ 1 ∷ 1 ∷ 1 ∷ 1 ∷ 1 ∷ 1 ∷ 1 ∷ 1 ∷ 1 ∷ 1 ∷ 1 ∷ 1 ∷ 1 ∷ 1 ∷ 1 ∷ 1 ∷ 1 ∷ 0 ∷ 0 ∷ 1 ∷ 1 ∷ 1 ∷ 2 ∷ 1 ∷ 0 ∷ 0 ∷ 0 ∷ 0 ∷ 1 ∷ 0 ∷ 0 ∷ 0 ∷ 0 ∷ []
+parameters_are : parameter_counts ≡ 0 ∷ 1 ∷ 1 ∷ 1 ∷ 1 ∷ 1 ∷ 1 ∷ 1 ∷ 1 ∷ 1 ∷ 1 ∷ 1 ∷ 1 ∷ 1 ∷ 1 ∷ 1
+    ∷ 1 ∷ 1 ∷ 1 ∷ 1 ∷ 1 ∷ 1 ∷ 1 ∷ 1 ∷ 1 ∷ 1 ∷ 1 ∷ 0 ∷ 0 ∷ 1 ∷ 1 ∷ 1 ∷ 2 ∷ 1 ∷ 0 ∷ 0 ∷ 0 ∷ 0 ∷ 1 ∷ 0
+    ∷ 0 ∷ 0 ∷ 0 ∷ []
 parameters_are = parameters_computed ∙ parametrised
 
 -- ---- the table
@@ -126,5 +145,8 @@ pub paths_are_told : prelude_paths ≡ function_paths ++ codes "%valueFirst" ∷
 unfolding prelude_paths
 paths_are_told = refl
 
-pub lengths_are_told : map (λ (row : ℕ × Option ℕ). slice_get parameter_counts row.0) lengths ≡ map (λ (row : ℕ × Option ℕ). row.1) lengths
-lengths_are_told = subst (λ counts. map (λ (row : ℕ × Option ℕ). slice_get counts row.0) lengths ≡ map (λ (row : ℕ × Option ℕ). row.1) lengths) (sym parameters_are) refl
+pub lengths_are_told : map (λ (row : ℕ × Option ℕ). slice_get parameter_counts row.0) lengths
+    ≡ map (λ (row : ℕ × Option ℕ). row.1) lengths
+lengths_are_told =
+    subst (λ counts. map (λ (row : ℕ × Option ℕ). slice_get counts row.0) lengths
+    ≡ map (λ (row : ℕ × Option ℕ). row.1) lengths) (sym parameters_are) refl

@@ -12,16 +12,28 @@ pub record Made (A B C : Type 0) : Type 0 where
   pub statement : Statement → B
   pub case : Case → C
 
-module _ (A B C : Type 0) (e : Expression-F A B C → A) (s : Statement-F A B C → B) (c : Case-F A B C → C) where
+module _ (A B C : Type 0) (e : Expression-F A B C → A) (s : Statement-F A B C → B)
+    (c : Case-F A B C → C) where
   abbrev pub folds : Made A B C
-  folds = record { expression = fold-Expression A B C e s c; statement = fold-Statement A B C e s c; case = fold-Case A B C e s c }
+  folds =
+      record {
+        expression = fold-Expression A B C e s c;
+        statement = fold-Statement A B C e s c;
+        case = fold-Case A B C e s c;
+      }
 
   -- one level above what is made
   abbrev pub fold_above : Made A B C → Made A B C
   fold_above m = record {
-    expression = λ x. e (map-Expression Expression Statement Case A B C m.expression m.statement m.case (out-Expression x));
-    statement = λ x. s (map-Statement Expression Statement Case A B C m.expression m.statement m.case (out-Statement x));
-    case = λ x. c (map-Case Expression Statement Case A B C m.expression m.statement m.case (out-Case x));
+    expression =
+        λ x. e (map-Expression Expression Statement Case A B C m.expression m.statement m.case
+        (out-Expression x));
+    statement =
+        λ x. s (map-Statement Expression Statement Case A B C m.expression m.statement m.case
+        (out-Statement x));
+    case =
+        λ x. c (map-Case Expression Statement Case A B C m.expression m.statement m.case
+        (out-Case x));
   }
 
   unfoldable pub fold_levels : ℕ → Made A B C
@@ -53,13 +65,24 @@ module _ (A B C : Type 0) where
 
   module _ (e : Expression-F E S K → A) (s : Statement-F E S K → B) (c : Case-F E S K → C) where
     abbrev pub paras : Made A B C
-    paras = record { expression = para-Expression A B C e s c; statement = para-Statement A B C e s c; case = para-Case A B C e s c }
+    paras =
+        record {
+          expression = para-Expression A B C e s c;
+          statement = para-Statement A B C e s c;
+          case = para-Case A B C e s c;
+        }
 
     abbrev pub para_above : Made A B C → Made A B C
     para_above m = record {
-      expression = λ x. e (map-Expression Expression Statement Case E S K (λ y. (y, m.expression y)) (λ y. (y, m.statement y)) (λ y. (y, m.case y)) (out-Expression x));
-      statement = λ x. s (map-Statement Expression Statement Case E S K (λ y. (y, m.expression y)) (λ y. (y, m.statement y)) (λ y. (y, m.case y)) (out-Statement x));
-      case = λ x. c (map-Case Expression Statement Case E S K (λ y. (y, m.expression y)) (λ y. (y, m.statement y)) (λ y. (y, m.case y)) (out-Case x));
+      expression =
+          λ x. e (map-Expression Expression Statement Case E S K (λ y. (y, m.expression y))
+          (λ y. (y, m.statement y)) (λ y. (y, m.case y)) (out-Expression x));
+      statement =
+          λ x. s (map-Statement Expression Statement Case E S K (λ y. (y, m.expression y))
+          (λ y. (y, m.statement y)) (λ y. (y, m.case y)) (out-Statement x));
+      case =
+          λ x. c (map-Case Expression Statement Case E S K (λ y. (y, m.expression y))
+          (λ y. (y, m.statement y)) (λ y. (y, m.case y)) (out-Case x));
     }
 
     unfoldable pub para_levels : ℕ → Made A B C
@@ -68,9 +91,15 @@ module _ (A B C : Type 0) where
 
     para_once : para_above paras ≡ paras
     para_once = λ i. record {
-      expression = λ x. sym (ap (para-Expression A B C e s c) (sym (roll-out-Expression x)) ∙ para-roll-Expression A B C e s c (out-Expression x)) i;
-      statement = λ x. sym (ap (para-Statement A B C e s c) (sym (roll-out-Statement x)) ∙ para-roll-Statement A B C e s c (out-Statement x)) i;
-      case = λ x. sym (ap (para-Case A B C e s c) (sym (roll-out-Case x)) ∙ para-roll-Case A B C e s c (out-Case x)) i;
+      expression =
+          λ x. sym (ap (para-Expression A B C e s c) (sym (roll-out-Expression x))
+          ∙ para-roll-Expression A B C e s c (out-Expression x)) i;
+      statement =
+          λ x. sym (ap (para-Statement A B C e s c) (sym (roll-out-Statement x))
+          ∙ para-roll-Statement A B C e s c (out-Statement x)) i;
+      case =
+          λ x. sym (ap (para-Case A B C e s c) (sym (roll-out-Case x))
+          ∙ para-roll-Case A B C e s c (out-Case x)) i;
     }
 
     pub para_levels_are : (n : ℕ) → para_levels n ≡ paras

@@ -10,6 +10,7 @@ pub mod ObjectLemmas
 pub mod OpeningLemmas
 pub mod Readings
 pub mod Rows
+pub mod Rulesets
 pub mod TableLemmas
 pub mod Templates
 pub mod Trees

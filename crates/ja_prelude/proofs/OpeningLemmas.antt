@@ -28,69 +28,126 @@ use Rattle.ja_prelude.proofs.TableLemmas.{are_objects, contents-plain, functions
 -- ---- objects
 
 -- the objects of the table are well formed
-pub objects_are_well_formed : (p : Program) (i : ℕ) (o : ObjectSpec) → p.opening ≡ opening_objects → length builtin_names ≤ length p.names → slice_get p.opening i ≡ Some o → IsObjectWellFormed p i o
+pub objects_are_well_formed : (p : Program) (i : ℕ) (o : ObjectSpec) → p.opening ≡ opening_objects
+    → length builtin_names ≤ length p.names → slice_get p.opening i ≡ Some o
+    → IsObjectWellFormed p i o
 objects_are_well_formed p i o opening names is =
-    object-well_formed 43 104 p i o (ap length opening ∙ table-count) (omega (arith, names, names_count)) (ap (are_objects 43 104 []) opening ∙ table-objects) is
+    object-well_formed 43 104 p i o (ap length opening ∙ table-count)
+    (omega (arith, names, names_count)) (ap (are_objects 43 104 []) opening ∙ table-objects) is
 
 -- each site of theirs has its object
-pub sites_have_objects : (p : Program) (s : ℕ) → p.opening ≡ opening_objects → s < length p.opening → IsSome (object_spec p s)
+pub sites_have_objects : (p : Program) (s : ℕ) → p.opening ≡ opening_objects → s < length p.opening
+    → IsSome (object_spec p s)
 sites_have_objects p s opening before =
-    subst (λ os. IsSome (find (λ (o : ObjectSpec). o.site.0 == s) os)) (sym opening) (below-at (λ n. is_some (find (λ (o : ObjectSpec). o.site.0 == n) opening_objects)) 43 s table-sites (omega (arith, before, ap length opening, table-count)))
+    subst (λ os. IsSome (find (λ (o : ObjectSpec). o.site.0 == s) os)) (sym opening)
+    (below-at (λ n. is_some (find (λ (o : ObjectSpec). o.site.0 == n) opening_objects)) 43 s
+    table-sites (omega (arith, before, ap length opening, table-count)))
 
 -- ---- sites
 
-class-at : (xs : List SiteInfo) (s : ℕ) (c : Class) → slice_get (map (λ (x : SiteInfo). x.class) xs) s ≡ Some c → (info : SiteInfo) × (slice_get xs s ≡ Some info) × (info.class ≡ c)
+class-at : (xs : List SiteInfo) (s : ℕ) (c : Class)
+    → slice_get (map (λ (x : SiteInfo). x.class) xs) s ≡ Some c
+    → (info : SiteInfo) × (slice_get xs s ≡ Some info) × (info.class ≡ c)
 class-at [] s c is = absurd (cc)
 class-at (x ∷ xs) zero c is = let same : x.class ≡ c = cc in (x, refl, same)
 class-at (x ∷ xs) (suc s) c is = class-at xs s c is
 
 -- the program tells their classes
-pub classes_are_told : (first : ℕ) (p : Program) (others : List SiteInfo) → p.sites ≡ builtin_sites first ++ others → p.opening ≡ opening_objects → (s : ℕ) (c : Class) → slice_get BUILTIN_CLASSES s ≡ Some c → IsBuiltin p s c
+pub classes_are_told : (first : ℕ) (p : Program) (others : List SiteInfo)
+    → p.sites ≡ builtin_sites first ++ others → p.opening ≡ opening_objects → (s : ℕ) (c : Class)
+    → slice_get BUILTIN_CLASSES s ≡ Some c → IsBuiltin p s c
 classes_are_told first p others sites opening s c is =
-    let found = class-at (builtin_sites first) s c (ap (λ cs. slice_get cs s) (sites-classes first) ∙ is) in
-    (found.0, ap (λ xs. slice_get xs s) sites ∙ get-front (builtin_sites first) others s found.0 found.1, found.2, omega (arith, slice_get_within (builtin_sites first) s found.0 found.1, sites_count first, ap length opening, table-count))
+    let found = class-at (builtin_sites first) s c
+    (ap (λ cs. slice_get cs s) (sites-classes first) ∙ is) in (
+      found.0,
+      ap (λ xs. slice_get xs s) sites
+          ∙ get-front (builtin_sites first) others s found.0 found.1,
+      found.2,
+      omega (
+        arith,
+        slice_get_within (builtin_sites first) s found.0 found.1,
+        sites_count first,
+        ap length opening,
+        table-count,
+      ),
+    )
 
--- what holds of the site of each object that passes a test holds of each site of a table whose objects do
-sites-all : (P : SiteInfo → Type 0) (test : TableRow → Bool) (first : ℕ) (table : List TableRow) → ((c : Class) (row : TableRow) → test row ≡ true → P (site_of first c row.path row.object.role)) → list_all test table ≡ true → (rows : List (ℕ × Class)) → AllByRecursion P (flat_map (sites_with first table) rows)
+-- what holds of the site of each object that passes a test holds of each site of a table whose
+-- objects do
+sites-all : (P : SiteInfo → Type 0) (test : TableRow → Bool) (first : ℕ) (table : List TableRow)
+    → ((c : Class) (row : TableRow) → test row ≡ true
+    → P (site_of first c row.path row.object.role)) → list_all test table ≡ true
+    → (rows : List (ℕ × Class)) → AllByRecursion P (flat_map (sites_with first table) rows)
 sites-all P test first table each all [] = tt
 sites-all P test first table each all (site ∷ rows) =
-    all_append P (sites_with first table site) (flat_map (sites_with first table) rows) (at (row_with table site.0) refl) (sites-all P test first table each all rows)
+    all_append P (sites_with first table site) (flat_map (sites_with first table) rows)
+    (at (row_with table site.0) refl) (sites-all P test first table each all rows)
   where
-    at : (found : Option TableRow) → row_with table site.0 ≡ found → AllByRecursion P (option_to_list (option_map (λ (row : TableRow). site_of first site.1 row.path row.object.role) found))
+    at : (found : Option TableRow) → row_with table site.0 ≡ found
+        → AllByRecursion P (option_to_list (option_map
+        (λ (row : TableRow). site_of first site.1 row.path row.object.role) found))
     at None e = tt
-    at (Some row) e = (each site.1 row (all-found test (λ (row : TableRow). row.object.site.0 == site.0) table row all e), tt)
+    at (Some row) e = (
+      each site.1 row (all-found test (λ (row : TableRow). row.object.site.0 == site.0) table row
+          all e),
+      tt,
+    )
 
-functions-named : (first : ℕ) (p : Program) (k : Option ℕ) → first + 43 ≤ length p.functions → is_below 43 k ≡ true → AllByRecursion (IsFunction p) (option_to_list (option_map (function_of first) k))
+functions-named : (first : ℕ) (p : Program) (k : Option ℕ) → first + 43 ≤ length p.functions
+    → is_below 43 k ≡ true → AllByRecursion (IsFunction p)
+    (option_to_list (option_map (function_of first) k))
 functions-named first p None many below = tt
 functions-named first p (Some k) many below = (omega (arith, many, lt_of k 43 below), tt)
 
 -- the functions that they run are there
-pub sites_name_functions : (first : ℕ) (p : Program) → first + 43 ≤ length p.functions → AllByRecursion (NamesFunctions p) (builtin_sites first)
+pub sites_name_functions : (first : ℕ) (p : Program) → first + 43 ≤ length p.functions
+    → AllByRecursion (NamesFunctions p) (builtin_sites first)
 unfolding builtin_sites
 sites_name_functions first p many =
-    sites-all (NamesFunctions p) (λ (row : TableRow). is_below 43 (call_of row.object.role) && is_below 43 (construct_of row.object.role)) first table_rows each functions-below (enumerate_from 0 BUILTIN_CLASSES)
+    sites-all (NamesFunctions p) (λ (row : TableRow). is_below 43 (call_of row.object.role)
+    && is_below 43 (construct_of row.object.role)) first table_rows each functions-below
+    (enumerate_from 0 BUILTIN_CLASSES)
   where
-    each : (c : Class) (row : TableRow) → (is_below 43 (call_of row.object.role) && is_below 43 (construct_of row.object.role)) ≡ true → NamesFunctions p (site_of first c row.path row.object.role)
+    each : (c : Class) (row : TableRow) → (is_below 43 (call_of row.object.role)
+        && is_below 43 (construct_of row.object.role)) ≡ true
+        → NamesFunctions p (site_of first c row.path row.object.role)
     each c row below = record {
       owner = tt;
-      calls = functions-named first p (call_of row.object.role) many (and_left_true (is_below 43 (call_of row.object.role)) (is_below 43 (construct_of row.object.role)) below);
-      constructs = functions-named first p (construct_of row.object.role) many (and_right_true (is_below 43 (call_of row.object.role)) (is_below 43 (construct_of row.object.role)) below);
+      calls =
+          functions-named first p (call_of row.object.role) many
+          (and_left_true (is_below 43 (call_of row.object.role))
+          (is_below 43 (construct_of row.object.role)) below);
+      constructs =
+          functions-named first p (construct_of row.object.role) many
+          (and_right_true (is_below 43 (call_of row.object.role))
+          (is_below 43 (construct_of row.object.role)) below);
     }
 
-pub sites_have_no_owner : (first : ℕ) → AllByRecursion (λ (info : SiteInfo). info.owner ≡ None) (builtin_sites first)
+pub sites_have_no_owner : (first : ℕ) → AllByRecursion (λ (info : SiteInfo). info.owner ≡ None)
+    (builtin_sites first)
 unfolding builtin_sites
 sites_have_no_owner first =
-    sites-all (λ (info : SiteInfo). info.owner ≡ None) (λ (row : TableRow). is_below 43 (call_of row.object.role) && is_below 43 (construct_of row.object.role)) first table_rows (λ c row below. refl) functions-below (enumerate_from 0 BUILTIN_CLASSES)
+    sites-all (λ (info : SiteInfo). info.owner ≡ None)
+    (λ (row : TableRow). is_below 43 (call_of row.object.role)
+    && is_below 43 (construct_of row.object.role)) first table_rows (λ c row below. refl)
+    functions-below (enumerate_from 0 BUILTIN_CLASSES)
 
 -- the site of this number is one of theirs
-here : (first : ℕ) (p : Program) (others : List SiteInfo) → p.sites ≡ builtin_sites first ++ others → (s : ℕ) (info : SiteInfo) → s < 43 → slice_get p.sites s ≡ Some info → slice_get (builtin_sites first) s ≡ Some info
+here : (first : ℕ) (p : Program) (others : List SiteInfo) → p.sites ≡ builtin_sites first ++ others
+    → (s : ℕ) (info : SiteInfo) → s < 43 → slice_get p.sites s ≡ Some info
+    → slice_get (builtin_sites first) s ≡ Some info
 here first p others sites s info before is =
-    get-first (builtin_sites first) others s info (omega (arith, before, sites_count first)) (sym (ap (λ xs. slice_get xs s) sites) ∙ is)
+    get-first (builtin_sites first) others s info (omega (arith, before, sites_count first))
+    (sym (ap (λ xs. slice_get xs s) sites) ∙ is)
 
 -- they have no owner
-pub sites_are_unowned : (first : ℕ) (p : Program) (others : List SiteInfo) → p.sites ≡ builtin_sites first ++ others → p.opening ≡ opening_objects → (s : ℕ) → s < length p.opening → (info : SiteInfo) → slice_get p.sites s ≡ Some info → info.owner ≡ None
+pub sites_are_unowned : (first : ℕ) (p : Program) (others : List SiteInfo)
+    → p.sites ≡ builtin_sites first ++ others → p.opening ≡ opening_objects → (s : ℕ)
+    → s < length p.opening → (info : SiteInfo) → slice_get p.sites s ≡ Some info → info.owner ≡ None
 sites_are_unowned first p others sites opening s before info is =
-    all_at (λ (info : SiteInfo). info.owner ≡ None) (builtin_sites first) s info (sites_have_no_owner first) (here first p others sites s info (omega (arith, before, ap length opening, table-count)) is)
+    all_at (λ (info : SiteInfo). info.owner ≡ None) (builtin_sites first) s info
+    (sites_have_no_owner first) (here first p others sites s info
+    (omega (arith, before, ap length opening, table-count)) is)
 
 -- ---- objects that are no functions
 
@@ -98,59 +155,108 @@ abbrev has_none : SiteInfo → Bool
 has_none info = is_none info.calls && is_none info.constructs
 
 -- whether a site has functions is what the table says
-same-plain : (first : ℕ) (s : ℕ) (info : SiteInfo) → s < 43 → slice_get (builtin_sites first) s ≡ Some info → has_none info ≡ is_plain s
+same-plain : (first : ℕ) (s : ℕ) (info : SiteInfo) → s < 43
+    → slice_get (builtin_sites first) s ≡ Some info → has_none info ≡ is_plain s
 same-plain first s info before is =
-    let told : slice_get (map has_none (builtin_sites first)) s ≡ Some (has_none info) = slice_get-map has_none (builtin_sites first) s ∙ ap (option_map has_none) is in
-    let row : slice_get (map is_plain (range_with_len 0 43)) s ≡ Some (is_plain s) = slice_get-map is_plain (range_with_len 0 43) s ∙ ap (option_map is_plain) (get-range 0 43 s before ∙ ap Some (omega arith)) in
-    same_Some (has_none info) (is_plain s) (sym told ∙ ap (λ bs. slice_get bs s) (sites-plain first) ∙ row)
+    let told : slice_get (map has_none (builtin_sites first)) s
+    ≡ Some (has_none info) = slice_get-map has_none (builtin_sites first) s
+    ∙ ap (option_map has_none) is in
+    let row : slice_get (map is_plain (range_with_len 0 43)) s
+    ≡ Some (is_plain s) = slice_get-map is_plain (range_with_len 0 43) s
+    ∙ ap (option_map is_plain) (get-range 0 43 s before ∙ ap Some (omega arith)) in
+    same_Some (has_none info) (is_plain s) (sym told ∙ ap (λ bs. slice_get bs s) (sites-plain first)
+    ∙ row)
 
-pub plain_site : (first : ℕ) (p : Program) (others : List SiteInfo) → p.sites ≡ builtin_sites first ++ others → (s : Site) → s.0 < 43 → is_plain s.0 ≡ true → IsPlain p s
+pub plain_site : (first : ℕ) (p : Program) (others : List SiteInfo)
+    → p.sites ≡ builtin_sites first ++ others → (s : Site) → s.0 < 43 → is_plain s.0 ≡ true
+    → IsPlain p s
 plain_site first p others sites s before plain info is =
-    let none : has_none info ≡ true = same-plain first s.0 info before (here first p others sites s.0 info before is) ∙ plain in
-    (none_by_test info.calls (and_left_true (is_none info.calls) (is_none info.constructs) none), none_by_test info.constructs (and_right_true (is_none info.calls) (is_none info.constructs) none))
+    let none : has_none info ≡ true = same-plain first s.0 info before
+    (here first p others sites s.0 info before is) ∙ plain in (
+      none_by_test info.calls (and_left_true (is_none info.calls) (is_none info.constructs) none),
+      none_by_test info.constructs (and_right_true (is_none info.calls) (is_none info.constructs)
+          none),
+    )
 
-site-plain : (first : ℕ) (p : Program) (others : List SiteInfo) → p.sites ≡ builtin_sites first ++ others → (s : Site) → s.0 < 43 → IsPlain p s → is_plain s.0 ≡ true
+site-plain : (first : ℕ) (p : Program) (others : List SiteInfo)
+    → p.sites ≡ builtin_sites first ++ others → (s : Site) → s.0 < 43 → IsPlain p s
+    → is_plain s.0 ≡ true
 site-plain first p others sites s before plain =
-    let found = element_within (builtin_sites first) s.0 (omega (arith, before, sites_count first)) in
-    let none = plain found.0 (ap (λ xs. slice_get xs s.0) sites ∙ get-front (builtin_sites first) others s.0 found.0 found.1) in
+    let found = element_within (builtin_sites first) s.0
+    (omega (arith, before, sites_count first)) in
+    let none = plain found.0 (ap (λ xs. slice_get xs s.0) sites
+    ∙ get-front (builtin_sites first) others s.0 found.0 found.1) in
     let calls : is_none found.0.calls ≡ true = ap is_none none.0 in
     let constructs : is_none found.0.constructs ≡ true = ap is_none none.1 in
-    sym (same-plain first s.0 found.0 before found.1) ∙ both-pass (is_none found.0.calls) (is_none found.0.constructs) calls constructs
+    sym (same-plain first s.0 found.0 before found.1)
+    ∙ both-pass (is_none found.0.calls) (is_none found.0.constructs) calls constructs
   where
     both-pass : (a b : Bool) → a ≡ true → b ≡ true → (a && b) ≡ true
     both-pass true b holds also = also
     both-pass false b holds also = absurd (cc)
 
-inside : (p : Program) (i : ℕ) (o : ObjectSpec) → p.opening ≡ opening_objects → slice_get p.opening i ≡ Some o → o.site.0 < 43
+inside : (p : Program) (i : ℕ) (o : ObjectSpec) → p.opening ≡ opening_objects
+    → slice_get p.opening i ≡ Some o → o.site.0 < 43
 inside p i o opening is =
-    lt_of o.site.0 43 (all-get (λ (o : ObjectSpec). nat_lt o.site.0 43) opening_objects i o table-inside (sym (ap (λ os. slice_get os i) opening) ∙ is))
+    lt_of o.site.0 43 (all-get (λ (o : ObjectSpec). nat_lt o.site.0 43) opening_objects i o
+    table-inside (sym (ap (λ os. slice_get os i) opening) ∙ is))
 
 -- the prototype of an object that is no function is none either
-pub prototypes_are_plain : (first : ℕ) (p : Program) (others : List SiteInfo) → p.sites ≡ builtin_sites first ++ others → p.opening ≡ opening_objects → (i : ℕ) (o : ObjectSpec) (s : Site) → slice_get p.opening i ≡ Some o → IsPlain p o.site → o.prototype ≡ Some s → IsPlain p s
+pub prototypes_are_plain : (first : ℕ) (p : Program) (others : List SiteInfo)
+    → p.sites ≡ builtin_sites first ++ others → p.opening ≡ opening_objects
+    → (i : ℕ) (o : ObjectSpec) (s : Site) → slice_get p.opening i ≡ Some o → IsPlain p o.site
+    → o.prototype ≡ Some s → IsPlain p s
 prototypes_are_plain first p others sites opening i o s is plain prototype =
-    let test = all-get (λ (o : ObjectSpec). not (is_plain o.site.0) || is_plain_prototype o.prototype) opening_objects i o prototypes-plain (sym (ap (λ os. slice_get os i) opening) ∙ is) in
-    let passes = or-second (is_plain o.site.0) (is_plain_prototype o.prototype) test (site-plain first p others sites o.site (inside p i o opening is) plain) in
-    let fits : (nat_lt s.0 43 && is_plain s.0) ≡ true = sym (ap is_plain_prototype prototype) ∙ passes in
-    plain_site first p others sites s (lt_of s.0 43 (and_left_true (nat_lt s.0 43) (is_plain s.0) fits)) (and_right_true (nat_lt s.0 43) (is_plain s.0) fits)
+    let test = all-get (λ (o : ObjectSpec). not (is_plain o.site.0)
+    || is_plain_prototype o.prototype) opening_objects i o prototypes-plain
+    (sym (ap (λ os. slice_get os i) opening) ∙ is) in
+    let passes = or-second (is_plain o.site.0) (is_plain_prototype o.prototype) test
+    (site-plain first p others sites o.site (inside p i o opening is) plain) in
+    let fits : (nat_lt s.0 43 && is_plain s.0) ≡ true = sym (ap is_plain_prototype prototype)
+    ∙ passes in
+    plain_site first p others sites s (lt_of s.0 43
+    (and_left_true (nat_lt s.0 43) (is_plain s.0) fits))
+    (and_right_true (nat_lt s.0 43) (is_plain s.0) fits)
 
-plain-content : (first : ℕ) (p : Program) (others : List SiteInfo) → p.sites ≡ builtin_sites first ++ others → (c : SpecContent) → is_plain_content c ≡ true → IsPlainContent p c
+plain-content : (first : ℕ) (p : Program) (others : List SiteInfo)
+    → p.sites ≡ builtin_sites first ++ others → (c : SpecContent) → is_plain_content c ≡ true
+    → IsPlainContent p c
 plain-content first p others sites (content.Object s) fits =
-    plain_site first p others sites s (lt_of s.0 43 (and_left_true (nat_lt s.0 43) (is_plain s.0) fits)) (and_right_true (nat_lt s.0 43) (is_plain s.0) fits)
+    plain_site first p others sites s (lt_of s.0 43
+    (and_left_true (nat_lt s.0 43) (is_plain s.0) fits))
+    (and_right_true (nat_lt s.0 43) (is_plain s.0) fits)
 plain-content first p others sites (content.Prim value) fits = tt
 plain-content first p others sites content.Row fits = tt
 
-global-name : (p : Program) (q : PropertySpec) → take (length builtin_names) p.names ≡ builtin_names → (name : Option (List ℕ)) → slice_get builtin_names q.name.0 ≡ name → is_global name ≡ true → IsGlobalName p q
+global-name : (p : Program) (q : PropertySpec) → take (length builtin_names) p.names ≡ builtin_names
+    → (name : Option (List ℕ)) → slice_get builtin_names q.name.0 ≡ name → is_global name ≡ true
+    → IsGlobalName p q
 global-name p q names None is global = absurd (cc)
-global-name p q names (Some t) is global =
-    (t, element_taken (length builtin_names) p.names q.name.0 t (ap (λ ns. slice_get ns q.name.0) names ∙ is), global)
+global-name p q names (Some t) is global = (
+  t,
+  element_taken (length builtin_names) p.names q.name.0 t
+      (ap (λ ns. slice_get ns q.name.0) names ∙ is),
+  global,
+)
 
--- what is no function has no property that holds one, but under the name of a property of the global object or of its prototype
-pub contents_are_plain : (first : ℕ) (p : Program) (others : List SiteInfo) → p.sites ≡ builtin_sites first ++ others → p.opening ≡ opening_objects → take (length builtin_names) p.names ≡ builtin_names → (i j : ℕ) (o : ObjectSpec) (q : PropertySpec) → slice_get p.opening i ≡ Some o → IsPlain p o.site → slice_get o.properties j ≡ Some q → IsPlainContent p q.content ⊎ IsGlobalName p q
+-- what is no function has no property that holds one, but under the name of a property of the
+-- global object or of its prototype
+pub contents_are_plain : (first : ℕ) (p : Program) (others : List SiteInfo)
+    → p.sites ≡ builtin_sites first ++ others → p.opening ≡ opening_objects
+    → take (length builtin_names) p.names ≡ builtin_names
+    → (i j : ℕ) (o : ObjectSpec) (q : PropertySpec) → slice_get p.opening i ≡ Some o
+    → IsPlain p o.site → slice_get o.properties j ≡ Some q
+    → IsPlainContent p q.content ⊎ IsGlobalName p q
 contents_are_plain first p others sites opening names i j o q is plain property =
-    let test = all-get (λ (o : ObjectSpec). not (is_plain o.site.0) || list_all leads_to_plain o.properties) opening_objects i o contents-plain (sym (ap (λ os. slice_get os i) opening) ∙ is) in
-    let passes = or-second (is_plain o.site.0) (list_all leads_to_plain o.properties) test (site-plain first p others sites o.site (inside p i o opening is) plain) in
+    let test = all-get (λ (o : ObjectSpec). not (is_plain o.site.0)
+    || list_all leads_to_plain o.properties) opening_objects i o contents-plain
+    (sym (ap (λ os. slice_get os i) opening) ∙ is) in
+    let passes = or-second (is_plain o.site.0) (list_all leads_to_plain o.properties) test
+    (site-plain first p others sites o.site (inside p i o opening is) plain) in
     at (is_plain_content q.content) refl (all-get leads_to_plain o.properties j q passes property)
   where
-    at : (b : Bool) → is_plain_content q.content ≡ b → (b || is_global (slice_get builtin_names q.name.0)) ≡ true → IsPlainContent p q.content ⊎ IsGlobalName p q
+    at : (b : Bool) → is_plain_content q.content ≡ b
+        → (b || is_global (slice_get builtin_names q.name.0)) ≡ true
+        → IsPlainContent p q.content ⊎ IsGlobalName p q
     at true e passes = inl (plain-content first p others sites q.content e)
     at false e passes = inr (global-name p q names (slice_get builtin_names q.name.0) refl passes)

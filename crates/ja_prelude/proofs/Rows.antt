@@ -34,37 +34,51 @@ abbrev pub row_of : Body → Row
 row_of body = record { parameters = length body.parameters; nodes = nodes_of body }
 
 abbrev pub row_by : Readings → Scene → FunctionOf Statement → Row
-row_by r scene f = record { parameters = length f.parameters; nodes = map (λ (n : Node × Place). n.0) (placed (listing_by r scene f)) }
+row_by r scene f =
+    record {
+      parameters = length f.parameters;
+      nodes = map (λ (n : Node × Place). n.0) (placed (listing_by r scene f));
+    }
 
 unfoldable pub rows_by : Readings → List Row
-rows_by r = map (row_by r (scene_by r (names_by r builtin_names prelude_statements) prelude_statements)) (functions_by r prelude_statements)
+rows_by r =
+    map (row_by r (scene_by r (names_by r builtin_names prelude_statements) prelude_statements))
+    (functions_by r prelude_statements)
 
 -- the functions without their paths
 abbrev pub bodies : List Body
 bodies = lower.prelude_bodies prelude_names prelude_statements
 
-map_after : {A B C : Type 0} (g : B → C) (f : A → B) (xs : List A) → map g (map f xs) ≡ map (λ x. g (f x)) xs
+map_after : {A B C : Type 0} (g : B → C) (f : A → B) (xs : List A)
+    → map g (map f xs) ≡ map (λ x. g (f x)) xs
 map_after g f [] = refl
 map_after g f (x ∷ xs) = ap (λ ys. g (f x) ∷ ys) (map_after g f xs)
 
-nodes_listed : (whole : List Item) → map (λ (info : NodeInfo). info.node) (assembled whole) ≡ map (λ (n : Node × Place). n.0) (placed whole)
+nodes_listed : (whole : List Item) → map (λ (info : NodeInfo). info.node) (assembled whole)
+    ≡ map (λ (n : Node × Place). n.0) (placed whole)
 nodes_listed whole =
-    sym (map_after (λ (n : Node × Place). n.0) (λ (info : NodeInfo). (info.node, info.place)) (assembled whole))
+    sym (map_after (λ (n : Node × Place). n.0) (λ (info : NodeInfo). (info.node, info.place))
+    (assembled whole))
     ∙ ap (λ ns. map (λ (n : Node × Place). n.0) ns) (assembled_kept whole)
 
-row_is : (scene : Scene) (f : FunctionOf Statement) → row_of (function_body scene f) ≡ row_by defined scene f
+row_is : (scene : Scene) (f : FunctionOf Statement)
+    → row_of (function_body scene f) ≡ row_by defined scene f
 row_is scene f =
     let counted = length-map f.parameters (λ (p : Name). number scene.names p.text) in
-    let listed = nodes_listed (function_listing scene f) ∙ ap (λ items. map (λ (n : Node × Place). n.0) (placed items)) (sym (listing_defined scene f)) in
+    let listed = nodes_listed (function_listing scene f)
+    ∙ ap (λ items. map (λ (n : Node × Place). n.0) (placed items))
+    (sym (listing_defined scene f)) in
     λ i. record { parameters = counted i; nodes = listed i }
 
-rows_are : (scene : Scene) (fs : List (FunctionOf Statement)) → map row_of (map (function_body scene) fs) ≡ map (row_by defined scene) fs
+rows_are : (scene : Scene) (fs : List (FunctionOf Statement))
+    → map row_of (map (function_body scene) fs) ≡ map (row_by defined scene) fs
 rows_are scene [] = refl
 rows_are scene (f ∷ fs) = λ i. row_is scene f i ∷ rows_are scene fs i
 
 rows_defined : map row_of bodies ≡ rows_by defined
 unfolding rows_by lower.prelude_bodies lower.names_of names_in functions_in
-rows_defined = rows_are (scene_with true prelude_names prelude_statements) (functions_in prelude_statements)
+rows_defined =
+    rows_are (scene_with true prelude_names prelude_statements) (functions_in prelude_statements)
 
 pub rows_computed : map row_of bodies ≡ rows_by computing
 rows_computed = rows_defined ∙ ap rows_by (sym computing_is)
@@ -78,30 +92,43 @@ sizes_are : (bs : List Body) → sum_by size_of_body bs ≡ sum_by size_of_row (
 sizes_are [] = refl
 sizes_are (b ∷ bs) =
     sum_by-cons size_of_body b bs
-    ∙ (λ i. (sym (length-map b.nodes (λ (info : NodeInfo). info.node)) i + length b.parameters) + sizes_are bs i)
+    ∙ (λ i. (sym (length-map b.nodes (λ (info : NodeInfo). info.node)) i + length b.parameters)
+    + sizes_are bs i)
     ∙ sym (sum_by-cons size_of_row (row_of b) (map row_of bs))
 
 -- something of each row, with its path
-abbrev pub by_path_of : {A : Type 0} → (List Node → List A) → List (List ℕ) → List Row → List (List ℕ × A)
-by_path_of read paths rows = flat_map (λ (x : List ℕ × Row). map (λ a. (x.0, a)) (read x.1.nodes)) (zip paths rows)
+abbrev pub by_path_of : {A : Type 0} → (List Node → List A) → List (List ℕ) → List Row
+    → List (List ℕ × A)
+by_path_of read paths rows =
+    flat_map (λ (x : List ℕ × Row). map (λ a. (x.0, a)) (read x.1.nodes)) (zip paths rows)
 
-by_path_is : {A : Type 0} (read : List Node → List A) (paths : List (List ℕ)) (bs : List Body) → by_path read (lower.at_paths paths bs) ≡ by_path_of read paths (map row_of bs)
+by_path_is : {A : Type 0} (read : List Node → List A) (paths : List (List ℕ)) (bs : List Body)
+    → by_path read (lower.at_paths paths bs) ≡ by_path_of read paths (map row_of bs)
 by_path_is read [] bs = refl
 by_path_is read (p ∷ ps) [] = refl
-by_path_is read (p ∷ ps) (b ∷ bs) = ap (λ xs. map (λ a. (p, a)) (read (nodes_of b)) ++ xs) (by_path_is read ps bs)
+by_path_is read (p ∷ ps) (b ∷ bs) =
+    ap (λ xs. map (λ a. (p, a)) (read (nodes_of b)) ++ xs) (by_path_is read ps bs)
 
-pub by_path_computed : {A : Type 0} (read : List Node → List A) → by_path read prelude_bodies ≡ by_path_of read prelude_paths (rows_by computing)
+pub by_path_computed : {A : Type 0} (read : List Node → List A)
+    → by_path read prelude_bodies ≡ by_path_of read prelude_paths (rows_by computing)
 unfolding prelude_bodies
-by_path_computed read = by_path_is read prelude_paths bodies ∙ ap (λ rows. by_path_of read prelude_paths rows) rows_computed
+by_path_computed read =
+    by_path_is read prelude_paths bodies ∙ ap (λ rows. by_path_of read prelude_paths rows)
+    rows_computed
 
 pub size_computed : sum_by size_of_body bodies ≡ sum_by size_of_row (rows_by computing)
 size_computed = sizes_are bodies ∙ ap (λ rows. sum_by size_of_row rows) rows_computed
 
-parameters_are : (ps : List (List ℕ)) (bs : List Body) → map (λ (b : Body). length b.parameters) (lower.at_paths ps bs) ≡ map (λ (x : List ℕ × Row). x.1.parameters) (zip ps (map row_of bs))
+parameters_are : (ps : List (List ℕ)) (bs : List Body)
+    → map (λ (b : Body). length b.parameters) (lower.at_paths ps bs)
+    ≡ map (λ (x : List ℕ × Row). x.1.parameters) (zip ps (map row_of bs))
 parameters_are [] bs = refl
 parameters_are (p ∷ ps) [] = refl
 parameters_are (p ∷ ps) (b ∷ bs) = ap (λ ns. length b.parameters ∷ ns) (parameters_are ps bs)
 
-pub parameters_computed : map (λ (b : Body). length b.parameters) prelude_bodies ≡ map (λ (x : List ℕ × Row). x.1.parameters) (zip prelude_paths (rows_by computing))
+pub parameters_computed : map (λ (b : Body). length b.parameters) prelude_bodies
+    ≡ map (λ (x : List ℕ × Row). x.1.parameters) (zip prelude_paths (rows_by computing))
 unfolding prelude_bodies
-parameters_computed = parameters_are prelude_paths bodies ∙ ap (λ rows. map (λ (x : List ℕ × Row). x.1.parameters) (zip prelude_paths rows)) rows_computed
+parameters_computed =
+    parameters_are prelude_paths bodies ∙ ap
+    (λ rows. map (λ (x : List ℕ × Row). x.1.parameters) (zip prelude_paths rows)) rows_computed

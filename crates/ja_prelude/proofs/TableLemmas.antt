@@ -17,15 +17,22 @@ use Rattle.ja_prelude.specs.Table.{NamedSite, TableEntry, TableRow, attrs_told, 
 
 -- ---- by names
 
-pub properties_are_named : map (λ o. map (λ q. slice_get builtin_names q.name.0) o.properties) opening_objects ≡ map (λ (row : TableRow). map (λ (e : TableEntry). Some e.name) row.entries) table_rows
+pub properties_are_named : map (λ o. map (λ q. slice_get builtin_names q.name.0) o.properties)
+    opening_objects ≡ map (λ (row : TableRow). map (λ (e : TableEntry). Some e.name) row.entries)
+    table_rows
 unfolding opening_objects builtin_number
 properties_are_named = refl
 
-pub classes_are_named : (first : ℕ) → map (λ (o : NamedSite). option_map (λ (info : SiteInfo). info.class) (slice_get (builtin_sites first) o.site.0)) named_sites ≡ map (λ (o : NamedSite). Some o.class) named_sites
+pub classes_are_named : (first : ℕ) → map
+    (λ (o : NamedSite). option_map (λ (info : SiteInfo). info.class)
+    (slice_get (builtin_sites first) o.site.0)) named_sites
+    ≡ map (λ (o : NamedSite). Some o.class) named_sites
 unfolding builtin_sites
 classes_are_named first = refl
 
-pub paths_are_named : (first : ℕ) → map (λ (o : NamedSite). option_and_then (λ (info : SiteInfo). info.builtin) (slice_get (builtin_sites first) o.site.0)) named_sites ≡ map (λ (o : NamedSite). Some o.path) named_sites
+pub paths_are_named : (first : ℕ) → map (λ (o : NamedSite).
+    option_and_then (λ (info : SiteInfo). info.builtin) (slice_get (builtin_sites first) o.site.0))
+    named_sites ≡ map (λ (o : NamedSite). Some o.path) named_sites
 unfolding builtin_sites
 paths_are_named first = refl
 
@@ -33,30 +40,43 @@ pub all_sites_are_named : (first : ℕ) → length named_sites ≡ length (built
 unfolding builtin_sites
 all_sites_are_named first = refl
 
-pub functions_are_numbered : (first : ℕ) → flat_map functions_of (builtin_sites first) ≡ map (function_of first) (range_with_len 0 41)
+pub functions_are_numbered : (first : ℕ)
+    → flat_map functions_of (builtin_sites first) ≡ map (function_of first) (range_with_len 0 41)
 unfolding builtin_sites
 functions_are_numbered first = refl
 
-pub functions_are_called : (first : ℕ) → map (λ (info : SiteInfo). is_some info.calls) (builtin_sites first) ≡ map is_function_class BUILTIN_CLASSES
+pub functions_are_called : (first : ℕ) → map (λ (info : SiteInfo). is_some info.calls)
+    (builtin_sites first) ≡ map is_function_class BUILTIN_CLASSES
 unfolding builtin_sites
 functions_are_called first = refl
 
-pub constructors_have_prototypes : map (λ (row : TableRow). is_some (construct_of row.object.role)) table_rows ≡ map (λ (row : TableRow). list_any (λ (e : TableEntry). bytes_eq e.name (codes "prototype")) row.entries) table_rows
+pub constructors_have_prototypes : map (λ (row : TableRow). is_some (construct_of row.object.role))
+    table_rows ≡ map (λ (row : TableRow). list_any
+    (λ (e : TableEntry). bytes_eq e.name (codes "prototype")) row.entries) table_rows
 constructors_have_prototypes = refl
 
-pub objects_are_at_their_paths : list_all (λ (row : TableRow). list_all (λ (e : TableEntry). is_at_its_path row.path e.name e.content) row.entries) table_rows ≡ true
+pub objects_are_at_their_paths : list_all
+    (λ (row : TableRow). list_all (λ (e : TableEntry). is_at_its_path row.path e.name e.content)
+    row.entries) table_rows ≡ true
 objects_are_at_their_paths = refl
 
-pub errors_are_named : list_all (λ (row : TableRow). list_all (λ (e : TableEntry). is_of_its_kind row.path e.name e.content) row.entries) table_rows ≡ true
+pub errors_are_named : list_all (λ (row : TableRow).
+    list_all (λ (e : TableEntry). is_of_its_kind row.path e.name e.content) row.entries) table_rows
+    ≡ true
 errors_are_named = refl
 
-pub prototypes_are_told : map (λ (row : TableRow). map path_of (option_to_list row.object.prototype)) table_rows ≡ map prototype_told table_rows
+pub prototypes_are_told : map (λ (row : TableRow).
+    map path_of (option_to_list row.object.prototype)) table_rows ≡ map prototype_told table_rows
 prototypes_are_told = refl
 
-pub attributes_are_told : map (λ (row : TableRow). map (λ (e : TableEntry). e.attrs) row.entries) table_rows ≡ map (λ (row : TableRow). map (λ (e : TableEntry). attrs_told row.path e.name) row.entries) table_rows
+pub attributes_are_told : map (λ (row : TableRow). map (λ (e : TableEntry). e.attrs) row.entries)
+    table_rows ≡ map (λ (row : TableRow). map (λ (e : TableEntry). attrs_told row.path e.name)
+    row.entries) table_rows
 attributes_are_told = refl
 
-pub rows_are_told : map rows_of table_rows ≡ map (λ (row : TableRow). names_at unbuilt_rows row.path ++ names_at scope_rows row.path) table_rows
+pub rows_are_told : map rows_of table_rows
+    ≡ map (λ (row : TableRow). names_at unbuilt_rows row.path ++ names_at scope_rows row.path)
+    table_rows
 rows_are_told = refl
 
 -- ---- tests of the table, of n objects with m names
@@ -69,7 +89,9 @@ is_content n other = true
 abbrev pub are_properties : ℕ → ℕ → List PropertySpec → Bool
 are_properties n m [] = true
 are_properties n m (q ∷ qs) =
-    nat_lt q.name.0 m && (is_content n q.content && (not (list_any (λ (r : PropertySpec). nat_eq q.name.0 r.name.0) qs) && are_properties n m qs))
+    nat_lt q.name.0 m && (is_content n q.content
+    && (not (list_any (λ (r : PropertySpec). nat_eq q.name.0 r.name.0) qs)
+    && are_properties n m qs))
 
 -- a prototype or a scope is one of these objects
 abbrev pub is_among : List ObjectSpec → Option Site → Bool
@@ -78,7 +100,8 @@ is_among objects (Some s) = list_any (λ (q : ObjectSpec). nat_eq q.site.0 s.0) 
 
 abbrev pub is_object : ℕ → ℕ → List ObjectSpec → ObjectSpec → Bool
 is_object n m before o =
-    nat_lt o.site.0 n && (is_among before o.prototype && (is_among before o.scope && are_properties n m o.properties))
+    nat_lt o.site.0 n && (is_among before o.prototype
+    && (is_among before o.scope && are_properties n m o.properties))
 
 -- objects are well formed behind those before them
 abbrev pub are_objects : ℕ → ℕ → List ObjectSpec → List ObjectSpec → Bool
@@ -97,7 +120,9 @@ is_below n (Some k) = nat_lt k n
 
 -- no object of the table with this site is a function
 unfoldable pub is_plain : ℕ → Bool
-is_plain s = not (list_any (λ (row : TableRow). nat_eq row.object.site.0 s && is_function row.object.role) table_rows)
+is_plain s =
+    not (list_any (λ (row : TableRow). nat_eq row.object.site.0 s && is_function row.object.role)
+    table_rows)
 
 -- .. and it is a site of the table
 abbrev pub is_plain_site : Site → Bool
@@ -126,7 +151,8 @@ pub table-objects : are_objects 43 104 [] opening_objects ≡ true
 unfolding opening_objects builtin_number
 table-objects = refl
 
-pub table-sites : all_below (λ s. is_some (find (λ (o : ObjectSpec). o.site.0 == s) opening_objects)) 43 ≡ true
+pub table-sites : all_below (λ s. is_some
+    (find (λ (o : ObjectSpec). o.site.0 == s) opening_objects)) 43 ≡ true
 unfolding opening_objects
 table-sites = refl
 
@@ -141,14 +167,17 @@ pub sites_count : (first : ℕ) → length (builtin_sites first) ≡ 43
 unfolding builtin_sites
 sites_count first = refl
 
-pub sites-classes : (first : ℕ) → map (λ (s : SiteInfo). s.class) (builtin_sites first) ≡ BUILTIN_CLASSES
+pub sites-classes : (first : ℕ) → map (λ (s : SiteInfo). s.class) (builtin_sites first)
+    ≡ BUILTIN_CLASSES
 unfolding builtin_sites
 sites-classes first = refl
 
-pub functions-below : list_all (λ (row : TableRow). is_below 43 (call_of row.object.role) && is_below 43 (construct_of row.object.role)) table_rows ≡ true
+pub functions-below : list_all (λ (row : TableRow). is_below 43 (call_of row.object.role)
+    && is_below 43 (construct_of row.object.role)) table_rows ≡ true
 functions-below = refl
 
-pub sites-plain : (first : ℕ) → map (λ (s : SiteInfo). is_none s.calls && is_none s.constructs) (builtin_sites first) ≡ map is_plain (range_with_len 0 43)
+pub sites-plain : (first : ℕ) → map (λ (s : SiteInfo). is_none s.calls && is_none s.constructs)
+    (builtin_sites first) ≡ map is_plain (range_with_len 0 43)
 unfolding builtin_sites is_plain
 sites-plain first = refl
 
@@ -156,11 +185,13 @@ pub table-inside : list_all (λ (o : ObjectSpec). nat_lt o.site.0 43) opening_ob
 unfolding opening_objects
 table-inside = refl
 
-pub prototypes-plain : list_all (λ (o : ObjectSpec). not (is_plain o.site.0) || is_plain_prototype o.prototype) opening_objects ≡ true
+pub prototypes-plain : list_all (λ (o : ObjectSpec). not (is_plain o.site.0)
+    || is_plain_prototype o.prototype) opening_objects ≡ true
 unfolding opening_objects is_plain
 prototypes-plain = refl
 
-pub contents-plain : list_all (λ (o : ObjectSpec). not (is_plain o.site.0) || list_all leads_to_plain o.properties) opening_objects ≡ true
+pub contents-plain : list_all (λ (o : ObjectSpec). not (is_plain o.site.0)
+    || list_all leads_to_plain o.properties) opening_objects ≡ true
 unfolding opening_objects builtin_number is_global_name is_plain
 contents-plain = refl
 

@@ -25,9 +25,11 @@ prelude_paths = map (λ f. f.0.now) FUNCTIONS
 abbrev pub prelude_names : List (List ℕ)
 prelude_names = lower.prelude_names builtin_names prelude_statements
 
--- The functions, each with its path as its name. The sites of their nodes are numbered for each node by itself.
+-- The functions, each with its path as its name. The sites of their nodes are numbered for each
+-- node by itself.
 unfoldable pub prelude_bodies : List Body
-prelude_bodies = lower.at_paths prelude_paths (lower.prelude_bodies prelude_names prelude_statements)
+prelude_bodies =
+    lower.at_paths prelude_paths (lower.prelude_bodies prelude_names prelude_statements)
 
 -- how many parameters each function has
 abbrev pub parameter_counts : List ℕ
@@ -37,8 +39,10 @@ parameter_counts = map (λ (body : Body). length body.parameters) prelude_bodies
 
 abbrev pub own_names : List (List ℕ)
 own_names =
-    codes "value" ∷ codes "" ∷ codes "error" ∷ codes "[object " ∷ codes "]" ∷ codes "receiver" ∷ codes "values" ∷ codes "function"
-    ∷ codes "second argument of apply is not an array" ∷ codes "receiver is of another kind" ∷ codes "radix" ∷ codes "number" ∷ codes ": "
+    codes "value" ∷ codes "" ∷ codes "error" ∷ codes "[object " ∷ codes "]" ∷ codes "receiver"
+    ∷ codes "values" ∷ codes "function"
+    ∷ codes "second argument of apply is not an array" ∷ codes "receiver is of another kind"
+    ∷ codes "radix" ∷ codes "number" ∷ codes ": "
     ∷ codes "no primitive value" ∷ []
 
 -- ---- what is read of the nodes of a function
@@ -56,4 +60,5 @@ stops nodes = flat_map stop_at nodes
 
 -- something of the nodes of each function, with the function's path
 abbrev pub by_path : {A : Type 0} → (List Node → List A) → List Body → List (List ℕ × A)
-by_path read bodies = flat_map (λ (body : Body). map (λ a. (body.name, a)) (read (nodes_of body))) bodies
+by_path read bodies =
+    flat_map (λ (body : Body). map (λ a. (body.name, a)) (read (nodes_of body))) bodies

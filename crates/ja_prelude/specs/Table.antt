@@ -1,4 +1,5 @@
--- The built-in objects (ES3 section 15), by the table of them, with their names and sites; and what is said of the table.
+-- The built-in objects (ES3 section 15), by the table of them, with their names and sites; and what
+-- is said of the table.
 use Rattle.std.specs.Prelude.{ℕ, pos, Bool, true, false, ◌+◌, ◌==◌, ◌&&◌, ◌||◌, not, List, [], ◌∷◌, ◌++◌, map, filter, find, Option, Some, None}
 use Rattle.std.specs.Bool.{if◌then◌else◌}
 use Rattle.std.specs.List.{enumerate_from, flat_map, list_any, slice_split}
@@ -55,7 +56,8 @@ row_of path object entries = record { path = path; object = object; entries = en
 
 -- the rows of the table
 abbrev pub table_rows : List TableRow
-table_rows = map (λ row. row_of row.0.now row.1 (map (λ e. entry_of e.0.now e.1 e.2) row.2.now)) OPENING
+table_rows =
+    map (λ row. row_of row.0.now row.1 (map (λ e. entry_of e.0.now e.1 e.2) row.2.now)) OPENING
 
 -- ---- the objects that are there when a run begins
 
@@ -94,7 +96,8 @@ content_of content.Row = spec.Row
 
 -- a property of the table
 abbrev pub property_of : TableEntry → PropertySpec
-property_of e = record { name = builtin_number e.name; content = content_of e.content; attrs = e.attrs }
+property_of e =
+    record { name = builtin_number e.name; content = content_of e.content; attrs = e.attrs }
 
 -- the internal value of an object of the table, if it has one (8.6.2)
 abbrev pub value_of : Role → Option Primitive
@@ -138,7 +141,8 @@ opening_objects = map object_of table_rows
 abbrev pub function_of : ℕ → ℕ → FnId
 function_of first k = record { 0 = first + k }
 
--- the site of an object of the table, with this class and this path: what its objects run, and the name under which reports print it
+-- the site of an object of the table, with this class and this path: what its objects run, and the
+-- name under which reports print it
 abbrev pub site_of : ℕ → Class → List ℕ → Role → SiteInfo
 site_of first kind path role = record {
   class = kind;
@@ -155,7 +159,9 @@ row_with rows s = find (λ (row : TableRow). row.object.site.0 == s) rows
 
 -- the site of this number and class, if an object of the table has it
 abbrev pub sites_with : ℕ → List TableRow → ℕ × Class → List SiteInfo
-sites_with first rows site = option_to_list (option_map (λ (row : TableRow). site_of first site.1 row.path row.object.role) (row_with rows site.0))
+sites_with first rows site =
+    option_to_list (option_map (λ (row : TableRow). site_of first site.1 row.path row.object.role)
+    (row_with rows site.0))
 
 -- the sites of the built-in objects, by their numbers
 unfoldable pub builtin_sites : ℕ → List SiteInfo
@@ -180,8 +186,9 @@ pub record NamedSite : Type 0 where
 abbrev pub named : Site → Class → String → NamedSite
 named site kind path = record { site = site; class = kind; path = codes path }
 
--- the built-in objects: the global object and the prototypes (15.1, 15.2.4, 15.3.4, 15.4.4, 15.5.4, 15.6.4, 15.7.4, 15.11.4, 15.11.7),
--- the constructors (15.2.3, 15.3.3, 15.5.3, 15.6.3, 15.7.3, 15.11.3, 15.11.7), `Math` (15.8), and the other functions
+-- the built-in objects: the global object and the prototypes (15.1, 15.2.4, 15.3.4, 15.4.4, 15.5.4,
+-- 15.6.4, 15.7.4, 15.11.4, 15.11.7), the constructors (15.2.3, 15.3.3, 15.5.3, 15.6.3, 15.7.3,
+-- 15.11.3, 15.11.7), `Math` (15.8), and the other functions
 abbrev pub named_sites : List NamedSite
 named_sites =
     named sites.GLOBAL class.Object "global"
@@ -241,14 +248,16 @@ path_of s = option_map_or (λ (row : TableRow). row.path) (row_with table_rows s
 abbrev pub member : List ℕ → List ℕ → List ℕ
 member path name = if bytes_eq path (codes "global") then name else path ++ codes "." ++ name
 
--- An object that a property of the object with this path holds is at the property's own path; but that of `constructor` is the one whose
--- `prototype` is the object with this path.
+-- An object that a property of the object with this path holds is at the property's own path; but
+-- that of `constructor` is the one whose `prototype` is the object with this path.
 abbrev pub is_at_its_path : List ℕ → List ℕ → Content → Bool
 is_at_its_path path name (content.Object s) =
-    if bytes_eq name (codes "constructor") then bytes_eq path (member (path_of s) (codes "prototype")) else bytes_eq (path_of s) (member path name)
+    if bytes_eq name (codes "constructor") then bytes_eq path
+    (member (path_of s) (codes "prototype")) else bytes_eq (path_of s) (member path name)
 is_at_its_path path name other = true
 
--- a property that holds the name of a kind of errors is `name` of the prototype of these errors (15.11.4.2, 15.11.7.9)
+-- a property that holds the name of a kind of errors is `name` of the prototype of these errors
+-- (15.11.4.2, 15.11.7.9)
 abbrev pub is_of_its_kind : List ℕ → List ℕ → Content → Bool
 is_of_its_kind path name (content.Prim (constant.ErrorName kind)) =
     bytes_eq name (codes "name") && bytes_eq path (member (error_name kind) (codes "prototype"))
@@ -262,13 +271,18 @@ is_function_class other = false
 abbrev pub is_function : Role → Bool
 is_function role = is_some (call_of role)
 
--- The prototype of an object of the table, by its path: of a function Function.prototype, of the prototype of native errors
--- Error.prototype, and of any other object Object.prototype, which has none itself.
+-- The prototype of an object of the table, by its path: of a function Function.prototype, of the
+-- prototype of native errors Error.prototype, and of any other object Object.prototype, which has
+-- none itself.
 abbrev pub prototype_told : TableRow → List (List ℕ)
 prototype_told row =
     if bytes_eq row.path (codes "Object.prototype") then []
-    else if is_function row.object.role && not (bytes_eq row.path (codes "Function.prototype")) then codes "Function.prototype" ∷ []
-    else if is_word row.path (words "EvalError.prototype RangeError.prototype ReferenceError.prototype SyntaxError.prototype TypeError.prototype URIError.prototype") then codes "Error.prototype" ∷ []
+    else if is_function row.object.role && not (bytes_eq row.path (codes "Function.prototype"))
+    then codes "Function.prototype" ∷ []
+    else if is_word row.path
+    (words
+    "EvalError.prototype RangeError.prototype ReferenceError.prototype SyntaxError.prototype TypeError.prototype URIError.prototype")
+    then codes "Error.prototype" ∷ []
     else codes "Object.prototype" ∷ []
 
 -- the constants: their values don't change (15.7.3, 15.8.1)
@@ -310,23 +324,28 @@ at path names = record { path = codes path; names = words names }
 abbrev pub unbuilt_rows : List NamesAt
 unbuilt_rows =
     at "global" "parseInt parseFloat Array"
-    ∷ at "Array.prototype" "constructor toString concat join pop push reverse shift slice splice unshift"
+    ∷ at "Array.prototype"
+    "constructor toString concat join pop push reverse shift slice splice unshift"
     ∷ at "String" "fromCharCode"
-    ∷ at "String.prototype" "charAt charCodeAt concat indexOf lastIndexOf slice split substring toLowerCase toUpperCase"
+    ∷ at "String.prototype"
+    "charAt charCodeAt concat indexOf lastIndexOf slice split substring toLowerCase toUpperCase"
     ∷ at "Math" "abs ceil floor round max min pow"
     ∷ []
 
 -- what is out of the profile
 abbrev pub scope_rows : List NamesAt
 scope_rows =
-    at "global" "Infinity eval decodeURI decodeURIComponent encodeURI encodeURIComponent escape unescape Date RegExp"
+    at "global"
+    "Infinity eval decodeURI decodeURIComponent encodeURI encodeURIComponent escape unescape Date RegExp"
     ∷ at "Object.prototype" "toLocaleString"
     ∷ at "Function.prototype" "toString"
     ∷ at "Array.prototype" "toLocaleString sort"
-    ∷ at "String.prototype" "substr match replace search localeCompare toLocaleLowerCase toLocaleUpperCase"
+    ∷ at "String.prototype"
+    "substr match replace search localeCompare toLocaleLowerCase toLocaleUpperCase"
     ∷ at "Number" "MAX_VALUE MIN_VALUE POSITIVE_INFINITY NEGATIVE_INFINITY"
     ∷ at "Number.prototype" "toLocaleString toFixed toExponential toPrecision"
-    ∷ at "Math" "E LN10 LN2 LOG2E LOG10E PI SQRT1_2 SQRT2 acos asin atan atan2 cos exp log random sin sqrt tan"
+    ∷ at "Math"
+    "E LN10 LN2 LOG2E LOG10E PI SQRT1_2 SQRT2 acos asin atan atan2 cos exp log random sin sqrt tan"
     ∷ []
 
 -- the names that are told of the object with this path
@@ -339,7 +358,8 @@ is_row other = false
 
 -- the names of the properties of an object that are rows
 abbrev pub rows_of : TableRow → List (List ℕ)
-rows_of row = map (λ (e : TableEntry). e.name) (filter (λ (e : TableEntry). is_row e.content) row.entries)
+rows_of row =
+    map (λ (e : TableEntry). e.name) (filter (λ (e : TableEntry). is_row e.content) row.entries)
 
 -- ---- the functions of the objects
 
@@ -349,22 +369,30 @@ number_in other = None
 
 -- what an object of the table has as its `length`
 abbrev pub length_of : List TableEntry → Option ℕ
-length_of entries = option_and_then (λ (e : TableEntry). number_in e.content) (find (λ (e : TableEntry). bytes_eq e.name (codes "length")) entries)
+length_of entries =
+    option_and_then (λ (e : TableEntry). number_in e.content)
+    (find (λ (e : TableEntry). bytes_eq e.name (codes "length")) entries)
 
 -- the functions of the table by their numbers, each with the path of its object ..
 abbrev pub function_paths : List (List ℕ)
-function_paths = flat_map (λ (row : TableRow). map (λ _. row.path) (option_to_list (call_of row.object.role) ++ option_to_list (construct_of row.object.role))) table_rows
+function_paths =
+    flat_map (λ (row : TableRow). map (λ _. row.path)
+    (option_to_list (call_of row.object.role) ++ option_to_list (construct_of row.object.role)))
+    table_rows
 
 -- .. and those that run where an object is called: the number, and the `length` of the object
 abbrev pub lengths : List (ℕ × Option ℕ)
-lengths = flat_map (λ (row : TableRow). map (λ k. (k, length_of row.entries)) (option_to_list (call_of row.object.role))) table_rows
+lengths =
+    flat_map (λ (row : TableRow). map (λ k. (k, length_of row.entries))
+    (option_to_list (call_of row.object.role))) table_rows
 
 -- ---- names that lead to functions
 
 -- the object of a site has a property of this name
 abbrev pub has_property : Site → List ℕ → Bool
 has_property s name =
-    list_any (λ (row : TableRow). (row.object.site.0 == s.0) && list_any (λ (e : TableEntry). bytes_eq e.name name) row.entries) table_rows
+    list_any (λ (row : TableRow). (row.object.site.0 == s.0)
+    && list_any (λ (e : TableEntry). bytes_eq e.name name) row.entries) table_rows
 
 -- the names of the properties of the global object (15.1) and of its prototype (15.2.4)
 unfoldable pub is_global_name : List ℕ → Bool

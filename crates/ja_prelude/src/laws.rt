@@ -1,4 +1,5 @@
-//! What the texts of the built-in functions come to. The functions do nothing; their contracts are the laws.
+//! What the texts of the built-in functions come to. The functions do nothing; their contracts are
+//! the laws.
 
 ghost use Rattle.std.specs.Prelude.{◌≡◌, ◌≤◌, ◌==◌, ◌++◌, ◌∷◌, [], ℕ, List, None, true, length, map, slice_get};
 ghost use Rattle.std.specs.List.{AllByRecursion, list_all};
@@ -22,11 +23,12 @@ ghost use Rattle.ja_prelude.specs.Uses.{uses, uses_told};
 ghost use Rattle.ja_prelude.specs.declared.texts.TheConstants.{FUNCTIONS};
 
 /// Each text is in the language and short, and its tree is that of the grammar.
-#[tactic(auto, using(crate::proofs::Facts::texts_are_read, crate::proofs::Facts::texts_are_few, crate::proofs::Facts::spelled))]
+#[tactic(auto, using(crate::proofs::Rulesets::for_texts_are_read))]
 pub fn texts_are_read()
     ensures read { list_all (λ f. is_text f.1.now) FUNCTIONS ≡ true }
     ensures few { list_all (λ f. is_few f.1.now) FUNCTIONS ≡ true }
-    ensures spelled { (text : List ℕ) → is_text text ≡ true → Spells max_levels (numbered 1 (tokens text)) (tree_of text) }
+    ensures spelled { (text : List ℕ) → is_text text ≡ true
+        → Spells max_levels (numbered 1 (tokens text)) (tree_of text) }
 {}
 
 /// A text in the language has no other tree by the grammar, whatever the number of levels.
@@ -44,19 +46,21 @@ pub fn trees_are_the_grammars()
 {}
 
 /// Each text is one function, in which no other stands, and there is a path for each.
-#[tactic(auto, using(crate::proofs::Facts::texts_are_functions, crate::proofs::Facts::functions_counted, crate::proofs::Facts::paths_counted))]
+#[tactic(auto, using(crate::proofs::Rulesets::for_texts_are_functions))]
 pub fn texts_are_functions()
     ensures each { list_all (λ f. length (functions_in (tree_of f.1.now)) == 1) FUNCTIONS ≡ true }
     ensures functions { prelude_count prelude_statements ≡ 43 }
     ensures paths { length prelude_paths ≡ 43 }
 {}
 
-/// The functions are those of the table, and the two default values behind them: each has the path of its object, and as many parameters as
-/// the `length` of the object says.
+/// The functions are those of the table, and the two default values behind them: each has the path
+/// of its object, and as many parameters as the `length` of the object says.
 #[tactic(auto, using(crate::proofs::Facts::paths_are_told, crate::proofs::Facts::lengths_are_told))]
 pub fn functions_are_those_of_the_table()
-    ensures paths { prelude_paths ≡ function_paths ++ codes "%valueFirst" ∷ codes "%textFirst" ∷ [] }
-    ensures lengths { map (λ row. slice_get parameter_counts row.0) lengths ≡ map (λ row. row.1) lengths }
+    ensures paths { prelude_paths ≡ function_paths ++ codes "%valueFirst" ∷ codes "%textFirst"
+        ∷ [] }
+    ensures lengths { map (λ row. slice_get parameter_counts row.0) lengths
+        ≡ map (λ row. row.1) lengths }
 {}
 
 /// The names that each program begins with.
@@ -73,17 +77,20 @@ pub fn nodes_are_few()
 {}
 
 /// Each node is allowed in any program, so none asks a device; and none makes a function.
-#[tactic(auto, using(crate::proofs::Facts::nodes_are_allowed, crate::proofs::Facts::nodes_stand_alone))]
+#[tactic(auto, using(crate::proofs::Rulesets::for_nodes_are_allowed))]
 pub fn nodes_are_allowed()
     ensures allowed { lower.AreAllowed (lower.prelude_bodies prelude_names prelude_statements) }
-    ensures alone { AllByRecursion (λ body. AllByRecursion (λ info. function_in info.node ≡ None) body.nodes) (lower.prelude_bodies prelude_names prelude_statements) }
+    ensures alone { AllByRecursion (λ body.
+        AllByRecursion (λ info. function_in info.node ≡ None) body.nodes)
+        (lower.prelude_bodies prelude_names prelude_statements) }
 {}
 
-/// The functions that may stop, with the kinds of their stops: those that make functions of texts (15.3), and the one that takes a radix
-/// (15.7.4.2).
+/// The functions that may stop, with the kinds of their stops: those that make functions of texts
+/// (15.3), and the one that takes a radix (15.7.4.2).
 #[tactic(auto, using(crate::proofs::Facts::stops_are))]
 pub fn stops_are_told()
-    ensures { by_path stops prelude_bodies ≡ (codes "Function", CodeMaker) ∷ (codes "Function", CodeMaker) ∷ (codes "Number.prototype.toString", Radix) ∷ [] }
+    ensures { by_path stops prelude_bodies ≡ (codes "Function", CodeMaker)
+        ∷ (codes "Function", CodeMaker) ∷ (codes "Number.prototype.toString", Radix) ∷ [] }
 {}
 
 /// The functions of errors have one text, but for the name of the kind: what a call makes and what

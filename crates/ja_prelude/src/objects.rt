@@ -57,7 +57,8 @@ fn place_among(names: &[&[u8]], name: &[u8]) -> NameId
     NameId(number)
 }
 
-/// The number of a built-in name: its place among them, or the one behind the last where it isn't one of them.
+/// The number of a built-in name: its place among them, or the one behind the last where it isn't
+/// one of them.
 #[tactic(auto, unfolding(crate::specs::Table::builtin_number))]
 fn builtin_number(name: &[u8]) -> NameId
     ensures { result ≡ spec.builtin_number name.now }
@@ -125,7 +126,8 @@ fn property_of(
     content: &Content,
     attrs: Attrs,
 ) -> Result<PropertySpec, Memory>
-    ensures { IfOk result (λ property. property ≡ spec.property_of (spec.entry_of name.now content.now attrs)) }
+    ensures { IfOk result (λ property. property
+        ≡ spec.property_of (spec.entry_of name.now content.now attrs)) }
 {
     Ok(PropertySpec {
         name: builtin_number(name),
@@ -136,7 +138,8 @@ fn property_of(
 
 /// Properties of the table.
 fn properties_of(alloc: Global, entries: &[Entry]) -> Result<Seq<PropertySpec>, Memory>
-    ensures { IfOk result (λ properties. properties ≡ map (λ e. spec.property_of (code.seen_entry e)) entries.now) }
+    ensures { IfOk result (λ properties. properties
+        ≡ map (λ e. spec.property_of (code.seen_entry e)) entries.now) }
 {
     let mut properties = Vec::new(alloc);
     for (name, content, attrs) in entries {
@@ -184,7 +187,8 @@ fn object_with(
 
 /// The object of a row of the table.
 fn object_of(alloc: Global, object: &BuiltinObject, entries: &[Entry]) -> Result<ObjectSpec, Memory>
-    ensures { IfOk result (λ made. made ≡ spec.object_with object.now (map (λ e. spec.property_of (code.seen_entry e)) entries.now)) }
+    ensures { IfOk result (λ made. made ≡ spec.object_with object.now
+        (map (λ e. spec.property_of (code.seen_entry e)) entries.now)) }
 {
     let properties = properties_of(alloc, entries)?;
     object_with(alloc, object, properties)
@@ -192,7 +196,9 @@ fn object_of(alloc: Global, object: &BuiltinObject, entries: &[Entry]) -> Result
 
 /// The objects of the table.
 fn objects_of(alloc: Global, table: &[TableRow]) -> Result<Seq<ObjectSpec>, Memory>
-    ensures { IfOk result (λ objects. objects ≡ map (λ row. spec.object_with row.1 (map (λ e. spec.property_of (code.seen_entry e)) row.2.now)) table.now) }
+    ensures { IfOk result (λ objects. objects
+        ≡ map (λ row. spec.object_with row.1 (map (λ e. spec.property_of (code.seen_entry e))
+        row.2.now)) table.now) }
 {
     let mut objects = Vec::new(alloc);
     for (_, object, entries) in table {
@@ -201,8 +207,8 @@ fn objects_of(alloc: Global, table: &[TableRow]) -> Result<Seq<ObjectSpec>, Memo
     Ok(Seq::from_vec(objects))
 }
 
-/// The objects that are there when a run begins, each behind its prototype and its scope. `Memory` comes where memory
-/// is refused.
+/// The objects that are there when a run begins, each behind its prototype and its scope. `Memory`
+/// comes where memory is refused.
 #[tactic(auto, unfolding(crate::specs::Table::opening_objects))]
 pub fn opening_objects(alloc: Global) -> Result<Seq<ObjectSpec>, Memory>
     ensures { IfOk result (λ objects. objects ≡ spec.opening_objects) }
@@ -212,7 +218,8 @@ pub fn opening_objects(alloc: Global) -> Result<Seq<ObjectSpec>, Memory>
 
 /// The row of the object that has a site.
 fn row_with(table: &[TableRow], site: u32) -> Option<&TableRow>
-    ensures { option_map (λ row. code.seen_row row.now) result ≡ spec.row_with (map code.seen_row table.now) site }
+    ensures { option_map (λ row. code.seen_row row.now) result
+        ≡ spec.row_with (map code.seen_row table.now) site }
 {
     for row in table {
         if row.1.site.0 == site {
@@ -286,7 +293,8 @@ fn add_site(
 ) -> Result<(), Memory>
     requires first { first < 2 ^ 31 }
     requires paths { IsTrue (list_all (λ row. is_short row.path) (map code.seen_row table.now)) }
-    ensures { OnOk result (sites.new.items ≡ sites.old.items ++ spec.sites_with first (map code.seen_row table.now) (site, class)) }
+    ensures { OnOk result (sites.new.items ≡ sites.old.items
+        ++ spec.sites_with first (map code.seen_row table.now) (site, class)) }
 {
     if let Some((path, object, _)) = row_with(table, site) {
         sites.push(site_of(alloc, first, class, path, &object.role)?)?;
@@ -304,7 +312,9 @@ fn sites_of(
     requires first { first < 2 ^ 31 }
     requires paths { IsTrue (list_all (λ row. is_short row.path) (map code.seen_row table.now)) }
     requires few { length classes.now < 2 ^ 31 }
-    ensures { IfOk result (λ sites. sites.items ≡ flat_map (spec.sites_with first (map code.seen_row table.now)) (enumerate_from 0 classes.now)) }
+    ensures { IfOk result (λ sites. sites.items
+        ≡ flat_map (spec.sites_with first (map code.seen_row table.now))
+        (enumerate_from 0 classes.now)) }
 {
     let mut sites = Vec::new(alloc);
     let mut left = classes;
@@ -317,8 +327,8 @@ fn sites_of(
     Ok(sites)
 }
 
-/// The sites of the built-in objects, by their numbers, in a program in which the first function of the table has the number
-/// `first_function`. `Memory` comes where memory is refused.
+/// The sites of the built-in objects, by their numbers, in a program in which the first function of
+/// the table has the number `first_function`. `Memory` comes where memory is refused.
 #[tactic(auto, unfolding(crate::specs::Table::builtin_sites))]
 pub fn builtin_sites(alloc: Global, first_function: u32) -> Result<Vec<SiteInfo>, Memory>
     requires { first_function < 2 ^ 31 }

@@ -1,5 +1,5 @@
-//! What a program has that begins with the built-in objects, with their sites and their names. The functions do nothing;
-//! their contracts are the laws.
+//! What a program has that begins with the built-in objects, with their sites and their names. The
+//! functions do nothing; their contracts are the laws.
 
 ghost use Rattle.std.specs.Prelude.{◌≡◌, ◌+◌, ◌<◌, ◌≤◌, ◌⊎◌, ◌++◌, ℕ, List, [], Some, None, IsSome, length, slice_get, take};
 ghost use Rattle.std.specs.List.{AllByRecursion, fold};
@@ -17,29 +17,55 @@ ghost use Rattle.ja_graph.specs.Kinds.{IsPlain, IsPlainContent};
 ghost use Rattle.ja_prelude.specs.Opening.{IsGlobalName};
 ghost use Rattle.ja_prelude.specs.Table.{builtin_sites, opening_objects};
 
-/// Names that are each added once are all different, and where some follow the built-in ones, and then others, these come first.
+/// Names that are each added once are all different, and where some follow the built-in ones, and
+/// then others, these come first.
 pub fn names_come_first()
-    ensures distinct { (first us : List (List ℕ)) (i j : ℕ) (t : List ℕ) → slice_get (fold with_name (fold with_name [] first) us) i ≡ Some t → slice_get (fold with_name (fold with_name [] first) us) j ≡ Some t → i ≡ j }
-    ensures first { (us vs : List (List ℕ)) → take (length builtin_names) (fold with_name (fold with_name [] (fold with_name (fold with_name [] builtin_names) us)) vs) ≡ builtin_names }
-    ensures many { (us vs : List (List ℕ)) → length builtin_names ≤ length (fold with_name (fold with_name [] (fold with_name (fold with_name [] builtin_names) us)) vs) }
+    ensures distinct { (first us : List (List ℕ)) (i j : ℕ) (t : List ℕ)
+        → slice_get (fold with_name (fold with_name [] first) us) i ≡ Some t
+        → slice_get (fold with_name (fold with_name [] first) us) j ≡ Some t → i ≡ j }
+    ensures first { (us vs : List (List ℕ))
+        → take (length builtin_names) (fold with_name
+        (fold with_name [] (fold with_name (fold with_name [] builtin_names) us)) vs)
+        ≡ builtin_names }
+    ensures many { (us vs : List (List ℕ)) → length builtin_names
+        ≤ length (fold with_name (fold with_name []
+        (fold with_name (fold with_name [] builtin_names) us)) vs) }
 {}
 
 /// Each object of the table is well formed, and each site of the table has its object.
 pub fn objects_are_well_formed()
-    ensures objects { (p : Program) (i : ℕ) (o : ObjectSpec) → p.opening ≡ opening_objects → length builtin_names ≤ length p.names → slice_get p.opening i ≡ Some o → IsObjectWellFormed p i o }
-    ensures all { (p : Program) (s : ℕ) → p.opening ≡ opening_objects → s < length p.opening → IsSome (object_spec p s) }
+    ensures objects { (p : Program) (i : ℕ) (o : ObjectSpec) → p.opening ≡ opening_objects
+        → length builtin_names ≤ length p.names → slice_get p.opening i ≡ Some o
+        → IsObjectWellFormed p i o }
+    ensures all { (p : Program) (s : ℕ) → p.opening ≡ opening_objects → s < length p.opening
+        → IsSome (object_spec p s) }
 {}
 
-/// The sites of the table have the classes of their objects, no owners, and functions of the program.
+/// The sites of the table have the classes of their objects, no owners, and functions of the
+/// program.
 pub fn sites_are_told()
-    ensures classes { (first : ℕ) (p : Program) (others : List SiteInfo) → p.sites ≡ builtin_sites first ++ others → p.opening ≡ opening_objects → (s : ℕ) (c : Class) → slice_get BUILTIN_CLASSES s ≡ Some c → IsBuiltin p s c }
-    ensures unowned { (first : ℕ) (p : Program) (others : List SiteInfo) → p.sites ≡ builtin_sites first ++ others → p.opening ≡ opening_objects → (s : ℕ) → s < length p.opening → (info : SiteInfo) → slice_get p.sites s ≡ Some info → info.owner ≡ None }
-    ensures functions { (first : ℕ) (p : Program) → first + 43 ≤ length p.functions → AllByRecursion (NamesFunctions p) (builtin_sites first) }
+    ensures classes { (first : ℕ) (p : Program) (others : List SiteInfo)
+        → p.sites ≡ builtin_sites first ++ others → p.opening ≡ opening_objects
+        → (s : ℕ) (c : Class) → slice_get BUILTIN_CLASSES s ≡ Some c → IsBuiltin p s c }
+    ensures unowned { (first : ℕ) (p : Program) (others : List SiteInfo)
+        → p.sites ≡ builtin_sites first ++ others → p.opening ≡ opening_objects → (s : ℕ)
+        → s < length p.opening → (info : SiteInfo) → slice_get p.sites s ≡ Some info
+        → info.owner ≡ None }
+    ensures functions { (first : ℕ) (p : Program) → first + 43 ≤ length p.functions
+        → AllByRecursion (NamesFunctions p) (builtin_sites first) }
 {}
 
-/// From an object that is no function no prototype and no property leads to one that is, but a property with the name of one of the global
-/// object or of its prototype.
+/// From an object that is no function no prototype and no property leads to one that is, but a
+/// property with the name of one of the global object or of its prototype.
 pub fn plain_objects_lead_to_plain_objects()
-    ensures prototypes { (first : ℕ) (p : Program) (others : List SiteInfo) → p.sites ≡ builtin_sites first ++ others → p.opening ≡ opening_objects → (i : ℕ) (o : ObjectSpec) (s : Site) → slice_get p.opening i ≡ Some o → IsPlain p o.site → o.prototype ≡ Some s → IsPlain p s }
-    ensures contents { (first : ℕ) (p : Program) (others : List SiteInfo) → p.sites ≡ builtin_sites first ++ others → p.opening ≡ opening_objects → take (length builtin_names) p.names ≡ builtin_names → (i j : ℕ) (o : ObjectSpec) (q : PropertySpec) → slice_get p.opening i ≡ Some o → IsPlain p o.site → slice_get o.properties j ≡ Some q → IsPlainContent p q.content ⊎ IsGlobalName p q }
+    ensures prototypes { (first : ℕ) (p : Program) (others : List SiteInfo)
+        → p.sites ≡ builtin_sites first ++ others → p.opening ≡ opening_objects
+        → (i : ℕ) (o : ObjectSpec) (s : Site) → slice_get p.opening i ≡ Some o → IsPlain p o.site
+        → o.prototype ≡ Some s → IsPlain p s }
+    ensures contents { (first : ℕ) (p : Program) (others : List SiteInfo)
+        → p.sites ≡ builtin_sites first ++ others → p.opening ≡ opening_objects
+        → take (length builtin_names) p.names ≡ builtin_names
+        → (i j : ℕ) (o : ObjectSpec) (q : PropertySpec) → slice_get p.opening i ≡ Some o
+        → IsPlain p o.site → slice_get o.properties j ≡ Some q
+        → IsPlainContent p q.content ⊎ IsGlobalName p q }
 {}

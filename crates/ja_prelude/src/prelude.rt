@@ -19,7 +19,8 @@ use ja_syntax::Statement;
 use sqlite_items::Items;
 use std::alloc::Global;
 
-/// The built-in functions as they were read: the trees of their texts, their paths, and the names that each program begins with.
+/// The built-in functions as they were read: the trees of their texts, their paths, and the names
+/// that each program begins with.
 #[derive(Drop)]
 pub struct Prelude {
     pub statements: Items<Statement>,
@@ -57,9 +58,9 @@ impl Prelude {
         })
     }
 
-    /// The functions with their nodes, whose sites are numbered from `first_site` on, and which are numbered from `first_function` on
-    /// themselves. The error is want of memory; more than 262,144 registers in a function, or a site whose number isn't in 32 bits,
-    /// count as refused memory.
+    /// The functions with their nodes, whose sites are numbered from `first_site` on, and which are
+    /// numbered from `first_function` on themselves. The error is want of memory; more than 262,144
+    /// registers in a function, or a site whose number isn't in 32 bits, count as refused memory.
     pub fn functions(
         &self,
         alloc: Global,
@@ -68,8 +69,11 @@ impl Prelude {
     ) -> Result<Lowered, Memory>
         requires prelude { self.now ≡ code.the_prelude }
         requires functions { first_function ≤ 4160 }
-        ensures lowered { IfOk result (λ l. l ≡ lowered_prelude builtin_names spec.prelude_paths first_site first_function spec.prelude_statements) }
-        ensures registers { IfOk result (λ l. AllByRecursion (λ fn. fn.registers ≤ 262144) l.functions) }
+        ensures lowered { IfOk result (λ l. l
+            ≡ lowered_prelude builtin_names spec.prelude_paths first_site first_function
+            spec.prelude_statements) }
+        ensures registers { IfOk result (λ l.
+            AllByRecursion (λ fn. fn.registers ≤ 262144) l.functions) }
     {
         texts_are_functions();
         names_are_told();

@@ -57,7 +57,8 @@ pub(crate) fn trees_of(
 ) -> Result<Items<Statement>, Memory>
     requires few { list_all (λ f. spec.is_few f.1.now) functions.now ≡ true }
     requires texts { list_all (λ f. spec.is_text f.1.now) functions.now ≡ true }
-    ensures { IfOk result (λ statements. statements ≡ flat_map (λ f. spec.tree_of f.1.now) functions.now) }
+    ensures { IfOk result (λ statements. statements
+        ≡ flat_map (λ f. spec.tree_of f.1.now) functions.now) }
 {
     let mut statements = Items::new(alloc);
     for function in functions {

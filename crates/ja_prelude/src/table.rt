@@ -1,5 +1,5 @@
-//! The built-in objects with their properties (ES3 section 15). A property whose value is a function that isn't
-//! built yet, or another that is out of the profile, is a row.
+//! The built-in objects with their properties (ES3 section 15). A property whose value is a
+//! function that isn't built yet, or another that is out of the profile, is a row.
 
 use self::Constant::{Empty, ErrorName, False, NaN, Number, Undefined};
 use self::Content::{Object, Prim, Row};
@@ -39,8 +39,8 @@ pub enum Content {
 /// A property of the table: its name, what it has, and its attributes.
 pub type Entry = (&'static [u8], Content, Attrs);
 
-/// What an object of the table has of the internal properties (8.6.2) besides its class and its prototype. A
-/// function is told by its number among those of `FUNCTIONS`.
+/// What an object of the table has of the internal properties (8.6.2) besides its class and its
+/// prototype. A function is told by its number among those of `FUNCTIONS`.
 pub enum Role {
     /// No more.
     Plain,
@@ -59,7 +59,8 @@ pub struct BuiltinObject {
     pub role: Role,
 }
 
-/// A row of the table: the name under which reports print an object, the object, and its properties.
+/// A row of the table: the name under which reports print an object, the object, and its
+/// properties.
 pub type TableRow = (&'static [u8], BuiltinObject, &'static [Entry]);
 
 /// DontEnum (8.6.1).

@@ -1,11 +1,12 @@
-//! The texts of the built-in functions (ES3 section 15), in the language with the special forms that begin with `$`. Beside
-//! their own variables and `arguments` they look up no name.
+//! The texts of the built-in functions (ES3 section 15), in the language with the special forms
+//! that begin with `$`. Beside their own variables and `arguments` they look up no name.
 
 /// A built-in function: its path from the global object, and its text.
 pub type BuiltinFunction = (&'static [u8], &'static str);
 
-/// The built-in functions, in the order of their objects: of a constructor first what it does as a function (`[[Call]]`), then what it
-/// does behind `new` (`[[Construct]]`). The last two give the default value of an object.
+/// The built-in functions, in the order of their objects: of a constructor first what it does as a
+/// function (`[[Call]]`), then what it does behind `new` (`[[Construct]]`). The last two give the
+/// default value of an object.
 pub const FUNCTIONS: [BuiltinFunction; 43] = [
     // Function.prototype (15.3.4)
     (b"Function.prototype", "function prototype() {}"),

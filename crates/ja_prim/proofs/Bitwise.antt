@@ -25,7 +25,9 @@ residue_of_low r h = omega arith
 
 residue_of_high : (r : ℕ) → r < 2 ^ 32 → 2 ^ 31 ≤ r → bits.residue (pos r -ℤ pos (2 ^ 32)) ≡ r
 residue_of_high r h l =
-    let e : int_rem_euclid (pos r -ℤ pos (2 ^ 32)) (pos (2 ^ 32)) ≡ pos (r % 2 ^ 32) = int_rem_euclid_is (pos r -ℤ pos (2 ^ 32)) (pos (2 ^ 32)) (2 ^ 32) 1 r (omega arith) refl (omega (arith, ints)) in
+    let e : int_rem_euclid (pos r -ℤ pos (2 ^ 32)) (pos (2 ^ 32))
+    ≡ pos (r % 2 ^ 32) = int_rem_euclid_is (pos r -ℤ pos (2 ^ 32)) (pos (2 ^ 32)) (2 ^ 32) 1 r
+    (omega arith) refl (omega (arith, ints)) in
     ap unsigned_abs e ∙ omega arith
 
 pub read_back : (r : ℕ) → r < 2 ^ 32 → bits.residue (bits.signed_of r) ≡ r
@@ -39,8 +41,20 @@ pub is_int32 : (r : ℕ) → r < 2 ^ 32 → IsInt32 (Whole (bits.signed_of r))
 is_int32 r h = at (cases_lt r (2 ^ 31))
   where
     at : (r < 2 ^ 31) ⊎ (2 ^ 31 ≤ r) → IsInt32 (Whole (bits.signed_of r))
-    at (inl l) = record { value = bits.signed_of r; whole = refl; above = rw (low r l) (omega (arith, ints)); below = rw (low r l) (omega (arith, ints)) }
-    at (inr l) = record { value = bits.signed_of r; whole = refl; above = rw (high r l) (omega (arith, ints)); below = rw (high r l) (omega (arith, ints)) }
+    at (inl l) =
+        record {
+          value = bits.signed_of r;
+          whole = refl;
+          above = rw (low r l) (omega (arith, ints));
+          below = rw (low r l) (omega (arith, ints));
+        }
+    at (inr l) =
+        record {
+          value = bits.signed_of r;
+          whole = refl;
+          above = rw (high r l) (omega (arith, ints));
+          below = rw (high r l) (omega (arith, ints));
+        }
 
 -- ---- truth values of bits
 
@@ -65,32 +79,44 @@ other x h = grind (arith, nat_tests)
 
 bit_at_complement : (w n k : ℕ) → n < 2 ^ w → k < w → bit_at (2 ^ w - 1 - n) k ≡ 1 - bit_at n k
 bit_at_complement zero n k h l = absurd (omega arith)
-bit_at_complement (suc w) n zero h l = omega (arith, bit_at_lowest (2 ^ suc w - 1 - n), bit_at_lowest n)
+bit_at_complement (suc w) n zero h l =
+    omega (arith, bit_at_lowest (2 ^ suc w - 1 - n), bit_at_lowest n)
 bit_at_complement (suc w) n (suc k) h l =
     let half : (2 ^ suc w - 1 - n) / 2 ≡ 2 ^ w - 1 - n / 2 = omega arith in
-    bit_at-suc (2 ^ suc w - 1 - n) k ∙ ap (λ m. bit_at m k) half ∙ bit_at_complement w (n / 2) k (omega arith) (omega arith) ∙ ap (λ x. 1 - x) (sym (bit_at-suc n k))
+    bit_at-suc (2 ^ suc w - 1 - n) k ∙ ap (λ m. bit_at m k) half
+    ∙ bit_at_complement w (n / 2) k (omega arith) (omega arith)
+    ∙ ap (λ x. 1 - x) (sym (bit_at-suc n k))
 
 -- ---- the operations
 
 pub and_is : IsBitwise bits.and (λ p q. p && q)
 and_is = record {
   signed = λ a b. is_int32 _ (and_lt 32 _ _ (uint32_below a) (uint32_below b));
-  bits = λ a b k h. ap (λ r. bit_at r k == 1) (read_back _ (and_lt 32 _ _ (uint32_below a) (uint32_below b)))
-      ∙ ap (λ x. x == 1) (bit_at_and (bits.to_uint32 a) (bits.to_uint32 b) k) ∙ both _ _ (bit_at-lt _ k) (bit_at-lt _ k);
+  bits =
+      λ a b k h. ap (λ r. bit_at r k == 1) (read_back _
+      (and_lt 32 _ _ (uint32_below a) (uint32_below b)))
+      ∙ ap (λ x. x == 1) (bit_at_and (bits.to_uint32 a) (bits.to_uint32 b) k)
+      ∙ both _ _ (bit_at-lt _ k) (bit_at-lt _ k);
 }
 
 pub or_is : IsBitwise bits.or (λ p q. p || q)
 or_is = record {
   signed = λ a b. is_int32 _ (or_lt 32 _ _ (uint32_below a) (uint32_below b));
-  bits = λ a b k h. ap (λ r. bit_at r k == 1) (read_back _ (or_lt 32 _ _ (uint32_below a) (uint32_below b)))
-      ∙ ap (λ x. x == 1) (bit_at_or (bits.to_uint32 a) (bits.to_uint32 b) k) ∙ either _ _ (bit_at-lt _ k) (bit_at-lt _ k);
+  bits =
+      λ a b k h. ap (λ r. bit_at r k == 1) (read_back _
+      (or_lt 32 _ _ (uint32_below a) (uint32_below b)))
+      ∙ ap (λ x. x == 1) (bit_at_or (bits.to_uint32 a) (bits.to_uint32 b) k)
+      ∙ either _ _ (bit_at-lt _ k) (bit_at-lt _ k);
 }
 
 pub xor_is : IsBitwise bits.xor differ
 xor_is = record {
   signed = λ a b. is_int32 _ (xor_lt 32 _ _ (uint32_below a) (uint32_below b));
-  bits = λ a b k h. ap (λ r. bit_at r k == 1) (read_back _ (xor_lt 32 _ _ (uint32_below a) (uint32_below b)))
-      ∙ ap (λ x. x == 1) (bit_at_xor (bits.to_uint32 a) (bits.to_uint32 b) k) ∙ one_of_two _ _ (bit_at-lt _ k) (bit_at-lt _ k);
+  bits =
+      λ a b k h. ap (λ r. bit_at r k == 1) (read_back _
+      (xor_lt 32 _ _ (uint32_below a) (uint32_below b)))
+      ∙ ap (λ x. x == 1) (bit_at_xor (bits.to_uint32 a) (bits.to_uint32 b) k)
+      ∙ one_of_two _ _ (bit_at-lt _ k) (bit_at-lt _ k);
 }
 
 complement_below : (n : ℕ) → 2 ^ 32 - 1 - n < 2 ^ 32
@@ -100,5 +126,6 @@ pub not_is : IsComplement bits.not
 not_is = record {
   signed = λ a. is_int32 _ (complement_below (bits.to_uint32 a));
   bits = λ a k h. ap (λ r. bit_at r k == 1) (read_back _ (complement_below (bits.to_uint32 a)))
-      ∙ ap (λ x. x == 1) (bit_at_complement 32 (bits.to_uint32 a) k (uint32_below a) h) ∙ other _ (bit_at-lt _ k);
+      ∙ ap (λ x. x == 1) (bit_at_complement 32 (bits.to_uint32 a) k (uint32_below a) h)
+      ∙ other _ (bit_at-lt _ k);
 }

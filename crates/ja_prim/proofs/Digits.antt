@@ -17,9 +17,13 @@ split false f g = g refl
 pub all_digits : (cs : List ℕ) → AllDigits 10 (take_while is_digit cs)
 all_digits [] = tt
 all_digits (c ∷ cs) = split (is_digit c)
-    (λ h. let e : take_while is_digit (c ∷ cs) ≡ c ∷ take_while is_digit cs = take_while-cons is_digit c cs ∙ rw h refl in subst (AllDigits 10) (sym e) (digit_small c h, all_digits cs))
-    (λ h. let e : take_while is_digit (c ∷ cs) ≡ [] = take_while-cons is_digit c cs ∙ rw h refl in subst (AllDigits 10) (sym e) tt)
+    (λ h. let e : take_while is_digit (c ∷ cs) ≡ c
+    ∷ take_while is_digit cs = take_while-cons is_digit c cs ∙ rw h refl in
+    subst (AllDigits 10) (sym e) (digit_small c h, all_digits cs))
+    (λ h. let e : take_while is_digit (c ∷ cs) ≡ [] = take_while-cons is_digit c cs ∙ rw h refl in
+    subst (AllDigits 10) (sym e) tt)
 
-pub all_digits_append : (xs ys : List ℕ) → AllDigits 10 xs → AllDigits 10 ys → AllDigits 10 (xs ++ ys)
+pub all_digits_append : (xs ys : List ℕ) → AllDigits 10 xs → AllDigits 10 ys
+    → AllDigits 10 (xs ++ ys)
 all_digits_append [] ys f g = g
 all_digits_append (x ∷ xs) ys f g = (f.0, all_digits_append xs ys f.1 g)

@@ -103,8 +103,10 @@ same (Text a) (Number NaN) h = cc
 same (Text a) (Number (Whole b)) h = cc
 same (Text a) (Text b) h = ap (λ (x : List ℕ). Text x) ((bytes_eq-Decides a b).0 h)
 
-pub transitive : (a b c : Primitive) → strict_equal a b ≡ true → strict_equal b c ≡ true → strict_equal a c ≡ true
-transitive a b c h k = let e : b ≡ a = sym (same a b h) in subst (λ (x : Primitive). strict_equal x c ≡ true) e k
+pub transitive : (a b c : Primitive) → strict_equal a b ≡ true → strict_equal b c ≡ true
+    → strict_equal a c ≡ true
+transitive a b c h k = let e : b ≡ a = sym (same a b h) in
+    subst (λ (x : Primitive). strict_equal x c ≡ true) e k
 
 pub reflexive : (a : Primitive) → strict_equal a a ≡ not (is_nan a)
 reflexive Undefined = refl

@@ -35,19 +35,24 @@ int_less m n = go (int_lt m n) (int_lt n m)
 -- ---- texts
 
 pub texts_transitive : (a b c : List ℕ) → IsTransitive (Text a) (Text b) (Text c)
-texts_transitive a b c h k = ap is_lt (nat_list_cmp_total.trans a b c (less_is (slice_cmp nat_cmp a b) h) (less_is (slice_cmp nat_cmp b c) k))
+texts_transitive a b c h k =
+    ap is_lt (nat_list_cmp_total.trans a b c (less_is (slice_cmp nat_cmp a b) h)
+    (less_is (slice_cmp nat_cmp b c) k))
 
 pub texts_ranked : (a b : List ℕ) → IsRanked (Text a) (Text b)
 texts_ranked a b =
     let o : Ordering = slice_cmp nat_cmp a b in
     ap (λ (x : Bool). just_one (is_lt o) x (less_text b a)) (sym (is_eq-slice_cmp a b))
-    ∙ ap (λ (x : Ordering). just_one (is_lt o) (is_eq o) (is_lt x)) (nat_list_cmp_total.antisymm b a) ∙ ranked_by o
+    ∙ ap (λ (x : Ordering). just_one (is_lt o) (is_eq o) (is_lt x))
+    (nat_list_cmp_total.antisymm b a) ∙ ranked_by o
 
 -- ---- numbers
 
 whole_transitive : (l m n : ℤ) → int_lt l m ≡ true → int_lt m n ≡ true → int_lt l n ≡ true
 whole_transitive l m n h k =
-    int_less l n ∙ ap is_lt (int_cmp_total.trans l m n (less_is (int_cmp l m) (sym (int_less l m) ∙ h)) (less_is (int_cmp m n) (sym (int_less m n) ∙ k)))
+    int_less l n ∙ ap is_lt (int_cmp_total.trans l m n
+    (less_is (int_cmp l m) (sym (int_less l m) ∙ h))
+    (less_is (int_cmp m n) (sym (int_less m n) ∙ k)))
 
 pub numbers_transitive : (l m n : Num) → IsTransitive (Number l) (Number m) (Number n)
 numbers_transitive NaN NaN NaN h k = h
@@ -63,7 +68,8 @@ pub numbers_ranked : (m n : ℤ) → IsRanked (Number (Whole m)) (Number (Whole 
 numbers_ranked m n =
     let o : Ordering = int_cmp m n in
     ap (λ (x : Bool). just_one x (is_eq o) (int_lt n m)) (int_less m n)
-    ∙ ap (λ (x : Bool). just_one (is_lt o) (is_eq o) x) (int_less n m ∙ ap is_lt (int_cmp_total.antisymm n m)) ∙ ranked_by o
+    ∙ ap (λ (x : Bool). just_one (is_lt o) (is_eq o) x)
+    (int_less n m ∙ ap is_lt (int_cmp_total.antisymm n m)) ∙ ranked_by o
 
 -- ---- nothing is less than itself
 

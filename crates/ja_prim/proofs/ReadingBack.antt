@@ -44,31 +44,41 @@ digit_not c n h k = grind (arith, nat_tests)
 
 prefix_all : (ds : List ℕ) → AllDigits 10 ds → prefix_len is_digit ds ≡ length ds
 prefix_all [] h = refl
-prefix_all (d ∷ ds) h = rw (digit_unit d h.0) (ap (λ (n : ℕ). 1 + n) (prefix_all ds h.1) ∙ omega arith)
+prefix_all (d ∷ ds) h =
+    rw (digit_unit d h.0) (ap (λ (n : ℕ). 1 + n) (prefix_all ds h.1) ∙ omega arith)
 
 digits_all : (ds : List ℕ) → AllDigits 10 ds → numerals.digits ds ≡ ds
 unfolding numerals.digits
-digits_all ds h = ap (λ (n : ℕ). take n ds) (prefix_all ds h) ∙ take_all (length ds) ds (omega arith)
+digits_all ds h =
+    ap (λ (n : ℕ). take n ds) (prefix_all ds h) ∙ take_all (length ds) ds (omega arith)
 
 behind_all : (ds : List ℕ) → AllDigits 10 ds → numerals.behind_digits ds ≡ []
 unfolding numerals.behind_digits
-behind_all ds h = ap (λ (n : ℕ). drop n ds) (prefix_all ds h) ∙ drop_all (length ds) ds (omega arith)
+behind_all ds h =
+    ap (λ (n : ℕ). drop n ds) (prefix_all ds h) ∙ drop_all (length ds) ds (omega arith)
 
-digit_at : (ds : List ℕ) (i : ℕ) → AllDigits 10 ds → i < length ds → digit_value (get_or ds i 0) < 10
+digit_at : (ds : List ℕ) (i : ℕ) → AllDigits 10 ds → i < length ds
+    → digit_value (get_or ds i 0) < 10
 digit_at [] i h k = absurd (omega arith)
 digit_at (d ∷ ds) zero h k = h.0
 digit_at (d ∷ ds) (suc i) h k = digit_at ds i h.1 (omega arith)
 
 -- ---- no blanks at the ends
 
-whole_text : (c : ℕ) (cs : List ℕ) → is_blank c ≡ false → is_blank (get_or (c ∷ cs) (length cs) 0) ≡ false → before_blanks (behind_blanks (c ∷ cs)) ≡ c ∷ cs
+whole_text : (c : ℕ) (cs : List ℕ) → is_blank c ≡ false
+    → is_blank (get_or (c ∷ cs) (length cs) 0) ≡ false
+    → before_blanks (behind_blanks (c ∷ cs)) ≡ c ∷ cs
 unfolding behind_blanks before_blanks
 whole_text c cs h k =
     let t : List ℕ = c ∷ cs in
     let e : drop (prefix_len is_blank t) t ≡ t = rw h refl in
-    let last : 0 < length t → is_blank (get_or t (length t - 1) 0) ≡ false = λ _. ap (λ (i : ℕ). is_blank (get_or t i 0)) (let f : length t - 1 ≡ length cs = omega arith in f) ∙ k in
-    let s : suffix_len is_blank t ≡ 0 = suffix_len_is is_blank t (length t) 0 (omega arith) (λ j a b. absurd (omega arith)) last ∙ omega arith in
-    ap (λ (u : List ℕ). take (length u - suffix_len is_blank u) u) e ∙ ap (λ (n : ℕ). take (length t - n) t) s ∙ take_all (length t - 0) t (omega arith)
+    let last : 0 < length t → is_blank (get_or t (length t - 1) 0)
+    ≡ false = λ _. ap (λ (i : ℕ). is_blank (get_or t i 0))
+    (let f : length t - 1 ≡ length cs = omega arith in f) ∙ k in
+    let s : suffix_len is_blank t ≡ 0 = suffix_len_is is_blank t (length t) 0 (omega arith)
+    (λ j a b. absurd (omega arith)) last ∙ omega arith in
+    ap (λ (u : List ℕ). take (length u - suffix_len is_blank u) u) e
+    ∙ ap (λ (n : ℕ). take (length t - n) t) s ∙ take_all (length t - 0) t (omega arith)
 
 -- ---- literals of digits
 
@@ -78,9 +88,12 @@ some n = grind (arith, nat_tests)
 positive : (n : ℕ) → (suc n == 0) ≡ false
 positive n = grind (arith, nat_tests)
 
-decimal_of_digits : (negative : Bool) (d : ℕ) (ds : List ℕ) → AllDigits 10 (d ∷ ds) → spec.decimal negative (d ∷ ds) ≡ judged negative (digits_value 10 (d ∷ ds)) 1
-unfolding spec.decimal numerals.behind_decimal numerals.fraction numerals.behind_fraction numerals.exponent numerals.behind_exponent numerals.decimal_value numerals.placed
-decimal_of_digits negative d ds h = rw (digits_all (d ∷ ds) h, behind_all (d ∷ ds) h, some (length ds), append-nil ds, mul-one) refl
+decimal_of_digits : (negative : Bool) (d : ℕ) (ds : List ℕ) → AllDigits 10 (d ∷ ds)
+    → spec.decimal negative (d ∷ ds) ≡ judged negative (digits_value 10 (d ∷ ds)) 1
+unfolding spec.decimal numerals.behind_decimal numerals.fraction numerals.behind_fraction
+    numerals.exponent numerals.behind_exponent numerals.decimal_value numerals.placed
+decimal_of_digits negative d ds h =
+    rw (digits_all (d ∷ ds) h, behind_all (d ∷ ds) h, some (length ds), append-nil ds, mul-one) refl
 
 and_false : (b : Bool) → b && false ≡ false
 and_false true = refl
@@ -89,30 +102,37 @@ and_false false = refl
 not_hexadecimal : (d : ℕ) (ds : List ℕ) → AllDigits 10 ds → spec.is_hexadecimal (d ∷ ds) ≡ false
 unfolding spec.is_hexadecimal
 not_hexadecimal d [] h = rw (and_false (d == 48)) refl
-not_hexadecimal d (e ∷ es) h = rw (digit_not e 120 h.0 (lit≤ tt), digit_not e 88 h.0 (lit≤ tt), and_false (d == 48)) refl
+not_hexadecimal d (e ∷ es) h =
+    rw (digit_not e 120 h.0 (lit≤ tt), digit_not e 88 h.0 (lit≤ tt), and_false (d == 48)) refl
 
 no_sign : (d : ℕ) (ds : List ℕ) → digit_value d < 10 → spec.unsigned (d ∷ ds) ≡ d ∷ ds
 unfolding spec.unsigned
 no_sign d ds h = rw (digit_not_sign d h) refl
 
-not_infinity : (d : ℕ) (ds : List ℕ) → digit_value d < 10 → same_text (d ∷ ds) (codes "Infinity") ≡ false
+not_infinity : (d : ℕ) (ds : List ℕ) → digit_value d < 10
+    → same_text (d ∷ ds) (codes "Infinity") ≡ false
 not_infinity d ds h = rw (digit_not d 73 h (lit≤ tt)) refl
 
 not_minus : (c : ℕ) → digit_value c < 10 → (c == 45) ≡ false
 not_minus c h = grind (arith, nat_tests)
 
-last_digit : (d : ℕ) (ds : List ℕ) → AllDigits 10 (d ∷ ds) → is_blank (get_or (d ∷ ds) (length ds) 0) ≡ false
-last_digit d ds h = digit_not_blank (get_or (d ∷ ds) (length ds) 0) (digit_at (d ∷ ds) (length ds) h (omega arith))
+last_digit : (d : ℕ) (ds : List ℕ) → AllDigits 10 (d ∷ ds)
+    → is_blank (get_or (d ∷ ds) (length ds) 0) ≡ false
+last_digit d ds h =
+    digit_not_blank (get_or (d ∷ ds) (length ds) 0) (digit_at (d ∷ ds) (length ds) h (omega arith))
 
-signed_digits : (d : ℕ) (ds : List ℕ) → AllDigits 10 (d ∷ ds) → spec.signed_literal (d ∷ ds) ≡ spec.decimal false (d ∷ ds)
+signed_digits : (d : ℕ) (ds : List ℕ) → AllDigits 10 (d ∷ ds)
+    → spec.signed_literal (d ∷ ds) ≡ spec.decimal false (d ∷ ds)
 unfolding spec.signed_literal
 signed_digits d ds h = rw (no_sign d ds h.0, not_infinity d ds h.0, not_minus d h.0) refl
 
-signed_minus : (d : ℕ) (ds : List ℕ) → AllDigits 10 (d ∷ ds) → spec.signed_literal (45 ∷ d ∷ ds) ≡ spec.decimal true (d ∷ ds)
+signed_minus : (d : ℕ) (ds : List ℕ) → AllDigits 10 (d ∷ ds)
+    → spec.signed_literal (45 ∷ d ∷ ds) ≡ spec.decimal true (d ∷ ds)
 unfolding spec.signed_literal spec.unsigned
 signed_minus d ds h = rw (not_infinity d ds h.0) refl
 
-literal_digits : (d : ℕ) (ds : List ℕ) → AllDigits 10 (d ∷ ds) → spec.literal (d ∷ ds) ≡ spec.signed_literal (d ∷ ds)
+literal_digits : (d : ℕ) (ds : List ℕ) → AllDigits 10 (d ∷ ds)
+    → spec.literal (d ∷ ds) ≡ spec.signed_literal (d ∷ ds)
 unfolding spec.literal
 literal_digits d ds h = rw (not_hexadecimal d ds h.1, positive (length ds)) refl
 
@@ -122,28 +142,38 @@ literal_minus ds = rw (positive (length ds)) refl
 
 -- ---- texts
 
-value_of : (negative : Bool) (d : ℕ) (ds : List ℕ) (n : ℕ) → AllDigits 10 (d ∷ ds) → digits_value 10 (d ∷ ds) ≡ n → n ≤ 9007199254740991
+value_of : (negative : Bool) (d : ℕ) (ds : List ℕ) (n : ℕ) → AllDigits 10 (d ∷ ds)
+    → digits_value 10 (d ∷ ds) ≡ n → n ≤ 9007199254740991
     → spec.decimal negative (d ∷ ds) ≡ Ok (Whole (signed negative n))
 value_of negative d ds n h e small =
-    decimal_of_digits negative d ds h ∙ ap (λ (x : ℕ). judged negative x 1) e ∙ judged_found negative n 1 n (lit< tt) (omega arith) small
+    decimal_of_digits negative d ds h ∙ ap (λ (x : ℕ). judged negative x 1) e
+    ∙ judged_found negative n 1 n (lit< tt) (omega arith) small
 
-read_digits : (n : ℕ) (t : List ℕ) → 0 < length t → AllDigits 10 t → digits_value 10 t ≡ n → n ≤ 9007199254740991 → spec.text_to_number t ≡ Ok (Whole (pos n))
+read_digits : (n : ℕ) (t : List ℕ) → 0 < length t → AllDigits 10 t → digits_value 10 t ≡ n
+    → n ≤ 9007199254740991 → spec.text_to_number t ≡ Ok (Whole (pos n))
 unfolding spec.text_to_number
 read_digits n [] h k e small = absurd (omega arith)
 read_digits n (d ∷ ds) h k e small =
-    ap spec.literal (whole_text d ds (digit_not_blank d k.0) (last_digit d ds k)) ∙ literal_digits d ds k ∙ signed_digits d ds k ∙ value_of false d ds n k e small
+    ap spec.literal (whole_text d ds (digit_not_blank d k.0) (last_digit d ds k))
+    ∙ literal_digits d ds k ∙ signed_digits d ds k ∙ value_of false d ds n k e small
 
-read_minus : (n : ℕ) (t : List ℕ) → 0 < length t → AllDigits 10 t → digits_value 10 t ≡ n → n ≤ 9007199254740991 → spec.text_to_number (45 ∷ t) ≡ Ok (Whole (signed true n))
+read_minus : (n : ℕ) (t : List ℕ) → 0 < length t → AllDigits 10 t → digits_value 10 t ≡ n
+    → n ≤ 9007199254740991 → spec.text_to_number (45 ∷ t) ≡ Ok (Whole (signed true n))
 unfolding spec.text_to_number
 read_minus n [] h k e small = absurd (omega arith)
 read_minus n (d ∷ ds) h k e small =
-    ap spec.literal (whole_text 45 (d ∷ ds) minus_not_blank (last_digit d ds k)) ∙ literal_minus (d ∷ ds) ∙ signed_minus d ds k ∙ value_of true d ds n k e small
+    ap spec.literal (whole_text 45 (d ∷ ds) minus_not_blank (last_digit d ds k))
+    ∙ literal_minus (d ∷ ds) ∙ signed_minus d ds k ∙ value_of true d ds n k e small
 
 nan_back : spec.text_to_number (codes "NaN") ≡ Ok NaN
-unfolding spec.text_to_number spec.literal spec.is_hexadecimal spec.signed_literal spec.unsigned spec.decimal numerals.digits numerals.behind_digits numerals.fraction numerals.behind_fraction numerals.exponent numerals.behind_exponent numerals.behind_decimal behind_blanks before_blanks is_white is_terminator
+unfolding spec.text_to_number spec.literal spec.is_hexadecimal spec.signed_literal spec.unsigned
+    spec.decimal numerals.digits numerals.behind_digits numerals.fraction numerals.behind_fraction
+    numerals.exponent numerals.behind_exponent numerals.behind_decimal behind_blanks before_blanks
+    is_white is_terminator
 nan_back = refl
 
-whole_back : (z : ℤ) → neg_ℤ (pos 9007199254740991) ≤ℤ z → z ≤ℤ pos 9007199254740991 → spec.text_to_number (signed_decimal z) ≡ Ok (Whole z)
+whole_back : (z : ℤ) → neg_ℤ (pos 9007199254740991) ≤ℤ z → z ≤ℤ pos 9007199254740991
+    → spec.text_to_number (signed_decimal z) ≡ Ok (Whole z)
 whole_back (pos n) low high =
     let small : n ≤ 9007199254740991 = omega (arith, ints) in
     let i = decimal_is_IsNumeral n (omega arith) in

@@ -26,9 +26,20 @@ high r h = rw (le-ltb r (2 ^ 31) h) refl
 shifted : (z n : ℤ) → AreCongruent z n → AreCongruent z (n -ℤ pos (2 ^ 32))
 shifted z n h = (h.0 +ℤ pos 1, omega (arith, ints, h.1))
 
-signed_residue_of : (z : ℤ) (r : ℕ) → r < 2 ^ 32 → AreCongruent z (pos r) → (r < 2 ^ 31) ⊎ (2 ^ 31 ≤ r) → IsSignedResidue z (bits.signed_of r)
-signed_residue_of z r small h (inl l) = subst (IsSignedResidue z) (sym (low r l)) (record { above = omega (arith, ints); below = omega (arith, ints); congruent = h })
-signed_residue_of z r small h (inr l) = subst (IsSignedResidue z) (sym (high r l)) (record { above = omega (arith, ints); below = omega (arith, ints); congruent = shifted z (pos r) h })
+signed_residue_of : (z : ℤ) (r : ℕ) → r < 2 ^ 32 → AreCongruent z (pos r)
+    → (r < 2 ^ 31) ⊎ (2 ^ 31 ≤ r) → IsSignedResidue z (bits.signed_of r)
+signed_residue_of z r small h (inl l) =
+    subst (IsSignedResidue z) (sym (low r l))
+    (record { above = omega (arith, ints); below = omega (arith, ints); congruent = h })
+signed_residue_of z r small h (inr l) =
+    subst (IsSignedResidue z) (sym (high r l))
+    (record {
+      above = omega (arith, ints);
+      below = omega (arith, ints);
+      congruent = shifted z (pos r) h;
+    })
 
 pub signed_residue : (z : ℤ) → IsSignedResidue z (bits.to_int32 (Whole z))
-signed_residue z = signed_residue_of z (bits.residue z) (residue_below z) (residue_congruent z) (cases_lt (bits.residue z) (2 ^ 31))
+signed_residue z =
+    signed_residue_of z (bits.residue z) (residue_below z) (residue_congruent z)
+    (cases_lt (bits.residue z) (2 ^ 31))

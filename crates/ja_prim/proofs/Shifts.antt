@@ -32,10 +32,24 @@ places_are : (b : Num) (n : ℕ) → IsPlaces b n → n ≡ bits.places b
 places_are b n p = omega (arith, p.sum, p.below)
 
 pub left : (a b : Num) (n : ℕ) → IsPlaces b n → IsShiftedLeft a n (bits.shl a b)
-left a b n p = rw (places_are b n p) (_, refl, signed_residue (bits.to_int32 a *ℤ pos (2 ^ bits.places b)))
+left a b n p =
+    rw (places_are b n p) (_, refl, signed_residue (bits.to_int32 a *ℤ pos (2 ^ bits.places b)))
 
-pub unsigned : (a b : Num) (n : ℕ) → IsPlaces b n → IsShiftedRight (pos (bits.to_uint32 a)) n (bits.ushr a b)
-unsigned a b n p = rw (places_are b n p) (_, refl, floor_of (bits.to_uint32 a) (2 ^ bits.places b) (pow_pos (bits.places b)))
+pub unsigned : (a b : Num) (n : ℕ) → IsPlaces b n
+    → IsShiftedRight (pos (bits.to_uint32 a)) n (bits.ushr a b)
+unsigned a b n p =
+    rw (places_are b n p) (
+      _,
+      refl,
+      floor_of (bits.to_uint32 a) (2 ^ bits.places b)
+          (pow_pos (bits.places b)),
+    )
 
 pub right : (a b : Num) (n : ℕ) → IsPlaces b n → IsShiftedRight (bits.to_int32 a) n (bits.shr a b)
-right a b n p = rw (places_are b n p) (_, refl, floor_of_int (bits.to_int32 a) (2 ^ bits.places b) (pow_pos (bits.places b)))
+right a b n p =
+    rw (places_are b n p) (
+      _,
+      refl,
+      floor_of_int (bits.to_int32 a) (2 ^ bits.places b)
+          (pow_pos (bits.places b)),
+    )

@@ -1,4 +1,5 @@
--- Arithmetic on numbers (ES3 11.4.7, 11.5, 11.6): the exact result, judged. Of NaN the result is NaN.
+-- Arithmetic on numbers (ES3 11.4.7, 11.5, 11.6): the exact result, judged. Of NaN the result is
+-- NaN.
 use Rattle.std.specs.Prelude.{◌%◌, ◌==◌, if◌then◌else◌, Bool, true, false, ℤ, pos, negsuc, neg_ℤ, ◌+ℤ◌, ◌-ℤ◌, ◌*ℤ◌, unsigned_abs, Result, Ok, Err}
 use Rattle.std.specs.Int.{is_negative}
 use Rattle.ja_prim.specs.declared.primitive.Num.{Num}
@@ -36,7 +37,8 @@ signs_differ (pos m) (negsuc n) = true
 signs_differ (negsuc m) (pos n) = true
 signs_differ (negsuc m) (negsuc n) = false
 
--- The exact quotient (11.5.2): negative where just one of the two is. By 0 it is infinite, but 0 / 0 is NaN.
+-- The exact quotient (11.5.2): negative where just one of the two is. By 0 it is infinite, but 0 /
+-- 0 is NaN.
 abbrev pub quotient : ℤ → ℤ → Result Num Stop
 quotient m n =
     if unsigned_abs n == 0 then (if unsigned_abs m == 0 then Ok NaN else Err Range)
@@ -48,7 +50,9 @@ div = of_both quotient
 
 -- The remainder of the magnitudes, with the sign of the dividend (11.5.3). By 0 it is NaN.
 abbrev pub remainder : ℤ → ℤ → Result Num Stop
-remainder m n = if unsigned_abs n == 0 then Ok NaN else judged (is_negative m) (unsigned_abs m % unsigned_abs n) 1
+remainder m n =
+    if unsigned_abs n == 0 then Ok NaN else judged (is_negative m) (unsigned_abs m % unsigned_abs n)
+    1
 
 -- the remainder, and NaN of NaN
 abbrev pub rem : Num → Num → Result Num Stop

@@ -1,4 +1,5 @@
--- White space and line terminators, which a text is stripped of before its number is read (ES3 7.2, 7.3, 9.3.1).
+-- White space and line terminators, which a text is stripped of before its number is read (ES3 7.2,
+-- 7.3, 9.3.1).
 use Rattle.std.specs.Prelude.{ℕ, ◌-◌, List, length, take, drop}
 use Rattle.std.specs.List.{prefix_len, suffix_len}
 use Rattle.ja_prim.specs.Characters.{is_blank}

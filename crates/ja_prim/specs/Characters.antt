@@ -1,4 +1,5 @@
--- Characters and units of texts by their codes, and the classes that the lexical grammar speaks of (ES3 7).
+-- Characters and units of texts by their codes, and the classes that the lexical grammar speaks of
+-- (ES3 7).
 use Rattle.std.specs.Prelude.{ℕ, ◌+◌, Bool, ◌&&◌, ◌||◌, ◌==◌, nat_lt, nat_le, List, slice_index}
 use Rattle.std.specs.Char.{is_ascii_hexdigit, is_ascii_alphanumeric}
 use Rattle.std.specs.Int.{is_in_range}
@@ -16,7 +17,9 @@ is_terminator c = c == 0xA || c == 0xD || c == 0x2028 || c == 0x2029
 
 -- TAB, VT, FF, SP, NBSP, and the others of Unicode's category Zs (7.2)
 unfoldable pub is_white : ℕ → Bool
-is_white c = c == 0x9 || c == 0xB || c == 0xC || c == 0x20 || c == 0xA0 || c == 0x1680 || is_in_range 0x2000 0x200A c || c == 0x202F || c == 0x205F || c == 0x3000
+is_white c =
+    c == 0x9 || c == 0xB || c == 0xC || c == 0x20 || c == 0xA0 || c == 0x1680
+    || is_in_range 0x2000 0x200A c || c == 0x202F || c == 0x205F || c == 0x3000
 
 abbrev pub is_blank : ℕ → Bool
 is_blank c = is_white c || is_terminator c
@@ -36,4 +39,5 @@ is_part c = is_ascii_alphanumeric c || c == 95 || c == 36
 -- `\u` and four hexadecimal digits stand at an index (7.8.4)
 unfoldable pub is_escape : List ℕ → ℕ → Bool
 is_escape cs i = char_at cs i == 92 && char_at cs (i + 1) == 117
-    && is_hexadecimal (char_at cs (i + 2)) && is_hexadecimal (char_at cs (i + 3)) && is_hexadecimal (char_at cs (i + 4)) && is_hexadecimal (char_at cs (i + 5))
+    && is_hexadecimal (char_at cs (i + 2)) && is_hexadecimal (char_at cs (i + 3))
+    && is_hexadecimal (char_at cs (i + 4)) && is_hexadecimal (char_at cs (i + 5))

@@ -1,4 +1,5 @@
--- When two primitive values are equal, which of them is less, and their sum (ES3 11.6.1, 11.8.5, 11.9.3, 11.9.6).
+-- When two primitive values are equal, which of them is less, and their sum (ES3 11.6.1, 11.8.5,
+-- 11.9.3, 11.9.6).
 use Rattle.std.specs.Prelude.{ℕ, int_lt, Bool, true, false, not, ◌&&◌, ◌||◌, if◌then◌else◌, List, ◌++◌, Option, Some, None, Result, Ok, Err}
 use Rattle.std.specs.Cmp.Lexicographic.{slice_cmp}
 use Rattle.std.specs.Ordering.{int_eq, nat_cmp, is_lt}
@@ -31,7 +32,8 @@ strict_equal (Text a) (Text b) = same_text a b
 strict_equal _ _ = false
 
 -- what two numbers come to, of which the left one is converted first
-abbrev pub of_both : {A : Type 0} → (Num → Num → Result A Stop) → Result Num Stop → Result Num Stop → Result A Stop
+abbrev pub of_both : {A : Type 0} → (Num → Num → Result A Stop) → Result Num Stop → Result Num Stop
+    → Result A Stop
 of_both f (Err stop) right = Err stop
 of_both f (Ok m) (Err stop) = Err stop
 of_both f (Ok m) (Ok n) = f m n
@@ -41,7 +43,8 @@ abbrev pub less_number : Num → Num → Option Bool
 less_number (Whole m) (Whole n) = Some (int_lt m n)
 less_number _ _ = None
 
--- whether the first text comes first: by the first unit that differs, or as a beginning of the other
+-- whether the first text comes first: by the first unit that differs, or as a beginning of the
+-- other
 abbrev pub less_text : List ℕ → List ℕ → Bool
 less_text a b = is_lt (slice_cmp nat_cmp a b)
 
@@ -67,7 +70,8 @@ are_alike (Number m) (Number n) = true
 are_alike (Text a) (Text b) = true
 are_alike _ _ = false
 
--- undefined and null are equal to each other and to nothing else; values of one type as such; others as numbers (11.9.3)
+-- undefined and null are equal to each other and to nothing else; values of one type as such;
+-- others as numbers (11.9.3)
 abbrev pub loose_equal : Primitive → Primitive → Result Bool Stop
 loose_equal a b =
     if is_nothing a || is_nothing b then Ok (is_nothing a && is_nothing b)

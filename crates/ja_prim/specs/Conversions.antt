@@ -20,7 +20,8 @@ to_bool (Number NaN) = false
 to_bool (Number (Whole n)) = not (int_eq n (pos 0))
 to_bool (Text units) = not (length units == 0)
 
--- the number of a value (9.3): of a text as it says, and of any other value one that the profile has
+-- the number of a value (9.3): of a text as it says, and of any other value one that the profile
+-- has
 abbrev pub to_number : Primitive → Result Num Stop
 to_number Undefined = Ok NaN
 to_number Null = Ok (Whole (pos 0))

@@ -1,4 +1,5 @@
--- Which numbers and texts are array indices (ES3 15.4): 0 to 4,294,967,294, and their decimal texts.
+-- Which numbers and texts are array indices (ES3 15.4): 0 to 4,294,967,294, and their decimal
+-- texts.
 use Rattle.std.specs.Prelude.{ℕ, ◌+◌, ◌-◌, ◌*◌, ℤ, pos, negsuc, Bool, false, not, ◌&&◌, ◌||◌, ◌==◌, nat_lt, nat_le, List, [], ◌∷◌, length}
 use Rattle.std.specs.List.{list_all}
 use Rattle.ja_prim.specs.Characters.{is_digit}
@@ -19,4 +20,5 @@ starts_with_zero (c ∷ cs) = c == 48
 -- one to ten digits, the first not 0 unless it stands alone, of a number that is an index
 abbrev pub is_index_text : List ℕ → Bool
 is_index_text t =
-    nat_lt 0 (length t) && nat_le (length t) 10 && list_all is_digit t && (not (starts_with_zero t) || (length t == 1)) && nat_lt (with_digits 0 t) 4294967295
+    nat_lt 0 (length t) && nat_le (length t) 10 && list_all is_digit t
+    && (not (starts_with_zero t) || (length t == 1)) && nat_lt (with_digits 0 t) 4294967295

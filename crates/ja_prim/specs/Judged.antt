@@ -13,7 +13,9 @@ max_magnitude = 9007199254740991
 abbrev pub signed : Bool → ℕ → ℤ
 signed negative n = if negative then neg_ℤ (pos n) else pos n
 
--- The number of this sign and magnitude n / d, where d isn't 0: first its range is judged, then whether it is whole.
+-- The number of this sign and magnitude n / d, where d isn't 0: first its range is judged, then
+-- whether it is whole.
 abbrev pub judged : Bool → ℕ → ℕ → Result Num Stop
 judged negative n d =
-    if nat_lt (max_magnitude * d) n then Err Range else if n % d == 0 then Ok (Whole (signed negative (n / d))) else Err Fraction
+    if nat_lt (max_magnitude * d) n then Err Range else if n % d == 0
+    then Ok (Whole (signed negative (n / d))) else Err Fraction

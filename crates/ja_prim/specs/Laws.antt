@@ -8,17 +8,21 @@ use Rattle.ja_prim.specs.declared.stop.Stop.TheVariants.{Range}
 use Rattle.ja_prim.specs.Bits.{to_uint32, to_int32}
 use Rattle.ja_prim.specs.Judged.{max_magnitude}
 
--- of whole numbers an operation is that of the integers where the profile has its result, and Range exactly where not
+-- of whole numbers an operation is that of the integers where the profile has its result, and Range
+-- exactly where not
 pub record IsOfIntegers (operation : Num → Num → Result Num Stop) (exact : ℤ → ℤ → ℤ) : Type 0 where
-  pub had : (m n : ℤ) → unsigned_abs (exact m n) ≤ max_magnitude → operation (Whole m) (Whole n) ≡ Ok (Whole (exact m n))
-  pub range : (m n : ℤ) → (operation (Whole m) (Whole n) ≡ Err Range) ↔ (max_magnitude < unsigned_abs (exact m n))
+  pub had : (m n : ℤ) → unsigned_abs (exact m n) ≤ max_magnitude
+      → operation (Whole m) (Whole n) ≡ Ok (Whole (exact m n))
+  pub range : (m n : ℤ) → (operation (Whole m) (Whole n) ≡ Err Range)
+      ↔ (max_magnitude < unsigned_abs (exact m n))
 
 -- q is the exact quotient of m by n
 pub record IsQuotient (m n q : ℤ) : Type 0 where
   pub divisor : n ≢ pos 0
   pub product : m ≡ q *ℤ n
 
--- r is a remainder of m by n: what is left of m beside a multiple of n, less than n, and 0 or of the sign of m
+-- r is a remainder of m by n: what is left of m beside a multiple of n, less than n, and 0 or of
+-- the sign of m
 pub record IsRemainder (m n r : ℤ) : Type 0 where
   pub times : ℤ
   pub sum : m ≡ times *ℤ n +ℤ r
@@ -51,7 +55,8 @@ pub record IsInt32 (a : Num) : Type 0 where
   pub above : neg_ℤ (pos (2 ^ 31)) ≤ℤ value
   pub below : value <ℤ pos (2 ^ 31)
 
--- the result has 32 bits, and each is what an operation on truth values makes of those of the operands (11.10)
+-- the result has 32 bits, and each is what an operation on truth values makes of those of the
+-- operands (11.10)
 pub record IsBitwise (operation : Num → Num → Num) (of_bits : Bool → Bool → Bool) : Type 0 where
   pub signed : (a b : Num) → IsInt32 (operation a b)
   pub bits : (a b : Num) (k : ℕ) → k < 32 → bit (operation a b) k ≡ of_bits (bit a k) (bit b k)
@@ -78,9 +83,11 @@ pub record IsFloor (z : ℤ) (d : ℕ) (q : ℤ) : Type 0 where
   pub below : left < d
   pub sum : z ≡ q *ℤ pos d +ℤ pos left
 
--- the left shift by n places is times 2^n, modulo 2^32 (11.7.1); the right shifts are quotients by 2^n (11.7.2, 11.7.3)
+-- the left shift by n places is times 2^n, modulo 2^32 (11.7.1); the right shifts are quotients by
+-- 2^n (11.7.2, 11.7.3)
 abbrev pub IsShiftedLeft : Num → ℕ → Num → Type 0
-IsShiftedLeft a n result = (z : ℤ) × (result ≡ Whole z) × IsSignedResidue (to_int32 a *ℤ pos (2 ^ n)) z
+IsShiftedLeft a n result =
+    (z : ℤ) × (result ≡ Whole z) × IsSignedResidue (to_int32 a *ℤ pos (2 ^ n)) z
 
 abbrev pub IsShiftedRight : ℤ → ℕ → Num → Type 0
 IsShiftedRight z n result = (q : ℤ) × (result ≡ Whole q) × IsFloor z (2 ^ n) q

@@ -12,7 +12,9 @@ use Rattle.ja_prim.specs.Judged.{max_magnitude}
 -- the number of the text of a number is that number
 abbrev pub IsReadBack : Num → Type 0
 IsReadBack NaN = to_number (Text (to_text (Number NaN))) ≡ Ok NaN
-IsReadBack (Whole z) = neg_ℤ (pos max_magnitude) ≤ℤ z → z ≤ℤ pos max_magnitude → to_number (Text (to_text (Number (Whole z)))) ≡ Ok (Whole z)
+IsReadBack (Whole z) =
+    neg_ℤ (pos max_magnitude) ≤ℤ z → z ≤ℤ pos max_magnitude
+    → to_number (Text (to_text (Number (Whole z)))) ≡ Ok (Whole z)
 
 abbrev pub is_nan : Primitive → Bool
 is_nan (Number NaN) = true
@@ -46,7 +48,8 @@ pub record IsValue (m up down v : ℕ) : Type 0 where
   pub exact : v * 10 ^ down ≡ m * 10 ^ up
   pub small : v ≤ 9007199254740991
 
--- the value of the literal of digits m, of which f stand behind the point, and of the exponent e or -e
+-- the value of the literal of digits m, of which f stand behind the point, and of the exponent e or
+-- -e
 abbrev pub IsLiteralValue : Bool → ℕ → ℕ → ℕ → ℕ → Type 0
 IsLiteralValue true m e f v = IsValue m 0 (e + f) v
 IsLiteralValue false m e f v = IsValue m e f v

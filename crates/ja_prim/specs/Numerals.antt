@@ -33,27 +33,31 @@ is_exponent_letter c = c == 101 || c == 69
 unfoldable pub power : List ℕ → List ℕ
 power cs = if is_sign (char_at cs 1) then drop 2 cs else drop 1 cs
 
--- of what may begin with an exponent, `e` or `E`, a sign or none, and digits: these digits, and what stands behind it
+-- of what may begin with an exponent, `e` or `E`, a sign or none, and digits: these digits, and
+-- what stands behind it
 unfoldable pub exponent : List ℕ → List ℕ
 exponent cs = if is_exponent_letter (char_at cs 0) then digits (power cs) else []
 
 unfoldable pub behind_exponent : List ℕ → List ℕ
 behind_exponent cs = if length (exponent cs) == 0 then cs else behind_digits (power cs)
 
--- what stands behind the longest decimal literal: digits, a fraction or none, and an exponent or none
+-- what stands behind the longest decimal literal: digits, a fraction or none, and an exponent or
+-- none
 unfoldable pub behind_decimal : List ℕ → List ℕ
 behind_decimal cs = behind_exponent (behind_fraction (behind_digits cs))
 
 -- m * 10^e, or m * 10^-e, with a point before the last f digits of m
 unfoldable pub placed : Bool → Bool → ℕ → ℕ → ℕ → Result Num Stop
-placed negative below m e f = if below then judged negative m (10 ^ (e + f)) else judged negative (m * 10 ^ e) (10 ^ f)
+placed negative below m e f =
+    if below then judged negative m (10 ^ (e + f)) else judged negative (m * 10 ^ e) (10 ^ f)
 
 -- the exact value of the longest decimal literal, or its opposite
 unfoldable pub decimal_value : Bool → List ℕ → Result Num Stop
 decimal_value negative cs =
     let places = fraction (behind_digits cs) in
     let rest = behind_fraction (behind_digits cs) in
-    placed negative (char_at rest 1 == 45) (digits_value 10 (digits cs ++ places)) (digits_value 10 (exponent rest)) (length places)
+    placed negative (char_at rest 1 == 45) (digits_value 10 (digits cs ++ places))
+    (digits_value 10 (exponent rest)) (length places)
 
 -- `0x` or `0X` stands first
 abbrev pub begins_hexadecimal : List ℕ → Bool

@@ -13,10 +13,12 @@ use Rattle.ja_prim.specs.Characters.{char_at}
 use Rattle.ja_prim.specs.Numerals.{digits, behind_digits, fraction, is_sign, behind_decimal, decimal_value, begins_hexadecimal}
 use Rattle.ja_prim.specs.Judged.{judged}
 
--- a decimal literal with no sign, with a digit before the exponent, and nothing behind it; what isn't one is NaN
+-- a decimal literal with no sign, with a digit before the exponent, and nothing behind it; what
+-- isn't one is NaN
 unfoldable pub decimal : Bool → List ℕ → Result Num Stop
 decimal negative t =
-    if length (digits t) + length (fraction (behind_digits t)) == 0 || not (length (behind_decimal t) == 0) then Ok NaN
+    if length (digits t) + length (fraction (behind_digits t)) == 0
+    || not (length (behind_decimal t) == 0) then Ok NaN
     else decimal_value negative t
 
 -- behind a sign, if there is one: `Infinity`, which is past every number, or a decimal literal
@@ -24,11 +26,14 @@ unfoldable pub unsigned : List ℕ → List ℕ
 unsigned t = if is_sign (char_at t 0) then drop 1 t else t
 
 unfoldable pub signed_literal : List ℕ → Result Num Stop
-signed_literal t = if same_text (unsigned t) (codes "Infinity") then Err Range else decimal (char_at t 0 == 45) (unsigned t)
+signed_literal t =
+    if same_text (unsigned t) (codes "Infinity") then Err Range
+    else decimal (char_at t 0 == 45) (unsigned t)
 
 -- `0x` or `0X` and hexadecimal digits
 unfoldable pub is_hexadecimal : List ℕ → Bool
-is_hexadecimal t = begins_hexadecimal t && not (length (drop 2 t) == 0) && list_all is_ascii_hexdigit (drop 2 t)
+is_hexadecimal t =
+    begins_hexadecimal t && not (length (drop 2 t) == 0) && list_all is_ascii_hexdigit (drop 2 t)
 
 -- a text without white space at its ends: nothing is 0
 unfoldable pub literal : List ℕ → Result Num Stop

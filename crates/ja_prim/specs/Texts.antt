@@ -1,4 +1,5 @@
--- The units of a text, when two texts are equal, the greatest length of one, and what an operation that takes memory may answer.
+-- The units of a text, when two texts are equal, the greatest length of one, and what an operation
+-- that takes memory may answer.
 use Rattle.std.specs.Prelude.{ℕ, Bool, nat_eq, nat_le, nat_lt, if◌then◌else◌, List, length, Result, Ok, Err}
 use Rattle.std.specs.Cmp.Lexicographic.{pointwise}
 use Rattle.ja_prim.specs.declared.stop.Stop.{Stop}

@@ -41,9 +41,10 @@ fn sum(a: &Prim, b: &Prim) -> Result<Num, Stop>
     add_numbers(m, n)
 }
 
-/// The sum of two values (ES3 11.6.1): where one is a text, both texts joined, and else the sum of their numbers.
-/// `TextLength` comes exactly where the joined text would have more than 1,048,576 units, `Range` exactly where the sum has a
-/// magnitude greater than 9,007,199,254,740,991, and `Memory` where memory is refused.
+/// The sum of two values (ES3 11.6.1): where one is a text, both texts joined, and else the sum of
+/// their numbers. `TextLength` comes exactly where the joined text would have more than 1,048,576
+/// units, `Range` exactly where the sum has a magnitude greater than 9,007,199,254,740,991, and
+/// `Memory` where memory is refused.
 pub fn add(alloc: Global, a: &Prim, b: &Prim) -> Result<Prim, PrimFault>
     ensures { Answers (spec.add a.now b.now) result }
 {

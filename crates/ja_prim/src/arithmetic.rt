@@ -13,7 +13,8 @@ pub(crate) fn whole(n: i64) -> Num
     Num::Whole(Int::new(n).unwrap())
 }
 
-/// An exact whole number, or `Range` exactly where its magnitude is greater than 9,007,199,254,740,991.
+/// An exact whole number, or `Range` exactly where its magnitude is greater than
+/// 9,007,199,254,740,991.
 fn judged(n: i128) -> Result<Num, Stop>
     ensures { result ≡ spec.judged_whole n }
 {
@@ -24,8 +25,8 @@ fn judged(n: i128) -> Result<Num, Stop>
     Ok(whole(n as i64))
 }
 
-/// The exact sum of two numbers (11.6.3): NaN where one is NaN, and `Range` where its magnitude is greater than
-/// 9,007,199,254,740,991.
+/// The exact sum of two numbers (11.6.3): NaN where one is NaN, and `Range` where its magnitude is
+/// greater than 9,007,199,254,740,991.
 pub fn add_numbers(a: Num, b: Num) -> Result<Num, Stop>
     ensures { result ≡ spec.add a b }
 {
@@ -38,8 +39,8 @@ pub fn add_numbers(a: Num, b: Num) -> Result<Num, Stop>
     judged(i128::from(m.get()) + i128::from(n.get()))
 }
 
-/// The exact difference of two numbers (11.6.3): NaN where one is NaN, and `Range` where its magnitude is greater than
-/// 9,007,199,254,740,991.
+/// The exact difference of two numbers (11.6.3): NaN where one is NaN, and `Range` where its
+/// magnitude is greater than 9,007,199,254,740,991.
 pub fn sub(a: Num, b: Num) -> Result<Num, Stop>
     ensures { result ≡ spec.sub a b }
 {
@@ -53,8 +54,8 @@ fn product(m: Int, n: Int) -> i128
     i128::from(m.get()) * i128::from(n.get())
 }
 
-/// The exact product of two numbers (11.5.1): NaN where one is NaN, and `Range` where its magnitude is greater than
-/// 9,007,199,254,740,991.
+/// The exact product of two numbers (11.5.1): NaN where one is NaN, and `Range` where its magnitude
+/// is greater than 9,007,199,254,740,991.
 pub fn mul(a: Num, b: Num) -> Result<Num, Stop>
     ensures { result ≡ spec.mul a b }
 {
@@ -67,8 +68,8 @@ pub fn mul(a: Num, b: Num) -> Result<Num, Stop>
     judged(product(m, n))
 }
 
-/// The exact quotient of two whole numbers: NaN for 0 by 0, `Range` for another number by 0, and else `Fraction` where it
-/// isn't whole.
+/// The exact quotient of two whole numbers: NaN for 0 by 0, `Range` for another number by 0, and
+/// else `Fraction` where it isn't whole.
 fn quotient(m: Int, n: Int) -> Result<Num, Stop>
     ensures { result ≡ spec.quotient m n }
 {
@@ -86,8 +87,8 @@ fn quotient(m: Int, n: Int) -> Result<Num, Stop>
     Ok(whole(m / n))
 }
 
-/// The exact quotient of two numbers (11.5.2). It is NaN where one is NaN, and for 0 by 0. `Range` comes where another
-/// number is divided by 0, and else `Fraction` where the quotient isn't whole.
+/// The exact quotient of two numbers (11.5.2). It is NaN where one is NaN, and for 0 by 0. `Range`
+/// comes where another number is divided by 0, and else `Fraction` where the quotient isn't whole.
 pub fn div(a: Num, b: Num) -> Result<Num, Stop>
     ensures { result ≡ spec.div a b }
 {
@@ -100,8 +101,8 @@ pub fn div(a: Num, b: Num) -> Result<Num, Stop>
     quotient(m, n)
 }
 
-/// The remainder of two numbers, with the sign of the dividend (11.5.3): NaN where one is NaN, and where the divisor is 0.
-/// There always is one.
+/// The remainder of two numbers, with the sign of the dividend (11.5.3): NaN where one is NaN, and
+/// where the divisor is 0. There always is one.
 pub fn rem(a: Num, b: Num) -> Result<Num, Stop>
     ensures value { result ≡ spec.rem a b }
     ensures always { IsOk result }

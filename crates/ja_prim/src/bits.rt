@@ -35,7 +35,8 @@ pub fn to_uint32(a: Num) -> u32
     }
 }
 
-/// ToInt32 (9.5): the number from -2,147,483,648 to 2,147,483,647 that has the same residue modulo 2^32. Of NaN it is 0.
+/// ToInt32 (9.5): the number from -2,147,483,648 to 2,147,483,647 that has the same residue modulo
+/// 2^32. Of NaN it is 0.
 pub fn to_int32(a: Num) -> i32
     ensures { result ≡ spec.to_int32 a }
 {
@@ -80,7 +81,8 @@ pub fn shr(a: Num, b: Num) -> Num
     whole(i64::from(to_int32(a) >> places(b)))
 }
 
-/// The right shift without sign (11.7.3) of `a`'s 32 bits by `b` modulo 32 places, from 0 to 4,294,967,295.
+/// The right shift without sign (11.7.3) of `a`'s 32 bits by `b` modulo 32 places, from 0 to
+/// 4,294,967,295.
 pub fn ushr(a: Num, b: Num) -> Num
     ensures { result ≡ spec.ushr a b }
 {

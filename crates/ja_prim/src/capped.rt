@@ -67,9 +67,9 @@ pub fn raised(value: u64, power: u64) -> u64
     product
 }
 
-/// The number with this whole part, or 2^53 for any greater one, and with something behind the point where it isn't whole:
-/// `Range` exactly where its magnitude is greater than 9,007,199,254,740,991, and else `Fraction` exactly where it isn't
-/// whole.
+/// The number with this whole part, or 2^53 for any greater one, and with something behind the
+/// point where it isn't whole: `Range` exactly where its magnitude is greater than
+/// 9,007,199,254,740,991, and else `Fraction` exactly where it isn't whole.
 #[tactic(auto, unfolding(crate::specs::code::Capped::parted))]
 pub fn judge(negative: bool, value: u64, whole: bool) -> Result<Num, Stop>
     requires { value ≤ 9007199254740992 }

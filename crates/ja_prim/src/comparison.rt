@@ -24,9 +24,10 @@ fn less_text(a: &[u16], b: &[u16]) -> bool
     a.cmp(&b).is_lt()
 }
 
-/// Whether a is less than b (ES3 11.8.5): of two texts by their first units that differ, a beginning being less, and of
-/// other values by their numbers. `None` comes exactly where a NaN takes part. It stops exactly where one of the two is a
-/// text and the number of that text leaves the profile, as [`to_num`](crate::to_num) says.
+/// Whether a is less than b (ES3 11.8.5): of two texts by their first units that differ, a
+/// beginning being less, and of other values by their numbers. `None` comes exactly where a NaN
+/// takes part. It stops exactly where one of the two is a text and the number of that text leaves
+/// the profile, as [`to_num`](crate::to_num) says.
 pub fn compare(a: &Prim, b: &Prim) -> Result<Option<bool>, Stop>
     ensures { result ≡ spec.less a.now b.now }
 {

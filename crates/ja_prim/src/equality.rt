@@ -24,7 +24,8 @@ fn same_truth(a: bool, b: bool) -> bool
     if a { b } else { !b }
 }
 
-/// Whether two values are of one type and equal (ES3 11.9.6). NaN is equal to nothing, not to itself either.
+/// Whether two values are of one type and equal (ES3 11.9.6). NaN is equal to nothing, not to
+/// itself either.
 pub fn strict_eq(a: &Prim, b: &Prim) -> bool
     ensures { result ≡ spec.strict_equal a.now b.now }
 {
@@ -60,9 +61,10 @@ fn are_alike(a: &Prim, b: &Prim) -> bool
     }
 }
 
-/// Whether two values are equal after conversion (ES3 11.9.3): undefined and null are equal to each other and to nothing
-/// else, values of one type are compared as they are, and others by their numbers. It stops exactly where a text is compared
-/// with a number or a boolean and the number of that text leaves the profile, as [`to_num`](crate::to_num) says.
+/// Whether two values are equal after conversion (ES3 11.9.3): undefined and null are equal to each
+/// other and to nothing else, values of one type are compared as they are, and others by their
+/// numbers. It stops exactly where a text is compared with a number or a boolean and the number of
+/// that text leaves the profile, as [`to_num`](crate::to_num) says.
 pub fn loose_eq(a: &Prim, b: &Prim) -> Result<bool, Stop>
     ensures { result ≡ spec.loose_equal a.now b.now }
 {

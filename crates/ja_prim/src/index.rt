@@ -43,8 +43,8 @@ fn digits_value(units: &[u16]) -> u64
     value
 }
 
-/// The array index that a text is (ES3 15.4): `Some` exactly where it is the decimal text of a number from 0 to
-/// 4,294,967,294.
+/// The array index that a text is (ES3 15.4): `Some` exactly where it is the decimal text of a
+/// number from 0 to 4,294,967,294.
 pub fn array_index(a: &Text16) -> Option<u32>
     ensures { result ≡ index_of a.now }
 {

@@ -26,7 +26,8 @@ impl Model for Int {
 impl Int {
     /// The number, or `None` exactly where its magnitude is greater than 9,007,199,254,740,991.
     pub fn new(n: i64) -> Option<Int>
-        ensures in_range { IsSome result ↔ ((neg_ℤ (pos 9007199254740991) ≤ℤ n) × (n ≤ℤ pos 9007199254740991)) }
+        ensures in_range { IsSome result ↔ ((neg_ℤ (pos 9007199254740991) ≤ℤ n)
+            × (n ≤ℤ pos 9007199254740991)) }
         ensures value { IfSome result (λ i. i ≡ n) }
     {
         if n < -MAX_MAGNITUDE || n > MAX_MAGNITUDE {

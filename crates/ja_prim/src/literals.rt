@@ -224,10 +224,11 @@ fn literal(units: &[u16]) -> Result<Num, Stop>
     signed_literal(units)
 }
 
-/// The number of a text (ES3 9.3.1): without white space and line terminators at its ends nothing is 0, and a decimal
-/// literal, with a sign or none, or a hexadecimal one is its exact value; any other text is NaN. `Range` comes exactly where
-/// the magnitude of the value is greater than 9,007,199,254,740,991, as that of `Infinity` is, and else `Fraction` exactly
-/// where the value isn't whole.
+/// The number of a text (ES3 9.3.1): without white space and line terminators at its ends nothing
+/// is 0, and a decimal literal, with a sign or none, or a hexadecimal one is its exact value; any
+/// other text is NaN. `Range` comes exactly where the magnitude of the value is greater than
+/// 9,007,199,254,740,991, as that of `Infinity` is, and else `Fraction` exactly where the value
+/// isn't whole.
 #[tactic(auto, unfolding(crate::specs::TextToNumber::text_to_number))]
 pub fn text_to_number(units: &[u16]) -> Result<Num, Stop>
     requires { length units.now < 9223372036854775808 }

@@ -21,7 +21,8 @@ pub enum Primitive {
 }
 
 impl Primitive {
-    /// The same value; a text shares its units. It takes no memory, and fails where 2^64 - 1 texts share them.
+    /// The same value; a text shares its units. It takes no memory, and fails where 2^64 - 1 texts
+    /// share them.
     pub fn copy(&self) -> Result<Primitive, AllocError>
         ensures { IfOk result (λ copy. copy ≡ self.now) }
     {

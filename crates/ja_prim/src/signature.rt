@@ -2,8 +2,8 @@ ghost use Rattle.std.specs.Prelude.{◌≡◌, ◌||◌};
 
 use crate::Text16;
 
-/// The kinds of primitive values (ES3 8.1 to 8.5) that a host device may answer: `Kinds::NUMBER`, or
-/// `Kinds::NUMBER.with(Kinds::TEXT)`.
+/// The kinds of primitive values (ES3 8.1 to 8.5) that a host device may answer: `Kinds::NUMBER`,
+/// or `Kinds::NUMBER.with(Kinds::TEXT)`.
 #[derive(Clone, Copy, Debug, PartialEq, Eq)]
 pub struct Kinds {
     pub undefined: bool,

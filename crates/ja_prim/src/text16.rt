@@ -16,7 +16,8 @@ use std::rc::Rc;
 /// The most units that a text of the profile may have.
 pub const MAX_UNITS: usize = 1_048_576;
 
-/// A text of at most 1,048,576 units of 16 bits. Contracts see the list of units. Copies share their units.
+/// A text of at most 1,048,576 units of 16 bits. Contracts see the list of units. Copies share
+/// their units.
 #[derive(Drop)]
 pub struct Text16 {
     units: Rc<Vec<u16>>,
@@ -60,8 +61,8 @@ impl Text16 {
         Text16::from_units(alloc, ascii_units(alloc, bytes)?)
     }
 
-    /// The UTF-16 units of a text. `TextLength` comes exactly where there are more than 1,048,576, and `Memory` where
-    /// memory is refused.
+    /// The UTF-16 units of a text. `TextLength` comes exactly where there are more than 1,048,576,
+    /// and `Memory` where memory is refused.
     pub fn from_str(alloc: Global, text: &str) -> Result<Text16, PrimFault>
         ensures { Answers (limited_text (utf16 text.now)) result }
     {
@@ -77,7 +78,8 @@ impl Text16 {
         text_to_number(&self.units)
     }
 
-    /// The same text, which shares its units. It takes no memory, and fails where 2^64 - 1 texts share them.
+    /// The same text, which shares its units. It takes no memory, and fails where 2^64 - 1 texts
+    /// share them.
     pub fn copy(&self) -> Result<Text16, AllocError>
         ensures { IfOk result (λ text. text ≡ self.now) }
     {
@@ -95,8 +97,8 @@ impl Text16 {
     }
 }
 
-/// The text of these units. `TextLength` comes exactly where there are more than 1,048,576, and `Memory` where memory is
-/// refused.
+/// The text of these units. `TextLength` comes exactly where there are more than 1,048,576, and
+/// `Memory` where memory is refused.
 pub fn limited(alloc: Global, units: Vec<u16>) -> Result<Text16, PrimFault>
     ensures { Answers (limited_text units.items) result }
 {

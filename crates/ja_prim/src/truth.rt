@@ -3,7 +3,8 @@ ghost use Rattle.ja_prim.specs.Conversions as spec;
 
 use crate::{Num, Prim, Primitive};
 
-/// Whether a value counts as true (ES3 9.2): all but undefined, null, false, NaN, 0 and the empty text.
+/// Whether a value counts as true (ES3 9.2): all but undefined, null, false, NaN, 0 and the empty
+/// text.
 pub fn to_bool(a: &Prim) -> bool
     ensures { result ≡ spec.to_bool a.now }
 {

@@ -4,4 +4,5 @@ pub mod ObjectLemmas
 pub mod OutputLemmas
 pub mod PartLemmas
 pub mod PointLemmas
+pub mod Rulesets
 pub mod SiteLemmas

@@ -19,13 +19,16 @@ name_unit u e = grind (arith, nat_tests)
 name_units : (t : List ℕ) → list_all is_name_unit t ≡ true → flat_map unit_text t ≡ t
 name_units [] e = refl
 name_units (u ∷ us) e =
-    let parts : (is_name_unit u ≡ true) × (list_all is_name_unit us ≡ true) = both (is_name_unit u) (list_all is_name_unit us) e in
-    ap (λ (l : List ℕ). l ++ flat_map unit_text us) (name_unit u parts.0) ∙ ap (λ (l : List ℕ). u ∷ l) (name_units us parts.1)
+    let parts : (is_name_unit u ≡ true) × (list_all is_name_unit us ≡ true) = both (is_name_unit u)
+    (list_all is_name_unit us) e in
+    ap (λ (l : List ℕ). l ++ flat_map unit_text us) (name_unit u parts.0)
+    ∙ ap (λ (l : List ℕ). u ∷ l) (name_units us parts.1)
 
 bare_units : (t : List ℕ) → is_bare t ≡ true → units_text t ≡ t
 unfolding is_bare units_text
 bare_units t e =
-    name_units t (both (option_map_or (λ (c : ℕ). not (is_digit c)) (slice_get t 0) false) (list_all is_name_unit t) e).1
+    name_units t (both (option_map_or (λ (c : ℕ). not (is_digit c)) (slice_get t 0) false)
+    (list_all is_name_unit t) e).1
 
 pub bare_text : (t : List ℕ) → is_bare t ≡ true → units_text t ≡ name_text t
 unfolding name_text

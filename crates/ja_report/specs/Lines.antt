@@ -1,5 +1,5 @@
--- The lines of a table: the values at entry that are demanded, and its states. They are what the report says of the
--- one context, and the sites that they name are explained in the report.
+-- The lines of a table: the values at entry that are demanded, and its states. They are what the
+-- report says of the one context, and the sites that they name are explained in the report.
 use Rattle.std.specs.Prelude.{ℕ, Bool, false, not, ◌&&◌, ◌||◌, if◌then◌else◌, List, [], ◌∷◌, ◌++◌, map, length}
 use Rattle.std.specs.List.{flat_map, range_with_len}
 use Rattle.std.specs.Option.{option_map_or}
@@ -21,7 +21,8 @@ use Rattle.ja_model.specs.Reading.{Entries}
 use Rattle.ja_model.specs.Table.{Table, root}
 use Rattle.ja_report.specs.Texts.{key_text, site_text, label_text, register_text, value_labels, value_text, attrs_text}
 
--- a demanded value at entry, a node that has a state, and what that state has besides what it had at entry
+-- a demanded value at entry, a node that has a state, and what that state has besides what it had
+-- at entry
 pub data Line : Type 0 where
   entry : Label → Key → AbstractProperty → Line
   point : ℕ → Line
@@ -34,7 +35,9 @@ unfoldable pub owner_text : Program → Label → Key → List ℕ
 owner_text p l k = label_text p l ++ codes " " ++ key_text p k
 
 unfoldable pub property_text : Program → Label → Key → AbstractProperty → List ℕ
-property_text p l k q = owner_text p l k ++ codes " " ++ value_text p q.value ++ codes " " ++ attrs_text k q.attrs ++ codes "\n"
+property_text p l k q =
+    owner_text p l k ++ codes " " ++ value_text p q.value ++ codes " " ++ attrs_text k q.attrs
+    ++ codes "\n"
 
 -- objects made at a site since the entry: surely some, maybe some, or neither, which no table has
 abbrev pub mask_text : Mask → List ℕ
@@ -67,19 +70,25 @@ unfoldable pub entry_line : Entries → Label → Key → List Line
 entry_line entries l k = option_map_or (λ (q : AbstractProperty). entry l k q ∷ []) (entries l k) []
 
 unfoldable pub entry_lines : Program → Entries → List Line
-entry_lines p entries = flat_map (λ (l : Label). flat_map (entry_line entries l) (keys_of p)) (labels_of p)
+entry_lines p entries =
+    flat_map (λ (l : Label). flat_map (entry_line entries l) (keys_of p)) (labels_of p)
 
 -- the registers that are not exactly undefined
 unfoldable pub is_undefined : Program → AbstractValue → Bool
-is_undefined p v = v.flags.undefined && not (has_part (labels_of p) (record v { flags = record v.flags { undefined = false } }))
+is_undefined p v =
+    v.flags.undefined && not (has_part (labels_of p)
+    (record v { flags = record v.flags { undefined = false } }))
 
 unfoldable pub register_line : Program → ℕ → AbstractValue → List Line
 register_line p r v = if is_undefined p v then [] else register r v ∷ []
 
 unfoldable pub register_lines : Program → AbstractState → List Line
-register_lines p a = flat_map (λ (r : ℕ). register_line p r (a.register r)) (range_with_len 0 (registers_of p program_function))
+register_lines p a =
+    flat_map (λ (r : ℕ). register_line p r (a.register r))
+    (range_with_len 0 (registers_of p program_function))
 
--- the properties that are not exactly as at entry, or have an attribute that is known, by label and key
+-- the properties that are not exactly as at entry, or have an attribute that is known, by label and
+-- key
 abbrev pub is_known : May → Bool
 is_known m = m.set || m.unset
 
@@ -88,7 +97,9 @@ has_attrs a = is_known a.read_only || is_known a.dont_enum || is_known a.dont_de
 
 unfoldable pub is_entry : Program → AbstractProperty → Bool
 is_entry p q =
-    q.value.flags.entry && not (has_part (labels_of p) (record q.value { flags = record q.value.flags { entry = false } })) && not (has_attrs q.attrs)
+    q.value.flags.entry && not (has_part (labels_of p)
+    (record q.value { flags = record q.value.flags { entry = false } }))
+    && not (has_attrs q.attrs)
 
 unfoldable pub property_line : Program → Label → Key → AbstractProperty → List Line
 property_line p l k q = if is_entry p q then [] else property l k q ∷ []
@@ -115,7 +126,8 @@ unfoldable pub node_lines : Program → Table → ℕ → List Line
 node_lines p t n = option_map_or (state_lines p n) (t.state root n) []
 
 unfoldable pub point_lines : Program → Table → List Line
-point_lines p t = flat_map (node_lines p t) (range_with_len 0 (length (nodes_of p program_function)))
+point_lines p t =
+    flat_map (node_lines p t) (range_with_len 0 (length (nodes_of p program_function)))
 
 -- the values at entry, then the states
 abbrev pub table_lines : Program → Table → List Line

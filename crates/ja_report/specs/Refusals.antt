@@ -6,16 +6,20 @@ use Rattle.ja_report.specs.declared.refusals.Refusal.{Refusal}
 use Rattle.ja_report.specs.declared.refusals.Refusal.TheVariants.{Usage, ReadFault, TooLong, NotText, Syntax, Scope, Depth, Functions, Nodes, Unbuilt}
 use Rattle.ja_texts.specs.Texts.{place_text, scope_name}
 
--- one line: how the program is called, that its input failed, that its text is too long, the offset of the first byte that
--- begins no character, the place of the first token with which no program goes on, or where the text leaves the profile and
--- how, that it nests too deep, that it has too many functions, or too many nodes, or the place of a form that is not built
+-- one line: how the program is called, that its input failed, that its text is too long, the offset
+-- of the first byte that begins no character, the place of the first token with which no program
+-- goes on, or where the text leaves the profile and how, that it nests too deep, that it has too
+-- many functions, or too many nodes, or the place of a form that is not built
 abbrev pub refusal_text : Refusal → List ℕ
-refusal_text Usage = codes "usage: tajs analyse [--cert] [--budget N] | check | run [--steps N] | generate --number N\n"
+refusal_text Usage =
+    codes
+    "usage: tajs analyse [--cert] [--budget N] | check | run [--steps N] | generate --number N\n"
 refusal_text ReadFault = codes "read fault\n"
 refusal_text TooLong = codes "too long 16777216\n"
 refusal_text (NotText offset) = codes "not text " ++ decimal offset ++ codes "\n"
 refusal_text (Syntax place) = codes "syntax " ++ place_text place ++ codes "\n"
-refusal_text (Scope kind place) = codes "scope " ++ scope_name kind ++ codes " " ++ place_text place ++ codes "\n"
+refusal_text (Scope kind place) =
+    codes "scope " ++ scope_name kind ++ codes " " ++ place_text place ++ codes "\n"
 refusal_text Depth = codes "limit depth 200\n"
 refusal_text Functions = codes "limit functions 4096\n"
 refusal_text Nodes = codes "limit nodes 65536\n"

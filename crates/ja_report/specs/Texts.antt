@@ -37,7 +37,8 @@ abbrev pub is_name_unit : ℕ → Bool
 is_name_unit c = is_letter c || is_digit c || (c == 95) || (c == 36)
 
 unfoldable pub is_bare : List ℕ → Bool
-is_bare t = option_map_or (λ (c : ℕ). not (is_digit c)) (slice_get t 0) false && list_all is_name_unit t
+is_bare t =
+    option_map_or (λ (c : ℕ). not (is_digit c)) (slice_get t 0) false && list_all is_name_unit t
 
 -- such a name stands as it is, any other in quotes
 unfoldable pub name_text : List ℕ → List ℕ
@@ -63,7 +64,9 @@ builtin_of p s = option_and_then (λ (info : SiteInfo). info.builtin) (slice_get
 
 -- the device of a site: those of devices stand behind those of the built-in objects
 unfoldable pub device_of : Program → Site → Option Signature
-device_of p s = if nat_le (length BUILTIN_CLASSES) s.0 then slice_get p.signatures (s.0 - length BUILTIN_CLASSES) else None
+device_of p s =
+    if nat_le (length BUILTIN_CLASSES) s.0 then slice_get p.signatures
+    (s.0 - length BUILTIN_CLASSES) else None
 
 -- a device goes by its name
 abbrev pub device_text : Signature → List ℕ
@@ -74,7 +77,9 @@ abbrev pub numbered_site : Site → List ℕ
 numbered_site s = codes "s" ++ decimal s.0
 
 unfoldable pub site_text : Program → Site → List ℕ
-site_text p s = option_map_or units_text (builtin_of p s) (option_map_or device_text (device_of p s) (numbered_site s))
+site_text p s =
+    option_map_or units_text (builtin_of p s)
+    (option_map_or device_text (device_of p s) (numbered_site s))
 
 abbrev pub age_text : Bool → List ℕ
 age_text old = if old then codes ".old" else codes ".new"
@@ -86,7 +91,9 @@ label_text p l = site_text p l.site ++ age_text l.old
 
 unfoldable pub register_text : ℕ → List ℕ
 register_text r =
-    if r == 0 then codes "thrown" else if r == 1 then codes "this" else if r == 2 then codes "scope" else if r == 3 then codes "callee" else if r == 4 then codes "count" else if r == 5 then codes "rest" else codes "r" ++ decimal (r - 6)
+    if r == 0 then codes "thrown" else if r == 1 then codes "this" else if r == 2 then codes "scope"
+    else if r == 3 then codes "callee" else if r == 4 then codes "count" else if r == 5
+    then codes "rest" else codes "r" ++ decimal (r - 6)
 
 -- ---- values
 
@@ -96,12 +103,15 @@ part there text = if there then text ∷ [] else []
 
 -- what is said of the property that has the value
 unfoldable pub property_parts : Flags → List (List ℕ)
-property_parts f = part f.absent (codes "absent") ++ part f.entry (codes "entry") ++ part f.row (codes "row")
+property_parts f =
+    part f.absent (codes "absent") ++ part f.entry (codes "entry") ++ part f.row (codes "row")
 
 -- the primitive values apart from numbers and texts
 unfoldable pub primitive_parts : Flags → List (List ℕ)
 primitive_parts f =
-    part f.undefined (codes "undefined") ++ part f.null (codes "null") ++ part f.is_true (codes "true") ++ part f.is_false (codes "false") ++ part f.nan (codes "NaN")
+    part f.undefined (codes "undefined") ++ part f.null (codes "null")
+    ++ part f.is_true (codes "true") ++ part f.is_false (codes "false")
+    ++ part f.nan (codes "NaN")
 
 unfoldable pub number_parts : NumberPart → List (List ℕ)
 number_parts number_part.Nothing = []
@@ -122,7 +132,9 @@ abbrev pub value_labels : Program → AbstractValue → List Label
 value_labels p v = filter v.label (labels_of p)
 
 unfoldable pub value_parts : Program → AbstractValue → List (List ℕ)
-value_parts p v = property_parts v.flags ++ primitive_parts v.flags ++ number_parts v.number ++ text_parts v.text ++ map (label_text p) (value_labels p v)
+value_parts p v =
+    property_parts v.flags ++ primitive_parts v.flags ++ number_parts v.number ++ text_parts v.text
+    ++ map (label_text p) (value_labels p v)
 
 -- parts with bars between them
 unfoldable pub joined : List (List ℕ) → List ℕ
@@ -134,11 +146,14 @@ value_text p v = joined (value_parts p v)
 
 -- ---- attributes
 
--- the letter where the attribute is surely set, `-` where it surely is not, `?` where either, `.` where neither is known
+-- the letter where the attribute is surely set, `-` where it surely is not, `?` where either, `.`
+-- where neither is known
 abbrev pub attr_text : ℕ → May → ℕ
-attr_text letter m = if m.set then (if m.unset then 63 else letter) else (if m.unset then 45 else 46)
+attr_text letter m =
+    if m.set then (if m.unset then 63 else letter) else (if m.unset then 45 else 46)
 
 -- ReadOnly, DontEnum and DontDelete; an internal property has none
 unfoldable pub attrs_text : Key → AAttrs → List ℕ
 attrs_text (key.Slot s) a = codes "..."
-attrs_text k a = attr_text 82 a.read_only ∷ attr_text 69 a.dont_enum ∷ attr_text 68 a.dont_delete ∷ []
+attrs_text k a =
+    attr_text 82 a.read_only ∷ attr_text 69 a.dont_enum ∷ attr_text 68 a.dont_delete ∷ []

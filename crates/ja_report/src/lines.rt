@@ -26,7 +26,8 @@ use std::alloc::Global;
 
 #[tactic(auto, unfolding(crate::specs::Lines::owner_text))]
 fn push_owner(out: &mut Output, program: &Program, label: Label, key: Key) -> Result<(), Memory>
-    ensures text { OnOk result (out.new.text.items ≡ out.old.text.items ++ owner_text program.now label key) }
+    ensures text { OnOk result (out.new.text.items ≡ out.old.text.items
+        ++ owner_text program.now label key) }
     ensures named { OnOk result (out.new.named.items ≡ out.old.named.items ++ label.site.0 ∷ []) }
 {
     name_label(out, program, label)?;
@@ -45,8 +46,10 @@ pub(crate) fn push_property_text(
     property: &AProp,
 ) -> Result<(), Memory>
     requires { IsWellFormed program.now }
-    ensures text { OnOk result (out.new.text.items ≡ out.old.text.items ++ property_text program.now label key (property_of property.now)) }
-    ensures named { OnOk result (out.new.named.items ≡ out.old.named.items ++ label.site.0 ∷ value_sites program.now (value_of property.now.value)) }
+    ensures text { OnOk result (out.new.text.items ≡ out.old.text.items
+        ++ property_text program.now label key (property_of property.now)) }
+    ensures named { OnOk result (out.new.named.items ≡ out.old.named.items ++ label.site.0
+        ∷ value_sites program.now (value_of property.now.value)) }
 {
     push_owner(out, program, label, key)?;
     out.text.push(b' ')?;
@@ -81,7 +84,7 @@ fn is_entry(program: &Program, property: &AProp) -> bool
     value.flags.entry & !more & !has_attrs(property.attrs)
 }
 
-#[tactic(auto, using(crate::proofs::OutputLemmas::adds_none, crate::proofs::OutputLemmas::adds_one), unfolding(crate::specs::Lines::property_line, crate::specs::Lines::line_text, crate::specs::Lines::line_sites))]
+#[tactic(auto, using(crate::proofs::Rulesets::for_push_property), unfolding(crate::specs::Lines::property_line, crate::specs::Lines::line_text, crate::specs::Lines::line_sites))]
 fn push_property(
     out: &mut Output,
     alloc: Global,
@@ -91,7 +94,8 @@ fn push_property(
     property: &AProp,
 ) -> Result<(), Memory>
     requires { IsWellFormed program.now }
-    ensures { OnOk result (Adds program.now (property_line program.now label key (property_of property.now)) out.old out.new) }
+    ensures { OnOk result (Adds program.now
+        (property_line program.now label key (property_of property.now)) out.old out.new) }
 {
     if is_entry(program, property) {
         return Ok(());
@@ -110,7 +114,8 @@ fn push_object(
 ) -> Result<(), Memory>
     requires program { IsWellFormed program.now }
     requires keys { keys.now ≡ keys_of program.now }
-    ensures { OnOk result (Adds program.now (object_lines program.now label (object_of object.now)) out.old out.new) }
+    ensures { OnOk result (Adds program.now (object_lines program.now label (object_of object.now))
+        out.old out.new) }
 {
     for key in keys {
         push_property(out, alloc, program, label, *key, object.read(*key))?;
@@ -129,7 +134,8 @@ fn push_label_lines(
 ) -> Result<(), Memory>
     requires program { IsWellFormed program.now }
     requires keys { keys.now ≡ keys_of program.now }
-    ensures { OnOk result (Adds program.now (object_lines program.now label ((state_of state.now).property label)) out.old out.new) }
+    ensures { OnOk result (Adds program.now
+        (object_lines program.now label ((state_of state.now).property label)) out.old out.new) }
 {
     if let Some(object) = state.object(label) {
         push_object(out, alloc, program, keys, label, object)?;
@@ -146,7 +152,8 @@ fn push_properties(
 ) -> Result<(), Memory>
     requires program { IsWellFormed program.now }
     requires keys { keys.now ≡ keys_of program.now }
-    ensures { OnOk result (Adds program.now (property_lines program.now (state_of state.now)) out.old out.new) }
+    ensures { OnOk result (Adds program.now (property_lines program.now (state_of state.now))
+        out.old out.new) }
 {
     let labels = state.listed(alloc, site_count(program))?;
     for label in &labels {
@@ -159,7 +166,9 @@ fn push_properties(
 
 /// Whether a value has some part but undefined; of labels, those of the first `sites` sites.
 fn has_more(sites: u32, value: &AValue) -> bool
-    ensures { let v = value_of value.now in result ≡ has_part (labels_below sites) (record v { flags = record v.flags { undefined = false } }) }
+    ensures { let v = value_of value.now in
+        result ≡ has_part (labels_below sites)
+        (record v { flags = record v.flags { undefined = false } }) }
 {
     let flags = value.flags;
     let flagged = flags.absent
@@ -183,7 +192,7 @@ fn is_undefined(program: &Program, value: &AValue) -> bool
     value.flags.undefined & !has_more(site_count(program), value)
 }
 
-#[tactic(auto, using(crate::proofs::OutputLemmas::adds_none, crate::proofs::OutputLemmas::adds_one), unfolding(crate::specs::Lines::register_line, crate::specs::Lines::line_text, crate::specs::Lines::line_sites))]
+#[tactic(auto, using(crate::proofs::Rulesets::for_push_property), unfolding(crate::specs::Lines::register_line, crate::specs::Lines::line_text, crate::specs::Lines::line_sites))]
 fn push_register_line(
     out: &mut Output,
     alloc: Global,
@@ -192,7 +201,8 @@ fn push_register_line(
     value: &AValue,
 ) -> Result<(), Memory>
     requires { IsWellFormed program.now }
-    ensures { OnOk result (Adds program.now (register_line program.now number (value_of value.now)) out.old out.new) }
+    ensures { OnOk result (Adds program.now (register_line program.now number (value_of value.now))
+        out.old out.new) }
 {
     if is_undefined(program, value) {
         return Ok(());
@@ -222,7 +232,8 @@ fn push_registers(
 ) -> Result<(), Memory>
     requires program { IsWellFormed program.now }
     requires registers { vec_len state.now.registers ≡ registers_of program.now program_function }
-    ensures { OnOk result (Adds program.now (register_lines program.now (state_of state.now)) out.old out.new) }
+    ensures { OnOk result (Adds program.now (register_lines program.now (state_of state.now))
+        out.old out.new) }
 {
     for number in 0..register_count(program) {
         push_register_line(out, alloc, program, number, state.register(Reg(number)))?;
@@ -232,7 +243,7 @@ fn push_registers(
 
 // ---- masks
 
-#[tactic(auto, using(crate::proofs::OutputLemmas::adds_none, crate::proofs::OutputLemmas::adds_one), unfolding(crate::specs::Lines::mask_line, crate::specs::Lines::line_text, crate::specs::Lines::line_sites))]
+#[tactic(auto, using(crate::proofs::Rulesets::for_push_property), unfolding(crate::specs::Lines::mask_line, crate::specs::Lines::line_text, crate::specs::Lines::line_sites))]
 fn push_mask(out: &mut Output, program: &Program, site: Site, mask: Mask) -> Result<(), Memory>
     ensures { OnOk result (Adds program.now (mask_line site mask) out.old out.new) }
 {
@@ -257,7 +268,8 @@ fn push_masks(
     state: &AState,
 ) -> Result<(), Memory>
     requires { IsWellFormed program.now }
-    ensures { OnOk result (Adds program.now (mask_lines program.now (state_of state.now)) out.old out.new) }
+    ensures { OnOk result (Adds program.now (mask_lines program.now (state_of state.now)) out.old
+        out.new) }
 {
     let sites = state.masked(alloc, site_count(program))?;
     for site in &sites {
@@ -290,7 +302,8 @@ pub(crate) fn push_state(
     requires program { IsWellFormed program.now }
     requires keys { keys.now ≡ keys_of program.now }
     requires registers { vec_len state.now.registers ≡ registers_of program.now program_function }
-    ensures { OnOk result (Adds program.now (state_lines program.now node (state_of state.now)) out.old out.new) }
+    ensures { OnOk result (Adds program.now (state_lines program.now node (state_of state.now))
+        out.old out.new) }
 {
     push_point(out, program, node)?;
     push_registers(out, alloc, program, state)?;

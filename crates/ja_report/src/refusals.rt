@@ -25,7 +25,8 @@ pub enum Refusal {
     Depth,
     /// The text has more than 4,096 functions, the program among them.
     Functions,
-    /// The text's functions have more than 65,536 nodes, each parameter of a function counted as one more.
+    /// The text's functions have more than 65,536 nodes, each parameter of a function counted as
+    /// one more.
     Nodes,
     /// The text has a form that is not built, at this place.
     Unbuilt { place: Place },
@@ -43,7 +44,8 @@ fn push_bytes(text: &mut Vec<u8>, bytes: &[u8]) -> Result<(), Memory>
 
 /// Adds a line that ends with an offset.
 fn push_offset(text: &mut Vec<u8>, words: &[u8], offset: usize) -> Result<(), Memory>
-    ensures { OnOk result (text.new.items ≡ text.old.items ++ words.now ++ decimal offset ++ codes "\n") }
+    ensures { OnOk result (text.new.items ≡ text.old.items ++ words.now ++ decimal offset
+        ++ codes "\n") }
 {
     text.extend_from_slice(words)?;
     push_number(text, offset as u64)?;
@@ -53,7 +55,8 @@ fn push_offset(text: &mut Vec<u8>, words: &[u8], offset: usize) -> Result<(), Me
 
 /// Adds a line that ends with a place.
 fn push_line(text: &mut Vec<u8>, words: &[u8], place: Place) -> Result<(), Memory>
-    ensures { OnOk result (text.new.items ≡ text.old.items ++ words.now ++ place_text place ++ codes "\n") }
+    ensures { OnOk result (text.new.items ≡ text.old.items ++ words.now ++ place_text place
+        ++ codes "\n") }
 {
     text.extend_from_slice(words)?;
     push_place(text, place)?;
@@ -63,7 +66,8 @@ fn push_line(text: &mut Vec<u8>, words: &[u8], place: Place) -> Result<(), Memor
 
 /// Adds the line of a text that leaves the profile.
 fn push_scope(text: &mut Vec<u8>, kind: ScopeKind, place: Place) -> Result<(), Memory>
-    ensures { OnOk result (text.new.items ≡ text.old.items ++ codes "scope " ++ scope_name kind ++ codes " " ++ place_text place ++ codes "\n") }
+    ensures { OnOk result (text.new.items ≡ text.old.items ++ codes "scope " ++ scope_name kind
+        ++ codes " " ++ place_text place ++ codes "\n") }
 {
     text.extend_from_slice(b"scope ")?;
     text.extend_from_slice(scope_name(kind))?;

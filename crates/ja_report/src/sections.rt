@@ -56,7 +56,7 @@ fn push_device(text: &mut Vec<u8>, device: &Signature) -> Result<(), Memory>
     Ok(())
 }
 
-#[tactic(auto, using(ja_texts::proofs::Lists::added_none, ja_texts::proofs::Lists::added_more, ja_texts::proofs::Lists::added_all), unfolding(crate::specs::Report::devices_text))]
+#[tactic(auto, using(crate::proofs::Rulesets::for_push_devices), unfolding(crate::specs::Report::devices_text))]
 pub(crate) fn push_devices(text: &mut Vec<u8>, devices: &[Signature]) -> Result<(), Memory>
     ensures { OnOk result (text.new.items ≡ text.old.items ++ devices_text devices.now) }
 {
@@ -96,7 +96,7 @@ fn push_warning(text: &mut Vec<u8>, warning: Warning) -> Result<(), Memory>
     Ok(())
 }
 
-#[tactic(auto, using(ja_texts::proofs::Lists::added_none, ja_texts::proofs::Lists::added_more, ja_texts::proofs::Lists::added_all))]
+#[tactic(auto, using(crate::proofs::Rulesets::for_push_devices))]
 fn push_each_warning(text: &mut Vec<u8>, warnings: &[Warning]) -> Result<(), Memory>
     ensures { OnOk result (text.new.items ≡ text.old.items ++ flat_map warning_text warnings.now) }
 {
@@ -150,13 +150,14 @@ fn push_item(text: &mut Vec<u8>, program: &Program, item: Item) -> Result<(), Me
     Ok(())
 }
 
-#[tactic(auto, using(ja_texts::proofs::Lists::added_none, ja_texts::proofs::Lists::added_more, ja_texts::proofs::Lists::added_all))]
+#[tactic(auto, using(crate::proofs::Rulesets::for_push_devices))]
 pub(crate) fn push_items(
     text: &mut Vec<u8>,
     program: &Program,
     items: &[Item],
 ) -> Result<(), Memory>
-    ensures { OnOk result (text.new.items ≡ text.old.items ++ flat_map (item_text program.now) items.now) }
+    ensures { OnOk result (text.new.items ≡ text.old.items
+        ++ flat_map (item_text program.now) items.now) }
 {
     for item in items {
         push_item(text, program, *item)?;
@@ -184,7 +185,8 @@ pub(crate) fn push_visits(
 /// The numbers of a list as a set.
 #[tactic(auto, using(crate::proofs::SiteLemmas::set_none, crate::proofs::SiteLemmas::set_all))]
 fn set_of(alloc: Global, numbers: &[u32]) -> Result<BTreeSet<u32>, Memory>
-    ensures { IfOk result (λ set. (s : ℕ) → contains nat_cmp set s ≡ list_any (λ n. n == s) numbers.now) }
+    ensures { IfOk result (λ set. (s : ℕ) → contains nat_cmp set s
+        ≡ list_any (λ n. n == s) numbers.now) }
 {
     let mut set = BTreeSet::new(alloc);
     for number in numbers {
@@ -218,7 +220,7 @@ fn is_named(program: &Program, set: &BTreeSet<u32>, number: u32) -> bool
 }
 
 /// The sites among these, each once, but for those of built-in objects and devices.
-#[tactic(auto, using(crate::proofs::SiteLemmas::sites_none, crate::proofs::SiteLemmas::sites_in, crate::proofs::SiteLemmas::sites_out))]
+#[tactic(auto, using(crate::proofs::Rulesets::for_named_sites))]
 fn named_sites(alloc: Global, program: &Program, named: &[u32]) -> Result<Vec<u32>, Memory>
     requires { IsWellFormed program.now }
     ensures { IfOk result (λ sites. sites.items ≡ named_sites program.now named.now) }
@@ -256,9 +258,10 @@ fn push_site_line(text: &mut Vec<u8>, program: &Program, number: u32) -> Result<
     Ok(())
 }
 
-#[tactic(auto, using(ja_texts::proofs::Lists::added_none, ja_texts::proofs::Lists::added_more, ja_texts::proofs::Lists::added_all))]
+#[tactic(auto, using(crate::proofs::Rulesets::for_push_devices))]
 fn push_site_lines(text: &mut Vec<u8>, program: &Program, numbers: &[u32]) -> Result<(), Memory>
-    ensures { OnOk result (text.new.items ≡ text.old.items ++ flat_map (site_line program.now) numbers.now) }
+    ensures { OnOk result (text.new.items ≡ text.old.items
+        ++ flat_map (site_line program.now) numbers.now) }
 {
     for number in numbers {
         push_site_line(text, program, *number)?;

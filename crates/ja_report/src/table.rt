@@ -68,7 +68,8 @@ fn push_entry(
     property: &AProp,
 ) -> Result<(), Memory>
     requires { IsWellFormed program.now }
-    ensures { OnOk result (Adds program.now (entry label key (property_of property.now) ∷ []) out.old out.new) }
+    ensures { OnOk result (Adds program.now (entry label key (property_of property.now) ∷ [])
+        out.old out.new) }
 {
     out.text.extend_from_slice(b"entry ")?;
     push_property_text(out, alloc, program, label, key, property)?;
@@ -84,7 +85,8 @@ fn push_pair(
     key: Key,
 ) -> Result<(), Memory>
     requires { IsWellFormed program.now }
-    ensures { OnOk result (Adds program.now (entry_line (entries_of entries.now) label key) out.old out.new) }
+    ensures { OnOk result (Adds program.now (entry_line (entries_of entries.now) label key) out.old
+        out.new) }
 {
     if let Some(property) = entries.get(label, key) {
         push_entry(out, alloc, program, label, key, property)?;
@@ -100,7 +102,8 @@ pub(crate) fn push_entries(
     entries: &DemandedEntries,
 ) -> Result<usize, Memory>
     requires { IsWellFormed program.now }
-    ensures lines { OnOk result (Adds program.now (entry_lines program.now (entries_of entries.now)) out.old out.new) }
+    ensures lines { OnOk result (Adds program.now (entry_lines program.now (entries_of entries.now))
+        out.old out.new) }
     ensures count { IfOk result (λ n. n ≡ length (entry_lines program.now (entries_of entries.now))) }
 {
     let pairs = entries.pairs(alloc, site_count(program), name_count(program))?;
@@ -124,7 +127,8 @@ fn push_node(
     requires keys { keys.now ≡ keys_of program.now }
     requires fits { Fits program.now table.now }
     requires node { node < vec_len table.now.states }
-    ensures { OnOk result (Adds program.now (node_lines program.now (table_of table.now) node) out.old out.new) }
+    ensures { OnOk result (Adds program.now (node_lines program.now (table_of table.now) node)
+        out.old out.new) }
 {
     if let Some(state) = &table.states[node] {
         push_state(out, alloc, program, keys, node, state)?;
@@ -141,7 +145,8 @@ pub(crate) fn push_points(
 ) -> Result<(), Memory>
     requires program { IsWellFormed program.now }
     requires fits { Fits program.now table.now }
-    ensures { OnOk result (Adds program.now (point_lines program.now (table_of table.now)) out.old out.new) }
+    ensures { OnOk result (Adds program.now (point_lines program.now (table_of table.now)) out.old
+        out.new) }
 {
     let keys = all_keys(alloc, program)?;
     for node in 0..table.states.len() {

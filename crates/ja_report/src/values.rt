@@ -90,7 +90,8 @@ pub(crate) fn push_text_part(text: &mut Vec<u8>, part: &TextPart) -> Result<(), 
 
 /// Writes a label and names its site.
 pub(crate) fn name_label(out: &mut Output, program: &Program, label: Label) -> Result<(), Memory>
-    ensures text { OnOk result (out.new.text.items ≡ out.old.text.items ++ label_text program.now label) }
+    ensures text { OnOk result (out.new.text.items ≡ out.old.text.items
+        ++ label_text program.now label) }
     ensures named { OnOk result (out.new.named.items ≡ out.old.named.items ++ label.site.0 ∷ []) }
 {
     push_label(&mut out.text, program, label)?;
@@ -106,8 +107,11 @@ fn push_label_parts(
     labels: &LabelSet,
 ) -> Result<(), Memory>
     requires { IsWellFormed program.now }
-    ensures text { OnOk result (out.new.text.items ≡ out.old.text.items ++ with_bars (map (label_text program.now) (filter (labels_in labels.now) (labels_of program.now)))) }
-    ensures named { OnOk result (out.new.named.items ≡ out.old.named.items ++ label_sites (filter (labels_in labels.now) (labels_of program.now))) }
+    ensures text { OnOk result (out.new.text.items ≡ out.old.text.items
+        ++ with_bars (map (label_text program.now)
+        (filter (labels_in labels.now) (labels_of program.now)))) }
+    ensures named { OnOk result (out.new.named.items ≡ out.old.named.items
+        ++ label_sites (filter (labels_in labels.now) (labels_of program.now))) }
 {
     let labels = labels.list(alloc, site_count(program))?;
     for label in &labels {
@@ -125,8 +129,10 @@ fn push_parts(
     value: &AValue,
 ) -> Result<(), Memory>
     requires { IsWellFormed program.now }
-    ensures text { OnOk result (out.new.text.items ≡ out.old.text.items ++ with_bars (value_parts program.now (value_of value.now))) }
-    ensures named { OnOk result (out.new.named.items ≡ out.old.named.items ++ value_sites program.now (value_of value.now)) }
+    ensures text { OnOk result (out.new.text.items ≡ out.old.text.items
+        ++ with_bars (value_parts program.now (value_of value.now))) }
+    ensures named { OnOk result (out.new.named.items ≡ out.old.named.items
+        ++ value_sites program.now (value_of value.now)) }
 {
     push_property_parts(&mut out.text, value.flags)?;
     push_primitive_parts(&mut out.text, value.flags)?;
@@ -136,9 +142,11 @@ fn push_parts(
     Ok(())
 }
 
-/// Drops the bar behind the last of the parts that were written from `start` on. Where there is none, writes `none`.
+/// Drops the bar behind the last of the parts that were written from `start` on. Where there is
+/// none, writes `none`.
 pub(crate) fn close_parts(text: &mut Vec<u8>, start: usize) -> Result<(), Memory>
-    ensures { OnOk result ((base : List ℕ) (parts : List (List ℕ)) → length base ≡ start → text.old.items ≡ base ++ with_bars parts → text.new.items ≡ base ++ joined parts) }
+    ensures { OnOk result ((base : List ℕ) (parts : List (List ℕ)) → length base ≡ start
+        → text.old.items ≡ base ++ with_bars parts → text.new.items ≡ base ++ joined parts) }
 {
     if text.len() == start {
         text.extend_from_slice(b"none")?;
@@ -157,8 +165,10 @@ pub(crate) fn push_value(
     value: &AValue,
 ) -> Result<(), Memory>
     requires { IsWellFormed program.now }
-    ensures text { OnOk result (out.new.text.items ≡ out.old.text.items ++ value_text program.now (value_of value.now)) }
-    ensures named { OnOk result (out.new.named.items ≡ out.old.named.items ++ value_sites program.now (value_of value.now)) }
+    ensures text { OnOk result (out.new.text.items ≡ out.old.text.items
+        ++ value_text program.now (value_of value.now)) }
+    ensures named { OnOk result (out.new.named.items ≡ out.old.named.items
+        ++ value_sites program.now (value_of value.now)) }
 {
     let start = out.text.len();
     push_parts(out, alloc, program, value)?;

@@ -29,7 +29,8 @@ fn push_head(
     named: &[u32],
 ) -> Result<(), Memory>
     requires { IsWellFormed program.now }
-    ensures { OnOk result (text.new.items ≡ text.old.items ++ report_head program.now warnings.now named.now) }
+    ensures { OnOk result (text.new.items ≡ text.old.items
+        ++ report_head program.now warnings.now named.now) }
 {
     text.extend_from_slice(b"tajs report 1\n")?;
     push_devices(text, program.signatures())?;
@@ -83,9 +84,12 @@ fn push_context_head(text: &mut Vec<u8>, program: &Program, entries: usize) -> R
 fn lines_of(alloc: Global, program: &Program, table: &ATable) -> Result<(Output, usize), Memory>
     requires program { IsWellFormed program.now }
     requires fits { Fits program.now table.now }
-    ensures text { IfOk result (λ lines. lines.0.text.items ≡ flat_map (line_text program.now) (table_lines program.now (table_of table.now))) }
-    ensures named { IfOk result (λ lines. lines.0.named.items ≡ table_sites program.now (table_of table.now)) }
-    ensures entries { IfOk result (λ lines. lines.1 ≡ length (entry_lines program.now ((table_of table.now).entry root))) }
+    ensures text { IfOk result (λ lines. lines.0.text.items
+        ≡ flat_map (line_text program.now) (table_lines program.now (table_of table.now))) }
+    ensures named { IfOk result (λ lines. lines.0.named.items
+        ≡ table_sites program.now (table_of table.now)) }
+    ensures entries { IfOk result (λ lines. lines.1
+        ≡ length (entry_lines program.now ((table_of table.now).entry root))) }
 {
     let mut lines = Output::new(alloc);
     let entries = push_entries(&mut lines, alloc, program, &table.entries)?;
@@ -105,7 +109,8 @@ pub fn report(
 ) -> Result<Vec<u8>, Memory>
     requires program { IsWellFormed program.now }
     requires fits { Fits program.now table.now }
-    ensures { IfOk result (λ text. text.items ≡ report_text program.now (table_of table.now) visits.now warnings.now) }
+    ensures { IfOk result (λ text. text.items
+        ≡ report_text program.now (table_of table.now) visits.now warnings.now) }
 {
     let (lines, entries) = lines_of(alloc, program, table)?;
     let mut text = Vec::new(alloc);

@@ -13,12 +13,14 @@ use Rattle.ja_model.specs.Table.{Table, root}
 use Rattle.ja_model.specs.Warning.{kind_of, kind_number, allows_fault, allows_more}
 use Rattle.ja_rules.specs.declared.faults.Operation.{Operation}
 
--- what may go wrong at a node: its state allows a fault or not, and nothing else where it is certain
+-- what may go wrong at a node: its state allows a fault or not, and nothing else where it is
+-- certain
 abbrev pub operation_of : Program → AbstractState → NodeInfo → Option Operation
 operation_of p a info =
     option_map
     (λ (kind : WarningKind). record {
-      warning = record { kind = kind; place = info.place; certain = not (allows_more p a info.node) };
+      warning =
+          record { kind = kind; place = info.place; certain = not (allows_more p a info.node) };
       fault = allows_fault p a info.node;
     })
     (kind_of info.node)
@@ -27,13 +29,16 @@ operation_of p a info =
 abbrev pub operation_at : Program → Table → ℕ → Option Operation
 operation_at p t n =
     option_and_then
-    (λ (info : NodeInfo). option_and_then (λ (a : AbstractState). operation_of p a info) (t.state root n))
+    (λ (info : NodeInfo). option_and_then (λ (a : AbstractState). operation_of p a info)
+    (t.state root n))
     (slice_get (nodes_of p program_function) n)
 
 -- by line, column and kind
 abbrev pub comes_before : Warning → Warning → Bool
 comes_before v w =
-    if v.place.line == w.place.line then (if v.place.column == w.place.column then nat_lt (kind_number v.kind) (kind_number w.kind) else nat_lt v.place.column w.place.column) else nat_lt v.place.line w.place.line
+    if v.place.line == w.place.line then (if v.place.column == w.place.column
+    then nat_lt (kind_number v.kind) (kind_number w.kind)
+    else nat_lt v.place.column w.place.column) else nat_lt v.place.line w.place.line
 
 -- an operation with what another node of the same kind and place allows
 abbrev pub merged : Operation → Operation → Operation
@@ -42,11 +47,13 @@ merged o more = record {
   fault = o.fault || more.fault;
 }
 
--- operations in order with one more at its place, merged with the one of its kind and place if there is one
+-- operations in order with one more at its place, merged with the one of its kind and place if
+-- there is one
 abbrev pub with_operation : Operation → List Operation → List Operation
 with_operation more [] = more ∷ []
 with_operation more (o ∷ os) =
-    if comes_before o.warning more.warning then o ∷ with_operation more os else if comes_before more.warning o.warning then more ∷ o ∷ os else merged o more ∷ os
+    if comes_before o.warning more.warning then o ∷ with_operation more os
+    else if comes_before more.warning o.warning then more ∷ o ∷ os else merged o more ∷ os
 
 abbrev pub with_found : Option Operation → List Operation → List Operation
 with_found None os = os
@@ -64,4 +71,5 @@ warnings_of os = map (λ (o : Operation). o.warning) (filter (λ (o : Operation)
 -- each operation comes before those behind it
 abbrev pub AreInOrder : List Operation → Type 0
 AreInOrder [] = Unit {0}
-AreInOrder (o ∷ os) = AllByRecursion (λ (q : Operation). comes_before o.warning q.warning ≡ true) os × AreInOrder os
+AreInOrder (o ∷ os) =
+    AllByRecursion (λ (q : Operation). comes_before o.warning q.warning ≡ true) os × AreInOrder os

@@ -18,7 +18,8 @@ HasRegisters n None = Unit {0}
 HasRegisters n (Some s) = vec_len s.1.registers ≡ n
 
 -- an alternative gives these states, of n registers
-pub record IsGiven (n : ℕ) (states : List (ℕ × AbstractState)) (alternative : Option (NodeId × AState)) : Type 0 where
+pub record IsGiven (n : ℕ) (states : List (ℕ × AbstractState))
+    (alternative : Option (NodeId × AState)) : Type 0 where
   pub states_are : given alternative ≡ states
   pub registers : HasRegisters n alternative
 

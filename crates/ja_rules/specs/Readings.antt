@@ -45,7 +45,12 @@ abbrev pub Adds : DemandList → DemandList → Demands → Type 0
 Adds before after more = demands_in after ≡ (λ l k. demands_in before l k || more l k)
 
 abbrev pub view_of : Reader → View
-view_of r = record { labels = labels_below r.sites; state = state_of r.state.now; entries = entries_of r.entries.now }
+view_of r =
+    record {
+      labels = labels_below r.sites;
+      state = state_of r.state.now;
+      entries = entries_of r.entries.now;
+    }
 
 -- what a walk along prototypes gives
 pub record IsWalk (w : View) (l : Label) (k : Key) (walk : Walk) : Type 0 where
@@ -56,30 +61,40 @@ pub record IsWalk (w : View) (l : Label) (k : Key) (walk : Walk) : Type 0 where
   pub accept : walk.may_accept ≡ may_accept w l k
 
 abbrev pub out_of : Outcome → Out
-out_of o = record { states = map (λ (s : NodeId × AState). (s.0.0, state_of s.1)) o.states.items; demands = demands_in o.demands }
+out_of o =
+    record {
+      states = map (λ (s : NodeId × AState). (s.0.0, state_of s.1)) o.states.items;
+      demands = demands_in o.demands;
+    }
 
 -- the table of the program's own context
 abbrev pub table_of : ATable → Table
 table_of t = record {
-  state = λ x n. if same_context root x then option_and_then (λ (s : Option AState). option_map state_of s) (slice_get t.states.items n) else None;
+  state =
+      λ x n. if same_context root x then option_and_then
+      (λ (s : Option AState). option_map state_of s) (slice_get t.states.items n) else None;
   entry = λ x. if same_context root x then entries_of t.entries else (λ l k. None);
 }
 
--- A table has a place for each node of the program, each state has the registers of the program, and each pair that is
--- demanded has a key of the program.
+-- A table has a place for each node of the program, each state has the registers of the program,
+-- and each pair that is demanded has a key of the program.
 pub record Fits (p : Program) (t : ATable) : Type 0 where
   pub nodes : vec_len t.states ≡ length (nodes_of p program_function)
-  pub registers : (n : ℕ) (s : AState) → slice_get t.states.items n ≡ Some (Some s) → vec_len s.registers ≡ registers_of p program_function
+  pub registers : (n : ℕ) (s : AState) → slice_get t.states.items n ≡ Some (Some s)
+      → vec_len s.registers ≡ registers_of p program_function
   pub keys : (l : Label) (k : Key) → IsSome (entries_of t.entries l k) → IsTrue (is_key p k)
 
 -- the states of a list by node, and with more states joined in at their nodes
 abbrev pub states_in : List (Option AState) → ℕ → Option AbstractState
-states_in states n = option_and_then (λ (s : Option AState). option_map state_of s) (slice_get states n)
+states_in states n =
+    option_and_then (λ (s : Option AState). option_map state_of s) (slice_get states n)
 
 abbrev pub with_given : (ℕ → Option AbstractState) → ℕ × AbstractState → ℕ → Option AbstractState
-with_given states given n = if given.0 == n then Some (joined_state (states n) given.1) else states n
+with_given states given n =
+    if given.0 == n then Some (joined_state (states n) given.1) else states n
 
-abbrev pub with_all_given : (ℕ → Option AbstractState) → List (ℕ × AbstractState) → ℕ → Option AbstractState
+abbrev pub with_all_given : (ℕ → Option AbstractState) → List (ℕ × AbstractState) → ℕ
+    → Option AbstractState
 with_all_given states [] = states
 with_all_given states (given ∷ more) = with_all_given (with_given states given) more
 
@@ -88,10 +103,12 @@ given_by s = (s.0.0, state_of s.1)
 
 -- each state has this many registers
 abbrev pub HaveRegisters : List (Option AState) → ℕ → Type 0
-HaveRegisters states count = (n : ℕ) (s : AState) → slice_get states n ≡ Some (Some s) → vec_len s.registers ≡ count
+HaveRegisters states count =
+    (n : ℕ) (s : AState) → slice_get states n ≡ Some (Some s) → vec_len s.registers ≡ count
 
 abbrev pub HaveSameRegisters : List (NodeId × AState) → ℕ → Type 0
-HaveSameRegisters given count = AllByRecursion (λ (s : NodeId × AState). vec_len s.1.registers ≡ count) given
+HaveSameRegisters given count =
+    AllByRecursion (λ (s : NodeId × AState). vec_len s.1.registers ≡ count) given
 
 -- ---- the contents of the opening heap
 
@@ -127,10 +144,12 @@ opened_property o (key.Name n) = named_property o n
 opened_property o (key.Slot s) = slot_property o s
 opened_property o k = absent_property
 
--- the values at entry with what the opening heap has joined into the one of a pair, if it was demanded before
+-- the values at entry with what the opening heap has joined into the one of a pair, if it was
+-- demanded before
 abbrev pub opened_pair : Program → Entries → Entries → Label → Key → Entries
 opened_pair p before entries l k m j =
-    if same_label l m && same_key k j && is_some (before l k) then opened_entries p before l k else entries m j
+    if same_label l m && same_key k j && is_some (before l k) then opened_entries p before l k
+    else entries m j
 
 -- ---- the step of a node
 

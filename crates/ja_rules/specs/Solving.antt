@@ -9,7 +9,8 @@ use Rattle.ja_rules.specs.declared.solver.SolveFault.TheVariants.{Spent, Memory}
 use Rattle.ja_rules.specs.declared.solver.Work.{Work}
 use Rattle.ja_rules.specs.Readings.{table_of, Fits}
 
--- there were as many visits as the budget allows, each changed the table, and the last table isn't closed
+-- there were as many visits as the budget allows, each changed the table, and the last table isn't
+-- closed
 pub record WasSpent (p : Program) (budget : ℕ) (visits : List Item) : Type 0 where
   pub table : Table
   pub built : IsBuilt p visits table
@@ -30,7 +31,8 @@ pub record HasBuilt (p : Program) (budget : ℕ) (work : Work) : Type 0 where
 -- no visit is lost, and where none was added the table is as it was
 pub record GoesOn (before after : Work) : Type 0 where
   pub more : vec_len before.visits ≤ vec_len after.visits
-  pub same : vec_len after.visits ≡ vec_len before.visits → table_of after.table ≡ table_of before.table
+  pub same : vec_len after.visits ≡ vec_len before.visits
+      → table_of after.table ≡ table_of before.table
 
 -- a visit of the item doesn't change the table
 abbrev pub IsSettled : Program → Table → Item → Type 0

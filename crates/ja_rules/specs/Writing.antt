@@ -11,13 +11,16 @@ use Rattle.ja_model.specs.Transfer.{written}
 -- the state after a put at each object of a list that stands for others too
 abbrev pub written_over : View → Key → AbstractValue → List Label → AbstractState
 written_over w k v members = record w.state {
-  property = λ l j. if list_any (λ (m : Label). same_label m l) members && same_key k j && may_accept w l k then join_properties (w.state.property l j) (written w l k v) else w.state.property l j;
+  property =
+      λ l j. if list_any (λ (m : Label). same_label m l) members && same_key k j && may_accept w l k
+      then join_properties (w.state.property l j) (written w l k v) else w.state.property l j;
 }
 
 -- .. and after one more
 abbrev pub written_more : View → Key → AbstractValue → Label → AbstractState → AbstractState
 written_more w k v l a =
-    if may_accept w l k then with_property a l k (join_properties (w.state.property l k) (written w l k v)) else a
+    if may_accept w l k then with_property a l k
+    (join_properties (w.state.property l k) (written w l k v)) else a
 
 -- the one label of a list that has no other and is new
 abbrev pub IsOnlyNew : List Label → Option Label → Type 0

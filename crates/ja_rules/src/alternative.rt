@@ -42,7 +42,9 @@ pub(crate) fn outcome(
     second: Alternative,
     demands: DemandList,
 ) -> Result<Outcome, Memory>
-    ensures { IfOk result (λ o. (n : ℕ) (s t : List (ℕ × AbstractState)) → IsGiven n s first → IsGiven n t second → IsOutcome n (record { states = s ++ t; demands = demands_in demands }) o) }
+    ensures { IfOk result (λ o. (n : ℕ) (s t : List (ℕ × AbstractState)) → IsGiven n s first
+        → IsGiven n t second → IsOutcome n (record
+        { states = s ++ t; demands = demands_in demands }) o) }
 {
     let mut states = Vec::new(alloc);
     if let Some(state) = first {
@@ -57,7 +59,8 @@ pub(crate) fn outcome(
 impl Reader<'_> {
     /// The state as it is.
     pub(crate) fn keeps(&self, is_given: bool, next: NodeId) -> Result<Alternative, Memory>
-        ensures { IfOk result (IsGiven (vec_len self.now.state.now.registers) (gives is_given next (view_of self.now).state)) }
+        ensures { IfOk result (IsGiven (vec_len self.now.state.now.registers)
+            (gives is_given next (view_of self.now).state)) }
     {
         if !is_given {
             return Ok(None);
@@ -69,7 +72,8 @@ impl Reader<'_> {
     /// The state with a value in a register, if the value has some part.
     pub(crate) fn sets(&self, dst: Reg, value: AValue, next: NodeId) -> Result<Alternative, Memory>
         requires { dst.0 < vec_len self.now.state.now.registers }
-        ensures { IfOk result (IsGiven (vec_len self.now.state.now.registers) (sets (view_of self.now) dst (value_of value) next)) }
+        ensures { IfOk result (IsGiven (vec_len self.now.state.now.registers)
+            (sets (view_of self.now) dst (value_of value) next)) }
     {
         if !value.has_part(self.sites) {
             return Ok(None);
@@ -90,7 +94,8 @@ impl Reader<'_> {
         message: Vec<u16>,
     ) -> Result<Alternative, Memory>
         requires { 0 < vec_len self.now.state.now.registers }
-        ensures { IfOk result (IsGiven (vec_len self.now.state.now.registers) (throws (view_of self.now) is_thrown info.now error prototype message.items)) }
+        ensures { IfOk result (IsGiven (vec_len self.now.state.now.registers)
+            (throws (view_of self.now) is_thrown info.now error prototype message.items)) }
     {
         let is_given = is_thrown & is_short(&message);
         if !is_given {
@@ -103,8 +108,10 @@ impl Reader<'_> {
     /// The state in which an error was made and thrown.
     fn with_error(&self, error: Site, prototype: Site, message: Text16) -> Result<AState, Memory>
         requires { 0 < vec_len self.now.state.now.registers }
-        ensures state { IfOk result (λ a. state_of a ≡ with_error (view_of self.now).state error prototype message) }
-        ensures registers { IfOk result (λ a. vec_len a.registers ≡ vec_len self.now.state.now.registers) }
+        ensures state { IfOk result (λ a. state_of a
+            ≡ with_error (view_of self.now).state error prototype message) }
+        ensures registers { IfOk result (λ a. vec_len a.registers
+            ≡ vec_len self.now.state.now.registers) }
     {
         let label = Label {
             site: error,

@@ -48,8 +48,10 @@ pub(crate) fn callee_of(
     value: &AValue,
     sites: u32,
 ) -> Result<Callee, Memory>
-    ensures called { IfOk result (λ c. c.is_called ≡ list_any (called_labels program.now (value_of value.now)) (labels_below sites)) }
-    ensures other { IfOk result (λ c. c.is_other ≡ has_part (labels_below sites) (uncalled_part program.now (value_of value.now))) }
+    ensures called { IfOk result (λ c. c.is_called
+        ≡ list_any (called_labels program.now (value_of value.now)) (labels_below sites)) }
+    ensures other { IfOk result (λ c. c.is_other
+        ≡ has_part (labels_below sites) (uncalled_part program.now (value_of value.now))) }
 {
     let labels = value.labels.list(alloc, sites)?;
     let is_other = value.has_part(0) | some_other(program, &labels);

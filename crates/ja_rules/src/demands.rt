@@ -26,7 +26,8 @@ impl DemandList {
 
     /// Demands a pair.
     pub fn push(&mut self, label: Label, key: Key) -> Result<(), Memory>
-        ensures { IfOk result (λ _. Adds self.old self.new (λ l k. same_label label l && same_key key k)) }
+        ensures { IfOk result (λ _. Adds self.old self.new
+            (λ l k. same_label label l && same_key key k)) }
     {
         self.pairs.push((label, key))?;
         Ok(())

@@ -22,8 +22,8 @@ use ja_model::{Warning, WarningKind, warned_of_faults};
 use ja_state::AState;
 use std::alloc::{AllocError, Global};
 
-// An operation by its kind and place, and whether a state at one of its nodes allows it to go wrong.
-// It is certain where none allows anything else.
+// An operation by its kind and place, and whether a state at one of its nodes allows it to go
+// wrong. It is certain where none allows anything else.
 #[derive(Clone, Copy)]
 struct Operation {
     warning: Warning,
@@ -33,7 +33,14 @@ struct Operation {
 impl Operation {
     // An operation with what one state allows.
     fn new(kind: WarningKind, place: Place, fault: bool, more: bool) -> Operation
-        ensures { result ≡ record { warning = record { kind = kind; place = place; certain = not more }; fault = fault } }
+        ensures { result ≡ record {
+          warning = record {
+            kind = kind;
+            place = place;
+            certain = not more;
+          };
+          fault = fault;
+        } }
     {
         Operation {
             warning: Warning {
@@ -84,7 +91,8 @@ fn operation_of(
     info: &NodeInfo,
     state: &AState,
 ) -> Result<Option<Operation>, Memory>
-    requires info { (fn : Function) × IsNodeWellFormed program.now fn info.now × (vec_len state.now.registers ≡ fn.registers) }
+    requires info { (fn : Function) × IsNodeWellFormed program.now fn info.now
+        × (vec_len state.now.registers ≡ fn.registers) }
     requires sites { length program.now.sites < 2 ^ 32 }
     ensures { IfOk result (λ o. o ≡ operation_of program.now (state_of state.now) info.now) }
 {
@@ -143,8 +151,10 @@ fn operation_of(
 // How many operations come before this one. The search goes from the end, since most come in order.
 fn place_of(found: &[Operation], more: &Operation) -> usize
     ensures within { result ≤ length found.now }
-    ensures before { (k : ℕ) (o : Operation) → k + 1 ≡ result → slice_get found.now k ≡ Some o → comes_before o.warning more.now.warning ≡ true }
-    ensures stops { (o : Operation) → slice_get found.now result ≡ Some o → comes_before o.warning more.now.warning ≡ false }
+    ensures before { (k : ℕ) (o : Operation) → k + 1 ≡ result → slice_get found.now k ≡ Some o
+        → comes_before o.warning more.now.warning ≡ true }
+    ensures stops { (o : Operation) → slice_get found.now result ≡ Some o
+        → comes_before o.warning more.now.warning ≡ false }
 {
     let mut at = found.len();
     'places: while at > 0 {
@@ -178,10 +188,14 @@ fn add_node(
     state: &Option<AState>,
     found: &mut Vec<Operation>,
 ) -> Result<(), Memory>
-    requires info { (a : AState) → state.now ≡ Some a → (fn : Function) × IsNodeWellFormed program.now fn info.now × (vec_len a.registers ≡ fn.registers) }
+    requires info { (a : AState) → state.now ≡ Some a
+        → (fn : Function) × IsNodeWellFormed program.now fn info.now
+        × (vec_len a.registers ≡ fn.registers) }
     requires sites { length program.now.sites < 2 ^ 32 }
     requires order { AreInOrder found.old.items }
-    ensures { OnOk result (found.new.items ≡ with_found (option_and_then (λ a. operation_of program.now (state_of a) info.now) state.now) found.old.items) }
+    ensures { OnOk result (found.new.items ≡ with_found
+        (option_and_then (λ a. operation_of program.now (state_of a) info.now) state.now)
+        found.old.items) }
 {
     let Some(state) = state else {
         return Ok(());
@@ -205,7 +219,9 @@ fn nodes(program: &Program) -> &[NodeInfo]
 fn operations(alloc: Global, program: &Program, table: &ATable) -> Result<Vec<Operation>, Memory>
     requires program { IsWellFormed program.now }
     requires fits { Fits program.now table.now }
-    ensures { IfOk result (λ found. found.items ≡ operations_below program.now (table_of table.now) (length (nodes_of program.now program_function))) }
+    ensures { IfOk result (λ found. found.items
+        ≡ operations_below program.now (table_of table.now)
+        (length (nodes_of program.now program_function))) }
 {
     let nodes = nodes(program);
     let mut found = Vec::new(alloc);
@@ -227,13 +243,14 @@ fn warnings_of(alloc: Global, found: &[Operation]) -> Result<Vec<Warning>, Alloc
 }
 
 /// The warnings of a table, by line, column and kind: one for each kind and place at which a state
-/// allows an operation to go wrong. It is certain where no state there allows anything else. `Memory`
-/// comes where memory was refused.
+/// allows an operation to go wrong. It is certain where no state there allows anything else.
+/// `Memory` comes where memory was refused.
 pub fn warnings(alloc: Global, program: &Program, table: &ATable) -> Result<Seq<Warning>, Memory>
     requires program { IsWellFormed program.now }
     requires fits { Fits program.now table.now }
     ensures warnings { IfOk result (AreWarnings program.now (table_of table.now)) }
-    ensures faults { IfOk result (λ ws. AreBuilt program.now → IsClosed program.now (table_of table.now) → WarnsOfFaults program.now ws) }
+    ensures faults { IfOk result (λ ws. AreBuilt program.now
+        → IsClosed program.now (table_of table.now) → WarnsOfFaults program.now ws) }
 {
     let found = operations(alloc, program, table)?;
     let warnings = warnings_of(alloc, &found)?;

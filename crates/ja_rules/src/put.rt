@@ -43,7 +43,8 @@ fn attrs_if(is_there: bool, attrs: AAttrs) -> AAttrs
 
 /// A state, where there is reason for it.
 fn given_if(is_given: bool, next: NodeId, state: AState) -> Alternative
-    ensures { (n : ℕ) → vec_len state.registers ≡ n → IsGiven n (gives is_given next (state_of state)) result }
+    ensures { (n : ℕ) → vec_len state.registers ≡ n
+        → IsGiven n (gives is_given next (state_of state)) result }
 {
     if is_given { Some((next, state)) } else { None }
 }
@@ -59,9 +60,11 @@ fn only_new(labels: &[Label]) -> Option<Label>
 }
 
 impl Reader<'_> {
-    /// The property that a put gives to an object: the attributes that it has, and none where it may be new.
+    /// The property that a put gives to an object: the attributes that it has, and none where it
+    /// may be new.
     fn written(&self, label: Label, key: Key, value: &AValue) -> Result<AProp, Memory>
-        ensures { IfOk result (λ q. property_of q ≡ written (view_of self.now) label key (value_of value.now)) }
+        ensures { IfOk result (λ q. property_of q
+            ≡ written (view_of self.now) label key (value_of value.now)) }
     {
         let own = self.resolved(label, key)?;
         let attrs = join_attrs(
@@ -81,7 +84,9 @@ impl Reader<'_> {
         value: &AValue,
         next: NodeId,
     ) -> Result<Alternative, Memory>
-        ensures { IfOk result (IsGiven (vec_len self.now.state.now.registers) (gives is_given next (with_property (view_of self.now).state label key (written (view_of self.now) label key (value_of value.now))))) }
+        ensures { IfOk result (IsGiven (vec_len self.now.state.now.registers)
+            (gives is_given next (with_property (view_of self.now).state label key
+            (written (view_of self.now) label key (value_of value.now))))) }
     {
         if !is_given {
             return Ok(None);
@@ -101,7 +106,10 @@ impl Reader<'_> {
         value: &AValue,
         state: &mut AState,
     ) -> Result<(), Memory>
-        ensures state { IfOk result (λ _. state_of state.new ≡ (if is_given then with_property (state_of state.old) label key (join_properties ((view_of self.now).state.property label key) (written (view_of self.now) label key (value_of value.now))) else state_of state.old)) }
+        ensures state { IfOk result (λ _. state_of state.new
+            ≡ (if is_given then with_property (state_of state.old) label key
+            (join_properties ((view_of self.now).state.property label key)
+            (written (view_of self.now) label key (value_of value.now))) else state_of state.old)) }
         ensures registers { vec_len state.new.registers ≡ vec_len state.old.registers }
     {
         if !is_given {
@@ -123,10 +131,13 @@ impl Reader<'_> {
         state: &mut AState,
         demands: &mut DemandList,
     ) -> Result<bool, Memory>
-        ensures ends { IfOk result (λ e. e ≡ (may_refuse (view_of self.now) label key || may_accept (view_of self.now) label key)) }
-        ensures state { IfOk result (λ _. state_of state.new ≡ written_more (view_of self.now) key (value_of value.now) label (state_of state.old)) }
+        ensures ends { IfOk result (λ e. e ≡ (may_refuse (view_of self.now) label key
+            || may_accept (view_of self.now) label key)) }
+        ensures state { IfOk result (λ _. state_of state.new
+            ≡ written_more (view_of self.now) key (value_of value.now) label (state_of state.old)) }
         ensures registers { vec_len state.new.registers ≡ vec_len state.old.registers }
-        ensures demands { IfOk result (λ _. Adds demands.old demands.new (demands_of_walk (view_of self.now) label key)) }
+        ensures demands { IfOk result (λ _. Adds demands.old demands.new
+            (demands_of_walk (view_of self.now) label key)) }
     {
         let walk = self.walk(label, key, demands)?;
         self.joins(walk.may_accept, label, key, value, state)?;
@@ -142,8 +153,12 @@ impl Reader<'_> {
         next: NodeId,
         demands: &mut DemandList,
     ) -> Result<Alternative, Memory>
-        ensures given { IfOk result (IsGiven (vec_len self.now.state.now.registers) (gives (list_any (λ (m : Label). may_refuse (view_of self.now) m key || may_accept (view_of self.now) m key) members.items) next (written_over (view_of self.now) key (value_of value.now) members.items))) }
-        ensures demands { IfOk result (λ _. Adds demands.old demands.new (demands_over (λ (m : Label). demands_of_walk (view_of self.now) m key) members.items)) }
+        ensures given { IfOk result (IsGiven (vec_len self.now.state.now.registers)
+            (gives (list_any (λ (m : Label). may_refuse (view_of self.now) m key
+            || may_accept (view_of self.now) m key) members.items) next
+            (written_over (view_of self.now) key (value_of value.now) members.items))) }
+        ensures demands { IfOk result (λ _. Adds demands.old demands.new
+            (demands_over (λ (m : Label). demands_of_walk (view_of self.now) m key) members.items)) }
     {
         let mut state = self.state.copy(self.alloc)?;
         let mut is_given = false;
@@ -162,7 +177,11 @@ impl Reader<'_> {
         value: &AValue,
         next: NodeId,
     ) -> Result<Outcome, Memory>
-        ensures { IfOk result (IsOutcome (vec_len self.now.state.now.registers) (record { states = strong_put (view_of self.now) label key (value_of value.now) next; demands = demands_of_walk (view_of self.now) label key })) }
+        ensures { IfOk result (IsOutcome (vec_len self.now.state.now.registers)
+            (record {
+              states = strong_put (view_of self.now) label key (value_of value.now) next;
+              demands = demands_of_walk (view_of self.now) label key;
+            })) }
     {
         let mut demands = DemandList::new(self.alloc);
         let walk = self.walk(label, key, &mut demands)?;
@@ -180,7 +199,13 @@ impl Reader<'_> {
         value: &AValue,
         next: NodeId,
     ) -> Result<Outcome, Memory>
-        ensures { IfOk result (IsOutcome (vec_len self.now.state.now.registers) (record { states = put (view_of self.now) (written_labels (value_of base.now)) key (value_of value.now) next; demands = demands_of_read (view_of self.now) (written_labels (value_of base.now)) key })) }
+        ensures { IfOk result (IsOutcome (vec_len self.now.state.now.registers)
+            (record {
+              states = put (view_of self.now) (written_labels (value_of base.now)) key
+                  (value_of value.now) next;
+              demands = demands_of_read (view_of self.now)
+                  (written_labels (value_of base.now)) key;
+            })) }
     {
         let members = written_labels(base)?.list(self.alloc, self.sites)?;
         if let Some(label) = only_new(&members) {

@@ -15,7 +15,8 @@ use ja_state::{AState, DemandedEntries};
 use ja_value::{AProp, AValue, LabelSet, unknown_attrs};
 use std::alloc::Global;
 
-/// Reads an abstract state with the values at entry: along prototypes, and along scopes (ES3 8.6.2, 10.1.4).
+/// Reads an abstract state with the values at entry: along prototypes, and along scopes (ES3 8.6.2,
+/// 10.1.4).
 #[derive(Clone, Copy)]
 pub struct Reader<'a> {
     pub alloc: Global,
@@ -99,7 +100,9 @@ impl Reader<'_> {
 
     /// What the objects of a label of the entry had then, with the labels that are theirs now.
     fn at_entry(&self, label: Label, key: Key) -> Result<AProp, Memory>
-        ensures { IfOk result (λ q. property_of q ≡ option_map_or (renamed (view_of self.now).state.mask) ((view_of self.now).entries label key) no_property) }
+        ensures { IfOk result (λ q. property_of q
+            ≡ option_map_or (renamed (view_of self.now).state.mask)
+            ((view_of self.now).entries label key) no_property) }
     {
         match self.entries.get(label, key) {
             Some(property) => self.state.renamed(self.alloc, property),
@@ -109,7 +112,8 @@ impl Reader<'_> {
 
     /// What the objects of a label now had at entry.
     fn from_entry(&self, label: Label, key: Key) -> Result<AProp, Memory>
-        ensures { IfOk result (λ q. property_of q ≡ from_entry (view_of self.now).state (view_of self.now).entries label key) }
+        ensures { IfOk result (λ q. property_of q
+            ≡ from_entry (view_of self.now).state (view_of self.now).entries label key) }
     {
         let mut origins = self.origins(label)?;
         let mut sum = no_property(self.alloc);
@@ -141,7 +145,8 @@ impl Reader<'_> {
         key: Key,
         demands: &mut DemandList,
     ) -> Result<(), Memory>
-        ensures { IfOk result (λ _. Adds demands.old demands.new (demands_of (view_of self.now).state label key)) }
+        ensures { IfOk result (λ _. Adds demands.old demands.new
+            (demands_of (view_of self.now).state label key)) }
     {
         if self.may_be_as_at_entry(label, key) {
             let origins = self.origins(label)?;
@@ -153,7 +158,8 @@ impl Reader<'_> {
     /// The resolved reading of a label and a key, and what it demands.
     pub fn own(&self, label: Label, key: Key, demands: &mut DemandList) -> Result<AProp, Memory>
         ensures property { IfOk result (λ q. property_of q ≡ own (view_of self.now) label key) }
-        ensures demands { IfOk result (λ _. Adds demands.old demands.new (demands_of (view_of self.now).state label key)) }
+        ensures demands { IfOk result (λ _. Adds demands.old demands.new
+            (demands_of (view_of self.now).state label key)) }
     {
         self.demand(label, key, demands)?;
         self.resolved(label, key)
@@ -162,22 +168,26 @@ impl Reader<'_> {
     /// Asks the objects of a label, and those that they inherit from, for a key.
     pub fn walk(&self, label: Label, key: Key, demands: &mut DemandList) -> Result<Walk, Memory>
         ensures walk { IfOk result (IsWalk (view_of self.now) label key) }
-        ensures demands { IfOk result (λ _. Adds demands.old demands.new (demands_of_walk (view_of self.now) label key)) }
+        ensures demands { IfOk result (λ _. Adds demands.old demands.new
+            (demands_of_walk (view_of self.now) label key)) }
     {
         let members = self.asked(label, key)?.list(self.alloc, self.sites)?;
         let over = self.walk_over(members, key, demands)?;
         over.ended(self.alloc)
     }
 
-    /// The objects of the scope chains from these labels on that may have a name, and null where a chain may lack it.
+    /// The objects of the scope chains from these labels on that may have a name, and null where a
+    /// chain may lack it.
     pub fn find(
         &self,
         start: &LabelSet,
         key: Key,
         demands: &mut DemandList,
     ) -> Result<AValue, Memory>
-        ensures value { IfOk result (λ v. value_of v ≡ found (view_of self.now) (labels_in start.now) key) }
-        ensures demands { IfOk result (λ _. Adds demands.old demands.new (demands_of_search (view_of self.now) (labels_in start.now) key)) }
+        ensures value { IfOk result (λ v. value_of v
+            ≡ found (view_of self.now) (labels_in start.now) key) }
+        ensures demands { IfOk result (λ _. Adds demands.old demands.new
+            (demands_of_search (view_of self.now) (labels_in start.now) key)) }
     {
         let members = self.searched(start, key)?.list(self.alloc, self.sites)?;
         let search = self.search_over(members, key, demands)?;
@@ -191,8 +201,10 @@ impl Reader<'_> {
         key: Key,
         demands: &mut DemandList,
     ) -> Result<AValue, Memory>
-        ensures value { IfOk result (λ v. value_of v ≡ read_value (view_of self.now) (labels_in base.now) key) }
-        ensures demands { IfOk result (λ _. Adds demands.old demands.new (demands_of_read (view_of self.now) (labels_in base.now) key)) }
+        ensures value { IfOk result (λ v. value_of v
+            ≡ read_value (view_of self.now) (labels_in base.now) key) }
+        ensures demands { IfOk result (λ _. Adds demands.old demands.new
+            (demands_of_read (view_of self.now) (labels_in base.now) key)) }
     {
         let members = base.list(self.alloc, self.sites)?;
         let value = self.read_each(members, key, demands)?;

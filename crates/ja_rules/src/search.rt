@@ -55,7 +55,8 @@ pub(crate) fn as_read(value: AValue) -> AValue
 
 /// The set with a label more, where there is reason for it.
 fn with_label(set: LabelSet, label: Label, is_in: bool) -> Result<LabelSet, Memory>
-    ensures { IfOk result (λ s. labels_in s ≡ (λ l. (same_label label l && is_in) || labels_in set l)) }
+    ensures { IfOk result (λ s. labels_in s
+        ≡ (λ l. (same_label label l && is_in) || labels_in set l)) }
 {
     let mut set = set;
     if is_in {
@@ -79,7 +80,9 @@ impl Search {
 
     /// What a search that has asked all its objects gives.
     pub(crate) fn ended(self, alloc: Global) -> Result<AValue, Memory>
-        ensures { IfOk result (λ v. value_of v ≡ join (of_labels (labels_in self.labels)) (if self.may_end then null_value else no_value)) }
+        ensures { IfOk result (λ v. value_of v
+            ≡ join (of_labels (labels_in self.labels))
+            (if self.may_end then null_value else no_value)) }
     {
         let mut value = of_labels(alloc, self.labels);
         value.join(alloc, &null_if(alloc, self.may_end))?;
@@ -99,19 +102,23 @@ impl Reader<'_> {
         Ok(walk.may_lack)
     }
 
-    /// Adds the next objects of the scope chain of an object that may lack a name, and tells whether
-    /// one of them is new.
+    /// Adds the next objects of the scope chain of an object that may lack a name, and tells
+    /// whether one of them is new.
     fn add_scopes(&self, label: Label, key: Key, set: &mut LabelSet) -> Result<bool, Memory>
-        ensures added { IfOk result (λ _. labels_in set.new ≡ (λ l. labels_in set.old l || next_scope (view_of self.now) key label l)) }
+        ensures added { IfOk result (λ _. labels_in set.new
+            ≡ (λ l. labels_in set.old l || next_scope (view_of self.now) key label l)) }
         ensures same { IfOk result (λ c. c ≡ false → labels_in set.new ≡ labels_in set.old) }
     {
         let lacks = self.may_lack(label, key)?;
         self.add_links(label, Key::Slot(Slot::Outer), lacks, set)
     }
 
-    /// Adds the next objects of each scope chain that is searched, and tells whether one of them is new.
+    /// Adds the next objects of each scope chain that is searched, and tells whether one of them is
+    /// new.
     fn search_more(&self, key: Key, set: &mut LabelSet) -> Result<bool, Memory>
-        ensures added { IfOk result (λ _. labels_in set.new ≡ one_more (next_scope (view_of self.now) key) (view_of self.now).labels (labels_in set.old)) }
+        ensures added { IfOk result (λ _. labels_in set.new
+            ≡ one_more (next_scope (view_of self.now) key) (view_of self.now).labels
+            (labels_in set.old)) }
         ensures same { IfOk result (λ c. c ≡ false → labels_in set.new ≡ labels_in set.old) }
     {
         let mut members = set.list(self.alloc, self.sites)?;
@@ -125,7 +132,8 @@ impl Reader<'_> {
 
     /// The objects of scope chains that are searched for a name, from these on.
     pub(crate) fn searched(&self, start: &LabelSet, key: Key) -> Result<LabelSet, Memory>
-        ensures { IfOk result (λ s. labels_in s ≡ searched (view_of self.now) (labels_in start.now) key) }
+        ensures { IfOk result (λ s. labels_in s
+            ≡ searched (view_of self.now) (labels_in start.now) key) }
     {
         let mut set = start.copy()?;
         'rounds: for _round in 0..2 * u64::from(self.sites) {
@@ -146,7 +154,8 @@ impl Reader<'_> {
         demands: &mut DemandList,
     ) -> Result<Search, Memory>
         ensures search { IfOk result (MeetsScope (view_of self.now) key label rest) }
-        ensures demands { IfOk result (λ _. Adds demands.old demands.new (demands_at_scope (view_of self.now) key label)) }
+        ensures demands { IfOk result (λ _. Adds demands.old demands.new
+            (demands_at_scope (view_of self.now) key label)) }
     {
         let walk = self.walk(label, key, demands)?;
         let ends = self.ask_slot(label, Key::Slot(Slot::Outer), walk.may_lack, demands)?;
@@ -165,7 +174,8 @@ impl Reader<'_> {
         demands: &mut DemandList,
     ) -> Result<Search, Memory>
         ensures search { IfOk result (IsSearchOver (view_of self.now) key members.items) }
-        ensures demands { IfOk result (λ _. Adds demands.old demands.new (demands_over (demands_at_scope (view_of self.now) key) members.items)) }
+        ensures demands { IfOk result (λ _. Adds demands.old demands.new
+            (demands_over (demands_at_scope (view_of self.now) key) members.items)) }
     {
         let mut search = Search::nothing(self.alloc);
         'members: while let Some(member) = members.pop() {
@@ -181,8 +191,10 @@ impl Reader<'_> {
         key: Key,
         demands: &mut DemandList,
     ) -> Result<AValue, Memory>
-        ensures value { IfOk result (λ v. value_of v ≡ join_values (map (λ (m : Label). got (view_of self.now) m key) members.items)) }
-        ensures demands { IfOk result (λ _. Adds demands.old demands.new (demands_over (λ (m : Label). demands_of_walk (view_of self.now) m key) members.items)) }
+        ensures value { IfOk result (λ v. value_of v
+            ≡ join_values (map (λ (m : Label). got (view_of self.now) m key) members.items)) }
+        ensures demands { IfOk result (λ _. Adds demands.old demands.new
+            (demands_over (λ (m : Label). demands_of_walk (view_of self.now) m key) members.items)) }
     {
         let mut rest = AValue::empty(self.alloc);
         'members: while let Some(member) = members.pop() {

@@ -93,10 +93,13 @@ impl Work {
         requires built { HasBuilt program.now budget self.old }
         requires item { IsItem program.now (table_of self.old.table) item }
         ensures built { OnOk result (HasBuilt program.now budget self.new) }
-        ensures visited { OnOk result (table_of self.new.table ≡ visited program.now (table_of self.old.table) item) }
+        ensures visited { OnOk result (table_of self.new.table
+            ≡ visited program.now (table_of self.old.table) item) }
         ensures goes_on { OnOk result (GoesOn self.old self.new) }
-        ensures kept { IfOk result (λ k. k ≡ true → vec_len self.new.visits ≡ vec_len self.old.visits + 1) }
-        ensures same { IfOk result (λ k. k ≡ false → table_of self.new.table ≡ table_of self.old.table) }
+        ensures kept { IfOk result (λ k. k ≡ true
+            → vec_len self.new.visits ≡ vec_len self.old.visits + 1) }
+        ensures same { IfOk result (λ k. k ≡ false
+            → table_of self.new.table ≡ table_of self.old.table) }
         ensures fault { IfErr result (Explains program.now budget) }
     {
         if !visit(alloc, program, &mut self.table, item)? {
@@ -125,7 +128,8 @@ impl Work {
         requires item { IsItem program.now (table_of self.old.table) (step_at node.0) }
         ensures built { OnOk result (HasBuilt program.now budget self.new) }
         ensures goes_on { OnOk result (GoesOn self.old self.new) }
-        ensures settled { OnOk result (IsSettled program.now (table_of self.new.table) (step_at node.0)) }
+        ensures settled { OnOk result (IsSettled program.now (table_of self.new.table)
+            (step_at node.0)) }
         ensures fault { IfErr result (Explains program.now budget) }
     {
         let step = step_of(node);
@@ -141,7 +145,8 @@ impl Work {
         requires built { HasBuilt program.now budget self.old }
         ensures built { OnOk result (HasBuilt program.now budget self.new) }
         ensures goes_on { OnOk result (GoesOn self.old self.new) }
-        ensures settled { OnOk result (vec_len self.new.visits ≡ vec_len self.old.visits → AreSettled program.now (table_of self.new.table)) }
+        ensures settled { OnOk result (vec_len self.new.visits ≡ vec_len self.old.visits
+            → AreSettled program.now (table_of self.new.table)) }
         ensures fault { IfErr result (Explains program.now budget) }
     {
         self.take_turn(alloc, program, budget, Item::Open)?;
@@ -154,16 +159,17 @@ impl Work {
     }
 }
 
-/// Visits the items of the table as it stands, in rounds, until no visit changes it. Keeps the visits
-/// that did. `Spent` comes where there are as many as the budget allows and one more would change the
-/// table, `Memory` where memory was refused.
+/// Visits the items of the table as it stands, in rounds, until no visit changes it. Keeps the
+/// visits that did. `Spent` comes where there are as many as the budget allows and one more would
+/// change the table, `Memory` where memory was refused.
 pub fn solve(alloc: Global, program: &Program, budget: u128) -> Result<Solved, SolveFault>
     requires { IsWellFormed program.now }
     ensures fits { IfOk result (λ s. Fits program.now s.table) }
     ensures built { IfOk result (λ s. IsBuilt program.now s.visits (table_of s.table)) }
     ensures closed { IfOk result (λ s. IsClosed program.now (table_of s.table)) }
     ensures few { IfOk result (λ s. length s.visits ≤ budget) }
-    ensures covers { IfOk result (λ s. AreBuilt program.now → CoversRuns program.now (table_of s.table)) }
+    ensures covers { IfOk result (λ s. AreBuilt program.now
+        → CoversRuns program.now (table_of s.table)) }
     ensures spent { IfErr result (Explains program.now budget) }
 {
     let mut work = Work {

@@ -27,7 +27,8 @@ use ja_state::{AState, DemandedEntries};
 use ja_value::{AValue, LabelSet};
 use std::alloc::Global;
 
-/// What a node gives: states with the nodes that they go to, and the values at entry that it demands.
+/// What a node gives: states with the nodes that they go to, and the values at entry that it
+/// demands.
 #[derive(Drop)]
 pub struct Outcome {
     pub states: Vec<(NodeId, AState)>,
@@ -44,9 +45,13 @@ pub fn transfer(
     entries: &DemandedEntries,
 ) -> Result<Outcome, Memory>
     requires program { IsWellFormed program.now }
-    requires info { (fn : Function) × IsNodeWellFormed program.now fn info.now × (vec_len state.now.registers ≡ fn.registers) }
-    ensures out { IfOk result (λ o. out_of o ≡ transfer program.now (entries_of entries.now) (state_of state.now) info.now) }
-    ensures registers { IfOk result (λ o. All (λ (s : NodeId × AState). vec_len s.1.registers ≡ vec_len state.now.registers) o.states.items) }
+    requires info { (fn : Function) × IsNodeWellFormed program.now fn info.now
+        × (vec_len state.now.registers ≡ fn.registers) }
+    ensures out { IfOk result (λ o. out_of o
+        ≡ transfer program.now (entries_of entries.now) (state_of state.now) info.now) }
+    ensures registers { IfOk result (λ o. All
+        (λ (s : NodeId × AState). vec_len s.1.registers ≡ vec_len state.now.registers)
+        o.states.items) }
 {
     let reader = Reader {
         alloc,
@@ -61,8 +66,10 @@ pub fn transfer(
 impl Reader<'_> {
     /// The abstract step of a node.
     fn step(&self, program: &Program, info: &NodeInfo) -> Result<Outcome, Memory>
-        requires info { (fn : Function) × IsNodeWellFormed program.now fn info.now × (vec_len self.now.state.now.registers ≡ fn.registers) }
-        ensures { IfOk result (IsOutcome (vec_len self.now.state.now.registers) (transfer_node program.now (view_of self.now) info.now info.now.node)) }
+        requires info { (fn : Function) × IsNodeWellFormed program.now fn info.now
+            × (vec_len self.now.state.now.registers ≡ fn.registers) }
+        ensures { IfOk result (IsOutcome (vec_len self.now.state.now.registers)
+            (transfer_node program.now (view_of self.now) info.now info.now.node)) }
     {
         match &info.node {
             Node::Const { dst, prim } => self.constant(*dst, prim, info.next),
@@ -110,7 +117,12 @@ impl Reader<'_> {
     /// A register is set to a primitive.
     fn constant(&self, dst: Reg, value: &Primitive, next: NodeId) -> Result<Outcome, Memory>
         requires { dst.0 < vec_len self.now.state.now.registers }
-        ensures { IfOk result (IsOutcome (vec_len self.now.state.now.registers) (record { states = gives true next (with_register (view_of self.now).state dst (of_primitive value.now)); demands = no_demands })) }
+        ensures { IfOk result (IsOutcome (vec_len self.now.state.now.registers)
+            (record {
+              states = gives true next (with_register (view_of self.now).state dst
+                  (of_primitive value.now));
+              demands = no_demands;
+            })) }
     {
         let value = AValue::of_primitive(self.alloc, value)?;
         let mut state = self.state.copy(self.alloc)?;
@@ -138,7 +150,13 @@ impl Reader<'_> {
     /// A name is looked for along the scope chain.
     fn find_name(&self, dst: Reg, name: NameId, next: NodeId) -> Result<Outcome, Memory>
         requires { dst.0 < vec_len self.now.state.now.registers }
-        ensures { IfOk result (IsOutcome (vec_len self.now.state.now.registers) (let start = ((view_of self.now).state.register 2).label in record { states = sets (view_of self.now) dst (found (view_of self.now) start (key.Name name)) next; demands = demands_of_search (view_of self.now) start (key.Name name) })) }
+        ensures { IfOk result (IsOutcome (vec_len self.now.state.now.registers)
+            (let start = ((view_of self.now).state.register 2).label in
+            record {
+              states = sets (view_of self.now) dst
+                  (found (view_of self.now) start (key.Name name)) next;
+              demands = demands_of_search (view_of self.now) start (key.Name name);
+            })) }
     {
         let mut demands = DemandList::new(self.alloc);
         let start = self.scope()?;
@@ -161,7 +179,14 @@ impl Reader<'_> {
         requires dst { dst.0 < vec_len self.now.state.now.registers }
         requires base { base.0 < vec_len self.now.state.now.registers }
         requires name { name.0 < length program.now.names }
-        ensures { IfOk result (IsOutcome (vec_len self.now.state.now.registers) (let w = view_of self.now in let b = w.state.register base.0 in record { states = throws w b.flags.null info.now error reference_error_prototype (unbound_message (name_text program.now name)) ++ sets w dst (read_value w b.label (key.Name name)) info.now.next; demands = demands_of_read w b.label (key.Name name) })) }
+        ensures { IfOk result (IsOutcome (vec_len self.now.state.now.registers)
+            (let w = view_of self.now in let b = w.state.register base.0 in
+            record {
+              states = throws w b.flags.null info.now error reference_error_prototype
+                  (unbound_message (name_text program.now name))
+                  ++ sets w dst (read_value w b.label (key.Name name)) info.now.next;
+              demands = demands_of_read w b.label (key.Name name);
+            })) }
     {
         let mut demands = DemandList::new(self.alloc);
         let base = self.state.register(base);
@@ -183,7 +208,12 @@ impl Reader<'_> {
     fn write_name(&self, base: Reg, name: NameId, src: Reg, next: NodeId) -> Result<Outcome, Memory>
         requires base { base.0 < vec_len self.now.state.now.registers }
         requires src { src.0 < vec_len self.now.state.now.registers }
-        ensures { IfOk result (IsOutcome (vec_len self.now.state.now.registers) (let w = view_of self.now in let target = written_labels (w.state.register base.0) in record { states = put w target (key.Name name) (w.state.register src.0) next; demands = demands_of_read w target (key.Name name) })) }
+        ensures { IfOk result (IsOutcome (vec_len self.now.state.now.registers)
+            (let w = view_of self.now in let target = written_labels (w.state.register base.0) in
+            record {
+              states = put w target (key.Name name) (w.state.register src.0) next;
+              demands = demands_of_read w target (key.Name name);
+            })) }
     {
         let base = self.state.register(base);
         let value = self.state.register(src);
@@ -200,7 +230,13 @@ impl Reader<'_> {
         error: Site,
     ) -> Result<Outcome, Memory>
         requires { callee.0 < vec_len self.now.state.now.registers }
-        ensures { IfOk result (IsOutcome (vec_len self.now.state.now.registers) (let w = view_of self.now in record { states = throws w (has_part w.labels (uncalled_part program.now (w.state.register callee.0))) info.now error type_error_prototype not_a_function_message; demands = no_demands })) }
+        ensures { IfOk result (IsOutcome (vec_len self.now.state.now.registers)
+            (let w = view_of self.now in record {
+              states = throws w
+                  (has_part w.labels (uncalled_part program.now (w.state.register callee.0))) info.now
+                  error type_error_prototype not_a_function_message;
+              demands = no_demands;
+            })) }
     {
         let callee = callee_of(self.alloc, program, self.state.register(callee), self.sites)?;
         let message = not_a_function_message(self.alloc)?;

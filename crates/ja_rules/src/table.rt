@@ -24,7 +24,8 @@ use ja_value::{AProp, AValue, exact_attrs, unknown_attrs};
 use std::alloc::Global;
 use std::mem;
 
-/// The abstract states of the program's own context by node, and the values that it demands at its entry.
+/// The abstract states of the program's own context by node, and the values that it demands at its
+/// entry.
 #[derive(Drop)]
 pub struct ATable {
     pub states: Vec<Option<AState>>,
@@ -53,10 +54,15 @@ fn joined_at(
 ) -> Result<Option<AState>, Memory>
     requires node { node.0 < length states.now }
     requires registers { HaveRegisters states.now (vec_len state.registers) }
-    ensures joined { IfOk result (λ o. IfSome o (λ s. state_of s ≡ joined_state (states_in states.now node.0) (state_of state))) }
-    ensures changed { IfOk result (λ o. IfSome o (λ s. Some (state_of s) ≢ states_in states.now node.0)) }
-    ensures same { IfOk result (λ o. IfNone o (Some (joined_state (states_in states.now node.0) (state_of state)) ≡ states_in states.now node.0)) }
-    ensures registers { IfOk result (λ o. IfSome o (λ s. vec_len s.registers ≡ vec_len state.registers)) }
+    ensures joined { IfOk result (λ o. IfSome o
+        (λ s. state_of s ≡ joined_state (states_in states.now node.0) (state_of state))) }
+    ensures changed { IfOk result (λ o. IfSome o
+        (λ s. Some (state_of s) ≢ states_in states.now node.0)) }
+    ensures same { IfOk result (λ o. IfNone o
+        (Some (joined_state (states_in states.now node.0) (state_of state))
+        ≡ states_in states.now node.0)) }
+    ensures registers { IfOk result (λ o. IfSome o
+        (λ s. vec_len s.registers ≡ vec_len state.registers)) }
 {
     match &states[node.0 as usize] {
         None => Ok(Some(state)),
@@ -71,13 +77,19 @@ fn join_all(
     states: &mut Vec<Option<AState>>,
     mut given: Vec<(NodeId, AState)>,
 ) -> Result<bool, Memory>
-    requires nodes { AllByRecursion (λ (s : NodeId × AState). s.0.0 < length states.old.items) given.items }
-    requires registers { (count : ℕ) × HaveRegisters states.old.items count × HaveSameRegisters given.items count }
-    ensures joined { IfOk result (λ _. states_in states.new.items ≡ with_all_given (states_in states.old.items) (map given_by given.items)) }
-    ensures changed { IfOk result (λ c. c ≡ true → states_in states.new.items ≢ states_in states.old.items) }
-    ensures same { IfOk result (λ c. c ≡ false → states_in states.new.items ≡ states_in states.old.items) }
+    requires nodes { AllByRecursion (λ (s : NodeId × AState). s.0.0 < length states.old.items)
+        given.items }
+    requires registers { (count : ℕ) × HaveRegisters states.old.items count
+        × HaveSameRegisters given.items count }
+    ensures joined { IfOk result (λ _. states_in states.new.items
+        ≡ with_all_given (states_in states.old.items) (map given_by given.items)) }
+    ensures changed { IfOk result (λ c. c ≡ true
+        → states_in states.new.items ≢ states_in states.old.items) }
+    ensures same { IfOk result (λ c. c ≡ false
+        → states_in states.new.items ≡ states_in states.old.items) }
     ensures nodes { OnOk result (length states.new.items ≡ length states.old.items) }
-    ensures registers { OnOk result ((count : ℕ) → HaveRegisters states.old.items count → HaveSameRegisters given.items count → HaveRegisters states.new.items count) }
+    ensures registers { OnOk result ((count : ℕ) → HaveRegisters states.old.items count
+        → HaveSameRegisters given.items count → HaveRegisters states.new.items count) }
     ensures kept { OnErr result (states.new.items ≡ states.old.items) }
 {
     if given.is_empty() {
@@ -98,14 +110,15 @@ fn join_all(
     }
 }
 
-// Demands each pair of a list, and tells whether one wasn't demanded before. After `Memory` some may
-// have been demanded.
+// Demands each pair of a list, and tells whether one wasn't demanded before. After `Memory` some
+// may have been demanded.
 fn demand_all(
     alloc: Global,
     entries: &mut DemandedEntries,
     demands: DemandList,
 ) -> Result<bool, Memory>
-    ensures demanded { IfOk result (λ _. entries_of entries.new ≡ demanded (entries_of entries.old) (demands_in demands)) }
+    ensures demanded { IfOk result (λ _. entries_of entries.new
+        ≡ demanded (entries_of entries.old) (demands_in demands)) }
     ensures changed { IfOk result (λ c. c ≡ true → entries_of entries.new ≢ entries_of entries.old) }
     ensures same { IfOk result (λ c. c ≡ false → entries_of entries.new ≡ entries_of entries.old) }
 {
@@ -126,7 +139,8 @@ fn is_demanded(entries: &DemandedEntries, label: Label, key: Key) -> bool
 
 // Whether each pair of a list is demanded.
 fn are_demanded(entries: &DemandedEntries, pairs: &[(Label, Key)]) -> bool
-    ensures { result ≡ list_all (λ (p : Label × Key). is_some (entries_of entries.now p.0 p.1)) pairs.now }
+    ensures { result ≡ list_all (λ (p : Label × Key). is_some (entries_of entries.now p.0 p.1))
+        pairs.now }
 {
     pairs
         .iter()
@@ -139,7 +153,8 @@ fn with_demanded(
     entries: &DemandedEntries,
     demands: DemandList,
 ) -> Result<Option<DemandedEntries>, Memory>
-    ensures demanded { IfOk result (λ o. entries_of (unwrap_or o entries.now) ≡ demanded (entries_of entries.now) (demands_in demands)) }
+    ensures demanded { IfOk result (λ o. entries_of (unwrap_or o entries.now)
+        ≡ demanded (entries_of entries.now) (demands_in demands)) }
     ensures changed { IfOk result (λ o. IfSome o (λ e. entries_of e ≢ entries_of entries.now)) }
 {
     if are_demanded(entries, &demands.pairs) {
@@ -286,9 +301,14 @@ fn open_pair(
 ) -> Result<bool, Memory>
     requires program { IsWellFormed program.now }
     requires key { IsSome (entries_of before.now label key) → IsTrue (is_key program.now key) }
-    ensures opened { IfOk result (λ _. entries_of entries.new ≡ opened_pair program.now (entries_of before.now) (entries_of entries.old) label key) }
-    ensures changed { IfOk result (λ c. c ≡ true → opened_entries program.now (entries_of before.now) label key ≢ entries_of before.now label key) }
-    ensures same { IfOk result (λ c. c ≡ false → opened_entries program.now (entries_of before.now) label key ≡ entries_of before.now label key) }
+    ensures opened { IfOk result (λ _. entries_of entries.new
+        ≡ opened_pair program.now (entries_of before.now) (entries_of entries.old) label key) }
+    ensures changed { IfOk result (λ c. c ≡ true
+        → opened_entries program.now (entries_of before.now) label key ≢ entries_of before.now label
+        key) }
+    ensures same { IfOk result (λ c. c ≡ false
+        → opened_entries program.now (entries_of before.now) label key
+        ≡ entries_of before.now label key) }
 {
     match before.get(label, key) {
         Some(value) => {
@@ -310,8 +330,10 @@ fn visit_open(
     entries: &mut DemandedEntries,
 ) -> Result<bool, Memory>
     requires program { IsWellFormed program.now }
-    requires keys { (l : Label) (k : Key) → IsSome (entries_of entries.old l k) → IsTrue (is_key program.now k) }
-    ensures opened { IfOk result (λ _. entries_of entries.new ≡ opened_entries program.now (entries_of entries.old)) }
+    requires keys { (l : Label) (k : Key) → IsSome (entries_of entries.old l k)
+        → IsTrue (is_key program.now k) }
+    ensures opened { IfOk result (λ _. entries_of entries.new
+        ≡ opened_entries program.now (entries_of entries.old)) }
     ensures changed { IfOk result (λ c. c ≡ true → entries_of entries.new ≢ entries_of entries.old) }
     ensures same { IfOk result (λ c. c ≡ false → entries_of entries.new ≡ entries_of entries.old) }
     ensures kept { OnErr result (entries.new ≡ entries.old) }
@@ -348,8 +370,8 @@ fn state_at(states: &[Option<AState>], node: NodeId) -> &AState
     }
 }
 
-// Takes the step of a node that has a state, and tells whether the table changed. After `Memory` it is
-// as it was.
+// Takes the step of a node that has a state, and tells whether the table changed. After `Memory` it
+// is as it was.
 fn visit_step(
     alloc: Global,
     program: &Program,
@@ -360,7 +382,8 @@ fn visit_step(
     requires fits { Fits program.now table.old }
     requires item { HasStep program.now table.old node }
     ensures fits { Fits program.now table.new }
-    ensures visited { IfOk result (λ _. table_of table.new ≡ visit_step program.now (table_of table.old) root node) }
+    ensures visited { IfOk result (λ _. table_of table.new
+        ≡ visit_step program.now (table_of table.old) root node) }
     ensures changed { IfOk result (λ c. c ≡ true → table_of table.new ≢ table_of table.old) }
     ensures same { IfOk result (λ c. c ≡ false → table_of table.new ≡ table_of table.old) }
     ensures kept { OnErr result (table_of table.new ≡ table_of table.old) }
@@ -389,8 +412,8 @@ pub fn opening(alloc: Global, program: &Program) -> Result<ATable, Memory>
     })
 }
 
-/// Joins in what an item of the table gives, and tells whether the table changed. After `Memory` it is
-/// as it was.
+/// Joins in what an item of the table gives, and tells whether the table changed. After `Memory` it
+/// is as it was.
 pub fn visit(
     alloc: Global,
     program: &Program,
@@ -401,7 +424,8 @@ pub fn visit(
     requires fits { Fits program.now table.old }
     requires item { IsItem program.now (table_of table.old) item }
     ensures fits { Fits program.now table.new }
-    ensures visited { IfOk result (λ _. table_of table.new ≡ visited program.now (table_of table.old) item) }
+    ensures visited { IfOk result (λ _. table_of table.new
+        ≡ visited program.now (table_of table.old) item) }
     ensures changed { IfOk result (λ c. c ≡ true → table_of table.new ≢ table_of table.old) }
     ensures same { IfOk result (λ c. c ≡ false → table_of table.new ≡ table_of table.old) }
     ensures kept { OnErr result (table_of table.new ≡ table_of table.old) }

@@ -60,8 +60,8 @@ impl Walk {
 }
 
 impl Reader<'_> {
-    /// Adds the objects that a slot of an object leads to, where the object leads on, and tells whether
-    /// one of them is new.
+    /// Adds the objects that a slot of an object leads to, where the object leads on, and tells
+    /// whether one of them is new.
     pub(crate) fn add_links(
         &self,
         label: Label,
@@ -69,7 +69,9 @@ impl Reader<'_> {
         leads: bool,
         set: &mut LabelSet,
     ) -> Result<bool, Memory>
-        ensures added { IfOk result (λ _. labels_in set.new ≡ (λ l. labels_in set.old l || (leads && (own (view_of self.now) label slot).value.label l))) }
+        ensures added { IfOk result (λ _. labels_in set.new
+            ≡ (λ l. labels_in set.old l || (leads
+            && (own (view_of self.now) label slot).value.label l))) }
         ensures same { IfOk result (λ c. c ≡ false → labels_in set.new ≡ labels_in set.old) }
     {
         if !leads {
@@ -82,7 +84,8 @@ impl Reader<'_> {
 
     /// Adds the prototypes of an object that may lack a key, and tells whether one of them is new.
     fn add_prototypes(&self, label: Label, key: Key, set: &mut LabelSet) -> Result<bool, Memory>
-        ensures added { IfOk result (λ _. labels_in set.new ≡ (λ l. labels_in set.old l || next_prototype (view_of self.now) key label l)) }
+        ensures added { IfOk result (λ _. labels_in set.new
+            ≡ (λ l. labels_in set.old l || next_prototype (view_of self.now) key label l)) }
         ensures same { IfOk result (λ c. c ≡ false → labels_in set.new ≡ labels_in set.old) }
     {
         let property = self.resolved(label, key)?;
@@ -96,7 +99,9 @@ impl Reader<'_> {
 
     /// Adds the prototypes of each object that is asked, and tells whether one of them is new.
     fn ask_more(&self, key: Key, set: &mut LabelSet) -> Result<bool, Memory>
-        ensures added { IfOk result (λ _. labels_in set.new ≡ one_more (next_prototype (view_of self.now) key) (view_of self.now).labels (labels_in set.old)) }
+        ensures added { IfOk result (λ _. labels_in set.new
+            ≡ one_more (next_prototype (view_of self.now) key) (view_of self.now).labels
+            (labels_in set.old)) }
         ensures same { IfOk result (λ c. c ≡ false → labels_in set.new ≡ labels_in set.old) }
     {
         let mut members = set.list(self.alloc, self.sites)?;
@@ -131,8 +136,10 @@ impl Reader<'_> {
         is_asked: bool,
         demands: &mut DemandList,
     ) -> Result<bool, Memory>
-        ensures empty { IfOk result (λ e. e ≡ (is_asked && may_be_absent (view_of self.now) label slot)) }
-        ensures demands { IfOk result (λ _. Adds demands.old demands.new (λ m j. is_asked && demands_of (view_of self.now).state label slot m j)) }
+        ensures empty { IfOk result (λ e. e ≡ (is_asked
+            && may_be_absent (view_of self.now) label slot)) }
+        ensures demands { IfOk result (λ _. Adds demands.old demands.new
+            (λ m j. is_asked && demands_of (view_of self.now).state label slot m j)) }
     {
         if !is_asked {
             return Ok(false);
@@ -167,8 +174,10 @@ impl Reader<'_> {
         rest: Walk,
         demands: &mut DemandList,
     ) -> Result<Walk, Memory>
-        ensures walk { IfOk result (Meets (view_of self.now).labels (own (view_of self.now) label key) (ends_at (view_of self.now) key label) rest) }
-        ensures demands { IfOk result (λ _. Adds demands.old demands.new (demands_at (view_of self.now) key label)) }
+        ensures walk { IfOk result (Meets (view_of self.now).labels
+            (own (view_of self.now) label key) (ends_at (view_of self.now) key label) rest) }
+        ensures demands { IfOk result (λ _. Adds demands.old demands.new
+            (demands_at (view_of self.now) key label)) }
     {
         let property = self.own(label, key, demands)?;
         let ends = self.ask_slot(
@@ -189,7 +198,8 @@ impl Reader<'_> {
         demands: &mut DemandList,
     ) -> Result<Walk, Memory>
         ensures walk { IfOk result (IsWalkOver (view_of self.now) key members.items) }
-        ensures demands { IfOk result (λ _. Adds demands.old demands.new (demands_over (demands_at (view_of self.now) key) members.items)) }
+        ensures demands { IfOk result (λ _. Adds demands.old demands.new
+            (demands_over (demands_at (view_of self.now) key) members.items)) }
     {
         let mut walk = Walk::nothing(self.alloc);
         'members: while let Some(member) = members.pop() {

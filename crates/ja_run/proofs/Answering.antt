@@ -47,11 +47,13 @@ pick_fits : (p : Program) (names : List (List ℕ)) → Fits p (pick_wanted name
 pick_fits p [] = λ _. refl
 pick_fits p (name ∷ names) = λ _. some_place name names
 
-value_fits : (p : Program) (h : Heap) (f : Frame) (list : Reg) (v : Value) → Fits p (pick_wants h f list v)
+value_fits : (p : Program) (h : Heap) (f : Frame) (list : Reg) (v : Value)
+    → Fits p (pick_wants h f list v)
 value_fits p h f list (value.Object a) = pick_fits p (shown h f list a)
 value_fits p h f list (value.Primitive q) = λ _. refl
 
-device_fits : (p : Program) (which : ℕ) (objects : Bool) → Fits p (if objects then wanted.Tick else wanted.Device which)
+device_fits : (p : Program) (which : ℕ) (objects : Bool)
+    → Fits p (if objects then wanted.Tick else wanted.Device which)
 device_fits p which true = λ _. refl
 device_fits p which false = λ none. absurd none
 
@@ -60,7 +62,8 @@ node_fits p h f (node.Pick list dst object) = value_fits p h f list (register_of
 node_fits p h f (node.Device dst which) = device_fits p which (list_any is_object f.arguments)
 node_fits p h f n = λ _. refl
 
-standing_fits : (p : Program) (h : Heap) (f : Frame) (at : Option NodeInfo) → Fits p (option_map_or (λ (info : NodeInfo). node_wants h f info.node) at wanted.Tick)
+standing_fits : (p : Program) (h : Heap) (f : Frame) (at : Option NodeInfo)
+    → Fits p (option_map_or (λ (info : NodeInfo). node_wants h f info.node) at wanted.Tick)
 standing_fits p h f None = λ _. refl
 standing_fits p h f (Some info) = node_fits p h f info.node
 
@@ -84,28 +87,44 @@ pick_asks_none : (names : List (List ℕ)) (which : ℕ) → pick_wanted names �
 pick_asks_none [] which e = absurd (cc)
 pick_asks_none (name ∷ names) which e = absurd (cc)
 
-value_asks_none : (h : Heap) (f : Frame) (list : Reg) (v : Value) (which : ℕ) → pick_wants h f list v ≡ wanted.Device which → ⊥
+value_asks_none : (h : Heap) (f : Frame) (list : Reg) (v : Value) (which : ℕ)
+    → pick_wants h f list v ≡ wanted.Device which → ⊥
 value_asks_none h f list (value.Object a) which e = pick_asks_none (shown h f list a) which e
 value_asks_none h f list (value.Primitive q) which e = absurd (cc)
 
-that_device : (objects : Bool) (asked which : ℕ) → (if objects then wanted.Tick else wanted.Device asked) ≡ wanted.Device which → asked ≡ which
+that_device : (objects : Bool) (asked which : ℕ)
+    → (if objects then wanted.Tick else wanted.Device asked) ≡ wanted.Device which → asked ≡ which
 that_device true asked which e = absurd (cc)
 that_device false asked which e = cc
 
-node_asks : (h : Heap) (f : Frame) (n : Node) (which : ℕ) → node_wants h f n ≡ wanted.Device which → (dst : Reg) × (n ≡ node.Device dst which)
-node_asks h f (node.Pick list dst object) which e = absurd (value_asks_none h f list (register_of f object) which e)
+node_asks : (h : Heap) (f : Frame) (n : Node) (which : ℕ) → node_wants h f n ≡ wanted.Device which
+    → (dst : Reg) × (n ≡ node.Device dst which)
+node_asks h f (node.Pick list dst object) which e =
+    absurd (value_asks_none h f list (register_of f object) which e)
 node_asks h f (node.Device dst asked) which e =
     (dst, ap (node.Device dst) (that_device (list_any is_object f.arguments) asked which e))
 node_asks h f n which e = absurd (cc)
 
 module _ (p : Program) (which : ℕ) where
-  standing_asks : (h : Heap) (f : Frame) (below : List Frame) (at : Option NodeInfo) → node_at p f.function f.node ≡ at → option_map_or (λ (info : NodeInfo). node_wants h f info.node) at wanted.Tick ≡ wanted.Device which → IsAsking p (f ∷ below) which
+  standing_asks : (h : Heap) (f : Frame) (below : List Frame) (at : Option NodeInfo)
+      → node_at p f.function f.node ≡ at → option_map_or
+      (λ (info : NodeInfo). node_wants h f info.node) at wanted.Tick ≡ wanted.Device which
+      → IsAsking p (f ∷ below) which
   standing_asks h f below None is e = absurd (cc)
   standing_asks h f below (Some info) is e =
       let n = node_asks h f info.node which e in
-      record { top = f; below = below; frames_are = refl; info = info; info_is = is; dst = n.0; node_is = n.1 }
+      record {
+        top = f;
+        below = below;
+        frames_are = refl;
+        info = info;
+        info_is = is;
+        dst = n.0;
+        node_is = n.1;
+      }
 
-  frames_ask : (h : Heap) (frames : List Frame) → frames_want p h frames ≡ wanted.Device which → IsAsking p frames which
+  frames_ask : (h : Heap) (frames : List Frame) → frames_want p h frames ≡ wanted.Device which
+      → IsAsking p frames which
   frames_ask h [] e = absurd (cc)
   frames_ask h (f ∷ below) e = standing_asks h f below (node_at p f.function f.node) refl e
 
@@ -113,19 +132,26 @@ module _ (p : Program) (which : ℕ) where
   asking c e = frames_ask c.heap c.frames e
 
 -- a choice of which nothing is the other part is the first, if it is some
-chosen : {X : Type 0} (b : Bool) (o : Option X) (x : X) → (if b then o else None) ≡ Some x → o ≡ Some x
+chosen : {X : Type 0} (b : Bool) (o : Option X) (x : X) → (if b then o else None) ≡ Some x
+    → o ≡ Some x
 chosen true o x e = e
 chosen false o x e = absurd (cc)
 
 -- behind a device's answer the run goes on
-pub goes_on : (p : Program) (c : Conf) (which : ℕ) (q : Primitive) (e : Event) → wants p c ≡ wanted.Device which → step p c (answers.Device q) ≡ Some e → (d : Conf) × (e ≡ event.Next d)
+pub goes_on : (p : Program) (c : Conf) (which : ℕ) (q : Primitive) (e : Event)
+    → wants p c ≡ wanted.Device which → step p c (answers.Device q) ≡ Some e
+    → (d : Conf) × (e ≡ event.Next d)
 goes_on p c which q e wanted stepped =
     let a = asking p which c wanted in
     let s : Standing = record { conf = c; top = a.top; below = a.below; info = a.info } in
-    let top = chosen (fits p (wants p c) (answers.Device q)) (frames_step p c (answers.Device q) c.frames) e stepped in
-    let row : frames_step p c (answers.Device q) c.frames ≡ Some (sets s a.dst (value.Primitive q)) =
+    let top = chosen (fits p (wants p c) (answers.Device q))
+    (frames_step p c (answers.Device q) c.frames) e stepped in
+    let row : frames_step p c (answers.Device q) c.frames
+    ≡ Some (sets s a.dst (value.Primitive q)) =
     ap (frames_step p c (answers.Device q)) a.frames_are
-    ∙ ap (option_and_then (λ (i : NodeInfo). node_step p (record { conf = c; top = a.top; below = a.below; info = i }) (answers.Device q) i.node)) a.info_is
+    ∙ ap (option_and_then (λ (i : NodeInfo).
+    node_step p (record { conf = c; top = a.top; below = a.below; info = i }) (answers.Device q)
+    i.node)) a.info_is
     ∙ ap (node_step p s (answers.Device q)) a.node_is in
     let next : Conf = record {
       heap = c.heap;
@@ -137,15 +163,19 @@ goes_on p c which q e wanted stepped =
 -- ---- the law
 
 -- a device that is asked is one of the program's
-among : (p : Program) (c : Conf) (which : ℕ) → IsWellFormed p → wants p c ≡ wanted.Device which → which < length p.signatures
+among : (p : Program) (c : Conf) (which : ℕ) → IsWellFormed p → wants p c ≡ wanted.Device which
+    → which < length p.signatures
 among p c which good e =
     let a = asking p which c e in
     let well = node_of_program p good a.top.function a.top.node a.info a.info_is in
     subst (IsAllowed p well.0) a.node_is well.1.allowed
 
-kinds_fit : (p : Program) (w : Wants) (which : ℕ) (s : Signature) (q : Primitive) → w ≡ wanted.Device which → slice_get p.signatures which ≡ Some s → is_of_kinds s.kinds q ≡ true → fits p w (answers.Device q) ≡ true
+kinds_fit : (p : Program) (w : Wants) (which : ℕ) (s : Signature) (q : Primitive)
+    → w ≡ wanted.Device which → slice_get p.signatures which ≡ Some s → is_of_kinds s.kinds q ≡ true
+    → fits p w (answers.Device q) ≡ true
 kinds_fit p w which s q asked is kinds =
-    ap (λ v. fits p v (answers.Device q)) asked ∙ ap (λ o. option_map_or (λ (t : Signature). is_of_kinds t.kinds q) o false) is ∙ kinds
+    ap (λ v. fits p v (answers.Device q)) asked
+    ∙ ap (λ o. option_map_or (λ (t : Signature). is_of_kinds t.kinds q) o false) is ∙ kinds
 
 pub answers_fit : (p : Program) → IsWellFormed p → AnswersFit p
 answers_fit p good = record {

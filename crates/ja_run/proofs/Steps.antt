@@ -31,8 +31,10 @@ pub with_error : {T E P : Type 0} (r : Result T E) → P → IfErr r (λ _. P)
 with_error (Ok x) p = tt
 with_error (Err e) p = p
 
--- A run is under way: so many steps have led to the state, the devices were so before them, and are so now.
-pub record IsUnderWay (p : Program) (before now : AllSeen) (calls : List CallRecord) (n : ℕ) (c : Conf) : Type 0 where
+-- A run is under way: so many steps have led to the state, the devices were so before them, and are
+-- so now.
+pub record IsUnderWay (p : Program) (before now : AllSeen) (calls : List CallRecord) (n : ℕ)
+    (c : Conf) : Type 0 where
   pub fit : AnswersFit p
   pub never : NeverStuck p
   pub devices : map signature_of before.devices ≡ p.signatures
@@ -41,14 +43,17 @@ pub record IsUnderWay (p : Program) (before now : AllSeen) (calls : List CallRec
 
 -- ---- before the first step
 
-pub begun : (p : Program) (before : AllSeen) (calls : List CallRecord) (c : Conf) → AnswersFit p → NeverStuck p → map signature_of before.devices ≡ p.signatures → calls ≡ [] → c ≡ opening_state p → IsUnderWay p before before calls 0 c
+pub begun : (p : Program) (before : AllSeen) (calls : List CallRecord) (c : Conf) → AnswersFit p
+    → NeverStuck p → map signature_of before.devices ≡ p.signatures → calls ≡ []
+    → c ≡ opening_state p → IsUnderWay p before before calls 0 c
 begun p before calls c fit never devices none is = record {
   fit = fit;
   never = never;
   devices = devices;
   heard = nothing_heard before ∙ ap (λ (l : List CallRecord). answering l before) (sym none);
   made = record {
-    leads = subst (λ (l : List CallRecord). Leads p l 0 c) (sym none) (opens p c (ap Some (sym is)));
+    leads =
+        subst (λ (l : List CallRecord). Leads p l 0 c) (sym none) (opens p c (ap Some (sym is)));
     counted = ap (λ (d : Conf). d.steps) is;
   };
 }
@@ -60,10 +65,12 @@ not_begun p before limit =
 
 -- ---- one step more
 
-module _ {p : Program} {before now : AllSeen} {calls : List CallRecord} {n : ℕ} {c : Conf} (u : IsUnderWay p before now calls n c) where
+module _ {p : Program} {before now : AllSeen} {calls : List CallRecord} {n : ℕ} {c : Conf}
+    (u : IsUnderWay p before now calls n c) where
   signatures : map signature_of now.devices ≡ p.signatures
   signatures =
-      ap (λ (a : AllSeen). map signature_of a.devices) u.heard ∙ same_signatures calls before.devices ∙ u.devices
+      ap (λ (a : AllSeen). map signature_of a.devices) u.heard
+      ∙ same_signatures calls before.devices ∙ u.devices
 
   -- a device that is asked is there
   pub there : (which : ℕ) → wants p c ≡ wanted.Device which → which < length now.devices
@@ -74,7 +81,8 @@ module _ {p : Program} {before now : AllSeen} {calls : List CallRecord} {n : ℕ
       ap length (sym signatures) ∙ length-map now.devices signature_of in
       omega (arith, within, as_many)
 
-  module _ (which : ℕ) (q : Primitive) (after : AllSeen) (asks : wants p c ≡ wanted.Device which) (asked : IsAsked now after which (arguments_in c.frames) (Ok q)) where
+  module _ (which : ℕ) (q : Primitive) (after : AllSeen) (asks : wants p c ≡ wanted.Device which)
+      (asked : IsAsked now after which (arguments_in c.frames) (Ok q)) where
     abbrev call : CallRecord
     call = record { device = which; args = arguments_in c.frames; answer = q }
 
@@ -83,23 +91,32 @@ module _ {p : Program} {before now : AllSeen} {calls : List CallRecord} {n : ℕ
     fine =
         let s = u.fit.asked c which asks in
         let same =
-        sym s.1 ∙ ap (λ (l : List Signature). slice_get l which) (sym signatures) ∙ slice_get-map signature_of now.devices which ∙ ap (option_map signature_of) asked.device_is in
-        let kinds = ap (λ (t : Signature). is_of_kinds t.kinds q) (same_Some s.0 (signature_of asked.device) same) in
+        sym s.1 ∙ ap (λ (l : List Signature). slice_get l which) (sym signatures)
+        ∙ slice_get-map signature_of now.devices which
+        ∙ ap (option_map signature_of) asked.device_is in
+        let kinds = ap (λ (t : Signature). is_of_kinds t.kinds q)
+        (same_Some s.0 (signature_of asked.device) same) in
         s.2 q (kinds ∙ asked.call.0)
 
     pub device_steps : IsSome (step p c (answers.Device q))
     device_steps =
-        (u.never (answers_given p (given_by calls) n) c (answers.Device q) u.made.leads.reached).0 fine
+        (u.never (answers_given p (given_by calls) n) c (answers.Device q) u.made.leads.reached).0
+        fine
 
     pub device_heard : HaveHeard before after (calls ++ call ∷ [])
     device_heard =
-        one_more calls which (arguments_in c.frames) q before after (subst (λ (a : AllSeen). IsAsked a after which (arguments_in c.frames) (Ok q)) u.heard asked)
+        one_more calls which (arguments_in c.frames) q before after
+        (subst (λ (a : AllSeen). IsAsked a after which (arguments_in c.frames) (Ok q)) u.heard
+        asked)
 
-    pub device_leads : (d : Conf) → step p c (answers.Device q) ≡ Some (event.Next d) → Leads p (calls ++ call ∷ []) (n + 1) d
+    pub device_leads : (d : Conf) → step p c (answers.Device q) ≡ Some (event.Next d)
+        → Leads p (calls ++ call ∷ []) (n + 1) d
     device_leads d goes =
         let a = asking p which c asks in
         let args = ap arguments_in a.frames_are in
-        subst (λ (l : List Primitive). Leads p (calls ++ record { device = which; args = l; answer = q } ∷ []) (n + 1) d) (sym args) (asked_more p calls n c u.made.leads which asks a.top a.below a.frames_are q d goes)
+        subst (λ (l : List Primitive). Leads p
+        (calls ++ record { device = which; args = l; answer = q } ∷ []) (n + 1) d) (sym args)
+        (asked_more p calls n c u.made.leads which asks a.top a.below a.frames_are q d goes)
 
     -- the run goes on
     pub device_next : (d : Conf) × Leads p (calls ++ call ∷ []) (n + 1) d
@@ -115,37 +132,52 @@ module _ {p : Program} {before now : AllSeen} {calls : List CallRecord} {n : ℕ
       (calls, same ∙ u.heard, (n, omega (arith, less), (c, u.made.leads)))
   not_given after limit less (inr (which, asks, inl same)) =
       (calls, same ∙ u.heard, (n, omega (arith, less), (c, u.made.leads)))
-  not_given after limit less (inr (which, asks, inr (q, asked))) =
-      (calls ++ call which q after asks asked ∷ [], device_heard which q after asks asked, (n + 1, omega (arith, less), device_next which q after asks asked))
+  not_given after limit less (inr (which, asks, inr (q, asked))) = (
+    calls ++ call which q after asks asked ∷ [],
+    device_heard which q after asks asked,
+    (n + 1, omega (arith, less), device_next which q after asks asked),
+  )
 
   -- an answer is given, and recorded where it is a device's
   module _ (after : AllSeen) (recorded : List CallRecord) where
-    pub given_heard : (a : Answer) → IsGiven p c now after calls recorded (given.Answered a) → HaveHeard before after recorded
+    pub given_heard : (a : Answer) → IsGiven p c now after calls recorded (given.Answered a)
+        → HaveHeard before after recorded
     given_heard a (inl (none, is, same, as_before)) =
         same ∙ u.heard ∙ ap (λ (l : List CallRecord). answering l before) (sym as_before)
     given_heard (answers.Device q) (inr (which, asks, (asked, more))) =
-        device_heard which q after asks asked ∙ ap (λ (l : List CallRecord). answering l before) (sym more)
+        device_heard which q after asks asked
+        ∙ ap (λ (l : List CallRecord). answering l before) (sym more)
     given_heard answers.Tick (inr (which, asks, nothing)) = absurd nothing
     given_heard (answers.Pick i) (inr (which, asks, nothing)) = absurd nothing
 
-    pub given_steps : (a : Answer) → IsGiven p c now after calls recorded (given.Answered a) → IsSome (step p c a)
+    pub given_steps : (a : Answer) → IsGiven p c now after calls recorded (given.Answered a)
+        → IsSome (step p c a)
     given_steps a (inl (none, is, same, as_before)) =
-        subst (λ (b : Answer). IsSome (step p c b)) (sym is) ((u.never (answers_given p (given_by calls) n) c (answer_to (wants p c)) u.made.leads.reached).0 (u.fit.unasked c none))
+        subst (λ (b : Answer). IsSome (step p c b)) (sym is)
+        ((u.never (answers_given p (given_by calls) n) c (answer_to (wants p c))
+        u.made.leads.reached).0 (u.fit.unasked c none))
     given_steps (answers.Device q) (inr (which, asks, (asked, more))) =
         device_steps which q after asks asked
     given_steps answers.Tick (inr (which, asks, nothing)) = absurd nothing
     given_steps (answers.Pick i) (inr (which, asks, nothing)) = absurd nothing
 
-    pub given_leads : (a : Answer) (d : Conf) → IsGiven p c now after calls recorded (given.Answered a) → step p c a ≡ Some (event.Next d) → Leads p recorded (n + 1) d
+    pub given_leads : (a : Answer) (d : Conf)
+        → IsGiven p c now after calls recorded (given.Answered a) → step p c a ≡ Some (event.Next d)
+        → Leads p recorded (n + 1) d
     given_leads a d (inl (none, is, same, as_before)) goes =
-        subst (λ (l : List CallRecord). Leads p l (n + 1) d) (sym as_before) (unasked_more p calls n c u.made.leads none d (subst (λ (b : Answer). step p c b ≡ Some (event.Next d)) is goes))
+        subst (λ (l : List CallRecord). Leads p l (n + 1) d) (sym as_before)
+        (unasked_more p calls n c u.made.leads none d
+        (subst (λ (b : Answer). step p c b ≡ Some (event.Next d)) is goes))
     given_leads (answers.Device q) d (inr (which, asks, (asked, more))) goes =
-        subst (λ (l : List CallRecord). Leads p l (n + 1) d) (sym more) (device_leads which q after asks asked d goes)
+        subst (λ (l : List CallRecord). Leads p l (n + 1) d) (sym more)
+        (device_leads which q after asks asked d goes)
     given_leads answers.Tick d (inr (which, asks, nothing)) goes = absurd nothing
     given_leads (answers.Pick i) d (inr (which, asks, nothing)) goes = absurd nothing
 
     -- the last step
-    pub given_ends : (a : Answer) (end : End) (last : Conf) → IsGiven p c now after calls recorded (given.Answered a) → step p c a ≡ Some (event.End end last) → EndsIn p recorded (n + 1) end last
+    pub given_ends : (a : Answer) (end : End) (last : Conf)
+        → IsGiven p c now after calls recorded (given.Answered a)
+        → step p c a ≡ Some (event.End end last) → EndsIn p recorded (n + 1) end last
     given_ends a end last (inl (none, is, same, as_before)) ends = record {
       made = n;
       counted = refl;
@@ -159,16 +191,20 @@ module _ {p : Program} {before now : AllSeen} {calls : List CallRecord} {n : ℕ
     given_ends (answers.Pick i) end last (inr (which, asks, nothing)) ends = absurd nothing
 
     -- where memory is refused in the step
-    pub given_answered : (a : Answer) (limit : ℕ) → n < limit → IsGiven p c now after calls recorded (given.Answered a) → AreAnswered p limit recorded
+    pub given_answered : (a : Answer) (limit : ℕ) → n < limit
+        → IsGiven p c now after calls recorded (given.Answered a) → AreAnswered p limit recorded
     given_answered a limit less (inl (none, is, same, as_before)) =
         subst (AreAnswered p limit) (sym as_before) (n, omega (arith, less), (c, u.made.leads))
     given_answered (answers.Device q) limit less (inr (which, asks, (asked, more))) =
-        subst (AreAnswered p limit) (sym more) (n + 1, omega (arith, less), device_next which q after asks asked)
+        subst (AreAnswered p limit) (sym more)
+        (n + 1, omega (arith, less), device_next which q after asks asked)
     given_answered answers.Tick limit less (inr (which, asks, nothing)) = absurd nothing
     given_answered (answers.Pick i) limit less (inr (which, asks, nothing)) = absurd nothing
 
     -- .. and the run is under way
-    pub given_more : (a : Answer) (d : Conf) → AreSteps p → IsGiven p c now after calls recorded (given.Answered a) → step p c a ≡ Some (event.Next d) → IsUnderWay p before after recorded (n + 1) d
+    pub given_more : (a : Answer) (d : Conf) → AreSteps p
+        → IsGiven p c now after calls recorded (given.Answered a) → step p c a ≡ Some (event.Next d)
+        → IsUnderWay p before after recorded (n + 1) d
     given_more a d steps by goes =
         let counted = (steps c a (event.Next d) goes).0 in
         record {
@@ -176,5 +212,9 @@ module _ {p : Program} {before now : AllSeen} {calls : List CallRecord} {n : ℕ
           never = u.never;
           devices = u.devices;
           heard = given_heard a by;
-          made = record { leads = given_leads a d by goes; counted = omega (arith, counted, u.made.counted) };
+          made =
+              record {
+                leads = given_leads a d by goes;
+                counted = omega (arith, counted, u.made.counted);
+              };
         }

@@ -47,7 +47,8 @@ object_text class name message = codes "object " ++ class_text class
 abbrev pub uncaught_text : Heap → Value → List ℕ
 uncaught_text h (value.Primitive q) = primitive_text q
 uncaught_text h (value.Object a) =
-    object_text (unwrap_or (class_at h a) class.Object) (text_at h a (codes "name")) (text_at h a (codes "message"))
+    object_text (unwrap_or (class_at h a) class.Object) (text_at h a (codes "name"))
+    (text_at h a (codes "message"))
 
 -- an end of the machine, with the heap in which it ends
 abbrev pub told : Heap → End → RunEnd

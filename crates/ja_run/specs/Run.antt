@@ -29,7 +29,8 @@ asked (answers.Device q ∷ earlier) = suc (asked earlier)
 asked (answers.Tick ∷ earlier) = asked earlier
 asked (answers.Pick i ∷ earlier) = asked earlier
 
--- what is given to a state that wants this, where devices have these answers left: a device gives the next one
+-- what is given to a state that wants this, where devices have these answers left: a device gives
+-- the next one
 abbrev pub answer_with : Wants → List Primitive → Answer
 answer_with (wanted.Device which) (q ∷ left) = answers.Device q
 answer_with w left = answer_to w
@@ -46,9 +47,11 @@ answer_behind p given earlier = answer_in p (state_of p earlier) (drop (asked ea
 -- the answers to the first steps, the last one first, where devices give these in order
 abbrev pub answers_given : Program → List Primitive → ℕ → List Answer
 answers_given p given zero = []
-answers_given p given (suc n) = answer_behind p given (answers_given p given n) ∷ answers_given p given n
+answers_given p given (suc n) =
+    answer_behind p given (answers_given p given n) ∷ answers_given p given n
 
--- the state after so many steps, if the run has not ended before; where no answer of a device is left, it goes no further
+-- the state after so many steps, if the run has not ended before; where no answer of a device is
+-- left, it goes no further
 abbrev pub state_after : Program → List Primitive → ℕ → Option Conf
 state_after p given n = state_of p (answers_given p given n)
 
@@ -56,14 +59,16 @@ state_after p given n = state_of p (answers_given p given n)
 
 -- the call that is answered in a state that wants this and has these frames
 abbrev pub call_in : Wants → List Frame → Primitive → List CallRecord
-call_in (wanted.Device which) (f ∷ below) q = record { device = which; args = primitives f.arguments; answer = q } ∷ []
+call_in (wanted.Device which) (f ∷ below) q =
+    record { device = which; args = primitives f.arguments; answer = q } ∷ []
 call_in w frames q = []
 
 -- the calls that devices have answered, in order
 abbrev pub calls_of : Program → List Answer → List CallRecord
 calls_of p [] = []
 calls_of p (answers.Device q ∷ earlier) =
-    calls_of p earlier ++ option_map_or (λ (c : Conf). call_in (wants p c) c.frames q) (state_of p earlier) []
+    calls_of p earlier ++ option_map_or (λ (c : Conf). call_in (wants p c) c.frames q)
+    (state_of p earlier) []
 calls_of p (answers.Tick ∷ earlier) = calls_of p earlier
 calls_of p (answers.Pick i ∷ earlier) = calls_of p earlier
 
@@ -83,7 +88,8 @@ AreAnswered p limit calls = (steps : ℕ) × (steps ≤ limit) × ((c : Conf) ×
 -- ---- the end
 
 -- The last of so many steps ends the run, in a state and with an end of the machine.
-pub record EndsIn (p : Program) (calls : List CallRecord) (steps : ℕ) (end : End) (last : Conf) : Type 0 where
+pub record EndsIn (p : Program) (calls : List CallRecord) (steps : ℕ) (end : End)
+    (last : Conf) : Type 0 where
   pub made : ℕ
   pub counted : steps ≡ made + 1
   pub before : Conf
@@ -92,14 +98,15 @@ pub record EndsIn (p : Program) (calls : List CallRecord) (steps : ℕ) (end : E
 
 -- .. which is told so
 abbrev pub Ends : Program → List CallRecord → ℕ → RunEnd → Type 0
-Ends p calls steps e = (end : End) × (last : Conf) × EndsIn p calls steps end last × (e ≡ told last.heap end)
+Ends p calls steps e =
+    (end : End) × (last : Conf) × EndsIn p calls steps end last × (e ≡ told last.heap end)
 
 -- Behind so many steps a device is asked, which gives no answer.
 abbrev pub Asks : Program → List CallRecord → ℕ → ℕ → Type 0
 Asks p calls steps which = (c : Conf) × Leads p calls steps c × (wants p c ≡ wanted.Device which)
 
--- how a run ends that may make so many steps: at its limit exactly where it has made them all and goes on; at a device that gives no
--- answer; or as the machine ends
+-- how a run ends that may make so many steps: at its limit exactly where it has made them all and
+-- goes on; at a device that gives no answer; or as the machine ends
 abbrev pub EndsBy : Program → ℕ → List CallRecord → ℕ → RunEnd → Type 0
 EndsBy p limit calls steps run_end.Limit = (steps ≡ limit) × ((c : Conf) × Leads p calls limit c)
 EndsBy p limit calls steps (run_end.Device which) = (steps < limit) × Asks p calls steps which
@@ -116,20 +123,28 @@ abbrev pub IsUnasked : Wants → Type 0
 IsUnasked (wanted.Device which) = ⊥
 IsUnasked w = Unit {0}
 
--- The answers that are given are answers that are wanted: those that nobody is asked for, and each of a device's kinds.
+-- The answers that are given are answers that are wanted: those that nobody is asked for, and each
+-- of a device's kinds.
 pub record AnswersFit (p : Program) : Type 0 where
-  pub unasked : (c : Conf) → IsUnasked (wants p c) → fits p (wants p c) (answer_to (wants p c)) ≡ true
-  pub asked : (c : Conf) (which : ℕ) → wants p c ≡ wanted.Device which → (s : Signature) × (slice_get p.signatures which ≡ Some s) × ((q : Primitive) → is_of_kinds s.kinds q ≡ true → fits p (wants p c) (answers.Device q) ≡ true)
+  pub unasked : (c : Conf) → IsUnasked (wants p c)
+      → fits p (wants p c) (answer_to (wants p c)) ≡ true
+  pub asked : (c : Conf) (which : ℕ) → wants p c ≡ wanted.Device which
+      → (s : Signature) × (slice_get p.signatures which ≡ Some s)
+      × ((q : Primitive) → is_of_kinds s.kinds q ≡ true
+      → fits p (wants p c) (answers.Device q) ≡ true)
 
 -- a program has one run of at most so many steps under the same answers of devices
 abbrev pub RunsOnce : Program → Type 0
 RunsOnce p =
-    (limit : ℕ) (e f : Ended) → IsRun p limit e → IsRun p limit f → given_by e.calls ≡ given_by f.calls → e ≡ f
+    (limit : ℕ) (e f : Ended) → IsRun p limit e → IsRun p limit f
+    → given_by e.calls ≡ given_by f.calls → e ≡ f
 
--- Where a run is at its limit, one more step is made, or a device is asked that gives no answer. Where a device gave no answer, it
--- stays so, if it gives none again. Where the run has ended, it stays as it is.
+-- Where a run is at its limit, one more step is made, or a device is asked that gives no answer.
+-- Where a device gave no answer, it stays so, if it gives none again. Where the run has ended, it
+-- stays as it is.
 abbrev pub ContinuesBy : Ended → Ended → RunEnd → Type 0
-ContinuesBy e f run_end.Limit = (f.steps ≡ e.steps + 1) ⊎ ((which : ℕ) × (f.end ≡ run_end.Device which) × (f.steps ≡ e.steps))
+ContinuesBy e f run_end.Limit =
+    (f.steps ≡ e.steps + 1) ⊎ ((which : ℕ) × (f.end ≡ run_end.Device which) × (f.steps ≡ e.steps))
 ContinuesBy e f (run_end.Device which) = f.calls ≡ e.calls → f ≡ e
 ContinuesBy e f end = f ≡ e
 
@@ -139,7 +154,9 @@ pub record Continues (e f : Ended) : Type 0 where
   pub calls : f.calls ≡ e.calls ++ more
   pub by : ContinuesBy e f e.end
 
--- a run to n steps is a prefix of the run to n + 1 in which devices give the same answers, and maybe more
+-- a run to n steps is a prefix of the run to n + 1 in which devices give the same answers, and
+-- maybe more
 abbrev pub ArePrefixes : Program → Type 0
 ArePrefixes p =
-    (n : ℕ) (e f : Ended) (more : List Primitive) → IsRun p n e → IsRun p (n + 1) f → given_by f.calls ≡ given_by e.calls ++ more → Continues e f
+    (n : ℕ) (e f : Ended) (more : List Primitive) → IsRun p n e → IsRun p (n + 1) f
+    → given_by f.calls ≡ given_by e.calls ++ more → Continues e f

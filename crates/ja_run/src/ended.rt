@@ -24,8 +24,8 @@ pub enum RunEnd {
     Limit,
 }
 
-/// A run: how many steps were made, the last one among them, the calls that devices answered, in order, and how
-/// it ended.
+/// A run: how many steps were made, the last one among them, the calls that devices answered, in
+/// order, and how it ended.
 #[derive(Drop)]
 pub struct Ended {
     pub steps: u64,

@@ -17,7 +17,8 @@ use std::alloc::Global;
 
 /// A number, or that it is none.
 fn push_number(text: &mut Vec<u8>, number: Num) -> Result<(), Memory>
-    ensures { OnOk result (text.new.items ≡ text.old.items ++ spec.primitive_text (primitive.Number number)) }
+    ensures { OnOk result (text.new.items ≡ text.old.items
+        ++ spec.primitive_text (primitive.Number number)) }
 {
     match number {
         Num::NaN => text.extend_from_slice(b"NaN")?,
@@ -63,7 +64,9 @@ fn push_object(
     name: Option<&Text16>,
     message: Option<&Text16>,
 ) -> Result<(), Memory>
-    ensures { OnOk result (text.new.items ≡ text.old.items ++ spec.object_text class (option_map (λ t. t.now) name.entry) (option_map (λ t. t.now) message.entry)) }
+    ensures { OnOk result (text.new.items ≡ text.old.items
+        ++ spec.object_text class (option_map (λ t. t.now) name.entry)
+        (option_map (λ t. t.now) message.entry)) }
 {
     match (class, name, message) {
         (Class::Error, Some(name), Some(message)) => {
@@ -79,9 +82,11 @@ fn push_object(
     Ok(())
 }
 
-/// An object: an error by its name and its message, where both are texts; any other one by its class.
+/// An object: an error by its name and its message, where both are texts; any other one by its
+/// class.
 fn push_object_at(text: &mut Vec<u8>, alloc: Global, heap: &Heap, a: Addr) -> Result<(), Memory>
-    ensures { OnOk result (text.new.items ≡ text.old.items ++ spec.uncaught_text heap.now (value.Object a)) }
+    ensures { OnOk result (text.new.items ≡ text.old.items
+        ++ spec.uncaught_text heap.now (value.Object a)) }
 {
     let name = Text16::from_ascii(alloc, b"name")?;
     let message = Text16::from_ascii(alloc, b"message")?;

@@ -26,7 +26,8 @@ fn push_device_name(text: &mut Vec<u8>, program: &Program, which: u32) -> Result
 
 /// Arguments behind the first one.
 fn push_more_arguments(text: &mut Vec<u8>, args: &[Primitive]) -> Result<(), Memory>
-    ensures { OnOk result (text.new.items ≡ text.old.items ++ flat_map (λ r. codes ", " ++ primitive_text r) args.now) }
+    ensures { OnOk result (text.new.items ≡ text.old.items
+        ++ flat_map (λ r. codes ", " ++ primitive_text r) args.now) }
 {
     for arg in args {
         text.extend_from_slice(b", ")?;
@@ -64,7 +65,8 @@ fn push_call(text: &mut Vec<u8>, program: &Program, call: &CallRecord) -> Result
 
 /// A line for each call.
 fn push_calls(text: &mut Vec<u8>, program: &Program, calls: &[CallRecord]) -> Result<(), Memory>
-    ensures { OnOk result (text.new.items ≡ text.old.items ++ flat_map (spec.call_text program.now) calls.now) }
+    ensures { OnOk result (text.new.items ≡ text.old.items
+        ++ flat_map (spec.call_text program.now) calls.now) }
 {
     for call in calls {
         push_call(text, program, call)?;
@@ -74,7 +76,8 @@ fn push_calls(text: &mut Vec<u8>, program: &Program, calls: &[CallRecord]) -> Re
 
 /// The line of a value that nothing caught.
 fn push_uncaught(text: &mut Vec<u8>, value: &[u8]) -> Result<(), Memory>
-    ensures { OnOk result (text.new.items ≡ text.old.items ++ codes "end uncaught " ++ value.now ++ codes "\n") }
+    ensures { OnOk result (text.new.items ≡ text.old.items ++ codes "end uncaught " ++ value.now
+        ++ codes "\n") }
 {
     text.extend_from_slice(b"end uncaught ")?;
     text.extend_from_slice(value)?;
@@ -106,7 +109,8 @@ fn push_end(text: &mut Vec<u8>, program: &Program, end: &RunEnd) -> Result<(), M
     Ok(())
 }
 
-/// The transcript of a run of a program: the calls that devices answered, how it ended, and how many steps were made.
+/// The transcript of a run of a program: the calls that devices answered, how it ended, and how
+/// many steps were made.
 pub fn run_text(alloc: Global, program: &Program, ended: &Ended) -> Result<Vec<u8>, Memory>
     ensures { IfOk result (λ text. text.items ≡ spec.run_text program.now ended.now) }
 {

@@ -14,7 +14,9 @@ abbrev pub property_in : BTreeMap ℕ AProp → ℕ → Option AbstractProperty
 property_in properties q = option_map property_of (get nat_cmp properties q)
 
 abbrev pub entry_in : BTreeMap ℕ (BTreeMap ℕ AProp) → ℕ → ℕ → Option AbstractProperty
-entry_in objects p q = option_and_then (λ (properties : BTreeMap ℕ AProp). property_in properties q) (get nat_cmp objects p)
+entry_in objects p q =
+    option_and_then (λ (properties : BTreeMap ℕ AProp). property_in properties q)
+    (get nat_cmp objects p)
 
 abbrev pub is_demanded : BTreeMap ℕ AProp → Key → Bool
 is_demanded properties k = is_some (get nat_cmp properties (key_number k))

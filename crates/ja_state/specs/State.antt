@@ -48,7 +48,9 @@ object_in objects q = option_map_or object_of (get nat_cmp objects q) entry_keye
 -- the objects by number after an object more was made at a site
 abbrev pub made_keyed : (ℕ → Keyed) → Site → ℕ → Keyed
 made_keyed objects s q =
-    if label_number (new s) == q then (λ (k : Key). absent_property) else if label_number (old s) == q then join_keyed (aged_keyed s (objects (label_number (old s)))) (aged_keyed s (objects (label_number (new s)))) else aged_keyed s (objects q)
+    if label_number (new s) == q then (λ (k : Key). absent_property) else if label_number (old s)
+    == q then join_keyed (aged_keyed s (objects (label_number (old s))))
+    (aged_keyed s (objects (label_number (new s)))) else aged_keyed s (objects q)
 
 abbrev pub property_at : AState → Label → Key → AbstractProperty
 property_at a l k = object_in a.objects (label_number l) k
@@ -80,7 +82,8 @@ is_masked a s = is_some (get nat_cmp a.masks s.0)
 -- the object of a label, where one is kept
 abbrev pub IsObjectAt : AState → Label → Option (Bor AObject) → Type 0
 IsObjectAt a l None = (is_listed a l ≡ false) × ((k : Key) → property_at a l k ≡ entry_property)
-IsObjectAt a l (Some o) = (is_listed a l ≡ true) × ((k : Key) → property_at a l k ≡ object_of o.now k)
+IsObjectAt a l (Some o) =
+    (is_listed a l ≡ true) × ((k : Key) → property_at a l k ≡ object_of o.now k)
 
 abbrev pub IsEntryAt : DemandedEntries → Label → Key → Option (Bor AProp) → Type 0
 IsEntryAt e l k None = entries_of e l k ≡ None
@@ -89,4 +92,5 @@ IsEntryAt e l k (Some q) = entries_of e l k ≡ Some (property_of q.now)
 -- the demanded pairs of these labels and keys, in order
 abbrev pub pairs_of : Entries → List Label → List Key → List (Label × Key)
 pairs_of entries labels keys =
-    flat_map (λ (l : Label). map (λ (k : Key). (l, k)) (filter (λ (k : Key). is_some (entries l k)) keys)) labels
+    flat_map (λ (l : Label). map (λ (k : Key). (l, k))
+    (filter (λ (k : Key). is_some (entries l k)) keys)) labels

@@ -44,10 +44,13 @@ impl DemandedEntries {
         }
     }
 
-    /// Demands a pair, which has no value yet if it wasn't demanded before, and tells whether it wasn't.
-    /// After `Memory` the entries are as they were.
+    /// Demands a pair, which has no value yet if it wasn't demanded before, and tells whether it
+    /// wasn't. After `Memory` the entries are as they were.
     pub fn demand(&mut self, alloc: Global, label: Label, key: Key) -> Result<bool, Memory>
-        ensures demanded { IfOk result (λ _. entries_of self.new ≡ (λ l k. if same_label label l && same_key key k then Some (unwrap_or (entries_of self.old l k) no_property) else entries_of self.old l k)) }
+        ensures demanded { IfOk result (λ _. entries_of self.new
+            ≡ (λ l k. if same_label label l && same_key key k
+            then Some (unwrap_or (entries_of self.old l k) no_property)
+            else entries_of self.old l k)) }
         ensures changed { IfOk result (λ c. c ≡ true → entries_of self.new ≢ entries_of self.old) }
         ensures same { IfOk result (λ c. c ≡ false → entries_of self.new ≡ entries_of self.old) }
         ensures kept { OnErr result (entries_of self.new ≡ entries_of self.old) }
@@ -68,7 +71,9 @@ impl DemandedEntries {
         key: Key,
         property: AProp,
     ) -> Result<(), Memory>
-        ensures set { IfOk result (λ _. entries_of self.new ≡ (λ l k. if same_label label l && same_key key k then Some (property_of property) else entries_of self.old l k)) }
+        ensures set { IfOk result (λ _. entries_of self.new
+            ≡ (λ l k. if same_label label l && same_key key k then Some (property_of property)
+            else entries_of self.old l k)) }
         ensures kept { OnErr result (entries_of self.new ≡ entries_of self.old) }
     {
         let number = label_number(label);
@@ -89,9 +94,11 @@ impl DemandedEntries {
         Ok(DemandedEntries { objects })
     }
 
-    /// The pairs that were demanded of the first `sites` sites and the first `names` names, by label and key.
+    /// The pairs that were demanded of the first `sites` sites and the first `names` names, by
+    /// label and key.
     pub fn pairs(&self, alloc: Global, sites: u32, names: u32) -> Result<Vec<(Label, Key)>, Memory>
-        ensures { IfOk result (λ v. v.items ≡ pairs_of (entries_of self.now) (labels_below sites) (keys_below names)) }
+        ensures { IfOk result (λ v. v.items ≡ pairs_of (entries_of self.now) (labels_below sites)
+            (keys_below names)) }
     {
         let mut pairs = Vec::new(alloc);
         for (number, properties) in &self.objects {
@@ -101,8 +108,8 @@ impl DemandedEntries {
     }
 }
 
-/// Takes out the demanded properties at the number of a label, and leaves some in their place. After
-/// `Memory` the entries are as they were.
+/// Takes out the demanded properties at the number of a label, and leaves some in their place.
+/// After `Memory` the entries are as they were.
 fn take_out(
     objects: &mut BTreeMap<u64, BTreeMap<u64, AProp>>,
     alloc: Global,
@@ -110,7 +117,8 @@ fn take_out(
 ) -> Result<BTreeMap<u64, AProp>, Memory>
     ensures taken { IfOk result (λ m. (q : ℕ) → property_in m q ≡ entry_in objects.old number q) }
     ensures place { IfOk result (λ _. IsSome (get nat_cmp objects.new number)) }
-    ensures others { IfOk result (λ _. (q : ℕ) → (number == q) ≡ false → get nat_cmp objects.new q ≡ get nat_cmp objects.old q) }
+    ensures others { IfOk result (λ _. (q : ℕ) → (number == q) ≡ false
+        → get nat_cmp objects.new q ≡ get nat_cmp objects.old q) }
     ensures kept { OnErr result ((p q : ℕ) → entry_in objects.new p q ≡ entry_in objects.old p q) }
 {
     if objects.contains_key(&number) {
@@ -120,17 +128,23 @@ fn take_out(
     Ok(BTreeMap::new(alloc))
 }
 
-/// Demands the number of a key, and tells whether it wasn't demanded. After `Memory` the properties are
-/// as they were.
+/// Demands the number of a key, and tells whether it wasn't demanded. After `Memory` the properties
+/// are as they were.
 fn demand_key(
     properties: &mut BTreeMap<u64, AProp>,
     alloc: Global,
     number: u64,
 ) -> Result<bool, Memory>
-    ensures demanded { IfOk result (λ _. (q : ℕ) → property_in properties.new q ≡ (if number == q then Some (unwrap_or (property_in properties.old q) no_property) else property_in properties.old q)) }
-    ensures changed { IfOk result (λ c. c ≡ true → property_in properties.new number ≢ property_in properties.old number) }
-    ensures same { IfOk result (λ c. c ≡ false → property_in properties.new number ≡ property_in properties.old number) }
-    ensures kept { OnErr result ((q : ℕ) → property_in properties.new q ≡ property_in properties.old q) }
+    ensures demanded { IfOk result (λ _. (q : ℕ)
+        → property_in properties.new q ≡ (if number == q
+        then Some (unwrap_or (property_in properties.old q) no_property)
+        else property_in properties.old q)) }
+    ensures changed { IfOk result (λ c. c ≡ true
+        → property_in properties.new number ≢ property_in properties.old number) }
+    ensures same { IfOk result (λ c. c ≡ false
+        → property_in properties.new number ≡ property_in properties.old number) }
+    ensures kept { OnErr result ((q : ℕ) → property_in properties.new q
+        ≡ property_in properties.old q) }
 {
     if properties.contains_key(&number) {
         return Ok(false);
@@ -149,8 +163,11 @@ fn set_key(
     number: u64,
     property: AProp,
 ) -> Result<(), Memory>
-    ensures set { IfOk result (λ _. (q : ℕ) → property_in properties.new q ≡ (if number == q then Some (property_of property) else property_in properties.old q)) }
-    ensures kept { OnErr result ((q : ℕ) → property_in properties.new q ≡ property_in properties.old q) }
+    ensures set { IfOk result (λ _. (q : ℕ)
+        → property_in properties.new q ≡ (if number == q then Some (property_of property)
+        else property_in properties.old q)) }
+    ensures kept { OnErr result ((q : ℕ) → property_in properties.new q
+        ≡ property_in properties.old q) }
 {
     put(properties, number, property)?;
     Ok(())
@@ -165,7 +182,9 @@ fn push_label(
     sites: u32,
     names: u32,
 ) -> Result<(), Memory>
-    ensures { IfOk result (λ _. pairs.new.items ≡ pairs.old.items ++ (if nat_lt number (2 * sites) then map (λ k. (label_at number, k)) (keys_in properties.now names) else [])) }
+    ensures { IfOk result (λ _. pairs.new.items ≡ pairs.old.items
+        ++ (if nat_lt number (2 * sites) then map (λ k. (label_at number, k))
+        (keys_in properties.now names) else [])) }
 {
     if let Some(label) = label_among(number, sites) {
         let keys = demanded_keys(alloc, properties, names)?;
@@ -210,7 +229,9 @@ fn demanded_keys(
 
 /// Adds the key of a number, if it is of the first names.
 fn push_name(keys: &mut Vec<Key>, number: u64, names: u32) -> Result<(), Memory>
-    ensures { IfOk result (λ _. keys.new.items ≡ keys.old.items ++ (if nat_le 6 number && nat_lt number (6 + names) then name_key (number - 6) ∷ [] else [])) }
+    ensures { IfOk result (λ _. keys.new.items ≡ keys.old.items
+        ++ (if nat_le 6 number && nat_lt number (6 + names) then name_key (number - 6) ∷ []
+        else [])) }
 {
     if 6 <= number && number < 6 + u64::from(names) {
         keys.push(Key::Name(NameId((number - 6) as u32)))?;
@@ -224,7 +245,8 @@ fn push_keys(
     properties: &BTreeMap<u64, AProp>,
     others: &[Key],
 ) -> Result<(), Memory>
-    ensures { IfOk result (λ _. keys.new.items ≡ keys.old.items ++ filter (is_demanded properties.now) others.now) }
+    ensures { IfOk result (λ _. keys.new.items ≡ keys.old.items
+        ++ filter (is_demanded properties.now) others.now) }
 {
     for key in others {
         push_key(keys, properties, *key)?;
@@ -234,7 +256,8 @@ fn push_keys(
 
 /// Adds a key if it is demanded.
 fn push_key(keys: &mut Vec<Key>, properties: &BTreeMap<u64, AProp>, key: Key) -> Result<(), Memory>
-    ensures { IfOk result (λ _. keys.new.items ≡ keys.old.items ++ (if is_demanded properties.now key then key ∷ [] else [])) }
+    ensures { IfOk result (λ _. keys.new.items ≡ keys.old.items
+        ++ (if is_demanded properties.now key then key ∷ [] else [])) }
 {
     if properties.contains_key(&key_number(key)) {
         keys.push(key)?;

@@ -36,7 +36,8 @@ fn covers(mask: Mask, other: Mask) -> bool
 
 /// Whether each mask that is kept holds the one of its site among others.
 fn covers_at_kept(masks: &BTreeMap<u64, Mask>, others: &BTreeMap<u64, Mask>) -> bool
-    ensures { result ≡ true → (q : ℕ) (m : Mask) → get nat_cmp masks.now q ≡ Some m → join_masks m (mask_in others.now q) ≡ m }
+    ensures { result ≡ true → (q : ℕ) (m : Mask) → get nat_cmp masks.now q ≡ Some m
+        → join_masks m (mask_in others.now q) ≡ m }
 {
     for (site, mask) in masks {
         if !covers(*mask, mask_at(others, *site)) {
@@ -48,7 +49,8 @@ fn covers_at_kept(masks: &BTreeMap<u64, Mask>, others: &BTreeMap<u64, Mask>) -> 
 
 /// Whether each mask that others keep is held.
 fn covers_kept_of(masks: &BTreeMap<u64, Mask>, others: &BTreeMap<u64, Mask>) -> bool
-    ensures { result ≡ true → (q : ℕ) (m : Mask) → get nat_cmp others.now q ≡ Some m → join_masks (mask_in masks.now q) m ≡ mask_in masks.now q }
+    ensures { result ≡ true → (q : ℕ) (m : Mask) → get nat_cmp others.now q ≡ Some m
+        → join_masks (mask_in masks.now q) m ≡ mask_in masks.now q }
 {
     for (site, mask) in others {
         if !covers(mask_at(masks, *site), *mask) {
@@ -60,7 +62,8 @@ fn covers_kept_of(masks: &BTreeMap<u64, Mask>, others: &BTreeMap<u64, Mask>) -> 
 
 /// Whether masks hold others, so that a join changes nothing.
 pub fn masks_cover(masks: &BTreeMap<u64, Mask>, others: &BTreeMap<u64, Mask>) -> bool
-    ensures { result ≡ true → (q : ℕ) → join_masks (mask_in masks.now q) (mask_in others.now q) ≡ mask_in masks.now q }
+    ensures { result ≡ true → (q : ℕ) → join_masks (mask_in masks.now q) (mask_in others.now q)
+        ≡ mask_in masks.now q }
 {
     covers_at_kept(masks, others) && covers_kept_of(masks, others)
 }
@@ -68,7 +71,8 @@ pub fn masks_cover(masks: &BTreeMap<u64, Mask>, others: &BTreeMap<u64, Mask>) ->
 /// Keeps the mask of a site, as it is.
 fn keep(masks: &mut BTreeMap<u64, Mask>, site: u64) -> Result<(), Memory>
     ensures same { IfOk result (λ _. (q : ℕ) → mask_in masks.new q ≡ mask_in masks.old q) }
-    ensures kept { IfOk result (λ _. (q : ℕ) → is_some (get nat_cmp masks.new q) ≡ (site == q || is_some (get nat_cmp masks.old q))) }
+    ensures kept { IfOk result (λ _. (q : ℕ)
+        → is_some (get nat_cmp masks.new q) ≡ (site == q || is_some (get nat_cmp masks.old q))) }
 {
     let mask = mask_at(masks, site);
     put(masks, site, mask)?;
@@ -78,7 +82,9 @@ fn keep(masks: &mut BTreeMap<u64, Mask>, site: u64) -> Result<(), Memory>
 /// Keeps each mask that others keep, as it is.
 fn keep_all(masks: &mut BTreeMap<u64, Mask>, others: &BTreeMap<u64, Mask>) -> Result<(), Memory>
     ensures same { IfOk result (λ _. (q : ℕ) → mask_in masks.new q ≡ mask_in masks.old q) }
-    ensures kept { IfOk result (λ _. (q : ℕ) → is_some (get nat_cmp masks.new q) ≡ (is_some (get nat_cmp others.now q) || is_some (get nat_cmp masks.old q))) }
+    ensures kept { IfOk result (λ _. (q : ℕ)
+        → is_some (get nat_cmp masks.new q) ≡ (is_some (get nat_cmp others.now q)
+        || is_some (get nat_cmp masks.old q))) }
 {
     for (site, _) in others {
         keep(masks, *site)?;
@@ -92,9 +98,15 @@ fn join_kept(
     alloc: Global,
     others: &BTreeMap<u64, Mask>,
 ) -> Result<bool, Memory>
-    ensures joined { IfOk result (λ _. (q : ℕ) → option_map (λ (m : _). m) (get nat_cmp masks.new q) ≡ option_map (λ (m : _). join_masks m (mask_in others.now q)) (get nat_cmp masks.old q)) }
-    ensures changed { IfOk result (λ c. c ≡ true → (q : ℕ) × (option_map (λ (m : _). m) (get nat_cmp masks.new q) ≢ option_map (λ (m : _). m) (get nat_cmp masks.old q))) }
-    ensures same { IfOk result (λ c. c ≡ false → (q : ℕ) → option_map (λ (m : _). m) (get nat_cmp masks.new q) ≡ option_map (λ (m : _). m) (get nat_cmp masks.old q)) }
+    ensures joined { IfOk result (λ _. (q : ℕ)
+        → option_map (λ (m : _). m) (get nat_cmp masks.new q)
+        ≡ option_map (λ (m : _). join_masks m (mask_in others.now q)) (get nat_cmp masks.old q)) }
+    ensures changed { IfOk result (λ c. c ≡ true
+        → (q : ℕ) × (option_map (λ (m : _). m) (get nat_cmp masks.new q) ≢ option_map (λ (m : _). m)
+        (get nat_cmp masks.old q))) }
+    ensures same { IfOk result (λ c. c ≡ false → (q : ℕ)
+        → option_map (λ (m : _). m) (get nat_cmp masks.new q)
+        ≡ option_map (λ (m : _). m) (get nat_cmp masks.old q)) }
 {
     let mut rest = mem::replace(masks, BTreeMap::new(alloc));
     let mut changed = false;
@@ -111,7 +123,8 @@ pub fn join_masks(
     alloc: Global,
     others: &BTreeMap<u64, Mask>,
 ) -> Result<bool, Memory>
-    ensures { IfOk result (λ c. IsJoined join_masks (mask_in masks.old) (mask_in others.now) (mask_in masks.new) c) }
+    ensures { IfOk result (λ c. IsJoined join_masks (mask_in masks.old) (mask_in others.now)
+        (mask_in masks.new) c) }
 {
     keep_all(masks, others)?;
     let changed = join_kept(masks, alloc, others)?;

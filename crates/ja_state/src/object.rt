@@ -16,7 +16,8 @@ use std::alloc::Global;
 use std::collections::BTreeMap;
 use std::mem;
 
-/// The properties of an abstract object by key: those that are listed, and one common to all other keys.
+/// The properties of an abstract object by key: those that are listed, and one common to all other
+/// keys.
 #[derive(Drop)]
 pub struct AObject {
     pub common: AProp,
@@ -66,7 +67,8 @@ impl AObject {
     /// Replaces the property at a key. After `Memory` the object is as it was.
     pub fn write(&mut self, key: Key, property: AProp) -> Result<(), Memory>
         ensures kept { OnErr result (object_of self.new ≡ object_of self.old) }
-        ensures written { IfOk result (λ _. object_of self.new ≡ (λ k. if same_key key k then property_of property else object_of self.old k)) }
+        ensures written { IfOk result (λ _. object_of self.new
+            ≡ (λ k. if same_key key k then property_of property else object_of self.old k)) }
     {
         put(&mut self.listed, key_number(key), property)?;
         Ok(())
@@ -84,7 +86,8 @@ impl AObject {
 
     /// Whether each property that is listed holds that of another object.
     fn covers_at_listed(&self, other: &AObject) -> bool
-        ensures { result ≡ true → (q : ℕ) (p : AProp) → get nat_cmp self.now.listed q ≡ Some p → join_properties (property_of p) (at other.now q) ≡ property_of p }
+        ensures { result ≡ true → (q : ℕ) (p : AProp) → get nat_cmp self.now.listed q ≡ Some p
+            → join_properties (property_of p) (at other.now q) ≡ property_of p }
     {
         for (number, property) in &self.listed {
             if !property.covers(other.at(*number)) {
@@ -96,7 +99,8 @@ impl AObject {
 
     /// Whether each property that another object lists is held.
     fn covers_listed_of(&self, other: &AObject) -> bool
-        ensures { result ≡ true → (q : ℕ) (p : AProp) → get nat_cmp other.now.listed q ≡ Some p → join_properties (at self.now q) (property_of p) ≡ at self.now q }
+        ensures { result ≡ true → (q : ℕ) (p : AProp) → get nat_cmp other.now.listed q ≡ Some p
+            → join_properties (at self.now q) (property_of p) ≡ at self.now q }
     {
         for (number, property) in &other.listed {
             if !self.at(*number).covers(property) {
@@ -108,7 +112,8 @@ impl AObject {
 
     /// Whether this object holds another, so that a join changes nothing.
     pub fn covers(&self, other: &AObject) -> bool
-        ensures { result ≡ true → (λ k. join_properties (object_of self.now k) (object_of other.now k)) ≡ object_of self.now }
+        ensures { result ≡ true → (λ k. join_properties (object_of self.now k)
+            (object_of other.now k)) ≡ object_of self.now }
     {
         if !self.common.covers(&other.common) {
             return false;
@@ -116,10 +121,11 @@ impl AObject {
         self.covers_at_listed(other) && self.covers_listed_of(other)
     }
 
-    /// Joins another object in, key by key, and tells whether a property changed. After `Memory` some
-    /// properties may have been joined.
+    /// Joins another object in, key by key, and tells whether a property changed. After `Memory`
+    /// some properties may have been joined.
     fn join_all(&mut self, alloc: Global, other: &AObject) -> Result<bool, Memory>
-        ensures joined { IfOk result (λ _. object_of self.new ≡ (λ k. join_properties (object_of self.old k) (object_of other.now k))) }
+        ensures joined { IfOk result (λ _. object_of self.new
+            ≡ (λ k. join_properties (object_of self.old k) (object_of other.now k))) }
         ensures changed { IfOk result (λ c. c ≡ true → object_of self.new ≢ object_of self.old) }
         ensures same { IfOk result (λ c. c ≡ false → object_of self.new ≡ object_of self.old) }
     {
@@ -129,10 +135,11 @@ impl AObject {
         Ok(listed | common)
     }
 
-    /// Joins another object in, key by key, and tells whether a property changed. After `Memory` the
-    /// object is as it was.
+    /// Joins another object in, key by key, and tells whether a property changed. After `Memory`
+    /// the object is as it was.
     pub fn join(&mut self, alloc: Global, other: &AObject) -> Result<bool, Memory>
-        ensures joined { IfOk result (λ _. object_of self.new ≡ (λ k. join_properties (object_of self.old k) (object_of other.now k))) }
+        ensures joined { IfOk result (λ _. object_of self.new
+            ≡ (λ k. join_properties (object_of self.old k) (object_of other.now k))) }
         ensures changed { IfOk result (λ c. c ≡ true → object_of self.new ≢ object_of self.old) }
         ensures same { IfOk result (λ c. c ≡ false → object_of self.new ≡ object_of self.old) }
         ensures kept { OnErr result (object_of self.new ≡ object_of self.old) }
@@ -149,7 +156,9 @@ impl AObject {
     /// Lists a key by its number, with the property that it has.
     fn list(&mut self, alloc: Global, number: u64) -> Result<(), Memory>
         ensures same { IfOk result (λ _. (q : ℕ) → at self.new q ≡ at self.old q) }
-        ensures listed { IfOk result (λ _. (q : ℕ) → is_some (get nat_cmp self.new.listed q) ≡ (number == q || is_some (get nat_cmp self.old.listed q))) }
+        ensures listed { IfOk result (λ _. (q : ℕ)
+            → is_some (get nat_cmp self.new.listed q)
+            ≡ (number == q || is_some (get nat_cmp self.old.listed q))) }
         ensures common { IfOk result (λ _. self.new.common ≡ self.old.common) }
     {
         if !self.listed.contains_key(&number) {
@@ -162,7 +171,9 @@ impl AObject {
     /// Lists each key that another object lists, with the property that it has.
     fn list_all(&mut self, alloc: Global, other: &AObject) -> Result<(), Memory>
         ensures same { IfOk result (λ _. (q : ℕ) → at self.new q ≡ at self.old q) }
-        ensures listed { IfOk result (λ _. (q : ℕ) → is_some (get nat_cmp self.new.listed q) ≡ (is_some (get nat_cmp other.now.listed q) || is_some (get nat_cmp self.old.listed q))) }
+        ensures listed { IfOk result (λ _. (q : ℕ)
+            → is_some (get nat_cmp self.new.listed q)
+            ≡ (is_some (get nat_cmp other.now.listed q) || is_some (get nat_cmp self.old.listed q))) }
         ensures common { IfOk result (λ _. self.new.common ≡ self.old.common) }
     {
         for (number, _) in &other.listed {
@@ -171,11 +182,19 @@ impl AObject {
         Ok(())
     }
 
-    /// Joins the properties of another object into those that are listed, and tells whether one changed.
+    /// Joins the properties of another object into those that are listed, and tells whether one
+    /// changed.
     fn join_listed(&mut self, alloc: Global, other: &AObject) -> Result<bool, Memory>
-        ensures joined { IfOk result (λ _. (q : ℕ) → option_map property_of (get nat_cmp self.new.listed q) ≡ option_map (λ (p : _). join_properties (property_of p) (at other.now q)) (get nat_cmp self.old.listed q)) }
-        ensures changed { IfOk result (λ c. c ≡ true → (q : ℕ) × (option_map property_of (get nat_cmp self.new.listed q) ≢ option_map property_of (get nat_cmp self.old.listed q))) }
-        ensures same { IfOk result (λ c. c ≡ false → (q : ℕ) → option_map property_of (get nat_cmp self.new.listed q) ≡ option_map property_of (get nat_cmp self.old.listed q)) }
+        ensures joined { IfOk result (λ _. (q : ℕ)
+            → option_map property_of (get nat_cmp self.new.listed q)
+            ≡ option_map (λ (p : _). join_properties (property_of p) (at other.now q))
+            (get nat_cmp self.old.listed q)) }
+        ensures changed { IfOk result (λ c. c ≡ true
+            → (q : ℕ) × (option_map property_of (get nat_cmp self.new.listed q) ≢ option_map
+            property_of (get nat_cmp self.old.listed q))) }
+        ensures same { IfOk result (λ c. c ≡ false → (q : ℕ)
+            → option_map property_of (get nat_cmp self.new.listed q)
+            ≡ option_map property_of (get nat_cmp self.old.listed q)) }
         ensures common { IfOk result (λ _. self.new.common ≡ self.old.common) }
     {
         let mut rest = mem::replace(&mut self.listed, BTreeMap::new(alloc));
@@ -203,7 +222,8 @@ pub fn copy_properties(
     alloc: Global,
     listed: &BTreeMap<u64, AProp>,
 ) -> Result<BTreeMap<u64, AProp>, Memory>
-    ensures { IfOk result (λ m. (q : ℕ) → option_map property_of (get nat_cmp m q) ≡ option_map property_of (get nat_cmp listed.now q)) }
+    ensures { IfOk result (λ m. (q : ℕ) → option_map property_of (get nat_cmp m q)
+        ≡ option_map property_of (get nat_cmp listed.now q)) }
 {
     let mut copies = BTreeMap::new(alloc);
     for (number, property) in listed {
@@ -218,7 +238,8 @@ fn aged_properties(
     listed: &BTreeMap<u64, AProp>,
     site: Site,
 ) -> Result<BTreeMap<u64, AProp>, Memory>
-    ensures { IfOk result (λ m. (q : ℕ) → option_map property_of (get nat_cmp m q) ≡ option_map (λ (p : _). aged_property site (property_of p)) (get nat_cmp listed.now q)) }
+    ensures { IfOk result (λ m. (q : ℕ) → option_map property_of (get nat_cmp m q)
+        ≡ option_map (λ (p : _). aged_property site (property_of p)) (get nat_cmp listed.now q)) }
 {
     let mut aged = BTreeMap::new(alloc);
     for (number, property) in listed {

@@ -38,7 +38,8 @@ fn covers_at_kept(
     alloc: Global,
     others: &BTreeMap<u64, AObject>,
 ) -> bool
-    ensures { result ≡ true → (q : ℕ) (o : AObject) → get nat_cmp objects.now q ≡ Some o → join_keyed (object_of o) (object_in others.now q) ≡ object_of o }
+    ensures { result ≡ true → (q : ℕ) (o : AObject) → get nat_cmp objects.now q ≡ Some o
+        → join_keyed (object_of o) (object_in others.now q) ≡ object_of o }
 {
     let entry = AObject::entry(alloc);
     for (number, object) in objects {
@@ -55,7 +56,8 @@ fn covers_kept_of(
     alloc: Global,
     others: &BTreeMap<u64, AObject>,
 ) -> bool
-    ensures { result ≡ true → (q : ℕ) (o : AObject) → get nat_cmp others.now q ≡ Some o → join_keyed (object_in objects.now q) (object_of o) ≡ object_in objects.now q }
+    ensures { result ≡ true → (q : ℕ) (o : AObject) → get nat_cmp others.now q ≡ Some o
+        → join_keyed (object_in objects.now q) (object_of o) ≡ object_in objects.now q }
 {
     let entry = AObject::entry(alloc);
     for (number, object) in others {
@@ -72,7 +74,8 @@ pub fn objects_cover(
     alloc: Global,
     others: &BTreeMap<u64, AObject>,
 ) -> bool
-    ensures { result ≡ true → (q : ℕ) → join_keyed (object_in objects.now q) (object_in others.now q) ≡ object_in objects.now q }
+    ensures { result ≡ true → (q : ℕ) → join_keyed (object_in objects.now q)
+        (object_in others.now q) ≡ object_in objects.now q }
 {
     covers_at_kept(objects, alloc, others) && covers_kept_of(objects, alloc, others)
 }
@@ -80,7 +83,9 @@ pub fn objects_cover(
 /// Keeps the object at a number, as it is. After `Memory` the objects are as they were.
 fn keep(objects: &mut BTreeMap<u64, AObject>, alloc: Global, number: u64) -> Result<(), Memory>
     ensures same { IfOk result (λ _. (q : ℕ) → object_in objects.new q ≡ object_in objects.old q) }
-    ensures kept { IfOk result (λ _. (q : ℕ) → is_some (get nat_cmp objects.new q) ≡ (number == q || is_some (get nat_cmp objects.old q))) }
+    ensures kept { IfOk result (λ _. (q : ℕ)
+        → is_some (get nat_cmp objects.new q)
+        ≡ (number == q || is_some (get nat_cmp objects.old q))) }
     ensures unchanged { OnErr result ((q : ℕ) → object_in objects.new q ≡ object_in objects.old q) }
 {
     if !objects.contains_key(&number) {
@@ -96,7 +101,9 @@ fn keep_all(
     others: &BTreeMap<u64, AObject>,
 ) -> Result<(), Memory>
     ensures same { IfOk result (λ _. (q : ℕ) → object_in objects.new q ≡ object_in objects.old q) }
-    ensures kept { IfOk result (λ _. (q : ℕ) → is_some (get nat_cmp objects.new q) ≡ (is_some (get nat_cmp others.now q) || is_some (get nat_cmp objects.old q))) }
+    ensures kept { IfOk result (λ _. (q : ℕ)
+        → is_some (get nat_cmp objects.new q)
+        ≡ (is_some (get nat_cmp others.now q) || is_some (get nat_cmp objects.old q))) }
 {
     for (number, _) in others {
         keep(objects, alloc, *number)?;
@@ -110,9 +117,16 @@ fn join_kept(
     alloc: Global,
     others: &BTreeMap<u64, AObject>,
 ) -> Result<bool, Memory>
-    ensures joined { IfOk result (λ _. (q : ℕ) → option_map object_of (get nat_cmp objects.new q) ≡ option_map (λ (o : _). join_keyed (object_of o) (object_in others.now q)) (get nat_cmp objects.old q)) }
-    ensures changed { IfOk result (λ c. c ≡ true → (q : ℕ) × (option_map object_of (get nat_cmp objects.new q) ≢ option_map object_of (get nat_cmp objects.old q))) }
-    ensures same { IfOk result (λ c. c ≡ false → (q : ℕ) → option_map object_of (get nat_cmp objects.new q) ≡ option_map object_of (get nat_cmp objects.old q)) }
+    ensures joined { IfOk result (λ _. (q : ℕ)
+        → option_map object_of (get nat_cmp objects.new q)
+        ≡ option_map (λ (o : _). join_keyed (object_of o) (object_in others.now q))
+        (get nat_cmp objects.old q)) }
+    ensures changed { IfOk result (λ c. c ≡ true
+        → (q : ℕ) × (option_map object_of (get nat_cmp objects.new q) ≢ option_map object_of
+        (get nat_cmp objects.old q))) }
+    ensures same { IfOk result (λ c. c ≡ false → (q : ℕ)
+        → option_map object_of (get nat_cmp objects.new q)
+        ≡ option_map object_of (get nat_cmp objects.old q)) }
 {
     let entry = AObject::entry(alloc);
     let mut rest = mem::replace(objects, BTreeMap::new(alloc));
@@ -130,7 +144,8 @@ pub fn join_objects(
     alloc: Global,
     others: &BTreeMap<u64, AObject>,
 ) -> Result<bool, Memory>
-    ensures { IfOk result (λ c. IsJoined join_keyed (object_in objects.old) (object_in others.now) (object_in objects.new) c) }
+    ensures { IfOk result (λ c. IsJoined join_keyed (object_in objects.old) (object_in others.now)
+        (object_in objects.new) c) }
 {
     keep_all(objects, alloc, others)?;
     let changed = join_kept(objects, alloc, others)?;
@@ -142,7 +157,8 @@ pub fn copy_objects(
     alloc: Global,
     objects: &BTreeMap<u64, AObject>,
 ) -> Result<BTreeMap<u64, AObject>, Memory>
-    ensures { IfOk result (λ m. (q : ℕ) → option_map object_of (get nat_cmp m q) ≡ option_map object_of (get nat_cmp objects.now q)) }
+    ensures { IfOk result (λ m. (q : ℕ) → option_map object_of (get nat_cmp m q)
+        ≡ option_map object_of (get nat_cmp objects.now q)) }
 {
     let mut copies = BTreeMap::new(alloc);
     for (number, object) in objects {
@@ -157,7 +173,8 @@ pub fn aged_objects(
     objects: &BTreeMap<u64, AObject>,
     site: Site,
 ) -> Result<BTreeMap<u64, AObject>, Memory>
-    ensures { IfOk result (λ m. (q : ℕ) → option_map object_of (get nat_cmp m q) ≡ option_map (λ (o : _). aged_keyed site (object_of o)) (get nat_cmp objects.now q)) }
+    ensures { IfOk result (λ m. (q : ℕ) → option_map object_of (get nat_cmp m q)
+        ≡ option_map (λ (o : _). aged_keyed site (object_of o)) (get nat_cmp objects.now q)) }
 {
     let mut aged = BTreeMap::new(alloc);
     for (number, object) in objects {
@@ -169,7 +186,8 @@ pub fn aged_objects(
 /// Takes out the object at a number, as it is.
 fn take_out(objects: &mut BTreeMap<u64, AObject>, alloc: Global, number: u64) -> AObject
     ensures object { object_of result ≡ object_in objects.old number }
-    ensures others { (q : ℕ) → get nat_cmp objects.new q ≡ (if number == q then None else get nat_cmp objects.old q) }
+    ensures others { (q : ℕ) → get nat_cmp objects.new q
+        ≡ (if number == q then None else get nat_cmp objects.old q) }
 {
     match objects.remove(&number) {
         Some(object) => object,
@@ -185,7 +203,10 @@ pub fn write_at(
     key: Key,
     property: AProp,
 ) -> Result<(), Memory>
-    ensures written { IfOk result (λ _. (q : ℕ) → object_in objects.new q ≡ (if number == q then (λ k. if same_key key k then property_of property else object_in objects.old number k) else object_in objects.old q)) }
+    ensures written { IfOk result (λ _. (q : ℕ)
+        → object_in objects.new q ≡ (if number == q
+        then (λ k. if same_key key k then property_of property else object_in objects.old number k)
+        else object_in objects.old q)) }
     ensures kept { OnErr result ((q : ℕ) → object_in objects.new q ≡ object_in objects.old q) }
 {
     keep(objects, alloc, number)?;

@@ -47,7 +47,8 @@ fn entry_register(alloc: Global, register: usize) -> Result<AValue, Memory>
 
 /// The values of the first registers at the entry of the program.
 pub fn entry_values(alloc: Global, registers: usize) -> Result<Vec<AValue>, Memory>
-    ensures { IfOk result (λ v. map value_of v.items ≡ map entry_registers (range_with_len 0 registers)) }
+    ensures { IfOk result (λ v. map value_of v.items
+        ≡ map entry_registers (range_with_len 0 registers)) }
 {
     let mut values = Vec::new(alloc);
     for register in 0..registers {
@@ -69,7 +70,8 @@ pub fn copy_values(alloc: Global, values: &[AValue]) -> Result<Vec<AValue>, Memo
 
 /// The values after an object more was made at a site.
 pub fn aged_values(alloc: Global, values: &[AValue], site: Site) -> Result<Vec<AValue>, Memory>
-    ensures { IfOk result (λ v. map value_of v.items ≡ map (λ (x : _). aged site (value_of x)) values.now) }
+    ensures { IfOk result (λ v. map value_of v.items
+        ≡ map (λ (x : _). aged site (value_of x)) values.now) }
 {
     let mut aged = Vec::new(alloc);
     for value in values {
@@ -81,7 +83,8 @@ pub fn aged_values(alloc: Global, values: &[AValue], site: Site) -> Result<Vec<A
 /// Whether each value holds that of the same register among others.
 pub fn values_cover(values: &[AValue], others: &[AValue]) -> bool
     requires { length values.now ≡ length others.now }
-    ensures { result ≡ true → (r : ℕ) → join (register_in values.now r) (register_in others.now r) ≡ register_in values.now r }
+    ensures { result ≡ true → (r : ℕ) → join (register_in values.now r) (register_in others.now r)
+        ≡ register_in values.now r }
 {
     for (register, value) in values.iter().enumerate() {
         if !value.covers(&others[register]) {
@@ -99,9 +102,14 @@ fn join_value(
     value: &AValue,
 ) -> Result<bool, Memory>
     requires { register < vec_len values.old }
-    ensures joined { IfOk result (λ _. (r : ℕ) → register_in values.new.items r ≡ (if register == r then join (register_in values.old.items r) (value_of value.now) else register_in values.old.items r)) }
-    ensures changed { IfOk result (λ c. c ≡ true → register_in values.new.items register ≢ register_in values.old.items register) }
-    ensures same { IfOk result (λ c. c ≡ false → register_in values.new.items register ≡ register_in values.old.items register) }
+    ensures joined { IfOk result (λ _. (r : ℕ)
+        → register_in values.new.items r ≡ (if register == r
+        then join (register_in values.old.items r) (value_of value.now)
+        else register_in values.old.items r)) }
+    ensures changed { IfOk result (λ c. c ≡ true
+        → register_in values.new.items register ≢ register_in values.old.items register) }
+    ensures same { IfOk result (λ c. c ≡ false
+        → register_in values.new.items register ≡ register_in values.old.items register) }
     ensures len { vec_len values.new ≡ vec_len values.old }
 {
     values[register].join(alloc, value)
@@ -114,7 +122,8 @@ pub fn join_values(
     others: &[AValue],
 ) -> Result<bool, Memory>
     requires { vec_len values.old ≡ length others.now }
-    ensures joined { IfOk result (λ c. IsJoined join (register_in values.old.items) (register_in others.now) (register_in values.new.items) c) }
+    ensures joined { IfOk result (λ c. IsJoined join (register_in values.old.items)
+        (register_in others.now) (register_in values.new.items) c) }
     ensures len { vec_len values.new ≡ vec_len values.old }
 {
     let mut changed = false;

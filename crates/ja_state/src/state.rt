@@ -63,7 +63,8 @@ impl AState {
     /// Sets a register.
     pub fn set_register(&mut self, register: Reg, value: AValue)
         requires { register.0 < vec_len self.old.registers }
-        ensures state { state_of self.new ≡ with_register (state_of self.old) register (value_of value) }
+        ensures state { state_of self.new ≡ with_register (state_of self.old) register
+            (value_of value) }
         ensures registers { vec_len self.new.registers ≡ vec_len self.old.registers }
     {
         self.registers[register.0 as usize] = value;
@@ -91,7 +92,8 @@ impl AState {
         key: Key,
         property: AProp,
     ) -> Result<(), Memory>
-        ensures state { IfOk result (λ _. state_of self.new ≡ with_property (state_of self.old) label key (property_of property)) }
+        ensures state { IfOk result (λ _. state_of self.new
+            ≡ with_property (state_of self.old) label key (property_of property)) }
         ensures registers { vec_len self.new.registers ≡ vec_len self.old.registers }
         ensures kept { OnErr result (state_of self.new ≡ state_of self.old) }
     {
@@ -114,7 +116,8 @@ impl AState {
     /// Whether this state holds another, so that a join changes nothing.
     pub fn covers(&self, alloc: Global, other: &AState) -> bool
         requires { vec_len self.now.registers ≡ vec_len other.now.registers }
-        ensures { result ≡ true → join_states (state_of self.now) (state_of other.now) ≡ state_of self.now }
+        ensures { result ≡ true → join_states (state_of self.now) (state_of other.now)
+            ≡ state_of self.now }
     {
         if !values_cover(&self.registers, &other.registers) {
             return false;
@@ -126,9 +129,11 @@ impl AState {
     /// This state with another joined in, or `None` where that changes nothing.
     pub fn joined(&self, alloc: Global, other: &AState) -> Result<Option<AState>, Memory>
         requires { vec_len self.now.registers ≡ vec_len other.now.registers }
-        ensures joined { IfOk result (λ o. option_map_or state_of o (state_of self.now) ≡ join_states (state_of self.now) (state_of other.now)) }
+        ensures joined { IfOk result (λ o. option_map_or state_of o (state_of self.now)
+            ≡ join_states (state_of self.now) (state_of other.now)) }
         ensures changed { IfOk result (λ o. IfSome o (λ a. state_of a ≢ state_of self.now)) }
-        ensures registers { IfOk result (λ o. IfSome o (λ a. vec_len a.registers ≡ vec_len self.now.registers)) }
+        ensures registers { IfOk result (λ o.
+            IfSome o (λ a. vec_len a.registers ≡ vec_len self.now.registers)) }
     {
         if self.covers(alloc, other) {
             return Ok(None);
@@ -139,14 +144,16 @@ impl AState {
         if changed { Ok(Some(joined)) } else { Ok(None) }
     }
 
-    /// Joins another state in, and tells whether the state changed. After `Memory` some parts may have
-    /// been joined.
+    /// Joins another state in, and tells whether the state changed. After `Memory` some parts may
+    /// have been joined.
     fn join_all(&mut self, alloc: Global, other: &AState) -> Result<bool, Memory>
         requires { vec_len self.old.registers ≡ vec_len other.now.registers }
-        ensures joined { IfOk result (λ _. state_of self.new ≡ join_states (state_of self.old) (state_of other.now)) }
+        ensures joined { IfOk result (λ _. state_of self.new
+            ≡ join_states (state_of self.old) (state_of other.now)) }
         ensures changed { IfOk result (λ c. c ≡ true → state_of self.new ≢ state_of self.old) }
         ensures same { IfOk result (λ c. c ≡ false → state_of self.new ≡ state_of self.old) }
-        ensures registers { IfOk result (λ _. vec_len self.new.registers ≡ vec_len self.old.registers) }
+        ensures registers { IfOk result (λ _. vec_len self.new.registers
+            ≡ vec_len self.old.registers) }
     {
         let registers = join_values(&mut self.registers, alloc, &other.registers)?;
         let objects = join_objects(&mut self.objects, alloc, &other.objects)?;
@@ -175,7 +182,8 @@ impl AState {
 
     /// A property at the entry, with the labels that its objects have now.
     pub fn renamed(&self, alloc: Global, property: &AProp) -> Result<AProp, Memory>
-        ensures { IfOk result (λ q. property_of q ≡ renamed (state_of self.now).mask (property_of property.now)) }
+        ensures { IfOk result (λ q. property_of q
+            ≡ renamed (state_of self.now).mask (property_of property.now)) }
     {
         let value = &property.value;
         Ok(AProp {
@@ -189,7 +197,8 @@ impl AState {
         })
     }
 
-    /// The labels of the first `sites` sites whose objects are kept, in order; all others are as at entry.
+    /// The labels of the first `sites` sites whose objects are kept, in order; all others are as at
+    /// entry.
     pub fn listed(&self, alloc: Global, sites: u32) -> Result<Vec<Label>, Memory>
         ensures { IfOk result (λ v. v.items ≡ filter (is_listed self.now) (labels_below sites)) }
     {
@@ -200,7 +209,8 @@ impl AState {
         Ok(labels)
     }
 
-    /// The sites below `sites` that have a mask of their own, in order; all others have exactly none.
+    /// The sites below `sites` that have a mask of their own, in order; all others have exactly
+    /// none.
     pub fn masked(&self, alloc: Global, sites: u32) -> Result<Vec<Site>, Memory>
         ensures { IfOk result (λ v. v.items ≡ filter (is_masked self.now) (sites_below sites)) }
     {
@@ -214,7 +224,8 @@ impl AState {
 
 /// Adds the label of a number, if it is of the first sites.
 fn push_label(labels: &mut Vec<Label>, number: u64, sites: u32) -> Result<(), Memory>
-    ensures { IfOk result (λ _. labels.new.items ≡ labels.old.items ++ (if nat_lt number (2 * sites) then label_at number ∷ [] else [])) }
+    ensures { IfOk result (λ _. labels.new.items ≡ labels.old.items
+        ++ (if nat_lt number (2 * sites) then label_at number ∷ [] else [])) }
 {
     if let Some(label) = label_among(number, sites) {
         labels.push(label)?;
@@ -224,7 +235,8 @@ fn push_label(labels: &mut Vec<Label>, number: u64, sites: u32) -> Result<(), Me
 
 /// Adds a site, if it is of the first.
 fn push_site(kept: &mut Vec<Site>, site: u64, sites: u32) -> Result<(), Memory>
-    ensures { IfOk result (λ _. kept.new.items ≡ kept.old.items ++ (if nat_lt site sites then site_of site ∷ [] else [])) }
+    ensures { IfOk result (λ _. kept.new.items ≡ kept.old.items
+        ++ (if nat_lt site sites then site_of site ∷ [] else [])) }
 {
     if site < u64::from(sites) {
         kept.push(Site(site as u32))?;

@@ -17,13 +17,16 @@ use Rattle.ja_machine.specs.Frames.{parameters_of}
 module _ (p : Program) (fn : Function) (info : NodeInfo) (well : IsNodeWellFormed p fn info) where
   -- the name of a node is one of the program
   pub named : (name : NameId) → name_in info.node ≡ Some name → name.0 < length p.names
-  named name e = (subst (λ (o : Option NameId). AllByRecursion (IsName p) (option_to_list o)) e well.name).0
+  named name e =
+      (subst (λ (o : Option NameId). AllByRecursion (IsName p) (option_to_list o)) e well.name).0
 
   -- .. and so is its function, which has no more parameters than registers
-  pub few_parameters : IsWellFormed p → (f : FnId) → function_in info.node ≡ Some f → parameters_of p f ≤ 9007199254740991
+  pub few_parameters : IsWellFormed p → (f : FnId) → function_in info.node ≡ Some f
+      → parameters_of p f ≤ 9007199254740991
   few_parameters good f e = few (slice_get p.functions f.0) refl
     where
-      few : (found : Option Function) → slice_get p.functions f.0 ≡ found → option_map_or (λ (g : Function). length g.parameters) found 0 ≤ 9007199254740991
+      few : (found : Option Function) → slice_get p.functions f.0 ≡ found
+          → option_map_or (λ (g : Function). length g.parameters) found 0 ≤ 9007199254740991
       few None is = omega arith
       few (Some g) is =
           let most : g.registers ≤ 262144 = (good.each f.0 g is).few_registers in

@@ -43,22 +43,38 @@ module _ (h : Heap) (a : Addr) where
   left-own : (o : Object) (name : List ℕ) (v : Value) → Left (put_own h a o name v)
   unfolding Left
   left-own o name v =
-      let array : Left (put_array h a o name v) = either_way Left (same_text name length_name) (put_length_value h a o v) (written (with_object h a (with_element o name v (index_of name))) put_ends.Done) (λ e. left-length_value o v) (λ e. tt) in
-      either_way Left (is_array o.class) (put_array h a o name v) (written (with_object h a (object_with_value o name v)) put_ends.Done) (λ e. array) (λ e. tt)
+      let array : Left (put_array h a o name v) = either_way Left (same_text name length_name)
+      (put_length_value h a o v) (written (with_object h a
+      (with_element o name v (index_of name))) put_ends.Done) (λ e. left-length_value o v)
+      (λ e. tt) in
+      either_way Left (is_array o.class) (put_array h a o name v)
+      (written (with_object h a (object_with_value o name v)) put_ends.Done) (λ e. array)
+      (λ e. tt)
 
   left-put : (name : List ℕ) (v : Value) → Left (put h a name v)
   unfolding Left
   left-put name v =
-      let own : PutOutcome = option_map_or (λ (o : Object). put_own h a o name v) (object_at h a) (written h put_ends.Done) in
-      let put_it : Left own = of_object h a Left (λ (o : Object). put_own h a o name v) (written h put_ends.Done) tt (λ o is. left-own o name v) in
-      either_way Left (not (can_put h a name)) (written h put_ends.Ignored) (if is_shared h a name then written h put_ends.SharedArgument else own) (λ e. refl) (λ e. either_way Left (is_shared h a name) (written h put_ends.SharedArgument) own (λ f. refl) (λ f. put_it))
+      let own : PutOutcome = option_map_or (λ (o : Object). put_own h a o name v) (object_at h a)
+      (written h put_ends.Done) in
+      let put_it : Left own = of_object h a Left (λ (o : Object). put_own h a o name v)
+      (written h put_ends.Done) tt (λ o is. left-own o name v) in
+      either_way Left (not (can_put h a name)) (written h put_ends.Ignored)
+      (if is_shared h a name then written h put_ends.SharedArgument else own) (λ e. refl)
+      (λ e. either_way Left (is_shared h a name) (written h put_ends.SharedArgument) own
+      (λ f. refl) (λ f. put_it))
 
   -- where this is how a put ends, the heap is as it was, if the value isn't set
-  pub left_by_put : (after : Heap) (end : Put) (name : List ℕ) (v : Value) → written after end ≡ put h a name v → IsLeft after h end
+  pub left_by_put : (after : Heap) (end : Put) (name : List ℕ) (v : Value)
+      → written after end ≡ put h a name v → IsLeft after h end
   unfolding Left
   left_by_put after end name v e = subst Left (sym e) (left-put name v)
 
 -- what a node does after a put is what it does at the state before, if the heap is as it was
-pub left_event : (c : Conf) (info : NodeInfo) (wrong_length : Event) (a : Addr) (name : List ℕ) (v : Value) (after : Heap) (end : Put) (f : Conf → Event) → written after end ≡ put c.heap a name v → after ≡ c.heap → after_put (standing c info) wrong_length after end ≡ f c → f (record c { heap = after }) ≡ puts (standing c info) wrong_length a name v
+pub left_event : (c : Conf) (info : NodeInfo) (wrong_length : Event) (a : Addr) (name : List ℕ)
+    (v : Value) (after : Heap) (end : Put) (f : Conf → Event)
+    → written after end ≡ put c.heap a name v → after ≡ c.heap
+    → after_put (standing c info) wrong_length after end ≡ f c
+    → f (record c { heap = after }) ≡ puts (standing c info) wrong_length a name v
 left_event c info wrong_length a name v after end f is left gives =
-    ap (λ (h : Heap). f (record c { heap = h })) left ∙ sym gives ∙ ap (λ (w : PutOutcome). after_put (standing c info) wrong_length w.heap w.put) is
+    ap (λ (h : Heap). f (record c { heap = h })) left ∙ sym gives
+    ∙ ap (λ (w : PutOutcome). after_put (standing c info) wrong_length w.heap w.put) is

@@ -11,9 +11,11 @@ is_of_site site o = o.site.0 == site
 abbrev pub IsFurther : ℕ → List ObjectSpec → ℕ → Type 0
 IsFurther site xs n = find (is_of_site site) xs ≡ find (is_of_site site) (drop n xs)
 
-module _ (site : ℕ) (xs : List ObjectSpec) (n : ℕ) (o : ObjectSpec) (within : n < length xs) (at : o ≡ get_or xs n o) (further : IsFurther site xs n) where
+module _ (site : ℕ) (xs : List ObjectSpec) (n : ℕ) (o : ObjectSpec) (within : n < length xs)
+    (at : o ≡ get_or xs n o) (further : IsFurther site xs n) where
   -- from the next one on
-  opened : find (is_of_site site) xs ≡ (if o.site.0 == site then Some o else find (is_of_site site) (drop (n + 1) xs))
+  opened : find (is_of_site site) xs ≡ (if o.site.0 == site then Some o
+      else find (is_of_site site) (drop (n + 1) xs))
   opened = rw (further, drop-cons xs n o within, ← at, add-one) refl
 
   pub found_here : o.site.0 ≡ site → find (is_of_site site) xs ≡ Some o

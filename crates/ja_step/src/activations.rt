@@ -1,4 +1,5 @@
-//! The node that makes the activation of a function, with its arguments object (ES3 10.1.6, 10.1.8).
+//! The node that makes the activation of a function, with its arguments object (ES3 10.1.6,
+//! 10.1.8).
 
 ghost use Rattle.std.specs.Prelude.{◌≡◌, [], Some, None, IfOk, codes};
 ghost use Rattle.ja_graph.specs.WellFormed.{IsWellFormed};
@@ -31,7 +32,9 @@ impl Conf {
         flags: &[bool],
     ) -> Result<Object, Memory>
         requires { IsWellFormed program.now }
-        ensures { IfOk result (λ o. o ≡ objects.activation outer (objects.with_parameters [] (parameter_names program.now self.now.frame.function) self.now.frame.arguments.items flags.now)) }
+        ensures { IfOk result (λ o. o ≡ objects.activation outer
+            (objects.with_parameters [] (parameter_names program.now self.now.frame.function)
+            self.now.frame.arguments.items flags.now)) }
     {
         let object = empty_activation(alloc, outer);
         let names = parameters(program, self.frame.function);
@@ -49,7 +52,9 @@ impl Conf {
         outer: Addr,
     ) -> Result<Option<End>, Memory>
         requires { IsWellFormed program.now }
-        ensures { IfOk result (λ end. leads_to self.old end self.new ≡ enter (standing self.old info.now) site outer (parameter_names program.now self.old.frame.function) None) }
+        ensures { IfOk result (λ end. leads_to self.old end self.new
+            ≡ enter (standing self.old info.now) site outer
+            (parameter_names program.now self.old.frame.function) None) }
     {
         let object = self.activation(alloc, program, outer, &[])?;
         self.makes(info, SCOPE, site, object)
@@ -65,7 +70,11 @@ impl Conf {
         list: Addr,
     ) -> Result<Object, Memory>
         requires { IsWellFormed program.now }
-        ensures { let bound = objects.with_parameters [] (parameter_names program.now self.now.frame.function) self.now.frame.arguments.items flags.now in IfOk result (λ o. o ≡ objects.activation outer (objects.with_property bound (objects.property_with (codes "arguments") (value.Object list) objects.dont_delete))) }
+        ensures { let bound = objects.with_parameters []
+            (parameter_names program.now self.now.frame.function) self.now.frame.arguments.items
+            flags.now in IfOk result (λ o. o ≡ objects.activation outer
+            (objects.with_property bound (objects.property_with (codes "arguments")
+            (value.Object list) objects.dont_delete))) }
     {
         let mut object = self.activation(alloc, program, outer, flags)?;
         let name = Text16::from_ascii(alloc, b"arguments")?;
@@ -74,7 +83,8 @@ impl Conf {
         Ok(object)
     }
 
-    /// An activation and its arguments object are made, and the activation is put before the scope chain.
+    /// An activation and its arguments object are made, and the activation is put before the scope
+    /// chain.
     fn makes_both(
         &mut self,
         info: &NodeInfo,
@@ -83,7 +93,10 @@ impl Conf {
         list: Site,
         elements: Object,
     ) -> Result<Option<End>, Memory>
-        ensures { let h = self.old.heap in IfOk result (λ end. leads_to self.old end self.new ≡ enters_scope (standing self.old info.now) (with_new (with_new h site object) list elements) (new_address h site)) }
+        ensures { let h = self.old.heap in IfOk result
+            (λ end. leads_to self.old end self.new
+            ≡ enters_scope (standing self.old info.now)
+            (with_new (with_new h site object) list elements) (new_address h site)) }
     {
         let made = self.heap.alloc(site, object)?;
         let _ = self.heap.alloc(list, elements)?;
@@ -101,7 +114,9 @@ impl Conf {
         list: Site,
     ) -> Result<Option<End>, Memory>
         requires { IsWellFormed program.now }
-        ensures { IfOk result (λ end. leads_to self.old end self.new ≡ enter (standing self.old info.now) site outer (parameter_names program.now self.old.frame.function) (Some list)) }
+        ensures { IfOk result (λ end. leads_to self.old end self.new
+            ≡ enter (standing self.old info.now) site outer
+            (parameter_names program.now self.old.frame.function) (Some list)) }
     {
         let names = parameters(program, self.frame.function);
         let arguments = self.frame.arguments.as_slice();
@@ -112,7 +127,8 @@ impl Conf {
         self.makes_both(info, site, object, list, elements)
     }
 
-    /// A function's activation is put before its scope chain, with its arguments object, if it has one.
+    /// A function's activation is put before its scope chain, with its arguments object, if it has
+    /// one.
     pub(crate) fn enters_scope(
         &mut self,
         alloc: Global,
@@ -122,7 +138,8 @@ impl Conf {
         list: Option<Site>,
     ) -> Result<Option<End>, Memory>
         requires { IsWellFormed program.now }
-        ensures { IfOk result (λ end. leads_to self.old end self.new ≡ enter_step program.now (standing self.old info.now) site list (held self.old scope)) }
+        ensures { IfOk result (λ end. leads_to self.old end self.new
+            ≡ enter_step program.now (standing self.old info.now) site list (held self.old scope)) }
     {
         let Some(Value::Object(outer)) = self.frame.register(SCOPE) else {
             return Ok(self.left_scope(info, ScopeKind::Register));

@@ -68,7 +68,8 @@ fn opening_value(alloc: Global, value: &Option<Primitive>) -> Result<Option<Prim
 
 /// An object that is there when a run begins, without its properties.
 fn bare_object(alloc: Global, program: &Program, spec: &ObjectSpec) -> Result<Object, Memory>
-    ensures { IfOk result (λ o. o ≡ record (opening_object program.now spec.now) { properties = [] }) }
+    ensures { IfOk result (λ o. o ≡ record (opening_object program.now spec.now)
+        { properties = [] }) }
 {
     let slots = Slots {
         prototype: named_object(spec.prototype),
@@ -113,7 +114,8 @@ fn object_spec(program: &Program, site: usize) -> Option<&ObjectSpec>
 /// The object that is made at a site when a run begins, if there is one.
 fn opening_site(alloc: Global, program: &Program, site: usize) -> Result<Option<Object>, Memory>
     requires { IsWellFormed program.now }
-    ensures { IfOk result (λ o. o ≡ option_map (opening_object program.now) (object_spec program.now site)) }
+    ensures { IfOk result (λ o. o ≡ option_map (opening_object program.now)
+        (object_spec program.now site)) }
 {
     match object_spec(program, site) {
         Some(spec) => {

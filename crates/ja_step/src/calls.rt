@@ -17,7 +17,8 @@ use std::alloc::Global;
 
 /// What the program tells of the site of a value, if it is an object.
 pub(crate) fn site_of<'a>(program: &'a Program, value: Option<&Value>) -> Option<&'a SiteInfo>
-    ensures { option_map (λ site. site.now) result ≡ calls.site_of program.now (or_undefined value.entry) }
+    ensures { option_map (λ site. site.now) result
+        ≡ calls.site_of program.now (or_undefined value.entry) }
 {
     match value {
         Some(Value::Object(a)) => program.sites.as_slice().get(a.site.0 as usize),
@@ -46,8 +47,8 @@ fn is_activation(class: Option<Class>) -> bool
 }
 
 impl Conf {
-    /// The receiver of a call (10.1.6, 11.2.3): in place of null, undefined and an activation the global object.
-    /// Other primitive values are none.
+    /// The receiver of a call (10.1.6, 11.2.3): in place of null, undefined and an activation the
+    /// global object. Other primitive values are none.
     fn receiver_of(&self, receiver: Reg) -> Option<Addr>
         ensures { result ≡ calls.receiver_of self.now.heap (held self.now receiver) }
     {
@@ -73,7 +74,9 @@ impl Conf {
         error: Site,
     ) -> Result<Option<End>, Memory>
         requires { self.old.steps < 2 ^ 64 - 1 }
-        ensures { IfOk result (λ end. leads_to self.old end self.new ≡ calls.call_step program.now (standing self.old info.now) (held self.old callee) (held self.old receiver) arguments.now error) }
+        ensures { IfOk result (λ end. leads_to self.old end self.new
+            ≡ calls.call_step program.now (standing self.old info.now) (held self.old callee)
+            (held self.old receiver) arguments.now error) }
     {
         let Some(function) = function_called(program, self.frame.register(callee)) else {
             let message = not_a_function(alloc)?;

@@ -44,7 +44,8 @@ fn constructed_object(alloc: Global, prototype: Addr) -> Object
 impl Conf {
     /// The prototype of what a function constructs: its `prototype`, if that is an object.
     fn prototype_of_callee(&self, alloc: Global, callee: Option<Addr>) -> Result<Addr, Memory>
-        ensures { IfOk result (λ prototype. prototype ≡ calls.prototype_of_callee self.now.heap callee) }
+        ensures { IfOk result (λ prototype. prototype
+            ≡ calls.prototype_of_callee self.now.heap callee) }
     {
         let Some(callee) = callee else {
             return Ok(first_of(OBJECT_PROTOTYPE));
@@ -56,8 +57,8 @@ impl Conf {
         }
     }
 
-    /// A function constructs: an object is made, and the function is entered with it as its receiver. What can't
-    /// construct throws a TypeError.
+    /// A function constructs: an object is made, and the function is entered with it as its
+    /// receiver. What can't construct throws a TypeError.
     pub(crate) fn constructs(
         &mut self,
         alloc: Global,
@@ -69,7 +70,9 @@ impl Conf {
         error: Site,
     ) -> Result<Option<End>, Memory>
         requires { self.old.steps < 2 ^ 64 - 1 }
-        ensures { IfOk result (λ end. leads_to self.old end self.new ≡ calls.new_step program.now (standing self.old info.now) (held self.old callee) arguments.now site error) }
+        ensures { IfOk result (λ end. leads_to self.old end self.new
+            ≡ calls.new_step program.now (standing self.old info.now) (held self.old callee)
+            arguments.now site error) }
     {
         let Some(function) = function_constructing(program, self.frame.register(callee)) else {
             let message = not_a_constructor(alloc)?;

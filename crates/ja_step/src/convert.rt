@@ -23,8 +23,8 @@ fn default_function(program: &Program, hint: Hint) -> FnId
 }
 
 impl Conf {
-    /// Whether an object stays as it is beside the other operand of an equality: an object, undefined or null
-    /// (11.9.3).
+    /// Whether an object stays as it is beside the other operand of an equality: an object,
+    /// undefined or null (11.9.3).
     fn stays_beside(&self, other: Option<Reg>) -> bool
         ensures { result ≡ calls.stays (option_map (held self.now) other) }
     {
@@ -50,7 +50,9 @@ impl Conf {
         other: Option<Reg>,
     ) -> Result<Option<End>, Memory>
         requires { self.old.steps < 2 ^ 64 - 1 }
-        ensures { IfOk result (λ end. leads_to self.old end self.new ≡ calls.convert_step program.now (standing self.old info.now) dst hint (option_map (held self.old) other) (held self.old src)) }
+        ensures { IfOk result (λ end. leads_to self.old end self.new
+            ≡ calls.convert_step program.now (standing self.old info.now) dst hint
+            (option_map (held self.old) other) (held self.old src)) }
     {
         match self.frame.register(src) {
             Some(Value::Object(a)) if !self.stays_beside(other) => {

@@ -36,7 +36,8 @@ fn push_parameters(
     parameters: u64,
     arguments: &[Value],
 ) -> Result<(), Memory>
-    ensures { OnOk result (registers.new.items ≡ registers.old.items ++ map (frames.argument arguments.now) (range_with_len 0 parameters)) }
+    ensures { OnOk result (registers.new.items ≡ registers.old.items
+        ++ map (frames.argument arguments.now) (range_with_len 0 parameters)) }
 {
     for index in 0..parameters {
         let value = argument(alloc, arguments, index as usize)?;
@@ -55,8 +56,8 @@ fn push_undefined(registers: &mut Vec<Value>, count: u64) -> Result<(), Memory>
     Ok(())
 }
 
-/// The registers with which a function is entered: `thrown`, `this`, `scope`, `callee`, `count`, the parameters,
-/// the rest of the arguments and the temporaries.
+/// The registers with which a function is entered: `thrown`, `this`, `scope`, `callee`, `count`,
+/// the parameters, the rest of the arguments and the temporaries.
 fn entry_registers(
     alloc: Global,
     program: &Program,
@@ -66,7 +67,9 @@ fn entry_registers(
     chain: Addr,
     arguments: &[Value],
 ) -> Result<Vec<Value>, Memory>
-    ensures { IfOk result (λ registers. registers.items ≡ frames.entry_registers (frames.registers_of program.now function) (frames.parameters_of program.now function) receiver callee chain arguments.now) }
+    ensures { IfOk result (λ registers. registers.items
+        ≡ frames.entry_registers (frames.registers_of program.now function)
+        (frames.parameters_of program.now function) receiver callee chain arguments.now) }
 {
     let parameters = parameters_of(program, function);
     let size = registers_of(program, function);
@@ -94,7 +97,8 @@ pub(crate) fn entered(
     chain: Addr,
     arguments: Vec<Value>,
 ) -> Result<Frame, Memory>
-    ensures { IfOk result (λ frame. frame_of frame ≡ frames.entered program.now steps function receiver callee chain arguments.items) }
+    ensures { IfOk result (λ frame. frame_of frame
+        ≡ frames.entered program.now steps function receiver callee chain arguments.items) }
 {
     let registers = entry_registers(
         alloc, program, function, receiver, callee, chain, &arguments,
@@ -137,7 +141,10 @@ impl Conf {
         arguments: Vec<Value>,
     ) -> Result<Option<End>, Memory>
         requires { self.old.steps < 2 ^ 64 - 1 }
-        ensures { let c = conf_of self.old in IfOk result (λ end. leads_to self.old end self.new ≡ next_state c c.heap (frames.entered program.now (c.steps + 1) function receiver callee (chain_of c.heap callee) arguments.items ∷ c.frames)) }
+        ensures { let c = conf_of self.old in
+            IfOk result (λ end. leads_to self.old end self.new
+            ≡ next_state c c.heap (frames.entered program.now (c.steps + 1) function receiver callee
+            (chain_of c.heap callee) arguments.items ∷ c.frames)) }
     {
         let chain = self.chain_of(callee);
         let steps = self.steps + 1;

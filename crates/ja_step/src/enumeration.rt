@@ -46,7 +46,8 @@ impl Frame {
 
     /// The names of a list that remain. Of a list that isn't there none do.
     fn remaining(&self, list: Reg) -> Option<&VecDeque<Text16>>
-        ensures { option_map_or (λ names. names.now.items) result [] ≡ remaining (frame_of self.now).lists list }
+        ensures { option_map_or (λ names. names.now.items) result []
+            ≡ remaining (frame_of self.now).lists list }
     {
         let place = self.place(list);
         if place < self.lists.len() {
@@ -58,7 +59,11 @@ impl Frame {
 
     /// Fixes the names of a list.
     fn fix_names(&mut self, list: Reg, names: VecDeque<Text16>) -> Result<(), Memory>
-        ensures { OnOk result (frame_of self.new ≡ record (frame_of self.old) { lists = with_remaining (frame_of self.old).lists list names.items }) }
+        ensures { OnOk result (frame_of self.new
+            ≡ record (frame_of self.old) {
+              lists = with_remaining (frame_of self.old).lists list
+                  names.items;
+            }) }
     {
         let place = self.place(list);
         if place < self.lists.len() {
@@ -71,7 +76,11 @@ impl Frame {
 
     /// Takes a name out of a list.
     fn take_name(&mut self, alloc: Global, list: Reg, name: &Text16) -> Result<(), Memory>
-        ensures { OnOk result (frame_of self.new ≡ record (frame_of self.old) { lists = with_remaining (frame_of self.old).lists list (without_first (remaining (frame_of self.old).lists list) name.now) }) }
+        ensures { OnOk result (frame_of self.new
+            ≡ record (frame_of self.old) {
+              lists = with_remaining (frame_of self.old).lists list
+                  (without_first (remaining (frame_of self.old).lists list) name.now);
+            }) }
     {
         let place = self.place(list);
         if place < self.lists.len() {
@@ -105,7 +114,8 @@ impl Conf {
 
     /// The name at a place among those of a list that remain and that an object still shows.
     pub(crate) fn shown_at(&self, list: Reg, a: Addr, place: u64) -> Option<&Text16>
-        ensures { option_map (λ name. name.now) result ≡ slice_get (shown self.now.heap (frame_of self.now.frame) list a) place }
+        ensures { option_map (λ name. name.now) result
+            ≡ slice_get (shown self.now.heap (frame_of self.now.frame) list a) place }
     {
         let names = self.frame.remaining(list)?;
         let mut before = place;
@@ -128,7 +138,8 @@ impl Conf {
         list: Reg,
         object: Reg,
     ) -> Result<Option<End>, Memory>
-        ensures { IfOk result (λ end. leads_to self.old end self.new ≡ names_step (standing self.old info.now) list (held self.old object)) }
+        ensures { IfOk result (λ end. leads_to self.old end self.new
+            ≡ names_step (standing self.old info.now) list (held self.old object)) }
     {
         match self.frame.register(object) {
             Some(Value::Object(a)) => {
@@ -149,14 +160,15 @@ impl Conf {
         dst: Reg,
         name: Text16,
     ) -> Result<Option<End>, Memory>
-        ensures { IfOk result (λ end. leads_to self.old end self.new ≡ takes (standing self.old info.now) list dst name) }
+        ensures { IfOk result (λ end. leads_to self.old end self.new
+            ≡ takes (standing self.old info.now) list dst name) }
     {
         self.frame.take_name(alloc, list, &name)?;
         Ok(self.sets(info, dst, Value::Primitive(Primitive::Text(name))))
     }
 
-    /// The name at the answer's place is taken, or, where none is shown, the node goes on to `other`. The
-    /// machine has a step with the answer.
+    /// The name at the answer's place is taken, or, where none is shown, the node goes on to
+    /// `other`. The machine has a step with the answer.
     pub(crate) fn picks(
         &mut self,
         alloc: Global,
@@ -166,8 +178,10 @@ impl Conf {
         object: Reg,
         answer: &Answer,
     ) -> Result<Option<End>, Memory>
-        requires { IsSome (pick_step (standing self.old info.now) list dst answer.now (held self.old object)) }
-        ensures { IfOk result (λ end. Some (leads_to self.old end self.new) ≡ pick_step (standing self.old info.now) list dst answer.now (held self.old object)) }
+        requires { IsSome (pick_step (standing self.old info.now) list dst answer.now
+            (held self.old object)) }
+        ensures { IfOk result (λ end. Some (leads_to self.old end self.new)
+            ≡ pick_step (standing self.old info.now) list dst answer.now (held self.old object)) }
     {
         let Some(Value::Object(a)) = self.frame.register(object) else {
             return Ok(self.left_scope(info, ScopeKind::Register));

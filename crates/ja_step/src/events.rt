@@ -31,7 +31,8 @@ pub(crate) fn kind_of(stop: Stop) -> ScopeKind
 impl Conf {
     /// The node goes on to `next`.
     pub(crate) fn goes_on(&mut self, info: &NodeInfo) -> Option<End>
-        ensures { leads_to self.old result self.new ≡ goes_on (standing self.old info.now) self.old.heap }
+        ensures { leads_to self.old result self.new
+            ≡ goes_on (standing self.old info.now) self.old.heap }
     {
         self.frame.node = info.next;
         None
@@ -39,7 +40,9 @@ impl Conf {
 
     /// The node goes on to `other`.
     pub(crate) fn turns(&mut self, info: &NodeInfo) -> Option<End>
-        ensures { let s = standing self.old info.now in leads_to self.old result self.new ≡ next_state s.conf s.conf.heap (moved_to s.top info.now.other ∷ s.below) }
+        ensures { let s = standing self.old info.now in
+            leads_to self.old result self.new ≡ next_state s.conf s.conf.heap
+            (moved_to s.top info.now.other ∷ s.below) }
     {
         self.frame.node = info.other;
         None
@@ -66,15 +69,16 @@ impl Conf {
 
     /// The node throws a value: its handler has it in `thrown`.
     pub(crate) fn throws_value(&mut self, info: &NodeInfo, value: Value) -> Option<End>
-        ensures { leads_to self.old result self.new ≡ throws_value (standing self.old info.now) self.old.heap value }
+        ensures { leads_to self.old result self.new
+            ≡ throws_value (standing self.old info.now) self.old.heap value }
     {
         self.frame.set_register(THROWN, value);
         self.frame.node = info.handler;
         None
     }
 
-    /// The node throws an error, which it makes at a site. A message that is too long for a text leaves the
-    /// profile.
+    /// The node throws an error, which it makes at a site. A message that is too long for a text
+    /// leaves the profile.
     pub(crate) fn throws(
         &mut self,
         alloc: Global,
@@ -83,7 +87,8 @@ impl Conf {
         prototype: Site,
         message: Vec<u16>,
     ) -> Result<Option<End>, Memory>
-        ensures { IfOk result (λ end. leads_to self.old end self.new ≡ throws (standing self.old info.now) error prototype message.items) }
+        ensures { IfOk result (λ end. leads_to self.old end self.new
+            ≡ throws (standing self.old info.now) error prototype message.items) }
     {
         if message.len() > MAX_UNITS {
             return Ok(self.left_scope(info, ScopeKind::TextLength));
@@ -101,7 +106,8 @@ impl Conf {
         site: Site,
         object: Object,
     ) -> Result<Option<End>, Memory>
-        ensures { IfOk result (λ end. leads_to self.old end self.new ≡ makes (standing self.old info.now) dst site object) }
+        ensures { IfOk result (λ end. leads_to self.old end self.new
+            ≡ makes (standing self.old info.now) dst site object) }
     {
         let made = self.heap.alloc(site, object)?;
         Ok(self.sets(info, dst, Value::Object(made)))
@@ -114,7 +120,8 @@ impl Conf {
         dst: Reg,
         content: Content,
     ) -> Option<End>
-        ensures { leads_to self.old result self.new ≡ sets_content (standing self.old info.now) dst content }
+        ensures { leads_to self.old result self.new
+            ≡ sets_content (standing self.old info.now) dst content }
     {
         match content {
             Content::Value(value) => self.sets(info, dst, value),
@@ -122,15 +129,16 @@ impl Conf {
         }
     }
 
-    /// The node sets a register to what an operation gives. An operation that doesn't take its operands
-    /// leaves the profile, and so does one that stops.
+    /// The node sets a register to what an operation gives. An operation that doesn't take its
+    /// operands leaves the profile, and so does one that stops.
     pub(crate) fn sets_outcome(
         &mut self,
         info: &NodeInfo,
         dst: Reg,
         outcome: Outcome,
     ) -> Option<End>
-        ensures { leads_to self.old result self.new ≡ sets_outcome (standing self.old info.now) dst outcome }
+        ensures { leads_to self.old result self.new
+            ≡ sets_outcome (standing self.old info.now) dst outcome }
     {
         match outcome {
             None => self.left_scope(info, ScopeKind::Register),

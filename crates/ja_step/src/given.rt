@@ -1,5 +1,5 @@
-//! The arguments that are given to a call (ES3 11.2.4, 15.3.4.3): the values of registers, the elements of an array or
-//! an arguments object, or the arguments of the caller from the second on.
+//! The arguments that are given to a call (ES3 11.2.4, 15.3.4.3): the values of registers, the
+//! elements of an array or an arguments object, or the arguments of the caller from the second on.
 
 ghost use Rattle.std.specs.Prelude.{◌≡◌, IfOk, Ok, map, drop};
 ghost use Rattle.std.specs.Option.{option_map};
@@ -56,7 +56,8 @@ fn element_count(length: Option<&Content>) -> Result<u32, ScopeKind>
 impl Conf {
     /// The values of registers.
     pub(crate) fn values_of(&self, alloc: Global, registers: &[Reg]) -> Result<Vec<Value>, Memory>
-        ensures { IfOk result (λ values. values.items ≡ map (register_of (frame_of self.now.frame)) registers.now) }
+        ensures { IfOk result (λ values. values.items
+            ≡ map (register_of (frame_of self.now.frame)) registers.now) }
     {
         let mut values = Vec::with_capacity(alloc, registers.len())?;
         for register in registers {
@@ -73,7 +74,8 @@ impl Conf {
         a: Addr,
         index: u32,
     ) -> Result<Result<Value, ScopeKind>, Memory>
-        ensures { IfOk result (λ element. element ≡ calls.element (content_at self.now.heap a (objects.index_text index))) }
+        ensures { IfOk result (λ element. element
+            ≡ calls.element (content_at self.now.heap a (objects.index_text index))) }
     {
         let name = index_text(alloc, u64::from(index))?;
         match self.heap.content_at(a, &name) {
@@ -90,7 +92,8 @@ impl Conf {
     /// of them is asked for before one is read, and counts as refused where they are more than
     /// 16,777,216: the `length` of an array may be 4,294,967,295 where it has no element.
     fn first_elements(&self, alloc: Global, a: Addr, count: u32) -> Result<Given, Memory>
-        ensures { IfOk result (λ given. given_of given ≡ calls.elements_up_to self.now.heap a (Ok count)) }
+        ensures { IfOk result (λ given. given_of given
+            ≡ calls.elements_up_to self.now.heap a (Ok count)) }
     {
         if count > MOST_ELEMENTS {
             return Err(Memory);
@@ -105,9 +108,11 @@ impl Conf {
         Ok(Ok(values))
     }
 
-    /// The elements of an array or an arguments object, as many as its `length` says. Other values have none.
+    /// The elements of an array or an arguments object, as many as its `length` says. Other values
+    /// have none.
     fn elements(&self, alloc: Global, array: Reg) -> Result<Given, Memory>
-        ensures { IfOk result (λ given. given_of given ≡ calls.elements self.now.heap (held self.now array)) }
+        ensures { IfOk result (λ given. given_of given
+            ≡ calls.elements self.now.heap (held self.now array)) }
     {
         let Some(Value::Object(a)) = self.frame.register(array) else {
             return Ok(Err(ScopeKind::Register));
@@ -135,7 +140,8 @@ impl Conf {
 
     /// The arguments of a call.
     pub(crate) fn given(&self, alloc: Global, arguments: &Args) -> Result<Given, Memory>
-        ensures { IfOk result (λ given. given_of given ≡ calls.given self.now.heap (frame_of self.now.frame) arguments.now) }
+        ensures { IfOk result (λ given. given_of given
+            ≡ calls.given self.now.heap (frame_of self.now.frame) arguments.now) }
     {
         match arguments {
             Args::Registers(registers) => {

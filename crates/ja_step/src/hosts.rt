@@ -13,8 +13,9 @@ use ja_prim::Primitive;
 use std::alloc::Global;
 
 impl Conf {
-    /// A register is set to what the device answered. Leave to go on says that it wasn't asked, since it takes no
-    /// objects: the run leaves the profile. The machine has a step with the answer.
+    /// A register is set to what the device answered. Leave to go on says that it wasn't asked,
+    /// since it takes no objects: the run leaves the profile. The machine has a step with the
+    /// answer.
     pub(crate) fn asks_device(
         &mut self,
         alloc: Global,
@@ -23,7 +24,8 @@ impl Conf {
         answer: &Answer,
     ) -> Result<Option<End>, Memory>
         requires { IsSome (device_step (standing self.old info.now) dst answer.now) }
-        ensures { IfOk result (λ end. Some (leads_to self.old end self.new) ≡ device_step (standing self.old info.now) dst answer.now) }
+        ensures { IfOk result (λ end. Some (leads_to self.old end self.new)
+            ≡ device_step (standing self.old info.now) dst answer.now) }
     {
         match answer {
             Answer::Device(primitive) => self.constant(alloc, info, dst, primitive),
@@ -33,8 +35,8 @@ impl Conf {
     }
 }
 
-/// What a device is given, in memory of its own: the primitive values among the arguments of the function that
-/// runs, in order. Objects are left out, with which no device is asked.
+/// What a device is given, in memory of its own: the primitive values among the arguments of the
+/// function that runs, in order. Objects are left out, with which no device is asked.
 ///
 /// # Errors
 ///

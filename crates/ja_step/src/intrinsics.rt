@@ -15,7 +15,8 @@ use std::alloc::Global;
 impl Conf {
     /// The node sets a register to what an operation gives, or leaves the profile.
     fn sets_given(&mut self, info: &NodeInfo, dst: Reg, outcome: Outcome) -> Option<End>
-        ensures { leads_to self.old result self.new ≡ sets_given (standing self.old info.now) dst (Some outcome) }
+        ensures { leads_to self.old result self.new
+            ≡ sets_given (standing self.old info.now) dst (Some outcome) }
     {
         match outcome {
             Ok(primitive) => self.sets(info, dst, Value::Primitive(primitive)),
@@ -33,7 +34,8 @@ impl Conf {
         a: Reg,
     ) -> Result<Option<End>, Memory>
         requires { arguments_taken which ≡ Some 1 }
-        ensures { IfOk result (λ end. leads_to self.old end self.new ≡ intrinsic_step (standing self.old info.now) dst which (held self.old a ∷ [])) }
+        ensures { IfOk result (λ end. leads_to self.old end self.new
+            ≡ intrinsic_step (standing self.old info.now) dst which (held self.old a ∷ [])) }
     {
         let value = self.frame.held(alloc, a)?;
         let outcome = of_one(alloc, &self.heap, which, &value)?;
@@ -51,7 +53,9 @@ impl Conf {
         b: Reg,
     ) -> Result<Option<End>, Memory>
         requires { arguments_taken which ≡ Some 2 }
-        ensures { IfOk result (λ end. leads_to self.old end self.new ≡ intrinsic_step (standing self.old info.now) dst which (held self.old a ∷ held self.old b ∷ [])) }
+        ensures { IfOk result (λ end. leads_to self.old end self.new
+            ≡ intrinsic_step (standing self.old info.now) dst which
+            (held self.old a ∷ held self.old b ∷ [])) }
     {
         let first = self.frame.held(alloc, a)?;
         let second = self.frame.held(alloc, b)?;
@@ -69,7 +73,8 @@ impl Conf {
         args: &[Reg],
     ) -> Result<Option<End>, Memory>
         requires { arguments_taken which ≡ Some (length args.now) }
-        ensures { IfOk result (λ end. leads_to self.old end self.new ≡ intrinsic_step (standing self.old info.now) dst which (map (held self.old) args.now)) }
+        ensures { IfOk result (λ end. leads_to self.old end self.new
+            ≡ intrinsic_step (standing self.old info.now) dst which (map (held self.old) args.now)) }
     {
         match args {
             [a] => self.operates_on_one(alloc, info, dst, which, *a),

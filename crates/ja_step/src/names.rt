@@ -46,7 +46,8 @@ impl Conf {
         name: NameId,
     ) -> Option<End>
         requires { name.0 < length program.now.names }
-        ensures { leads_to self.old result self.new ≡ find_name_step program.now (standing self.old info.now) dst name (held self.old scope) }
+        ensures { leads_to self.old result self.new
+            ≡ find_name_step program.now (standing self.old info.now) dst name (held self.old scope) }
     {
         match self.frame.register(SCOPE) {
             Some(Value::Object(chain)) => {
@@ -66,7 +67,8 @@ impl Conf {
         a: Addr,
         name: &Text16,
     ) -> Result<Option<End>, Memory>
-        ensures { IfOk result (λ end. leads_to self.old end self.new ≡ sets_content (standing self.old info.now) dst (nodes.read self.old.heap a name.now)) }
+        ensures { IfOk result (λ end. leads_to self.old end self.new
+            ≡ sets_content (standing self.old info.now) dst (nodes.read self.old.heap a name.now)) }
     {
         let content = self.read(alloc, a, name)?;
         Ok(self.sets_content(info, dst, content))
@@ -84,7 +86,9 @@ impl Conf {
         error: Site,
     ) -> Result<Option<End>, Memory>
         requires { name.0 < length program.now.names }
-        ensures { IfOk result (λ end. leads_to self.old end self.new ≡ read_ref_step program.now (standing self.old info.now) dst name error (held self.old base)) }
+        ensures { IfOk result (λ end. leads_to self.old end self.new
+            ≡ read_ref_step program.now (standing self.old info.now) dst name error
+            (held self.old base)) }
     {
         let name = name_text(program, name);
         match self.frame.register(base) {
@@ -111,7 +115,8 @@ impl Conf {
         name: NameId,
     ) -> Result<Option<End>, Memory>
         requires { name.0 < length program.now.names }
-        ensures { IfOk result (λ end. leads_to self.old end self.new ≡ read_soft_step program.now (standing self.old info.now) dst name (held self.old base)) }
+        ensures { IfOk result (λ end. leads_to self.old end self.new
+            ≡ read_soft_step program.now (standing self.old info.now) dst name (held self.old base)) }
     {
         match self.frame.register(base) {
             Some(Value::Object(a)) => {

@@ -24,8 +24,10 @@ impl Conf {
         requires program { IsWellFormed program.now }
         requires info { (fn : Function) × IsNodeWellFormed program.now fn info.now }
         requires steps { self.old.steps < 2 ^ 64 - 1 }
-        requires fits { IsSome (node_step program.now (standing self.old info.now) answer.now info.now.node) }
-        ensures { IfOk result (λ end. node_step program.now (standing self.old info.now) answer.now info.now.node ≡ Some (leads_to self.old end self.new)) }
+        requires fits { IsSome (node_step program.now (standing self.old info.now) answer.now
+            info.now.node) }
+        ensures { IfOk result (λ end. node_step program.now (standing self.old info.now) answer.now
+            info.now.node ≡ Some (leads_to self.old end self.new)) }
     {
         match &info.node {
             Node::Const { dst, prim } => self.constant(alloc, info, *dst, prim),

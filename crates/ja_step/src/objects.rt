@@ -36,7 +36,8 @@ impl Conf {
         site: Site,
         made: Made,
     ) -> Result<Option<End>, Memory>
-        ensures { IfOk result (λ end. leads_to self.old end self.new ≡ makes (standing self.old info.now) dst site (empty_object made)) }
+        ensures { IfOk result (λ end. leads_to self.old end self.new
+            ≡ makes (standing self.old info.now) dst site (empty_object made)) }
     {
         let object = empty_object(alloc, made)?;
         self.makes(info, dst, site, object)
@@ -52,7 +53,8 @@ impl Conf {
         sites: Wrappers,
         error: Site,
     ) -> Result<Option<End>, Memory>
-        ensures { IfOk result (λ end. leads_to self.old end self.new ≡ to_object_step (standing self.old info.now) dst sites error (held self.old src)) }
+        ensures { IfOk result (λ end. leads_to self.old end self.new
+            ≡ to_object_step (standing self.old info.now) dst sites error (held self.old src)) }
     {
         match self.frame.register(src) {
             Some(Value::Object(a)) => {
@@ -86,7 +88,8 @@ impl Conf {
         src: Reg,
         error: Site,
     ) -> Result<Option<End>, Memory>
-        ensures { IfOk result (λ end. leads_to self.old end self.new ≡ need_object_step (standing self.old info.now) error (held self.old src)) }
+        ensures { IfOk result (λ end. leads_to self.old end self.new
+            ≡ need_object_step (standing self.old info.now) error (held self.old src)) }
     {
         match self.frame.register(src) {
             Some(Value::Object(_)) => Ok(self.goes_on(info)),
@@ -107,8 +110,8 @@ impl Conf {
         }
     }
 
-    /// Whether an object inherits from what a function has as its `prototype` (15.3.5.3), which is to be an
-    /// object.
+    /// Whether an object inherits from what a function has as its `prototype` (15.3.5.3), which is
+    /// to be an object.
     fn has_instance(
         &mut self,
         alloc: Global,
@@ -118,7 +121,9 @@ impl Conf {
         function: Addr,
         left: Addr,
     ) -> Result<Option<End>, Memory>
-        ensures { IfOk result (λ end. leads_to self.old end self.new ≡ has_instance (standing self.old info.now) dst not_object left (content_at self.old.heap function (codes "prototype"))) }
+        ensures { IfOk result (λ end. leads_to self.old end self.new
+            ≡ has_instance (standing self.old info.now) dst not_object left
+            (content_at self.old.heap function (codes "prototype"))) }
     {
         let name = Text16::from_ascii(alloc, b"prototype")?;
         match self.object_at(function, &name) {
@@ -143,7 +148,8 @@ impl Conf {
         function: Addr,
         left: Reg,
     ) -> Result<Option<End>, Memory>
-        ensures { IfOk result (λ end. leads_to self.old end self.new ≡ instance_of (standing self.old info.now) dst not_object function (held self.old left)) }
+        ensures { IfOk result (λ end. leads_to self.old end self.new
+            ≡ instance_of (standing self.old info.now) dst not_object function (held self.old left)) }
     {
         match self.frame.register(left) {
             Some(Value::Object(left)) => {
@@ -165,7 +171,9 @@ impl Conf {
         not_function: Site,
         not_object: Site,
     ) -> Result<Option<End>, Memory>
-        ensures { IfOk result (λ end. leads_to self.old end self.new ≡ instance_of_step (standing self.old info.now) dst not_function not_object (held self.old left) (held self.old right)) }
+        ensures { IfOk result (λ end. leads_to self.old end self.new
+            ≡ instance_of_step (standing self.old info.now) dst not_function not_object
+            (held self.old left) (held self.old right)) }
     {
         if let Some(Value::Object(function)) = self.frame.register(right) {
             let function = *function;

@@ -49,7 +49,8 @@ pub(crate) fn object_in(value: Option<&Value>) -> Option<Addr>
 impl Conf {
     /// The object and the key that two registers hold.
     fn place(&self, alloc: Global, object: Reg, key: Reg) -> Result<Option<(Addr, Text16)>, Memory>
-        ensures { IfOk result (λ place. place ≡ place_of (held self.now object) (key_of (held self.now key))) }
+        ensures { IfOk result (λ place. place
+            ≡ place_of (held self.now object) (key_of (held self.now key))) }
     {
         let Some(a) = object_in(self.frame.register(object)) else {
             return Ok(None);
@@ -69,7 +70,10 @@ impl Conf {
         object: Reg,
         key: Reg,
     ) -> Result<Option<End>, Memory>
-        ensures { IfOk result (λ end. leads_to self.old end self.new ≡ (let s = standing self.old info.now in on_property s (λ a name. sets_content s dst (nodes.read self.old.heap a name)) (held self.old object) (key_of (held self.old key)))) }
+        ensures { IfOk result (λ end. leads_to self.old end self.new
+            ≡ (let s = standing self.old info.now in
+            on_property s (λ a name. sets_content s dst (nodes.read self.old.heap a name))
+            (held self.old object) (key_of (held self.old key)))) }
     {
         match self.place(alloc, object, key)? {
             Some((a, key)) => self.reads(alloc, info, dst, a, &key),
@@ -77,7 +81,8 @@ impl Conf {
         }
     }
 
-    /// A property is put (8.6.2.2). A length of an array that is none throws a RangeError (15.4.5.1).
+    /// A property is put (8.6.2.2). A length of an array that is none throws a RangeError
+    /// (15.4.5.1).
     pub(crate) fn writes_property(
         &mut self,
         alloc: Global,
@@ -87,7 +92,10 @@ impl Conf {
         src: Reg,
         error: Site,
     ) -> Result<Option<End>, Memory>
-        ensures { IfOk result (λ end. leads_to self.old end self.new ≡ (let s = standing self.old info.now in on_property s (λ a name. puts s (wrong_length s error) a name (held self.old src)) (held self.old object) (key_of (held self.old key)))) }
+        ensures { IfOk result (λ end. leads_to self.old end self.new
+            ≡ (let s = standing self.old info.now in
+            on_property s (λ a name. puts s (wrong_length s error) a name (held self.old src))
+            (held self.old object) (key_of (held self.old key)))) }
     {
         let Some((a, key)) = self.place(alloc, object, key)? else {
             return Ok(self.left_scope(info, ScopeKind::Register));
@@ -105,7 +113,9 @@ impl Conf {
         object: Reg,
         key: Reg,
     ) -> Result<Option<End>, Memory>
-        ensures { IfOk result (λ end. leads_to self.old end self.new ≡ (let s = standing self.old info.now in on_property s (deletes s dst) (held self.old object) (key_of (held self.old key)))) }
+        ensures { IfOk result (λ end. leads_to self.old end self.new
+            ≡ (let s = standing self.old info.now in
+            on_property s (deletes s dst) (held self.old object) (key_of (held self.old key)))) }
     {
         match self.place(alloc, object, key)? {
             Some((a, key)) => Ok(self.deletes(info, dst, a, &key)),
@@ -122,7 +132,10 @@ impl Conf {
         object: Reg,
         key: Reg,
     ) -> Result<Option<End>, Memory>
-        ensures { IfOk result (λ end. leads_to self.old end self.new ≡ (let s = standing self.old info.now in on_property s (λ a name. sets s dst (bool_value (has self.old.heap a name))) (held self.old object) (key_of (held self.old key)))) }
+        ensures { IfOk result (λ end. leads_to self.old end self.new
+            ≡ (let s = standing self.old info.now in
+            on_property s (λ a name. sets s dst (bool_value (has self.old.heap a name)))
+            (held self.old object) (key_of (held self.old key)))) }
     {
         match self.place(alloc, object, key)? {
             Some((a, key)) => {

@@ -31,7 +31,8 @@ impl Conf {
         info: &NodeInfo,
         src: Reg,
     ) -> Result<Option<End>, Memory>
-        ensures { IfOk result (λ end. leads_to self.old end self.new ≡ throws_value (standing self.old info.now) self.old.heap (held self.old src)) }
+        ensures { IfOk result (λ end. leads_to self.old end self.new
+            ≡ throws_value (standing self.old info.now) self.old.heap (held self.old src)) }
     {
         let value = self.frame.held(alloc, src)?;
         Ok(self.throws_value(info, value))
@@ -39,7 +40,9 @@ impl Conf {
 
     /// A caller goes on at a node, with a value in a register.
     fn goes_back(&mut self, mut caller: Frame, dst: Reg, value: Value, next: NodeId) -> Option<End>
-        ensures { let c = conf_of self.old in leads_to self.old result self.new ≡ next_state c c.heap (with_result (frame_of caller) dst value next ∷ below_of self.old) }
+        ensures { let c = conf_of self.old in
+            leads_to self.old result self.new ≡ next_state c c.heap
+            (with_result (frame_of caller) dst value next ∷ below_of self.old) }
     {
         caller.set_register(dst, value);
         caller.node = next;
@@ -47,8 +50,8 @@ impl Conf {
         None
     }
 
-    /// The function is left with a value, which the caller's node takes. The program's Return ends the run. The
-    /// machine has a step, so the caller stands at a node that enters functions.
+    /// The function is left with a value, which the caller's node takes. The program's Return ends
+    /// the run. The machine has a step, so the caller stands at a node that enters functions.
     pub(crate) fn returns(
         &mut self,
         alloc: Global,
@@ -56,8 +59,10 @@ impl Conf {
         info: &NodeInfo,
         src: Reg,
     ) -> Result<Option<End>, Memory>
-        requires { IsSome (calls.return_step program.now (standing self.old info.now) (below_of self.old) (held self.old src)) }
-        ensures { IfOk result (λ end. calls.return_step program.now (standing self.old info.now) (below_of self.old) (held self.old src) ≡ Some (leads_to self.old end self.new)) }
+        requires { IsSome (calls.return_step program.now (standing self.old info.now)
+            (below_of self.old) (held self.old src)) }
+        ensures { IfOk result (λ end. calls.return_step program.now (standing self.old info.now)
+            (below_of self.old) (held self.old src) ≡ Some (leads_to self.old end self.new)) }
     {
         let value = self.frame.held(alloc, src)?;
         let Some(caller) = self.below.pop() else {
@@ -77,16 +82,18 @@ impl Conf {
         }
     }
 
-    /// The function is left with what was thrown, which goes to the handler of the caller's node. The program's Escape
-    /// ends the run. The machine has a step, so the caller stands at a node.
+    /// The function is left with what was thrown, which goes to the handler of the caller's node.
+    /// The program's Escape ends the run. The machine has a step, so the caller stands at a node.
     pub(crate) fn escapes(
         &mut self,
         alloc: Global,
         program: &Program,
         info: &NodeInfo,
     ) -> Result<Option<End>, Memory>
-        requires { IsSome (calls.escape_step program.now (standing self.old info.now) (below_of self.old) (held self.old thrown)) }
-        ensures { IfOk result (λ end. calls.escape_step program.now (standing self.old info.now) (below_of self.old) (held self.old thrown) ≡ Some (leads_to self.old end self.new)) }
+        requires { IsSome (calls.escape_step program.now (standing self.old info.now)
+            (below_of self.old) (held self.old thrown)) }
+        ensures { IfOk result (λ end. calls.escape_step program.now (standing self.old info.now)
+            (below_of self.old) (held self.old thrown) ≡ Some (leads_to self.old end self.new)) }
     {
         let value = self.frame.held(alloc, THROWN)?;
         let Some(caller) = self.below.pop() else {

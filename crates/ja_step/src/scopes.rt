@@ -1,5 +1,5 @@
-//! The nodes that make functions and objects of a scope chain, and those that add to them (ES3 10.1.3, 12.14,
-//! 13).
+//! The nodes that make functions and objects of a scope chain, and those that add to them (ES3
+//! 10.1.3, 12.14, 13).
 
 ghost use Rattle.std.specs.Prelude.{◌≡◌, ◌<◌, ◌≤◌, IfOk, length};
 ghost use Rattle.ja_machine.specs.Frames.{scope, parameters_of};
@@ -40,7 +40,8 @@ impl Conf {
         }
     }
 
-    /// A function object and the object that its constructions inherit from, each with the other (13.2).
+    /// A function object and the object that its constructions inherit from, each with the other
+    /// (13.2).
     pub(crate) fn makes_function(
         &mut self,
         alloc: Global,
@@ -52,7 +53,9 @@ impl Conf {
         proto_site: Site,
     ) -> Result<Option<End>, Memory>
         requires { parameters_of program.now function ≤ 9007199254740991 }
-        ensures { IfOk result (λ end. leads_to self.old end self.new ≡ make_function_step program.now (standing self.old info.now) dst function site proto_site (held self.old scope)) }
+        ensures { IfOk result (λ end. leads_to self.old end self.new
+            ≡ make_function_step program.now (standing self.old info.now) dst function site
+            proto_site (held self.old scope)) }
     {
         match self.frame.register(SCOPE) {
             Some(Value::Object(chain)) => {
@@ -76,7 +79,12 @@ impl Conf {
         proto_site: Site,
     ) -> Result<Option<End>, Memory>
         requires { parameters ≤ 9007199254740991 }
-        ensures { IfOk result (λ end. leads_to self.old end self.new ≡ (let h = self.old.heap in let f = new_address h site in sets_in (standing self.old info.now) (with_new (with_new h site (objects.function_object parameters chain (new_address h proto_site))) proto_site (objects.prototype_object f)) dst (value.Object f))) }
+        ensures { IfOk result (λ end. leads_to self.old end self.new
+            ≡ (let h = self.old.heap in let f = new_address h site in
+            sets_in (standing self.old info.now)
+            (with_new (with_new h site (objects.function_object parameters chain
+            (new_address h proto_site))) proto_site (objects.prototype_object f)) dst
+            (value.Object f))) }
     {
         let prototype = self.new_address(proto_site);
         let object = function_object(alloc, parameters, chain, prototype)?;
@@ -95,7 +103,8 @@ impl Conf {
         name: NameId,
     ) -> Result<Option<End>, Memory>
         requires { name.0 < length program.now.names }
-        ensures { IfOk result (λ end. leads_to self.old end self.new ≡ declare_step program.now (standing self.old info.now) name (held self.old scope)) }
+        ensures { IfOk result (λ end. leads_to self.old end self.new
+            ≡ declare_step program.now (standing self.old info.now) name (held self.old scope)) }
     {
         match self.frame.register(SCOPE) {
             Some(Value::Object(a)) => {
@@ -111,8 +120,8 @@ impl Conf {
         }
     }
 
-    /// A name is defined on the object in `scope` (10.1.3, 12.14, 13). A value that a parameter shares with
-    /// `arguments` leaves the profile.
+    /// A name is defined on the object in `scope` (10.1.3, 12.14, 13). A value that a parameter
+    /// shares with `arguments` leaves the profile.
     pub(crate) fn binds(
         &mut self,
         alloc: Global,
@@ -123,7 +132,9 @@ impl Conf {
         read_only: bool,
     ) -> Result<Option<End>, Memory>
         requires { name.0 < length program.now.names }
-        ensures { IfOk result (λ end. leads_to self.old end self.new ≡ bind_step program.now (standing self.old info.now) name read_only (held self.old src) (held self.old scope)) }
+        ensures { IfOk result (λ end. leads_to self.old end self.new
+            ≡ bind_step program.now (standing self.old info.now) name read_only (held self.old src)
+            (held self.old scope)) }
     {
         match self.frame.register(SCOPE) {
             Some(Value::Object(a)) => {
@@ -153,7 +164,8 @@ impl Conf {
         info: &NodeInfo,
         site: Site,
     ) -> Result<Option<End>, Memory>
-        ensures { IfOk result (λ end. leads_to self.old end self.new ≡ push_scope_step (standing self.old info.now) site (held self.old scope)) }
+        ensures { IfOk result (λ end. leads_to self.old end self.new
+            ≡ push_scope_step (standing self.old info.now) site (held self.old scope)) }
     {
         match self.frame.register(SCOPE) {
             Some(Value::Object(outer)) => {

@@ -24,7 +24,8 @@ impl Conf {
         dst: Reg,
         primitive: &Primitive,
     ) -> Result<Option<End>, Memory>
-        ensures { IfOk result (λ end. leads_to self.old end self.new ≡ sets (standing self.old info.now) dst (value.Primitive primitive.now)) }
+        ensures { IfOk result (λ end. leads_to self.old end self.new
+            ≡ sets (standing self.old info.now) dst (value.Primitive primitive.now)) }
     {
         let copy = primitive.copy()?;
         Ok(self.sets(info, dst, Value::Primitive(copy)))
@@ -38,7 +39,8 @@ impl Conf {
         dst: Reg,
         src: Reg,
     ) -> Result<Option<End>, Memory>
-        ensures { IfOk result (λ end. leads_to self.old end self.new ≡ sets (standing self.old info.now) dst (held self.old src)) }
+        ensures { IfOk result (λ end. leads_to self.old end self.new
+            ≡ sets (standing self.old info.now) dst (held self.old src)) }
     {
         let held = self.frame.held(alloc, src)?;
         Ok(self.sets(info, dst, held))
@@ -53,7 +55,9 @@ impl Conf {
         op: UnaryOp,
         src: Reg,
     ) -> Result<Option<End>, Memory>
-        ensures { IfOk result (λ end. leads_to self.old end self.new ≡ sets_outcome (standing self.old info.now) dst (unary self.old.heap op (held self.old src))) }
+        ensures { IfOk result (λ end. leads_to self.old end self.new
+            ≡ sets_outcome (standing self.old info.now) dst
+            (unary self.old.heap op (held self.old src))) }
     {
         let undefined = Value::Primitive(Primitive::Undefined);
         let value = self.frame.register(src).unwrap_or(&undefined);
@@ -71,7 +75,9 @@ impl Conf {
         a: Reg,
         b: Reg,
     ) -> Result<Option<End>, Memory>
-        ensures { IfOk result (λ end. leads_to self.old end self.new ≡ sets_outcome (standing self.old info.now) dst (binary op (held self.old a) (held self.old b))) }
+        ensures { IfOk result (λ end. leads_to self.old end self.new
+            ≡ sets_outcome (standing self.old info.now) dst
+            (binary op (held self.old a) (held self.old b))) }
     {
         let undefined = Value::Primitive(Primitive::Undefined);
         let a = self.frame.register(a).unwrap_or(&undefined);
@@ -82,7 +88,8 @@ impl Conf {
 
     /// To `next` on true, to `other` on false. Other values aren't taken.
     pub(crate) fn branches(&mut self, info: &NodeInfo, src: Reg) -> Option<End>
-        ensures { leads_to self.old result self.new ≡ branch_step (standing self.old info.now) (held self.old src) }
+        ensures { leads_to self.old result self.new
+            ≡ branch_step (standing self.old info.now) (held self.old src) }
     {
         match self.frame.register(src) {
             Some(Value::Primitive(Primitive::Bool(true))) => self.goes_on(info),

@@ -13,7 +13,8 @@ use ja_machine::{Value, Wants};
 
 /// The node at which a frame stands, if the program has it.
 pub(crate) fn node_of<'a>(program: &'a Program, frame: &Frame) -> Option<&'a NodeInfo>
-    ensures { option_map (λ info. info.now) result ≡ node_at program.now frame.now.function frame.now.node }
+    ensures { option_map (λ info. info.now) result
+        ≡ node_at program.now frame.now.function frame.now.node }
 {
     match program.functions.as_slice().get(frame.function.0 as usize) {
         Some(function) => function.nodes.as_slice().get(frame.node.0 as usize),
@@ -48,7 +49,8 @@ impl Frame {
 impl Conf {
     /// What a node wants that takes a name: a place among those that are shown, if there are some.
     fn pick_wants(&self, list: Reg, object: Reg) -> Wants
-        ensures { result ≡ pick_wants self.now.heap (frame_of self.now.frame) list (held self.now object) }
+        ensures { result ≡ pick_wants self.now.heap (frame_of self.now.frame) list
+            (held self.now object) }
     {
         match self.frame.register(object) {
             Some(Value::Object(a)) => match self.shown_count(list, *a) {
@@ -61,9 +63,11 @@ impl Conf {
 }
 
 impl Conf {
-    /// The same, where names aren't counted: the place of the first of those that are shown, if there are some.
+    /// The same, where names aren't counted: the place of the first of those that are shown, if
+    /// there are some.
     fn first_pick(&self, list: Reg, object: Reg) -> Wants
-        ensures { result ≡ uncounted (pick_wants self.now.heap (frame_of self.now.frame) list (held self.now object)) }
+        ensures { result ≡ uncounted (pick_wants self.now.heap (frame_of self.now.frame) list
+            (held self.now object)) }
     {
         match self.frame.register(object) {
             Some(Value::Object(a)) => match self.shown_at(list, *a, 0) {
@@ -75,8 +79,8 @@ impl Conf {
     }
 }
 
-/// What a state wants of the outside before its next step: leave to go on, an answer of a device, or a place
-/// below a number. A state that stands at no node wants leave to go on.
+/// What a state wants of the outside before its next step: leave to go on, an answer of a device,
+/// or a place below a number. A state that stands at no node wants leave to go on.
 pub fn wants(program: &Program, conf: &Conf) -> Wants
     ensures { result ≡ wants program.now (conf_of conf.now) }
 {

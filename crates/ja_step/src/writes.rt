@@ -25,7 +25,9 @@ impl Conf {
         value: Value,
         error: Site,
     ) -> Result<Option<End>, Memory>
-        ensures { IfOk result (λ end. leads_to self.old end self.new ≡ puts (standing self.old info.now) (wrong_length (standing self.old info.now) error) a name.now value) }
+        ensures { IfOk result (λ end. leads_to self.old end self.new
+            ≡ puts (standing self.old info.now) (wrong_length (standing self.old info.now) error) a
+            name.now value) }
     {
         match self.heap.put(alloc, a, name, value)? {
             Put::Done | Put::Ignored => Ok(self.goes_on(info)),
@@ -47,7 +49,9 @@ impl Conf {
         name: &Text16,
         value: Value,
     ) -> Result<Option<End>, Memory>
-        ensures { IfOk result (λ end. leads_to self.old end self.new ≡ puts (standing self.old info.now) (not_taken (standing self.old info.now)) a name.now value) }
+        ensures { IfOk result (λ end. leads_to self.old end self.new
+            ≡ puts (standing self.old info.now) (not_taken (standing self.old info.now)) a name.now
+            value) }
     {
         match self.heap.put(alloc, a, name, value)? {
             Put::Done | Put::Ignored => Ok(self.goes_on(info)),
@@ -67,7 +71,8 @@ impl Conf {
         }
     }
 
-    /// A name is written on the object that has it, and where there is none, on the global object (8.7.2).
+    /// A name is written on the object that has it, and where there is none, on the global object
+    /// (8.7.2).
     pub(crate) fn writes_name(
         &mut self,
         alloc: Global,
@@ -78,7 +83,9 @@ impl Conf {
         src: Reg,
     ) -> Result<Option<End>, Memory>
         requires { name.0 < length program.now.names }
-        ensures { IfOk result (λ end. leads_to self.old end self.new ≡ write_ref_step program.now (standing self.old info.now) name (held self.old src) (held self.old base)) }
+        ensures { IfOk result (λ end. leads_to self.old end self.new
+            ≡ write_ref_step program.now (standing self.old info.now) name (held self.old src)
+            (held self.old base)) }
     {
         let a = match self.frame.register(base) {
             Some(Value::Object(a)) => {
@@ -95,8 +102,8 @@ impl Conf {
         self.puts_name(alloc, info, a, name_text(program, name), value)
     }
 
-    /// A property is deleted, and a register is set to whether it could be. A value that a parameter shares
-    /// with `arguments` isn't deleted.
+    /// A property is deleted, and a register is set to whether it could be. A value that a
+    /// parameter shares with `arguments` isn't deleted.
     pub(crate) fn deletes(
         &mut self,
         info: &NodeInfo,
@@ -104,7 +111,8 @@ impl Conf {
         a: Addr,
         name: &Text16,
     ) -> Option<End>
-        ensures { leads_to self.old result self.new ≡ deletes (standing self.old info.now) dst a name.now }
+        ensures { leads_to self.old result self.new
+            ≡ deletes (standing self.old info.now) dst a name.now }
     {
         if self.heap.can_delete(a, name) && self.heap.is_shared(a, name) {
             return self.left_scope(info, ScopeKind::SharedArgument);
@@ -123,7 +131,8 @@ impl Conf {
         name: NameId,
     ) -> Option<End>
         requires { name.0 < length program.now.names }
-        ensures { leads_to self.old result self.new ≡ delete_ref_step program.now (standing self.old info.now) dst name (held self.old base) }
+        ensures { leads_to self.old result self.new
+            ≡ delete_ref_step program.now (standing self.old info.now) dst name (held self.old base) }
     {
         match self.frame.register(base) {
             Some(Value::Object(a)) => {

@@ -1,10 +1,11 @@
-pub mod SymbolSamples
-mod Lookups
-mod ArgumentsLemmas
 mod ArgumentsInStatements
-mod NamesLemmas
+mod ArgumentsLemmas
 mod HoistedLemmas
-mod ReferenceLemmas
 pub mod JumpLemmas
+mod Lookups
+mod NamesLemmas
+mod ReferenceLemmas
 mod RuleSamples
+pub mod Rulesets
 mod SpellingLemmas
+pub mod SymbolSamples

@@ -15,76 +15,99 @@ Texts = List (Bor (List ℕ))
 abbrev pub nows : Texts → List (List ℕ)
 nows ts = map (λ t. t.now) ts
 
-any_now : (t : List ℕ) (ks : Texts) → list_any (λ k. bytes_eq t k.now) ks ≡ list_any (bytes_eq t) (nows ks)
+any_now : (t : List ℕ) (ks : Texts) → list_any (λ k. bytes_eq t k.now) ks
+    ≡ list_any (bytes_eq t) (nows ks)
 any_now t [] = refl
 any_now t (k ∷ ks) = ap (λ b. bytes_eq t k.now || b) (any_now t ks)
 
 -- a text that is put into the set is a name that is added
-pub inserted_now : (ks : Texts) (k : Bor (List ℕ)) → nows (insert_key (λ a b. bytes_eq a.now b.now) ks k) ≡ with_name (nows ks) k.now
+pub inserted_now : (ks : Texts) (k : Bor (List ℕ))
+    → nows (insert_key (λ a b. bytes_eq a.now b.now) ks k) ≡ with_name (nows ks) k.now
 inserted_now ks k = either (list_any (λ t. bytes_eq k.now t.now) ks) (any_now k.now ks)
   where
-    either : (b : Bool) → b ≡ list_any (bytes_eq k.now) (nows ks) → nows (if b then ks else ks ++ k ∷ []) ≡ with_name (nows ks) k.now
+    either : (b : Bool) → b ≡ list_any (bytes_eq k.now) (nows ks)
+        → nows (if b then ks else ks ++ k ∷ []) ≡ with_name (nows ks) k.now
     either true is = rw (← is) refl
     either false is = rw (← is) (map_push (λ t. t.now) ks k)
 
 -- a text is among those that aren't another where it is among all
-any-filter : (t x : List ℕ) (ys : List (List ℕ)) → bytes_eq x t ≡ false → list_any (bytes_eq t) (filter (λ u. not (bytes_eq x u)) ys) ≡ list_any (bytes_eq t) ys
+any-filter : (t x : List ℕ) (ys : List (List ℕ)) → bytes_eq x t ≡ false
+    → list_any (bytes_eq t) (filter (λ u. not (bytes_eq x u)) ys) ≡ list_any (bytes_eq t) ys
 any-filter t x [] differs = refl
 any-filter t x (y ∷ ys) differs = at (bytes_eq x y) refl (any-filter t x ys differs)
   where
-    at : (b : Bool) → bytes_eq x y ≡ b → list_any (bytes_eq t) (filter (λ u. not (bytes_eq x u)) ys) ≡ list_any (bytes_eq t) ys → list_any (bytes_eq t) (cond (not (bytes_eq x y)) (y ∷ filter (λ u. not (bytes_eq x u)) ys) (filter (λ u. not (bytes_eq x u)) ys)) ≡ (bytes_eq t y || list_any (bytes_eq t) ys)
+    at : (b : Bool) → bytes_eq x y ≡ b → list_any (bytes_eq t) (filter (λ u. not (bytes_eq x u)) ys)
+        ≡ list_any (bytes_eq t) ys → list_any (bytes_eq t)
+        (cond (not (bytes_eq x y)) (y ∷ filter (λ u. not (bytes_eq x u)) ys)
+        (filter (λ u. not (bytes_eq x u)) ys)) ≡ (bytes_eq t y || list_any (bytes_eq t) ys)
     at true e rest =
         let same : x ≡ y = (bytes_decides x y).0 e in
-        let apart : bytes_eq t y ≡ false = ap (bytes_eq t) (sym same) ∙ nat_list_eq_equiv.symm t x ∙ differs in
+        let apart : bytes_eq t y ≡ false = ap (bytes_eq t) (sym same) ∙ nat_list_eq_equiv.symm t x
+        ∙ differs in
         rw (e, apart) rest
     at false e rest = rw e (ap (λ b. bytes_eq t y || b) rest)
 
 -- a filter of a list with one more element
-filter-push-kept : {X : Type 0} (p : X → Bool) (xs : List X) (x : X) → p x ≡ true → filter p (xs ++ x ∷ []) ≡ filter p xs ++ x ∷ []
+filter-push-kept : {X : Type 0} (p : X → Bool) (xs : List X) (x : X) → p x ≡ true
+    → filter p (xs ++ x ∷ []) ≡ filter p xs ++ x ∷ []
 filter-push-kept p [] x kept = rw kept refl
 filter-push-kept p (y ∷ ys) x kept = at (p y) (filter-push-kept p ys x kept)
   where
-    at : (b : Bool) → filter p (ys ++ x ∷ []) ≡ filter p ys ++ x ∷ [] → cond b (y ∷ filter p (ys ++ x ∷ [])) (filter p (ys ++ x ∷ [])) ≡ cond b (y ∷ filter p ys) (filter p ys) ++ x ∷ []
+    at : (b : Bool) → filter p (ys ++ x ∷ []) ≡ filter p ys ++ x ∷ []
+        → cond b (y ∷ filter p (ys ++ x ∷ [])) (filter p (ys ++ x ∷ []))
+        ≡ cond b (y ∷ filter p ys) (filter p ys) ++ x ∷ []
     at true rest = ap (λ zs. y ∷ zs) rest
     at false rest = rest
 
-filter-push-dropped : {X : Type 0} (p : X → Bool) (xs : List X) (x : X) → p x ≡ false → filter p (xs ++ x ∷ []) ≡ filter p xs
+filter-push-dropped : {X : Type 0} (p : X → Bool) (xs : List X) (x : X) → p x ≡ false
+    → filter p (xs ++ x ∷ []) ≡ filter p xs
 filter-push-dropped p [] x dropped = rw dropped refl
-filter-push-dropped p (y ∷ ys) x dropped = ap (λ zs. cond (p y) (y ∷ zs) zs) (filter-push-dropped p ys x dropped)
+filter-push-dropped p (y ∷ ys) x dropped =
+    ap (λ zs. cond (p y) (y ∷ zs) zs) (filter-push-dropped p ys x dropped)
 
 -- what is left of the texts without x, and t behind them where it is new
-filter-with_name : (x t : List ℕ) (ys : List (List ℕ)) → x ∷ filter (λ u. not (bytes_eq x u)) (with_name ys t) ≡ with_name (x ∷ filter (λ u. not (bytes_eq x u)) ys) t
+filter-with_name : (x t : List ℕ) (ys : List (List ℕ))
+    → x ∷ filter (λ u. not (bytes_eq x u)) (with_name ys t)
+    ≡ with_name (x ∷ filter (λ u. not (bytes_eq x u)) ys) t
 filter-with_name x t ys = at (bytes_eq x t) refl (list_any (bytes_eq t) ys) refl
   where
-    at : (b : Bool) → bytes_eq x t ≡ b → (a : Bool) → list_any (bytes_eq t) ys ≡ a → x ∷ filter (λ u. not (bytes_eq x u)) (with_name ys t) ≡ with_name (x ∷ filter (λ u. not (bytes_eq x u)) ys) t
+    at : (b : Bool) → bytes_eq x t ≡ b → (a : Bool) → list_any (bytes_eq t) ys ≡ a
+        → x ∷ filter (λ u. not (bytes_eq x u)) (with_name ys t)
+        ≡ with_name (x ∷ filter (λ u. not (bytes_eq x u)) ys) t
     at true e true known =
         let here : bytes_eq t x ≡ true = nat_list_eq_equiv.symm t x ∙ e in
         rw (known, here) refl
     at true e false fresh =
         let here : bytes_eq t x ≡ true = nat_list_eq_equiv.symm t x ∙ e in
         let dropped : not (bytes_eq x t) ≡ false = ap not e in
-        rw (fresh, here) (ap (λ zs. x ∷ zs) (filter-push-dropped (λ u. not (bytes_eq x u)) ys t dropped))
+        rw (fresh, here) (ap (λ zs. x ∷ zs) (filter-push-dropped (λ u. not (bytes_eq x u)) ys t
+        dropped))
     at false e true known =
         let apart : bytes_eq t x ≡ false = nat_list_eq_equiv.symm t x ∙ e in
-        let kept : list_any (bytes_eq t) (filter (λ u. not (bytes_eq x u)) ys) ≡ true = any-filter t x ys e ∙ known in
+        let kept : list_any (bytes_eq t) (filter (λ u. not (bytes_eq x u)) ys)
+        ≡ true = any-filter t x ys e ∙ known in
         rw (known, apart, kept) refl
     at false e false fresh =
         let apart : bytes_eq t x ≡ false = nat_list_eq_equiv.symm t x ∙ e in
-        let still : list_any (bytes_eq t) (filter (λ u. not (bytes_eq x u)) ys) ≡ false = any-filter t x ys e ∙ fresh in
+        let still : list_any (bytes_eq t) (filter (λ u. not (bytes_eq x u)) ys)
+        ≡ false = any-filter t x ys e ∙ fresh in
         let kept : not (bytes_eq x t) ≡ true = ap not e in
-        rw (fresh, apart, still) (ap (λ zs. x ∷ zs) (filter-push-kept (λ u. not (bytes_eq x u)) ys t kept))
+        rw (fresh, apart, still) (ap (λ zs. x ∷ zs)
+        (filter-push-kept (λ u. not (bytes_eq x u)) ys t kept))
 
 once-push : (ts : List (List ℕ)) (t : List ℕ) → once (ts ++ t ∷ []) ≡ with_name (once ts) t
 unfolding once
 once-push [] t = refl
 once-push (x ∷ ts) t =
-    ap (λ ys. x ∷ filter (λ u. not (bytes_eq x u)) ys) (once-push ts t) ∙ filter-with_name x t (once ts)
+    ap (λ ys. x ∷ filter (λ u. not (bytes_eq x u)) ys) (once-push ts t)
+    ∙ filter-with_name x t (once ts)
 
 -- the texts one after another, each added where it is new, are each text once
 pub fold-with_name : (ts us : List (List ℕ)) → fold with_name (once ts) us ≡ once (ts ++ us)
 fold-with_name ts [] = ap once (sym (append-nil ts))
 fold-with_name ts (u ∷ us) =
-    ap (λ names. fold with_name names us) (sym (once-push ts u)) ∙ fold-with_name (ts ++ u ∷ []) us ∙ ap once (append_assoc ts (u ∷ []) us)
+    ap (λ names. fold with_name names us) (sym (once-push ts u)) ∙ fold-with_name (ts ++ u ∷ []) us
+    ∙ ap once (append_assoc ts (u ∷ []) us)
 
 pub added_once : (us : List (List ℕ)) → fold with_name [] us ≡ once us
 unfolding once

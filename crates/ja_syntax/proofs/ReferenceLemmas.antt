@@ -4,7 +4,8 @@ use Rattle.ja_syntax.specs.References.{ends_in_property, names_property}
 use Rattle.ja_syntax.specs.declared.tree.Suffix.{Suffix}
 use Rattle.ja_syntax.specs.declared.tree.Expression.{Expression}
 
-pub ends_at : (xs : List (Suffix Expression)) (d : Suffix Expression) → 0 < length xs → ends_in_property xs ≡ names_property (get_or xs (length xs - 1) d)
+pub ends_at : (xs : List (Suffix Expression)) (d : Suffix Expression) → 0 < length xs
+    → ends_in_property xs ≡ names_property (get_or xs (length xs - 1) d)
 ends_at [] d h = absurd (omega arith)
 ends_at (x ∷ []) d h = refl
 ends_at (x ∷ (y ∷ ys)) d h =

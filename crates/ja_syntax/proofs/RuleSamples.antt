@@ -22,27 +22,45 @@ module _ (p : Place) (x : Expression) (f : FunctionOf Statement) where
   -- while (x) break;
   break_in_a_loop : body_jumps_well false (s.While x (s.Break None p) p ∷ []) ≡ true
   unfolding body_jumps_well around_body within_loop
-  break_in_a_loop = rw (jumps_while x (s.Break None p) p (around_body false), jumps_break None p (within_loop (around_body false))) refl
+  break_in_a_loop =
+      rw (
+        jumps_while x (s.Break None p) p (around_body false),
+        jumps_break None p (within_loop (around_body false)),
+      ) refl
 
   -- L: while (x) continue L;
-  continue_the_loop : body_jumps_well false (s.Labelled label (s.While x (s.Continue (Some label) p) p) ∷ []) ≡ true
+  continue_the_loop : body_jumps_well false
+      (s.Labelled label (s.While x (s.Continue (Some label) p) p) ∷ []) ≡ true
   unfolding body_jumps_well around_body within_loop labelled is_among
-  continue_the_loop = rw (jumps_labelled label (s.While x (s.Continue (Some label) p) p) (around_body false), jumps_while x (s.Continue (Some label) p) p (labelled label.text (around_body false)), jumps_continue (Some label) p (within_loop (labelled label.text (around_body false)))) refl
+  continue_the_loop =
+      rw (
+        jumps_labelled label (s.While x (s.Continue (Some label) p) p) (around_body false),
+        jumps_while x (s.Continue (Some label) p) p (labelled label.text (around_body false)),
+        jumps_continue (Some label) p (within_loop (labelled label.text (around_body false))),
+      ) refl
 
   -- L: { while (x) continue L; }
-  continue_a_block : body_jumps_well false (s.Labelled label (s.Block (s.While x (s.Continue (Some label) p) p ∷ []) p) ∷ []) ≡ false
+  continue_a_block : body_jumps_well false
+      (s.Labelled label (s.Block (s.While x (s.Continue (Some label) p) p ∷ []) p) ∷ []) ≡ false
   unfolding body_jumps_well around_body within within_loop labelled is_among
   continue_a_block = rw (
-    jumps_labelled label (s.Block (s.While x (s.Continue (Some label) p) p ∷ []) p) (around_body false),
-    jumps_block (s.While x (s.Continue (Some label) p) p ∷ []) p (labelled label.text (around_body false)),
+    jumps_labelled label (s.Block (s.While x (s.Continue (Some label) p) p ∷ []) p)
+        (around_body false),
+    jumps_block (s.While x (s.Continue (Some label) p) p ∷ []) p
+        (labelled label.text (around_body false)),
     jumps_while x (s.Continue (Some label) p) p (within (labelled label.text (around_body false))),
     jumps_continue (Some label) p (within_loop (within (labelled label.text (around_body false)))),
   ) refl
 
   -- L: L: break L;
-  label_in_itself : body_jumps_well false (s.Labelled label (s.Labelled label (s.Break (Some label) p)) ∷ []) ≡ false
+  label_in_itself : body_jumps_well false (s.Labelled label
+      (s.Labelled label (s.Break (Some label) p)) ∷ []) ≡ false
   unfolding body_jumps_well around_body labelled is_among
-  label_in_itself = rw (jumps_labelled label (s.Labelled label (s.Break (Some label) p)) (around_body false), jumps_labelled label (s.Break (Some label) p) (labelled label.text (around_body false))) refl
+  label_in_itself =
+      rw (
+        jumps_labelled label (s.Labelled label (s.Break (Some label) p)) (around_body false),
+        jumps_labelled label (s.Break (Some label) p) (labelled label.text (around_body false)),
+      ) refl
 
   -- return; in the program, and in a function
   return_in_the_program : body_jumps_well false (s.Return None p ∷ []) ≡ false
@@ -56,7 +74,11 @@ module _ (p : Place) (x : Expression) (f : FunctionOf Statement) where
   -- { function f() { .. } }
   function_in_a_block : body_jumps_well false (s.Block (s.Function f ∷ []) p ∷ []) ≡ false
   unfolding body_jumps_well around_body within
-  function_in_a_block = rw (jumps_block (s.Function f ∷ []) p (around_body false), jumps_function f (within (around_body false))) refl
+  function_in_a_block =
+      rw (
+        jumps_block (s.Function f ∷ []) p (around_body false),
+        jumps_function f (within (around_body false)),
+      ) refl
 
   function_at_the_top : body_jumps_well false (s.Function f ∷ []) ≡ true
   unfolding body_jumps_well around_body

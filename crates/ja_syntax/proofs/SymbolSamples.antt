@@ -305,7 +305,8 @@ pub shift_right_assign_is : symbol_of (Mark (codes ">>=")) ≡ symbol.ShiftRight
 unfolding symbol_of mark_symbol punctuators
 shift_right_assign_is = refl
 
-pub shift_right_unsigned_assign_is : symbol_of (Mark (codes ">>>=")) ≡ symbol.ShiftRightUnsignedAssign
+pub shift_right_unsigned_assign_is : symbol_of (Mark (codes ">>>="))
+    ≡ symbol.ShiftRightUnsignedAssign
 unfolding symbol_of mark_symbol punctuators
 shift_right_unsigned_assign_is = refl
 

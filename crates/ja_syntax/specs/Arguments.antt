@@ -76,7 +76,8 @@ abbrev pub in_finally : Option (List Bool) → Bool
 in_finally None = false
 in_finally (Some body) = any body
 
--- An expression mentions it by a name (11.1.2) alone: names of properties don't count, and a function has its own.
+-- An expression mentions it by a name (11.1.2) alone: names of properties don't count, and a
+-- function has its own.
 abbrev pub expression_step : Expression-F Bool Bool Bool → Bool
 expression_step (Expression-F.This place) = false
 expression_step (Expression-F.Name name) = names_arguments name.text
@@ -88,8 +89,10 @@ expression_step (Expression-F.Chain head suffixes) = head || list_any in_suffix 
 expression_step (Expression-F.New callee arguments place) = callee || any arguments
 expression_step (Expression-F.Unary operator operand place) = operand
 expression_step (Expression-F.Update operator operand place) = operand
-expression_step (Expression-F.Binary first operations place) = first || list_any in_operation operations
-expression_step (Expression-F.Conditional condition then otherwise place) = condition || (then || otherwise)
+expression_step (Expression-F.Binary first operations place) =
+    first || list_any in_operation operations
+expression_step (Expression-F.Conditional condition then otherwise place) =
+    condition || (then || otherwise)
 expression_step (Expression-F.Assign goal operator value place) = goal || value
 expression_step (Expression-F.Sequence first others place) = first || any others
 
@@ -99,10 +102,12 @@ statement_step (Statement-F.Block body place) = any body
 statement_step (Statement-F.Variables declarations place) = list_any in_declaration declarations
 statement_step (Statement-F.Empty place) = false
 statement_step (Statement-F.Expression value place) = value
-statement_step (Statement-F.If condition then otherwise place) = condition || (then || if_any otherwise)
+statement_step (Statement-F.If condition then otherwise place) =
+    condition || (then || if_any otherwise)
 statement_step (Statement-F.Do body condition place) = body || condition
 statement_step (Statement-F.While condition body place) = condition || body
-statement_step (Statement-F.For first condition update body place) = in_first first || (if_any condition || (if_any update || body))
+statement_step (Statement-F.For first condition update body place) =
+    in_first first || (if_any condition || (if_any update || body))
 statement_step (Statement-F.ForIn goal object body place) = in_target goal || (object || body)
 statement_step (Statement-F.Continue label place) = false
 statement_step (Statement-F.Break label place) = false
@@ -110,7 +115,8 @@ statement_step (Statement-F.Return value place) = if_any value
 statement_step (Statement-F.Labelled label body) = body
 statement_step (Statement-F.Switch value cases place) = value || any cases
 statement_step (Statement-F.Throw value place) = value
-statement_step (Statement-F.Try block catch finally place) = any block || (in_catch catch || in_finally finally)
+statement_step (Statement-F.Try block catch finally place) =
+    any block || (in_catch catch || in_finally finally)
 statement_step (Statement-F.Statement::Function function) = false
 
 -- a clause of a `switch` does (12.11)

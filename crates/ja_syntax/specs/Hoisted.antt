@@ -67,7 +67,8 @@ variables_step (Statement-F.Return value place) = []
 variables_step (Statement-F.Labelled label body) = body
 variables_step (Statement-F.Switch value cases place) = all_names cases
 variables_step (Statement-F.Throw value place) = []
-variables_step (Statement-F.Try block catch finally place) = all_names block ++ (catch_names catch ++ finally_names finally)
+variables_step (Statement-F.Try block catch finally place) =
+    all_names block ++ (catch_names catch ++ finally_names finally)
 -- Functions inside have variables of their own.
 variables_step (Statement-F.Statement::Function function) = []
 
@@ -88,6 +89,7 @@ unfoldable pub once : Texts → Texts
 once [] = []
 once (t ∷ ts) = t ∷ filter (λ u. not (bytes_eq t u)) (once ts)
 
--- The variables of a function's body or of the program: each name once, in the order in which the text has them first.
+-- The variables of a function's body or of the program: each name once, in the order in which the
+-- text has them first.
 unfoldable pub hoisted_variables : List Statement → Texts
 hoisted_variables statements = once (flat_map variables_of statements)

@@ -19,7 +19,8 @@ are_distinct (t ∷ ts) = not (list_any (bytes_eq t) ts) && are_distinct ts
 abbrev pub spellings : Symbol → ℕ
 spellings s = count_by (λ row. same_symbol row.1 s) (keywords ++ punctuators)
 
--- None of a name, a number, a string, the end, and what the grammar doesn't know; and of each other symbol one.
+-- None of a name, a number, a string, the end, and what the grammar doesn't know; and of each other
+-- symbol one.
 abbrev pub expected_spellings : Symbol → ℕ
 expected_spellings Name = 0
 expected_spellings Number = 0

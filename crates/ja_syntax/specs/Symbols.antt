@@ -16,46 +16,72 @@ use Rattle.ja_syntax.specs.declared.symbol.Symbol.TheVariants as symbol
 -- the keywords (7.5.2) but `with`, and `null`, `true` and `false` (7.8.1, 7.8.2)
 unfoldable pub keywords : List (List ℕ × Symbol)
 keywords =
-    (codes "break", symbol.Break) ∷ (codes "case", symbol.Case) ∷ (codes "catch", symbol.Catch) ∷ (codes "continue", symbol.Continue) ∷
-    (codes "default", symbol.Default) ∷ (codes "delete", symbol.Delete) ∷ (codes "do", symbol.Do) ∷ (codes "else", symbol.Else) ∷
-    (codes "false", symbol.False) ∷ (codes "finally", symbol.Finally) ∷ (codes "for", symbol.For) ∷ (codes "function", symbol.Function) ∷
-    (codes "if", symbol.If) ∷ (codes "in", symbol.In) ∷ (codes "instanceof", symbol.Instanceof) ∷ (codes "new", symbol.New) ∷
-    (codes "null", symbol.Null) ∷ (codes "return", symbol.Return) ∷ (codes "switch", symbol.Switch) ∷ (codes "this", symbol.This) ∷
-    (codes "throw", symbol.Throw) ∷ (codes "true", symbol.True) ∷ (codes "try", symbol.Try) ∷ (codes "typeof", symbol.Typeof) ∷
+    (codes "break", symbol.Break) ∷ (codes "case", symbol.Case) ∷ (codes "catch", symbol.Catch)
+    ∷ (codes "continue", symbol.Continue) ∷
+    (codes "default", symbol.Default) ∷ (codes "delete", symbol.Delete) ∷ (codes "do", symbol.Do)
+    ∷ (codes "else", symbol.Else) ∷
+    (codes "false", symbol.False) ∷ (codes "finally", symbol.Finally) ∷ (codes "for", symbol.For)
+    ∷ (codes "function", symbol.Function) ∷
+    (codes "if", symbol.If) ∷ (codes "in", symbol.In) ∷ (codes "instanceof", symbol.Instanceof)
+    ∷ (codes "new", symbol.New) ∷
+    (codes "null", symbol.Null) ∷ (codes "return", symbol.Return) ∷ (codes "switch", symbol.Switch)
+    ∷ (codes "this", symbol.This) ∷
+    (codes "throw", symbol.Throw) ∷ (codes "true", symbol.True) ∷ (codes "try", symbol.Try)
+    ∷ (codes "typeof", symbol.Typeof) ∷
     (codes "var", symbol.Var) ∷ (codes "void", symbol.Void) ∷ (codes "while", symbol.While) ∷ []
 
 -- the future reserved words (7.5.3)
 abbrev pub future_words : List (List ℕ)
 future_words =
-    codes "abstract" ∷ codes "boolean" ∷ codes "byte" ∷ codes "char" ∷ codes "class" ∷ codes "const" ∷ codes "debugger" ∷ codes "double" ∷
-    codes "enum" ∷ codes "export" ∷ codes "extends" ∷ codes "final" ∷ codes "float" ∷ codes "goto" ∷ codes "implements" ∷ codes "import" ∷
-    codes "int" ∷ codes "interface" ∷ codes "long" ∷ codes "native" ∷ codes "package" ∷ codes "private" ∷ codes "protected" ∷ codes "public" ∷
-    codes "short" ∷ codes "static" ∷ codes "super" ∷ codes "synchronized" ∷ codes "throws" ∷ codes "transient" ∷ codes "volatile" ∷ []
+    codes "abstract" ∷ codes "boolean" ∷ codes "byte" ∷ codes "char" ∷ codes "class" ∷ codes "const"
+    ∷ codes "debugger" ∷ codes "double" ∷
+    codes "enum" ∷ codes "export" ∷ codes "extends" ∷ codes "final" ∷ codes "float" ∷ codes "goto"
+    ∷ codes "implements" ∷ codes "import" ∷
+    codes "int" ∷ codes "interface" ∷ codes "long" ∷ codes "native" ∷ codes "package"
+    ∷ codes "private" ∷ codes "protected" ∷ codes "public" ∷
+    codes "short" ∷ codes "static" ∷ codes "super" ∷ codes "synchronized" ∷ codes "throws"
+    ∷ codes "transient" ∷ codes "volatile" ∷ []
 
 -- the words that leave the profile, with the kind of their refusal
 unfoldable pub refused_words : List (List ℕ × ScopeKind)
-refused_words = (codes "eval", scope.Eval) ∷ (codes "with", scope.With) ∷ map (λ word. (word, scope.ReservedWord)) future_words
+refused_words =
+    (codes "eval", scope.Eval) ∷ (codes "with", scope.With)
+    ∷ map (λ word. (word, scope.ReservedWord)) future_words
 
 -- the punctuators (7.7)
 unfoldable pub punctuators : List (List ℕ × Symbol)
 punctuators =
-    (codes "{", symbol.OpenBrace) ∷ (codes "}", symbol.CloseBrace) ∷ (codes "(", symbol.OpenParenthesis) ∷ (codes ")", symbol.CloseParenthesis) ∷
-    (codes "[", symbol.OpenBracket) ∷ (codes "]", symbol.CloseBracket) ∷ (codes ".", symbol.Dot) ∷ (codes ";", symbol.Semicolon) ∷
-    (codes ",", symbol.Comma) ∷ (codes "<", symbol.Less) ∷ (codes ">", symbol.Greater) ∷ (codes "<=", symbol.LessEqual) ∷
-    (codes ">=", symbol.GreaterEqual) ∷ (codes "==", symbol.Equal) ∷ (codes "!=", symbol.NotEqual) ∷ (codes "===", symbol.StrictEqual) ∷
-    (codes "!==", symbol.StrictNotEqual) ∷ (codes "+", symbol.Plus) ∷ (codes "-", symbol.Minus) ∷ (codes "*", symbol.Times) ∷
-    (codes "%", symbol.Remainder) ∷ (codes "++", symbol.Increment) ∷ (codes "--", symbol.Decrement) ∷ (codes "<<", symbol.ShiftLeft) ∷
-    (codes ">>", symbol.ShiftRight) ∷ (codes ">>>", symbol.ShiftRightUnsigned) ∷ (codes "&", symbol.BitAnd) ∷ (codes "|", symbol.BitOr) ∷
-    (codes "^", symbol.BitXor) ∷ (codes "!", symbol.Not) ∷ (codes "~", symbol.Complement) ∷ (codes "&&", symbol.And) ∷ (codes "||", symbol.Or) ∷
-    (codes "?", symbol.Question) ∷ (codes ":", symbol.Colon) ∷ (codes "=", symbol.Assign) ∷ (codes "+=", symbol.PlusAssign) ∷
-    (codes "-=", symbol.MinusAssign) ∷ (codes "*=", symbol.TimesAssign) ∷ (codes "%=", symbol.RemainderAssign) ∷
-    (codes "<<=", symbol.ShiftLeftAssign) ∷ (codes ">>=", symbol.ShiftRightAssign) ∷ (codes ">>>=", symbol.ShiftRightUnsignedAssign) ∷
-    (codes "&=", symbol.BitAndAssign) ∷ (codes "|=", symbol.BitOrAssign) ∷ (codes "^=", symbol.BitXorAssign) ∷ (codes "/", symbol.Divide) ∷
+    (codes "{", symbol.OpenBrace) ∷ (codes "}", symbol.CloseBrace)
+    ∷ (codes "(", symbol.OpenParenthesis) ∷ (codes ")", symbol.CloseParenthesis) ∷
+    (codes "[", symbol.OpenBracket) ∷ (codes "]", symbol.CloseBracket) ∷ (codes ".", symbol.Dot)
+    ∷ (codes ";", symbol.Semicolon) ∷
+    (codes ",", symbol.Comma) ∷ (codes "<", symbol.Less) ∷ (codes ">", symbol.Greater)
+    ∷ (codes "<=", symbol.LessEqual) ∷
+    (codes ">=", symbol.GreaterEqual) ∷ (codes "==", symbol.Equal) ∷ (codes "!=", symbol.NotEqual)
+    ∷ (codes "===", symbol.StrictEqual) ∷
+    (codes "!==", symbol.StrictNotEqual) ∷ (codes "+", symbol.Plus) ∷ (codes "-", symbol.Minus)
+    ∷ (codes "*", symbol.Times) ∷
+    (codes "%", symbol.Remainder) ∷ (codes "++", symbol.Increment) ∷ (codes "--", symbol.Decrement)
+    ∷ (codes "<<", symbol.ShiftLeft) ∷
+    (codes ">>", symbol.ShiftRight) ∷ (codes ">>>", symbol.ShiftRightUnsigned)
+    ∷ (codes "&", symbol.BitAnd) ∷ (codes "|", symbol.BitOr) ∷
+    (codes "^", symbol.BitXor) ∷ (codes "!", symbol.Not) ∷ (codes "~", symbol.Complement)
+    ∷ (codes "&&", symbol.And) ∷ (codes "||", symbol.Or) ∷
+    (codes "?", symbol.Question) ∷ (codes ":", symbol.Colon) ∷ (codes "=", symbol.Assign)
+    ∷ (codes "+=", symbol.PlusAssign) ∷
+    (codes "-=", symbol.MinusAssign) ∷ (codes "*=", symbol.TimesAssign)
+    ∷ (codes "%=", symbol.RemainderAssign) ∷
+    (codes "<<=", symbol.ShiftLeftAssign) ∷ (codes ">>=", symbol.ShiftRightAssign)
+    ∷ (codes ">>>=", symbol.ShiftRightUnsignedAssign) ∷
+    (codes "&=", symbol.BitAndAssign) ∷ (codes "|=", symbol.BitOrAssign)
+    ∷ (codes "^=", symbol.BitXorAssign) ∷ (codes "/", symbol.Divide) ∷
     (codes "/=", symbol.DivideAssign) ∷ []
 
 -- a word is a keyword, a word that leaves the profile, or else a name (7.5, 7.6)
 unfoldable pub word_symbol : List ℕ → Symbol
-word_symbol word = unwrap_or (lookup keywords word) (if is_some (lookup refused_words word) then symbol.Foreign else symbol.Name)
+word_symbol word =
+    unwrap_or (lookup keywords word) (if is_some (lookup refused_words word) then symbol.Foreign
+    else symbol.Name)
 
 -- the symbol of a mark (7.7)
 unfoldable pub mark_symbol : List ℕ → Symbol

@@ -15,7 +15,7 @@ use sqlite_items::Boxed;
 
 /// Whether an expression mentions `arguments`.
 #[cycle(expressions)]
-#[tactic(auto, using(crate::proofs::ArgumentsLemmas::in_array, crate::proofs::ArgumentsLemmas::in_object, crate::proofs::ArgumentsLemmas::in_chain, crate::proofs::ArgumentsLemmas::in_new, crate::proofs::ArgumentsLemmas::in_binary, crate::proofs::ArgumentsLemmas::in_sequence))]
+#[tactic(auto, using(crate::proofs::Rulesets::for_in_expression))]
 fn in_expression(expression: &Expression) -> bool
     ensures { result ≡ code.in_expression expression.now }
 {
@@ -186,7 +186,7 @@ fn in_target(target: &ForTarget<Expression>) -> bool
 
 /// Whether a statement mentions `arguments`.
 #[cycle(statements)]
-#[tactic(auto, using(crate::proofs::ArgumentsInStatements::in_block, crate::proofs::ArgumentsInStatements::in_variables, crate::proofs::ArgumentsInStatements::in_for, crate::proofs::ArgumentsInStatements::in_for_in, crate::proofs::ArgumentsInStatements::in_return, crate::proofs::ArgumentsInStatements::in_switch, crate::proofs::ArgumentsInStatements::in_try))]
+#[tactic(auto, using(crate::proofs::Rulesets::for_in_statement))]
 fn in_statement(statement: &Statement) -> bool
     ensures { result ≡ spec.in_statement statement.now }
 {

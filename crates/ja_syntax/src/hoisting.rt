@@ -32,7 +32,8 @@ fn add_declared<'a>(
     names: &mut Names<'a>,
     declarations: &'a [Declaration<Expression>],
 ) -> Result<(), Memory>
-    ensures { OnOk result (names.new ≡ fold with_name names.old (spec.declared_names declarations.now)) }
+    ensures { OnOk result (names.new ≡ fold with_name names.old
+        (spec.declared_names declarations.now)) }
 {
     for declaration in declarations {
         names.add(&declaration.name.text)?;
@@ -63,7 +64,7 @@ fn add_target<'a>(names: &mut Names<'a>, target: &'a ForTarget<Expression>) -> R
 
 /// Adds the names that a statement declares by `var`.
 #[cycle(variables)]
-#[tactic(auto, using(crate::proofs::HoistedLemmas::of_block, crate::proofs::HoistedLemmas::of_variables, crate::proofs::HoistedLemmas::of_for, crate::proofs::HoistedLemmas::of_for_in, crate::proofs::HoistedLemmas::of_switch, crate::proofs::HoistedLemmas::of_if, crate::proofs::HoistedLemmas::of_try_alone, crate::proofs::HoistedLemmas::added_finally, crate::proofs::HoistedLemmas::added_catch, crate::proofs::HoistedLemmas::added_both))]
+#[tactic(auto, using(crate::proofs::Rulesets::for_add_statement))]
 fn add_statement<'a>(names: &mut Names<'a>, statement: &'a Statement) -> Result<(), Memory>
     ensures { OnOk result (names.new ≡ fold with_name names.old (spec.variables_of statement.now)) }
 {
@@ -122,7 +123,8 @@ fn add_statement<'a>(names: &mut Names<'a>, statement: &'a Statement) -> Result<
 
 #[cycle(variables)]
 fn add_statements<'a>(names: &mut Names<'a>, statements: &'a [Statement]) -> Result<(), Memory>
-    ensures { OnOk result (names.new ≡ fold with_name names.old (flat_map spec.variables_of statements.now)) }
+    ensures { OnOk result (names.new ≡ fold with_name names.old
+        (flat_map spec.variables_of statements.now)) }
 {
     for statement in statements {
         add_statement(names, statement)?;
@@ -132,7 +134,8 @@ fn add_statements<'a>(names: &mut Names<'a>, statements: &'a [Statement]) -> Res
 
 #[cycle(variables)]
 fn add_cases<'a>(names: &mut Names<'a>, cases: &'a [Case]) -> Result<(), Memory>
-    ensures { OnOk result (names.new ≡ fold with_name names.old (flat_map code.case_variables cases.now)) }
+    ensures { OnOk result (names.new ≡ fold with_name names.old
+        (flat_map code.case_variables cases.now)) }
 {
     for case in cases {
         add_case(names, case)?;
@@ -195,7 +198,8 @@ fn parameter_names(alloc: Global, parameters: &[Name]) -> Result<Seq<Text16>, Me
 /// What a function declares before its statements run (10.1.3). `Err` comes where memory is
 /// refused, and only then.
 pub fn hoist(alloc: Global, function: &FunctionTree) -> Result<Hoisted, Memory>
-    ensures parameters { IfOk result (λ h. h.parameters ≡ code.parameter_names function.now.parameters) }
+    ensures parameters { IfOk result (λ h. h.parameters
+        ≡ code.parameter_names function.now.parameters) }
     ensures functions { IfOk result (λ h. h.functions ≡ code.hoisted_functions function.now.body) }
     ensures variables { IfOk result (λ h. h.variables ≡ spec.hoisted_variables function.now.body) }
 {

@@ -312,9 +312,9 @@ pub struct Tree {
     pub statements: Items<Statement>,
 }
 
-// The types of the cycle are let go by a function of their own, so that each crate that lets a tree go calls
-// it, and proves no drop of its own. A list or box is let go as a whole: the proof of a cycle doesn't follow
-// it into its fields.
+// The types of the cycle are let go by a function of their own, so that each crate that lets a tree
+// go calls it, and proves no drop of its own. A list or box is let go as a whole: the proof of a
+// cycle doesn't follow it into its fields.
 
 impl Drop for Expression {
     #[cycle(tree)]

@@ -87,7 +87,7 @@ fn push_unit(text: &mut Vec<u8>, unit: u16) -> Result<(), Memory>
 }
 
 /// A string without quotes, with its units as they stand but for those not from 0x20 to 0x7E.
-#[tactic(auto, using(crate::proofs::Lists::added_none, crate::proofs::Lists::added_more, crate::proofs::Lists::added_all), unfolding(crate::specs::Texts::plain))]
+#[tactic(auto, using(crate::proofs::Rulesets::for_push_plain), unfolding(crate::specs::Texts::plain))]
 pub fn push_plain(text: &mut Vec<u8>, units: &[u16]) -> Result<(), Memory>
     ensures { OnOk result (text.new.items ≡ text.old.items ++ plain units.now) }
 {
@@ -98,7 +98,7 @@ pub fn push_plain(text: &mut Vec<u8>, units: &[u16]) -> Result<(), Memory>
 }
 
 /// The units of a string as they stand between its quotes.
-#[tactic(auto, using(crate::proofs::Lists::added_none, crate::proofs::Lists::added_more, crate::proofs::Lists::added_all), unfolding(crate::specs::Texts::units_text))]
+#[tactic(auto, using(crate::proofs::Rulesets::for_push_plain), unfolding(crate::specs::Texts::units_text))]
 pub fn push_units(text: &mut Vec<u8>, units: &[u16]) -> Result<(), Memory>
     ensures { OnOk result (text.new.items ≡ text.old.items ++ units_text units.now) }
 {

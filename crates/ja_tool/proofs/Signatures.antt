@@ -14,7 +14,8 @@ use Rattle.ja_device.specs.declared.fault.DevicesFault.{DevicesFault}
 use Rattle.ja_device.specs.declared.fault.DevicesFault.TheVariants.{TooMany, BadName, NoKinds, Twice}
 
 -- devices that can be a program's aren't refused
-not_refused : (ss : List Signature) → AreSignatures ss → (fault : DevicesFault) → IsRefused ss fault → ⊥
+not_refused : (ss : List Signature) → AreSignatures ss → (fault : DevicesFault) → IsRefused ss fault
+    → ⊥
 not_refused ss are = of
   where
     fit_at : (index : ℕ) (s : Signature) → IsFirstAt ss index s → is_fit s ≡ true
@@ -22,32 +23,75 @@ not_refused ss are = of
 
     of : (fault : DevicesFault) → IsRefused ss fault → ⊥
     of TooMany many = let few : length ss ≤ 64 = are.few in absurd (omega arith)
-    of (BadName index) (s, first, unnamed) = false≢true (sym (ap (λ b. b && has_kind s.kinds) unnamed) ∙ fit_at index s first)
+    of (BadName index) (s, first, unnamed) =
+        false≢true (sym (ap (λ b. b && has_kind s.kinds) unnamed) ∙ fit_at index s first)
     of (NoKinds index) (s, first, named, kindless) =
         false≢true (sym (ap (λ b. b && has_kind s.kinds) named ∙ kindless) ∙ fit_at index s first)
     of (Twice first second) (s, t, at, fit, less, earlier, same) =
-        let one : first ≡ second = are.distinct first second t s earlier at.at same in absurd (omega arith)
+        let one : first ≡ second = are.distinct first second t s earlier at.at same in
+        absurd (omega arith)
 
 -- ---- the devices of the program
 
 abbrev pub input : Signature
-input = record { name = codes "input"; kinds = record { undefined = false; null = false; boolean = true; number = false; text = false } }
+input =
+    record {
+      name = codes "input";
+      kinds = record {
+        undefined = false;
+        null = false;
+        boolean = true;
+        number = false;
+        text = false;
+      };
+    }
 
 abbrev pub number : Signature
-number = record { name = codes "number"; kinds = record { undefined = false; null = false; boolean = false; number = true; text = false } }
+number =
+    record {
+      name = codes "number";
+      kinds = record {
+        undefined = false;
+        null = false;
+        boolean = false;
+        number = true;
+        text = false;
+      };
+    }
 
 abbrev pub text : Signature
-text = record { name = codes "text"; kinds = record { undefined = false; null = false; boolean = false; number = false; text = true } }
+text =
+    record {
+      name = codes "text";
+      kinds = record {
+        undefined = false;
+        null = false;
+        boolean = false;
+        number = false;
+        text = true;
+      };
+    }
 
 abbrev pub print : Signature
-print = record { name = codes "print"; kinds = record { undefined = true; null = false; boolean = false; number = false; text = false } }
+print =
+    record {
+      name = codes "print";
+      kinds = record {
+        undefined = true;
+        null = false;
+        boolean = false;
+        number = false;
+        text = false;
+      };
+    }
 
 abbrev hosts : List Signature
 hosts = input ∷ number ∷ text ∷ print ∷ []
 
 -- which of them has a name, by its first character
 place : List ℕ → ℕ
-place name = let c = slice_index name 0 in cond (c == 105) 0 (cond (c == 110) 1 (cond (c == 116) 2 3))
+place name = let c = slice_index name 0 in
+    cond (c == 105) 0 (cond (c == 110) 1 (cond (c == 116) 2 3))
 
 place_of : (i : ℕ) (s : Signature) → slice_get hosts i ≡ Some s → i ≡ place s.name
 unfolding place
@@ -66,8 +110,17 @@ are_signatures = record {
 }
 
 -- .. so what is seen of a list of them isn't refused
-pub none_refused : {D : Type 0} (seen : D → Seen) (a b c d : D) → signature_of (seen a) ≡ input → signature_of (seen b) ≡ number → signature_of (seen c) ≡ text → signature_of (seen d) ≡ print → (none one two three four : List D) → none ≡ [] → one ≡ none ++ a ∷ [] → two ≡ one ++ b ∷ [] → three ≡ two ++ c ∷ [] → four ≡ three ++ d ∷ [] → (fault : DevicesFault) → IsRefused (map signature_of (map seen four)) fault → ⊥
-none_refused seen a b c d as_input as_number as_text as_print none one two three four none_is one_is two_is three_is four_is fault refused =
-    let all : four ≡ a ∷ b ∷ c ∷ d ∷ [] = four_is ∙ ap (λ ds. ds ++ d ∷ []) (three_is ∙ ap (λ ds. ds ++ c ∷ []) (two_is ∙ ap (λ ds. ds ++ b ∷ []) (one_is ∙ ap (λ ds. ds ++ a ∷ []) none_is))) in
-    let same : map signature_of (map seen four) ≡ hosts = ap (λ ds. map signature_of (map seen ds)) all ∙ (λ j. as_input j ∷ as_number j ∷ as_text j ∷ as_print j ∷ []) in
+pub none_refused : {D : Type 0} (seen : D → Seen) (a b c d : D) → signature_of (seen a) ≡ input
+    → signature_of (seen b) ≡ number → signature_of (seen c) ≡ text → signature_of (seen d) ≡ print
+    → (none one two three four : List D) → none ≡ [] → one ≡ none ++ a ∷ [] → two ≡ one ++ b ∷ []
+    → three ≡ two ++ c ∷ [] → four ≡ three ++ d ∷ [] → (fault : DevicesFault)
+    → IsRefused (map signature_of (map seen four)) fault → ⊥
+none_refused seen a b c d as_input as_number as_text as_print none one two three four none_is one_is
+    two_is three_is four_is fault refused =
+    let all : four ≡ a ∷ b ∷ c ∷ d ∷ [] = four_is
+    ∙ ap (λ ds. ds ++ d ∷ []) (three_is ∙ ap (λ ds. ds ++ c ∷ [])
+    (two_is ∙ ap (λ ds. ds ++ b ∷ []) (one_is ∙ ap (λ ds. ds ++ a ∷ []) none_is))) in
+    let same : map signature_of (map seen four)
+    ≡ hosts = ap (λ ds. map signature_of (map seen ds)) all
+    ∙ (λ j. as_input j ∷ as_number j ∷ as_text j ∷ as_print j ∷ []) in
     not_refused hosts are_signatures fault (subst (λ ss. IsRefused ss fault) same refused)

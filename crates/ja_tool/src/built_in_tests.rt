@@ -4,7 +4,8 @@ use crate::tests::{answered, is_answer, repeated};
 use ja_top::Status;
 use std::alloc::Global;
 
-/// A text and the line of the end of its run. A stop in a built-in function has a place of line 0: of these the line begins so.
+/// A text and the line of the end of its run. A stop in a built-in function has a place of line 0:
+/// of these the line begins so.
 pub type Row = (&'static [u8], &'static str);
 
 /// `Object` and its prototype.

@@ -8,7 +8,8 @@ use ja_prim::{Kinds, Primitive};
 use ja_top::{Status, tajs};
 use std::alloc::Global;
 
-/// Texts that are run with the devices of the program, each with its status and its transcript or a part of it.
+/// Texts that are run with the devices of the program, each with its status and its transcript or a
+/// part of it.
 const RUNS: [(&[u8], Status, &str); 21] = [
     (
         b"function f() { try { throw 1; } finally { return 2; } } print(f());",
@@ -201,7 +202,8 @@ fn first_wrong(alloc: Global) -> Result<Option<&'static str>, Memory> {
     Ok(None)
 }
 
-/// Whether a run in which `input` fails at its second call ends there, and the other devices come back in order.
+/// Whether a run in which `input` fails at its second call ends there, and the other devices come
+/// back in order.
 fn a_device_fails(alloc: Global) -> Result<bool, Memory> {
     let text = b"var n = 0; if (input()) { n = 1; } input();";
     let (status, written, left) = with_devices(alloc, "run", text, four(alloc, 2)?);
@@ -328,7 +330,18 @@ impl Device for Mute {
     ghost use Rattle.std.specs.Prelude.{None, false};
     ghost use Rattle.std.specs.String.{string_bytes};
 
-    ghost seen = { λ m. record { name = string_bytes m.name; kinds = record { undefined = false; null = false; boolean = false; number = false; text = false }; heard = None; faults = 0 } };
+    ghost seen = { λ m. record {
+      name = string_bytes m.name;
+      kinds = record {
+        undefined = false;
+        null = false;
+        boolean = false;
+        number = false;
+        text = false;
+      };
+      heard = None;
+      faults = 0;
+    } };
 
     fn name(&self) -> &str {
         &self.name

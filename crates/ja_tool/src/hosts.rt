@@ -13,7 +13,8 @@ use std::alloc::Global;
 
 /// Adds a number to answers.
 fn add_number(answers: &mut Vec<Primitive>, number: u8) -> Result<(), Memory>
-    ensures { IfOk result (λ _. answers.new.items ≡ answers.old.items ++ primitive.Number (num.Whole (pos number)) ∷ []) }
+    ensures { IfOk result (λ _. answers.new.items ≡ answers.old.items
+        ++ primitive.Number (num.Whole (pos number)) ∷ []) }
 {
     let number = Num::Whole(Int::new(number as i64).unwrap());
     answers.push(Primitive::Number(number))?;
@@ -23,7 +24,8 @@ fn add_number(answers: &mut Vec<Primitive>, number: u8) -> Result<(), Memory>
 /// `input` answers true three times, and then false.
 pub fn input(alloc: Global) -> Result<Scripted, Memory>
     ensures name { IfOk result (λ s. string_bytes s.name ≡ codes "input") }
-    ensures kinds { IfOk result (λ s. s.kinds ≡ record { undefined = false; null = false; boolean = true; number = false; text = false }) }
+    ensures kinds { IfOk result (λ s. s.kinds
+        ≡ record { undefined = false; null = false; boolean = true; number = false; text = false }) }
 {
     let mut answers = Vec::new(alloc);
     for truth in [true, true, true, false] {
@@ -35,7 +37,8 @@ pub fn input(alloc: Global) -> Result<Scripted, Memory>
 /// `number` answers 0, 1, 2, 3, 5 and 8.
 pub fn number(alloc: Global) -> Result<Scripted, Memory>
     ensures name { IfOk result (λ s. string_bytes s.name ≡ codes "number") }
-    ensures kinds { IfOk result (λ s. s.kinds ≡ record { undefined = false; null = false; boolean = false; number = true; text = false }) }
+    ensures kinds { IfOk result (λ s. s.kinds
+        ≡ record { undefined = false; null = false; boolean = false; number = true; text = false }) }
 {
     let mut answers = Vec::new(alloc);
     for number in [0, 1, 2, 3, 5, 8] {
@@ -47,7 +50,8 @@ pub fn number(alloc: Global) -> Result<Scripted, Memory>
 /// `text` answers "a", "b" and the empty text.
 pub fn text(alloc: Global) -> Result<Scripted, Memory>
     ensures name { IfOk result (λ s. string_bytes s.name ≡ codes "text") }
-    ensures kinds { IfOk result (λ s. s.kinds ≡ record { undefined = false; null = false; boolean = false; number = false; text = true }) }
+    ensures kinds { IfOk result (λ s. s.kinds
+        ≡ record { undefined = false; null = false; boolean = false; number = false; text = true }) }
 {
     let mut answers = Vec::new(alloc);
     answers.push(Primitive::Text(Text16::from_ascii(alloc, b"a")?))?;
@@ -59,7 +63,8 @@ pub fn text(alloc: Global) -> Result<Scripted, Memory>
 /// `print` answers undefined.
 pub fn print(alloc: Global) -> Result<Scripted, Memory>
     ensures name { IfOk result (λ s. string_bytes s.name ≡ codes "print") }
-    ensures kinds { IfOk result (λ s. s.kinds ≡ record { undefined = true; null = false; boolean = false; number = false; text = false }) }
+    ensures kinds { IfOk result (λ s. s.kinds
+        ≡ record { undefined = true; null = false; boolean = false; number = false; text = false }) }
 {
     let mut answers = Vec::new(alloc);
     answers.push(Primitive::Undefined)?;

@@ -622,7 +622,8 @@ pub fn repeated(alloc: Global, before: &[u8], part: &[u8], count: usize, behind:
     text
 }
 
-/// The status and what was written, in pieces of 10 bytes, without devices. The text is read in pieces of 7, a long one in longer ones.
+/// The status and what was written, in pieces of 10 bytes, without devices. The text is read in
+/// pieces of 7, a long one in longer ones.
 pub fn answered(
     alloc: Global,
     texts: &[&str],

@@ -36,7 +36,7 @@
 //!   transcript says so. What a device that tells it has heard is what the transcript says it
 //!   answered, in order and with the arguments, and nothing else of it has changed. After 16 each
 //!   comes back, and they have answered exactly the calls of some first steps of the run, or those
-//!   of the whole run, the one that failed at its end among them (`MayBeLeft` in `specs/Runs.antt`).
+//! of the whole run, the one that failed at its end among them (`MayBeLeft` in `specs/Runs.antt`).
 //!   What is seen of one changes only in a `run`.
 #![tactic(auto)]
 

@@ -9,13 +9,18 @@ use Rattle.ja_model.specs.declared.abstraction.AAttrs.{AAttrs}
 
 abbrev flags_eq : Flags → Flags → Bool
 flags_eq a b =
-    beq a.absent b.absent && (beq a.entry b.entry && (beq a.row b.row && (beq a.undefined b.undefined && (beq a.null b.null && (beq a.is_true b.is_true && (beq a.is_false b.is_false && beq a.nan b.nan))))))
+    beq a.absent b.absent && (beq a.entry b.entry
+    && (beq a.row b.row && (beq a.undefined b.undefined
+    && (beq a.null b.null && (beq a.is_true b.is_true
+    && (beq a.is_false b.is_false && beq a.nan b.nan))))))
 
 abbrev may_eq : May → May → Bool
 may_eq a b = beq a.set b.set && beq a.unset b.unset
 
 abbrev attrs_eq : AAttrs → AAttrs → Bool
-attrs_eq a b = may_eq a.read_only b.read_only && (may_eq a.dont_enum b.dont_enum && may_eq a.dont_delete b.dont_delete)
+attrs_eq a b =
+    may_eq a.read_only b.read_only && (may_eq a.dont_enum b.dont_enum
+    && may_eq a.dont_delete b.dont_delete)
 
 same : (x y : Bool) → beq x y ≡ true → x ≡ y
 same x y h = (booleans_Decides x y).0 h
@@ -50,17 +55,28 @@ flags_same a b h =
 
 flags_itself : (a : Flags) → flags_eq a a ≡ true
 flags_itself a =
-    rw (itself a.absent, itself a.entry, itself a.row, itself a.undefined, itself a.null, itself a.is_true, itself a.is_false, itself a.nan) refl
+    rw (
+      itself a.absent,
+      itself a.entry,
+      itself a.row,
+      itself a.undefined,
+      itself a.null,
+      itself a.is_true,
+      itself a.is_false,
+      itself a.nan,
+    ) refl
 
 may_same : (a b : May) → may_eq a b ≡ true → a ≡ b
 may_same a b h =
     let set = next a.set b.set _ h in
-    let unset : a.unset ≡ b.unset = same a.unset b.unset set.1 in λ i. record { set = set.0 i; unset = unset i }
+    let unset : a.unset ≡ b.unset = same a.unset b.unset set.1 in
+    λ i. record { set = set.0 i; unset = unset i }
 
 attrs_same : (a b : AAttrs) → attrs_eq a b ≡ true → a ≡ b
 attrs_same a b h =
     let first = and_parts (may_eq a.read_only b.read_only) _ h in
-    let rest = and_parts (may_eq a.dont_enum b.dont_enum) (may_eq a.dont_delete b.dont_delete) first.1 in
+    let rest = and_parts (may_eq a.dont_enum b.dont_enum) (may_eq a.dont_delete b.dont_delete)
+    first.1 in
     let read_only = may_same a.read_only b.read_only first.0 in
     let dont_enum = may_same a.dont_enum b.dont_enum rest.0 in
     let dont_delete = may_same a.dont_delete b.dont_delete rest.1 in
@@ -70,7 +86,9 @@ may_itself : (a : May) → may_eq a a ≡ true
 may_itself a = and_from _ _ (itself a.set) (itself a.unset)
 
 attrs_itself : (a : AAttrs) → attrs_eq a a ≡ true
-attrs_itself a = and_from _ _ (may_itself a.read_only) (and_from _ _ (may_itself a.dont_enum) (may_itself a.dont_delete))
+attrs_itself a =
+    and_from _ _ (may_itself a.read_only) (and_from _ _ (may_itself a.dont_enum)
+    (may_itself a.dont_delete))
 
 pub flags_decided : (a b : Flags) (r : Bool) → r ≡ flags_eq a b → IsTrue r ↔ (a ≡ b)
 flags_decided a b r e =

@@ -41,34 +41,63 @@ apart : (n k : ℕ) → n ≢ k → is_at (nat_cmp n) k ≡ false
 apart n k ne = grind (arith, nat_tests)
 
 -- none of the numbers above x is below m
-below_none : (m x : ℕ) (ks : List ℕ) → AllByRecursion (λ y. nat_cmp x y ≡ Less) ks → m ≤ x + 1 → filter (below m) ks ≡ []
+below_none : (m x : ℕ) (ks : List ℕ) → AllByRecursion (λ y. nat_cmp x y ≡ Less) ks → m ≤ x + 1
+    → filter (below m) ks ≡ []
 below_none m x [] h le = refl
 below_none m x (k ∷ ks) h le =
     let more : x < k = less x k h.0 in rw (le-ltb k m (omega arith)) (below_none m x ks h.1 le)
 
-has_not : (n x : ℕ) (ks : List ℕ) → AllByRecursion (λ y. nat_cmp x y ≡ Less) ks → n ≤ x → has ks n ≡ false
+has_not : (n x : ℕ) (ks : List ℕ) → AllByRecursion (λ y. nat_cmp x y ≡ Less) ks → n ≤ x
+    → has ks n ≡ false
 has_not n x [] h le = refl
 has_not n x (k ∷ ks) h le =
     let more : x < k = less x k h.0 in rw (apart n k (omega arith)) (has_not n x ks h.1 le)
 
--- one number more, at the end of those below it: where it is the first of the list, where it comes later, where it isn't there
-below_more_at : (n x : ℕ) (xs : List ℕ) → AllByRecursion (λ y. nat_cmp x y ≡ Less) xs → x ≡ n → filter (below (n + 1)) (x ∷ xs) ≡ filter (below n) (x ∷ xs) ++ cond (has (x ∷ xs) n) (n ∷ []) []
+-- one number more, at the end of those below it: where it is the first of the list, where it comes
+-- later, where it isn't there
+below_more_at : (n x : ℕ) (xs : List ℕ) → AllByRecursion (λ y. nat_cmp x y ≡ Less) xs → x ≡ n
+    → filter (below (n + 1)) (x ∷ xs) ≡ filter (below n) (x ∷ xs)
+    ++ cond (has (x ∷ xs) n) (n ∷ []) []
 below_more_at n x xs h e =
-    rw (lt-ltb x (n + 1) (omega arith), le-ltb x n (omega arith), below_none (n + 1) x xs h (omega arith), below_none n x xs h (omega arith), equal n x e) (ap (λ (k : ℕ). k ∷ []) e)
+    rw (
+      lt-ltb x (n + 1) (omega arith),
+      le-ltb x n (omega arith),
+      below_none (n + 1) x xs h (omega arith),
+      below_none n x xs h (omega arith),
+      equal n x e,
+    )
+    (ap (λ (k : ℕ). k ∷ []) e)
 
-below_more_later : (n x : ℕ) (xs : List ℕ) → x < n → filter (below (n + 1)) xs ≡ filter (below n) xs ++ cond (has xs n) (n ∷ []) [] → filter (below (n + 1)) (x ∷ xs) ≡ filter (below n) (x ∷ xs) ++ cond (has (x ∷ xs) n) (n ∷ []) []
+below_more_later : (n x : ℕ) (xs : List ℕ) → x < n
+    → filter (below (n + 1)) xs ≡ filter (below n) xs ++ cond (has xs n) (n ∷ []) []
+    → filter (below (n + 1)) (x ∷ xs) ≡ filter (below n) (x ∷ xs)
+    ++ cond (has (x ∷ xs) n) (n ∷ []) []
 below_more_later n x xs lower rest =
-    rw (lt-ltb x (n + 1) (omega arith), lt-ltb x n lower, apart n x (omega arith)) (ap (λ (ks : List ℕ). x ∷ ks) rest)
+    rw (lt-ltb x (n + 1) (omega arith), lt-ltb x n lower, apart n x (omega arith))
+    (ap (λ (ks : List ℕ). x ∷ ks) rest)
 
-below_more_never : (n x : ℕ) (xs : List ℕ) → AllByRecursion (λ y. nat_cmp x y ≡ Less) xs → n < x → filter (below (n + 1)) (x ∷ xs) ≡ filter (below n) (x ∷ xs) ++ cond (has (x ∷ xs) n) (n ∷ []) []
+below_more_never : (n x : ℕ) (xs : List ℕ) → AllByRecursion (λ y. nat_cmp x y ≡ Less) xs → n < x
+    → filter (below (n + 1)) (x ∷ xs) ≡ filter (below n) (x ∷ xs)
+    ++ cond (has (x ∷ xs) n) (n ∷ []) []
 below_more_never n x xs h lower =
-    rw (le-ltb x (n + 1) (omega arith), le-ltb x n (omega arith), below_none (n + 1) x xs h (omega arith), below_none n x xs h (omega arith), apart n x (omega arith), has_not n x xs h (omega arith)) refl
+    rw (
+      le-ltb x (n + 1) (omega arith),
+      le-ltb x n (omega arith),
+      below_none (n + 1) x xs h (omega arith),
+      below_none n x xs h (omega arith),
+      apart n x (omega arith),
+      has_not n x xs h (omega arith),
+    ) refl
 
-below_more : (n : ℕ) (ks : List ℕ) → IsStrictlySortedBy nat_cmp ks → filter (below (n + 1)) ks ≡ filter (below n) ks ++ cond (has ks n) (n ∷ []) []
+below_more : (n : ℕ) (ks : List ℕ) → IsStrictlySortedBy nat_cmp ks
+    → filter (below (n + 1)) ks ≡ filter (below n) ks ++ cond (has ks n) (n ∷ []) []
 below_more n [] s = refl
 below_more n (x ∷ xs) s =
     let h = sorted_head nat_cmp x xs s in
-    ⊎_elim (λ e. below_more_at n x xs h e) (λ o. ⊎_elim (λ lower. below_more_later n x xs lower (below_more n xs (sorted_tail nat_cmp x xs s))) (λ lower. below_more_never n x xs h lower) o) (cases_order x n)
+    ⊎_elim (λ e. below_more_at n x xs h e) (λ o.
+    ⊎_elim (λ lower. below_more_later n x xs lower
+    (below_more n xs (sorted_tail nat_cmp x xs s))) (λ lower. below_more_never n x xs h lower)
+    o) (cases_order x n)
 
 below_zero : (ks : List ℕ) → filter (below 0) ks ≡ []
 below_zero [] = refl
@@ -79,21 +108,31 @@ abbrev pub in_numbers : List ℕ → Labels
 in_numbers ks l = has ks (label_number l)
 
 one_label : (b : Bool) (n : ℕ) → map label_at (cond b (n ∷ []) []) ≡ cond b (label_at n ∷ []) []
-one_label b n = elim b as (λ v. map label_at (cond v (n ∷ []) []) ≡ cond v (label_at n ∷ []) []) [ true ↦ refl | false ↦ refl ]
+one_label b n =
+    elim b as (λ v. map label_at (cond v (n ∷ []) []) ≡ cond v (label_at n ∷ []) [])
+    [ true ↦ refl | false ↦ refl ]
 
-numbers_list_more : (ks : List ℕ) → IsStrictlySortedBy nat_cmp ks → (n : ℕ) → map label_at (filter (below n) ks) ≡ filter (in_numbers ks) (map label_at (range_with_len 0 n)) → map label_at (filter (below (n + 1)) ks) ≡ filter (in_numbers ks) (map label_at (range_with_len 0 (n + 1)))
+numbers_list_more : (ks : List ℕ) → IsStrictlySortedBy nat_cmp ks → (n : ℕ)
+    → map label_at (filter (below n) ks) ≡ filter (in_numbers ks)
+    (map label_at (range_with_len 0 n)) → map label_at (filter (below (n + 1)) ks)
+    ≡ filter (in_numbers ks) (map label_at (range_with_len 0 (n + 1)))
 numbers_list_more ks s n rest =
     ap (map label_at) (below_more n ks s)
     ∙ map-append label_at (filter (below n) ks) (cond (has ks n) (n ∷ []) [])
     ∙ ap (λ (ls : List Label). ls ++ map label_at (cond (has ks n) (n ∷ []) [])) rest
-    ∙ ap (λ (ls : List Label). filter (in_numbers ks) (map label_at (range_with_len 0 n)) ++ ls) (one_label (has ks n) n ∙ ap (λ (b : Bool). cond b (label_at n ∷ []) []) (ap (has ks) (sym (number_label n))))
+    ∙ ap (λ (ls : List Label). filter (in_numbers ks) (map label_at (range_with_len 0 n)) ++ ls)
+    (one_label (has ks n) n ∙ ap (λ (b : Bool). cond b (label_at n ∷ []) [])
+    (ap (has ks) (sym (number_label n))))
     ∙ sym (filter_of_map_range_with_len_more (in_numbers ks) label_at 0 n n (omega arith))
 
 -- the numbers of a sorted list that are below n, as labels
-pub numbers_list : (ks : List ℕ) → IsStrictlySortedBy nat_cmp ks → (n : ℕ) → map label_at (filter (below n) ks) ≡ filter (in_numbers ks) (map label_at (range_with_len 0 n))
+pub numbers_list : (ks : List ℕ) → IsStrictlySortedBy nat_cmp ks → (n : ℕ)
+    → map label_at (filter (below n) ks) ≡ filter (in_numbers ks)
+    (map label_at (range_with_len 0 n))
 numbers_list ks s zero = ap (map label_at) (below_zero ks)
 numbers_list ks s (suc n) =
-    let P : ℕ → Type 0 = λ k. map label_at (filter (below k) ks) ≡ filter (in_numbers ks) (map label_at (range_with_len 0 k)) in
+    let P : ℕ → Type 0 = λ k. map label_at (filter (below k) ks)
+    ≡ filter (in_numbers ks) (map label_at (range_with_len 0 k)) in
     subst P (omega arith) (numbers_list_more ks s n (numbers_list ks s n))
 
 label_new : (a : ℕ) → label_at (2 * a) ≡ new (site_of a)
@@ -108,67 +147,94 @@ label_old a =
     let rest : (2 * a + 1) % 2 ≡ 1 = omega arith in
     rw (half, rest) refl
 
-labels_from : (a n : ℕ) → flat_map (λ s. new (site_of s) ∷ old (site_of s) ∷ []) (range_with_len a n) ≡ map label_at (range_with_len (2 * a) (2 * n))
+labels_from : (a n : ℕ) → flat_map (λ s. new (site_of s) ∷ old (site_of s) ∷ [])
+    (range_with_len a n) ≡ map label_at (range_with_len (2 * a) (2 * n))
 labels_from a zero = refl
 labels_from a (suc n) =
     let twice : 2 * suc n ≡ suc (suc (2 * n)) = omega arith in
     let next : 2 * (a + 1) ≡ 2 * a + 1 + 1 = omega arith in
-    rw (twice, label_new a, label_old a) (ap (λ (ls : List Label). new (site_of a) ∷ old (site_of a) ∷ ls) (labels_from (a + 1) n ∙ ap (λ (k : ℕ). map label_at (range_with_len k (2 * n))) next))
+    rw (twice, label_new a, label_old a) (ap
+    (λ (ls : List Label). new (site_of a) ∷ old (site_of a) ∷ ls)
+    (labels_from (a + 1) n ∙ ap (λ (k : ℕ). map label_at (range_with_len k (2 * n))) next))
 
 pub labels_range : (n : ℕ) → labels_below n ≡ map label_at (range_with_len 0 (2 * n))
 labels_range = labels_from 0
 
 -- the labels of the first sites that are in a set
-pub labels_list : (ks : List ℕ) → IsStrictlySortedBy nat_cmp ks → (sites end : ℕ) → end ≡ 2 * sites → map label_at (filter (below end) ks) ≡ filter (in_numbers ks) (labels_below sites)
+pub labels_list : (ks : List ℕ) → IsStrictlySortedBy nat_cmp ks → (sites end : ℕ) → end ≡ 2 * sites
+    → map label_at (filter (below end) ks) ≡ filter (in_numbers ks) (labels_below sites)
 labels_list ks s sites end e =
-    ap (λ (n : ℕ). map label_at (filter (below n) ks)) e ∙ numbers_list ks s (2 * sites) ∙ ap (filter (in_numbers ks)) (sym (labels_range sites))
+    ap (λ (n : ℕ). map label_at (filter (below n) ks)) e ∙ numbers_list ks s (2 * sites)
+    ∙ ap (filter (in_numbers ks)) (sym (labels_range sites))
 
 -- all is listed once nothing is to come
-pub listed : (items : List Label) (ks rest : List ℕ) (sites end : ℕ) → end ≡ 2 * sites → rest ≡ [] → IsStrictlySortedBy nat_cmp ks → items ++ map label_at (filter (below end) rest) ≡ map label_at (filter (below end) ks) → items ≡ filter (in_numbers ks) (labels_below sites)
+pub listed : (items : List Label) (ks rest : List ℕ) (sites end : ℕ) → end ≡ 2 * sites → rest ≡ []
+    → IsStrictlySortedBy nat_cmp ks → items ++ map label_at (filter (below end) rest)
+    ≡ map label_at (filter (below end) ks) → items ≡ filter (in_numbers ks) (labels_below sites)
 listed items ks rest sites end e none s all =
-    sym (append-nil items) ∙ ap (λ (ns : List ℕ). items ++ map label_at (filter (below end) ns)) (sym none) ∙ all ∙ labels_list ks s sites end e
+    sym (append-nil items) ∙ ap (λ (ns : List ℕ). items ++ map label_at (filter (below end) ns))
+    (sym none) ∙ all ∙ labels_list ks s sites end e
 
 -- ---- whether there is one
 
 any_there : {X : Type 0} (p : X → Bool) (xs : List X) → list_any p xs ≡ is_there (filter p xs)
 any_there p [] = refl
 any_there p (x ∷ xs) =
-    elim (p x) as (λ v. (v || list_any p xs) ≡ is_there (cond v (x ∷ filter p xs) (filter p xs))) [ true ↦ refl | false ↦ any_there p xs ]
+    elim (p x) as (λ v. (v || list_any p xs) ≡ is_there (cond v (x ∷ filter p xs) (filter p xs)))
+    [ true ↦ refl | false ↦ any_there p xs ]
 
 map_there : {X Y : Type 0} (f : X → Y) (xs : List X) → is_there (map f xs) ≡ is_there xs
 map_there f [] = refl
 map_there f (x ∷ xs) = refl
 
-first_there : (end k : ℕ) (ks : List ℕ) → IsStrictlySortedBy nat_cmp (k ∷ ks) → nat_lt k end ≡ is_there (filter (below end) (k ∷ ks))
+first_there : (end k : ℕ) (ks : List ℕ) → IsStrictlySortedBy nat_cmp (k ∷ ks)
+    → nat_lt k end ≡ is_there (filter (below end) (k ∷ ks))
 first_there end k ks s =
-    ⊎_elim (λ lower. rw (lt-ltb k end lower) refl) (λ upper. rw (le-ltb k end upper, below_none end k ks (sorted_head nat_cmp k ks s) (omega arith)) refl) (cases_lt k end)
+    ⊎_elim (λ lower. rw (lt-ltb k end lower) refl)
+    (λ upper. rw (
+      le-ltb k end upper,
+      below_none end k ks (sorted_head nat_cmp k ks s)
+          (omega arith),
+    ) refl) (cases_lt k end)
 
-any_is : (ks : List ℕ) → IsStrictlySortedBy nat_cmp ks → (sites : ℕ) → is_there (filter (below (2 * sites)) ks) ≡ list_any (in_numbers ks) (labels_below sites)
+any_is : (ks : List ℕ) → IsStrictlySortedBy nat_cmp ks → (sites : ℕ)
+    → is_there (filter (below (2 * sites)) ks) ≡ list_any (in_numbers ks) (labels_below sites)
 any_is ks s sites =
-    sym (map_there label_at (filter (below (2 * sites)) ks)) ∙ ap is_there (labels_list ks s sites (2 * sites) refl) ∙ sym (any_there (in_numbers ks) (labels_below sites))
+    sym (map_there label_at (filter (below (2 * sites)) ks))
+    ∙ ap is_there (labels_list ks s sites (2 * sites) refl)
+    ∙ sym (any_there (in_numbers ks) (labels_below sites))
 
 -- the first number of the list tells whether one is below
-pub any_by_first : (all ks : List ℕ) (k sites : ℕ) → IsStrictlySortedBy nat_cmp all → all ≡ k ∷ ks → nat_lt k (2 * sites) ≡ list_any (in_numbers all) (labels_below sites)
+pub any_by_first : (all ks : List ℕ) (k sites : ℕ) → IsStrictlySortedBy nat_cmp all → all ≡ k ∷ ks
+    → nat_lt k (2 * sites) ≡ list_any (in_numbers all) (labels_below sites)
 any_by_first all ks k sites s e =
     let P : List ℕ → Type 0 = λ ns. IsStrictlySortedBy nat_cmp ns in
-    first_there (2 * sites) k ks (subst P e s) ∙ ap (λ (ns : List ℕ). is_there (filter (below (2 * sites)) ns)) (sym e) ∙ any_is all s sites
+    first_there (2 * sites) k ks (subst P e s)
+    ∙ ap (λ (ns : List ℕ). is_there (filter (below (2 * sites)) ns)) (sym e)
+    ∙ any_is all s sites
 
-pub any_of_none : (all : List ℕ) (sites : ℕ) → IsStrictlySortedBy nat_cmp all → all ≡ [] → false ≡ list_any (in_numbers all) (labels_below sites)
+pub any_of_none : (all : List ℕ) (sites : ℕ) → IsStrictlySortedBy nat_cmp all → all ≡ []
+    → false ≡ list_any (in_numbers all) (labels_below sites)
 any_of_none all sites s e =
     ap (λ (ns : List ℕ). is_there (filter (below (2 * sites)) ns)) (sym e) ∙ any_is all s sites
 
 -- ---- sets that differ
 
 -- a number tells two sets apart
-pub labels_apart : (first now : List ℕ) (q : ℕ) → has first q ≡ false → has now q ≡ true → in_numbers now ≡ in_numbers first → ⊥
+pub labels_apart : (first now : List ℕ) (q : ℕ) → has first q ≡ false → has now q ≡ true
+    → in_numbers now ≡ in_numbers first → ⊥
 labels_apart first now q out inside e =
-    let there : has now q ≡ has first q = ap (has now) (sym (number_label q)) ∙ ap (λ (f : Labels). f (label_at q)) e ∙ ap (has first) (number_label q) in
+    let there : has now q ≡ has first q = ap (has now) (sym (number_label q))
+    ∙ ap (λ (f : Labels). f (label_at q)) e ∙ ap (has first) (number_label q) in
     true≢false (sym inside ∙ there ∙ out)
 
 pub no_labels_is : (ks : List ℕ) → (length ks ≡ 0) ↔ (in_numbers ks ≡ no_labels)
 no_labels_is [] = ((λ _. refl), (λ _. refl))
-no_labels_is (k ∷ ks) =
-    ((λ e. absurd (omega arith)), (λ e. absurd (labels_apart [] (k ∷ ks) k refl (rw (equal k k refl) refl) e)))
+no_labels_is (k ∷ ks) = (
+  (λ e. absurd (omega arith)),
+  (λ e. absurd
+      (labels_apart [] (k ∷ ks) k refl (rw (equal k k refl) refl) e)),
+)
 
 -- ---- sets within others
 
@@ -178,8 +244,10 @@ within false true h = sym (h refl)
 within false false h = refl
 
 -- the labels of a set within another are among those of the other
-pub union_within : (mine other : List ℕ) → ((q : ℕ) → IsTrue (has other q) → IsTrue (has mine q)) → (λ l. in_numbers mine l || in_numbers other l) ≡ in_numbers mine
-union_within mine other h = λ i l. (within (has mine (label_number l)) (has other (label_number l)) (h (label_number l))) i
+pub union_within : (mine other : List ℕ) → ((q : ℕ) → IsTrue (has other q) → IsTrue (has mine q))
+    → (λ l. in_numbers mine l || in_numbers other l) ≡ in_numbers mine
+union_within mine other h =
+    λ i l. (within (has mine (label_number l)) (has other (label_number l)) (h (label_number l))) i
 
 -- numbers `more` are still to be added to `now`, which began as `first`
 pub record Joining (first other now more : List ℕ) (changed : Bool) : Type 0 where

@@ -40,7 +40,9 @@ mask_of_old mask n s e =
     let rest : n % 2 ≡ 1 = omega arith in
     rw rest refl
 
-lead_is : (mask : ℕ → Mask) (n q : ℕ) (m : Mask) (same next : Bool) → number_mask mask n ≡ m → is_at (nat_cmp q) n ≡ same → is_at (nat_cmp q) (n + 1) ≡ next → leads mask n q ≡ ((m.none && same) || (m.some && next))
+lead_is : (mask : ℕ → Mask) (n q : ℕ) (m : Mask) (same next : Bool) → number_mask mask n ≡ m
+    → is_at (nat_cmp q) n ≡ same → is_at (nat_cmp q) (n + 1) ≡ next
+    → leads mask n q ≡ ((m.none && same) || (m.some && next))
 lead_is mask n q m same next e f g =
     ap (λ (k : Mask). (k.none && is_at (nat_cmp q) n) || (k.some && is_at (nat_cmp q) (n + 1))) e
     ∙ ap (λ (b : Bool). (m.none && b) || (m.some && is_at (nat_cmp q) (n + 1))) f
@@ -56,69 +58,95 @@ at_next : (a b : Bool) → ((a && false) || (b && true)) ≡ b
 at_next a b = grind arith
 
 -- to a new label only the same leads
-lead_new : (mask : ℕ → Mask) (n s : ℕ) → leads mask n (2 * s) ≡ (is_at (nat_cmp (2 * s)) n && (mask s).none)
+lead_new : (mask : ℕ → Mask) (n s : ℕ) → leads mask n (2 * s)
+    ≡ (is_at (nat_cmp (2 * s)) n && (mask s).none)
 lead_new mask n s =
     ⊎_elim (λ (e : n ≡ 2 * s).
-    lead_is mask n (2 * s) (mask s) true false (ap (number_mask mask) e ∙ mask_of_new mask s) (equal (2 * s) n e) (apart (2 * s) (n + 1) (omega arith))
+    lead_is mask n (2 * s) (mask s) true false (ap (number_mask mask) e ∙ mask_of_new mask s)
+    (equal (2 * s) n e) (apart (2 * s) (n + 1) (omega arith))
     ∙ at_same (mask s).none (mask s).some
     ∙ ap (λ (b : Bool). b && (mask s).none) (sym (equal (2 * s) n e)))
     (λ (ne : n ≢ 2 * s). ⊎_elim (λ (e : n + 1 ≡ 2 * s).
-    lead_is mask n (2 * s) exactly_none false true (mask_of_old mask n (n / 2) (omega arith)) (apart (2 * s) n (omega arith)) (equal (2 * s) (n + 1) e)
+    lead_is mask n (2 * s) exactly_none false true (mask_of_old mask n (n / 2) (omega arith))
+    (apart (2 * s) n (omega arith)) (equal (2 * s) (n + 1) e)
     ∙ ap (λ (b : Bool). b && (mask s).none) (sym (apart (2 * s) n (omega arith))))
     (λ (other : n + 1 ≢ 2 * s).
-    lead_is mask n (2 * s) (number_mask mask n) false false refl (apart (2 * s) n (omega arith)) (apart (2 * s) (n + 1) (omega arith))
+    lead_is mask n (2 * s) (number_mask mask n) false false refl (apart (2 * s) n (omega arith))
+    (apart (2 * s) (n + 1) (omega arith))
     ∙ never (number_mask mask n).none (number_mask mask n).some
     ∙ ap (λ (b : Bool). b && (mask s).none) (sym (apart (2 * s) n (omega arith))))
     (cases_eq (n + 1) (2 * s)))
     (cases_eq n (2 * s))
 
--- to an old label the same leads, and the new one of the site where an object more may have been made
-lead_old : (mask : ℕ → Mask) (n s : ℕ) → leads mask n (2 * s + 1) ≡ (is_at (nat_cmp (2 * s + 1)) n || (is_at (nat_cmp (2 * s)) n && (mask s).some))
+-- to an old label the same leads, and the new one of the site where an object more may have been
+-- made
+lead_old : (mask : ℕ → Mask) (n s : ℕ) → leads mask n (2 * s + 1)
+    ≡ (is_at (nat_cmp (2 * s + 1)) n || (is_at (nat_cmp (2 * s)) n && (mask s).some))
 lead_old mask n s =
     ⊎_elim (λ (e : n ≡ 2 * s + 1).
-    lead_is mask n (2 * s + 1) exactly_none true false (mask_of_old mask n s e) (equal (2 * s + 1) n e) (apart (2 * s + 1) (n + 1) (omega arith))
-    ∙ ap (λ (b : Bool). b || (is_at (nat_cmp (2 * s)) n && (mask s).some)) (sym (equal (2 * s + 1) n e)))
+    lead_is mask n (2 * s + 1) exactly_none true false (mask_of_old mask n s e)
+    (equal (2 * s + 1) n e) (apart (2 * s + 1) (n + 1) (omega arith))
+    ∙ ap (λ (b : Bool). b || (is_at (nat_cmp (2 * s)) n && (mask s).some))
+    (sym (equal (2 * s + 1) n e)))
     (λ (ne : n ≢ 2 * s + 1). ⊎_elim (λ (e : n ≡ 2 * s).
-    lead_is mask n (2 * s + 1) (mask s) false true (ap (number_mask mask) e ∙ mask_of_new mask s) (apart (2 * s + 1) n (omega arith)) (equal (2 * s + 1) (n + 1) (omega arith))
+    lead_is mask n (2 * s + 1) (mask s) false true (ap (number_mask mask) e ∙ mask_of_new mask s)
+    (apart (2 * s + 1) n (omega arith)) (equal (2 * s + 1) (n + 1) (omega arith))
     ∙ at_next (mask s).none (mask s).some
-    ∙ sym (ap (λ (b : Bool). b || (is_at (nat_cmp (2 * s)) n && (mask s).some)) (apart (2 * s + 1) n (omega arith)) ∙ ap (λ (b : Bool). b && (mask s).some) (equal (2 * s) n e)))
+    ∙ sym (ap (λ (b : Bool). b || (is_at (nat_cmp (2 * s)) n && (mask s).some))
+    (apart (2 * s + 1) n (omega arith)) ∙ ap (λ (b : Bool). b && (mask s).some)
+    (equal (2 * s) n e)))
     (λ (other : n ≢ 2 * s).
-    lead_is mask n (2 * s + 1) (number_mask mask n) false false refl (apart (2 * s + 1) n (omega arith)) (apart (2 * s + 1) (n + 1) (omega arith))
+    lead_is mask n (2 * s + 1) (number_mask mask n) false false refl
+    (apart (2 * s + 1) n (omega arith)) (apart (2 * s + 1) (n + 1) (omega arith))
     ∙ never (number_mask mask n).none (number_mask mask n).some
-    ∙ sym (ap (λ (b : Bool). b || (is_at (nat_cmp (2 * s)) n && (mask s).some)) (apart (2 * s + 1) n (omega arith)) ∙ ap (λ (b : Bool). b && (mask s).some) (apart (2 * s) n (omega arith))))
+    ∙ sym (ap (λ (b : Bool). b || (is_at (nat_cmp (2 * s)) n && (mask s).some))
+    (apart (2 * s + 1) n (omega arith)) ∙ ap (λ (b : Bool). b && (mask s).some)
+    (apart (2 * s) n (omega arith))))
     (cases_eq n (2 * s)))
     (cases_eq n (2 * s + 1))
 
 one_more_new : (x y b : Bool) → ((x && b) || (y && b)) ≡ ((x || y) && b)
 one_more_new x y b = grind arith
 
-one_more_old : (x y u v b : Bool) → ((x || (u && b)) || (y || (v && b))) ≡ ((x || y) || ((u || v) && b))
+one_more_old : (x y u v b : Bool) → ((x || (u && b)) || (y || (v && b)))
+    ≡ ((x || y) || ((u || v) && b))
 one_more_old x y u v b = grind arith
 
-any_new : (mask : ℕ → Mask) (ks : List ℕ) (s : ℕ) → any_leads mask ks (2 * s) ≡ (has ks (2 * s) && (mask s).none)
+any_new : (mask : ℕ → Mask) (ks : List ℕ) (s : ℕ)
+    → any_leads mask ks (2 * s) ≡ (has ks (2 * s) && (mask s).none)
 any_new mask [] s = refl
 any_new mask (k ∷ ks) s =
     ap (λ (b : Bool). b || any_leads mask ks (2 * s)) (lead_new mask k s)
     ∙ ap (λ (b : Bool). (is_at (nat_cmp (2 * s)) k && (mask s).none) || b) (any_new mask ks s)
     ∙ one_more_new (is_at (nat_cmp (2 * s)) k) (has ks (2 * s)) (mask s).none
 
-any_old : (mask : ℕ → Mask) (ks : List ℕ) (s : ℕ) → any_leads mask ks (2 * s + 1) ≡ (has ks (2 * s + 1) || (has ks (2 * s) && (mask s).some))
+any_old : (mask : ℕ → Mask) (ks : List ℕ) (s : ℕ)
+    → any_leads mask ks (2 * s + 1) ≡ (has ks (2 * s + 1) || (has ks (2 * s) && (mask s).some))
 any_old mask [] s = refl
 any_old mask (k ∷ ks) s =
     ap (λ (b : Bool). b || any_leads mask ks (2 * s + 1)) (lead_old mask k s)
-    ∙ ap (λ (b : Bool). (is_at (nat_cmp (2 * s + 1)) k || (is_at (nat_cmp (2 * s)) k && (mask s).some)) || b) (any_old mask ks s)
-    ∙ one_more_old (is_at (nat_cmp (2 * s + 1)) k) (has ks (2 * s + 1)) (is_at (nat_cmp (2 * s)) k) (has ks (2 * s)) (mask s).some
+    ∙ ap (λ (b : Bool). (is_at (nat_cmp (2 * s + 1)) k
+    || (is_at (nat_cmp (2 * s)) k && (mask s).some)) || b) (any_old mask ks s)
+    ∙ one_more_old (is_at (nat_cmp (2 * s + 1)) k) (has ks (2 * s + 1)) (is_at (nat_cmp (2 * s)) k)
+    (has ks (2 * s)) (mask s).some
 
 even : (s : ℕ) → 2 * s ≡ 2 * s + 0
 even s = omega arith
 
-renamed_at : (mask : ℕ → Mask) (all now : List ℕ) → ((q : ℕ) → has now q ≡ any_leads mask all q) → (s : Site) (old : Bool) → in_numbers now (record { site = s; old = old }) ≡ renamed_labels mask (in_numbers all) (record { site = s; old = old })
+renamed_at : (mask : ℕ → Mask) (all now : List ℕ) → ((q : ℕ) → has now q ≡ any_leads mask all q)
+    → (s : Site) (old : Bool) → in_numbers now (record { site = s; old = old })
+    ≡ renamed_labels mask (in_numbers all) (record { site = s; old = old })
 renamed_at mask all now h s true =
-    h (2 * s.0 + 1) ∙ any_old mask all s.0 ∙ ap (λ (n : ℕ). has all (2 * s.0 + 1) || (has all n && (mask s.0).some)) (even s.0)
+    h (2 * s.0 + 1) ∙ any_old mask all s.0 ∙ ap
+    (λ (n : ℕ). has all (2 * s.0 + 1) || (has all n && (mask s.0).some)) (even s.0)
 renamed_at mask all now h s false =
-    ap (has now) (sym (even s.0)) ∙ h (2 * s.0) ∙ any_new mask all s.0 ∙ ap (λ (n : ℕ). has all n && (mask s.0).none) (even s.0)
+    ap (has now) (sym (even s.0)) ∙ h (2 * s.0) ∙ any_new mask all s.0
+    ∙ ap (λ (n : ℕ). has all n && (mask s.0).none) (even s.0)
 
 -- all is renamed once nothing is to come
-pub renamed_all : (mask : ℕ → Mask) (all rest now : List ℕ) → Renaming mask all rest now → rest ≡ [] → in_numbers now ≡ renamed_labels mask (in_numbers all)
+pub renamed_all : (mask : ℕ → Mask) (all rest now : List ℕ) → Renaming mask all rest now → rest ≡ []
+    → in_numbers now ≡ renamed_labels mask (in_numbers all)
 renamed_all mask all rest now h e =
-    λ i l. (renamed_at mask all now (λ q. sym (or_false (has now q)) ∙ ap (λ (ks : List ℕ). has now q || any_leads mask ks q) (sym e) ∙ h.renamed q) l.site l.old) i
+    λ i l. (renamed_at mask all now (λ q. sym (or_false (has now q))
+    ∙ ap (λ (ks : List ℕ). has now q || any_leads mask ks q) (sym e) ∙ h.renamed q) l.site
+    l.old) i

@@ -27,4 +27,5 @@ number_mask mask n = if n % 2 == 1 then exactly_none else mask (n / 2)
 -- whether objects whose label at the entry has the number n may now have the label of the number q
 abbrev pub leads : (ℕ → Mask) → ℕ → ℕ → Bool
 leads mask n q =
-    ((number_mask mask n).none && is_at (nat_cmp q) n) || ((number_mask mask n).some && is_at (nat_cmp q) (n + 1))
+    ((number_mask mask n).none && is_at (nat_cmp q) n)
+    || ((number_mask mask n).some && is_at (nat_cmp q) (n + 1))

@@ -11,7 +11,8 @@ abbrev pub labels_in : LabelSet → Labels
 labels_in set l = contains nat_cmp set.numbers (label_number l)
 
 abbrev pub value_of : AValue → AbstractValue
-value_of v = record { flags = v.flags; number = v.number; text = v.text; label = labels_in v.labels }
+value_of v =
+    record { flags = v.flags; number = v.number; text = v.text; label = labels_in v.labels }
 
 abbrev pub property_of : AProp → AbstractProperty
 property_of q = record { value = value_of q.value; attrs = q.attrs }

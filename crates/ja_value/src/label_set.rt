@@ -69,7 +69,8 @@ fn insert_renamed(
     masks: &BTreeMap<u64, Mask>,
     number: u64,
 ) -> Result<(), Memory>
-    ensures { IfOk result (λ _. (q : ℕ) → contains nat_cmp numbers.new q ≡ (contains nat_cmp numbers.old q || leads (mask_in masks.now) number q)) }
+    ensures { IfOk result (λ _. (q : ℕ) → contains nat_cmp numbers.new q
+        ≡ (contains nat_cmp numbers.old q || leads (mask_in masks.now) number q)) }
 {
     let mask = number_mask(masks, number);
     if mask.none {
@@ -103,7 +104,8 @@ impl LabelSet {
 
     /// Adds a label. After `Memory` the set is as it was.
     pub fn insert(&mut self, label: Label) -> Result<(), Memory>
-        ensures inserted { IfOk result (λ _. labels_in self.new ≡ (λ l. labels_in self.old l || same_label label l)) }
+        ensures inserted { IfOk result (λ _. labels_in self.new
+            ≡ (λ l. labels_in self.old l || same_label label l)) }
         ensures kept { OnErr result (labels_in self.new ≡ labels_in self.old) }
     {
         let number = label_number(label);
@@ -152,15 +154,17 @@ impl LabelSet {
 
     /// Whether each label of another set is in this one.
     pub fn covers(&self, other: &LabelSet) -> bool
-        ensures { result ≡ true → (λ l. labels_in self.now l || labels_in other.now l) ≡ labels_in self.now }
+        ensures { result ≡ true → (λ l. labels_in self.now l || labels_in other.now l)
+            ≡ labels_in self.now }
     {
         other.numbers.is_subset(&self.numbers)
     }
 
-    /// Adds the labels of another set one by one, and tells whether one of them is new. After `Memory`
-    /// some of them may have been added.
+    /// Adds the labels of another set one by one, and tells whether one of them is new. After
+    /// `Memory` some of them may have been added.
     fn add_all(&mut self, other: &LabelSet) -> Result<bool, Memory>
-        ensures joined { IfOk result (λ _. labels_in self.new ≡ (λ l. labels_in self.old l || labels_in other.now l)) }
+        ensures joined { IfOk result (λ _. labels_in self.new
+            ≡ (λ l. labels_in self.old l || labels_in other.now l)) }
         ensures changed { IfOk result (λ c. c ≡ true → labels_in self.new ≢ labels_in self.old) }
         ensures same { IfOk result (λ c. c ≡ false → labels_in self.new ≡ labels_in self.old) }
     {
@@ -172,10 +176,11 @@ impl LabelSet {
         Ok(changed)
     }
 
-    /// Adds the labels of another set, and tells whether one of them is new. After `Memory` the set is
-    /// as it was.
+    /// Adds the labels of another set, and tells whether one of them is new. After `Memory` the set
+    /// is as it was.
     pub fn join(&mut self, other: &LabelSet) -> Result<bool, Memory>
-        ensures joined { IfOk result (λ _. labels_in self.new ≡ (λ l. labels_in self.old l || labels_in other.now l)) }
+        ensures joined { IfOk result (λ _. labels_in self.new
+            ≡ (λ l. labels_in self.old l || labels_in other.now l)) }
         ensures changed { IfOk result (λ c. c ≡ true → labels_in self.new ≢ labels_in self.old) }
         ensures same { IfOk result (λ c. c ≡ false → labels_in self.new ≡ labels_in self.old) }
         ensures kept { OnErr result (labels_in self.new ≡ labels_in self.old) }
@@ -189,8 +194,8 @@ impl LabelSet {
         Ok(changed)
     }
 
-    /// An object more was made at a site: its new label becomes its old one. After `Memory` the set is
-    /// as it was.
+    /// An object more was made at a site: its new label becomes its old one. After `Memory` the set
+    /// is as it was.
     pub fn age(&mut self, site: Site) -> Result<(), Memory>
         ensures aged { IfOk result (λ _. labels_in self.new ≡ aged_labels site (labels_in self.old)) }
         ensures kept { OnErr result (labels_in self.new ≡ labels_in self.old) }
@@ -204,9 +209,11 @@ impl LabelSet {
         Ok(())
     }
 
-    /// The labels that the objects of these labels at the entry may have now, by the masks of their sites.
+    /// The labels that the objects of these labels at the entry may have now, by the masks of their
+    /// sites.
     pub fn renamed(&self, alloc: Global, masks: &BTreeMap<u64, Mask>) -> Result<LabelSet, Memory>
-        ensures { IfOk result (λ s. labels_in s ≡ renamed_labels (mask_in masks.now) (labels_in self.now)) }
+        ensures { IfOk result (λ s. labels_in s
+            ≡ renamed_labels (mask_in masks.now) (labels_in self.now)) }
     {
         let mut numbers = BTreeSet::new(alloc);
         for number in &self.numbers {

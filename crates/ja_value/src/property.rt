@@ -115,15 +115,18 @@ impl AProp {
 
     /// Whether this property holds another, so that a join changes nothing.
     pub fn covers(&self, other: &AProp) -> bool
-        ensures { result ≡ true → join_properties (property_of self.now) (property_of other.now) ≡ property_of self.now }
+        ensures { result ≡ true → join_properties (property_of self.now) (property_of other.now)
+            ≡ property_of self.now }
     {
         self.value.covers(&other.value)
             && same_attrs(join_attrs(self.attrs, other.attrs), self.attrs)
     }
 
-    /// Joins another property in, and tells whether the property changed. After `Memory` it is as it was.
+    /// Joins another property in, and tells whether the property changed. After `Memory` it is as
+    /// it was.
     pub fn join(&mut self, alloc: Global, other: &AProp) -> Result<bool, Memory>
-        ensures joined { IfOk result (λ _. property_of self.new ≡ join_properties (property_of self.old) (property_of other.now)) }
+        ensures joined { IfOk result (λ _. property_of self.new
+            ≡ join_properties (property_of self.old) (property_of other.now)) }
         ensures changed { IfOk result (λ c. c ≡ true → property_of self.new ≢ property_of self.old) }
         ensures same { IfOk result (λ c. c ≡ false → property_of self.new ≡ property_of self.old) }
         ensures kept { OnErr result (property_of self.new ≡ property_of self.old) }

@@ -238,7 +238,8 @@ impl AValue {
 
     /// Whether this value holds another, so that a join changes nothing.
     pub fn covers(&self, other: &AValue) -> bool
-        ensures { result ≡ true → join (value_of self.now) (value_of other.now) ≡ value_of self.now }
+        ensures { result ≡ true → join (value_of self.now) (value_of other.now)
+            ≡ value_of self.now }
     {
         let flags = join_flags(self.flags, other.flags);
         if !same_flags(flags, self.flags) {
@@ -253,7 +254,8 @@ impl AValue {
 
     /// Joins another value in, and tells whether the value changed. After `Memory` it is as it was.
     pub fn join(&mut self, alloc: Global, other: &AValue) -> Result<bool, Memory>
-        ensures joined { IfOk result (λ _. value_of self.new ≡ join (value_of self.old) (value_of other.now)) }
+        ensures joined { IfOk result (λ _. value_of self.new
+            ≡ join (value_of self.old) (value_of other.now)) }
         ensures changed { IfOk result (λ c. c ≡ true → value_of self.new ≢ value_of self.old) }
         ensures same { IfOk result (λ c. c ≡ false → value_of self.new ≡ value_of self.old) }
         ensures kept { OnErr result (value_of self.new ≡ value_of self.old) }
@@ -266,7 +268,8 @@ impl AValue {
         Ok(flags | number | text | labels)
     }
 
-    /// Whether some part is there besides `absent` and `entry`; of labels, those of the first `sites` sites.
+    /// Whether some part is there besides `absent` and `entry`; of labels, those of the first
+    /// `sites` sites.
     pub fn is_present(&self, sites: u32) -> bool
         ensures { result ≡ is_present (labels_below sites) (value_of self.now) }
     {

@@ -8,9 +8,12 @@ use Rattle.ja_prim.specs.declared.signature.Signature.{Signature}
 use Rattle.ja_device.specs.declared.fault.DevicesFault.{DevicesFault}
 use Rattle.ja_device.specs.declared.fault.DevicesFault.TheVariants.{TooMany, BadName, NoKinds, Twice}
 
--- an ASCII identifier of 1 to 64 characters: letters, digits, `_` and `$`, and no digit first (ES3 7.6)
+-- an ASCII identifier of 1 to 64 characters: letters, digits, `_` and `$`, and no digit first (ES3
+-- 7.6)
 abbrev pub is_identifier : List ℕ → Bool
-is_identifier name = option_map_or (λ c. not (is_digit c)) (slice_get name 0) false && list_all is_part name && nat_le (length name) 64
+is_identifier name =
+    option_map_or (λ c. not (is_digit c)) (slice_get name 0) false && list_all is_part name
+    && nat_le (length name) 64
 
 -- some kind of answers is declared
 abbrev pub has_kind : Kinds → Bool
@@ -22,7 +25,9 @@ is_fit s = is_identifier s.name && has_kind s.kinds
 
 -- No two have one name.
 abbrev pub AreDistinct : List Signature → Type 0
-AreDistinct ss = (i j : ℕ) (s t : Signature) → slice_get ss i ≡ Some s → slice_get ss j ≡ Some t → s.name ≡ t.name → i ≡ j
+AreDistinct ss =
+    (i j : ℕ) (s t : Signature) → slice_get ss i ≡ Some s → slice_get ss j ≡ Some t
+    → s.name ≡ t.name → i ≡ j
 
 -- The devices of a program: at most 64, each fit, and no two with one name.
 pub record AreSignatures (ss : List Signature) : Type 0 where
@@ -36,28 +41,38 @@ pub record IsFirstAt (ss : List Signature) (index : ℕ) (s : Signature) : Type 
   pub at : slice_get ss index ≡ Some s
   pub before : AreSignatures (take index ss)
 
--- why they are no devices of a program: there are too many, or the first that isn't fit has no name for a device, no kinds, or the name
--- of an earlier one
+-- why they are no devices of a program: there are too many, or the first that isn't fit has no name
+-- for a device, no kinds, or the name of an earlier one
 abbrev pub IsRefused : List Signature → DevicesFault → Type 0
 IsRefused ss TooMany = 64 < length ss
-IsRefused ss (BadName index) = (s : Signature) × IsFirstAt ss index s × (is_identifier s.name ≡ false)
-IsRefused ss (NoKinds index) = (s : Signature) × IsFirstAt ss index s × (is_identifier s.name ≡ true) × (has_kind s.kinds ≡ false)
+IsRefused ss (BadName index) =
+    (s : Signature) × IsFirstAt ss index s × (is_identifier s.name ≡ false)
+IsRefused ss (NoKinds index) =
+    (s : Signature) × IsFirstAt ss index s × (is_identifier s.name ≡ true)
+    × (has_kind s.kinds ≡ false)
 IsRefused ss (Twice first second) =
-    (s : Signature) × (t : Signature) × IsFirstAt ss second s × (is_fit s ≡ true) × (first < second) × (slice_get ss first ≡ Some t) × (t.name ≡ s.name)
+    (s : Signature) × (t : Signature) × IsFirstAt ss second s × (is_fit s ≡ true) × (first < second)
+    × (slice_get ss first ≡ Some t) × (t.name ≡ s.name)
 
 -- the first of some names that is this one, if there is one
 abbrev pub IsPosition : List (List ℕ) → List ℕ → Option ℕ → Type 0
 IsPosition names name None = (i : ℕ) → slice_get names i ≡ Some name → ⊥
-IsPosition names name (Some i) = (slice_get names i ≡ Some name) × ((j : ℕ) → slice_get names j ≡ Some name → i ≤ j)
+IsPosition names name (Some i) =
+    (slice_get names i ≡ Some name) × ((j : ℕ) → slice_get names j ≡ Some name → i ≤ j)
 
 -- why a device can't stand behind others, if it can't
 abbrev pub IsFaultBehind : List Signature → Signature → Option DevicesFault → Type 0
-IsFaultBehind before s None = (is_fit s ≡ true) × ((i : ℕ) (t : Signature) → slice_get before i ≡ Some t → t.name ≡ s.name → ⊥)
+IsFaultBehind before s None =
+    (is_fit s ≡ true) × ((i : ℕ) (t : Signature) → slice_get before i ≡ Some t → t.name ≡ s.name
+    → ⊥)
 IsFaultBehind before s (Some TooMany) = ⊥
-IsFaultBehind before s (Some (BadName index)) = (index ≡ length before) × (is_identifier s.name ≡ false)
-IsFaultBehind before s (Some (NoKinds index)) = (index ≡ length before) × (is_identifier s.name ≡ true) × (has_kind s.kinds ≡ false)
+IsFaultBehind before s (Some (BadName index)) =
+    (index ≡ length before) × (is_identifier s.name ≡ false)
+IsFaultBehind before s (Some (NoKinds index)) =
+    (index ≡ length before) × (is_identifier s.name ≡ true) × (has_kind s.kinds ≡ false)
 IsFaultBehind before s (Some (Twice first second)) =
-    (second ≡ length before) × (is_fit s ≡ true) × ((t : Signature) × (slice_get before first ≡ Some t) × (t.name ≡ s.name))
+    (second ≡ length before) × (is_fit s ≡ true)
+    × ((t : Signature) × (slice_get before first ≡ Some t) × (t.name ≡ s.name))
 
 -- whether some devices can be a program's, or why not
 abbrev pub IsJudged : List Signature → Option DevicesFault → Type 0

@@ -9,4 +9,10 @@ label_of l = record { name = l.name.now; is_loop = l.is_loop }
 
 -- what a stored context says
 abbrev pub context_of : Stored → Context
-context_of c = record { in_function = c.in_function; in_loop = c.in_loop; in_breakable = c.in_breakable; labels = map label_of c.labels.items }
+context_of c =
+    record {
+      in_function = c.in_function;
+      in_loop = c.in_loop;
+      in_breakable = c.in_breakable;
+      labels = map label_of c.labels.items;
+    }

@@ -34,18 +34,22 @@ default_value p hint.Text = p.text_first
 
 -- each node of the function is well formed
 abbrev pub AreNodesWellFormed : Program → Function → Type 0
-AreNodesWellFormed p fn = (n : ℕ) (info : NodeInfo) → slice_get fn.nodes n ≡ Some info → IsNodeWellFormed p fn info
+AreNodesWellFormed p fn =
+    (n : ℕ) (info : NodeInfo) → slice_get fn.nodes n ≡ Some info → IsNodeWellFormed p fn info
 
 -- each function is well formed
 abbrev pub AreFunctionsWellFormed : Program → Type 0
-AreFunctionsWellFormed p = (f : ℕ) (fn : Function) → slice_get p.functions f ≡ Some fn → IsFunctionWellFormed p fn
+AreFunctionsWellFormed p =
+    (f : ℕ) (fn : Function) → slice_get p.functions f ≡ Some fn → IsFunctionWellFormed p fn
 
 -- ---- sites
 
--- the sites have the numbers from the first on and end before the last, in order, and the program tells each
+-- the sites have the numbers from the first on and end before the last, in order, and the program
+-- tells each
 abbrev pub AreNumbered : Program → ℕ → ℕ → List OwnedMaking → Type 0
 AreNumbered p first last [] = first ≡ last
-AreNumbered p first last (m ∷ ms) = (m.making.site.0 ≡ first) × IsSiteTold p m × AreNumbered p (first + 1) last ms
+AreNumbered p first last (m ∷ ms) =
+    (m.making.site.0 ≡ first) × IsSiteTold p m × AreNumbered p (first + 1) last ms
 
 -- a site has no owner
 abbrev pub IsUnowned : Program → ℕ → Type 0
@@ -79,15 +83,19 @@ HaveContents p qs = (j : ℕ) (q : PropertySpec) → slice_get qs j ≡ Some q �
 
 -- a property before the k-th has this name
 abbrev pub IsPropertyBefore : List PropertySpec → ℕ → NameId → Type 0
-IsPropertyBefore qs k n = (j : ℕ) × (q : PropertySpec) × (j < k) × (slice_get qs j ≡ Some q) × (q.name.0 ≡ n.0)
+IsPropertyBefore qs k n =
+    (j : ℕ) × (q : PropertySpec) × (j < k) × (slice_get qs j ≡ Some q) × (q.name.0 ≡ n.0)
 
 -- each name is that of one property
 abbrev pub AreOnce : List PropertySpec → Type 0
-AreOnce qs = (j k : ℕ) (q r : PropertySpec) → slice_get qs j ≡ Some q → slice_get qs k ≡ Some r → q.name.0 ≡ r.name.0 → j ≡ k
+AreOnce qs =
+    (j k : ℕ) (q r : PropertySpec) → slice_get qs j ≡ Some q → slice_get qs k ≡ Some r
+    → q.name.0 ≡ r.name.0 → j ≡ k
 
 -- each object is well formed
 abbrev pub AreObjectsWellFormed : Program → Type 0
-AreObjectsWellFormed p = (i : ℕ) (o : ObjectSpec) → slice_get p.opening i ≡ Some o → IsObjectWellFormed p i o
+AreObjectsWellFormed p =
+    (i : ℕ) (o : ObjectSpec) → slice_get p.opening i ≡ Some o → IsObjectWellFormed p i o
 
 -- each site without a node has an object
 abbrev pub HaveObjects : Program → Type 0
@@ -101,7 +109,8 @@ IsAmong names k t = (j : ℕ) × (j < k) × (slice_get names j ≡ Some t)
 
 -- no text stands twice
 abbrev pub AreDistinct : List (List ℕ) → Type 0
-AreDistinct names = (i j : ℕ) (t : List ℕ) → slice_get names i ≡ Some t → slice_get names j ≡ Some t → i ≡ j
+AreDistinct names =
+    (i j : ℕ) (t : List ℕ) → slice_get names i ≡ Some t → slice_get names j ≡ Some t → i ≡ j
 
 -- ---- sites of nodes
 
@@ -109,10 +118,12 @@ AreDistinct names = (i j : ℕ) (t : List ℕ) → slice_get names i ≡ Some t 
 abbrev pub EndsAt : Program → ℕ → List OwnedMaking → Option ℕ → Type 0
 EndsAt p first ms result = (last : ℕ) → (result ≡ Some last) ↔ AreNumbered p first last ms
 
--- the sites of nodes stand behind those of the opening heap, numbered by function and node, and the program tells each
+-- the sites of nodes stand behind those of the opening heap, numbered by function and node, and the
+-- program tells each
 pub record AreSitesNumbered (p : Program) : Type 0 where
   pub sites : length p.opening ≤ length p.sites
-  pub numbered : map (λ (m : OwnedMaking). m.making.site.0) (makings_from 0 p.functions) ≡ range_with_len (length p.opening) (length p.sites - length p.opening)
+  pub numbered : map (λ (m : OwnedMaking). m.making.site.0) (makings_from 0 p.functions)
+      ≡ range_with_len (length p.opening) (length p.sites - length p.opening)
   pub told : AllByRecursion (IsSiteTold p) (makings_from 0 p.functions)
 
 -- ---- the program

@@ -26,5 +26,7 @@ Explains signatures statements (fault.Unbuilt place) = ⊥
 
 -- .. and of one that is analysed
 abbrev pub ExplainsAnalysis : List Signature → List Statement → LoadFault → Type 0
-ExplainsAnalysis signatures statements (fault.Unbuilt place) = IsWithin (names_before signatures) statements × (unbuilt (device_names signatures) statements ≡ Some place)
+ExplainsAnalysis signatures statements (fault.Unbuilt place) =
+    IsWithin (names_before signatures) statements
+    × (unbuilt (device_names signatures) statements ≡ Some place)
 ExplainsAnalysis signatures statements f = Explains signatures statements f

@@ -7,5 +7,7 @@ use Rattle.ja_lower.proofs.add_names.Given as goal
 
 abbrev pub invariant-loop-named : goal.invariant-loop-named
 invariant-loop-named l =
-    fold with_name l.names (map (λ n. n.text) (filter (is_name l.specials) (map named_of (drop l.named-index l.texts))))
-    ≡ fold with_name l.initial.names (map (λ n. n.text) (filter (is_name l.specials) (map named_of l.texts)))
+    fold with_name l.names (map (λ n. n.text)
+    (filter (is_name l.specials) (map named_of (drop l.named-index l.texts))))
+    ≡ fold with_name l.initial.names (map (λ n. n.text)
+    (filter (is_name l.specials) (map named_of l.texts)))

@@ -17,11 +17,14 @@ ExplainsSize functions size names Memory = Unit {0}
 
 abbrev pub Explains : List (List ℕ) → List Statement → LowerFault → Type 0
 Explains names statements fault =
-    ExplainsSize (function_count statements) (size_of names statements) (length (names_of false names statements)) fault
+    ExplainsSize (function_count statements) (size_of names statements)
+    (length (names_of false names statements)) fault
 
 abbrev pub ExplainsPrelude : List (List ℕ) → List Statement → LowerFault → Type 0
 ExplainsPrelude names statements fault =
-    ExplainsSize (prelude_count statements) (prelude_size_of names statements) (length (prelude_names names statements)) fault
+    ExplainsSize (prelude_count statements) (prelude_size_of names statements)
+    (length (prelude_names names statements)) fault
 
 abbrev pub IsPreludeWithin : List (List ℕ) → List Statement → Type 0
-IsPreludeWithin names statements = IsWithinSize (prelude_count statements) (prelude_size_of names statements)
+IsPreludeWithin names statements =
+    IsWithinSize (prelude_count statements) (prelude_size_of names statements)

@@ -8,30 +8,47 @@ use Rattle.ja_lower_expressions.proofs.+forms.Given as goal
 
 -- what is left comes to what all came to at the loop's entry
 
-abbrev pub invariant-call::list_arguments-loop-argument : goal.invariant-call::list_arguments-loop-argument
+abbrev pub invariant-call::list_arguments-loop-argument :
+    goal.invariant-call::list_arguments-loop-argument
 invariant-call::list_arguments-loop-argument l =
-    list_arguments (map form (drop l.argument-index l.arguments)) l.scene l.draft l.values.items ≡ list_arguments (map form l.arguments) l.scene l.fn.draft []
+    list_arguments (map form (drop l.argument-index l.arguments)) l.scene l.draft l.values.items
+    ≡ list_arguments (map form l.arguments) l.scene l.fn.draft []
 
-abbrev pub invariant-expression::operations-loop-next : goal.invariant-expression::operations-loop-next
+abbrev pub invariant-expression::operations-loop-next :
+    goal.invariant-expression::operations-loop-next
 invariant-expression::operations-loop-next l =
-    apply_operations l.place (map operation_of (drop l.next-index l.operations)) l.scene (record { listing = l.draft; value = l.left }) ≡ apply_operations l.place (map operation_of l.operations) l.scene (record { listing = l.fn.draft; value = l.fn.first })
+    apply_operations l.place (map operation_of (drop l.next-index l.operations)) l.scene
+    (record { listing = l.draft; value = l.left })
+    ≡ apply_operations l.place (map operation_of l.operations) l.scene
+    (record { listing = l.fn.draft; value = l.fn.first })
 
 abbrev pub invariant-expression::others-loop-other : goal.invariant-expression::others-loop-other
 invariant-expression::others-loop-other l =
-    list_others (map form (drop l.other-index l.others)) l.scene (record { listing = l.draft; value = l.last }) ≡ list_others (map form l.others) l.scene (record { listing = l.fn.draft; value = l.fn.first })
+    list_others (map form (drop l.other-index l.others)) l.scene
+    (record { listing = l.draft; value = l.last })
+    ≡ list_others (map form l.others) l.scene
+    (record { listing = l.fn.draft; value = l.fn.first })
 
 abbrev pub invariant-expression::suffixes-loop-next : goal.invariant-expression::suffixes-loop-next
 invariant-expression::suffixes-loop-next l =
-    fold (with_suffix l.scene) (record { listing = l.draft; outcome = l.outcome }) (map suffix_of (drop l.next-index l.suffixes)) ≡ fold (with_suffix l.scene) (record { listing = l.fn.draft; outcome = l.fn.head }) (map suffix_of l.suffixes)
+    fold (with_suffix l.scene) (record { listing = l.draft; outcome = l.outcome })
+    (map suffix_of (drop l.next-index l.suffixes))
+    ≡ fold (with_suffix l.scene) (record { listing = l.fn.draft; outcome = l.fn.head })
+    (map suffix_of l.suffixes)
 
 abbrev pub invariant-literal::object-loop-property : goal.invariant-literal::object-loop-property
 invariant-literal::object-loop-property l =
-    write_members l.scene l.place l.object (map property_of (drop l.property-index l.properties)) l.draft ≡ write_members l.scene l.place l.object (map property_of l.properties) l.initial.draft
+    write_members l.scene l.place l.object (map property_of (drop l.property-index l.properties))
+    l.draft ≡ write_members l.scene l.place l.object (map property_of l.properties)
+    l.initial.draft
 
-abbrev pub invariant-literal::write_elements-loop-element : goal.invariant-literal::write_elements-loop-element
+abbrev pub invariant-literal::write_elements-loop-element :
+    goal.invariant-literal::write_elements-loop-element
 invariant-literal::write_elements-loop-element l = record {
   counted : l.index ≡ l.element-index;
-  left : write_elements l.scene l.place l.array l.index (map element_of (drop l.element-index l.elements)) l.draft ≡ write_elements l.scene l.place l.array 0 (map element_of l.elements) l.fn.draft;
+  left : write_elements l.scene l.place l.array l.index
+      (map element_of (drop l.element-index l.elements)) l.draft
+      ≡ write_elements l.scene l.place l.array 0 (map element_of l.elements) l.fn.draft;
 }
 
 -- ---- each call goes down the tree, or takes what it was given to a function of a lower rank

@@ -11,8 +11,8 @@ use Rattle.ja_lower_listing.specs.declared.edges.Edges.{Edges}
 use Rattle.ja_lower_listing.specs.Listing.{node_count, behind, led}
 use Rattle.ja_lower_listing.specs.code.Spots.{target_of}
 
--- what a pass from the end of a listing knows of the lines that it has passed: where a run goes on from their beginning, and from
--- each spot among them
+-- what a pass from the end of a listing knows of the lines that it has passed: where a run goes on
+-- from their beginning, and from each spot among them
 pub record Seen : Type 0 where
   pub here : Target
   pub at : ℕ → Option Target
@@ -24,20 +24,32 @@ known seen s = unwrap_or (seen.at s.0) (target.Spot s)
 unfoldable pub seen : List Item → List Item → Seen
 seen whole [] = record { here = target.Behind; at = λ q. None }
 seen whole (item.Node node other handler place ∷ items) =
-    record { here = target.Node (node_count whole - suc (node_count items)); at = (seen whole items).at }
+    record {
+      here = target.Node (node_count whole - suc (node_count items));
+      at = (seen whole items).at;
+    }
 seen whole (item.Spot s ∷ items) =
     let passed = seen whole items in
-    record { here = passed.here; at = λ q. option_or (passed.at q) (if s.0 == q then Some passed.here else None) }
+    record {
+      here = passed.here;
+      at = λ q. option_or (passed.at q)
+          (if s.0 == q then Some passed.here else None);
+    }
 seen whole (item.Jump s ∷ items) =
     let passed = seen whole items in record { here = known passed s; at = passed.at }
 seen whole (item.Copy block ∷ items) =
     let passed = seen whole items in
-    record { here = led (node_count whole - (length block.nodes + node_count items)) (known passed) passed.here block.entry; at = passed.at }
+    record {
+      here = led (node_count whole - (length block.nodes + node_count items)) (known passed)
+          passed.here block.entry;
+      at = passed.at;
+    }
 
 -- where a run goes on behind each node and each copy at the end of a listing, the last one first
 unfoldable pub ways_on : List Item → List Item → List Target
 ways_on whole [] = []
-ways_on whole (item.Node node other handler place ∷ items) = ways_on whole items ++ (seen whole items).here ∷ []
+ways_on whole (item.Node node other handler place ∷ items) =
+    ways_on whole items ++ (seen whole items).here ∷ []
 ways_on whole (item.Spot s ∷ items) = ways_on whole items
 ways_on whole (item.Jump s ∷ items) = ways_on whole items
 ways_on whole (item.Copy block ∷ items) = ways_on whole items ++ (seen whole items).here ∷ []
@@ -51,17 +63,21 @@ unfoldable pub after : List Item → ℕ → Target → Target
 after whole zero t = t
 after whole (suc turns) t = after whole turns (further whole t)
 
--- a spot that stands in the listing leads further: more jumps than the turns that were taken go round
+-- a spot that stands in the listing leads further: more jumps than the turns that were taken go
+-- round
 abbrev pub landed : List Item → Target → Target
-landed whole (target.Spot s) = option_map_or (λ t. target.Out) ((seen whole whole).at s.0) (target.Spot s)
+landed whole (target.Spot s) =
+    option_map_or (λ t. target.Out) ((seen whole whole).at s.0) (target.Spot s)
 landed whole other = other
 
 abbrev pub followed : List Item → Target → Target
 followed whole t = landed whole (after whole (suc (length whole)) t)
 
--- items stand at the end of a listing, so that what is behind a spot in them is behind it in the listing
+-- items stand at the end of a listing, so that what is behind a spot in them is behind it in the
+-- listing
 abbrev pub IsEnd : List Item → List Item → Type 0
-IsEnd whole items = (s : Spot) (rest : List Item) → behind s items ≡ Some rest → behind s whole ≡ Some rest
+IsEnd whole items =
+    (s : Spot) (rest : List Item) → behind s items ≡ Some rest → behind s whole ≡ Some rest
 
 -- what a pass from the end of a listing has of the items that it has passed
 pub record HasPassed (pass : Backward) (whole items : List Item) : Type 0 where

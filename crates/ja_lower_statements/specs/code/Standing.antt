@@ -25,10 +25,17 @@ step_of (step.Finally saved) labels text None = ways.of_catch saved
 
 -- a way has the labels of a loop, the text of a label, and the block of a `finally`
 abbrev pub way_of : Way → ways.Way
-way_of way = step_of way.step (map (λ t. t.now) way.labels.now) way.text.now (option_map (λ t. t.now) way.block)
+way_of way =
+    step_of way.step (map (λ t. t.now) way.labels.now) way.text.now
+    (option_map (λ t. t.now) way.block)
 
 abbrev pub around_of : Around → statements.Around
-around_of a = record { scene = a.scene.now; ways = map way_of a.ways.now; labels = map (λ t. t.now) a.labels.now }
+around_of a =
+    record {
+      scene = a.scene.now;
+      ways = map way_of a.ways.now;
+      labels = map (λ t. t.now) a.labels.now;
+    }
 
 -- what the functions that leave a way give, unless memory was refused
 abbrev pub Leaves : ways.Leaving → Result (Option Reg) Memory → Listing → Type 0

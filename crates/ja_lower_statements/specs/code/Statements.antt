@@ -46,7 +46,8 @@ target_of (target.Variable declaration) = target.Variable (declaration_of declar
 target_of (target.Reference value) = target.Reference (form value)
 
 abbrev pub clause_of : Case → Clause
-clause_of case = record { test = option_map form (out-Case case).test; body = map does (out-Case case).body }
+clause_of case =
+    record { test = option_map form (out-Case case).test; body = map does (out-Case case).body }
 
 abbrev pub catch_of : CatchOf Statement → CatchOf Does
 catch_of caught = record { parameter = caught.parameter; body = map does caught.body }

@@ -22,30 +22,40 @@ variable_value g b false = assignment g b false
 
 -- the clauses of a `switch` behind those that were found, and the `}`, in at most n turns
 unfoldable pub clauses_from : Rules → Below → Context → ℕ → Clauses → Parser (List Case)
-clauses_from g b c n cs = many_from (λ cs. look (λ t. clause_by g b c cs (symbol t))) n cs >>= (λ cs. expect k.CloseBrace >> pure cs.found)
+clauses_from g b c n cs =
+    many_from (λ cs. look (λ t. clause_by g b c cs (symbol t))) n cs >>=
+    (λ cs. expect k.CloseBrace >> pure cs.found)
 
 -- the clauses of a `switch`, and its `}`
 unfoldable pub clauses_behind : Rules → Below → Context → Parser (List Case)
-clauses_behind g b c = many (λ cs. look (λ t. clause_by g b c cs (symbol t))) (record { defaulted = false; found = [] }) >>= (λ cs. expect k.CloseBrace >> pure cs.found)
+clauses_behind g b c =
+    many (λ cs. look (λ t. clause_by g b c cs (symbol t)))
+    (record { defaulted = false; found = [] }) >>= (λ cs. expect k.CloseBrace >> pure cs.found)
 
 -- what stands behind the `catch` of a `try`
-abbrev pub try_behind_catch_by : Rules → Below → Context → Place → List Statement → CatchOf Statement → Symbol → Parser Statement
-try_behind_catch_by g b c place xs h k.Finally = finally g b c >>= (λ ys. pure (s.Try xs (Some h) (Some ys) place))
+abbrev pub try_behind_catch_by : Rules → Below → Context → Place → List Statement
+    → CatchOf Statement → Symbol → Parser Statement
+try_behind_catch_by g b c place xs h k.Finally =
+    finally g b c >>= (λ ys. pure (s.Try xs (Some h) (Some ys) place))
 try_behind_catch_by g b c place xs h _ = pure (s.Try xs (Some h) None place)
 
-abbrev pub try_behind_catch : Rules → Below → Context → Place → List Statement → CatchOf Statement → Parser Statement
+abbrev pub try_behind_catch : Rules → Below → Context → Place → List Statement → CatchOf Statement
+    → Parser Statement
 try_behind_catch g b c place xs h = look (λ t. try_behind_catch_by g b c place xs h (symbol t))
 
 -- a `try`
 abbrev pub try_whole : Rules → Below → Context → Parser Statement
-try_whole g b c = take_token >>= (λ t. block g b c >>= (λ xs. look (λ u. handlers_by g b c t xs (symbol u))))
+try_whole g b c =
+    take_token >>= (λ t. block g b c >>= (λ xs. look (λ u. handlers_by g b c t xs (symbol u))))
 
 -- a `for` from its first `;` on
-abbrev pub for_rest_behind : Rules → Below → Context → Place → ForFirst Expression → Parser Statement
+abbrev pub for_rest_behind : Rules → Below → Context → Place → ForFirst Expression
+    → Parser Statement
 for_rest_behind g b c place x = expect k.Semicolon >> for_rest g b c place x
 
 -- a `for` behind its variables
-abbrev pub variables_behind : Rules → Below → Context → Place → List (Declaration Expression) → Parser Statement
+abbrev pub variables_behind : Rules → Below → Context → Place → List (Declaration Expression)
+    → Parser Statement
 variables_behind g b c place xs = look (λ t. for_variables_by g b c place xs (symbol t))
 
 -- a `for` behind its `(`

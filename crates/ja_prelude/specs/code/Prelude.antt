@@ -4,4 +4,5 @@ use Rattle.ja_prelude.specs.Prelude.{prelude_statements, prelude_paths, prelude_
 
 -- what the code keeps of them
 abbrev pub the_prelude : Prelude
-the_prelude = record { statements = prelude_statements; paths = prelude_paths; names = prelude_names }
+the_prelude =
+    record { statements = prelude_statements; paths = prelude_paths; names = prelude_names }

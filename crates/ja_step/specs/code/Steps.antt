@@ -53,7 +53,8 @@ held c r = register_of (frame_of c.frame) r
 
 -- where the state stands: at this node
 abbrev pub standing : Conf → NodeInfo → Standing
-standing c info = record { conf = conf_of c; top = frame_of c.frame; below = below_of c; info = info }
+standing c info =
+    record { conf = conf_of c; top = frame_of c.frame; below = below_of c; info = info }
 
 -- The event of a step from one state to another: the run goes on, or it ends. The step is counted.
 abbrev pub step_counted : Conf → Conf → machine_conf.Conf

@@ -30,9 +30,11 @@ is_function statement = is_function_at (out-Statement statement)
 -- the places of the function declarations among statements, the first of which has the place `at`
 abbrev pub functions_from : ℕ → List Statement → List ℕ
 functions_from at [] = []
-functions_from at (s ∷ ss) = if is_function s then at ∷ functions_from (suc at) ss else functions_from (suc at) ss
+functions_from at (s ∷ ss) =
+    if is_function s then at ∷ functions_from (suc at) ss else functions_from (suc at) ss
 
--- The function declarations of a body or of the program, by their places in it. They stand in no other statement.
+-- The function declarations of a body or of the program, by their places in it. They stand in no
+-- other statement.
 unfoldable pub hoisted_functions : List Statement → List ℕ
 hoisted_functions = functions_from 0
 

@@ -40,7 +40,13 @@ within around = record around { labels_before = []; at_top = false }
 
 -- around the body of a loop
 unfoldable pub within_loop : Around → Around
-within_loop around = record around { loop_labels = around.labels_before ++ around.loop_labels; labels_before = []; in_loop = true; at_top = false }
+within_loop around =
+    record around {
+      loop_labels = around.labels_before ++ around.loop_labels;
+      labels_before = [];
+      in_loop = true;
+      at_top = false;
+    }
 
 -- around the statements of a `switch`
 unfoldable pub within_switch : Around → Around
@@ -48,7 +54,12 @@ within_switch around = record around { labels_before = []; in_switch = true; at_
 
 -- around a statement that is labelled
 unfoldable pub labelled : List ℕ → Around → Around
-labelled label around = record around { labels = label ∷ around.labels; labels_before = label ∷ around.labels_before; at_top = false }
+labelled label around =
+    record around {
+      labels = label ∷ around.labels;
+      labels_before = label ∷ around.labels_before;
+      at_top = false;
+    }
 
 -- a label is among others
 unfoldable pub is_among : List ℕ → List (List ℕ) → Bool
@@ -93,7 +104,8 @@ jumps_step (Statement-F.Block body place) around = all_keep body (within around)
 jumps_step (Statement-F.Variables declarations place) around = true
 jumps_step (Statement-F.Empty place) around = true
 jumps_step (Statement-F.Expression value place) around = true
-jumps_step (Statement-F.If condition first second place) around = first (within around) && if_any second (within around)
+jumps_step (Statement-F.If condition first second place) around =
+    first (within around) && if_any second (within around)
 jumps_step (Statement-F.Do body condition place) around = body (within_loop around)
 jumps_step (Statement-F.While condition body place) around = body (within_loop around)
 jumps_step (Statement-F.For first condition update body place) around = body (within_loop around)
@@ -103,11 +115,13 @@ jumps_step (Statement-F.Break label place) around = may_break label around
 -- `return` stands in a function (12.9).
 jumps_step (Statement-F.Return value place) around = around.in_function
 -- No label stands in a statement of the same label (12.12).
-jumps_step (Statement-F.Labelled label body) around = not (is_among label.text around.labels) && body (labelled label.text around)
+jumps_step (Statement-F.Labelled label body) around =
+    not (is_among label.text around.labels) && body (labelled label.text around)
 jumps_step (Statement-F.Switch value cases place) around = all_keep cases (within_switch around)
 jumps_step (Statement-F.Throw value place) around = true
 jumps_step (Statement-F.Try block catch finally place) around =
-    all_keep block (within around) && catch_keeps catch (within around) && finally_keeps finally (within around)
+    all_keep block (within around) && catch_keeps catch (within around)
+    && finally_keeps finally (within around)
 -- A function declaration stands in no other statement (13, 14); its own body begins anew.
 jumps_step (Statement-F.Statement::Function function) around = around.at_top
 
@@ -121,4 +135,5 @@ jumps_well = fold-Statement (Unit {0}) Judged Judged (λ expression. tt) jumps_s
 
 -- Those of a function's body, or (false) of the program.
 unfoldable pub body_jumps_well : Bool → List Statement → Bool
-body_jumps_well in_function statements = list_all (λ statement. jumps_well statement (around_body in_function)) statements
+body_jumps_well in_function statements =
+    list_all (λ statement. jumps_well statement (around_body in_function)) statements

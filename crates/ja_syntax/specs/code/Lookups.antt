@@ -4,4 +4,5 @@ use Rattle.std.specs.Prelude.{ℕ, ◌==◌, if◌then◌else◌, List, [], ◌�
 -- the entries of a table whose texts have a length
 abbrev pub of_length : {A : Type 0} → ℕ → List (List ℕ × A) → List (List ℕ × A)
 of_length n [] = []
-of_length n (entry ∷ entries) = if length entry.0 == n then entry ∷ of_length n entries else of_length n entries
+of_length n (entry ∷ entries) =
+    if length entry.0 == n then entry ∷ of_length n entries else of_length n entries

@@ -1,4 +1,5 @@
--- Where the name `arguments` is looked up, form by form of the tree, for the functions that look for it.
+-- Where the name `arguments` is looked up, form by form of the tree, for the functions that look
+-- for it.
 use Rattle.std.specs.Prelude.{Bool, false, List, Option, Some, None}
 use Rattle.std.specs.List.{list_any}
 use Rattle.ja_syntax.specs.declared.tree.Declaration.{Declaration}

@@ -31,14 +31,15 @@ abbrev pub may_declare_any : Option Name → Bool
 may_declare_any None = true
 may_declare_any (Some name) = may_declare name
 
--- A function (13): its name and parameters may be declared, and the jumps of its body keep the rules.
+-- A function (13): its name and parameters may be declared, and the jumps of its body keep the
+-- rules.
 pub record FunctionKeepsRules (function : FunctionOf Statement) : Type 0 where
   pub name : IsTrue (may_declare_any function.name)
   pub parameters : IsTrue (list_all may_declare function.parameters)
   pub jumps : IsTrue (body_jumps_well true function.body)
 
--- What is asked of an expression, beside what is asked of those inside: the operand of `++` and `--`
--- (11.3, 11.4.4, 11.4.5) and the target of an assignment (11.13) are references.
+-- What is asked of an expression, beside what is asked of those inside: the operand of `++` and
+-- `--` (11.3, 11.4.4, 11.4.5) and the target of an assignment (11.13) are references.
 abbrev pub ExpressionKeepsRules : Expression-F Expression Statement Case → Type 0
 ExpressionKeepsRules (Expression-F.Update operator operand place) = IsTrue (is_reference operand)
 ExpressionKeepsRules (Expression-F.Assign goal operator value place) = IsTrue (is_reference goal)
@@ -66,22 +67,26 @@ catch_may_declare None = true
 catch_may_declare (Some catch) = may_declare catch.parameter
 
 -- A `try` has a `catch` or a `finally` (12.14).
-pub record TryKeepsRules (catch : Option (CatchOf Statement)) (finally : Option (List Statement)) : Type 0 where
+pub record TryKeepsRules (catch : Option (CatchOf Statement))
+    (finally : Option (List Statement)) : Type 0 where
   pub handled : IsTrue (is_some catch || is_some finally)
   pub parameter : IsTrue (catch_may_declare catch)
 
 -- What is asked of a statement, beside what is asked of what is inside.
 abbrev pub StatementKeepsRules : Statement-F Expression Statement Case → Type 0
-StatementKeepsRules (Statement-F.Variables declarations place) = IsTrue (may_declare_all declarations)
-StatementKeepsRules (Statement-F.For first condition update body place) = IsTrue (first_may_declare first)
+StatementKeepsRules (Statement-F.Variables declarations place) =
+    IsTrue (may_declare_all declarations)
+StatementKeepsRules (Statement-F.For first condition update body place) =
+    IsTrue (first_may_declare first)
 StatementKeepsRules (Statement-F.ForIn goal object body place) = IsTrue (is_target goal)
 StatementKeepsRules (Statement-F.Switch value cases place) = length (filter is_default cases) ≤ 1
 StatementKeepsRules (Statement-F.Try block catch finally place) = TryKeepsRules catch finally
 StatementKeepsRules (Statement-F.Statement::Function function) = FunctionKeepsRules function
 StatementKeepsRules _ = Unit {0}
 
--- A program keeps the rules (14): the jumps of its own statements do, and so does each expression and
--- statement anywhere in it, functions included.
+-- A program keeps the rules (14): the jumps of its own statements do, and so does each expression
+-- and statement anywhere in it, functions included.
 pub record KeepsRules (statements : List Statement) : Type 0 where
   pub jumps : IsTrue (body_jumps_well false statements)
-  pub everywhere : All (every-Statement ExpressionKeepsRules StatementKeepsRules (λ case. Unit {0})) statements
+  pub everywhere : All (every-Statement ExpressionKeepsRules StatementKeepsRules (λ case. Unit {0}))
+      statements

@@ -4,4 +4,6 @@ use Rattle.std.specs.Prelude.{map, slice_get}
 use Rattle.ja_device.proofs.refusing.position.Given as goal
 
 abbrev pub invariant-loop-index : goal.invariant-loop-index
-invariant-loop-index g l = (k : ℕ) → k < l.index → slice_get (map (λ d. (g.D.Device.seen d).name) l.list) k ≡ Some l.name → ⊥
+invariant-loop-index g l =
+    (k : ℕ) → k < l.index → slice_get (map (λ d. (g.D.Device.seen d).name) l.list) k ≡ Some l.name
+    → ⊥

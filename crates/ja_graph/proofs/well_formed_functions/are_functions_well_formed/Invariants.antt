@@ -5,4 +5,5 @@ use Rattle.ja_graph.proofs.well_formed_functions.are_functions_well_formed.Given
 
 abbrev pub invariant-loop-function : goal.invariant-loop-function
 invariant-loop-function l =
-    (f : ℕ) (fn : Function) → f < l.function-index → slice_get l.program.functions f ≡ Some fn → IsFunctionWellFormed l.program fn
+    (f : ℕ) (fn : Function) → f < l.function-index → slice_get l.program.functions f ≡ Some fn
+    → IsFunctionWellFormed l.program fn

@@ -15,9 +15,13 @@ returns-then-are_names c =
       | then-has_registers w ↦
           (elim c.if-is_last_escape.branch [
             | then-is_last_escape v ↦
-                (let ends = subst (λ (xs : List NodeInfo). LastIsEscape xs) c.as_slice.ensures (c.is_last_escape.ensures.0 v.if-is_last_escape.true) in
-                let registers = v.has_registers.ensures.0 (sym v.value-is ∙ w.if-has_registers.true) in
-                let parameters = subst (λ (xs : List NameId). AllByRecursion (IsName p) xs) w.as_slice-then-has_registers.ensures (w.are_names.ensures.0 (sym w.value-is ∙ c.if-are_names.true)) in (
+                (let ends = subst (λ (xs : List NodeInfo). LastIsEscape xs) c.as_slice.ensures
+                (c.is_last_escape.ensures.0 v.if-is_last_escape.true) in
+                let registers = v.has_registers.ensures.0
+                (sym v.value-is ∙ w.if-has_registers.true) in
+                let parameters = subst (λ (xs : List NameId). AllByRecursion (IsName p) xs)
+                w.as_slice-then-has_registers.ensures
+                (w.are_names.ensures.0 (sym w.value-is ∙ c.if-are_names.true)) in (
                   λ e. record {
                     last = ends.last;
                     last_is = ends.last_is;
@@ -29,7 +33,12 @@ returns-then-are_names c =
                   },
                   λ well. c.are_nodes_well_formed.ensures.1 well.each,
                 ))
-            | else-is_last_escape v ↦ absurd (cc (v.if-is_last_escape.false, v.value-is, w.if-has_registers.true))
+            | else-is_last_escape v ↦ absurd (cc
+                (v.if-is_last_escape.false, v.value-is, w.if-has_registers.true))
           ])
-      | else-has_registers w ↦ absurd (cc (w.if-has_registers.false, w.value-is, c.if-are_names.true))
+      | else-has_registers w ↦ absurd (cc (
+        w.if-has_registers.false,
+        w.value-is,
+        c.if-are_names.true,
+      ))
     ]

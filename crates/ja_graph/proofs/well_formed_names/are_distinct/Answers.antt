@@ -9,8 +9,11 @@ pub loop-k-preserved : goal.loop-k-preserved
 loop-k-preserved c =
     let names = c.args.names.now in
     let k = c.loop-k.k in
-    let found : slice_get names k ≡ Some c.index-names-k.result = read_at names k c.index-names-k.result (omega arith) (cc) in
-    names_more names k c.index-names-k.result c.loop-k.invariant found (λ among. true≢false (sym (c.if-is_among.ensures.1 (subst (λ (t : List ℕ). IsAmong names k t) (sym c.units.ensures.value) among))))
+    let found : slice_get names k ≡ Some c.index-names-k.result = read_at names k
+    c.index-names-k.result (omega arith) (cc) in
+    names_more names k c.index-names-k.result c.loop-k.invariant found
+    (λ among. true≢false (sym (c.if-is_among.ensures.1
+    (subst (λ (t : List ℕ). IsAmong names k t) (sym c.units.ensures.value) among))))
 
 pub returns : goal.returns
 returns c =

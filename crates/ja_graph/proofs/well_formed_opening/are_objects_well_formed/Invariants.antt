@@ -5,4 +5,5 @@ use Rattle.ja_graph.proofs.well_formed_opening.are_objects_well_formed.Given as 
 
 abbrev pub invariant-loop-i : goal.invariant-loop-i
 invariant-loop-i l =
-    (n : ℕ) (o : ObjectSpec) → n < l.i → slice_get l.program.opening n ≡ Some o → IsObjectWellFormed l.program n o
+    (n : ℕ) (o : ObjectSpec) → n < l.i → slice_get l.program.opening n ≡ Some o
+    → IsObjectWellFormed l.program n o

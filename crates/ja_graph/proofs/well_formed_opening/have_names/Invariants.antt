@@ -5,4 +5,5 @@ use Rattle.ja_graph.proofs.well_formed_opening.have_names.Given as goal
 
 abbrev pub invariant-loop-property : goal.invariant-loop-property
 invariant-loop-property l =
-    (j : ℕ) (q : PropertySpec) → j < l.property-index → slice_get l.properties j ≡ Some q → IsName l.program q.name
+    (j : ℕ) (q : PropertySpec) → j < l.property-index → slice_get l.properties j ≡ Some q
+    → IsName l.program q.name

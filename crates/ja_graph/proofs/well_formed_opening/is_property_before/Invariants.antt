@@ -4,4 +4,5 @@ use Rattle.ja_graph.proofs.well_formed_opening.is_property_before.Given as goal
 
 abbrev pub invariant-loop-j : goal.invariant-loop-j
 invariant-loop-j l =
-    (n : ℕ) (q : PropertySpec) → n < l.j → slice_get l.properties n ≡ Some q → q.name.0 ≡ l.name.0 → ⊥
+    (n : ℕ) (q : PropertySpec) → n < l.j → slice_get l.properties n ≡ Some q → q.name.0 ≡ l.name.0
+    → ⊥

@@ -4,4 +4,5 @@ use Rattle.ja_graph.proofs.well_formed_opening.stands_before.Given as goal
 
 abbrev pub invariant-loop-j : goal.invariant-loop-j
 invariant-loop-j l =
-    (n : ℕ) (q : ObjectSpec) → n < l.j → slice_get l.program.opening n ≡ Some q → q.site.0 ≡ l.site.0 → ⊥
+    (n : ℕ) (q : ObjectSpec) → n < l.j → slice_get l.program.opening n ≡ Some q
+    → q.site.0 ≡ l.site.0 → ⊥

@@ -16,7 +16,11 @@ returns-then-has_opening c =
                   λ e. whole_from_parts p functions sites opening (c.has_names.ensures.0 e),
                   λ well. c.has_names.ensures.1 (parts_of_whole p well).3,
                 ))
-            | else-has_functions v ↦ absurd (cc (v.if-has_functions.false, v.value-is, w.if-has_sites.true))
+            | else-has_functions v ↦ absurd (cc (
+              v.if-has_functions.false,
+              v.value-is,
+              w.if-has_sites.true,
+            ))
           ])
       | else-has_sites w ↦ absurd (cc (w.if-has_sites.false, w.value-is, c.if-has_opening.true))
     ]

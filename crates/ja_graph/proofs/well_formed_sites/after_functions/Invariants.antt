@@ -5,4 +5,5 @@ use Rattle.ja_graph.proofs.well_formed_sites.after_functions.Given as goal
 
 abbrev pub invariant-loop-f : goal.invariant-loop-f
 invariant-loop-f l =
-    (last : ℕ) → AreNumbered l.program l.next last (makings_from l.f (drop l.f l.program.functions)) ↔ AreNumbered l.program (length l.program.opening) last (makings_from 0 l.program.functions)
+    (last : ℕ) → AreNumbered l.program l.next last (makings_from l.f (drop l.f l.program.functions))
+    ↔ AreNumbered l.program (length l.program.opening) last (makings_from 0 l.program.functions)

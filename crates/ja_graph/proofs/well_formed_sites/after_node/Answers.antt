@@ -13,9 +13,14 @@ returns-in_err-next c =
     let i = c.loop-making.making-index in
     let m = c.making-item.result in
     let split = makings_left p owner i made m (omega arith) c.making-item.is in
-    let all = ap (map (owned owner)) (c.as_slice-making-items.ensures ∙ c.makings-makings.ensures) in
-    let never = part_never p c.args.number c.loop-making.next (map (owned owner) made) (map (owned owner) (drop i made)) (owned owner m ∷ []) (map (owned owner) (drop (i + 1) made)) split c.in_err-next.ensures c.loop-making.invariant in
-    subst (λ (o : Option ℕ). EndsAt p c.args.number (map (owned owner) (makings c.args.node.now)) o) (sym c.from_residual.ensures) (
+    let all = ap (map (owned owner)) (c.as_slice-making-items.ensures
+    ∙ c.makings-makings.ensures) in
+    let never = part_never p c.args.number c.loop-making.next (map (owned owner) made)
+    (map (owned owner) (drop i made)) (owned owner m ∷ [])
+    (map (owned owner) (drop (i + 1) made)) split c.in_err-next.ensures
+    c.loop-making.invariant in
+    subst (λ (o : Option ℕ). EndsAt p c.args.number (map (owned owner) (makings c.args.node.now)) o)
+    (sym c.from_residual.ensures) (
     subst (λ (ms : List OwnedMaking). EndsAt p c.args.number ms None) all never
     )
 
@@ -27,4 +32,6 @@ loop-making-preserved c =
     let i = c.loop-making.making-index in
     let m = c.making-item.result in
     let split = makings_left p owner i made m (omega arith) c.making-item.is in
-    part_more p c.args.number c.loop-making.next c.in_ok-next.next (map (owned owner) made) (map (owned owner) (drop i made)) (owned owner m ∷ []) (map (owned owner) (drop (i + 1) made)) split c.in_ok-next.ensures c.loop-making.invariant
+    part_more p c.args.number c.loop-making.next c.in_ok-next.next (map (owned owner) made)
+    (map (owned owner) (drop i made)) (owned owner m ∷ [])
+    (map (owned owner) (drop (i + 1) made)) split c.in_ok-next.ensures c.loop-making.invariant

@@ -5,4 +5,5 @@ use Rattle.ja_graph.proofs.well_formed_sites.after_nodes.Given as goal
 
 abbrev pub invariant-loop-info : goal.invariant-loop-info
 invariant-loop-info l =
-    (last : ℕ) → AreNumbered l.program l.next last (makings_of l.owner (drop l.info-index l.nodes)) ↔ AreNumbered l.program l.number last (makings_of l.owner l.nodes)
+    (last : ℕ) → AreNumbered l.program l.next last (makings_of l.owner (drop l.info-index l.nodes))
+    ↔ AreNumbered l.program l.number last (makings_of l.owner l.nodes)

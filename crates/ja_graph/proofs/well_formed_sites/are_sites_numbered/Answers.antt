@@ -12,9 +12,12 @@ returns-in-Some c =
     let same = Decides-eqb last c.len.result in (
       λ e.
           let there : last ≡ length p.sites = same.0 e ∙ c.len.ensures in
-          (sites_numbered p).0 (subst (λ (n : ℕ). AreNumbered p (length p.opening) n (makings_from 0 p.functions)) there ((c.in-Some.ensures last).0 refl)),
+          (sites_numbered p).0 (subst (λ (n : ℕ).
+          AreNumbered p (length p.opening) n (makings_from 0 p.functions)) there
+          ((c.in-Some.ensures last).0 refl)),
       λ numbered.
-          let ends : Some last ≡ Some (length p.sites) = (c.in-Some.ensures (length p.sites)).1 ((sites_numbered p).1 numbered) in
+          let ends : Some last ≡ Some (length p.sites) = (c.in-Some.ensures (length p.sites)).1
+          ((sites_numbered p).1 numbered) in
           let there : last ≡ length p.sites = cc in
           same.1 (there ∙ sym c.len.ensures),
     )
@@ -24,6 +27,7 @@ returns-in-None c =
     let p = c.args.program.now in (
       λ e. absurd (cc),
       λ numbered.
-          let ends : None ≡ Some (length p.sites) = (c.in-None.ensures (length p.sites)).1 ((sites_numbered p).1 numbered) in
+          let ends : None ≡ Some (length p.sites) = (c.in-None.ensures (length p.sites)).1
+          ((sites_numbered p).1 numbered) in
           absurd (cc),
     )

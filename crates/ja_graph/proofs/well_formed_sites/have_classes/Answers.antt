@@ -11,8 +11,13 @@ loop-site-preserved c =
     let p = c.args.program.now in
     let classes = c.args.classes.now in
     let i = c.loop-site.site in
-    below_more (λ (s : ℕ) (c : Class). IsBuiltin p s c) classes i (get_or classes i class.Object) c.loop-site.invariant (slice_get-get_or classes i class.Object (omega arith)) (c.if-not-is_builtin.ensures.0 refl)
+    below_more (λ (s : ℕ) (c : Class). IsBuiltin p s c) classes i (get_or classes i class.Object)
+    c.loop-site.invariant (slice_get-get_or classes i class.Object (omega arith))
+    (c.if-not-is_builtin.ensures.0 refl)
 
 pub returns : goal.returns
-returns c =
-    (λ _. below_all (λ (s : ℕ) (d : Class). IsBuiltin c.args.program.now s d) c.args.classes.now c.loop-site.site (omega arith) c.loop-site.invariant, λ _. refl)
+returns c = (
+  λ _. below_all (λ (s : ℕ) (d : Class). IsBuiltin c.args.program.now s d) c.args.classes.now
+      c.loop-site.site (omega arith) c.loop-site.invariant,
+  λ _. refl,
+)

@@ -10,7 +10,9 @@ returns-then-has_name c =
     let xs = c.args.slots.now in
     let i = c.loop-i.i in
     let x = c.index-slots-i.result in
-    sym (first_at name xs i x c.loop-i-test.true c.loop-i.invariant (ap (has_name name) (sym c.index-slots-i.is) ∙ (sym c.has_name.ensures ∙ c.if-has_name.true)))
+    sym (first_at name xs i x c.loop-i-test.true c.loop-i.invariant
+    (ap (has_name name) (sym c.index-slots-i.is)
+    ∙ (sym c.has_name.ensures ∙ c.if-has_name.true)))
 
 pub loop-i-preserved : goal.loop-i-preserved
 loop-i-preserved c =
@@ -18,4 +20,6 @@ loop-i-preserved c =
     let xs = c.args.slots.now in
     let i = c.loop-i.i in
     let x = c.index-slots-i.result in
-    ap (slot_of name) (take_more xs i x c.loop-i-test.true) ∙ (pushed_past name (take i xs) _ (ap (has_name name) (sym c.index-slots-i.is) ∙ (sym c.has_name.ensures ∙ c.if-has_name.false)) ∙ c.loop-i.invariant)
+    ap (slot_of name) (take_more xs i x c.loop-i-test.true)
+    ∙ (pushed_past name (take i xs) _ (ap (has_name name) (sym c.index-slots-i.is)
+    ∙ (sym c.has_name.ensures ∙ c.if-has_name.false)) ∙ c.loop-i.invariant)

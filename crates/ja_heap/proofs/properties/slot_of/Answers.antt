@@ -9,4 +9,5 @@ returns-in-Some-clause-within c =
     within_all c.args.name.now c.args.slots.now c.copied.result e
 
 pub returns-in-None-clause-within : goal.returns-in-None-clause-within
-returns-in-None-clause-within c = within_all c.args.name.now c.args.slots.now c.looked_through.result c.looked_through.ensures
+returns-in-None-clause-within c =
+    within_all c.args.name.now c.args.slots.now c.looked_through.result c.looked_through.ensures

@@ -4,7 +4,8 @@ use Rattle.ja_lex.proofs.lexer.next_token.Given as goal
 
 abbrev pub invariant-blanks : goal.invariant-blanks
 invariant-blanks l = record {
-  same : tokens_after 0 l.line_before l.cursor.spot l.cursor.rest.now ≡ tokens_after 0 false l.initial.cursor.spot l.initial.cursor.rest.now;
+  same : tokens_after 0 l.line_before l.cursor.spot l.cursor.rest.now
+      ≡ tokens_after 0 false l.initial.cursor.spot l.initial.cursor.rest.now;
   shorter : length l.cursor.rest.now ≤ length l.initial.cursor.rest.now;
 }
 

@@ -6,5 +6,8 @@ use Rattle.ja_load.proofs.excluded.has_property.Given as goal
 
 abbrev pub invariant-loop-object : goal.invariant-loop-object
 invariant-loop-object l =
-    list_any (λ row. (row.object.site.0 == l.site.0) && list_any (λ e. bytes_eq e.name l.name) row.entries) (map seen_row (drop l.object-index l.table))
-    ≡ list_any (λ row. (row.object.site.0 == l.site.0) && list_any (λ e. bytes_eq e.name l.name) row.entries) (map seen_row l.table)
+    list_any (λ row. (row.object.site.0 == l.site.0)
+    && list_any (λ e. bytes_eq e.name l.name) row.entries)
+    (map seen_row (drop l.object-index l.table))
+    ≡ list_any (λ row. (row.object.site.0 == l.site.0)
+    && list_any (λ e. bytes_eq e.name l.name) row.entries) (map seen_row l.table)

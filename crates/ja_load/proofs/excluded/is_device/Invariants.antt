@@ -6,4 +6,5 @@ use Rattle.ja_load.proofs.excluded.is_device.Given as goal
 
 abbrev pub invariant-loop-host : goal.invariant-loop-host
 invariant-loop-host l =
-    list_any (bytes_eq l.name) (device_names (drop l.host-index l.hosts)) ≡ list_any (bytes_eq l.name) (device_names l.hosts)
+    list_any (bytes_eq l.name) (device_names (drop l.host-index l.hosts))
+    ≡ list_any (bytes_eq l.name) (device_names l.hosts)

@@ -5,4 +5,6 @@ use Rattle.ja_load.proofs.hosts.add_device_sites.Given as goal
 
 abbrev pub invariant-loop-which : goal.invariant-loop-which
 invariant-loop-which l =
-    l.sites.items ++ map (λ row. device_info (l.first + row.0)) (enumerate_from l.which (drop l.which l.signatures)) ≡ l.fn.sites.items ++ device_sites l.first l.signatures
+    l.sites.items ++ map (λ row. device_info (l.first + row.0))
+    (enumerate_from l.which (drop l.which l.signatures)) ≡ l.fn.sites.items
+    ++ device_sites l.first l.signatures

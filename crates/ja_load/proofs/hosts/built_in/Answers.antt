@@ -10,9 +10,12 @@ loop-object-preserved c =
     let o = c.in-Some.object in
     let rest = c.next.new.self.rest.items in
     let old = c.loop-object.objects.items in
-    let made = c.in_ok-object_with.ensures ∙ object_by_numbers names signatures _ o (c.deref.ensures.value ∙ c.in_ok-numbers.ensures) in
+    let made = c.in_ok-object_with.ensures ∙ object_by_numbers names signatures _ o
+    (c.deref.ensures.value ∙ c.in_ok-numbers.ensures) in
     let all = c.in_ok-push.ensures.items ∙ ap (λ x. old ++ x ∷ []) made in
     ap (λ xs. xs ++ map (object_with_devices names signatures) rest) all
-    ∙ append_assoc old (object_with_devices names signatures o ∷ []) (map (object_with_devices names signatures) rest)
-    ∙ ap (λ xs. old ++ map (object_with_devices names signatures) xs) (sym c.in-Some.ensures.steps.0)
+    ∙ append_assoc old (object_with_devices names signatures o ∷ [])
+    (map (object_with_devices names signatures) rest)
+    ∙ ap (λ xs. old ++ map (object_with_devices names signatures) xs)
+    (sym c.in-Some.ensures.steps.0)
     ∙ c.loop-object.invariant

@@ -5,4 +5,5 @@ use Rattle.ja_load.proofs.hosts.built_in.Given as goal
 
 abbrev pub invariant-loop-object : goal.invariant-loop-object
 invariant-loop-object l =
-    l.objects.items ++ map (object_with_devices l.names l.signatures) l.object-iterator.rest.items ≡ map (object_with_devices l.names l.signatures) opening_objects
+    l.objects.items ++ map (object_with_devices l.names l.signatures) l.object-iterator.rest.items
+    ≡ map (object_with_devices l.names l.signatures) opening_objects

@@ -3,4 +3,5 @@ use Rattle.ja_lower.specs.Lowering.{device_names}
 use Rattle.ja_load.proofs.loading.add_names.Given as goal
 
 abbrev pub invariant-loop-signature : goal.invariant-loop-signature
-invariant-loop-signature l = l.names.items ≡ l.fn.names.items ++ device_names (take l.signature-index l.signatures)
+invariant-loop-signature l =
+    l.names.items ≡ l.fn.names.items ++ device_names (take l.signature-index l.signatures)

@@ -11,15 +11,26 @@ pub overflow_cast-own : goal.overflow_cast-own
 overflow_cast-own c =
     let signatures = c.args.signatures.now in
     let functions = ap (λ (l : Lowered). length l.functions) c.in_ok-lowered.ensures.lowered in
-    omega (arith, c.len-own.ensures, functions, c.functions_are_counted.ensures.text (names_before signatures) (sites_before signatures) c.args.tree.now.statements, c.in_ok-lowered.ensures.within.functions)
+    omega (
+      arith,
+      c.len-own.ensures,
+      functions,
+      c.functions_are_counted.ensures.text (names_before signatures) (sites_before signatures)
+          c.args.tree.now.statements,
+      c.in_ok-lowered.ensures.within.functions,
+    )
 
 pub returns-clause-program : goal.returns-clause-program
 returns-clause-program c =
     let statements = c.args.tree.now.statements in
     let signatures = c.args.signatures.now in
     let text = c.in_ok-lowered.ensures.lowered in
-    let count = c.len-own.ensures ∙ ap (λ (l : Lowered). length l.functions) text ∙ c.functions_are_counted.ensures.text (names_before signatures) (sites_before signatures) statements in
-    let all = c.in_ok-whole.ensures.lowered ∙ sym (c.parts_follow_one_another.ensures _ _ _ signatures (sites_before signatures) statements _ text) in
+    let count = c.len-own.ensures ∙ ap (λ (l : Lowered). length l.functions) text
+    ∙ c.functions_are_counted.ensures.text (names_before signatures) (sites_before signatures)
+    statements in
+    let all = c.in_ok-whole.ensures.lowered
+    ∙ sym (c.parts_follow_one_another.ensures _ _ _ signatures (sites_before signatures)
+    statements _ text) in
     program_of_parts _ signatures statements _ _ c.in_ok-program.ensures.program count all
 
 pub returns-clause-well_formed : goal.returns-clause-well_formed
@@ -27,7 +38,9 @@ returns-clause-well_formed c =
     let statements = c.args.tree.now.statements in
     let signatures = c.args.signatures.now in
     let text = c.in_ok-lowered.ensures.lowered in
-    let count = c.len-own.ensures ∙ ap (λ (l : Lowered). length l.functions) text ∙ c.functions_are_counted.ensures.text (names_before signatures) (sites_before signatures) statements in
+    let count = c.len-own.ensures ∙ ap (λ (l : Lowered). length l.functions) text
+    ∙ c.functions_are_counted.ensures.text (names_before signatures) (sites_before signatures)
+    statements in
     let laws : LoweringLaws = record {
       parts = c.parts_follow_one_another.ensures;
       well_formed = c.functions_are_well_formed.ensures;
@@ -46,7 +59,12 @@ returns-clause-well_formed c =
     } in
     let parts = whole_of_parts laws signatures statements _ text in
     let all = c.in_ok-whole.ensures.lowered ∙ parts in
-    let registers = subst (λ (l : Lowered). AllByRecursion (λ (fn : Function). fn.registers ≤ 262144) l.functions) all c.in_ok-whole.ensures.registers in
-    let few_names = subst (λ (l : Lowered). length l.names ≤ 1048576) parts c.in_ok-lowered.ensures.names in
-    let program = program_of_parts _ signatures statements _ _ c.in_ok-program.ensures.program count all in
-    subst IsWellFormed (sym program) (program_is_well_formed laws facts _ signatures statements c.requires c.in_ok-lowered.ensures.within registers few_names)
+    let registers = subst (λ (l : Lowered).
+    AllByRecursion (λ (fn : Function). fn.registers ≤ 262144) l.functions) all
+    c.in_ok-whole.ensures.registers in
+    let few_names = subst (λ (l : Lowered). length l.names ≤ 1048576) parts
+    c.in_ok-lowered.ensures.names in
+    let program = program_of_parts _ signatures statements _ _ c.in_ok-program.ensures.program count
+    all in
+    subst IsWellFormed (sym program) (program_is_well_formed laws facts _ signatures statements
+    c.requires c.in_ok-lowered.ensures.within registers few_names)

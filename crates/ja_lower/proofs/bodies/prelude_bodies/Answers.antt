@@ -13,6 +13,14 @@ use Rattle.ja_lower.proofs.bodies.prelude_bodies.Goals as goal
 pub returns-clause-fault : goal.returns-clause-fault
 unfolding prelude_bodies
 returns-clause-fault c =
-    let places = c.deref.ensures.value ∙ c.in_ok-places.ensures ∙ ap (map (λ (f : FunctionOf Statement). f.place)) c.requires.functions in
-    let scene : List Place → Scene = λ ps. record { names = c.args.names.now; functions = ps; handler = None; specials = true } in
-    subst (λ ps. IfErr c.all_prelude.result (Exceeds 65536 (size_of_bodies (map (function_body (scene ps)) (functions_in c.args.statements.now))))) places c.all_prelude.ensures.fault
+    let places = c.deref.ensures.value ∙ c.in_ok-places.ensures
+    ∙ ap (map (λ (f : FunctionOf Statement). f.place)) c.requires.functions in
+    let scene : List Place → Scene = λ ps. record {
+      names = c.args.names.now;
+      functions = ps;
+      handler = None;
+      specials = true;
+    } in
+    subst (λ ps. IfErr c.all_prelude.result
+    (Exceeds 65536 (size_of_bodies (map (function_body (scene ps))
+    (functions_in c.args.statements.now))))) places c.all_prelude.ensures.fault

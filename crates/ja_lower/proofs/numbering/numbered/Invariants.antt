@@ -3,4 +3,6 @@ use Rattle.ja_lower.specs.Lowering as spec
 use Rattle.ja_lower.proofs.numbering.numbered.Given as goal
 
 abbrev pub invariant-loop-info : goal.invariant-loop-info
-invariant-loop-info l = l.list.items ++ spec.numbered l.first (drop l.info-index l.nodes) ≡ spec.numbered l.first_site l.nodes
+invariant-loop-info l =
+    l.list.items ++ spec.numbered l.first (drop l.info-index l.nodes)
+    ≡ spec.numbered l.first_site l.nodes

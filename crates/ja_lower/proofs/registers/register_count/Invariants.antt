@@ -5,4 +5,6 @@ use Rattle.ja_lower.specs.Lowering.{registers_of}
 use Rattle.ja_lower.proofs.registers.register_count.Given as goal
 
 abbrev pub invariant-loop-info : goal.invariant-loop-info
-invariant-loop-info l = registers_with l.count (flat_map (λ info. registers_in info.node) (drop l.info-index l.nodes)) ≡ registers_of l.parameters l.nodes
+invariant-loop-info l =
+    registers_with l.count (flat_map (λ info. registers_in info.node) (drop l.info-index l.nodes))
+    ≡ registers_of l.parameters l.nodes

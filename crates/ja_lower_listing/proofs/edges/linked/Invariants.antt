@@ -8,6 +8,7 @@ abbrev pub invariant-loop-item : goal.invariant-loop-item
 invariant-loop-item l = record {
   edges : AreEdges l.edges l.fn.items.items;
   end : IsEnd l.fn.items.items (into_iter_items l.item-iterator);
-  nodes : l.nodes.items ++ nodes_from l.fn.items.items (into_iter_items l.item-iterator) ≡ nodes_from l.fn.items.items l.fn.items.items;
+  nodes : l.nodes.items ++ nodes_from l.fn.items.items (into_iter_items l.item-iterator)
+      ≡ nodes_from l.fn.items.items l.fn.items.items;
   ways : l.ways.items ≡ ways_on l.fn.items.items (into_iter_items l.item-iterator);
 }

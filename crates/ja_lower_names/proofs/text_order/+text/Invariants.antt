@@ -6,29 +6,47 @@ use Rattle.ja_lower_names.proofs.text_order.+text.Given as goal
 
 -- the parts so far and those of what is left are the parts at the loop's entry and those of all
 
-abbrev pub invariant-add_expressions-loop-expression : goal.invariant-add_expressions-loop-expression
-invariant-add_expressions-loop-expression l = l.parts ++ flat_map in_expression (drop l.expression-index l.expressions) ≡ l.initial.parts ++ flat_map in_expression l.expressions
+abbrev pub invariant-add_expressions-loop-expression :
+    goal.invariant-add_expressions-loop-expression
+invariant-add_expressions-loop-expression l =
+    l.parts ++ flat_map in_expression (drop l.expression-index l.expressions) ≡ l.initial.parts
+    ++ flat_map in_expression l.expressions
 
 abbrev pub invariant-add_elements-loop-element : goal.invariant-add_elements-loop-element
-invariant-add_elements-loop-element l = l.parts ++ flat_map (if_any in_expression) (drop l.element-index l.elements) ≡ l.initial.parts ++ flat_map (if_any in_expression) l.elements
+invariant-add_elements-loop-element l =
+    l.parts ++ flat_map (if_any in_expression) (drop l.element-index l.elements) ≡ l.initial.parts
+    ++ flat_map (if_any in_expression) l.elements
 
 abbrev pub invariant-add_properties-loop-property : goal.invariant-add_properties-loop-property
-invariant-add_properties-loop-property l = l.parts ++ flat_map (in_property in_expression) (drop l.property-index l.properties) ≡ l.initial.parts ++ flat_map (in_property in_expression) l.properties
+invariant-add_properties-loop-property l =
+    l.parts ++ flat_map (in_property in_expression) (drop l.property-index l.properties)
+    ≡ l.initial.parts ++ flat_map (in_property in_expression) l.properties
 
 abbrev pub invariant-add_operations-loop-operation : goal.invariant-add_operations-loop-operation
-invariant-add_operations-loop-operation l = l.parts ++ flat_map (in_operation in_expression) (drop l.operation-index l.operations) ≡ l.initial.parts ++ flat_map (in_operation in_expression) l.operations
+invariant-add_operations-loop-operation l =
+    l.parts ++ flat_map (in_operation in_expression) (drop l.operation-index l.operations)
+    ≡ l.initial.parts ++ flat_map (in_operation in_expression) l.operations
 
 abbrev pub invariant-add_suffixes-loop-suffix : goal.invariant-add_suffixes-loop-suffix
-invariant-add_suffixes-loop-suffix l = l.parts ++ flat_map (in_suffix in_expression) (drop l.suffix-index l.suffixes) ≡ l.initial.parts ++ flat_map (in_suffix in_expression) l.suffixes
+invariant-add_suffixes-loop-suffix l =
+    l.parts ++ flat_map (in_suffix in_expression) (drop l.suffix-index l.suffixes) ≡ l.initial.parts
+    ++ flat_map (in_suffix in_expression) l.suffixes
 
-abbrev pub invariant-add_declarations-loop-declaration : goal.invariant-add_declarations-loop-declaration
-invariant-add_declarations-loop-declaration l = l.parts ++ flat_map (in_declaration in_expression) (drop l.declaration-index l.declarations) ≡ l.initial.parts ++ flat_map (in_declaration in_expression) l.declarations
+abbrev pub invariant-add_declarations-loop-declaration :
+    goal.invariant-add_declarations-loop-declaration
+invariant-add_declarations-loop-declaration l =
+    l.parts ++ flat_map (in_declaration in_expression) (drop l.declaration-index l.declarations)
+    ≡ l.initial.parts ++ flat_map (in_declaration in_expression) l.declarations
 
 abbrev pub invariant-add_statements-loop-statement : goal.invariant-add_statements-loop-statement
-invariant-add_statements-loop-statement l = l.parts ++ flat_map in_statement (drop l.statement-index l.statements) ≡ l.initial.parts ++ flat_map in_statement l.statements
+invariant-add_statements-loop-statement l =
+    l.parts ++ flat_map in_statement (drop l.statement-index l.statements) ≡ l.initial.parts
+    ++ flat_map in_statement l.statements
 
 abbrev pub invariant-add_cases-loop-case : goal.invariant-add_cases-loop-case
-invariant-add_cases-loop-case l = l.parts ++ flat_map in_case (drop l.case-index l.cases) ≡ l.initial.parts ++ flat_map in_case l.cases
+invariant-add_cases-loop-case l =
+    l.parts ++ flat_map in_case (drop l.case-index l.cases) ≡ l.initial.parts
+    ++ flat_map in_case l.cases
 
 -- ---- each call goes down the tree, or takes what it was given to a function of a lower rank
 

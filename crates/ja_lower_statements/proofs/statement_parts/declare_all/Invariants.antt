@@ -5,5 +5,6 @@ use Rattle.ja_lower_statements.proofs.statement_parts.declare_all.Given as goal
 
 abbrev pub invariant-loop-declaration : goal.invariant-loop-declaration
 invariant-loop-declaration l =
-    spec.declare_all (map code.declaration_of (drop l.declaration-index l.declarations)) l.scene l.base l.draft
+    spec.declare_all (map code.declaration_of (drop l.declaration-index l.declarations)) l.scene
+    l.base l.draft
     ≡ spec.declare_all (map code.declaration_of l.declarations) l.scene l.base l.initial.draft

@@ -6,5 +6,7 @@ use Rattle.ja_lower_statements.proofs.way.break_out.Given as goal
 
 abbrev pub invariant-loop-way : goal.invariant-loop-way
 invariant-loop-way l =
-    spec.jump_to l.scene l.place (spec.break_target (label_text l.label)) (map way_of (drop l.way-index l.ways)) (record { listing = l.draft; kept = l.kept })
-    ≡ spec.jump_to l.scene l.place (spec.break_target (label_text l.label)) (map way_of l.ways) (spec.leaving l.initial.draft)
+    spec.jump_to l.scene l.place (spec.break_target (label_text l.label))
+    (map way_of (drop l.way-index l.ways)) (record { listing = l.draft; kept = l.kept })
+    ≡ spec.jump_to l.scene l.place (spec.break_target (label_text l.label)) (map way_of l.ways)
+    (spec.leaving l.initial.draft)

@@ -4,4 +4,6 @@ use Rattle.std.specs.Str.{bytes_eq}
 use Rattle.ja_lower_statements.proofs.way.is_among.Given as goal
 
 abbrev pub invariant-loop-other : goal.invariant-loop-other
-invariant-loop-other l = list_any (bytes_eq l.label) (map (λ t. t.now) (drop l.other-index l.labels)) ≡ list_any (bytes_eq l.label) (map (λ t. t.now) l.labels)
+invariant-loop-other l =
+    list_any (bytes_eq l.label) (map (λ t. t.now) (drop l.other-index l.labels))
+    ≡ list_any (bytes_eq l.label) (map (λ t. t.now) l.labels)

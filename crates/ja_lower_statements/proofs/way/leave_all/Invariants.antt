@@ -5,5 +5,6 @@ use Rattle.ja_lower_statements.proofs.way.leave_all.Given as goal
 
 abbrev pub invariant-loop-way : goal.invariant-loop-way
 invariant-loop-way l =
-    spec.leave_all l.scene l.place l.value (map way_of (drop l.way-index l.ways)) (record { listing = l.draft; kept = l.kept })
+    spec.leave_all l.scene l.place l.value (map way_of (drop l.way-index l.ways))
+    (record { listing = l.draft; kept = l.kept })
     ≡ spec.leave_all l.scene l.place l.value (map way_of l.ways) (spec.leaving l.initial.draft)

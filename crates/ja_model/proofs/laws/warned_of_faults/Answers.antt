@@ -3,4 +3,6 @@ use Rattle.ja_model.proofs.laws.warned_of_faults.Goals as goal
 use Rattle.ja_model.proofs.Runs.{warned}
 
 pub returns : goal.returns
-returns c = λ p t ws good built closed warnings. warned p t good built (c.states_are_kept.ensures p good) closed ws warnings
+returns c =
+    λ p t ws good built closed warnings. warned p t good built (c.states_are_kept.ensures p good)
+    closed ws warnings

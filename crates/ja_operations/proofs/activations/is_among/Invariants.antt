@@ -6,4 +6,5 @@ use Rattle.ja_operations.proofs.activations.is_among.Given as goal
 
 abbrev pub invariant-loop-parameter : goal.invariant-loop-parameter
 invariant-loop-parameter l =
-    list_any (same_text l.name) (map (name_text l.program) (drop l.parameter-index l.parameters)) ≡ list_any (same_text l.name) (map (name_text l.program) l.parameters)
+    list_any (same_text l.name) (map (name_text l.program) (drop l.parameter-index l.parameters))
+    ≡ list_any (same_text l.name) (map (name_text l.program) l.parameters)

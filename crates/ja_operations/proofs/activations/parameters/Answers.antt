@@ -15,12 +15,18 @@ returns-in-Some-clause-all c =
     let f : Function = c.in-Some.function.now in
     let n = c.args.function.0 in
     let read = c.in-Some.ensures.lookup in
-    let at : slice_get p.functions n ≡ Some f = subst (λ (fs : List Function). slice_get fs n ≡ Some f) c.as_slice.ensures (slice_get_read c.as_slice.result.now _ n f refl (read.3.0) (read.1)) in
-    subst (All (IsName p)) (sym c.as_slice-in-Some.ensures) (All-from_recursion (IsName p) f.parameters (c.requires.each n f at).parameters)
+    let at : slice_get p.functions n ≡ Some f = subst
+    (λ (fs : List Function). slice_get fs n ≡ Some f) c.as_slice.ensures
+    (slice_get_read c.as_slice.result.now _ n f refl (read.3.0) (read.1)) in
+    subst (All (IsName p)) (sym c.as_slice-in-Some.ensures)
+    (All-from_recursion (IsName p) f.parameters (c.requires.each n f at).parameters)
 
 pub returns-in-None-clause-names : goal.returns-in-None-clause-names
 returns-in-None-clause-names c =
     let p = c.args.program.now in
     let n = c.args.function.0 in
-    let none : slice_get p.functions n ≡ None = subst (λ (fs : List Function). slice_get fs n ≡ None) c.as_slice.ensures (slice_get_past c.as_slice.result.now n (c.in-None.ensures.lookup.3)) in
-    sym (ap (λ (o : Option Function). option_map_or (λ (fn : Function). map (name_text p) fn.parameters) o []) none)
+    let none : slice_get p.functions n ≡ None = subst
+    (λ (fs : List Function). slice_get fs n ≡ None) c.as_slice.ensures
+    (slice_get_past c.as_slice.result.now n (c.in-None.ensures.lookup.3)) in
+    sym (ap (λ (o : Option Function). option_map_or
+    (λ (fn : Function). map (name_text p) fn.parameters) o []) none)

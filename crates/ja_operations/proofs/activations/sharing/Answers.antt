@@ -15,14 +15,21 @@ loop-index-preserved c =
     let flags : List Bool = c.loop-index.flags.items in
     let x : NameId = get_or names i (record { 0 = 0 }) in
     let low : i < length names = omega (arith, c.loop-index-test.true, c.min-index-end.ensures) in
-    let given : i < length c.args.arguments.now = omega (arith, c.loop-index-test.true, c.min-index-end.ensures) in
+    let given : i < length c.args.arguments.now = omega
+    (arith, c.loop-index-test.true, c.min-index-end.ensures) in
     let rest : List NameId = take (length names - (i + 1)) (drop (i + 1) names) in
     let among : c.is_among.result ≡ list_any (same_text (text x)) (map text (drop (i + 1) names)) =
     c.is_among.ensures
     ∙ ap (λ (t : List ℕ). list_any (same_text t) (map text rest)) c.name_text-name.ensures
-    ∙ ap (λ (ns : List NameId). list_any (same_text (text x)) (map text ns)) (take_rest names (i + 1)) in
-    subst (AreMarks text names c.args.arguments.now (i + 1)) (sym (c.in_ok-push.ensures.items ∙ ap (λ (b : Bool). flags ++ not b ∷ []) among)) (marked text names c.args.arguments.now i flags x low given (drop_more names i (record { 0 = 0 }) low) c.loop-index.invariant)
+    ∙ ap (λ (ns : List NameId). list_any (same_text (text x)) (map text ns))
+    (take_rest names (i + 1)) in
+    subst (AreMarks text names c.args.arguments.now (i + 1))
+    (sym (c.in_ok-push.ensures.items ∙ ap (λ (b : Bool). flags ++ not b ∷ []) among))
+    (marked text names c.args.arguments.now i flags x low given
+    (drop_more names i (record { 0 = 0 }) low) c.loop-index.invariant)
 
 pub returns : goal.returns
 returns c =
-    all_marked (name_text c.args.program.now) c.args.parameters.now c.args.arguments.now c.loop-index.index c.loop-index.flags.items (omega (arith, c.loop-index-test.false, c.min-index-end.ensures)) c.loop-index.invariant
+    all_marked (name_text c.args.program.now) c.args.parameters.now c.args.arguments.now
+    c.loop-index.index c.loop-index.flags.items
+    (omega (arith, c.loop-index-test.false, c.min-index-end.ensures)) c.loop-index.invariant

@@ -20,12 +20,20 @@ loop-index-preserved c =
     let o : Object = c.loop-index.object in
     let x : NameId = get_or names i (record { 0 = 0 }) in
     let low : i < length names = omega (arith, c.loop-index-test.true) in
-    let put : List ℕ → Value → Bool → Object = λ t v b. record o { properties = with_property o.properties (with_flag (property_with t v dont_delete) b) } in
-    let changed : c.set_property.new.self ≡ put (text x) (argument arguments i) (first_flag (drop i flags)) =
+    let put : List ℕ → Value → Bool → Object = λ t v b.
+    record o {
+      properties = with_property o.properties
+          (with_flag (property_with t v dont_delete) b);
+    } in
+    let changed : c.set_property.new.self ≡ put (text x) (argument arguments i)
+    (first_flag (drop i flags)) =
     c.in_ok-set_property.ensures.set
     ∙ ap (λ (t : List ℕ). put t c.in_ok-value.value c.flag.result) c.name_text-name.ensures
     ∙ ap (λ (v : Value). put (text x) v c.flag.result) c.in_ok-value.ensures
     ∙ ap (λ (b : Bool). put (text x) (argument arguments i) b) c.flag.ensures in
-    ap (λ (n : Object). let m : Object = record n { properties = all_bound text names arguments flags (i + 1) n.properties } in m) changed
-    ∙ ap (λ (qs : List Property). let m : Object = record o { properties = qs } in m) (sym (bound text names arguments flags i o.properties x (drop_more names i (record { 0 = 0 }) low)))
+    ap (λ (n : Object). let m : Object = record n
+    { properties = all_bound text names arguments flags (i + 1) n.properties } in m) changed
+    ∙ ap (λ (qs : List Property). let m : Object = record o { properties = qs } in m)
+    (sym (bound text names arguments flags i o.properties x
+    (drop_more names i (record { 0 = 0 }) low)))
     ∙ c.loop-index.invariant

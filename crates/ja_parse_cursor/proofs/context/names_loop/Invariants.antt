@@ -5,4 +5,6 @@ use Rattle.ja_grammar.specs.code.Contexts.{label_of}
 use Rattle.ja_parse_cursor.proofs.context.names_loop.Given as goal
 
 abbrev pub invariant-loop-label : goal.invariant-loop-label
-invariant-loop-label l = list_any (λ x. x.is_loop && bytes_eq x.name l.name) (map label_of (drop l.label-index l.labels)) ≡ list_any (λ x. x.is_loop && bytes_eq x.name l.name) (map label_of l.labels)
+invariant-loop-label l =
+    list_any (λ x. x.is_loop && bytes_eq x.name l.name) (map label_of (drop l.label-index l.labels))
+    ≡ list_any (λ x. x.is_loop && bytes_eq x.name l.name) (map label_of l.labels)

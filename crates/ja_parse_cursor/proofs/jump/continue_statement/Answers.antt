@@ -8,7 +8,8 @@ use Rattle.ja_parse_cursor.proofs.jump.continue_statement.Goals as goal
 
 pub returns-then-not-context : goal.returns-then-not-context
 returns-then-not-context c depth below =
-    let h = nothing_to_leave depth below (λ x. s.Continue x (head c.args.cursor.now).place) (context_of c.args.context.now) (head (behind c.args.cursor.now)) c.args.cursor.now in
+    let h = nothing_to_leave depth below (λ x. s.Continue x (head c.args.cursor.now).place)
+    (context_of c.args.context.now) (head (behind c.args.cursor.now)) c.args.cursor.now in
     first_of (search rules, grind (arith, common_steps))
 
 pub returns-in_err-label : goal.returns-in_err-label

@@ -8,4 +8,5 @@ use Rattle.ja_parse_cursor.proofs.target.label.Goals as goal
 
 pub returns-then-has_label : goal.returns-then-has_label
 returns-then-has_label c =
-    let h = inside_itself c.args.depth (below strict c.args.depth) (context_of c.args.context.now) c.args.cursor.now in first_of (search rules, grind (arith, common_steps))
+    let h = inside_itself c.args.depth (below strict c.args.depth) (context_of c.args.context.now)
+    c.args.cursor.now in first_of (search rules, grind (arith, common_steps))

@@ -8,4 +8,8 @@ use Rattle.ja_parse_expressions.specs.code.Ends.{ends}
 use Rattle.ja_parse_expressions.proofs.body.statements_below.Given as goal
 
 abbrev pub invariant-loop-turn : goal.invariant-loop-turn
-invariant-loop-turn g l = until (ends l.end) ((below strict l.depth).statement (context_of l.context) (of_statement.Whole 0 l.outermost)) l.fn.cursor ≡ until_from (ends l.end) ((below strict l.depth).statement (context_of l.context) (of_statement.Whole 0 l.outermost)) (l._turn-end - l._turn) l.found l.cursor
+invariant-loop-turn g l =
+    until (ends l.end) ((below strict l.depth).statement (context_of l.context)
+    (of_statement.Whole 0 l.outermost)) l.fn.cursor
+    ≡ until_from (ends l.end) ((below strict l.depth).statement (context_of l.context)
+    (of_statement.Whole 0 l.outermost)) (l._turn-end - l._turn) l.found l.cursor

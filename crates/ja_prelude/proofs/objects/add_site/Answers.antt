@@ -14,4 +14,6 @@ pub site_of-requires-clause-path : goal.site_of-requires-clause-path
 site_of-requires-clause-path c =
     let result : c.row_with.result ≡ Some c.in-Some.field-0 = cc in
     let found = sym c.row_with.ensures ∙ ap (option_map (λ row. seen_row row.now)) result in
-    short (seen_row c.in-Some.field-0.now) (all-found (λ (row : TableRow). is_short row.path) (λ (row : TableRow). row.object.site.0 == c.args.site) (map seen_row c.args.table.now) (seen_row c.in-Some.field-0.now) c.requires.paths found)
+    short (seen_row c.in-Some.field-0.now) (all-found (λ (row : TableRow). is_short row.path)
+    (λ (row : TableRow). row.object.site.0 == c.args.site) (map seen_row c.args.table.now)
+    (seen_row c.in-Some.field-0.now) c.requires.paths found)

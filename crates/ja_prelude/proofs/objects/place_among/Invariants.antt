@@ -5,7 +5,8 @@ use Rattle.ja_prelude.proofs.objects.place_among.Given as goal
 
 abbrev pub invariant-loop-left : goal.invariant-loop-left
 invariant-loop-left l = record {
-  rest : l.number + position_or_len (bytes_eq l.name) (map (λ n. n.now) l.left) ≡ position_or_len (bytes_eq l.name) (map (λ n. n.now) l.initial.left);
+  rest : l.number + position_or_len (bytes_eq l.name) (map (λ n. n.now) l.left)
+      ≡ position_or_len (bytes_eq l.name) (map (λ n. n.now) l.initial.left);
   count : l.number + length l.left ≡ length l.initial.left;
 }
 

@@ -5,4 +5,5 @@ use Rattle.ja_prelude.proofs.reading.trees_of.Given as goal
 
 abbrev pub invariant-loop-function : goal.invariant-loop-function
 invariant-loop-function l =
-    l.statements ++ flat_map (λ f. spec.tree_of f.1.now) (drop l.function-index l.functions) ≡ flat_map (λ f. spec.tree_of f.1.now) l.functions
+    l.statements ++ flat_map (λ f. spec.tree_of f.1.now) (drop l.function-index l.functions)
+    ≡ flat_map (λ f. spec.tree_of f.1.now) l.functions

@@ -9,8 +9,10 @@ loop-site-init c = site_lines_none _ _ _
 pub loop-site-preserved : goal.loop-site-preserved
 loop-site-preserved c =
     let d : Site = record { 0 = 0 } in
-    site_lines_more _ _ _ _ d _ _ _ _ c.loop-site.invariant c.loop-site-test.true c.mask.ensures c.in_ok-push_mask.ensures
+    site_lines_more _ _ _ _ d _ _ _ _ c.loop-site.invariant c.loop-site-test.true c.mask.ensures
+    c.in_ok-push_mask.ensures
 
 pub returns : goal.returns
 returns c =
-    site_lines_all _ _ _ _ _ _ _ c.loop-site.invariant c.loop-site-test.false (c.deref-site-items.ensures.value ∙ c.in_ok-sites.ensures) c.site_count.ensures
+    site_lines_all _ _ _ _ _ _ _ c.loop-site.invariant c.loop-site-test.false
+    (c.deref-site-items.ensures.value ∙ c.in_ok-sites.ensures) c.site_count.ensures

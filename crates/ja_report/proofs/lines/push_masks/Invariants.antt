@@ -4,4 +4,5 @@ use Rattle.ja_report.proofs.ObjectLemmas.{site_lines}
 use Rattle.ja_report.proofs.lines.push_masks.Given as goal
 
 abbrev pub invariant-loop-site : goal.invariant-loop-site
-invariant-loop-site l = Adds l.program (site_lines l.state (take l.site-index l.site-items)) l.initial.out l.out
+invariant-loop-site l =
+    Adds l.program (site_lines l.state (take l.site-index l.site-items)) l.initial.out l.out

@@ -4,4 +4,6 @@ use Rattle.ja_report.proofs.ObjectLemmas.{key_lines}
 use Rattle.ja_report.proofs.lines.push_object.Given as goal
 
 abbrev pub invariant-loop-key : goal.invariant-loop-key
-invariant-loop-key l = Adds l.program (key_lines l.program l.label l.object (take l.key-index l.keys)) l.initial.out l.out
+invariant-loop-key l =
+    Adds l.program (key_lines l.program l.label l.object (take l.key-index l.keys)) l.initial.out
+    l.out

@@ -6,7 +6,9 @@ pub loop-number-init : goal.loop-number-init
 loop-number-init c = registers_none _ _ _
 
 pub loop-number-preserved : goal.loop-number-preserved
-loop-number-preserved c = registers_more _ _ _ _ _ _ _ c.loop-number.invariant c.register.ensures c.in_ok-push_register_line.ensures
+loop-number-preserved c =
+    registers_more _ _ _ _ _ _ _ c.loop-number.invariant c.register.ensures
+    c.in_ok-push_register_line.ensures
 
 pub returns : goal.returns
 returns c = registers_all _ _ _ _ _ c.loop-number.invariant (omega arith)

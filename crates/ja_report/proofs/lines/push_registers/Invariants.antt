@@ -3,4 +3,5 @@ use Rattle.ja_report.proofs.ObjectLemmas.{register_front}
 use Rattle.ja_report.proofs.lines.push_registers.Given as goal
 
 abbrev pub invariant-loop-number : goal.invariant-loop-number
-invariant-loop-number l = Adds l.program (register_front l.program l.state l.number) l.initial.out l.out
+invariant-loop-number l =
+    Adds l.program (register_front l.program l.state l.number) l.initial.out l.out

@@ -4,4 +4,5 @@ use Rattle.ja_report.specs.Report.{device_line}
 use Rattle.ja_report.proofs.sections.push_devices.Given as goal
 
 abbrev pub invariant-loop-device : goal.invariant-loop-device
-invariant-loop-device l = l.text.items ≡ l.initial.text.items ++ flat_map device_line (take l.device-index l.devices)
+invariant-loop-device l =
+    l.text.items ≡ l.initial.text.items ++ flat_map device_line (take l.device-index l.devices)

@@ -6,4 +6,6 @@ use Rattle.ja_report.proofs.table.keys_below.Goals as goal
 
 pub loop-number-preserved : goal.loop-number-preserved
 loop-number-preserved c =
-    c.in_ok-push.ensures.items ∙ ap (λ (keys : List Key). keys ++ name_key c.loop-number.number ∷ []) c.loop-number.invariant ∙ sym (map-range_with_len_more name_key 0 c.loop-number.number c.loop-number.number (omega arith))
+    c.in_ok-push.ensures.items ∙ ap (λ (keys : List Key). keys ++ name_key c.loop-number.number
+    ∷ []) c.loop-number.invariant ∙ sym (map-range_with_len_more name_key 0 c.loop-number.number
+    c.loop-number.number (omega arith))

@@ -5,4 +5,6 @@ use Rattle.ja_report.proofs.EntryLemmas.{pair_lines}
 use Rattle.ja_report.proofs.table.push_entries.Given as goal
 
 abbrev pub invariant-loop-pair : goal.invariant-loop-pair
-invariant-loop-pair l = Adds l.program (pair_lines (entries_of l.entries) (take l.pair-index l.pair-items)) l.initial.out l.out
+invariant-loop-pair l =
+    Adds l.program (pair_lines (entries_of l.entries) (take l.pair-index l.pair-items))
+    l.initial.out l.out

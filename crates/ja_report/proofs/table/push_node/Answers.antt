@@ -3,7 +3,10 @@ use Rattle.ja_report.proofs.table.push_node.Goals as goal
 
 pub returns-in_ok-push_state : goal.returns-in_ok-push_state
 returns-in_ok-push_state c =
-    node_found _ c.args.table.now _ c.index.result.now _ _ _ c.index.ensures c.requires.node c.in-Some.is c.in_ok-push_state.ensures
+    node_found _ c.args.table.now _ c.index.result.now _ _ _ c.index.ensures c.requires.node
+    c.in-Some.is c.in_ok-push_state.ensures
 
 pub returns-in_default : goal.returns-in_default
-returns-in_default c = node_missing _ c.args.table.now _ c.index.result.now _ c.index.ensures c.requires.node c.in_default.is
+returns-in_default c =
+    node_missing _ c.args.table.now _ c.index.result.now _ c.index.ensures c.requires.node
+    c.in_default.is

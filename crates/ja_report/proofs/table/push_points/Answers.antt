@@ -9,4 +9,6 @@ pub loop-node-preserved : goal.loop-node-preserved
 loop-node-preserved c = points_more _ _ _ _ _ _ c.loop-node.invariant c.in_ok-push_node.ensures
 
 pub returns : goal.returns
-returns c = points_all c.args.program.now c.args.table.now _ _ _ c.loop-node.invariant (omega arith) c.requires.fits
+returns c =
+    points_all c.args.program.now c.args.table.now _ _ _ c.loop-node.invariant (omega arith)
+    c.requires.fits

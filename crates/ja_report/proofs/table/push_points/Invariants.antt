@@ -4,4 +4,5 @@ use Rattle.ja_report.proofs.PointLemmas.{node_front}
 use Rattle.ja_report.proofs.table.push_points.Given as goal
 
 abbrev pub invariant-loop-node : goal.invariant-loop-node
-invariant-loop-node l = Adds l.program (node_front l.program (table_of l.table) l.node) l.initial.out l.out
+invariant-loop-node l =
+    Adds l.program (node_front l.program (table_of l.table) l.node) l.initial.out l.out

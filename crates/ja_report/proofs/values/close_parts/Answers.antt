@@ -9,4 +9,5 @@ returns-in_ok-extend_from_slice c base parts size was =
 
 pub returns-else-len-start : goal.returns-else-len-start
 returns-else-len-start c base parts size was =
-    closed_some base _ c.args.text.now.items parts was (λ same. grind (arith, common_steps)) (grind (arith, common_steps))
+    closed_some base _ c.args.text.now.items parts was (λ same. grind (arith, common_steps))
+    (grind (arith, common_steps))

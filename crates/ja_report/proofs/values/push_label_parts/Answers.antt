@@ -8,5 +8,9 @@ loop-label-init c = (labels_none _, sym (append-nil _))
 
 pub loop-label-preserved : goal.loop-label-preserved
 loop-label-preserved c =
-    let d : Label = record { site = record { 0 = 0 }; old = false } in
-    (labels_more _ _ _ _ _ _ _ d c.loop-label.invariant.0 (search rules) c.in_ok-name_label.ensures.text c.in_ok-push.ensures.items, sites_more _ _ _ _ _ d c.loop-label.invariant.1 (search rules) c.in_ok-name_label.ensures.named)
+    let d : Label = record { site = record { 0 = 0 }; old = false } in (
+      labels_more _ _ _ _ _ _ _ d c.loop-label.invariant.0 (search rules)
+          c.in_ok-name_label.ensures.text c.in_ok-push.ensures.items,
+      sites_more _ _ _ _ _ d c.loop-label.invariant.1 (search rules)
+          c.in_ok-name_label.ensures.named,
+    )

@@ -7,4 +7,7 @@ use Rattle.ja_report.proofs.values.push_label_parts.Given as goal
 -- the labels so far are written, and their sites named
 abbrev pub invariant-loop-label : goal.invariant-loop-label
 invariant-loop-label l =
-    (l.out.text.items ≡ l.initial.out.text.items ++ with_bars (map (label_text l.program) (take l.label-index l.label-items))) × (l.out.named.items ≡ l.initial.out.named.items ++ label_sites (take l.label-index l.label-items))
+    (l.out.text.items ≡ l.initial.out.text.items
+    ++ with_bars (map (label_text l.program) (take l.label-index l.label-items)))
+    × (l.out.named.items ≡ l.initial.out.named.items
+    ++ label_sites (take l.label-index l.label-items))

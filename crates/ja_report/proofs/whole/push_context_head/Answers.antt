@@ -6,4 +6,6 @@ use Rattle.ja_report.proofs.whole.push_context_head.Goals as goal
 pub returns : goal.returns
 unfolding context_head
 returns c =
-    c.in_ok-push_entry_count.ensures ∙ ap (λ (l : List ℕ). l ++ entries_line c.args.entries) (c.in_ok-push_root.ensures ∙ ap (λ (l : List ℕ). l ++ context_line c.args.program.now root) c.in_ok-extend_from_slice.ensures.items) ∙ simp append_assoc
+    c.in_ok-push_entry_count.ensures ∙ ap (λ (l : List ℕ). l ++ entries_line c.args.entries)
+    (c.in_ok-push_root.ensures ∙ ap (λ (l : List ℕ). l ++ context_line c.args.program.now root)
+    c.in_ok-extend_from_slice.ensures.items) ∙ simp append_assoc

@@ -5,4 +5,13 @@ use Rattle.ja_report.proofs.whole.push_head.Goals as goal
 pub returns : goal.returns
 unfolding report_head
 returns c =
-    simp (c.in_ok-push_sites.ensures, c.in_ok-extend_from_slice-3.ensures.items, c.in_ok-push_warnings.ensures, c.in_ok-extend_from_slice-2.ensures.items, c.in_ok-push_devices.ensures, c.signatures.ensures, c.in_ok-extend_from_slice.ensures.items, append_assoc)
+    simp (
+      c.in_ok-push_sites.ensures,
+      c.in_ok-extend_from_slice-3.ensures.items,
+      c.in_ok-push_warnings.ensures,
+      c.in_ok-extend_from_slice-2.ensures.items,
+      c.in_ok-push_devices.ensures,
+      c.signatures.ensures,
+      c.in_ok-extend_from_slice.ensures.items,
+      append_assoc,
+    )

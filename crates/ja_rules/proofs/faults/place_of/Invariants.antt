@@ -8,7 +8,8 @@ use Rattle.ja_rules.proofs.faults.place_of.Given as goal
 abbrev pub invariant-places : goal.invariant-places
 invariant-places l = record {
   within : l.at ≤ length l.found;
-  stops : (o : Operation) → slice_get l.found l.at ≡ Some o → comes_before o.warning l.more.warning ≡ false;
+  stops : (o : Operation) → slice_get l.found l.at ≡ Some o
+      → comes_before o.warning l.more.warning ≡ false;
 }
 
 abbrev pub decreases-places : goal.decreases-places

@@ -8,7 +8,8 @@ use Rattle.ja_rules.proofs.table.demand_all.Given as goal
 
 abbrev pub invariant-demands : goal.invariant-demands
 invariant-demands l = record {
-  demanded : demanded (entries_of l.entries) (demands_of_list l.pairs.items) ≡ demanded (entries_of l.fn.entries) (demands_in l.fn.demands);
+  demanded : demanded (entries_of l.entries) (demands_of_list l.pairs.items)
+      ≡ demanded (entries_of l.fn.entries) (demands_in l.fn.demands);
   rises : LeqEntries (entries_of l.fn.entries) (entries_of l.entries);
   changed : l.changed ≡ true → entries_of l.entries ≢ entries_of l.fn.entries;
   same : l.changed ≡ false → entries_of l.entries ≡ entries_of l.fn.entries;

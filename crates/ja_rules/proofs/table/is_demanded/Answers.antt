@@ -3,4 +3,6 @@ use Rattle.ja_rules.proofs.States.{entry_there}
 use Rattle.ja_rules.proofs.table.is_demanded.Goals as goal
 
 pub returns : goal.returns
-returns c = c.is_some.ensures ∙ entry_there c.args.entries.now c.args.label c.args.key c.get.result c.get.ensures
+returns c =
+    c.is_some.ensures ∙ entry_there c.args.entries.now c.args.label c.args.key c.get.result
+    c.get.ensures

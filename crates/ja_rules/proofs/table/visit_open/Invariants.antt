@@ -4,7 +4,8 @@ use Rattle.ja_rules.proofs.Visits.{IsOpening}
 use Rattle.ja_rules.proofs.table.visit_open.Given as goal
 
 abbrev pub invariant-pairs : goal.invariant-pairs
-invariant-pairs l = IsOpening l.program (entries_of l.entries) (entries_of l.opened) l.pairs.items l.changed
+invariant-pairs l =
+    IsOpening l.program (entries_of l.entries) (entries_of l.opened) l.pairs.items l.changed
 
 abbrev pub decreases-pairs : goal.decreases-pairs
 decreases-pairs l = vec_len l.pairs

@@ -4,4 +4,5 @@ use Rattle.ja_run.proofs.running.ask.Goals as goal
 
 pub returns-clause-memory : goal.returns-clause-memory
 returns-clause-memory g c =
-    inl (not_asked c.args.devices.now c.call.new.self c.args.which c.as_slice.result.now (rw c.in-Err-Memory.field-0-is at c.in-Err-Memory.ensures))
+    inl (not_asked c.args.devices.now c.call.new.self c.args.which c.as_slice.result.now
+    (rw c.in-Err-Memory.field-0-is at c.in-Err-Memory.ensures))

@@ -6,4 +6,5 @@ use Rattle.ja_run.proofs.transcript.push_calls.Given as goal
 -- the calls so far are written
 abbrev pub invariant-loop-call : goal.invariant-loop-call
 invariant-loop-call l =
-    l.text.items ≡ l.initial.text.items ++ flat_map (call_text l.program) (take l.call-index l.calls)
+    l.text.items ≡ l.initial.text.items ++ flat_map (call_text l.program)
+    (take l.call-index l.calls)

@@ -5,4 +5,6 @@ use Rattle.ja_state.proofs.ListLemmas.{Listing}
 use Rattle.ja_state.proofs.entries.demanded_keys.Given as goal
 
 abbrev pub invariant-loop-number : goal.invariant-loop-number
-invariant-loop-number l = Listing (λ q (p : AProp). name_key (q - 6) ∷ []) 6 (l.names) l.properties.entries l.number-iterator l.keys.items
+invariant-loop-number l =
+    Listing (λ q (p : AProp). name_key (q - 6) ∷ []) 6 (l.names) l.properties.entries
+    l.number-iterator l.keys.items

@@ -6,4 +6,6 @@ use Rattle.ja_state.proofs.MapLemmas.{AtEach}
 use Rattle.ja_state.proofs.masks.covers_at_kept.Given as goal
 
 abbrev pub invariant-loop-site : goal.invariant-loop-site
-invariant-loop-site l = AtEach (λ q (m : Mask). join_masks m (mask_in l.others q) ≡ m) l.site-iterator → AtEach (λ q (m : Mask). join_masks m (mask_in l.others q) ≡ m) l.masks.entries
+invariant-loop-site l =
+    AtEach (λ q (m : Mask). join_masks m (mask_in l.others q) ≡ m) l.site-iterator
+    → AtEach (λ q (m : Mask). join_masks m (mask_in l.others q) ≡ m) l.masks.entries

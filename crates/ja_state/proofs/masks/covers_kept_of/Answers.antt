@@ -7,8 +7,14 @@ use Rattle.ja_state.proofs.masks.covers_kept_of.Goals as goal
 
 pub loop-site-preserved : goal.loop-site-preserved
 loop-site-preserved c =
-    each_turn (λ q (m : Mask). join_masks (mask_in c.args.masks.now q) m ≡ mask_in c.args.masks.now q) _ _ _ _ (c.in-Some.site, c.in-Some.mask) c.in-Some.is c.next.ensures.steps c.loop-site.invariant
-    (subst (λ (z : Mask). join_masks z c.in-Some.mask.now ≡ z) c.mask_at.ensures (c.covers.ensures c.if-not-covers.false))
+    each_turn (λ q (m : Mask). join_masks (mask_in c.args.masks.now q) m
+    ≡ mask_in c.args.masks.now q) _ _ _ _ (c.in-Some.site, c.in-Some.mask) c.in-Some.is
+    c.next.ensures.steps c.loop-site.invariant
+    (subst (λ (z : Mask). join_masks z c.in-Some.mask.now ≡ z) c.mask_at.ensures
+    (c.covers.ensures c.if-not-covers.false))
 
 pub returns : goal.returns
-returns c = λ said. each_end (λ q (m : Mask). join_masks (mask_in c.args.masks.now q) m ≡ mask_in c.args.masks.now q) c.args.others.now.entries _ c.in-None.ensures.steps.0 c.loop-site.invariant
+returns c =
+    λ said. each_end (λ q (m : Mask). join_masks (mask_in c.args.masks.now q) m
+    ≡ mask_in c.args.masks.now q) c.args.others.now.entries _ c.in-None.ensures.steps.0
+    c.loop-site.invariant

@@ -6,4 +6,6 @@ use Rattle.ja_state.proofs.object.aged_properties.Goals as goal
 
 pub loop-number-preserved : goal.loop-number-preserved
 loop-number-preserved c =
-    moved_turn (λ q (p : AProp). aged_property c.args.site (property_of p)) property_of _ _ _ _ (c.in-Some.number, c.in-Some.property) _ _ c.in_ok-aged.field-0 c.in-Some.is c.next.ensures.steps c.loop-number.invariant c.in_ok-put.ensures.placed c.in_ok-aged.ensures
+    moved_turn (λ q (p : AProp). aged_property c.args.site (property_of p)) property_of _ _ _ _
+    (c.in-Some.number, c.in-Some.property) _ _ c.in_ok-aged.field-0 c.in-Some.is
+    c.next.ensures.steps c.loop-number.invariant c.in_ok-put.ensures.placed c.in_ok-aged.ensures

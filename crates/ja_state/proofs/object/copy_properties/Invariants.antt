@@ -3,4 +3,5 @@ use Rattle.ja_state.proofs.MapLemmas.{Moved}
 use Rattle.ja_state.proofs.object.copy_properties.Given as goal
 
 abbrev pub invariant-loop-number : goal.invariant-loop-number
-invariant-loop-number l = Moved (λ q. property_of) property_of l.listed.entries l.number-iterator l.copies
+invariant-loop-number l =
+    Moved (λ q. property_of) property_of l.listed.entries l.number-iterator l.copies

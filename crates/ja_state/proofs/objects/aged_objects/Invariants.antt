@@ -4,4 +4,6 @@ use Rattle.ja_state.proofs.MapLemmas.{Moved}
 use Rattle.ja_state.proofs.objects.aged_objects.Given as goal
 
 abbrev pub invariant-loop-number : goal.invariant-loop-number
-invariant-loop-number l = Moved (λ q (o : AObject). aged_keyed l.site (object_of o)) object_of l.objects.entries l.number-iterator l.aged
+invariant-loop-number l =
+    Moved (λ q (o : AObject). aged_keyed l.site (object_of o)) object_of l.objects.entries
+    l.number-iterator l.aged

@@ -6,8 +6,13 @@ use Rattle.ja_state.proofs.objects.covers_at_kept.Goals as goal
 
 pub loop-number-preserved : goal.loop-number-preserved
 loop-number-preserved c =
-    each_turn (λ q (o : AObject). join_keyed (object_of o) (object_in c.args.others.now q) ≡ object_of o) _ _ _ _ (c.in-Some.number, c.in-Some.object) c.in-Some.is c.next.ensures.steps c.loop-number.invariant
-    (sym (ap (join_keyed (object_of c.in-Some.object.now)) c.object_at.ensures) ∙ c.covers.ensures c.if-not-covers.false)
+    each_turn (λ q (o : AObject). join_keyed (object_of o) (object_in c.args.others.now q)
+    ≡ object_of o) _ _ _ _ (c.in-Some.number, c.in-Some.object) c.in-Some.is
+    c.next.ensures.steps c.loop-number.invariant
+    (sym (ap (join_keyed (object_of c.in-Some.object.now)) c.object_at.ensures)
+    ∙ c.covers.ensures c.if-not-covers.false)
 
 pub returns : goal.returns
-returns c = λ said. each_end (λ q (o : AObject). join_keyed (object_of o) (object_in c.args.others.now q) ≡ object_of o) c.args.objects.now.entries _ c.in-None.ensures.steps.0 c.loop-number.invariant
+returns c =
+    λ said. each_end (λ q (o : AObject). join_keyed (object_of o) (object_in c.args.others.now q)
+    ≡ object_of o) c.args.objects.now.entries _ c.in-None.ensures.steps.0 c.loop-number.invariant

@@ -8,5 +8,6 @@ use Rattle.ja_state.proofs.registers.entry_values.Goals as goal
 pub loop-register-preserved : goal.loop-register-preserved
 loop-register-preserved c =
     let n = c.loop-register.register in
-    mapped_push value_of _ _ c.in_ok-entry_register.field-0 _ _ c.in_ok-push.ensures.items c.loop-register.invariant c.in_ok-entry_register.ensures
+    mapped_push value_of _ _ c.in_ok-entry_register.field-0 _ _ c.in_ok-push.ensures.items
+    c.loop-register.invariant c.in_ok-entry_register.ensures
     ∙ sym (map-range_with_len_more entry_registers 0 n n (omega arith))

@@ -6,6 +6,7 @@ use Rattle.ja_state.proofs.registers.join_values.Given as goal
 
 abbrev pub invariant-loop-register : goal.invariant-loop-register
 invariant-loop-register l = record {
-  passing : Passing join (register_in l.initial.values.items) (register_in l.others) (register_in l.values.items) l.register l.changed;
+  passing : Passing join (register_in l.initial.values.items) (register_in l.others)
+      (register_in l.values.items) l.register l.changed;
   len : vec_len l.values ≡ vec_len l.initial.values;
 }

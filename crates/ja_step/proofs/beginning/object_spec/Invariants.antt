@@ -4,4 +4,7 @@ use Rattle.ja_step.proofs.beginning.object_spec.Given as goal
 
 abbrev pub invariant-loop-spec : goal.invariant-loop-spec
 invariant-loop-spec l =
-    record { same : l.opening ≡ l.program.opening; further : IsFurther l.site l.opening l.spec-index }
+    record {
+      same : l.opening ≡ l.program.opening;
+      further : IsFurther l.site l.opening l.spec-index;
+    }

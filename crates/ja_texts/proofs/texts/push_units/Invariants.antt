@@ -5,4 +5,5 @@ use Rattle.ja_texts.proofs.texts.push_units.Given as goal
 
 -- the units so far are written
 abbrev pub invariant-loop-unit : goal.invariant-loop-unit
-invariant-loop-unit l = l.text.items ≡ l.initial.text.items ++ flat_map unit_text (take l.unit-index l.units)
+invariant-loop-unit l =
+    l.text.items ≡ l.initial.text.items ++ flat_map unit_text (take l.unit-index l.units)

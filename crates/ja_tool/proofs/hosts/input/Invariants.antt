@@ -6,5 +6,11 @@ use Rattle.ja_tool.proofs.hosts.input.Given as goal
 abbrev pub invariant-loop-truth : goal.invariant-loop-truth
 invariant-loop-truth l = record {
   count : length l.answers.items ≡ l.truth-index;
-  fit : AreOfKinds (record { undefined = false; null = false; boolean = true; number = false; text = false }) l.answers.items;
+  fit : AreOfKinds (record {
+    undefined = false;
+    null = false;
+    boolean = true;
+    number = false;
+    text = false;
+  }) l.answers.items;
 }

@@ -6,5 +6,11 @@ use Rattle.ja_tool.proofs.hosts.number.Given as goal
 abbrev pub invariant-loop-number : goal.invariant-loop-number
 invariant-loop-number l = record {
   count : length l.answers.items ≡ l.number-index;
-  fit : AreOfKinds (record { undefined = false; null = false; boolean = false; number = true; text = false }) l.answers.items;
+  fit : AreOfKinds (record {
+    undefined = false;
+    null = false;
+    boolean = false;
+    number = true;
+    text = false;
+  }) l.answers.items;
 }

@@ -14,7 +14,9 @@ loop-depth-init c =
     let h = c.args.self.now in
     let all = names_along h c.in_ok-chain.chain.items in
     record {
-      listed = ap (λ xs. xs ++ filter (in_sight h []) all) c.new-names.ensures.items ∙ (all_in_sight h all ∙ ap (names_along h) c.in_ok-chain.ensures);
+      listed =
+          ap (λ xs. xs ++ filter (in_sight h []) all) c.new-names.ensures.items
+          ∙ (all_in_sight h all ∙ ap (names_along h) c.in_ok-chain.ensures);
       hidden = λ name. ap (list_any (pointwise nat_eq name)) c.new-nearer.ensures.empty;
     }
 
@@ -28,8 +30,16 @@ loop-depth-preserved c =
     let low : d < length xs = omega (arith, c.loop-depth-test.true, c.in_ok-chain.chain.ok) in
     let here : b ≡ get_or xs d b = c.index-b.ensures in
     let seen : List ℕ → Bool = λ name. not (contains (pointwise nat_eq) c.loop-depth.nearer name) in
-    let pushed = c.in_ok-push_names.ensures ∙ ap (λ ys. old ++ ys) (same_filtered seen (in_sight h (take d xs)) (λ name. ap not (c.loop-depth.invariant.hidden name)) (own_names h b) ∙ ap (λ a. filter (in_sight h (take d xs)) (own_names h a)) here) in
+    let pushed = c.in_ok-push_names.ensures
+    ∙ ap (λ ys. old ++ ys) (same_filtered seen (in_sight h (take d xs))
+    (λ name. ap not (c.loop-depth.invariant.hidden name)) (own_names h b)
+    ∙ ap (λ a. filter (in_sight h (take d xs)) (own_names h a)) here) in
     record {
-      listed = names_more h xs d b old c.push_names.new.names.items _ low pushed c.loop-depth.invariant.listed;
-      hidden = λ name. c.in_ok-add_names.ensures name ∙ (ap (λ t. t || is_some (own h b name)) (c.loop-depth.invariant.hidden name) ∙ hidden_more h xs d b name low here);
+      listed =
+          names_more h xs d b old c.push_names.new.names.items _ low pushed
+          c.loop-depth.invariant.listed;
+      hidden =
+          λ name. c.in_ok-add_names.ensures name
+          ∙ (ap (λ t. t || is_some (own h b name)) (c.loop-depth.invariant.hidden name)
+          ∙ hidden_more h xs d b name low here);
     }

@@ -10,6 +10,8 @@ use Rattle.ja_heap.proofs.heap.Heap.names.Given as goal
 
 abbrev pub invariant-loop-depth : goal.invariant-loop-depth
 invariant-loop-depth l = record {
-  listed : l.names.items ++ filter (in_sight l.self (take l.depth l.chain.items)) (names_along l.self (drop l.depth l.chain.items)) ≡ names l.self l.fn.a;
-  hidden : (name : List ℕ) → contains (pointwise nat_eq) l.nearer name ≡ list_any (λ b. is_some (own l.self b name)) (take l.depth l.chain.items);
+  listed : l.names.items ++ filter (in_sight l.self (take l.depth l.chain.items))
+      (names_along l.self (drop l.depth l.chain.items)) ≡ names l.self l.fn.a;
+  hidden : (name : List ℕ) → contains (pointwise nat_eq) l.nearer name
+      ≡ list_any (λ b. is_some (own l.self b name)) (take l.depth l.chain.items);
 }

@@ -7,4 +7,6 @@ use Rattle.ja_heap.proofs.object.Object.cut.Goals as goal
 
 pub returns-in-None : goal.returns-in-None
 returns-in-None c =
-    sym (ap (λ (qs : List Property). let o : Object = record c.args.self.now { properties = qs } in o) (none_cut (is_cut c.args.new c.args.old) c.args.self.now.properties (λ q. ap (λ o. is_cut c.args.new o q) c.in-None.is)))
+    sym (ap (λ (qs : List Property). let o : Object = record c.args.self.now { properties = qs } in
+    o) (none_cut (is_cut c.args.new c.args.old) c.args.self.now.properties
+    (λ q. ap (λ o. is_cut c.args.new o q) c.in-None.is)))

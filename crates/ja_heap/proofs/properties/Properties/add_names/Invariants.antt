@@ -9,5 +9,7 @@ use Rattle.ja_heap.proofs.properties.Properties.add_names.Given as goal
 abbrev pub invariant-loop-i : goal.invariant-loop-i
 invariant-loop-i l =
     (name : List ℕ)
-    → (contains (pointwise nat_eq) l.names name || is_some (find (is_named name) (live (drop l.i l.self-inside.slots.items))))
-    ≡ (contains (pointwise nat_eq) l.initial.names name || is_some (find (is_named name) (live l.self-inside.slots.items)))
+    → (contains (pointwise nat_eq) l.names name
+    || is_some (find (is_named name) (live (drop l.i l.self-inside.slots.items))))
+    ≡ (contains (pointwise nat_eq) l.initial.names name
+    || is_some (find (is_named name) (live l.self-inside.slots.items)))

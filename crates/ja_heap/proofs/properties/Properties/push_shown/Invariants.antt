@@ -8,4 +8,5 @@ use Rattle.ja_heap.proofs.properties.Properties.push_shown.Given as goal
 abbrev pub invariant-loop-i : goal.invariant-loop-i
 invariant-loop-i l =
     let test : List ℕ → Bool = λ name. not (contains (pointwise nat_eq) l.hidden name) in
-    l.names.items ++ shown test (drop l.i l.self-inside.slots.items) ≡ l.initial.names.items ++ shown test l.self-inside.slots.items
+    l.names.items ++ shown test (drop l.i l.self-inside.slots.items) ≡ l.initial.names.items
+    ++ shown test l.self-inside.slots.items

@@ -8,4 +8,5 @@ loop-turn-preserved c whole edges =
     let left = c.args.self.now.turns - (c.loop-turn._turn + 1) in
     let one : c.args.self.now.turns - c.loop-turn._turn ≡ suc left = omega arith in
     ap (λ o. landed whole (after whole left o)) (c.further-target.ensures whole edges)
-    ∙ (ap (landed whole) (sym (one_turn whole (c.args.self.now.turns - c.loop-turn._turn) left c.loop-turn.target one)) ∙ c.loop-turn.invariant whole edges)
+    ∙ (ap (landed whole) (sym (one_turn whole (c.args.self.now.turns - c.loop-turn._turn) left
+    c.loop-turn.target one)) ∙ c.loop-turn.invariant whole edges)

@@ -17,8 +17,15 @@ decreases-operations g l = 3 * l.level + 2
 
 abbrev pub invariant-operations-loop-turn : goal.invariant-operations-loop-turn
 invariant-operations-loop-turn g l =
-    until (λ found. is_none (binary_operator l.no_in (suc l.level) found)) (spec.operation (strict l.self.depth) (below strict l.self.depth) l.no_in (suc l.level) (spec.binary (strict l.self.depth) (below strict l.self.depth) l.no_in l.level)) l.fn.cursor
-    ≡ until_from (λ found. is_none (binary_operator l.no_in (suc l.level) found)) (spec.operation (strict l.self.depth) (below strict l.self.depth) l.no_in (suc l.level) (spec.binary (strict l.self.depth) (below strict l.self.depth) l.no_in l.level)) (l._turn-end - l._turn) l.found l.cursor
+    until (λ found. is_none (binary_operator l.no_in (suc l.level) found))
+    (spec.operation (strict l.self.depth) (below strict l.self.depth) l.no_in (suc l.level)
+    (spec.binary (strict l.self.depth) (below strict l.self.depth) l.no_in l.level)) l.fn.cursor
+    ≡ until_from (λ found. is_none (binary_operator l.no_in (suc l.level) found))
+    (spec.operation (strict l.self.depth) (below strict l.self.depth) l.no_in (suc l.level)
+    (spec.binary (strict l.self.depth) (below strict l.self.depth) l.no_in l.level))
+    (l._turn-end - l._turn) l.found l.cursor
 
 abbrev pub invariant-binary-loop-lower : goal.invariant-binary-loop-lower
-invariant-binary-loop-lower g l = spec.binary (strict l.self.depth) (below strict l.self.depth) l.no_in l.lower l.fn.cursor ≡ Done l.x l.cursor
+invariant-binary-loop-lower g l =
+    spec.binary (strict l.self.depth) (below strict l.self.depth) l.no_in l.lower l.fn.cursor
+    ≡ Done l.x l.cursor

@@ -6,24 +6,39 @@ use Rattle.ja_parse_expressions.proofs.grammar.Grammar.assignments.Goals as goal
 
 pub returns-in_err-first : goal.returns-in_err-first
 returns-in_err-first g c =
-    passed _ _ _ _ c.from_residual.ensures (commas_error_first (spec.assignment (strict c.args.self.now.depth) (below strict c.args.self.now.depth) c.args.no_in) _ _ _ c.in_err-first.ensures)
+    passed _ _ _ _ c.from_residual.ensures (commas_error_first
+    (spec.assignment (strict c.args.self.now.depth) (below strict c.args.self.now.depth)
+    c.args.no_in) _ _ _ c.in_err-first.ensures)
 
 pub loop-turn-init : goal.loop-turn-init
 loop-turn-init g c =
-    rw (c.in_ok-push.ensures.ok, c.into_inner.ensures, c.new-found.ensures) (commas_start (spec.assignment (strict c.args.self.now.depth) (below strict c.args.self.now.depth) c.args.no_in) _ _ _ _ c.in_ok-first.ensures c.left-turn-end.ensures)
+    rw (c.in_ok-push.ensures.ok, c.into_inner.ensures, c.new-found.ensures)
+    (commas_start (spec.assignment (strict c.args.self.now.depth)
+    (below strict c.args.self.now.depth) c.args.no_in) _ _ _ _ c.in_ok-first.ensures
+    c.left-turn-end.ensures)
 
 pub returns-then-not-sees : goal.returns-then-not-sees
-returns-then-not-sees g c = commas_stop (spec.assignment (strict c.args.self.now.depth) (below strict c.args.self.now.depth) c.args.no_in) _ _ _ _ c.loop-turn.invariant (cc (c.sees.ensures, c.if-not-sees.true))
+returns-then-not-sees g c =
+    commas_stop (spec.assignment (strict c.args.self.now.depth) (below strict c.args.self.now.depth)
+    c.args.no_in) _ _ _ _ c.loop-turn.invariant (cc (c.sees.ensures, c.if-not-sees.true))
 
 pub returns-in_err-item : goal.returns-in_err-item
 returns-in_err-item g c =
     passed _ _ _ _ c.from_residual-in_err-item.ensures
-    (commas_error (spec.assignment (strict c.args.self.now.depth) (below strict c.args.self.now.depth) c.args.no_in) _ _ _ _ _ c.take.new.self _ _ c.loop-turn.invariant c.loop-turn-test.true (cc (c.sees.ensures, c.if-not-sees.false)) c.take.ensures c.in_err-item.ensures)
+    (commas_error (spec.assignment (strict c.args.self.now.depth)
+    (below strict c.args.self.now.depth) c.args.no_in) _ _ _ _ _ c.take.new.self _ _
+    c.loop-turn.invariant c.loop-turn-test.true (cc (c.sees.ensures, c.if-not-sees.false))
+    c.take.ensures c.in_err-item.ensures)
 
 pub loop-turn-preserved : goal.loop-turn-preserved
 loop-turn-preserved g c =
     rw (c.in_ok-push-2.ensures.ok, c.into_inner-in-loop-turn.ensures)
-    (commas_more (spec.assignment (strict c.args.self.now.depth) (below strict c.args.self.now.depth) c.args.no_in) _ _ _ _ _ c.take.new.self _ _ c.loop-turn.invariant c.loop-turn-test.true (cc (c.sees.ensures, c.if-not-sees.false)) c.take.ensures c.in_ok-item.ensures)
+    (commas_more (spec.assignment (strict c.args.self.now.depth)
+    (below strict c.args.self.now.depth) c.args.no_in) _ _ _ _ _ c.take.new.self _ _
+    c.loop-turn.invariant c.loop-turn-test.true (cc (c.sees.ensures, c.if-not-sees.false))
+    c.take.ensures c.in_ok-item.ensures)
 
 pub returns : goal.returns
-returns g c = commas_none (spec.assignment (strict c.args.self.now.depth) (below strict c.args.self.now.depth) c.args.no_in) _ _ _ _ _ c.loop-turn.invariant c.loop-turn-test.false
+returns g c =
+    commas_none (spec.assignment (strict c.args.self.now.depth) (below strict c.args.self.now.depth)
+    c.args.no_in) _ _ _ _ _ c.loop-turn.invariant c.loop-turn-test.false

@@ -6,4 +6,7 @@ use Rattle.ja_grammar.specs.ReadStatement.{below}
 use Rattle.ja_parse_expressions.proofs.grammar.Grammar.assignments.Given as goal
 
 abbrev pub invariant-loop-turn : goal.invariant-loop-turn
-invariant-loop-turn g l = separated (spec.assignment (strict l.self.depth) (below strict l.self.depth) l.no_in) l.fn.cursor ≡ commas_from (spec.assignment (strict l.self.depth) (below strict l.self.depth) l.no_in) (l._turn-end - l._turn) l.found l.cursor
+invariant-loop-turn g l =
+    separated (spec.assignment (strict l.self.depth) (below strict l.self.depth) l.no_in)
+    l.fn.cursor ≡ commas_from (spec.assignment (strict l.self.depth) (below strict l.self.depth)
+    l.no_in) (l._turn-end - l._turn) l.found l.cursor

@@ -6,4 +6,8 @@ use Rattle.ja_grammar.specs.ReadStatement.{below}
 use Rattle.ja_parse_expressions.proofs.grammar.Grammar.elements.Given as goal
 
 abbrev pub invariant-loop-turn : goal.invariant-loop-turn
-invariant-loop-turn g l = until spec.is_close_bracket (spec.element (strict l.self.depth) (below strict l.self.depth)) l.fn.cursor ≡ until_from spec.is_close_bracket (spec.element (strict l.self.depth) (below strict l.self.depth)) (l._turn-end - l._turn) l.found l.cursor
+invariant-loop-turn g l =
+    until spec.is_close_bracket (spec.element (strict l.self.depth) (below strict l.self.depth))
+    l.fn.cursor ≡ until_from spec.is_close_bracket
+    (spec.element (strict l.self.depth) (below strict l.self.depth)) (l._turn-end - l._turn) l.found
+    l.cursor

@@ -6,4 +6,7 @@ use Rattle.ja_grammar.specs.ReadStatement.{below}
 use Rattle.ja_parse_expressions.proofs.grammar.Grammar.properties_between.Given as goal
 
 abbrev pub invariant-loop-turn : goal.invariant-loop-turn
-invariant-loop-turn g l = separated (spec.property (strict l.self.depth) (below strict l.self.depth)) l.fn.cursor ≡ commas_from (spec.property (strict l.self.depth) (below strict l.self.depth)) (l._turn-end - l._turn) l.found l.cursor
+invariant-loop-turn g l =
+    separated (spec.property (strict l.self.depth) (below strict l.self.depth)) l.fn.cursor
+    ≡ commas_from (spec.property (strict l.self.depth) (below strict l.self.depth))
+    (l._turn-end - l._turn) l.found l.cursor

@@ -8,18 +8,38 @@ use Rattle.ja_parse_expressions.proofs.grammar.Grammar.suffixes.Goals as goal
 
 pub loop-turn-init : goal.loop-turn-init
 loop-turn-init g c =
-    rw c.new-found.ensures (until_start (λ found. not (forms.begins_suffix found)) (spec.any_suffix (strict c.args.self.now.depth) (below strict c.args.self.now.depth)) _ c.args.cursor.now c.left-turn-end.ensures)
+    rw c.new-found.ensures (until_start (λ found. not (forms.begins_suffix found))
+    (spec.any_suffix (strict c.args.self.now.depth) (below strict c.args.self.now.depth)) _
+    c.args.cursor.now c.left-turn-end.ensures)
 
 pub returns-then-not-begins_suffix : goal.returns-then-not-begins_suffix
-returns-then-not-begins_suffix g c = until_stop (λ found. not (forms.begins_suffix found)) (spec.any_suffix (strict c.args.self.now.depth) (below strict c.args.self.now.depth)) _ _ _ _ c.loop-turn.invariant (not_false (cc (c.symbol.ensures, c.begins_suffix.ensures, c.if-not-begins_suffix.true)))
+returns-then-not-begins_suffix g c =
+    until_stop (λ found. not (forms.begins_suffix found))
+    (spec.any_suffix (strict c.args.self.now.depth) (below strict c.args.self.now.depth)) _ _ _ _
+    c.loop-turn.invariant (not_false (cc (
+      c.symbol.ensures,
+      c.begins_suffix.ensures,
+      c.if-not-begins_suffix.true,
+    )))
 
 pub returns-in_err-item : goal.returns-in_err-item
 returns-in_err-item g c =
-    passed _ _ _ _ c.from_residual.ensures (until_error (λ found. not (forms.begins_suffix found)) (spec.any_suffix (strict c.args.self.now.depth) (below strict c.args.self.now.depth)) _ _ _ _ _ _ _ c.loop-turn.invariant c.loop-turn-test.true (not_true (cc (c.symbol.ensures, c.begins_suffix.ensures, c.if-not-begins_suffix.false))) c.in_err-item.ensures)
+    passed _ _ _ _ c.from_residual.ensures (until_error (λ found. not (forms.begins_suffix found))
+    (spec.any_suffix (strict c.args.self.now.depth) (below strict c.args.self.now.depth)) _ _ _
+    _ _ _ _ c.loop-turn.invariant c.loop-turn-test.true
+    (not_true (cc (c.symbol.ensures, c.begins_suffix.ensures, c.if-not-begins_suffix.false)))
+    c.in_err-item.ensures)
 
 pub loop-turn-preserved : goal.loop-turn-preserved
 loop-turn-preserved g c =
-    rw c.in_ok-push.ensures.ok (until_more (λ found. not (forms.begins_suffix found)) (spec.any_suffix (strict c.args.self.now.depth) (below strict c.args.self.now.depth)) _ _ _ _ _ _ _ c.loop-turn.invariant c.loop-turn-test.true (not_true (cc (c.symbol.ensures, c.begins_suffix.ensures, c.if-not-begins_suffix.false))) c.in_ok-item.ensures)
+    rw c.in_ok-push.ensures.ok (until_more (λ found. not (forms.begins_suffix found))
+    (spec.any_suffix (strict c.args.self.now.depth) (below strict c.args.self.now.depth)) _ _ _
+    _ _ _ _ c.loop-turn.invariant c.loop-turn-test.true
+    (not_true (cc (c.symbol.ensures, c.begins_suffix.ensures, c.if-not-begins_suffix.false)))
+    c.in_ok-item.ensures)
 
 pub returns : goal.returns
-returns g c = until_none (λ found. not (forms.begins_suffix found)) (spec.any_suffix (strict c.args.self.now.depth) (below strict c.args.self.now.depth)) _ _ _ _ _ c.loop-turn.invariant c.loop-turn-test.false
+returns g c =
+    until_none (λ found. not (forms.begins_suffix found))
+    (spec.any_suffix (strict c.args.self.now.depth) (below strict c.args.self.now.depth)) _ _ _ _ _
+    c.loop-turn.invariant c.loop-turn-test.false

@@ -5,4 +5,5 @@ use Rattle.ja_parse_statements.proofs.grammar.Grammar.catch.Goals as goal
 
 pub returns-in_err-parameter : goal.returns-in_err-parameter
 unfolding catch
-returns-in_err-parameter g c = let h = c.in_err-parameter.ensures c.args.self.now.depth in first_of (search rules, grind (arith, common_steps))
+returns-in_err-parameter g c = let h = c.in_err-parameter.ensures c.args.self.now.depth in
+    first_of (search rules, grind (arith, common_steps))

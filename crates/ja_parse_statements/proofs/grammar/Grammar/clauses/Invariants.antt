@@ -7,5 +7,7 @@ use Rattle.ja_parse_statements.proofs.grammar.Grammar.clauses.Given as goal
 
 abbrev pub invariant-loop-turn : goal.invariant-loop-turn
 invariant-loop-turn g l =
-    clauses_behind (strict l.self.depth) (below strict l.self.depth) (context_of l.context) l.fn.cursor
-    ≡ clauses_from (strict l.self.depth) (below strict l.self.depth) (context_of l.context) (l._turn-end - l._turn) (record { defaulted = l.defaulted; found = l.found }) l.cursor
+    clauses_behind (strict l.self.depth) (below strict l.self.depth) (context_of l.context)
+    l.fn.cursor
+    ≡ clauses_from (strict l.self.depth) (below strict l.self.depth) (context_of l.context)
+    (l._turn-end - l._turn) (record { defaulted = l.defaulted; found = l.found }) l.cursor

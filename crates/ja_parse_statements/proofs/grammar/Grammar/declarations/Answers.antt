@@ -7,24 +7,42 @@ use Rattle.ja_parse_statements.proofs.grammar.Grammar.declarations.Goals as goal
 
 pub returns-in_err-first : goal.returns-in_err-first
 returns-in_err-first g c =
-    passed _ _ _ _ c.from_residual.ensures (commas_error_first (statements.variable (strict c.args.self.now.depth) (variable_value (strict c.args.self.now.depth) (below strict c.args.self.now.depth) c.args.in_head)) _ _ _ c.in_err-first.ensures)
+    passed _ _ _ _ c.from_residual.ensures (commas_error_first
+    (statements.variable (strict c.args.self.now.depth)
+    (variable_value (strict c.args.self.now.depth) (below strict c.args.self.now.depth)
+    c.args.in_head)) _ _ _ c.in_err-first.ensures)
 
 pub loop-turn-init : goal.loop-turn-init
 loop-turn-init g c =
-    rw (c.in_ok-push.ensures.ok, c.new-found.ensures) (commas_start (statements.variable (strict c.args.self.now.depth) (variable_value (strict c.args.self.now.depth) (below strict c.args.self.now.depth) c.args.in_head)) _ _ _ _ c.in_ok-first.ensures c.left-turn-end.ensures)
+    rw (c.in_ok-push.ensures.ok, c.new-found.ensures)
+    (commas_start (statements.variable (strict c.args.self.now.depth)
+    (variable_value (strict c.args.self.now.depth) (below strict c.args.self.now.depth)
+    c.args.in_head)) _ _ _ _ c.in_ok-first.ensures c.left-turn-end.ensures)
 
 pub returns-then-not-sees : goal.returns-then-not-sees
-returns-then-not-sees g c = commas_stop (statements.variable (strict c.args.self.now.depth) (variable_value (strict c.args.self.now.depth) (below strict c.args.self.now.depth) c.args.in_head)) _ _ _ _ c.loop-turn.invariant (cc (c.sees.ensures, c.if-not-sees.true))
+returns-then-not-sees g c =
+    commas_stop (statements.variable (strict c.args.self.now.depth)
+    (variable_value (strict c.args.self.now.depth) (below strict c.args.self.now.depth)
+    c.args.in_head)) _ _ _ _ c.loop-turn.invariant (cc (c.sees.ensures, c.if-not-sees.true))
 
 pub returns-in_err-item : goal.returns-in_err-item
 returns-in_err-item g c =
     passed _ _ _ _ c.from_residual-in_err-item.ensures
-    (commas_error (statements.variable (strict c.args.self.now.depth) (variable_value (strict c.args.self.now.depth) (below strict c.args.self.now.depth) c.args.in_head)) _ _ _ _ _ c.take.new.self _ _ c.loop-turn.invariant c.loop-turn-test.true (cc (c.sees.ensures, c.if-not-sees.false)) c.take.ensures c.in_err-item.ensures)
+    (commas_error (statements.variable (strict c.args.self.now.depth)
+    (variable_value (strict c.args.self.now.depth) (below strict c.args.self.now.depth)
+    c.args.in_head)) _ _ _ _ _ c.take.new.self _ _ c.loop-turn.invariant c.loop-turn-test.true
+    (cc (c.sees.ensures, c.if-not-sees.false)) c.take.ensures c.in_err-item.ensures)
 
 pub loop-turn-preserved : goal.loop-turn-preserved
 loop-turn-preserved g c =
     rw c.in_ok-push-2.ensures.ok
-    (commas_more (statements.variable (strict c.args.self.now.depth) (variable_value (strict c.args.self.now.depth) (below strict c.args.self.now.depth) c.args.in_head)) _ _ _ _ _ c.take.new.self _ _ c.loop-turn.invariant c.loop-turn-test.true (cc (c.sees.ensures, c.if-not-sees.false)) c.take.ensures c.in_ok-item.ensures)
+    (commas_more (statements.variable (strict c.args.self.now.depth)
+    (variable_value (strict c.args.self.now.depth) (below strict c.args.self.now.depth)
+    c.args.in_head)) _ _ _ _ _ c.take.new.self _ _ c.loop-turn.invariant c.loop-turn-test.true
+    (cc (c.sees.ensures, c.if-not-sees.false)) c.take.ensures c.in_ok-item.ensures)
 
 pub returns : goal.returns
-returns g c = commas_none (statements.variable (strict c.args.self.now.depth) (variable_value (strict c.args.self.now.depth) (below strict c.args.self.now.depth) c.args.in_head)) _ _ _ _ _ c.loop-turn.invariant c.loop-turn-test.false
+returns g c =
+    commas_none (statements.variable (strict c.args.self.now.depth)
+    (variable_value (strict c.args.self.now.depth) (below strict c.args.self.now.depth)
+    c.args.in_head)) _ _ _ _ _ c.loop-turn.invariant c.loop-turn-test.false

@@ -7,4 +7,9 @@ use Rattle.ja_parse_statements.specs.code.Clauses.{variable_value}
 use Rattle.ja_parse_statements.proofs.grammar.Grammar.declarations.Given as goal
 
 abbrev pub invariant-loop-turn : goal.invariant-loop-turn
-invariant-loop-turn g l = separated (statements.variable (strict l.self.depth) (variable_value (strict l.self.depth) (below strict l.self.depth) l.in_head)) l.fn.cursor ≡ commas_from (statements.variable (strict l.self.depth) (variable_value (strict l.self.depth) (below strict l.self.depth) l.in_head)) (l._turn-end - l._turn) l.found l.cursor
+invariant-loop-turn g l =
+    separated (statements.variable (strict l.self.depth)
+    (variable_value (strict l.self.depth) (below strict l.self.depth) l.in_head)) l.fn.cursor
+    ≡ commas_from (statements.variable (strict l.self.depth)
+    (variable_value (strict l.self.depth) (below strict l.self.depth) l.in_head))
+    (l._turn-end - l._turn) l.found l.cursor

@@ -8,4 +8,9 @@ use Rattle.std.proofs.Common.{true}
 use Rattle.ja_parse_statements.proofs.grammar.Grammar.program_statements.Given as goal
 
 abbrev pub invariant-loop-turn : goal.invariant-loop-turn
-invariant-loop-turn g l = until statements.is_end (statements.single (strict l.self.depth) (below strict l.self.depth) (context_of l.context) 0 true) l.fn.cursor ≡ until_from statements.is_end (statements.single (strict l.self.depth) (below strict l.self.depth) (context_of l.context) 0 true) (l._turn-end - l._turn) l.found l.cursor
+invariant-loop-turn g l =
+    until statements.is_end (statements.single (strict l.self.depth) (below strict l.self.depth)
+    (context_of l.context) 0 true) l.fn.cursor
+    ≡ until_from statements.is_end (statements.single (strict l.self.depth)
+    (below strict l.self.depth) (context_of l.context) 0 true) (l._turn-end - l._turn) l.found
+    l.cursor

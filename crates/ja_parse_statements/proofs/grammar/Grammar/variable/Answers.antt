@@ -5,4 +5,5 @@ use Rattle.ja_parse_statements.proofs.grammar.Grammar.variable.Goals as goal
 
 pub returns-in_err-name : goal.returns-in_err-name
 unfolding variable
-returns-in_err-name g c = let h = c.in_err-name.ensures c.args.self.now.depth in first_of (search rules, grind (arith, common_steps))
+returns-in_err-name g c = let h = c.in_err-name.ensures c.args.self.now.depth in
+    first_of (search rules, grind (arith, common_steps))

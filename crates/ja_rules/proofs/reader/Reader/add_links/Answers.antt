@@ -8,4 +8,8 @@ use Rattle.ja_rules.proofs.reader.Reader.add_links.Goals as goal
 
 pub returns-clause-added : goal.returns-clause-added
 returns-clause-added c =
-    links_added (labels_in c.args.set.now) (labels_in c.join.new.self) (labels_in c.in_ok-links.links.value.labels) c.args.leads (own (view_of c.args.self.now) c.args.label c.args.slot) c.if-not-leads.false (ap (λ (q : AbstractProperty). q.value.label) c.in_ok-links.ensures) c.in_ok-changed.ensures.joined
+    links_added (labels_in c.args.set.now) (labels_in c.join.new.self)
+    (labels_in c.in_ok-links.links.value.labels) c.args.leads
+    (own (view_of c.args.self.now) c.args.label c.args.slot) c.if-not-leads.false
+    (ap (λ (q : AbstractProperty). q.value.label) c.in_ok-links.ensures)
+    c.in_ok-changed.ensures.joined

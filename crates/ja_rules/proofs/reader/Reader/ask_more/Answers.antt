@@ -12,8 +12,14 @@ members-preserved c =
     let next = next_prototype (view_of c.args.self.now) c.args.key in
     let first = labels_in c.args.set.now in
     record {
-      grown = done_more c.in_ok-members.members.items c.members.members.items c.pop.new.self.items c.in-Some.member (Grown next first (labels_in c.members.set)) (Grown next first (labels_in c.add_prototypes.new.set)) c.in-Some.ensures.items c.members.invariant.grown (λ xs g. grown_more next first (labels_in c.members.set) (labels_in c.add_prototypes.new.set) c.in-Some.member xs g c.in_ok-more.ensures.added);
-      same = λ none. let (before, now) = or_false_parts c.members.changed c.in_ok-more.more none in c.in_ok-more.ensures.same now ∙ c.members.invariant.same before;
+      grown =
+          done_more c.in_ok-members.members.items c.members.members.items c.pop.new.self.items
+          c.in-Some.member (Grown next first (labels_in c.members.set))
+          (Grown next first (labels_in c.add_prototypes.new.set)) c.in-Some.ensures.items
+          c.members.invariant.grown (λ xs g. grown_more next first (labels_in c.members.set)
+          (labels_in c.add_prototypes.new.set) c.in-Some.member xs g c.in_ok-more.ensures.added);
+      same = λ none. let (before, now) = or_false_parts c.members.changed c.in_ok-more.more none in
+          c.in_ok-more.ensures.same now ∙ c.members.invariant.same before;
     }
 
 pub returns-clause-added : goal.returns-clause-added
@@ -21,4 +27,6 @@ returns-clause-added c =
     let next = next_prototype (view_of c.args.self.now) c.args.key in
     let first = labels_in c.args.set.now in
     let now = labels_in c.members.set in
-    grown_all next first now (labels_below c.args.self.now.sites) c.in_ok-members.members.items c.in_ok-members.ensures (done_end c.in_ok-members.members.items c.members.members (Grown next first now) c.in_default.ensures.cases.0 c.members.invariant.grown)
+    grown_all next first now (labels_below c.args.self.now.sites) c.in_ok-members.members.items
+    c.in_ok-members.ensures (done_end c.in_ok-members.members.items c.members.members
+    (Grown next first now) c.in_default.ensures.cases.0 c.members.invariant.grown)

@@ -8,7 +8,8 @@ use Rattle.ja_rules.proofs.reader.Reader.ask_more.Given as goal
 
 abbrev pub invariant-members : goal.invariant-members
 invariant-members l = record {
-  grown : Done l.initial.members.items l.members.items (Grown (next_prototype (view_of l.self) l.key) (labels_in l.initial.set) (labels_in l.set));
+  grown : Done l.initial.members.items l.members.items
+      (Grown (next_prototype (view_of l.self) l.key) (labels_in l.initial.set) (labels_in l.set));
   same : l.changed ≡ false → labels_in l.set ≡ labels_in l.initial.set;
 }
 

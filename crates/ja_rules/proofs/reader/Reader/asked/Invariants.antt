@@ -7,4 +7,5 @@ use Rattle.ja_rules.proofs.reader.Reader.asked.Given as goal
 
 abbrev pub invariant-rounds : goal.invariant-rounds
 invariant-rounds l =
-    labels_in l.set ≡ rounds (next_prototype (view_of l.self) l.key) (view_of l.self).labels (same_label l.fn.label) l._round
+    labels_in l.set ≡ rounds (next_prototype (view_of l.self) l.key) (view_of l.self).labels
+    (same_label l.fn.label) l._round

@@ -13,7 +13,14 @@ returns c =
     let n = vec_len c.args.self.now.state.now.registers in
     let info = c.args.info.now in
     let other = λ (v : AbstractValue). has_part w.labels (uncalled_part c.args.program.now v) in
-    let states = throws w (other (w.state.register c.args.callee.0)) info c.args.error type_error_prototype not_a_function_message in
+    let states = throws w (other (w.state.register c.args.callee.0)) info c.args.error
+    type_error_prototype not_a_function_message in
     let is_other = c.in_ok-callee.ensures.other ∙ ap other c.register.ensures in
-    let thrown = given_as n _ states c.in_ok-thrown.thrown c.in_ok-thrown.ensures (ap (λ (b : Bool). throws w b info c.args.error type_error_prototype c.in_ok-message.message.items) is_other ∙ ap (throws w (other (w.state.register c.args.callee.0)) info c.args.error type_error_prototype) c.in_ok-message.ensures) in
-    outcome_as n _ states c.new.result _ c.in_ok-outcome.outcome (c.in_ok-outcome.ensures n states [] thrown (none_given n)) (append-nil states) c.new.ensures
+    let thrown = given_as n _ states c.in_ok-thrown.thrown c.in_ok-thrown.ensures
+    (ap (λ (b : Bool). throws w b info c.args.error type_error_prototype
+    c.in_ok-message.message.items) is_other
+    ∙ ap (throws w (other (w.state.register c.args.callee.0)) info c.args.error
+    type_error_prototype) c.in_ok-message.ensures) in
+    outcome_as n _ states c.new.result _ c.in_ok-outcome.outcome
+    (c.in_ok-outcome.ensures n states [] thrown (none_given n)) (append-nil states)
+    c.new.ensures

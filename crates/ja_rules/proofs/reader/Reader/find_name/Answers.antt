@@ -14,7 +14,16 @@ returns c =
     let n = vec_len c.args.self.now.state.now.registers in
     let k = key.Name c.args.name in
     let start = (w.state.register 2).label in
-    let P : Labels → Type 0 = λ s. Adds c.new-demands.result c.find.new.demands (demands_of_search w s k) in
-    let demanded = demands_first c.new-demands.result c.find.new.demands (demands_of_search w start k) c.new-demands.ensures (subst P c.in_ok-start.ensures c.in_ok-value.ensures.demands) in
-    let value_is = c.in_ok-value.ensures.value ∙ ap (λ (s : Labels). found w s k) c.in_ok-start.ensures in
-    outcome_as n (sets w c.args.dst (value_of c.in_ok-value.value) c.args.next) (sets w c.args.dst (found w start k) c.args.next) c.find.new.demands (demands_of_search w start k) c.in_ok-outcome.outcome (c.in_ok-outcome.ensures n [] (sets w c.args.dst (value_of c.in_ok-value.value) c.args.next) (none_given n) c.in_ok-given.ensures) (ap (λ (v : AbstractValue). sets w c.args.dst v c.args.next) value_is) demanded
+    let P : Labels → Type 0 = λ s. Adds c.new-demands.result c.find.new.demands
+    (demands_of_search w s k) in
+    let demanded = demands_first c.new-demands.result c.find.new.demands
+    (demands_of_search w start k) c.new-demands.ensures
+    (subst P c.in_ok-start.ensures c.in_ok-value.ensures.demands) in
+    let value_is = c.in_ok-value.ensures.value
+    ∙ ap (λ (s : Labels). found w s k) c.in_ok-start.ensures in
+    outcome_as n (sets w c.args.dst (value_of c.in_ok-value.value) c.args.next)
+    (sets w c.args.dst (found w start k) c.args.next) c.find.new.demands
+    (demands_of_search w start k) c.in_ok-outcome.outcome
+    (c.in_ok-outcome.ensures n [] (sets w c.args.dst (value_of c.in_ok-value.value) c.args.next)
+    (none_given n) c.in_ok-given.ensures)
+    (ap (λ (v : AbstractValue). sets w c.args.dst v c.args.next) value_is) demanded

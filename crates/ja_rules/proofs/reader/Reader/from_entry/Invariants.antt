@@ -10,7 +10,10 @@ use Rattle.ja_rules.proofs.reader.Reader.from_entry.Given as goal
 
 abbrev pub invariant-origins : goal.invariant-origins
 invariant-origins l =
-    Done l.initial.origins.items l.origins.items (λ done. property_of l.sum ≡ join_all (map (λ (m : Label). option_map_or (renamed (view_of l.self).state.mask) ((view_of l.self).entries m l.key) no_property) done))
+    Done l.initial.origins.items l.origins.items
+    (λ done. property_of l.sum ≡ join_all
+    (map (λ (m : Label). option_map_or (renamed (view_of l.self).state.mask)
+    ((view_of l.self).entries m l.key) no_property) done))
 
 abbrev pub decreases-origins : goal.decreases-origins
 decreases-origins l = vec_len l.origins

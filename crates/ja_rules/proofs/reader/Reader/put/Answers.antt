@@ -23,10 +23,20 @@ returns-in-Some c =
     let next = c.args.next in
     let target = written_labels (value_of c.args.base.now) in
     let members = c.in_ok-members.members.items in
-    let members_are : members ≡ filter target w.labels = c.in_ok-members.ensures ∙ ap (λ (s : Labels). filter s w.labels) c.in_ok-written_labels.ensures in
+    let members_are : members ≡ filter target w.labels = c.in_ok-members.ensures
+    ∙ ap (λ (s : Labels). filter s w.labels) c.in_ok-written_labels.ensures in
     let P : List Label → Type 0 = λ xs. IsOnlyNew xs (Some l) in
     let only = subst P c.deref.ensures.value c.in-Some.ensures in
-    if_ok c.strong_put.result (IsOutcome n (record { states = strong_put w l k v next; demands = demands_of_walk w l k })) (IsOutcome n (record { states = put w target k v next; demands = demands_of_read w target k })) (λ o h. outcome_is_same n (strong_put w l k v next) (put w target k v next) (demands_of_walk w l k) (demands_of_read w target k) o h (put_strong w target k v next members l members_are only) (demands_of_one w target k members l members_are only.0)) c.strong_put.ensures
+    if_ok c.strong_put.result (IsOutcome n (record
+    { states = strong_put w l k v next; demands = demands_of_walk w l k }))
+    (IsOutcome n (record {
+      states = put w target k v next;
+      demands = demands_of_read w target k;
+    }))
+    (λ o h. outcome_is_same n (strong_put w l k v next) (put w target k v next)
+    (demands_of_walk w l k) (demands_of_read w target k) o h
+    (put_strong w target k v next members l members_are only)
+    (demands_of_one w target k members l members_are only.0)) c.strong_put.ensures
 
 pub returns : goal.returns
 returns c =
@@ -37,10 +47,17 @@ returns c =
     let next = c.args.next in
     let target = written_labels (value_of c.args.base.now) in
     let members = c.in_ok-members.members.items in
-    let members_are : members ≡ filter target w.labels = c.in_ok-members.ensures ∙ ap (λ (s : Labels). filter s w.labels) c.in_ok-written_labels.ensures in
+    let members_are : members ≡ filter target w.labels = c.in_ok-members.ensures
+    ∙ ap (λ (s : Labels). filter s w.labels) c.in_ok-written_labels.ensures in
     let P : List Label → Type 0 = λ xs. IsOnlyNew xs None in
     let only = subst P c.deref.ensures.value c.in_default.ensures in
-    let given = given_as n _ (weak_put w target k v next) c.in_ok-given.given c.in_ok-given.ensures.given (weak_put_is w target k v next members members_are) in
+    let given = given_as n _ (weak_put w target k v next) c.in_ok-given.given
+    c.in_ok-given.ensures.given (weak_put_is w target k v next members members_are) in
     let each = λ (m : Label). demands_of_walk w m k in
-    let demanded = demands_first c.new-demands.result c.weak_put.new.demands (demands_over each members) c.new-demands.ensures c.in_ok-given.ensures.demands in
-    outcome_as n _ (put w target k v next) c.weak_put.new.demands (demands_of_read w target k) c.in_ok-outcome.outcome (c.in_ok-outcome.ensures n (weak_put w target k v next) [] given (none_given n)) (append-nil (weak_put w target k v next) ∙ put_weak w target k v next members members_are only) (demanded ∙ demands_of_each w target k members members_are)
+    let demanded = demands_first c.new-demands.result c.weak_put.new.demands
+    (demands_over each members) c.new-demands.ensures c.in_ok-given.ensures.demands in
+    outcome_as n _ (put w target k v next) c.weak_put.new.demands (demands_of_read w target k)
+    c.in_ok-outcome.outcome (c.in_ok-outcome.ensures n (weak_put w target k v next) [] given
+    (none_given n)) (append-nil (weak_put w target k v next)
+    ∙ put_weak w target k v next members members_are only)
+    (demanded ∙ demands_of_each w target k members members_are)

@@ -15,12 +15,14 @@ use Rattle.ja_rules.proofs.reader.Reader.read_each.Goals as goal
 -- what is known once the objects of a list are read
 abbrev read_all : View → Key → DemandList → DemandList → AValue → List Label → Type 0
 read_all w k before after value done =
-    (value_of value ≡ join_values (map (λ (m : Label). got w m k) done)) × Adds before after (demands_over (λ (m : Label). demands_of_walk w m k) done)
+    (value_of value ≡ join_values (map (λ (m : Label). got w m k) done))
+    × Adds before after (demands_over (λ (m : Label). demands_of_walk w m k) done)
 
 pub members-init : goal.members-init
 members-init c =
     let w = view_of c.args.self.now in
-    done_none c.args.members.items (read_all w c.args.key c.args.demands.now c.args.demands.now c.empty-rest.result) (c.empty-rest.ensures, adds_none c.args.demands.now)
+    done_none c.args.members.items (read_all w c.args.key c.args.demands.now c.args.demands.now
+    c.empty-rest.result) (c.empty-rest.ensures, adds_none c.args.demands.now)
 
 pub members-preserved : goal.members-preserved
 members-preserved c =
@@ -29,9 +31,21 @@ members-preserved c =
     let k = c.args.key in
     let m = c.in-Some.member in
     let walk = c.in_ok-walk.ensures.walk in
-    done_more c.args.members.items c.members.members.items c.pop.new.self.items m (read_all w k d c.members.demands c.members.rest) (read_all w k d c.walk.new.demands c.join.new.self) c.in-Some.ensures.items c.members.invariant (λ xs h. (c.in_ok-join.ensures.joined ∙ ap (λ (v : AbstractValue). join v (value_of c.members.rest)) walk.value ∙ ap (join (got w m k)) h.0, adds_before d c.members.demands c.walk.new.demands (demands_over (λ (x : Label). demands_of_walk w x k) xs) (demands_of_walk w m k) h.1 c.in_ok-walk.ensures.demands))
+    done_more c.args.members.items c.members.members.items c.pop.new.self.items m
+    (read_all w k d c.members.demands c.members.rest)
+    (read_all w k d c.walk.new.demands c.join.new.self) c.in-Some.ensures.items
+    c.members.invariant (λ xs h. (
+      c.in_ok-join.ensures.joined
+          ∙ ap (λ (v : AbstractValue). join v (value_of c.members.rest)) walk.value
+          ∙ ap (join (got w m k)) h.0,
+      adds_before d c.members.demands c.walk.new.demands
+          (demands_over (λ (x : Label). demands_of_walk w x k) xs) (demands_of_walk w m k) h.1
+          c.in_ok-walk.ensures.demands,
+    ))
 
 pub returns-clause-demands : goal.returns-clause-demands
 returns-clause-demands c =
     let w = view_of c.args.self.now in
-    (done_end c.args.members.items c.members.members (read_all w c.args.key c.args.demands.now c.members.demands c.members.rest) c.in_default.ensures.cases.0 c.members.invariant).1
+    (done_end c.args.members.items c.members.members
+    (read_all w c.args.key c.args.demands.now c.members.demands c.members.rest)
+    c.in_default.ensures.cases.0 c.members.invariant).1

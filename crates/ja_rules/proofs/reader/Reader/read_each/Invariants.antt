@@ -9,7 +9,11 @@ use Rattle.ja_rules.proofs.reader.Reader.read_each.Given as goal
 
 abbrev pub invariant-members : goal.invariant-members
 invariant-members l =
-    Done l.initial.members.items l.members.items (λ done. (value_of l.rest ≡ join_values (map (λ (m : Label). got (view_of l.self) m l.key) done)) × Adds l.initial.demands l.demands (demands_over (λ (m : Label). demands_of_walk (view_of l.self) m l.key) done))
+    Done l.initial.members.items l.members.items
+    (λ done. (value_of l.rest ≡ join_values
+    (map (λ (m : Label). got (view_of l.self) m l.key) done))
+    × Adds l.initial.demands l.demands (demands_over
+    (λ (m : Label). demands_of_walk (view_of l.self) m l.key) done))
 
 abbrev pub decreases-members : goal.decreases-members
 decreases-members l = vec_len l.members

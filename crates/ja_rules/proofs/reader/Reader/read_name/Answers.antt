@@ -21,9 +21,25 @@ returns c =
     let k = key.Name c.args.name in
     let text = unbound_message (name_text c.args.program.now c.args.name) in
     let b = value_of c.register-base.result.now in
-    let thrown = given_as n (throws w b.flags.null info error reference_error_prototype c.in_ok-message.message.items) (throws w b.flags.null info error reference_error_prototype text) c.in_ok-thrown.thrown c.in_ok-thrown.ensures (ap (throws w b.flags.null info error reference_error_prototype) c.in_ok-message.ensures) in
-    let set = given_as n (sets w dst (value_of c.in_ok-value.value) info.next) (sets w dst (read_value w b.label k) info.next) c.in_ok-given.given c.in_ok-given.ensures (ap (λ (v : AbstractValue). sets w dst v info.next) c.in_ok-value.ensures.value) in
-    let demanded = demands_first c.new-demands.result c.read.new.demands (demands_of_read w b.label k) c.new-demands.ensures c.in_ok-value.ensures.demands in
-    let states = throws w b.flags.null info error reference_error_prototype text ++ sets w dst (read_value w b.label k) info.next in
-    let P : AbstractValue → Type 0 = λ v. IsOutcome n (record { states = throws w v.flags.null info error reference_error_prototype text ++ sets w dst (read_value w v.label k) info.next; demands = demands_of_read w v.label k }) c.in_ok-outcome.outcome in
-    subst P c.register-base.ensures (outcome_as n states states c.read.new.demands (demands_of_read w b.label k) c.in_ok-outcome.outcome (c.in_ok-outcome.ensures n (throws w b.flags.null info error reference_error_prototype text) (sets w dst (read_value w b.label k) info.next) thrown set) refl demanded)
+    let thrown = given_as n (throws w b.flags.null info error reference_error_prototype
+    c.in_ok-message.message.items) (throws w b.flags.null info error reference_error_prototype
+    text) c.in_ok-thrown.thrown c.in_ok-thrown.ensures
+    (ap (throws w b.flags.null info error reference_error_prototype) c.in_ok-message.ensures) in
+    let set = given_as n (sets w dst (value_of c.in_ok-value.value) info.next)
+    (sets w dst (read_value w b.label k) info.next) c.in_ok-given.given c.in_ok-given.ensures
+    (ap (λ (v : AbstractValue). sets w dst v info.next) c.in_ok-value.ensures.value) in
+    let demanded = demands_first c.new-demands.result c.read.new.demands
+    (demands_of_read w b.label k) c.new-demands.ensures c.in_ok-value.ensures.demands in
+    let states = throws w b.flags.null info error reference_error_prototype text
+    ++ sets w dst (read_value w b.label k) info.next in
+    let P : AbstractValue → Type 0 = λ v. IsOutcome n
+    (record {
+      states = throws w v.flags.null info error reference_error_prototype text
+          ++ sets w dst (read_value w v.label k) info.next;
+      demands = demands_of_read w v.label k;
+    })
+    c.in_ok-outcome.outcome in
+    subst P c.register-base.ensures (outcome_as n states states c.read.new.demands
+    (demands_of_read w b.label k) c.in_ok-outcome.outcome
+    (c.in_ok-outcome.ensures n (throws w b.flags.null info error reference_error_prototype text)
+    (sets w dst (read_value w b.label k) info.next) thrown set) refl demanded)

@@ -7,7 +7,10 @@ use Rattle.ja_rules.proofs.reader.Reader.search_over.Given as goal
 
 abbrev pub invariant-members : goal.invariant-members
 invariant-members l =
-    Done l.initial.members.items l.members.items (λ done. IsSearchOver (view_of l.self) l.key done l.search × Adds l.initial.demands l.demands (demands_over (demands_at_scope (view_of l.self) l.key) done))
+    Done l.initial.members.items l.members.items
+    (λ done. IsSearchOver (view_of l.self) l.key done l.search
+    × Adds l.initial.demands l.demands (demands_over (demands_at_scope (view_of l.self) l.key)
+    done))
 
 abbrev pub decreases-members : goal.decreases-members
 decreases-members l = vec_len l.members

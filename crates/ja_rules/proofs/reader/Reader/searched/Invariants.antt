@@ -6,4 +6,5 @@ use Rattle.ja_rules.proofs.reader.Reader.searched.Given as goal
 
 abbrev pub invariant-rounds : goal.invariant-rounds
 invariant-rounds l =
-    labels_in l.set ≡ rounds (next_scope (view_of l.self) l.key) (view_of l.self).labels (labels_in l.fn.start) l._round
+    labels_in l.set ≡ rounds (next_scope (view_of l.self) l.key) (view_of l.self).labels
+    (labels_in l.fn.start) l._round

@@ -16,4 +16,10 @@ returns c =
     let k = c.args.key in
     let v = value_of c.args.value.now in
     let f = demands_of_walk w l k in
-    outcome_as n _ (strong_put w l k v c.args.next) c.walk.new.demands f c.in_ok-outcome.outcome (c.in_ok-outcome.ensures n (gives walk.may_refuse c.args.next w.state) (gives walk.may_accept c.args.next (with_property w.state l k (written w l k v))) c.in_ok-refused.ensures c.in_ok-accepted.ensures) (strong_put_is w l k v c.args.next walk c.in_ok-walk.ensures.walk) (demands_first c.new-demands.result c.walk.new.demands f c.new-demands.ensures c.in_ok-walk.ensures.demands)
+    outcome_as n _ (strong_put w l k v c.args.next) c.walk.new.demands f c.in_ok-outcome.outcome
+    (c.in_ok-outcome.ensures n (gives walk.may_refuse c.args.next w.state)
+    (gives walk.may_accept c.args.next (with_property w.state l k (written w l k v)))
+    c.in_ok-refused.ensures c.in_ok-accepted.ensures)
+    (strong_put_is w l k v c.args.next walk c.in_ok-walk.ensures.walk)
+    (demands_first c.new-demands.result c.walk.new.demands f c.new-demands.ensures
+    c.in_ok-walk.ensures.demands)

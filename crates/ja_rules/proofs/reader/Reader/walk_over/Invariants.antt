@@ -6,7 +6,9 @@ use Rattle.ja_rules.proofs.reader.Reader.walk_over.Given as goal
 
 abbrev pub invariant-members : goal.invariant-members
 invariant-members l =
-    Done l.initial.members.items l.members.items (λ done. IsWalkOver (view_of l.self) l.key done l.walk × Adds l.initial.demands l.demands (demands_over (demands_at (view_of l.self) l.key) done))
+    Done l.initial.members.items l.members.items
+    (λ done. IsWalkOver (view_of l.self) l.key done l.walk
+    × Adds l.initial.demands l.demands (demands_over (demands_at (view_of l.self) l.key) done))
 
 abbrev pub decreases-members : goal.decreases-members
 decreases-members l = vec_len l.members

@@ -11,5 +11,6 @@ invariant-loop-node l = record {
   built : HasBuilt l.program l.budget l.self;
   goes_on : GoesOn l.fn.self l.self;
   all : l.node-end ≡ length (nodes_of l.program program_function);
-  settled : vec_len l.self.visits ≡ vec_len l.fn.self.visits → AreSettledBelow l.program (table_of l.self.table) l.node;
+  settled : vec_len l.self.visits ≡ vec_len l.fn.self.visits
+      → AreSettledBelow l.program (table_of l.self.table) l.node;
 }

@@ -3,4 +3,5 @@ use Rattle.ja_state.proofs.MapLemmas.{Moved}
 use Rattle.ja_state.proofs.entries.DemandedEntries.copy.Given as goal
 
 abbrev pub invariant-loop-number : goal.invariant-loop-number
-invariant-loop-number l = Moved (λ q. property_in) property_in l.self.objects.entries l.number-iterator l.objects
+invariant-loop-number l =
+    Moved (λ q. property_in) property_in l.self.objects.entries l.number-iterator l.objects

@@ -8,4 +8,6 @@ use Rattle.ja_state.proofs.ListLemmas.{Listing}
 use Rattle.ja_state.proofs.entries.DemandedEntries.pairs.Given as goal
 
 abbrev pub invariant-loop-number : goal.invariant-loop-number
-invariant-loop-number l = Listing (λ q (m : BTreeMap ℕ AProp). map (λ (k : Key). (label_at q, k)) (keys_in m l.names)) 0 (2 * l.sites) l.self.objects.entries l.number-iterator l.pairs.items
+invariant-loop-number l =
+    Listing (λ q (m : BTreeMap ℕ AProp). map (λ (k : Key). (label_at q, k)) (keys_in m l.names)) 0
+    (2 * l.sites) l.self.objects.entries l.number-iterator l.pairs.items

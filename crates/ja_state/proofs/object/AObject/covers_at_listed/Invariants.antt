@@ -7,4 +7,7 @@ use Rattle.ja_state.proofs.MapLemmas.{AtEach}
 use Rattle.ja_state.proofs.object.AObject.covers_at_listed.Given as goal
 
 abbrev pub invariant-loop-number : goal.invariant-loop-number
-invariant-loop-number l = AtEach (λ q (p : AProp). join_properties (property_of p) (at l.other q) ≡ property_of p) l.number-iterator → AtEach (λ q (p : AProp). join_properties (property_of p) (at l.other q) ≡ property_of p) l.self.listed.entries
+invariant-loop-number l =
+    AtEach (λ q (p : AProp). join_properties (property_of p) (at l.other q) ≡ property_of p)
+    l.number-iterator → AtEach (λ q (p : AProp). join_properties (property_of p) (at l.other q)
+    ≡ property_of p) l.self.listed.entries

@@ -8,8 +8,14 @@ use Rattle.ja_state.proofs.object.AObject.covers_listed_of.Goals as goal
 
 pub loop-number-preserved : goal.loop-number-preserved
 loop-number-preserved c =
-    each_turn (λ q (p : AProp). join_properties (at c.args.self.now q) (property_of p) ≡ at c.args.self.now q) _ _ _ _ (c.in-Some.number, c.in-Some.property) c.in-Some.is c.next.ensures.steps c.loop-number.invariant
-    (subst (λ (z : AbstractProperty). join_properties z (property_of c.in-Some.property.now) ≡ z) c.at.ensures (c.covers.ensures c.if-not-covers.false))
+    each_turn (λ q (p : AProp). join_properties (at c.args.self.now q) (property_of p)
+    ≡ at c.args.self.now q) _ _ _ _ (c.in-Some.number, c.in-Some.property) c.in-Some.is
+    c.next.ensures.steps c.loop-number.invariant
+    (subst (λ (z : AbstractProperty). join_properties z (property_of c.in-Some.property.now) ≡ z)
+    c.at.ensures (c.covers.ensures c.if-not-covers.false))
 
 pub returns : goal.returns
-returns c = λ said. each_end (λ q (p : AProp). join_properties (at c.args.self.now q) (property_of p) ≡ at c.args.self.now q) c.args.other.now.listed.entries _ c.in-None.ensures.steps.0 c.loop-number.invariant
+returns c =
+    λ said. each_end (λ q (p : AProp). join_properties (at c.args.self.now q) (property_of p)
+    ≡ at c.args.self.now q) c.args.other.now.listed.entries _ c.in-None.ensures.steps.0
+    c.loop-number.invariant

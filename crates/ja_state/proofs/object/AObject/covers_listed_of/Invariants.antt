@@ -7,4 +7,7 @@ use Rattle.ja_state.proofs.MapLemmas.{AtEach}
 use Rattle.ja_state.proofs.object.AObject.covers_listed_of.Given as goal
 
 abbrev pub invariant-loop-number : goal.invariant-loop-number
-invariant-loop-number l = AtEach (λ q (p : AProp). join_properties (at l.self q) (property_of p) ≡ at l.self q) l.number-iterator → AtEach (λ q (p : AProp). join_properties (at l.self q) (property_of p) ≡ at l.self q) l.other.listed.entries
+invariant-loop-number l =
+    AtEach (λ q (p : AProp). join_properties (at l.self q) (property_of p) ≡ at l.self q)
+    l.number-iterator → AtEach (λ q (p : AProp). join_properties (at l.self q) (property_of p)
+    ≡ at l.self q) l.other.listed.entries

@@ -8,10 +8,12 @@ returns-then-covers-clause-joined c = sym (c.covers.ensures c.if-covers.true)
 
 pub returns-clause-joined : goal.returns-clause-joined
 returns-clause-joined c =
-    c.in_ok-changed.ensures.joined ∙ ap (λ (o : Keyed). let joined : Keyed = λ k. join_properties (o k) (object_of c.args.other.now k) in joined) c.in_ok-joined.ensures
+    c.in_ok-changed.ensures.joined ∙ ap (λ (o : Keyed). let joined : Keyed = λ k.
+    join_properties (o k) (object_of c.args.other.now k) in joined) c.in_ok-joined.ensures
 
 pub returns-clause-changed : goal.returns-clause-changed
-returns-clause-changed c = λ said same. c.in_ok-changed.ensures.changed said (same ∙ sym c.in_ok-joined.ensures)
+returns-clause-changed c =
+    λ said same. c.in_ok-changed.ensures.changed said (same ∙ sym c.in_ok-joined.ensures)
 
 pub returns-clause-same : goal.returns-clause-same
 returns-clause-same c = λ said. c.in_ok-changed.ensures.same said ∙ c.in_ok-joined.ensures

@@ -8,7 +8,8 @@ use Rattle.ja_state.proofs.object.AObject.join_listed.Given as goal
 
 abbrev pub invariant-loop-number : goal.invariant-loop-number
 invariant-loop-number l = record {
-  joining : Joining property_of (λ q (p : AbstractProperty). join_properties p (at l.other q)) l.fn.self.listed.entries l.rest.entries l.self.listed l.changed;
+  joining : Joining property_of (λ q (p : AbstractProperty). join_properties p (at l.other q))
+      l.fn.self.listed.entries l.rest.entries l.self.listed l.changed;
   common : l.self.common ≡ l.initial.self.common;
 }
 

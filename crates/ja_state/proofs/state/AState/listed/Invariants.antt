@@ -5,4 +5,6 @@ use Rattle.ja_state.proofs.ListLemmas.{Listing}
 use Rattle.ja_state.proofs.state.AState.listed.Given as goal
 
 abbrev pub invariant-loop-number : goal.invariant-loop-number
-invariant-loop-number l = Listing (λ q (o : AObject). label_at q ∷ []) 0 (2 * l.sites) l.self.objects.entries l.number-iterator l.labels.items
+invariant-loop-number l =
+    Listing (λ q (o : AObject). label_at q ∷ []) 0 (2 * l.sites) l.self.objects.entries
+    l.number-iterator l.labels.items

@@ -4,4 +4,9 @@ use Rattle.ja_state.proofs.state.AState.renamed.Goals as goal
 pub returns : goal.returns
 returns c =
     let q = property_of c.args.property.now in
-    λ i. record q { value = record q.value { text = c.in_ok-copy_text_part.ensures i; label = c.in_ok-renamed.ensures i } }
+    λ i. record q {
+      value = record q.value {
+        text = c.in_ok-copy_text_part.ensures i;
+        label = c.in_ok-renamed.ensures i;
+      };
+    }

@@ -12,4 +12,5 @@ returns c =
     let s = standing c.args.self.now c.args.info.now in
     c.sets_given.ensures
     ∙ ap (λ (o : Option IntrinsicOutcome). sets_given s c.args.dst o) (c.in_ok-outcome.ensures
-    ∙ ap (λ (v : Value). option_map (λ (row : Computation). row (v ∷ []) c.args.self.now.heap) (slice_get rows c.args.which)) c.in_ok-value.ensures)
+    ∙ ap (λ (v : Value). option_map (λ (row : Computation). row (v ∷ []) c.args.self.now.heap)
+    (slice_get rows c.args.which)) c.in_ok-value.ensures)

@@ -4,7 +4,11 @@ use Rattle.ja_value.proofs.label_set.LabelSet.has_below.Goals as goal
 
 pub returns-in-Some : goal.returns-in-Some
 returns-in-Some c =
-    ap (λ (n : ℕ). nat_lt c.in-Some.number.now (2 * n)) c.from.ensures ∙ any_by_first _ _ _ c.args.sites c.iter.ensures.ordered (sym c.iter.ensures.rest ∙ c.in-Some.ensures.steps)
+    ap (λ (n : ℕ). nat_lt c.in-Some.number.now (2 * n)) c.from.ensures
+    ∙ any_by_first _ _ _ c.args.sites c.iter.ensures.ordered
+    (sym c.iter.ensures.rest ∙ c.in-Some.ensures.steps)
 
 pub returns-in-None : goal.returns-in-None
-returns-in-None c = any_of_none _ c.args.sites c.iter.ensures.ordered (sym c.iter.ensures.rest ∙ c.in-None.ensures.steps.0)
+returns-in-None c =
+    any_of_none _ c.args.sites c.iter.ensures.ordered
+    (sym c.iter.ensures.rest ∙ c.in-None.ensures.steps.0)

@@ -6,4 +6,5 @@ use Rattle.ja_value.proofs.label_set.LabelSet.list.Given as goal
 -- what is listed, and what is still to come, are all
 abbrev pub invariant-loop-number : goal.invariant-loop-number
 invariant-loop-number l =
-    l.labels.items ++ map label_at (filter (below l.end) l.number-iterator) ≡ map label_at (filter (below l.end) l.self.numbers.keys)
+    l.labels.items ++ map label_at (filter (below l.end) l.number-iterator)
+    ≡ map label_at (filter (below l.end) l.self.numbers.keys)

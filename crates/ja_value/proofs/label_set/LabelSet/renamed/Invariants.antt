@@ -3,4 +3,5 @@ use Rattle.ja_value.proofs.RenamingLemmas.{Renaming}
 use Rattle.ja_value.proofs.label_set.LabelSet.renamed.Given as goal
 
 abbrev pub invariant-loop-number : goal.invariant-loop-number
-invariant-loop-number l = Renaming (mask_in l.masks) l.self.numbers.keys l.number-iterator l.numbers.keys
+invariant-loop-number l =
+    Renaming (mask_in l.masks) l.self.numbers.keys l.number-iterator l.numbers.keys

@@ -4,4 +4,6 @@ use Rattle.ja_value.proofs.value.AValue.join.Goals as goal
 
 pub returns-clause-joined : goal.returns-clause-joined
 returns-clause-joined c =
-    parts_ext _ _ _ _ _ _ _ _ c.widen_flags-flags.ensures.joined c.widen_number-number.ensures.joined (c.replace_text-text.ensures.replaced ∙ c.in_ok-text.ensures.joined) c.in_ok-labels.ensures.joined
+    parts_ext _ _ _ _ _ _ _ _ c.widen_flags-flags.ensures.joined
+    c.widen_number-number.ensures.joined (c.replace_text-text.ensures.replaced
+    ∙ c.in_ok-text.ensures.joined) c.in_ok-labels.ensures.joined

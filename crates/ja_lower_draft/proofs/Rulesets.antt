@@ -1,0 +1,6 @@
+-- The lemmas that the searches of a function are given, by its name.
+use Rattle.ja_lower_draft.proofs.PartLemmas.{of_node, of_spot, of_jump, of_written, of_copy, count_written, count_copy}
+
+pub ruleset for_line = (of_node, of_spot, of_jump, of_written, of_copy)
+
+pub ruleset for_block = (of_written, of_copy, count_written, count_copy)
