@@ -1,3 +1,4 @@
+pub mod IndexTexts
 pub mod Links
 pub mod InSight
 pub mod Cuts

@@ -1,6 +1,7 @@
 ghost use Rattle.std.specs.Prelude.{◌≡◌, [], not, if◌then◌else◌, filter, map};
-ghost use Rattle.std.specs.Prelude.{Some, IfOk, OnOk, OnErr, is_some};
+ghost use Rattle.std.specs.Prelude.{Some, IfOk, IfSome, OnOk, OnErr, is_some, pos, ◌+◌};
 ghost use Rattle.std.specs.Option.{option_map};
+ghost use Rattle.ja_prim.specs.Conversions.{index_of};
 ghost use Rattle.ja_machine.specs.declared.machine.Property.{Property};
 ghost use Rattle.ja_machine.specs.Heap.{property_of};
 ghost use Rattle.ja_machine.specs.Objects.{object_with};
@@ -12,7 +13,7 @@ use crate::properties::Properties;
 use ja_base::Memory;
 use ja_graph::{Attrs, Class};
 use ja_machine::{Content, Property, Slots, Value};
-use ja_prim::Text16;
+use ja_prim::{Int, Num, Primitive, Text16, array_index, to_text};
 use std::alloc::Global;
 use std::marker::Model;
 
@@ -22,6 +23,23 @@ pub struct Object {
     class: Class,
     slots: Slots,
     properties: Properties,
+}
+
+/// The name of an element. There is none where memory is refused, or the number is no index.
+fn element_name(alloc: Global, index: u32) -> Option<Text16>
+    ensures { IfSome result (λ name. index_of name ≡ Some index) }
+{
+    let number = Primitive::Number(Num::Whole(Int::new(i64::from(index)).unwrap()));
+    match to_text(alloc, &number) {
+        Ok(name) => {
+            if array_index(&name) == Some(index) {
+                Some(name)
+            } else {
+                None
+            }
+        }
+        Err(_) => None,
+    }
 }
 
 impl Model for Object {
@@ -163,15 +181,24 @@ impl Object {
         self.properties.share(name);
     }
 
-    /// Deletes the elements from a new length on, below the old one.
-    pub(crate) fn cut_below(&mut self, new: u32, old: i64)
+    /// Deletes the elements from a new length on, below the old one. Where that is one element
+    /// alone, it is found by its name.
+    pub(crate) fn cut_below(&mut self, alloc: Global, new: u32, old: i64)
         ensures { self.new ≡ record self.old {
           properties = filter (λ (q : Property). not (spec.is_cut new (Some old) q))
               self.old.properties;
         } }
     {
-        if i64::from(new) < old {
+        if i64::from(new) >= old {
+            return;
+        }
+        if i64::from(new) + 1 < old {
             self.properties.cut(new, old);
+            return;
+        }
+        match element_name(alloc, new) {
+            Some(name) => self.properties.remove(&name),
+            None => self.properties.cut(new, old),
         }
     }
 

@@ -88,7 +88,7 @@ impl Object {
     }
 
     /// Deletes the elements from a new length on, below the old one, if that is a number.
-    fn cut(&mut self, new: u32, old: Option<Int>)
+    fn cut(&mut self, alloc: Global, new: u32, old: Option<Int>)
         ensures { self.new ≡ record self.old {
           properties = filter
               (λ (q : Property). not (spec.is_cut new old q)) self.old.properties;
@@ -96,7 +96,7 @@ impl Object {
     {
         match old {
             None => {}
-            Some(old) => self.cut_below(new, old.get()),
+            Some(old) => self.cut_below(alloc, new, old.get()),
         }
     }
 
@@ -109,7 +109,7 @@ impl Object {
     {
         let old = self.length(length);
         self.set_value(alloc, length, whole_number(n))?;
-        self.cut(n, old);
+        self.cut(alloc, n, old);
         Ok(())
     }
 
