@@ -27,6 +27,9 @@ use std::marker::Model;
 /// of each name.
 const FEW: usize = 8;
 
+/// How many slots an object begins with. Most objects of a run have one or two properties.
+const FIRST: usize = 2;
+
 /// No attribute is set.
 const NO_ATTRS: Attrs = Attrs {
     read_only: false,
@@ -103,6 +106,18 @@ fn slot_at(slots: &[Option<Property>], i: usize) -> Option<&Property>
         Some(Some(property)) => Some(property),
         _ => None,
     }
+}
+
+/// Puts a property into a slot behind the others. The first one makes room for one more.
+fn push_slot(slots: &mut Vec<Option<Property>>, property: Property) -> Result<(), Memory>
+    ensures pushed { OnOk result (slots.new.items ≡ slots.old.items ++ Some property ∷ []) }
+    ensures kept { OnErr result (slots.new.items ≡ slots.old.items) }
+{
+    if slots.is_empty() {
+        slots.reserve_exact(FIRST)?;
+    }
+    slots.push(Some(property))?;
+    Ok(())
 }
 
 /// Sets the value of the property in a slot.
@@ -330,7 +345,7 @@ impl Properties {
         ensures pushed { OnOk result (self.new ≡ self.old ++ property ∷ []) }
         ensures kept { OnErr result (self.new ≡ self.old) }
     {
-        self.slots.push(Some(property))?;
+        push_slot(&mut self.slots, property)?;
         let places = self.places.take();
         self.places = with_last(alloc, places, self.slots.as_slice());
         Ok(())

@@ -11,7 +11,7 @@ with_last-requires-clause-apart c =
     let q = c.args.property in
     let none = slots.none_slot q.name xs (ap (find (slots.is_named q.name)) c.self.view_is
     ∙ c.requires) in
-    subst IsApart (sym (c.as_slice.ensures.value ∙ c.in_ok-push.ensures.items))
+    subst IsApart (sym (c.as_slice.ensures.value ∙ c.in_ok-push_slot.ensures.pushed))
     (slots.pushed_apart q xs none c.self.invariant.0)
 
 pub invariant_of-self-2 : goal.invariant_of-self-2
@@ -20,12 +20,12 @@ invariant_of-self-2 c =
     let q = c.args.property in
     let none = slots.none_slot q.name xs (ap (find (slots.is_named q.name)) c.self.view_is
     ∙ c.requires) in (
-      subst IsApart (sym c.in_ok-push.ensures.items)
+      subst IsApart (sym c.in_ok-push_slot.ensures.pushed)
           (slots.pushed_apart q xs none c.self.invariant.0),
       subst (IsPlaced c.with_last.result) c.as_slice.ensures.value c.with_last.ensures,
     )
 
 pub returns-clause-pushed : goal.returns-clause-pushed
 returns-clause-pushed c =
-    ap live c.in_ok-push.ensures.items ∙ (slots.live_pushed c.self.inside.slots.items
+    ap live c.in_ok-push_slot.ensures.pushed ∙ (slots.live_pushed c.self.inside.slots.items
     c.args.property ∙ ap (λ (qs : List Property). qs ++ c.args.property ∷ []) c.self.view_is)
