@@ -4,11 +4,11 @@ use Rattle.std.proofs.Common.{inl, inr, ap, ◌∙◌, subst}
 use Rattle.std.proofs.lemmas.Bool.{cases_Bool, and_parts, cond-false}
 use Rattle.ja_base.specs.declared.ids.Label.{Label}
 use Rattle.ja_graph.specs.declared.program.Program.{Program}
-use Rattle.ja_model.specs.declared.abstraction.Key.{Key}
-use Rattle.ja_model.specs.AbstractValue.{AbstractProperty, same_label}
-use Rattle.ja_model.specs.AbstractState.{is_key, same_key}
-use Rattle.ja_model.specs.Reading.{Entries}
-use Rattle.ja_model.proofs.Keys.{same_key-true}
+use Rattle.ja_abstract.specs.declared.abstraction.Key.{Key}
+use Rattle.ja_abstract.specs.AbstractValue.{AbstractProperty, same_label}
+use Rattle.ja_abstract.specs.AbstractState.{is_key, same_key}
+use Rattle.ja_abstract.specs.Resolved.{Entries}
+use Rattle.ja_abstract.proofs.Keys.{same_key-true}
 
 pub given_keys : (p : Program) (was now : Entries) (label : Label) (key : Key)
     (q : AbstractProperty) → IsTrue (is_key p key)

@@ -2,13 +2,14 @@
 
 ghost use Rattle.std.specs.Prelude.{◌+◌, ◌<◌, ◌^◌, IfOk, IsTrue, OnOk, length};
 ghost use Rattle.ja_graph.specs.WellFormed.{IsWellFormed};
-ghost use Rattle.ja_model.specs.AbstractState.{is_key};
+ghost use Rattle.ja_abstract.specs.AbstractState.{is_key};
 ghost use Rattle.ja_rules.specs.Readings.{Fits};
 
 use crate::out::{Out, add};
 use ja_base::{Context, FnId, Label, Memory, NameId, NodeId, Place, Seq, Site};
 use ja_graph::{GLOBAL, Program, well_formed};
-use ja_model::{AAttrs, Flags, Item, Key, May, NumberPart, Slot, TextPart};
+use ja_abstract::{AAttrs, Flags, Key, May, NumberPart, Slot, TextPart};
+use ja_model::Item;
 use ja_prim::{Int, Text16};
 use ja_report::{Refusal, refusal_text, report, spent_text};
 use ja_rules::{ATable, opening};

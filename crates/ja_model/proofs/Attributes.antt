@@ -1,43 +1,30 @@
 -- What a write at one object needs: the attributes that it leaves are known, and a new label has
 -- one object.
-use Rattle.std.specs.Prelude.{◌≡◌, ◌+◌, ◌==◌, ℕ, false, not, if◌then◌else◌, IsTrue, List, Some, None}
-use Rattle.std.proofs.Common.{refl, sym, subst, ap, arith, ◌∙◌}
-use Rattle.std.proofs.lemmas.Bool.{cond-true, eqb-true, not-false}
+use Rattle.std.specs.Prelude.{◌≡◌, ℕ, if◌then◌else◌, IsTrue, List, Some, None}
+use Rattle.std.proofs.Common.{refl, sym, subst}
+use Rattle.std.proofs.lemmas.Bool.{cond-true}
 use Rattle.ja_base.specs.declared.ids.Label.{Label}
 use Rattle.ja_graph.specs.declared.program.Program.{Program}
 use Rattle.ja_machine.specs.declared.machine.Addr.{Addr}
 use Rattle.ja_machine.specs.declared.machine.Property.{Property}
 use Rattle.ja_machine.specs.declared.machine.Heap.{Heap}
-use Rattle.ja_machine.specs.Heap.{count, no_attrs}
+use Rattle.ja_machine.specs.Heap.{no_attrs}
 use Rattle.ja_machine.specs.Heap as heap
 use Rattle.ja_machine.specs.State.{IsObjectOf}
-use Rattle.ja_model.specs.declared.abstraction.AAttrs.{AAttrs}
-use Rattle.ja_model.specs.declared.abstraction.Key.{Key}
-use Rattle.ja_model.specs.AbstractValue.{unknown_attrs, of_attrs}
-use Rattle.ja_model.specs.AbstractState.{same_key}
-use Rattle.ja_model.specs.Meaning.{label_of, named, key_of, allows_attrs}
-use Rattle.ja_model.specs.Reading.{View, demands_of, own, may_be_absent, may_be_present}
+use Rattle.ja_abstract.specs.declared.abstraction.AAttrs.{AAttrs}
+use Rattle.ja_abstract.specs.declared.abstraction.Key.{Key}
+use Rattle.ja_abstract.specs.AbstractValue.{unknown_attrs, of_attrs}
+use Rattle.ja_abstract.specs.AbstractState.{same_key}
+use Rattle.ja_abstract.specs.Contents.{label_of}
+use Rattle.ja_abstract.specs.Keys.{named, key_of}
+use Rattle.ja_abstract.specs.Parts.{allows_attrs}
+use Rattle.ja_abstract.specs.Resolved.{demands_of, IsFilled}
+use Rattle.ja_abstract.proofs.Joins.{allows_attrs-join_left, allows_attrs-join_right}
+use Rattle.ja_meaning.proofs.Parts.{allows_attrs-known}
+use Rattle.ja_model.specs.Reading.{View, own, may_be_absent, may_be_present}
 use Rattle.ja_model.specs.Transfer.{written_attrs}
-use Rattle.ja_model.proofs.Interface.{IsFilled, IsRead}
-use Rattle.ja_model.proofs.Parts.{allows_attrs-known}
-use Rattle.ja_model.proofs.Values.{allows_attrs-join_left, allows_attrs-join_right}
+use Rattle.ja_model.proofs.Interface.{IsRead}
 use Rattle.ja_model.proofs.Walks.{may_be_absent-own, may_be_present-own, knows-own}
-
--- the last ordinal by the test
-last_ordinal : (i n : ℕ) → not (i + 1 == n) ≡ false → i + 1 ≡ n
-last_ordinal i n e = eqb-true (i + 1) n (not-false (i + 1 == n) e)
-
--- objects of one label that is new are one object
-pub label_of-new : (h : Heap) (a b : Addr) → (label_of h a).old ≡ false
-    → label_of h b ≡ label_of h a → b ≡ a
-label_of-new h a b new same =
-    let site_is : b.site ≡ a.site = ap (λ (l : Label). l.site) same in
-    let new_b : (label_of h b).old ≡ false = ap (λ (l : Label). l.old) same ∙ new in
-    let at_a : a.ordinal + 1 ≡ count h a.site = last_ordinal a.ordinal (count h a.site) new in
-    let at_b : b.ordinal + 1 ≡ count h b.site = last_ordinal b.ordinal (count h b.site) new_b in
-    let counts : count h b.site ≡ count h a.site = ap (count h) site_is in
-    let ordinal_is : b.ordinal ≡ a.ordinal = omega arith in
-    λ i. record { site = site_is i; ordinal = ordinal_is i }
 
 module _ (p : Program) (e c : Heap) (w : View) (r : IsRead p e c w) (t : List ℕ) (k : Key)
     (same : IsTrue (same_key (key_of p (named t)) k)) (a : Addr) (o : IsObjectOf c a)

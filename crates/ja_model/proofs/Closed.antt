@@ -1,10 +1,10 @@
 -- What a closed table has: the states that its nodes give, the values at entry that they demand,
 -- and the opening.
-use Rattle.std.proofs.Common.{◌≡◌, ℕ, true, false, List, [], ◌∷◌, Some, None, Option, inl, inr, refl, sym, ap, ◌∙◌, subst}
-use Rattle.std.specs.Prelude.{IsTrue, IsSome, ◌==◌}
+use Rattle.std.proofs.Common.{◌≡◌, ℕ, List, [], ◌∷◌, Some, None, Option, inl, inr, refl, sym, ap, ◌∙◌, subst}
+use Rattle.std.specs.Prelude.{IsSome, ◌==◌}
 use Rattle.std.specs.Option.{is_some, option_map, option_map_or}
 use Rattle.std.proofs.lemmas.Option.{same_Some}
-use Rattle.std.proofs.lemmas.Bool.{and_parts, and_from, or_left, or_right, cases_Bool, eq-eqb, cond-true, cond-false}
+use Rattle.std.proofs.lemmas.Bool.{or_left, or_right, cases_Bool, eq-eqb, cond-true, cond-false}
 use Rattle.ja_base.specs.declared.ids.Label.{Label}
 use Rattle.ja_base.specs.declared.ids.NodeId.{NodeId}
 use Rattle.ja_base.specs.declared.ids.Context.{Context}
@@ -12,28 +12,26 @@ use Rattle.ja_graph.specs.declared.node.NodeInfo.{NodeInfo}
 use Rattle.ja_graph.specs.declared.node.Node.{Node}
 use Rattle.ja_graph.specs.declared.program.Program.{Program}
 use Rattle.ja_graph.specs.Program.{node_at}
-use Rattle.ja_machine.specs.declared.machine.Value.TheVariants as value
-use Rattle.ja_machine.specs.declared.machine.Value.{Value}
 use Rattle.ja_machine.specs.declared.machine.Heap.{Heap}
 use Rattle.ja_machine.specs.declared.machine.Frame.{Frame}
 use Rattle.ja_machine.specs.Machine.{program_function}
 use Rattle.ja_machine.proofs.Lists.{is_some_from}
-use Rattle.ja_model.specs.declared.abstraction.Key.{Key}
-use Rattle.ja_model.specs.declared.abstraction.Flags.{Flags}
-use Rattle.ja_model.specs.declared.abstraction.Mask.{Mask}
-use Rattle.ja_prim.specs.declared.primitive.Num.TheVariants.{NaN, Whole}
-use Rattle.ja_prim.specs.declared.primitive.Primitive.{Primitive}
-use Rattle.ja_prim.specs.declared.primitive.Primitive.TheVariants as primitive
+use Rattle.ja_abstract.specs.declared.abstraction.Key.{Key}
+use Rattle.ja_abstract.specs.declared.abstraction.Flags.{Flags}
+use Rattle.ja_abstract.specs.declared.abstraction.Mask.{Mask}
+use Rattle.ja_abstract.specs.AbstractValue.{AbstractProperty, join_properties}
+use Rattle.ja_abstract.specs.AbstractState.{AbstractState, join_states}
+use Rattle.ja_abstract.specs.Resolved.{Entries, IsFilled}
+use Rattle.ja_abstract.specs.Contents.{content, label_of, opened}
+use Rattle.ja_abstract.specs.Keys.{key_of}
+use Rattle.ja_abstract.specs.Order.{LeqState}
+use Rattle.ja_abstract.proofs.Lists.{Member}
+use Rattle.ja_meaning.proofs.Values.{has_value-join_left, has_value-join_right, knows-join_left, knows-join_right}
+use Rattle.ja_meaning.proofs.Above.{leq_has_value, leq_knows}
 use Rattle.ja_model.specs.declared.table.Item.TheVariants.{Open, Step}
-use Rattle.ja_model.specs.AbstractValue.{AbstractValue, AbstractProperty, join_properties}
-use Rattle.ja_model.specs.AbstractState.{AbstractState, join_states}
-use Rattle.ja_model.specs.Reading.{Entries}
 use Rattle.ja_model.specs.Transfer.{Out, transfer, transfer_node, view_of}
-use Rattle.ja_model.specs.Meaning.{SpotContent, missing, held, present, present_row, has_primitive, has_value, allows_attrs, LeqValue, LeqProperty, Holds, content, knows, label_of, key_of, LeqState, opened}
+use Rattle.ja_model.specs.Meaning.{Holds}
 use Rattle.ja_model.specs.Table.{Table, root, with_demands, joined_state, with_state, with_states, with_out, visit_step, IsClosed}
-use Rattle.ja_model.proofs.Interface.{IsFilled}
-use Rattle.ja_model.proofs.Lists.{Member}
-use Rattle.ja_model.proofs.Values.{allows_attrs-join_left, has_value-join_left, has_value-join_right, knows-join_left, knows-join_right}
 
 -- whatever the first state holds of, the second does
 pub record IsWithin (p : Program) (a b : AbstractState) : Type 0 where
@@ -79,41 +77,6 @@ IsWithin-join_right p a b = record {
     none = λ t l. or_right _ _ (h.none t l);
   };
 }
-
-leq_has_primitive : (a b : AbstractValue) (q : Primitive) → LeqValue a b
-    → IsTrue (has_primitive a q) → IsTrue (has_primitive b q)
-leq_has_primitive a b primitive.Undefined l e =
-    sym (ap (λ (g : Flags). g.undefined) l.flags) ∙ or_left _ _ e
-leq_has_primitive a b primitive.Null l e = sym (ap (λ (g : Flags). g.null) l.flags) ∙ or_left _ _ e
-leq_has_primitive a b (primitive.Bool true) l e =
-    sym (ap (λ (g : Flags). g.is_true) l.flags) ∙ or_left _ _ e
-leq_has_primitive a b (primitive.Bool false) l e =
-    sym (ap (λ (g : Flags). g.is_false) l.flags) ∙ or_left _ _ e
-leq_has_primitive a b (primitive.Number NaN) l e =
-    sym (ap (λ (g : Flags). g.nan) l.flags) ∙ or_left _ _ e
-leq_has_primitive a b (primitive.Number (Whole n)) l e = l.number n e
-leq_has_primitive a b (primitive.Text t) l e = l.text t e
-
-leq_has_value : (h : Heap) (a b : AbstractValue) (v : Value) → LeqValue a b
-    → IsTrue (has_value h a v) → IsTrue (has_value h b v)
-leq_has_value h a b (value.Primitive q) l e = leq_has_primitive a b q l e
-leq_has_value h a b (value.Object o) l e = l.label (label_of h o) e
-
-leq_knows : (h : Heap) (q r : AbstractProperty) (c : SpotContent) → LeqProperty q r
-    → IsTrue (knows h q c) → IsTrue (knows h r c)
-leq_knows h q r missing l e = sym (ap (λ (g : Flags). g.absent) l.value.flags) ∙ or_left _ _ e
-leq_knows h q r (held v) l e = leq_has_value h q.value r.value v l.value e
-leq_knows h q r (present v attrs) l e =
-    let k : IsTrue (has_value h q.value v) × IsTrue (allows_attrs q.attrs attrs) = and_parts _ _
-    e in
-    and_from _ _ (leq_has_value h q.value r.value v l.value k.0)
-    (subst (λ m. IsTrue (allows_attrs m attrs)) l.attrs
-    (allows_attrs-join_left q.attrs r.attrs attrs k.1))
-leq_knows h q r (present_row attrs) l e =
-    let k : IsTrue q.value.flags.row × IsTrue (allows_attrs q.attrs attrs) = and_parts _ _ e in
-    and_from _ _ (sym (ap (λ (g : Flags). g.row) l.value.flags) ∙ or_left _ _ k.0)
-    (subst (λ m. IsTrue (allows_attrs m attrs)) l.attrs
-    (allows_attrs-join_left q.attrs r.attrs attrs k.1))
 
 -- a state is within one that has each of its parts
 pub IsWithin-from_leq : (p : Program) (a b : AbstractState) → LeqState a b → IsWithin p a b

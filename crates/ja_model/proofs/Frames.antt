@@ -1,14 +1,13 @@
 -- The frame of the program: what its registers hold, and that its result is kept by the state with
 -- a register set.
-use Rattle.std.proofs.Common.{◌≡◌, ◌≢◌, ◌⊎◌, ℕ, zero, suc, ◌<◌, List, [], ◌∷◌, ◌++◌, length, map, replicate, Some, None, Option, inl, inr, refl, sym, ap, ◌∙◌, subst}
-use Rattle.std.specs.Prelude.{IsTrue, slice_get, slice_set, unwrap_or, ◌==◌}
+use Rattle.std.proofs.Common.{◌≡◌, ℕ, zero, suc, ◌<◌, List, [], ◌∷◌, ◌++◌, length, map, replicate, Some, None, Option, refl, sym, ap, ◌∙◌, subst}
+use Rattle.std.specs.Prelude.{IsTrue, slice_get}
 use Rattle.std.specs.Option.{is_some, option_and_then}
 use Rattle.std.proofs.lemmas.Option.{same_Some}
-use Rattle.std.proofs.lemmas.Bool.{false≢true, cases_eq, eq-eqb, ne_eqb, cond-true, cond-false}
+use Rattle.std.proofs.lemmas.Bool.{false≢true}
 use Rattle.ja_base.specs.declared.ids.FnId.{FnId}
 use Rattle.ja_base.specs.declared.ids.Reg.{Reg}
 use Rattle.ja_base.specs.declared.ids.NodeId.{NodeId}
-use Rattle.ja_base.proofs.Lists.{element_within}
 use Rattle.ja_graph.specs.declared.program.Function.{Function}
 use Rattle.ja_graph.specs.declared.program.Program.{Program}
 use Rattle.ja_graph.specs.Program.{global}
@@ -22,11 +21,12 @@ use Rattle.ja_machine.specs.declared.machine.Event.TheVariants as event
 use Rattle.ja_machine.specs.Frames.{register_of, undefined, argument, with_result}
 use Rattle.ja_machine.specs.Objects.{first_of}
 use Rattle.ja_machine.specs.Machine.{program_function, opening_heap, next_of}
-use Rattle.ja_machine.specs.State.{IsValueOf, IsFrame, AreFrames, IsState}
-use Rattle.ja_machine.proofs.Lists.{slice_get-set_same, slice_get-set_other}
-use Rattle.ja_model.specs.AbstractValue.{AbstractValue}
-use Rattle.ja_model.specs.AbstractState.{AbstractState, with_register}
-use Rattle.ja_model.specs.Meaning.{Holds, has_value}
+use Rattle.ja_machine.specs.State.{IsFrame, AreFrames, IsState}
+use Rattle.ja_abstract.specs.AbstractValue.{AbstractValue}
+use Rattle.ja_abstract.specs.AbstractState.{AbstractState, with_register}
+use Rattle.ja_meaning.specs.Meaning.{has_value}
+use Rattle.ja_meaning.proofs.Frames.{register_held, registers_with_result}
+use Rattle.ja_model.specs.Meaning.{Holds}
 use Rattle.ja_model.specs.Table.{Table, root}
 use Rattle.ja_model.proofs.Closed.{HasWithin}
 
@@ -95,22 +95,11 @@ of_missing [] n i v e = of_replicate n i undefined v e
 of_missing (j ∷ js) n zero v e = same_Some undefined v e
 of_missing (j ∷ js) n (suc i) v e = of_missing js n i v e
 
--- a register of the frame holds its value
-pub register_held : (f : Frame) (r : Reg) → r.0 < length f.registers
-    → slice_get f.registers r.0 ≡ Some (register_of f r)
-register_held f r l = let (v, e) = element_within f.registers r.0 l in
-    e ∙ ap Some (sym (ap (λ o. unwrap_or o undefined) e))
-
 -- .. which the state has
 pub register_has : (p : Program) (e h : Heap) (f : Frame) (a : AbstractState) (r : Reg)
     → Holds p e h f a → r.0 < length f.registers
     → IsTrue (has_value h (a.register r.0) (register_of f r))
 register_has p e h f a r holds l = holds.registers r.0 (register_of f r) (register_held f r l)
-
--- .. and which is one of the heap
-pub register_of_heap : (p : Program) (h : Heap) (f : Frame) (r : Reg) → IsFrame p h f
-    → r.0 < length f.registers → IsValueOf h (register_of f r)
-register_of_heap p h f r k l = k.values r.0 (register_of f r) (register_held f r l)
 
 -- the frame of the program has the registers of the program's text
 pub registers_are : (p : Program) (good : IsWellFormed p) (h : Heap) (f : Frame) → IsFrame p h f
@@ -120,37 +109,6 @@ registers_are p good h f k function_is =
     (sym k.function_is ∙ (ap (λ (g : FnId). slice_get p.functions g.0) function_is
     ∙ good.text_is)) in
     k.registers ∙ ap (λ (fn : Function). fn.registers) same
-
--- what a register holds after a write
-pub written_cases : (registers : List Value) (d r : ℕ) (v u : Value) → d < length registers
-    → slice_get (slice_set registers d v) r ≡ Some u
-    → ((r ≡ d) × (v ≡ u)) ⊎ ((r ≢ d) × (slice_get registers r ≡ Some u))
-written_cases registers d r v u l e =
-    elim (cases_eq r d) [
-      | inl f ↦ inl (
-        f,
-        same_Some v u (sym (slice_get-set_same registers d v l)
-            ∙ (ap (slice_get (slice_set registers d v)) (sym f) ∙ e)),
-      )
-      | inr f ↦ inr (f, sym (slice_get-set_other registers d r v f) ∙ e)
-    ]
-
--- the register has its value in the state with that register set, and the others theirs
-pub registers_with_result : (h : Heap) (f : Frame) (a : AbstractState) (dst : Reg) (v : Value)
-    (u : AbstractValue) → dst.0 < length f.registers → IsTrue (has_value h u v)
-    → ((r : ℕ) (w : Value) → slice_get f.registers r ≡ Some w
-    → IsTrue (has_value h (a.register r) w)) → (r : ℕ) (w : Value)
-    → slice_get (slice_set f.registers dst.0 v) r ≡ Some w
-    → IsTrue (has_value h ((with_register a dst u).register r) w)
-registers_with_result h f a dst v u l new old r w e =
-    elim (written_cases f.registers dst.0 r v w l e) [
-      | inl g ↦ subst (λ (s : AbstractValue). IsTrue (has_value h s w))
-          (sym (cond-true (dst.0 == r) u (a.register r) (eq-eqb dst.0 r (sym g.0))))
-          (subst (λ x. IsTrue (has_value h u x)) g.1 new)
-      | inr g ↦ subst (λ (s : AbstractValue). IsTrue (has_value h s w))
-          (sym (cond-false (dst.0 == r) u (a.register r) (ne_eqb dst.0 r (λ k. g.0 (sym k)))))
-          (old r w g.1)
-    ]
 
 -- the state with the register set holds of the frame with the result
 pub holds_with_result : (p : Program) (e h : Heap) (f : Frame) (a : AbstractState) (dst : Reg)

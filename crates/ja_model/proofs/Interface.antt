@@ -1,31 +1,16 @@
 -- What is known of an abstract state at a moment of a run.
-use Rattle.std.specs.Prelude.{◌≡◌, ◌⊎◌, ◌<◌, ◌≤◌, IsTrue, IsSome}
-use Rattle.ja_base.specs.declared.ids.Label.{Label}
+use Rattle.std.specs.Prelude.{◌≡◌, ◌⊎◌, ◌<◌, IsTrue}
 use Rattle.ja_base.specs.declared.ids.Site.{Site}
 use Rattle.ja_graph.specs.declared.program.Program.{Program}
 use Rattle.ja_machine.specs.declared.machine.Addr.{Addr}
 use Rattle.ja_machine.specs.declared.machine.Heap.{Heap}
 use Rattle.ja_machine.specs.Heap.{count}
-use Rattle.ja_machine.specs.State.{IsHeap, IsObjectOf, IsValueOf}
-use Rattle.ja_model.specs.declared.abstraction.Key.{Key}
-use Rattle.ja_model.specs.Meaning.{SpotContent, missing, held, present, present_row, Spot, content, label_of, key_of, knows, IsAsAtEntry, EntriesHold}
-use Rattle.ja_model.specs.AbstractState.{labels_of}
-use Rattle.ja_model.specs.Reading.{View, Demands, Entries}
-
--- what a spot has is of the heap
-abbrev pub IsOfHeap : Heap → SpotContent → Type 0
-IsOfHeap h missing = Unit {0}
-IsOfHeap h (held v) = IsValueOf h v
-IsOfHeap h (present v attrs) = IsValueOf h v
-IsOfHeap h (present_row attrs) = Unit {0}
-
--- no object goes: each object of the first heap is one of the second
-abbrev pub Grows : Heap → Heap → Type 0
-Grows before now = (s : Site) → count before s ≤ count now s
-
--- each pair that is demanded has a value at entry
-abbrev pub IsFilled : Entries → Demands → Type 0
-IsFilled entries demands = (l : Label) (k : Key) → IsTrue (demands l k) → IsSome (entries l k)
+use Rattle.ja_machine.specs.State.{IsHeap, IsObjectOf}
+use Rattle.ja_abstract.specs.Keys.{Spot, key_of}
+use Rattle.ja_abstract.specs.Contents.{content, label_of}
+use Rattle.ja_abstract.specs.AbstractState.{labels_of}
+use Rattle.ja_meaning.specs.Meaning.{knows, IsAsAtEntry, EntriesHold, Grows}
+use Rattle.ja_model.specs.Reading.{View}
 
 -- a state and the values at entry hold of two heaps of a run, the one at a function's entry and the
 -- one now

@@ -1,16 +1,15 @@
 -- The state after an object more was made holds, and so does the one in which an error was made and
 -- thrown.
-use Rattle.std.proofs.Common.{◌≡◌, ◌≢◌, ◌⊎◌, ℕ, suc, ◌<◌, ◌≤◌, true, false, List, [], length, Some, None, inl, inr, refl, sym, ap, ◌∙◌, subst, arith}
-use Rattle.std.specs.Prelude.{IsTrue, slice_get, unwrap_or, ◌||◌, ◌==◌}
-use Rattle.std.specs.Bool.{beq}
-use Rattle.std.proofs.lemmas.Bool.{and_parts, and_from, and_left, and_right, or_left, or_right, cases_Bool, cases_eq, false≢true, eq-eqb, ne_eqb, cond-true, cond-false, false_from_ne_true}
+use Rattle.std.proofs.Common.{◌≡◌, ◌≢◌, ◌⊎◌, ℕ, suc, ◌<◌, ◌≤◌, false, List, [], length, Some, None, inl, inr, refl, sym, ap, ◌∙◌, subst, arith}
+use Rattle.std.specs.Prelude.{IsTrue, slice_get, unwrap_or, ◌==◌}
+use Rattle.std.proofs.lemmas.Bool.{and_from, and_left, and_right, or_left, or_right, cases_Bool, cases_eq, false≢true, eq-eqb, ne_eqb, cond-true, cond-false, false_from_ne_true}
+use Rattle.std.proofs.lemmas.Option.{slice_get_within}
 use lib.Chars.{codes}
 use Rattle.ja_base.specs.declared.ids.Label.{Label}
 use Rattle.ja_base.specs.declared.ids.Site.{Site}
 use Rattle.ja_base.specs.declared.ids.NodeId.{NodeId}
-use Rattle.ja_prim.specs.declared.primitive.Num.TheVariants.{NaN, Whole}
-use Rattle.ja_prim.specs.declared.primitive.Primitive.{Primitive}
 use Rattle.ja_prim.specs.declared.primitive.Primitive.TheVariants as primitive
+use Rattle.ja_prim.specs.Texts.{same_text}
 use Rattle.ja_graph.specs.declared.program.Program.{Program}
 use Rattle.ja_graph.specs.Program.{message}
 use Rattle.ja_graph.specs.WellFormed.{IsWellFormed}
@@ -26,93 +25,29 @@ use Rattle.ja_machine.specs.Objects.{first_of, property_with, error_object}
 use Rattle.ja_machine.specs.Nodes.{name_text}
 use Rattle.ja_machine.specs.State.{IsHeap, IsObjectOf, IsValueOf}
 use Rattle.ja_machine.proofs.Heaps
-use Rattle.ja_model.specs.declared.abstraction.Mask.{Mask}
-use Rattle.ja_model.specs.declared.abstraction.Slot.TheVariants as slot
-use Rattle.ja_model.specs.declared.abstraction.Key.{Key}
-use Rattle.ja_model.specs.declared.abstraction.Key.TheVariants as key
-use Rattle.std.proofs.lemmas.Option.{slice_get_within}
-use Rattle.ja_prim.specs.Texts.{same_text}
-use Rattle.ja_model.specs.AbstractValue.{AbstractValue, AbstractProperty, join_properties, same_label, of_label, bare, absent_property}
-use Rattle.ja_model.specs.AbstractState.{AbstractState, new, old, same_key, with_property, aged, aged_property, made_property, with_made, exactly_some}
-use Rattle.ja_model.specs.Reading.{prototype}
+use Rattle.ja_abstract.specs.declared.abstraction.Mask.{Mask}
+use Rattle.ja_abstract.specs.declared.abstraction.Slot.TheVariants as slot
+use Rattle.ja_abstract.specs.declared.abstraction.Key.{Key}
+use Rattle.ja_abstract.specs.declared.abstraction.Key.TheVariants as key
+use Rattle.ja_abstract.specs.AbstractValue.{AbstractProperty, join_properties, same_label, of_label, bare, absent_property}
+use Rattle.ja_abstract.specs.AbstractState.{AbstractState, new, old, same_key, with_property, aged_property, made_property, with_made, exactly_some}
+use Rattle.ja_abstract.specs.Resolved.{prototype}
+use Rattle.ja_abstract.specs.Contents.{property_content, missing, held, present, content, object_content, label_of}
+use Rattle.ja_abstract.specs.Keys.{Spot, named, internal, key_of}
+use Rattle.ja_abstract.proofs.Texts
+use Rattle.ja_abstract.proofs.Labels
+use Rattle.ja_abstract.proofs.Keys.{same_key-true, key_of-name, text_of_key, no_slot_of_text}
+use Rattle.ja_abstract.proofs.Labels.{same_label-self, same_label_from, label_parts, other_site, new_not_old}
+use Rattle.ja_abstract.proofs.Parts.{of_primitive_has, of_attrs_allows}
+use Rattle.ja_meaning.specs.Meaning.{knows, IsAsAtEntry, IsOfHeap, Grows}
+use Rattle.ja_meaning.proofs.Inside.{inside}
+use Rattle.ja_meaning.proofs.Contents
+use Rattle.ja_meaning.proofs.Builtins.{message_is}
+use Rattle.ja_meaning.proofs.Values.{knows-join_left, knows-join_right}
+use Rattle.ja_meaning.proofs.Frames.{registers_with_result}
+use Rattle.ja_meaning.proofs.Aged.{aged_knows, aged_has}
 use Rattle.ja_model.specs.Transfer.{message_property, with_error}
-use Rattle.ja_model.specs.Meaning.{property_content, SpotContent, missing, held, present, present_row, Spot, named, internal, content, object_content, label_of, key_of, has_primitive, has_value, knows, allows_attrs, Holds, IsAsAtEntry}
-use Rattle.ja_model.proofs.Inside.{inside}
-use Rattle.ja_model.proofs.Interface.{IsOfHeap, Grows}
-use Rattle.ja_model.proofs.Contents
-use Rattle.ja_model.proofs.Nodes.{message_is}
-use Rattle.ja_model.proofs.Keys.{same_key-true, key_of-name}
-use Rattle.ja_model.proofs.Labels.{same_label-self, same_label_from}
-use Rattle.ja_model.proofs.Values.{knows-join_left, knows-join_right}
-use Rattle.ja_model.proofs.Entered.{of_primitive_has, of_attrs_allows, text_of_key, no_slot_of_text}
-use Rattle.ja_model.proofs.Frames.{registers_with_result}
-
--- a label of a site is the new one or the old one
-label_parts : (l : Label) (s : Site) → l.site.0 ≡ s.0 → (l ≡ old s) ⊎ (l ≡ new s)
-label_parts l s e =
-    elim (cases_Bool l.old) [
-      | inl o ↦ inl (Contents.same_parts l (old s) e o)
-      | inr o ↦ inr (Contents.same_parts l (new s) e o)
-    ]
-
--- labels of other sites are not the same
-other_site : (l m : Label) → l.site.0 ≢ m.site.0 → same_label l m ≡ false
-other_site l m ne = and_left _ _ (ne_eqb l.site.0 m.site.0 ne)
-
-new_not_old : (s t : Site) → same_label (new s) (old t) ≡ false
-new_not_old s t = and_right (s.0 == t.0) (beq false true) refl
-
-aged_at : (s : Site) (v : AbstractValue)
-    → (aged s v).label (old s) ≡ (v.label (old s) || v.label (new s))
-aged_at s v = cond-true _ _ _ (eq-eqb s.0 s.0 refl)
-
-aged_other : (s : Site) (v : AbstractValue) (l : Label) → l.site.0 ≢ s.0
-    → (aged s v).label l ≡ v.label l
-aged_other s v l ne = cond-false _ _ _ (ne_eqb l.site.0 s.0 ne)
-
-module _ (h : Heap) (s : Site) (o : Object) (row : s.0 < length h.objects) where
-  aged_has_primitive : (v : AbstractValue) (q : Primitive) → IsTrue (has_primitive v q)
-      → IsTrue (has_primitive (aged s v) q)
-  aged_has_primitive v primitive.Undefined e = e
-  aged_has_primitive v primitive.Null e = e
-  aged_has_primitive v (primitive.Bool true) e = e
-  aged_has_primitive v (primitive.Bool false) e = e
-  aged_has_primitive v (primitive.Number NaN) e = e
-  aged_has_primitive v (primitive.Number (Whole n)) e = e
-  aged_has_primitive v (primitive.Text t) e = e
-
-  aged_has_object : (v : AbstractValue) (b : Addr) → IsObjectOf h b
-      → IsTrue (v.label (label_of h b)) → IsTrue ((aged s v).label (label_of (with_new h s o) b))
-  aged_has_object v b there e =
-      elim (cases_eq b.site.0 s.0) [
-        | inl f ↦
-            subst (λ l. IsTrue ((aged s v).label l))
-            (sym (Contents.label-with_new_aged h s o row b there f))
-            (aged_at s v ∙ elim (label_parts (label_of h b) s f) [
-              | inl g ↦ or_left _ _ (subst (λ l. IsTrue (v.label l)) g e)
-              | inr g ↦ or_right _ _ (subst (λ l. IsTrue (v.label l)) g e)
-            ])
-        | inr ne ↦
-            subst (λ l. IsTrue ((aged s v).label l))
-            (sym (Contents.label-with_new_other h s o row b ne))
-            (aged_other s v (label_of h b) ne ∙ e)
-      ]
-
-  -- a value's parts are kept, with the labels that they have now
-  pub aged_has : (v : AbstractValue) (x : Value) → IsValueOf h x → IsTrue (has_value h v x)
-      → IsTrue (has_value (with_new h s o) (aged s v) x)
-  aged_has v (value.Primitive q) there e = aged_has_primitive v q e
-  aged_has v (value.Object b) there e = aged_has_object v b there e
-
-  aged_knows : (q : AbstractProperty) (c : SpotContent) → IsOfHeap h c → IsTrue (knows h q c)
-      → IsTrue (knows (with_new h s o) (aged_property s q) c)
-  aged_knows q missing there e = e
-  aged_knows q (held v) there e = aged_has q.value v there e
-  aged_knows q (present v attrs) there e =
-      let k : IsTrue (has_value h q.value v)
-      × IsTrue (allows_attrs q.attrs attrs) = and_parts _ _ e in
-      and_from _ _ (aged_has q.value v there k.0) k.1
-  aged_knows q (present_row attrs) there e = e
+use Rattle.ja_model.specs.Meaning.{Holds}
 
 -- what a property says of an object of a heap
 abbrev pub Tells : Heap → Heap → Addr → Spot → AbstractProperty → Type 0
@@ -295,7 +230,7 @@ module _ (p : Program) (good : IsWellFormed p) (e h : Heap) (s proto : Site) (te
       ≡ false = Contents.label_is_new h (first_of proto) (omega arith) in
       sym (Contents.label-with_new_other h s (error_object proto text) row (first_of proto)
       (λ g. let k : proto.0 ≡ s.0 = g in omega arith)
-      ∙ Contents.same_parts (label_of h (first_of proto)) (new proto) refl is_new)
+      ∙ Labels.same_parts (label_of h (first_of proto)) (new proto) refl is_new)
 
   message_told : (u : List ℕ) → codes "message" ≡ u
       → IsTrue (knows now (error_state.property (new s) (key_of p (named u)))
@@ -321,7 +256,7 @@ module _ (p : Program) (good : IsWellFormed p) (e h : Heap) (s proto : Site) (te
       (λ k. let t : codes "message" ≡ u = sym message_text
       ∙ text_of_key p u message (sym (same_key-true (key.Name message) _ k)) in
       false≢true (sym ne ∙ (ap (same_text (codes "message")) (sym t)
-      ∙ Contents.same_text_refl (codes "message")))))
+      ∙ Texts.same_text_refl (codes "message")))))
       (false_from_ne_true _ (λ k. no_slot_of_text p u slot.Prototype
       (sym (same_key-true prototype _ k)))))
 
@@ -330,7 +265,7 @@ module _ (p : Program) (good : IsWellFormed p) (e h : Heap) (s proto : Site) (te
       (object_content (error_object proto text) x))
   error_knows (named u) =
       elim (cases_Bool (same_text (codes "message") u))
-      [ inl k ↦ message_told u (Contents.text_same (codes "message") u k) | inr k ↦ other_told u k ]
+      [ inl k ↦ message_told u (Texts.text_same (codes "message") u k) | inr k ↦ other_told u k ]
   error_knows (internal slot.Prototype) =
       subst (λ q. IsTrue (knows now q (held (value.Object (first_of proto)))))
       (sym property_prototype) (same_label_from (new proto) (label_of now (first_of proto))

@@ -1,10 +1,8 @@
 -- The numbers of the nodes of a program are in range, and its built-in objects and names are there.
-use Rattle.std.proofs.Common.{◌≡◌, ℕ, zero, suc, ◌<◌, List, [], ◌∷◌, length, Some, refl, sym, ap, ◌∙◌, arith}
-use Rattle.std.specs.Prelude.{slice_get, take}
-use Rattle.std.specs.Option.{is_some, option_to_list, option_map_or}
+use Rattle.std.proofs.Common.{◌≡◌, [], Some, sym, ap, ◌∙◌}
+use Rattle.std.specs.Prelude.{slice_get}
+use Rattle.std.specs.Option.{option_to_list, option_map_or}
 use Rattle.std.specs.List.{AllByRecursion}
-use Rattle.std.proofs.lemmas.Bool.{false≢true}
-use lib.Chars.{codes}
 use Rattle.ja_base.specs.declared.ids.NameId.{NameId}
 use Rattle.ja_base.specs.declared.ids.NodeId.{NodeId}
 use Rattle.ja_base.specs.declared.ids.Reg.{Reg}
@@ -13,62 +11,14 @@ use Rattle.ja_graph.specs.declared.node.Args.{Args}
 use Rattle.ja_graph.specs.declared.node.Node.{Node}
 use Rattle.ja_graph.specs.declared.node.Node.TheVariants.{Const, FindName, ReadRef, WriteRef, Call, Return}
 use Rattle.ja_graph.specs.declared.node.NodeInfo.{NodeInfo}
-use Rattle.ja_graph.specs.declared.program.Class.TheVariants as class
 use Rattle.ja_graph.specs.declared.program.Function.{Function}
 use Rattle.ja_graph.specs.declared.program.Program.{Program}
-use Rattle.ja_graph.specs.declared.program.SiteInfo.{SiteInfo}
 use Rattle.ja_graph.specs.Node.{register_set, registers_named, name_in, makings}
-use Rattle.ja_graph.specs.Program.{node_at, global, reference_error_prototype, type_error_prototype, message}
-use Rattle.ja_graph.specs.WellFormed.{IsWellFormed, IsNodeWellFormed, IsDestination, IsRegister, IsName, StandsBefore, builtin_names}
-use Rattle.ja_machine.specs.Machine.{program_function, class_of_site}
+use Rattle.ja_graph.specs.Program.{node_at}
+use Rattle.ja_graph.specs.WellFormed.{IsWellFormed, IsNodeWellFormed, IsDestination, IsRegister, IsName}
+use Rattle.ja_machine.specs.Machine.{program_function}
 use Rattle.ja_machine.proofs.Growing.{IsNodeSite}
 use Rattle.ja_machine.proofs.Nodes.{IsMade, node_makings}
-
--- ---- the built-in objects and names
-
--- an entry of a part of a list from its beginning is one of the list
-from_take : {X : Type 0} (n : ℕ) (xs : List X) (i : ℕ) (x : X) → slice_get (take n xs) i ≡ Some x
-    → slice_get xs i ≡ Some x
-from_take zero xs i x e = absurd (false≢true (ap is_some e))
-from_take (suc n) [] i x e = absurd (false≢true (ap is_some e))
-from_take (suc n) (y ∷ ys) zero x e = e
-from_take (suc n) (y ∷ ys) (suc i) x e = from_take n ys i x e
-
-module _ (p : Program) (good : IsWellFormed p) where
-  -- the global object is one of the opening heap
-  pub global_fits : global.0 < length p.opening
-  global_fits = let (info, info_is, class_is, fits) = good.builtins global.0 class.Object refl in
-      fits
-
-  -- .. of class Object
-  pub global_class : class_of_site p global.0 ≡ class.Object
-  global_class =
-      let (info, info_is, class_is, fits) = good.builtins global.0 class.Object refl in
-      ap (λ o. option_map_or (λ (i : SiteInfo). i.class) o class.Object) info_is ∙ class_is
-
-  -- .. and so are the prototypes of the errors that the machine makes
-  pub reference_error_fits : reference_error_prototype.0 < length p.opening
-  reference_error_fits =
-      let (info, info_is, class_is, fits) = good.builtins reference_error_prototype.0 class.Error
-      refl in fits
-
-  -- .. of the other kind
-  pub type_error_fits : type_error_prototype.0 < length p.opening
-  type_error_fits =
-      let (info, info_is, class_is, fits) = good.builtins type_error_prototype.0 class.Error refl in
-      fits
-
-  -- the text of the name `message`
-  pub message_is : slice_get p.names message.0 ≡ Some (codes "message")
-  message_is =
-      from_take (length builtin_names) p.names message.0 (codes "message")
-      (ap (λ (xs : List (List ℕ)). slice_get xs message.0) good.names ∙ refl)
-
--- a site that a link leads to has its object in the opening heap
-pub site_before : (p : Program) → IsWellFormed p → (i : ℕ) (s : Site) → StandsBefore p i s
-    → s.0 < length p.opening
-site_before p good i s (j, q, before, at, site_is) =
-    let fits : q.site.0 < length p.opening = (good.objects j q at).site in omega arith
 
 -- ---- the sites of nodes
 

@@ -1,72 +1,21 @@
 -- What the changed values of readings keep: no flag of `absent` and `entry`, other labels, lists of
 -- joins.
-use Rattle.std.specs.Prelude.{◌≡◌, ◌&&◌, ℕ, Bool, true, false, not, IsTrue, List, [], ◌∷◌, map, None, is_some}
-use Rattle.std.specs.List.{list_any}
-use Rattle.std.proofs.Common.{refl, ap, subst, arith, inl, inr}
-use Rattle.std.proofs.lemmas.Bool.{or_left, or_right, or_cases, and_parts, and_from, false≢true}
-use Rattle.ja_base.specs.declared.ids.Label.{Label}
+use Rattle.std.specs.Prelude.{◌≡◌, ◌&&◌, true, false, not, IsTrue, None, is_some}
+use Rattle.std.proofs.Common.{ap}
+use Rattle.std.proofs.lemmas.Bool.{or_left, and_from}
 use Rattle.ja_prim.specs.declared.primitive.Num.TheVariants.{NaN, Whole}
 use Rattle.ja_prim.specs.declared.primitive.Primitive.{Primitive}
 use Rattle.ja_prim.specs.declared.primitive.Primitive.TheVariants as primitive
-use Rattle.ja_graph.specs.declared.attrs.Attrs.{Attrs}
 use Rattle.ja_graph.specs.declared.program.Program.{Program}
-use Rattle.ja_machine.specs.declared.machine.Addr.{Addr}
 use Rattle.ja_machine.specs.declared.machine.Value.{Value}
 use Rattle.ja_machine.specs.declared.machine.Value.TheVariants as value
-use Rattle.ja_machine.specs.declared.machine.Content as property
-use Rattle.ja_machine.specs.declared.machine.Content.TheVariants as contents
 use Rattle.ja_machine.specs.declared.machine.Heap.{Heap}
 use Rattle.ja_machine.specs.Calls.{function_called}
-use Rattle.ja_machine.specs.State.{IsObjectOf, IsValueOf, IsHeap}
-use Rattle.ja_model.specs.declared.abstraction.NumberPart.{NumberPart}
-use Rattle.ja_model.specs.declared.abstraction.NumberPart.TheVariants as number_part
-use Rattle.ja_model.specs.declared.abstraction.TextPart.{TextPart}
-use Rattle.ja_model.specs.declared.abstraction.TextPart.TheVariants as text_part
-use Rattle.ja_model.specs.AbstractValue.{Labels, AbstractValue, AbstractProperty, same_label, has_present_flag, has_number, has_text, is_present, has_part, present_part}
-use Rattle.ja_model.specs.AbstractState.{labels_of}
-use Rattle.ja_model.specs.Meaning.{label_of, number_has, text_has, has_primitive, has_value, SpotContent, missing, held, present, present_row, content_of, allows_attrs, knows}
-use Rattle.ja_model.specs.Reading.{known_part, join_all, join_values}
+use Rattle.ja_abstract.specs.AbstractValue.{AbstractValue}
+use Rattle.ja_abstract.specs.Parts.{has_primitive}
+use Rattle.ja_abstract.proofs.Parts.{has_primitive-labels}
+use Rattle.ja_meaning.specs.Meaning.{has_value}
 use Rattle.ja_model.specs.Transfer.{can_be_called, uncalled_part, as_read}
-use Rattle.ja_model.proofs.Inside.{site_in_range}
-use Rattle.ja_model.proofs.Interface.{IsOfHeap}
-use Rattle.ja_model.proofs.Labels.{IsAmong, same_label-true, some_among, labels_of-has}
-use Rattle.ja_model.proofs.Values.{has_value-join_left, has_value-join_right, knows-join_left, knows-join_right}
-
--- ---- other flags
-
--- a value has its primitives whatever its `absent` and `entry` are
-pub has_primitive-flags : (v : AbstractValue) (x y : Bool) (q : Primitive)
-    → IsTrue (has_primitive v q) → IsTrue (has_primitive
-    (record v { flags = record v.flags { absent = x; entry = y } }) q)
-has_primitive-flags v x y primitive.Undefined e = e
-has_primitive-flags v x y primitive.Null e = e
-has_primitive-flags v x y (primitive.Bool true) e = e
-has_primitive-flags v x y (primitive.Bool false) e = e
-has_primitive-flags v x y (primitive.Number NaN) e = e
-has_primitive-flags v x y (primitive.Number (Whole n)) e = e
-has_primitive-flags v x y (primitive.Text t) e = e
-
--- .. and its values
-pub has_value-flags : (h : Heap) (v : AbstractValue) (x y : Bool) (u : Value)
-    → IsTrue (has_value h v u) → IsTrue (has_value h
-    (record v { flags = record v.flags { absent = x; entry = y } }) u)
-has_value-flags h v x y (value.Primitive q) e = has_primitive-flags v x y q e
-has_value-flags h v x y (value.Object a) e = e
-
--- the present part has the values
-pub has_value-present_part : (h : Heap) (v : AbstractValue) (u : Value) → IsTrue (has_value h v u)
-    → IsTrue (has_value h (present_part v) u)
-has_value-present_part h v u e = has_value-flags h v false false u e
-
--- the part that isn't as at entry has the contents
-pub knows-known_part : (h : Heap) (q : AbstractProperty) (c : SpotContent) → IsTrue (knows h q c)
-    → IsTrue (knows h (known_part q) c)
-knows-known_part h q missing e = e
-knows-known_part h q (held u) e = has_value-flags h q.value q.value.flags.absent false u e
-knows-known_part h q (present u attrs) e =
-    let (v, a) = and_parts _ _ e in
-    and_from _ _ (has_value-flags h q.value q.value.flags.absent false u v) a
-knows-known_part h q (present_row attrs) e = e
 
 -- what is read has the primitives
 has_primitive-as_read : (v : AbstractValue) (q : Primitive) → IsTrue (has_primitive v q)
@@ -85,19 +34,6 @@ pub has_value-as_read : (h : Heap) (v : AbstractValue) (u : Value) → IsTrue (h
 has_value-as_read h v (value.Primitive q) e = has_primitive-as_read v q e
 has_value-as_read h v (value.Object a) e = e
 
--- ---- other labels
-
--- a value has its primitives whatever its labels are
-pub has_primitive-labels : (v : AbstractValue) (set : Labels) (q : Primitive)
-    → IsTrue (has_primitive v q) → IsTrue (has_primitive (record v { label = set }) q)
-has_primitive-labels v set primitive.Undefined e = e
-has_primitive-labels v set primitive.Null e = e
-has_primitive-labels v set (primitive.Bool true) e = e
-has_primitive-labels v set (primitive.Bool false) e = e
-has_primitive-labels v set (primitive.Number NaN) e = e
-has_primitive-labels v set (primitive.Number (Whole n)) e = e
-has_primitive-labels v set (primitive.Text t) e = e
-
 -- what can't be called is of the part that can't
 pub has_value-uncalled : (p : Program) (h : Heap) (v : AbstractValue) (u : Value)
     → function_called p u ≡ None → IsTrue (has_value h v u)
@@ -105,146 +41,3 @@ pub has_value-uncalled : (p : Program) (h : Heap) (v : AbstractValue) (u : Value
 has_value-uncalled p h v (value.Primitive q) none e =
     has_primitive-labels v (λ l. v.label l && not (can_be_called p l)) q e
 has_value-uncalled p h v (value.Object a) none e = and_from _ _ e (ap (λ o. not (is_some o)) none)
-
--- ---- lists of joins
-
--- a value that one of a list has is one of their join
-pub has_value-join_values : (h : Heap) (f : Label → AbstractValue) (labels : List Label) (l : Label)
-    (u : Value) → IsAmong l labels → IsTrue (has_value h (f l) u)
-    → IsTrue (has_value h (join_values (map f labels)) u)
-has_value-join_values h f [] l u a e = absurd (false≢true a)
-has_value-join_values h f (m ∷ ms) l u a e =
-    elim (or_cases (same_label l m) (list_any (same_label l) ms) a) [
-      | inl s ↦ has_value-join_left h (f m) (join_values (map f ms)) u
-          (subst (λ k. IsTrue (has_value h (f k) u)) (same_label-true l m s) e)
-      | inr r ↦ has_value-join_right h (f m) (join_values (map f ms)) u
-          (has_value-join_values h f ms l u r e)
-    ]
-
--- where one of a list may be absent, their join may
-pub absent-join_values : (f : Label → AbstractValue) (labels : List Label) (l : Label)
-    → IsAmong l labels → IsTrue (f l).flags.absent
-    → IsTrue (join_values (map f labels)).flags.absent
-absent-join_values f [] l a e = absurd (false≢true a)
-absent-join_values f (m ∷ ms) l a e =
-    elim (or_cases (same_label l m) (list_any (same_label l) ms) a) [
-      | inl s ↦ or_left (f m).flags.absent (join_values (map f ms)).flags.absent
-          (subst (λ k. IsTrue (f k).flags.absent) (same_label-true l m s) e)
-      | inr r ↦ or_right (f m).flags.absent (join_values (map f ms)).flags.absent
-          (absent-join_values f ms l r e)
-    ]
-
--- a content that one of a list knows is known to their join
-pub knows-join_all : (h : Heap) (f : Label → AbstractProperty) (labels : List Label) (l : Label)
-    (c : SpotContent) → IsAmong l labels → IsTrue (knows h (f l) c)
-    → IsTrue (knows h (join_all (map f labels)) c)
-knows-join_all h f [] l c a e = absurd (false≢true a)
-knows-join_all h f (m ∷ ms) l c a e =
-    elim (or_cases (same_label l m) (list_any (same_label l) ms) a) [
-      | inl s ↦ knows-join_left h (f m) (join_all (map f ms)) c
-          (subst (λ k. IsTrue (knows h (f k) c)) (same_label-true l m s) e)
-      | inr r ↦ knows-join_right h (f m) (join_all (map f ms)) c (knows-join_all h f ms l c r e)
-    ]
-
--- ---- parts
-
--- a number part that has a number is no empty one
-has_number_from : (n : NumberPart) (z : _) → IsTrue (number_has n z) → IsTrue (has_number n)
-has_number_from number_part.Nothing z e = e
-has_number_from n z e = refl
-
--- .. nor a text part that has a text
-has_text_from : (s : TextPart) (t : List ℕ) → IsTrue (text_has s t) → IsTrue (has_text s)
-has_text_from text_part.Nothing t e = e
-has_text_from s t e = refl
-
--- where a flag is there some part is present
-by_flag : (labels : List Label) (v : AbstractValue) → IsTrue (has_present_flag v.flags)
-    → IsTrue (is_present labels v)
-by_flag labels v e = grind (arith, e, or_left, or_right)
-
--- where a number is there some part is present
-by_number : (labels : List Label) (v : AbstractValue) → IsTrue (has_number v.number)
-    → IsTrue (is_present labels v)
-by_number labels v e = grind (arith, e, or_left, or_right)
-
--- where a text is there some part is present
-by_text : (labels : List Label) (v : AbstractValue) → IsTrue (has_text v.text)
-    → IsTrue (is_present labels v)
-by_text labels v e = grind (arith, e, or_left, or_right)
-
--- a present part is a part
-pub has_part_from_present : (labels : List Label) (v : AbstractValue) → IsTrue (is_present labels v)
-    → IsTrue (has_part labels v)
-has_part_from_present labels v e = grind (arith, e, or_left, or_right)
-
--- a primitive that a value has is one of its parts
-is_present_from_primitive : (labels : List Label) (v : AbstractValue) (q : Primitive)
-    → IsTrue (has_primitive v q) → IsTrue (is_present labels v)
-is_present_from_primitive labels v primitive.Undefined e =
-    by_flag labels v (grind (arith, e, or_left, or_right))
-is_present_from_primitive labels v primitive.Null e =
-    by_flag labels v (grind (arith, e, or_left, or_right))
-is_present_from_primitive labels v (primitive.Bool true) e =
-    by_flag labels v (grind (arith, e, or_left, or_right))
-is_present_from_primitive labels v (primitive.Bool false) e =
-    by_flag labels v (grind (arith, e, or_left, or_right))
-is_present_from_primitive labels v (primitive.Number NaN) e =
-    by_flag labels v (grind (arith, e, or_left, or_right))
-is_present_from_primitive labels v (primitive.Number (Whole n)) e =
-    by_number labels v (has_number_from v.number n e)
-is_present_from_primitive labels v (primitive.Text t) e =
-    by_text labels v (has_text_from v.text t e)
-
--- where a value has a label of the list, some part is present
-pub is_present_from_label : (labels : List Label) (v : AbstractValue)
-    → IsTrue (list_any v.label labels) → IsTrue (is_present labels v)
-is_present_from_label labels v e = grind (arith, e, or_left, or_right)
-
--- an object of the heap has a label of the program
-pub label_of-among : (p : Program) (h : Heap) → IsHeap p h → (a : Addr) → IsObjectOf h a
-    → IsAmong (label_of h a) (labels_of p)
-label_of-among p h heap a o = labels_of-has p (label_of h a) (site_in_range p h heap a o)
-
--- a set of labels that has the label of an object of the heap has one of the program
-pub list_any-label_of : (p : Program) (h : Heap) → IsHeap p h → (a : Addr) → IsObjectOf h a
-    → (set : Labels) → IsTrue (set (label_of h a)) → IsTrue (list_any set (labels_of p))
-list_any-label_of p h heap a o set e =
-    some_among set (labels_of p) (label_of h a) (label_of-among p h heap a o) e
-
--- a value that has one of the heap has a present part
-pub is_present-has_value : (p : Program) (h : Heap) → IsHeap p h → (v : AbstractValue) (u : Value)
-    → IsValueOf h u → IsTrue (has_value h v u) → IsTrue (is_present (labels_of p) v)
-is_present-has_value p h heap v (value.Primitive q) o e =
-    is_present_from_primitive (labels_of p) v q e
-is_present-has_value p h heap v (value.Object a) o e =
-    is_present_from_label (labels_of p) v (list_any-label_of p h heap a o v.label e)
-
--- .. and some part
-pub has_part-has_value : (p : Program) (h : Heap) → IsHeap p h → (v : AbstractValue) (u : Value)
-    → IsValueOf h u → IsTrue (has_value h v u) → IsTrue (has_part (labels_of p) v)
-has_part-has_value p h heap v u o e =
-    has_part_from_present (labels_of p) v (is_present-has_value p h heap v u o e)
-
--- ---- a property that is known
-
--- what is known of a property has its attributes
-pub allows_attrs-known : (h : Heap) (q : AbstractProperty) (x : property.Content) (attrs : Attrs)
-    → IsTrue (knows h q (content_of x attrs)) → IsTrue (allows_attrs q.attrs attrs)
-allows_attrs-known h q (contents.Value v) attrs e =
-    (and_parts (has_value h q.value v) (allows_attrs q.attrs attrs) e).1
-allows_attrs-known h q contents.Row attrs e =
-    (and_parts q.value.flags.row (allows_attrs q.attrs attrs) e).1
-
--- .. and a present part
-pub is_present-known : (p : Program) (h : Heap) → IsHeap p h
-    → (q : AbstractProperty) (x : property.Content) (attrs : Attrs)
-    → IsOfHeap h (content_of x attrs) → IsTrue (knows h q (content_of x attrs))
-    → IsTrue (is_present (labels_of p) q.value)
-is_present-known p h heap q (contents.Value v) attrs o e =
-    is_present-has_value p h heap q.value v o
-    (and_parts (has_value h q.value v) (allows_attrs q.attrs attrs) e).0
-is_present-known p h heap q contents.Row attrs o e =
-    let row : IsTrue q.value.flags.row = (and_parts q.value.flags.row (allows_attrs q.attrs attrs)
-    e).0 in
-    by_flag (labels_of p) q.value (grind (arith, row, or_left, or_right))

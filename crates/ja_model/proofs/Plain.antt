@@ -38,12 +38,14 @@ use Rattle.ja_machine.specs.Machine.{opening_content, opening_property, opening_
 use Rattle.ja_machine.proofs.Heaps
 use Rattle.ja_machine.proofs.Lists.{either_way, is_some_from, all_find}
 use Rattle.ja_machine.proofs.Opening.{IsOpened, opened_at_address}
-use Rattle.ja_model.specs.declared.abstraction.Key.TheVariants as key
-use Rattle.ja_model.specs.declared.abstraction.Slot.TheVariants as slot
-use Rattle.ja_model.specs.Meaning.{SpotContent, missing, held, present, present_row, Spot, named, internal, content, object_content, content_of, property_content, held_address, key_of}
-use Rattle.ja_model.proofs.Contents
-use Rattle.ja_model.proofs.Keys.{key_of-name}
-use Rattle.ja_model.proofs.Walks.{link_of, content-named, content-prototype, content-outer}
+use Rattle.ja_abstract.specs.declared.abstraction.Key.TheVariants as key
+use Rattle.ja_abstract.specs.declared.abstraction.Slot.TheVariants as slot
+use Rattle.ja_abstract.specs.Contents.{SpotContent, missing, held, present, present_row, content, object_content, content_of, property_content, held_address}
+use Rattle.ja_abstract.specs.Keys.{Spot, named, internal, key_of}
+use Rattle.ja_abstract.proofs.Texts
+use Rattle.ja_abstract.proofs.Keys.{key_of-name}
+use Rattle.ja_meaning.proofs.Contents
+use Rattle.ja_meaning.proofs.Walks.{link_of, content-named, content-prototype, content-outer}
 
 -- ---- what is plain
 
@@ -251,7 +253,7 @@ module _ (p : Program) (good : IsWellFormed p) (built : AreBuilt p) where
       (Some (opening_property p q)) (find (λ (r : Property). same_text r.name t)
       (map (opening_property p) qs)) (λ e. let name_is : q.name
       ≡ sought.name = same_name q.name sought.name (names 0 q refl) sought.fits
-      (Contents.text_same _ t e ∙ sym sought.text_is) in
+      (Texts.text_same _ t e ∙ sym sought.text_is) in
       content_plain q.content q.attrs (each 0 q refl
       (subst (IsNamed p) (sym name_is) sought.named)))
       (λ e. properties_plain t sought qs (λ j. names (suc j)) (λ j. each (suc j)))

@@ -33,24 +33,29 @@ use Rattle.ja_machine.specs.Nodes.{node_step}
 use Rattle.ja_machine.specs.Machine.{program_function, opening_heap, opening_frame, opening_state, fits, wants, frames_step, step, next_of, state_of, earlier_state}
 use Rattle.ja_machine.specs.State.{IsValueOf, IsFrame, IsState}
 use Rattle.ja_machine.specs.Runs.{AreStates}
+use Rattle.ja_abstract.specs.AbstractValue.{AbstractValue, undefined_value}
+use Rattle.ja_abstract.specs.AbstractState.{new, entry_registers, entry_state}
+use Rattle.ja_abstract.specs.Contents.{label_of}
+use Rattle.ja_abstract.proofs.Labels
+use Rattle.ja_abstract.proofs.Labels.{same_label_from}
+use Rattle.ja_meaning.specs.Meaning.{EntriesHold, has_value, context_of, Grows}
+use Rattle.ja_meaning.proofs.Contents
+use Rattle.ja_meaning.proofs.Builtins.{global_fits}
+use Rattle.ja_meaning.proofs.Parts.{has_part-has_value}
+use Rattle.ja_meaning.proofs.Opened.{entries_hold}
+use Rattle.ja_meaning.proofs.Frames.{register_of_heap}
 use Rattle.ja_model.specs.declared.table.Warning.{Warning}
 use Rattle.ja_model.specs.declared.table.WarningKind.{WarningKind}
 use Rattle.ja_model.specs.declared.table.WarningKind.TheVariants.{UnboundName}
-use Rattle.ja_model.specs.AbstractValue.{AbstractValue, undefined_value}
-use Rattle.ja_model.specs.AbstractState.{new, entry_registers, entry_state}
-use Rattle.ja_model.specs.Meaning.{Holds, EntriesHold, label_of, has_value, context_of}
+use Rattle.ja_model.specs.Meaning.{Holds}
 use Rattle.ja_model.specs.Transfer.{uncalled_part}
 use Rattle.ja_model.specs.Table.{Table, root, IsClosed}
 use Rattle.ja_model.specs.Warning.{AreWarnings, kind_of, allows_fault, is_null, fault_at, fault_of_frames}
 use Rattle.ja_model.specs.Sound.{CoversRuns, WarnsOfFaults}
-use Rattle.ja_model.proofs.Contents
-use Rattle.ja_model.proofs.Interface.{Grows}
-use Rattle.ja_model.proofs.Nodes.{IsNodeInRange, global_fits, in_range_at, sites_at}
-use Rattle.ja_model.proofs.Labels.{same_label_from}
-use Rattle.ja_model.proofs.Parts.{has_value-uncalled, has_part-has_value}
-use Rattle.ja_model.proofs.Entered.{entries_hold}
+use Rattle.ja_model.proofs.Nodes.{IsNodeInRange, in_range_at, sites_at}
+use Rattle.ja_model.proofs.Parts.{has_value-uncalled}
 use Rattle.ja_model.proofs.Closed.{IsWithin-from_leq, settled_step, settled_open}
-use Rattle.ja_model.proofs.Frames.{IsProgramFrame, IsHeld, OnStep, on_event, of_missing, frame_of, register_has, register_of_heap, registers_are}
+use Rattle.ja_model.proofs.Frames.{IsProgramFrame, IsHeld, OnStep, on_event, of_missing, frame_of, register_has, registers_are}
 use Rattle.ja_model.proofs.Steps.{step_kept}
 use Rattle.ja_model.proofs.TextRuns.{IsPlainState, uncalled, plain_states}
 use Rattle.ja_model.proofs.Throwing.{call_fault_parts}
@@ -78,7 +83,7 @@ module _ (p : Program) (t : Table) (good : IsWellFormed p) (built : AreBuilt p)
   global_label =
       let one : count (opening_heap p) global
       ≡ 1 = opening.heap.opening global (global_fits p good) in
-      Contents.same_parts _ (new global) refl
+      Labels.same_parts _ (new global) refl
       (Contents.label_is_new (opening_heap p) (first_of global) (omega arith))
 
   -- what the registers hold at the entry

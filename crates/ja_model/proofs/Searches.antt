@@ -16,19 +16,26 @@ use Rattle.ja_machine.specs.Heap as heap
 use Rattle.ja_machine.specs.Frames.{undefined}
 use Rattle.ja_machine.specs.Nodes.{object_or_null, find_name, read}
 use Rattle.ja_machine.specs.State.{IsObjectOf}
-use Rattle.ja_model.specs.declared.abstraction.Slot.TheVariants as slot
-use Rattle.ja_model.specs.declared.abstraction.Key.{Key}
-use Rattle.ja_model.specs.AbstractValue.{Labels, AbstractValue, no_value, null_value, of_labels}
-use Rattle.ja_model.specs.AbstractState.{same_key}
-use Rattle.ja_model.specs.Meaning.{label_of, has_value, named, internal, key_of}
-use Rattle.ja_model.specs.Reading.{View, demands_of, outer, own, may_be_absent, some_label, may_lack, may_have, join_values, got, demands_of_walk, next_scope, searched, found, demands_of_search}
+use Rattle.ja_abstract.specs.declared.abstraction.Slot.TheVariants as slot
+use Rattle.ja_abstract.specs.declared.abstraction.Key.{Key}
+use Rattle.ja_abstract.specs.AbstractValue.{Labels, AbstractValue, no_value, null_value, of_labels}
+use Rattle.ja_abstract.specs.AbstractState.{same_key}
+use Rattle.ja_abstract.specs.Contents.{label_of}
+use Rattle.ja_abstract.specs.Keys.{named, internal, key_of}
+use Rattle.ja_abstract.specs.Resolved.{demands_of, outer, join_values, IsFilled}
+use Rattle.ja_abstract.proofs.Keys.{same_key-self}
+use Rattle.ja_abstract.proofs.Parts.{absent-join_values}
+use Rattle.ja_abstract.proofs.Rounds.{reached-start, reached-next}
+use Rattle.ja_abstract.proofs.Joins.{and_three}
+use Rattle.ja_meaning.specs.Meaning.{has_value}
+use Rattle.ja_meaning.proofs.Parts.{has_value-join_values}
+use Rattle.ja_meaning.proofs.Values.{has_value-join_left, has_value-join_right}
+use Rattle.ja_meaning.proofs.Walks.{content-outer, outer_before, Searched, LeadsOut, find_searched}
+use Rattle.ja_model.specs.Reading.{View, own, may_be_absent, some_label, may_lack, may_have, got, demands_of_walk, next_scope, searched, found, demands_of_search}
 use Rattle.ja_model.specs.Transfer.{read_value, demands_of_read}
-use Rattle.ja_model.proofs.Interface.{IsFilled, IsRead}
-use Rattle.ja_model.proofs.Keys.{same_key-self}
-use Rattle.ja_model.proofs.Parts.{has_value-join_values, absent-join_values, has_value-as_read}
-use Rattle.ja_model.proofs.Rounds.{reached-start, reached-next}
-use Rattle.ja_model.proofs.Values.{and_three, has_value-join_left, has_value-join_right}
-use Rattle.ja_model.proofs.Walks.{content-outer, outer_before, Searched, LeadsOut, find_searched, label-among, some_label-object, link_label, no_link_absent, got-Some, got-None, may_have-has, may_lack-has}
+use Rattle.ja_model.proofs.Interface.{IsRead}
+use Rattle.ja_model.proofs.Parts.{has_value-as_read}
+use Rattle.ja_model.proofs.Walks.{label-among, some_label-object, link_label, no_link_absent, got-Some, got-None, may_have-has, may_lack-has}
 
 -- the value of what holds one
 abbrev value_in : Content → Value

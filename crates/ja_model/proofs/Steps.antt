@@ -7,6 +7,7 @@ use Rattle.ja_base.specs.declared.ids.Reg.{Reg}
 use Rattle.ja_base.specs.declared.ids.Site.{Site}
 use Rattle.ja_prim.specs.declared.primitive.Primitive.{Primitive}
 use Rattle.ja_prim.specs.declared.primitive.Primitive.TheVariants as primitive
+use Rattle.ja_prim.specs.Texts.{is_short}
 use Rattle.ja_graph.specs.declared.node.Args.{Args}
 use Rattle.ja_graph.specs.declared.node.Node.{Node}
 use Rattle.ja_graph.specs.declared.node.Node.TheVariants.{Const, FindName, ReadRef, WriteRef, Call, Return, Escape}
@@ -15,7 +16,6 @@ use Rattle.ja_graph.specs.declared.program.Program.{Program}
 use Rattle.ja_graph.specs.Kinds.{is_built}
 use Rattle.ja_graph.specs.Program.{global, reference_error_prototype, type_error_prototype}
 use Rattle.ja_graph.specs.WellFormed.{IsWellFormed, IsDestination, IsRegister, IsName, fixed_registers}
-use Rattle.ja_prim.specs.Texts.{is_short}
 use Rattle.ja_machine.specs.declared.machine.Addr.{Addr}
 use Rattle.ja_machine.specs.declared.machine.Value.{Value}
 use Rattle.ja_machine.specs.declared.machine.Value.TheVariants as value
@@ -39,25 +39,33 @@ use Rattle.ja_machine.specs.Machine.{opening_heap}
 use Rattle.ja_machine.specs.State.{IsHeap, IsObjectOf, IsValueOf, IsFrame, IsState}
 use Rattle.ja_machine.proofs.Lists.{slice_get-set_same, is_some_from}
 use Rattle.ja_machine.proofs.Growing.{IsNodeSite}
-use Rattle.ja_model.specs.declared.abstraction.Key.TheVariants as key
-use Rattle.ja_model.specs.AbstractValue.{AbstractValue, Labels, of_primitive, has_part}
-use Rattle.ja_model.specs.AbstractState.{AbstractState, new, labels_of, same_key, with_register}
+use Rattle.ja_abstract.specs.declared.abstraction.Key.TheVariants as key
+use Rattle.ja_abstract.specs.AbstractValue.{AbstractValue, Labels, of_primitive, has_part}
+use Rattle.ja_abstract.specs.AbstractState.{AbstractState, new, labels_of, same_key, with_register}
+use Rattle.ja_abstract.specs.Keys.{Spot, named, internal, key_of}
+use Rattle.ja_abstract.specs.Contents.{label_of}
+use Rattle.ja_abstract.specs.Resolved.{IsFilled}
+use Rattle.ja_abstract.proofs.Lists.{member-append_left, member-append_right}
+use Rattle.ja_abstract.proofs.Labels
+use Rattle.ja_abstract.proofs.Keys.{key_of-name, same_key_from, text_of_key}
+use Rattle.ja_abstract.proofs.Labels.{same_label_from}
+use Rattle.ja_abstract.proofs.Parts.{of_primitive_has}
+use Rattle.ja_meaning.specs.Meaning.{EntriesHold, has_value, Grows}
+use Rattle.ja_meaning.proofs.Builtins.{global_fits, reference_error_fits, type_error_fits}
+use Rattle.ja_meaning.proofs.Contents
+use Rattle.ja_meaning.proofs.Parts.{has_part-has_value}
+use Rattle.ja_meaning.proofs.Putting.{IsBase, put_at_object, write_by}
+use Rattle.ja_meaning.proofs.Frames.{register_of_heap}
 use Rattle.ja_model.specs.Reading.{View, found, demands_of_walk}
 use Rattle.ja_model.specs.Transfer.{view_of, sets, throws, read_value, with_error, written_labels, put, uncalled_part}
-use Rattle.ja_model.specs.Meaning.{Spot, named, internal, Holds, EntriesHold, label_of, key_of, has_value}
+use Rattle.ja_model.specs.Meaning.{Holds}
 use Rattle.ja_model.specs.Table.{Table, root}
-use Rattle.ja_model.proofs.Interface.{Grows, IsRead, IsFilled}
-use Rattle.ja_model.proofs.Lists.{member-append_left, member-append_right}
-use Rattle.ja_model.proofs.Nodes.{HasNodeSites, read_site, call_site, IsNodeInRange, global_fits, reference_error_fits, type_error_fits}
-use Rattle.ja_model.proofs.Contents
-use Rattle.ja_model.proofs.Keys.{key_of-name, same_key_from}
-use Rattle.ja_model.proofs.Labels.{same_label_from}
-use Rattle.ja_model.proofs.Parts.{has_value-uncalled, has_part-has_value}
-use Rattle.ja_model.proofs.Putting.{IsBase, put_at_object, write_by}
+use Rattle.ja_model.proofs.Interface.{IsRead}
+use Rattle.ja_model.proofs.Nodes.{HasNodeSites, read_site, call_site, IsNodeInRange}
+use Rattle.ja_model.proofs.Parts.{has_value-uncalled}
 use Rattle.ja_model.proofs.Searches.{filled_walk, read_value-read, found-find_name}
-use Rattle.ja_model.proofs.Entered.{of_primitive_has, text_of_key}
 use Rattle.ja_model.proofs.Closed.{HasWithin, IsSettled}
-use Rattle.ja_model.proofs.Frames.{IsProgramFrame, IsHeld, OnNext, OnStep, frame_of, held_next, register_has, register_of_heap, registers_are, holds_with_result}
+use Rattle.ja_model.proofs.Frames.{IsProgramFrame, IsHeld, OnNext, OnStep, frame_of, held_next, register_has, registers_are, holds_with_result}
 use Rattle.ja_model.proofs.Made.{holds_with_error}
 use Rattle.ja_model.proofs.Written.{member_gives, IsPut, refused_holds, put_holds}
 
@@ -270,7 +278,7 @@ module _ (p : Program) (good : IsWellFormed p) (t : Table)
   global_label : new global ≡ label_of c.heap (first_of global)
   global_label =
       let one : count c.heap global ≡ 1 = known.heap.opening global (global_fits p good) in
-      sym (Contents.same_parts (label_of c.heap (first_of global)) (new global) refl
+      sym (Labels.same_parts (label_of c.heap (first_of global)) (new global) refl
       (Contents.label_is_new c.heap (first_of global) (omega arith)))
 
   -- the object at which a name is written is one that the state allows

@@ -46,9 +46,10 @@ use Rattle.ja_machine.specs.Machine.{program_function, opening_frame, opening_st
 use Rattle.ja_machine.specs.State.{IsHeap, IsValueOf, IsFrame, IsState}
 use Rattle.ja_machine.specs.Runs.{AreStates}
 use Rattle.ja_machine.proofs.Lists.{either_way, all_left, all_right, all_unmap}
+use Rattle.ja_meaning.proofs.Frames.{register_of_heap}
+use Rattle.ja_meaning.proofs.Putting.{put_at_object, write_by}
 use Rattle.ja_model.proofs.Nodes.{HasNodeSites, read_site, call_site, IsNodeInRange, node_of_text, in_range_at, sites_at}
-use Rattle.ja_model.proofs.Frames.{OnNext, OnStep, on_event, frame_of, register_of_heap, registers_are, of_missing}
-use Rattle.ja_model.proofs.Putting.{put_at_object, write_by}
+use Rattle.ja_model.proofs.Frames.{OnNext, OnStep, on_event, frame_of, registers_are, of_missing}
 use Rattle.ja_model.proofs.Plain.{IsPlainValue, IsTextOfName, LeadsToPlain, plain_uncalled, read_plain, found_plain, plain_written, plain_made, plain_opening}
 
 -- the state has one frame, of the text; what its registers hold is plain, and so is what plain

@@ -20,22 +20,28 @@ use Rattle.ja_machine.specs.Writes.{object_with_value}
 use Rattle.ja_machine.specs.Frames.{moved_to}
 use Rattle.ja_machine.specs.State.{IsObjectOf}
 use Rattle.ja_machine.proofs.Heaps
-use Rattle.ja_model.specs.declared.abstraction.Key.{Key}
-use Rattle.ja_model.specs.AbstractValue.{Labels, AbstractValue, AbstractProperty, same_label, join_properties}
-use Rattle.ja_model.specs.AbstractState.{AbstractState, labels_of, same_key, with_property}
-use Rattle.ja_model.specs.Reading.{View, Entries, demands_of, demands_of_walk, next_prototype, asked, may_be_absent, may_accept, may_refuse, prototype}
+use Rattle.ja_abstract.specs.declared.abstraction.Key.{Key}
+use Rattle.ja_abstract.specs.AbstractValue.{Labels, AbstractValue, AbstractProperty, same_label, join_properties}
+use Rattle.ja_abstract.specs.AbstractState.{AbstractState, labels_of, same_key, with_property}
+use Rattle.ja_abstract.specs.Resolved.{Entries, demands_of, prototype, IsFilled}
+use Rattle.ja_abstract.specs.Contents.{SpotContent, missing, held, present, present_row, content, label_of}
+use Rattle.ja_abstract.specs.Keys.{Spot, named, key_of}
+use Rattle.ja_abstract.specs.Parts.{allows_attrs}
+use Rattle.ja_abstract.proofs.Lists.{Member, member-append_left, member-append_right, list_any-filter}
+use Rattle.ja_abstract.proofs.Keys.{same_key-true, same_key_from}
+use Rattle.ja_abstract.proofs.Labels.{same_label-true, same_label-self, same_label_from}
+use Rattle.ja_abstract.proofs.Joins.{and_three}
+use Rattle.ja_abstract.proofs.Rounds.{reached-start}
+use Rattle.ja_meaning.specs.Meaning.{has_value, knows}
+use Rattle.ja_meaning.proofs.Contents
+use Rattle.ja_meaning.proofs.Contents.{attrs_after, label_of-new}
+use Rattle.ja_meaning.proofs.Values.{knows-join_right}
+use Rattle.ja_model.specs.Reading.{View, demands_of_walk, next_prototype, asked, may_be_absent, may_accept, may_refuse}
 use Rattle.ja_model.specs.Transfer.{view_of, gives, written_attrs, written, strong_put, weakly_written, weak_put, put_at, put}
-use Rattle.ja_model.specs.Meaning.{SpotContent, missing, held, present, present_row, Spot, named, content, label_of, key_of, has_value, knows, allows_attrs, Holds}
-use Rattle.ja_model.proofs.Interface.{IsFilled, IsRead}
-use Rattle.ja_model.proofs.Lists.{Member, member-append_left, member-append_right, list_any-filter}
-use Rattle.ja_model.proofs.Contents
-use Rattle.ja_model.proofs.Contents.{attrs_after}
-use Rattle.ja_model.proofs.Keys.{same_key-true, same_key_from}
-use Rattle.ja_model.proofs.Labels.{same_label-true, same_label-self, same_label_from}
-use Rattle.ja_model.proofs.Values.{and_three, knows-join_right}
-use Rattle.ja_model.proofs.Rounds.{reached-start}
+use Rattle.ja_model.specs.Meaning.{Holds}
+use Rattle.ja_model.proofs.Interface.{IsRead}
 use Rattle.ja_model.proofs.Walks.{some_label-object, may_accept-can_put, may_refuse-can_put}
-use Rattle.ja_model.proofs.Attributes.{label_of-new, written_attrs-Some, written_attrs-None}
+use Rattle.ja_model.proofs.Attributes.{written_attrs-Some, written_attrs-None}
 use Rattle.ja_model.proofs.Made.{Tells, join_tells_left}
 
 -- a state that is given

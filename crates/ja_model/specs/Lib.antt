@@ -1,5 +1,3 @@
-pub mod AbstractState
-pub mod AbstractValue
 pub mod Faults
 pub mod Meaning
 pub mod Reading

@@ -6,10 +6,11 @@ use Rattle.ja_machine.specs.declared.machine.Answer.{Answer}
 use Rattle.ja_machine.specs.declared.machine.Frame.{Frame}
 use Rattle.ja_machine.specs.declared.machine.Conf.{Conf}
 use Rattle.ja_machine.specs.Machine.{state_of, earlier_state}
+use Rattle.ja_abstract.specs.AbstractState.{AbstractState}
+use Rattle.ja_meaning.specs.Meaning.{EntriesHold, context_of}
 use Rattle.ja_model.specs.declared.table.Warning.{Warning}
 use Rattle.ja_model.specs.declared.table.WarningKind.{WarningKind}
-use Rattle.ja_model.specs.AbstractState.{AbstractState}
-use Rattle.ja_model.specs.Meaning.{Holds, EntriesHold, context_of}
+use Rattle.ja_model.specs.Meaning.{Holds}
 use Rattle.ja_model.specs.Table.{Table}
 use Rattle.ja_model.specs.Warning.{fault_of}
 

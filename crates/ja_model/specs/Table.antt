@@ -7,13 +7,14 @@ use Rattle.ja_graph.specs.declared.node.NodeInfo.{NodeInfo}
 use Rattle.ja_graph.specs.declared.program.Program.{Program}
 use Rattle.ja_graph.specs.Program.{node_at, global}
 use Rattle.ja_machine.specs.Machine.{program_function}
+use Rattle.ja_abstract.specs.AbstractValue.{AbstractProperty, same_label, no_property, join_properties}
+use Rattle.ja_abstract.specs.AbstractState.{AbstractState, new, entry_state, join_states}
+use Rattle.ja_abstract.specs.Resolved.{Entries, Demands}
+use Rattle.ja_abstract.specs.Contents.{opened}
+use Rattle.ja_abstract.specs.Order.{LeqState}
 use Rattle.ja_model.specs.declared.table.Item.{Item}
 use Rattle.ja_model.specs.declared.table.Item.TheVariants.{Open, Step}
-use Rattle.ja_model.specs.AbstractValue.{AbstractProperty, same_label, no_property, join_properties}
-use Rattle.ja_model.specs.AbstractState.{AbstractState, new, entry_state, join_states}
-use Rattle.ja_model.specs.Reading.{Entries, Demands}
 use Rattle.ja_model.specs.Transfer.{Out, transfer}
-use Rattle.ja_model.specs.Meaning.{opened, LeqState}
 
 pub record Table : Type 0 where
   pub state : Context → ℕ → Option AbstractState

@@ -7,23 +7,24 @@ use Rattle.ja_base.specs.declared.ids.NodeId.{NodeId}
 use Rattle.ja_base.specs.declared.ids.Reg.{Reg}
 use Rattle.ja_base.specs.declared.ids.Site.{Site}
 use Rattle.ja_prim.specs.declared.primitive.Primitive.TheVariants as primitive
+use Rattle.ja_prim.specs.Texts.{is_short}
 use Rattle.ja_graph.specs.declared.node.Node.{Node}
 use Rattle.ja_graph.specs.declared.node.Node.TheVariants as node
 use Rattle.ja_graph.specs.declared.node.NodeInfo.{NodeInfo}
 use Rattle.ja_graph.specs.declared.program.Program.{Program}
 use Rattle.ja_graph.specs.declared.program.SiteInfo.{SiteInfo}
 use Rattle.ja_graph.specs.Program.{global, reference_error_prototype, type_error_prototype, message}
-use Rattle.ja_prim.specs.Texts.{is_short}
 use Rattle.ja_machine.specs.Heap.{no_attrs}
 use Rattle.ja_machine.specs.Frames.{thrown, scope}
 use Rattle.ja_machine.specs.Events.{unbound_message, not_a_function_message}
 use Rattle.ja_machine.specs.Nodes.{name_text}
-use Rattle.ja_model.specs.declared.abstraction.AAttrs.{AAttrs}
-use Rattle.ja_model.specs.declared.abstraction.Key.{Key}
-use Rattle.ja_model.specs.declared.abstraction.Key.TheVariants as key
-use Rattle.ja_model.specs.AbstractValue.{Labels, AbstractValue, AbstractProperty, same_label, no_value, of_label, of_primitive, has_part, join_attrs, unknown_attrs, of_attrs, bare, join_properties}
-use Rattle.ja_model.specs.AbstractState.{AbstractState, new, labels_of, same_key, with_register, with_property, with_made}
-use Rattle.ja_model.specs.Reading.{Entries, Demands, View, prototype, own, may_be_absent, may_be_present, some_label, may_refuse, may_accept, got, join_values, found, demands_of_walk, demands_of_search}
+use Rattle.ja_abstract.specs.declared.abstraction.AAttrs.{AAttrs}
+use Rattle.ja_abstract.specs.declared.abstraction.Key.{Key}
+use Rattle.ja_abstract.specs.declared.abstraction.Key.TheVariants as key
+use Rattle.ja_abstract.specs.AbstractValue.{Labels, AbstractValue, AbstractProperty, same_label, no_value, of_label, of_primitive, has_part, join_attrs, unknown_attrs, of_attrs, bare, join_properties}
+use Rattle.ja_abstract.specs.AbstractState.{AbstractState, new, labels_of, same_key, with_register, with_property, with_made}
+use Rattle.ja_abstract.specs.Resolved.{Entries, Demands, prototype, join_values}
+use Rattle.ja_model.specs.Reading.{View, own, may_be_absent, may_be_present, some_label, may_refuse, may_accept, got, found, demands_of_walk, demands_of_search}
 
 -- the states that a node gives, each with the number of the node that it goes to, and the pairs
 -- that it demands

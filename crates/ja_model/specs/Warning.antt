@@ -18,11 +18,11 @@ use Rattle.ja_machine.specs.declared.machine.Frame.{Frame}
 use Rattle.ja_machine.specs.declared.machine.Conf.{Conf}
 use Rattle.ja_machine.specs.Frames.{register_of}
 use Rattle.ja_machine.specs.Calls.{function_called}
+use Rattle.ja_abstract.specs.AbstractValue.{has_part}
+use Rattle.ja_abstract.specs.AbstractState.{AbstractState, labels_of}
 use Rattle.ja_model.specs.declared.table.WarningKind.{WarningKind}
 use Rattle.ja_model.specs.declared.table.WarningKind.TheVariants.{NotAFunction, UnboundName}
 use Rattle.ja_model.specs.declared.table.Warning.{Warning}
-use Rattle.ja_model.specs.AbstractValue.{has_part}
-use Rattle.ja_model.specs.AbstractState.{AbstractState, labels_of}
 use Rattle.ja_model.specs.Transfer.{called_labels, uncalled_part}
 use Rattle.ja_model.specs.Table.{Table}
 

@@ -6,10 +6,8 @@
 //! what goes wrong in a run is what throws (`faults_throw`). `specs/Sound.antt` states the theorem.
 #![tactic(auto)]
 
-mod abstraction;
 mod laws;
 mod table;
 
-pub use abstraction::{AAttrs, Flags, Key, Mask, May, NumberPart, Slot, TextPart};
 pub use laws::{closed_covers, faults_throw, warned_of_faults};
 pub use table::{Item, Warning, WarningKind};

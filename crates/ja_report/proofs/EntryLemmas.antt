@@ -5,10 +5,10 @@ use Rattle.std.proofs.lemmas.List.{take_all, length-append, length-map}
 use Rattle.std.proofs.lemmas.List.Concat.{flat_map-append}
 use Rattle.ja_base.specs.declared.ids.Label.{Label}
 use Rattle.ja_graph.specs.declared.program.Program.{Program}
-use Rattle.ja_model.specs.declared.abstraction.Key.{Key}
-use Rattle.ja_model.specs.AbstractValue.{AbstractProperty}
-use Rattle.ja_model.specs.AbstractState.{labels_of, labels_below, keys_of, keys_below}
-use Rattle.ja_model.specs.Reading.{Entries}
+use Rattle.ja_abstract.specs.declared.abstraction.Key.{Key}
+use Rattle.ja_abstract.specs.AbstractValue.{AbstractProperty}
+use Rattle.ja_abstract.specs.AbstractState.{labels_of, labels_below, keys_of, keys_below}
+use Rattle.ja_abstract.specs.Resolved.{Entries}
 use Rattle.ja_state.specs.State.{pairs_of}
 use Rattle.ja_report.specs.declared.output.Output.{Output}
 use Rattle.ja_report.specs.Lines.{Line, entry, entry_line, entry_lines}

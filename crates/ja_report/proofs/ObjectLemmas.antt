@@ -10,10 +10,10 @@ use Rattle.ja_base.specs.declared.ids.Site.{Site}
 use Rattle.ja_graph.specs.declared.program.Program.{Program}
 use Rattle.ja_machine.specs.Frames.{registers_of}
 use Rattle.ja_machine.specs.Machine.{program_function}
-use Rattle.ja_model.specs.declared.abstraction.Key.{Key}
-use Rattle.ja_model.specs.declared.abstraction.Mask.{Mask}
-use Rattle.ja_model.specs.AbstractValue.{AbstractValue, AbstractProperty, entry_property, no_labels}
-use Rattle.ja_model.specs.AbstractState.{labels_of, labels_below, keys_of, sites_below, label_number}
+use Rattle.ja_abstract.specs.declared.abstraction.Key.{Key}
+use Rattle.ja_abstract.specs.declared.abstraction.Mask.{Mask}
+use Rattle.ja_abstract.specs.AbstractValue.{AbstractValue, AbstractProperty, entry_property, no_labels}
+use Rattle.ja_abstract.specs.AbstractState.{labels_of, labels_below, keys_of, sites_below, label_number}
 use Rattle.ja_state.specs.declared.object.AObject.{AObject}
 use Rattle.ja_state.specs.declared.state.AState.{AState}
 use Rattle.ja_state.specs.State.{object_of, property_at, register_at, mask_at, state_of, is_listed, is_masked}

@@ -11,13 +11,13 @@ use Rattle.ja_graph.specs.declared.program.Program.{Program}
 use Rattle.ja_graph.specs.Program.{nodes_of}
 use Rattle.ja_machine.specs.Frames.{registers_of}
 use Rattle.ja_machine.specs.Machine.{program_function}
-use Rattle.ja_model.specs.declared.abstraction.May.{May}
-use Rattle.ja_model.specs.declared.abstraction.AAttrs.{AAttrs}
-use Rattle.ja_model.specs.declared.abstraction.Mask.{Mask}
-use Rattle.ja_model.specs.declared.abstraction.Key.{Key}
-use Rattle.ja_model.specs.AbstractValue.{AbstractValue, AbstractProperty, has_part}
-use Rattle.ja_model.specs.AbstractState.{AbstractState, sites_below, labels_of, keys_of}
-use Rattle.ja_model.specs.Reading.{Entries}
+use Rattle.ja_abstract.specs.declared.abstraction.May.{May}
+use Rattle.ja_abstract.specs.declared.abstraction.AAttrs.{AAttrs}
+use Rattle.ja_abstract.specs.declared.abstraction.Mask.{Mask}
+use Rattle.ja_abstract.specs.declared.abstraction.Key.{Key}
+use Rattle.ja_abstract.specs.AbstractValue.{AbstractValue, AbstractProperty, has_part}
+use Rattle.ja_abstract.specs.AbstractState.{AbstractState, sites_below, labels_of, keys_of}
+use Rattle.ja_abstract.specs.Resolved.{Entries}
 use Rattle.ja_model.specs.Table.{Table, root}
 use Rattle.ja_report.specs.Texts.{key_text, site_text, label_text, register_text, value_labels, value_text, attrs_text}
 

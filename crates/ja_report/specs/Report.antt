@@ -15,7 +15,7 @@ use Rattle.ja_model.specs.declared.table.Item.TheVariants.{Open, Step}
 use Rattle.ja_model.specs.declared.table.WarningKind.{WarningKind}
 use Rattle.ja_model.specs.declared.table.WarningKind.TheVariants.{NotAFunction, UnboundName}
 use Rattle.ja_model.specs.declared.table.Warning.{Warning}
-use Rattle.ja_model.specs.AbstractState.{site_of}
+use Rattle.ja_abstract.specs.AbstractState.{site_of}
 use Rattle.ja_model.specs.Table.{Table, root}
 use Rattle.ja_report.specs.Texts.{builtin_of, device_of, numbered_site, label_text, part, joined}
 use Rattle.ja_texts.specs.Texts.{place_text, plain, class_text}

@@ -12,19 +12,19 @@ use Rattle.ja_graph.specs.declared.builtins.TheConstants.{BUILTIN_CLASSES}
 use Rattle.ja_graph.specs.declared.program.Program.{Program}
 use Rattle.ja_graph.specs.declared.program.SiteInfo.{SiteInfo}
 use Rattle.ja_machine.specs.Nodes as machine
-use Rattle.ja_model.specs.declared.abstraction.Flags.{Flags}
-use Rattle.ja_model.specs.declared.abstraction.NumberPart.{NumberPart}
-use Rattle.ja_model.specs.declared.abstraction.NumberPart.TheVariants as number_part
-use Rattle.ja_model.specs.declared.abstraction.TextPart.{TextPart}
-use Rattle.ja_model.specs.declared.abstraction.TextPart.TheVariants as text_part
-use Rattle.ja_model.specs.declared.abstraction.May.{May}
-use Rattle.ja_model.specs.declared.abstraction.AAttrs.{AAttrs}
-use Rattle.ja_model.specs.declared.abstraction.Slot.{Slot}
-use Rattle.ja_model.specs.declared.abstraction.Slot.TheVariants as slot
-use Rattle.ja_model.specs.declared.abstraction.Key.{Key}
-use Rattle.ja_model.specs.declared.abstraction.Key.TheVariants as key
-use Rattle.ja_model.specs.AbstractValue.{AbstractValue}
-use Rattle.ja_model.specs.AbstractState.{labels_of}
+use Rattle.ja_abstract.specs.declared.abstraction.Flags.{Flags}
+use Rattle.ja_abstract.specs.declared.abstraction.NumberPart.{NumberPart}
+use Rattle.ja_abstract.specs.declared.abstraction.NumberPart.TheVariants as number_part
+use Rattle.ja_abstract.specs.declared.abstraction.TextPart.{TextPart}
+use Rattle.ja_abstract.specs.declared.abstraction.TextPart.TheVariants as text_part
+use Rattle.ja_abstract.specs.declared.abstraction.May.{May}
+use Rattle.ja_abstract.specs.declared.abstraction.AAttrs.{AAttrs}
+use Rattle.ja_abstract.specs.declared.abstraction.Slot.{Slot}
+use Rattle.ja_abstract.specs.declared.abstraction.Slot.TheVariants as slot
+use Rattle.ja_abstract.specs.declared.abstraction.Key.{Key}
+use Rattle.ja_abstract.specs.declared.abstraction.Key.TheVariants as key
+use Rattle.ja_abstract.specs.AbstractValue.{AbstractValue}
+use Rattle.ja_abstract.specs.AbstractState.{labels_of}
 use Rattle.ja_texts.specs.Texts.{plain, units_text, quoted}
 
 -- ---- names and keys

@@ -5,7 +5,7 @@ ghost use Rattle.std.specs.List.{flat_map, list_any};
 ghost use Rattle.std.specs.Ordering.{nat_cmp};
 ghost use Rattle.std.specs.BTreeSet.{contains};
 ghost use Rattle.ja_graph.specs.WellFormed.{IsWellFormed};
-ghost use Rattle.ja_model.specs.AbstractState.{site_of};
+ghost use Rattle.ja_abstract.specs.AbstractState.{site_of};
 ghost use Rattle.ja_report.specs.Texts.{builtin_of};
 ghost use Rattle.ja_report.specs.code.Texts.{with_bars};
 ghost use Rattle.ja_report.specs.Report.{kind_parts, kinds_text, device_line, devices_text, kind_text, certainty_text, warning_text, warnings_text, context_text, item_text, visits_text, info_text, is_text_site, site_line, named_sites, sites_text};

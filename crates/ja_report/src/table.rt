@@ -3,7 +3,7 @@
 ghost use Rattle.std.specs.Prelude.{◌≡◌, ◌<◌, [], ◌∷◌, OnOk, IfOk, length, vec_len};
 ghost use Rattle.ja_base.specs.declared.ids.Label.{Label};
 ghost use Rattle.ja_graph.specs.WellFormed.{IsWellFormed};
-ghost use Rattle.ja_model.specs.AbstractState.{keys_below, keys_of};
+ghost use Rattle.ja_abstract.specs.AbstractState.{keys_below, keys_of};
 ghost use Rattle.ja_value.specs.Value.{property_of};
 ghost use Rattle.ja_state.specs.State.{entries_of};
 ghost use Rattle.ja_rules.specs.Readings.{table_of, Fits};
@@ -15,7 +15,7 @@ use crate::output::Output;
 use crate::values::site_count;
 use ja_base::{Label, Memory, NameId};
 use ja_graph::Program;
-use ja_model::{Key, Slot};
+use ja_abstract::{Key, Slot};
 use ja_rules::ATable;
 use ja_state::DemandedEntries;
 use ja_value::AProp;

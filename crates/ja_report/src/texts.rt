@@ -9,7 +9,7 @@ ghost use Rattle.ja_report.specs.Texts.{is_name_unit, is_bare, name_text, slot_t
 
 use ja_base::{Label, Memory, Site};
 use ja_graph::{BUILTIN_CLASSES, Program};
-use ja_model::{AAttrs, Key, May, Slot};
+use ja_abstract::{AAttrs, Key, May, Slot};
 use ja_prim::Signature;
 use ja_texts::{push_number, push_plain, push_quoted, push_units};
 

@@ -2,7 +2,7 @@
 
 ghost use Rattle.std.specs.Prelude.{◌≡◌, ◌++◌, [], ◌∷◌, OnOk, List, ℕ, length, map, filter};
 ghost use Rattle.ja_graph.specs.WellFormed.{IsWellFormed};
-ghost use Rattle.ja_model.specs.AbstractState.{labels_of};
+ghost use Rattle.ja_abstract.specs.AbstractState.{labels_of};
 ghost use Rattle.ja_value.specs.Value.{labels_in, value_of};
 ghost use Rattle.ja_report.specs.Texts.{part, property_parts, primitive_parts, number_parts, text_parts, value_parts, joined, label_text, value_text};
 ghost use Rattle.ja_report.specs.code.Texts.{with_bars};
@@ -12,7 +12,7 @@ use crate::output::Output;
 use crate::texts::push_label;
 use ja_base::{Label, Memory};
 use ja_graph::Program;
-use ja_model::{Flags, NumberPart, TextPart};
+use ja_abstract::{Flags, NumberPart, TextPart};
 use ja_texts::{push_quoted, push_signed};
 use ja_value::{AValue, LabelSet};
 use std::alloc::Global;

@@ -16,11 +16,12 @@ use Rattle.ja_graph.specs.WellFormed.{IsWellFormed, node_count}
 use Rattle.ja_model.specs.declared.table.Item.{Item}
 use Rattle.ja_model.specs.declared.table.Item.TheVariants.{Open, Step}
 use Rattle.ja_machine.specs.Machine.{program_function}
-use Rattle.ja_model.specs.AbstractState.{AbstractState, entry_state}
-use Rattle.ja_model.specs.Meaning.{LeqState}
+use Rattle.ja_abstract.specs.AbstractState.{AbstractState, entry_state}
+use Rattle.ja_abstract.specs.Order.{LeqState}
 use Rattle.ja_model.specs.Transfer.{Out, transfer}
 use Rattle.ja_model.specs.Table.{Table, root, same_context, opening_table, with_demands, with_out, visited, IsItem, HasOpening, Builds, IsBuilt}
-use Rattle.ja_model.proofs.Order.{LeqTable, LeqOptionState, table_same, table_both, with_states-leq, with_demands-leq, visit_open-leq}
+use Rattle.ja_model.proofs.Order.{LeqTable, table_same, table_both, with_states-leq, with_demands-leq, visit_open-leq}
+use Rattle.ja_abstract.proofs.Order.{LeqOptionState}
 use Rattle.ja_state.specs.declared.state.AState.{AState}
 use Rattle.ja_state.specs.State.{state_of}
 use Rattle.ja_rules.specs.declared.table.ATable.{ATable}

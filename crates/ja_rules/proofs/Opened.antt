@@ -27,15 +27,17 @@ use Rattle.ja_machine.specs.Objects.{first_of}
 use Rattle.ja_machine.specs.Nodes.{name_text}
 use Rattle.ja_machine.specs.Machine.{opening_content, opening_property, opening_object, opening_heap}
 use Rattle.ja_machine.proofs.Opening.{IsOpened, objects-opening, opened_at_address, count-opening}
-use Rattle.ja_model.specs.declared.abstraction.Slot.{Slot}
-use Rattle.ja_model.specs.declared.abstraction.Slot.TheVariants as slot
-use Rattle.ja_model.specs.declared.abstraction.Key.{Key}
-use Rattle.ja_model.specs.declared.abstraction.Key.TheVariants as key
-use Rattle.ja_model.specs.AbstractValue.{AbstractProperty, no_value, unknown_attrs, no_property, bare, of_label, of_attrs}
-use Rattle.ja_model.specs.AbstractState.{new, is_key}
-use Rattle.ja_model.specs.Meaning.{missing, named, internal, object_content, content_of, property_content, held_address, held_primitive, label_of, of_content, key_content, opened_at, opened}
-use Rattle.ja_model.proofs.Contents
-use Rattle.ja_model.proofs.Nodes.{site_before}
+use Rattle.ja_abstract.specs.declared.abstraction.Slot.{Slot}
+use Rattle.ja_abstract.specs.declared.abstraction.Slot.TheVariants as slot
+use Rattle.ja_abstract.specs.declared.abstraction.Key.{Key}
+use Rattle.ja_abstract.specs.declared.abstraction.Key.TheVariants as key
+use Rattle.ja_abstract.specs.AbstractValue.{AbstractProperty, no_value, unknown_attrs, no_property, bare, of_label, of_attrs}
+use Rattle.ja_abstract.specs.AbstractState.{new, is_key}
+use Rattle.ja_abstract.specs.Contents.{missing, object_content, content_of, property_content, held_address, held_primitive, label_of, of_content, key_content, opened_at, opened}
+use Rattle.ja_abstract.specs.Keys.{named, internal}
+use Rattle.ja_abstract.proofs.Texts
+use Rattle.ja_meaning.proofs.Contents
+use Rattle.ja_meaning.proofs.Builtins.{site_before}
 use Rattle.ja_value.specs.declared.property.AProp.{AProp}
 use Rattle.ja_value.specs.Value.{value_of, property_of}
 use Rattle.ja_rules.specs.Readings.{value_given, property_given, object_given, primitive_given, slot_property, opened_property}
@@ -105,10 +107,10 @@ module _ (p : Program) (good : IsWellFormed p) where
       elim (cases_Bool (m.0 == n.0)) [
         | inl t ↦ subst (λ u. same_text (name_text p m) u ≡ true)
             (ap (λ i. unwrap_or (slice_get p.names i) []) (eqb-true m.0 n.0 t))
-            (Contents.same_text_refl (name_text p m)) ∙ sym t
+            (Texts.same_text_refl (name_text p m)) ∙ sym t
         | inr f ↦ false_from_ne_true _ (λ e. let same : m.0
             ≡ n.0 = good.distinct m.0 n.0 (name_text p n)
-            (named_at m g ∙ ap Some (Contents.text_same _ _ e)) (named_at n h) in
+            (named_at m g ∙ ap Some (Texts.text_same _ _ e)) (named_at n h) in
             true≢false (sym (grind (arith, same)) ∙ f)) ∙ sym f
       ]
 

@@ -19,7 +19,7 @@ use Rattle.ja_machine.specs.Machine.{program_function}
 use Rattle.ja_model.specs.declared.table.Warning.{Warning}
 use Rattle.ja_model.specs.declared.table.WarningKind.{WarningKind}
 use Rattle.ja_model.specs.declared.table.WarningKind.TheVariants.{NotAFunction, UnboundName}
-use Rattle.ja_model.specs.AbstractState.{AbstractState}
+use Rattle.ja_abstract.specs.AbstractState.{AbstractState}
 use Rattle.ja_model.specs.Table.{Table, root}
 use Rattle.ja_model.specs.Warning.{kind_of, kind_number, allows_fault, allows_more, IsReached, IsBefore, AreOrdered, IsWarned, AreWarnings}
 use Rattle.ja_rules.specs.declared.faults.Operation.{Operation}

@@ -22,15 +22,16 @@ use Rattle.ja_machine.specs.Frames.{registers_of, scope}
 use Rattle.ja_machine.specs.Events.{unbound_message, not_a_function_message}
 use Rattle.ja_machine.specs.Nodes.{name_text}
 use Rattle.ja_machine.specs.Machine.{program_function}
-use Rattle.ja_model.specs.declared.abstraction.Key.{Key}
-use Rattle.ja_model.specs.declared.abstraction.Key.TheVariants as key
-use Rattle.ja_model.specs.AbstractValue.{Labels, AbstractValue, AbstractProperty, of_primitive, has_part}
-use Rattle.ja_model.specs.AbstractState.{AbstractState, same_key, is_key, with_register, with_property}
-use Rattle.ja_model.specs.Reading.{Demands, Entries, View, some_label, found, may_refuse, may_accept, demands_of, prototype, outer, asked, searched, may_lack, may_be_absent, demands_of_walk, demands_of_search}
+use Rattle.ja_abstract.specs.declared.abstraction.Key.{Key}
+use Rattle.ja_abstract.specs.declared.abstraction.Key.TheVariants as key
+use Rattle.ja_abstract.specs.AbstractValue.{Labels, AbstractValue, AbstractProperty, of_primitive, has_part}
+use Rattle.ja_abstract.specs.AbstractState.{AbstractState, same_key, is_key, with_register, with_property}
+use Rattle.ja_abstract.specs.Resolved.{Demands, Entries, demands_of, prototype, outer}
+use Rattle.ja_model.specs.Reading.{View, some_label, found, may_refuse, may_accept, asked, searched, may_lack, may_be_absent, demands_of_walk, demands_of_search}
 use Rattle.ja_model.specs.Transfer.{Out, gives, sets, throws, with_error, put_at, weak_put, weakly_written, written, strong_put, written_labels, uncalled_part, read_value, demands_of_read, transfer, transfer_node, view_of}
 use Rattle.ja_model.specs.Table.{demanded, opened_entries}
-use Rattle.ja_model.proofs.Keys.{same_key-true}
-use Rattle.ja_model.proofs.Labels.{among_some}
+use Rattle.ja_abstract.proofs.Keys.{same_key-true}
+use Rattle.ja_abstract.proofs.Labels.{among_some}
 use Rattle.ja_model.proofs.Nodes.{IsNodeInRange, node_in_range}
 use Rattle.ja_state.specs.declared.state.AState.{AState}
 use Rattle.ja_rules.specs.declared.step.Outcome.{Outcome}

@@ -4,10 +4,10 @@ use Rattle.std.specs.List.{list_any}
 use Rattle.std.proofs.Common.{refl, sym, subst, ap, ◌∙◌, cond}
 use Rattle.std.proofs.lemmas.Bool.{true≢false}
 use Rattle.ja_base.specs.declared.ids.Label.{Label}
-use Rattle.ja_model.specs.declared.abstraction.Key.{Key}
-use Rattle.ja_model.specs.AbstractValue.{Labels, AbstractProperty, same_label}
-use Rattle.ja_model.specs.AbstractState.{AbstractState, same_key}
-use Rattle.ja_model.specs.Reading.{Demands, origins, demands_of, one_more}
+use Rattle.ja_abstract.specs.declared.abstraction.Key.{Key}
+use Rattle.ja_abstract.specs.AbstractValue.{Labels, AbstractProperty, same_label}
+use Rattle.ja_abstract.specs.AbstractState.{AbstractState, same_key}
+use Rattle.ja_abstract.specs.Resolved.{Demands, origins, demands_of, one_more}
 use Rattle.ja_rules.specs.declared.demands.DemandList.{DemandList}
 use Rattle.ja_rules.specs.Readings.{demands_in, Adds}
 use Rattle.ja_rules.specs.Walking.{demands_for, demands_over}

@@ -5,10 +5,11 @@ use Rattle.std.proofs.Common.{refl, sym, subst, ap, ◌∙◌, inl, inr}
 use Rattle.std.specs.Cmp.{both_ways}
 use Rattle.std.proofs.lemmas.Bool.{true≢false}
 use Rattle.ja_base.specs.declared.ids.Label.{Label}
-use Rattle.ja_model.specs.declared.abstraction.Key.{Key}
-use Rattle.ja_model.specs.AbstractValue.{Labels, same_label, join, of_labels, null_value, no_value}
-use Rattle.ja_model.specs.Reading.{View, asked, next_prototype, one_more, rounds, outer, may_be_absent, may_be_present, may_have, may_lack, may_accept, own, ends_at, searched, found, some_label}
-use Rattle.ja_model.proofs.Labels.{same_label-true, same_label_from}
+use Rattle.ja_abstract.specs.declared.abstraction.Key.{Key}
+use Rattle.ja_abstract.specs.AbstractValue.{Labels, same_label, join, of_labels, null_value, no_value}
+use Rattle.ja_model.specs.Reading.{View, asked, next_prototype, may_be_absent, may_be_present, may_have, may_lack, may_accept, own, ends_at, searched, found, some_label}
+use Rattle.ja_abstract.specs.Resolved.{one_more, rounds, outer}
+use Rattle.ja_abstract.proofs.Labels.{same_label-true, same_label_from}
 use Rattle.ja_value.specs.Value.{labels_in}
 use Rattle.ja_rules.specs.declared.search.Search.{Search}
 use Rattle.ja_rules.specs.Searching.{IsSearchOver, MeetsScope}

@@ -8,21 +8,22 @@ use Rattle.std.proofs.lemmas.Option.{same_Some}
 use Rattle.std.proofs.lemmas.List.{set-get_or}
 use Rattle.std.proofs.lemmas.List.Folds.{list_any-append}
 use Rattle.std.proofs.lemmas.Bool.Decides.{nat_tests}
-use Rattle.ja_model.specs.AbstractState.{AbstractState, same_key}
+use Rattle.ja_abstract.specs.AbstractState.{AbstractState, same_key}
 use Rattle.ja_model.specs.Table.{joined_state, demanded}
 use Rattle.ja_state.specs.declared.state.AState.{AState}
 use Rattle.ja_state.specs.declared.entries.DemandedEntries.{DemandedEntries}
 use Rattle.ja_state.specs.State.{state_of, entries_of, IsEntryAt}
 use Rattle.ja_value.specs.declared.property.AProp.{AProp}
 use denote.Ref.{Bor}
-use Rattle.ja_model.proofs.Keys.{same_key-true}
-use Rattle.ja_model.proofs.Labels.{same_label-true}
-use Rattle.ja_model.proofs.Order.{LeqOptionState, option_state_same, option_state_both, option_state_equal, given-leq, LeqEntries, demanded-leq}
+use Rattle.ja_abstract.proofs.Keys.{same_key-true}
+use Rattle.ja_abstract.proofs.Labels.{same_label-true}
+use Rattle.ja_abstract.proofs.Order.{LeqOptionState, option_state_same, option_state_both, option_state_equal, LeqEntries}
+use Rattle.ja_model.proofs.Order.{given-leq, demanded-leq}
 use Rattle.ja_base.specs.declared.ids.Label.{Label}
 use Rattle.ja_base.specs.declared.ids.NodeId.{NodeId}
-use Rattle.ja_model.specs.declared.abstraction.Key.{Key}
-use Rattle.ja_model.specs.Reading.{Demands, Entries}
-use Rattle.ja_model.specs.AbstractValue.{AbstractProperty, no_property, same_label}
+use Rattle.ja_abstract.specs.declared.abstraction.Key.{Key}
+use Rattle.ja_abstract.specs.Resolved.{Demands, Entries}
+use Rattle.ja_abstract.specs.AbstractValue.{AbstractProperty, no_property, same_label}
 use Rattle.std.specs.List.{list_all, list_any, remove, AllByRecursion}
 use Rattle.ja_rules.specs.Readings.{states_in, with_given, with_all_given, given_by, HaveRegisters, HaveSameRegisters, is_pair}
 

@@ -6,11 +6,12 @@ use Rattle.ja_base.specs.declared.ids.NodeId.{NodeId}
 use Rattle.ja_base.specs.declared.ids.Site.{Site}
 use Rattle.ja_graph.specs.Program.{global, message}
 use Rattle.ja_machine.specs.Frames.{thrown}
-use Rattle.ja_model.specs.declared.abstraction.Key.{Key}
-use Rattle.ja_model.specs.declared.abstraction.Key.TheVariants as key
-use Rattle.ja_model.specs.AbstractValue.{Labels, AbstractValue, AbstractProperty, same_label, of_label, bare}
-use Rattle.ja_model.specs.AbstractState.{AbstractState, new, with_register, with_property, with_made}
-use Rattle.ja_model.specs.Reading.{View, Demands, prototype, may_refuse}
+use Rattle.ja_abstract.specs.declared.abstraction.Key.{Key}
+use Rattle.ja_abstract.specs.declared.abstraction.Key.TheVariants as key
+use Rattle.ja_abstract.specs.AbstractValue.{Labels, AbstractValue, AbstractProperty, same_label, of_label, bare}
+use Rattle.ja_abstract.specs.AbstractState.{AbstractState, new, with_register, with_property, with_made}
+use Rattle.ja_model.specs.Reading.{View, may_refuse}
+use Rattle.ja_abstract.specs.Resolved.{Demands, prototype}
 use Rattle.ja_model.specs.Transfer.{gives, with_error, message_property, strong_put, written, written_labels}
 use Rattle.ja_state.specs.declared.state.AState.{AState}
 use Rattle.ja_state.specs.State.{state_of}

@@ -12,11 +12,11 @@ use Rattle.ja_graph.specs.Program.{node_at}
 use Rattle.ja_machine.specs.Machine.{program_function}
 use Rattle.ja_model.specs.declared.table.Item.{Item}
 use Rattle.ja_model.specs.declared.table.Item.TheVariants.{Step}
-use Rattle.ja_model.specs.AbstractState.{AbstractState, entry_state}
-use Rattle.ja_model.specs.Reading.{Demands, Entries}
+use Rattle.ja_abstract.specs.AbstractState.{AbstractState, entry_state}
+use Rattle.ja_abstract.specs.Resolved.{Demands, Entries}
 use Rattle.ja_model.specs.Transfer.{Out, transfer}
 use Rattle.ja_model.specs.Table.{Table, root, same_context, opening_table, demanded, opened_entries, joined_state, with_demands, with_state, with_states, with_out, visit_open, visit_step, visited}
-use Rattle.ja_model.proofs.Labels.{same_label-true}
+use Rattle.ja_abstract.proofs.Labels.{same_label-true}
 use Rattle.ja_state.specs.declared.state.AState.{AState}
 use Rattle.ja_state.specs.State.{state_of}
 use Rattle.ja_rules.specs.declared.step.Outcome.{Outcome}

@@ -10,24 +10,25 @@ use Rattle.ja_base.specs.declared.ids.Label.{Label}
 use Rattle.ja_base.proofs.Options.{some_value}
 use Rattle.ja_graph.specs.declared.program.Program.{Program}
 use Rattle.ja_graph.specs.WellFormed.{IsWellFormed}
-use Rattle.ja_model.specs.declared.abstraction.Flags.{Flags}
-use Rattle.ja_model.specs.declared.abstraction.NumberPart.{NumberPart}
-use Rattle.ja_model.specs.declared.abstraction.NumberPart.TheVariants as number_part
-use Rattle.ja_model.specs.declared.abstraction.TextPart.{TextPart}
-use Rattle.ja_model.specs.declared.abstraction.TextPart.TheVariants as text_part
-use Rattle.ja_model.specs.declared.abstraction.May.{May}
-use Rattle.ja_model.specs.declared.abstraction.AAttrs.{AAttrs}
-use Rattle.ja_model.specs.declared.abstraction.Slot.TheVariants as slot
-use Rattle.ja_model.specs.declared.abstraction.Key.{Key}
-use Rattle.ja_model.specs.declared.abstraction.Key.TheVariants as key
-use Rattle.ja_model.specs.AbstractValue.{AbstractValue, AbstractProperty, same_label, no_flags, no_value, no_property, never_known, unknown_attrs, join, join_flags, join_numbers, join_texts, join_may, join_attrs, join_properties}
-use Rattle.ja_model.specs.AbstractState.{same_key, name_key, keys_below, labels_below, is_key}
-use Rattle.ja_model.specs.Reading.{Entries}
-use Rattle.ja_model.specs.Meaning.{opened}
+use Rattle.ja_abstract.specs.declared.abstraction.Flags.{Flags}
+use Rattle.ja_abstract.specs.declared.abstraction.NumberPart.{NumberPart}
+use Rattle.ja_abstract.specs.declared.abstraction.NumberPart.TheVariants as number_part
+use Rattle.ja_abstract.specs.declared.abstraction.TextPart.{TextPart}
+use Rattle.ja_abstract.specs.declared.abstraction.TextPart.TheVariants as text_part
+use Rattle.ja_abstract.specs.declared.abstraction.May.{May}
+use Rattle.ja_abstract.specs.declared.abstraction.AAttrs.{AAttrs}
+use Rattle.ja_abstract.specs.declared.abstraction.Slot.TheVariants as slot
+use Rattle.ja_abstract.specs.declared.abstraction.Key.{Key}
+use Rattle.ja_abstract.specs.declared.abstraction.Key.TheVariants as key
+use Rattle.ja_abstract.specs.AbstractValue.{AbstractValue, AbstractProperty, same_label, no_flags, no_value, no_property, never_known, unknown_attrs, join, join_flags, join_numbers, join_texts, join_may, join_attrs, join_properties}
+use Rattle.ja_abstract.specs.AbstractState.{same_key, name_key, keys_below, labels_below, is_key}
+use Rattle.ja_abstract.specs.Resolved.{Entries}
+use Rattle.ja_abstract.specs.Contents.{opened}
 use Rattle.ja_model.specs.Table.{opened_entries}
-use Rattle.ja_model.proofs.Keys.{same_key-true, same_key-self}
-use Rattle.ja_model.proofs.Labels.{IsAmong, labels_of-has, same_label-true, same_label-self}
-use Rattle.ja_model.proofs.Order.{LeqEntries, LeqOptionProperty, no_entries_back, opened_entries-leq, option_property_same}
+use Rattle.ja_abstract.proofs.Keys.{same_key-true, same_key-self}
+use Rattle.ja_abstract.proofs.Labels.{IsAmong, labels_of-has, same_label-true, same_label-self}
+use Rattle.ja_abstract.proofs.Order.{LeqEntries, LeqOptionProperty, option_property_same}
+use Rattle.ja_model.proofs.Order.{no_entries_back, opened_entries-leq}
 use Rattle.ja_state.specs.State.{pairs_of}
 use Rattle.ja_rules.specs.Readings.{is_pair, opened_pair}
 use Rattle.ja_rules.proofs.Opened.{none_is, opened_far}

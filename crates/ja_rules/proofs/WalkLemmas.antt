@@ -3,10 +3,11 @@ use Rattle.std.specs.Prelude.{◌≡◌, ◌≤◌, ◌+◌, ◌-◌, ◌*◌, �
 use Rattle.std.specs.List.{flat_map, range_with_len}
 use Rattle.std.proofs.Common.{refl, sym, subst, ap, ◌∙◌, cond, arith}
 use Rattle.ja_base.specs.declared.ids.Label.{Label}
-use Rattle.ja_model.specs.declared.abstraction.Key.{Key}
-use Rattle.ja_model.specs.AbstractValue.{Labels, AbstractValue, present_part, join, no_value, absent_value}
-use Rattle.ja_model.specs.AbstractState.{new, old, site_of, labels_below}
-use Rattle.ja_model.specs.Reading.{View, own, asked, ends_at, may_be_present, join_values, one_more, rounds, reached, may_lack}
+use Rattle.ja_abstract.specs.declared.abstraction.Key.{Key}
+use Rattle.ja_abstract.specs.AbstractValue.{Labels, AbstractValue, present_part, join, no_value, absent_value}
+use Rattle.ja_abstract.specs.AbstractState.{new, old, site_of, labels_below}
+use Rattle.ja_model.specs.Reading.{View, own, asked, ends_at, may_be_present, may_lack}
+use Rattle.ja_abstract.specs.Resolved.{join_values, one_more, rounds, reached}
 use Rattle.ja_value.specs.Value.{value_of}
 use Rattle.ja_rules.specs.declared.reader.Walk.{Walk}
 use Rattle.ja_rules.specs.Readings.{IsWalk}

@@ -5,13 +5,13 @@ use Rattle.std.proofs.Common.{refl, sym, ap, ◌∙◌}
 use Rattle.std.proofs.lemmas.Bool.{true≢false}
 use Rattle.ja_base.specs.declared.ids.Label.{Label}
 use Rattle.ja_base.specs.declared.ids.NodeId.{NodeId}
-use Rattle.ja_model.specs.declared.abstraction.Key.{Key}
-use Rattle.ja_model.specs.AbstractValue.{Labels, AbstractValue, AbstractProperty, same_label, join_properties}
-use Rattle.ja_model.specs.AbstractState.{AbstractState, same_key, with_property}
+use Rattle.ja_abstract.specs.declared.abstraction.Key.{Key}
+use Rattle.ja_abstract.specs.AbstractValue.{Labels, AbstractValue, AbstractProperty, same_label, join_properties}
+use Rattle.ja_abstract.specs.AbstractState.{AbstractState, same_key, with_property}
 use Rattle.ja_model.specs.Reading.{View, may_accept, may_refuse, demands_of_walk}
 use Rattle.ja_model.specs.Transfer.{gives, written, weakly_written, weak_put, strong_put, put_at, put, demands_of_read}
-use Rattle.ja_model.proofs.Labels.{same_label-true}
-use Rattle.ja_model.proofs.Keys.{same_key-true}
+use Rattle.ja_abstract.proofs.Labels.{same_label-true}
+use Rattle.ja_abstract.proofs.Keys.{same_key-true}
 use Rattle.ja_state.specs.declared.state.AState.{AState}
 use Rattle.ja_state.specs.State.{state_of}
 use Rattle.ja_rules.specs.declared.demands.DemandList.{DemandList}

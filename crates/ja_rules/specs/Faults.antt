@@ -8,7 +8,7 @@ use Rattle.ja_graph.specs.Program.{nodes_of}
 use Rattle.ja_machine.specs.Machine.{program_function}
 use Rattle.ja_model.specs.declared.table.Warning.{Warning}
 use Rattle.ja_model.specs.declared.table.WarningKind.{WarningKind}
-use Rattle.ja_model.specs.AbstractState.{AbstractState}
+use Rattle.ja_abstract.specs.AbstractState.{AbstractState}
 use Rattle.ja_model.specs.Table.{Table, root}
 use Rattle.ja_model.specs.Warning.{kind_of, kind_number, allows_fault, allows_more}
 use Rattle.ja_rules.specs.declared.faults.Operation.{Operation}

@@ -1,7 +1,7 @@
 -- What the alternatives of a node give.
 use Rattle.std.specs.Prelude.{◌≡◌, ℕ, List, [], ◌∷◌, All, Option, Some, None, vec_len}
 use Rattle.ja_base.specs.declared.ids.NodeId.{NodeId}
-use Rattle.ja_model.specs.AbstractState.{AbstractState}
+use Rattle.ja_abstract.specs.AbstractState.{AbstractState}
 use Rattle.ja_model.specs.Transfer.{Out}
 use Rattle.ja_state.specs.declared.state.AState.{AState}
 use Rattle.ja_state.specs.State.{state_of}

@@ -15,13 +15,14 @@ use Rattle.ja_graph.specs.declared.program.Program.{Program}
 use Rattle.ja_graph.specs.Program.{nodes_of, node_at}
 use Rattle.ja_machine.specs.Frames.{registers_of}
 use Rattle.ja_machine.specs.Machine.{program_function}
-use Rattle.ja_model.specs.declared.abstraction.Slot.{Slot}
-use Rattle.ja_model.specs.declared.abstraction.Slot.TheVariants as slot
-use Rattle.ja_model.specs.declared.abstraction.Key.{Key}
-use Rattle.ja_model.specs.declared.abstraction.Key.TheVariants as key
-use Rattle.ja_model.specs.AbstractValue.{AbstractValue, AbstractProperty, same_label, row_value, absent_property, of_primitive, of_attrs, of_label, bare}
-use Rattle.ja_model.specs.AbstractState.{AbstractState, new, same_key, labels_below, is_key}
-use Rattle.ja_model.specs.Reading.{Demands, Entries, View, got, may_have, may_lack, may_refuse, may_accept}
+use Rattle.ja_abstract.specs.declared.abstraction.Slot.{Slot}
+use Rattle.ja_abstract.specs.declared.abstraction.Slot.TheVariants as slot
+use Rattle.ja_abstract.specs.declared.abstraction.Key.{Key}
+use Rattle.ja_abstract.specs.declared.abstraction.Key.TheVariants as key
+use Rattle.ja_abstract.specs.AbstractValue.{AbstractValue, AbstractProperty, same_label, row_value, absent_property, of_primitive, of_attrs, of_label, bare}
+use Rattle.ja_abstract.specs.AbstractState.{AbstractState, new, same_key, labels_below, is_key}
+use Rattle.ja_abstract.specs.Resolved.{Demands, Entries}
+use Rattle.ja_model.specs.Reading.{View, got, may_have, may_lack, may_refuse, may_accept}
 use Rattle.ja_model.specs.Transfer.{Out}
 use Rattle.ja_model.specs.Table.{Table, root, same_context, joined_state, opened_entries}
 use Rattle.ja_value.specs.Value.{value_of}

@@ -2,9 +2,10 @@
 use Rattle.std.specs.Prelude.{◌≡◌, ◌&&◌, ◌||◌, List}
 use Rattle.std.specs.List.{list_any}
 use Rattle.ja_base.specs.declared.ids.Label.{Label}
-use Rattle.ja_model.specs.declared.abstraction.Key.{Key}
-use Rattle.ja_model.specs.AbstractValue.{same_label}
-use Rattle.ja_model.specs.Reading.{View, outer, may_be_absent, may_have, may_lack}
+use Rattle.ja_abstract.specs.declared.abstraction.Key.{Key}
+use Rattle.ja_abstract.specs.AbstractValue.{same_label}
+use Rattle.ja_model.specs.Reading.{View, may_be_absent, may_have, may_lack}
+use Rattle.ja_abstract.specs.Resolved.{outer}
 use Rattle.ja_value.specs.Value.{labels_in}
 use Rattle.ja_rules.specs.declared.search.Search.{Search}
 

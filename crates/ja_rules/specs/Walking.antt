@@ -2,10 +2,11 @@
 use Rattle.std.specs.Prelude.{◌≡◌, Bool, ◌&&◌, ◌||◌, if◌then◌else◌, List, map}
 use Rattle.std.specs.List.{list_any}
 use Rattle.ja_base.specs.declared.ids.Label.{Label}
-use Rattle.ja_model.specs.declared.abstraction.Key.{Key}
-use Rattle.ja_model.specs.AbstractValue.{AbstractProperty, same_label, present_part, join, absent_value, no_value, is_present}
-use Rattle.ja_model.specs.AbstractState.{same_key}
-use Rattle.ja_model.specs.Reading.{View, Demands, prototype, outer, own, may_be_absent, may_be_present, ends_at, join_values, demands_of, demands_of_walk, may_lack}
+use Rattle.ja_abstract.specs.declared.abstraction.Key.{Key}
+use Rattle.ja_abstract.specs.AbstractValue.{AbstractProperty, same_label, present_part, join, absent_value, no_value, is_present}
+use Rattle.ja_abstract.specs.AbstractState.{same_key}
+use Rattle.ja_model.specs.Reading.{View, own, may_be_absent, may_be_present, ends_at, demands_of_walk, may_lack}
+use Rattle.ja_abstract.specs.Resolved.{Demands, prototype, outer, join_values, demands_of}
 use Rattle.ja_value.specs.Value.{value_of}
 use Rattle.ja_rules.specs.declared.reader.Walk.{Walk}
 

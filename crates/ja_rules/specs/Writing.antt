@@ -2,9 +2,9 @@
 use Rattle.std.specs.Prelude.{◌≡◌, IsTrue, false, ◌&&◌, if◌then◌else◌, List, [], ◌∷◌, Option, Some, None}
 use Rattle.std.specs.List.{list_any}
 use Rattle.ja_base.specs.declared.ids.Label.{Label}
-use Rattle.ja_model.specs.declared.abstraction.Key.{Key}
-use Rattle.ja_model.specs.AbstractValue.{AbstractValue, same_label, join_properties}
-use Rattle.ja_model.specs.AbstractState.{AbstractState, same_key, with_property}
+use Rattle.ja_abstract.specs.declared.abstraction.Key.{Key}
+use Rattle.ja_abstract.specs.AbstractValue.{AbstractValue, same_label, join_properties}
+use Rattle.ja_abstract.specs.AbstractState.{AbstractState, same_key, with_property}
 use Rattle.ja_model.specs.Reading.{View, may_accept}
 use Rattle.ja_model.specs.Transfer.{written}
 

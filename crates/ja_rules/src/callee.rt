@@ -1,7 +1,7 @@
 ghost use Rattle.std.specs.Prelude.{◌≡◌, not, IfOk};
 ghost use Rattle.std.specs.List.{list_any};
-ghost use Rattle.ja_model.specs.AbstractValue.{has_part};
-ghost use Rattle.ja_model.specs.AbstractState.{labels_below};
+ghost use Rattle.ja_abstract.specs.AbstractValue.{has_part};
+ghost use Rattle.ja_abstract.specs.AbstractState.{labels_below};
 ghost use Rattle.ja_model.specs.Transfer.{can_be_called, called_labels, uncalled_part};
 ghost use Rattle.ja_value.specs.Value.{value_of};
 

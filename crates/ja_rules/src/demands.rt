@@ -1,9 +1,9 @@
 ghost use Rattle.std.specs.Prelude.{◌≡◌, ◌&&◌, IfOk, false};
-ghost use Rattle.ja_model.specs.AbstractValue.{same_label};
-ghost use Rattle.ja_model.specs.AbstractState.{same_key};
+ghost use Rattle.ja_abstract.specs.AbstractValue.{same_label};
+ghost use Rattle.ja_abstract.specs.AbstractState.{same_key};
 
 use ja_base::{Label, Memory};
-use ja_model::Key;
+use ja_abstract::Key;
 use std::alloc::Global;
 
 /// The pairs of a label and a key whose values at entry were demanded.

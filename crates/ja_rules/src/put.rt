@@ -1,8 +1,8 @@
 ghost use Rattle.std.specs.Prelude.{◌≡◌, ◌||◌, ◌<◌, ℕ, IfOk, if◌then◌else◌, vec_len};
 ghost use Rattle.std.specs.List.{list_any};
 ghost use Rattle.ja_base.specs.declared.ids.Label.{Label};
-ghost use Rattle.ja_model.specs.AbstractValue.{join_attrs, unknown_attrs, join_properties, is_present};
-ghost use Rattle.ja_model.specs.AbstractState.{with_property};
+ghost use Rattle.ja_abstract.specs.AbstractValue.{join_attrs, unknown_attrs, join_properties, is_present};
+ghost use Rattle.ja_abstract.specs.AbstractState.{with_property};
 ghost use Rattle.ja_model.specs.Reading.{may_refuse, may_accept, demands_of_walk};
 ghost use Rattle.ja_model.specs.Transfer.{gives, put, strong_put, weak_put, written_labels, written, demands_of_read};
 ghost use Rattle.ja_state.specs.State.{state_of};
@@ -16,7 +16,7 @@ use crate::alternative::{Alternative, NO_ATTRS, outcome};
 use crate::{DemandList, Outcome, Reader};
 use ja_base::{Label, Memory, NodeId};
 use ja_graph::GLOBAL;
-use ja_model::{AAttrs, Key};
+use ja_abstract::{AAttrs, Key};
 use ja_state::AState;
 use ja_value::{AProp, AValue, LabelSet, exact_attrs, join_attrs, unknown_attrs};
 

@@ -1,8 +1,9 @@
 ghost use Rattle.std.specs.Prelude.{◌≡◌, ◌||◌, ◌&&◌, [], map, IfOk, false, if◌then◌else◌};
 ghost use Rattle.ja_base.specs.declared.ids.Label.{Label};
-ghost use Rattle.ja_model.specs.declared.abstraction.Key.{Key};
-ghost use Rattle.ja_model.specs.AbstractValue.{same_label, null_value, no_value, join, of_labels};
-ghost use Rattle.ja_model.specs.Reading.{View, searched, next_scope, one_more, may_lack, got, join_values, demands_of_walk};
+ghost use Rattle.ja_abstract.specs.declared.abstraction.Key.{Key};
+ghost use Rattle.ja_abstract.specs.AbstractValue.{same_label, null_value, no_value, join, of_labels};
+ghost use Rattle.ja_model.specs.Reading.{View, searched, next_scope, may_lack, got, demands_of_walk};
+ghost use Rattle.ja_abstract.specs.Resolved.{one_more, join_values};
 ghost use Rattle.ja_model.specs.Transfer.{as_read};
 ghost use Rattle.ja_value.specs.Value.{value_of, labels_in};
 ghost use Rattle.ja_rules.specs.Readings.{Adds, view_of};
@@ -10,7 +11,7 @@ ghost use Rattle.ja_rules.specs.Walking.{demands_at_scope, demands_over};
 
 use crate::{DemandList, Reader};
 use ja_base::{Label, Memory};
-use ja_model::{Key, Slot};
+use ja_abstract::{Key, Slot};
 use ja_value::{AValue, LabelSet};
 use std::alloc::Global;
 

@@ -1,14 +1,15 @@
 ghost use Rattle.std.specs.Prelude.{◌≡◌, ◌||◌, ◌&&◌, [], IfOk, false, if◌then◌else◌};
-ghost use Rattle.ja_model.specs.declared.abstraction.Key.{Key};
-ghost use Rattle.ja_model.specs.AbstractValue.{absent_value, no_value};
-ghost use Rattle.ja_model.specs.Reading.{View, asked, next_prototype, one_more, own, may_be_absent, ends_at, demands_of};
+ghost use Rattle.ja_abstract.specs.declared.abstraction.Key.{Key};
+ghost use Rattle.ja_abstract.specs.AbstractValue.{absent_value, no_value};
+ghost use Rattle.ja_model.specs.Reading.{View, asked, next_prototype, own, may_be_absent, ends_at};
+ghost use Rattle.ja_abstract.specs.Resolved.{one_more, demands_of};
 ghost use Rattle.ja_value.specs.Value.{value_of, labels_in, property_of};
 ghost use Rattle.ja_rules.specs.Readings.{Adds, view_of};
 ghost use Rattle.ja_rules.specs.Walking.{IsWalkOver, Meets, Ends, demands_at, demands_over};
 
 use crate::{DemandList, Reader, Walk};
 use ja_base::{Label, Memory};
-use ja_model::{Key, Slot};
+use ja_abstract::{Key, Slot};
 use ja_value::{AProp, AValue, LabelSet};
 use std::alloc::Global;
 

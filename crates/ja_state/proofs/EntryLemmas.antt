@@ -4,10 +4,10 @@ use Rattle.std.specs.Option.{option_map, option_and_then}
 use Rattle.std.specs.Ordering.{nat_cmp}
 use Rattle.std.specs.BTreeMap.{BTreeMap, get}
 use Rattle.ja_base.specs.declared.ids.Label.{Label}
-use Rattle.ja_model.specs.declared.abstraction.Key.{Key}
-use Rattle.ja_model.specs.AbstractValue.{AbstractProperty, same_label}
-use Rattle.ja_model.specs.AbstractState.{label_number, key_number, same_key}
-use Rattle.ja_model.specs.Reading.{Entries}
+use Rattle.ja_abstract.specs.declared.abstraction.Key.{Key}
+use Rattle.ja_abstract.specs.AbstractValue.{AbstractProperty, same_label}
+use Rattle.ja_abstract.specs.AbstractState.{label_number, key_number, same_key}
+use Rattle.ja_abstract.specs.Resolved.{Entries}
 use Rattle.ja_value.specs.declared.property.AProp.{AProp}
 use Rattle.ja_state.specs.Numbers.{property_in, entry_in}
 use Rattle.ja_state.proofs.MapLemmas.{some_is, equal_from_test, same_number}

@@ -3,8 +3,8 @@ use Rattle.std.proofs.Common.{◌≡◌, ◌≢◌, ◌||◌, ℕ, Bool, true, f
 use Rattle.std.specs.Option.{option_map}
 use Rattle.std.specs.Ordering.{nat_cmp}
 use Rattle.std.specs.BTreeMap.{BTreeMap, get}
-use Rattle.ja_model.specs.declared.abstraction.Mask.{Mask}
-use Rattle.ja_model.specs.AbstractState.{join_masks, exactly_none}
+use Rattle.ja_abstract.specs.declared.abstraction.Mask.{Mask}
+use Rattle.ja_abstract.specs.AbstractState.{join_masks, exactly_none}
 use Rattle.ja_state.specs.Joined.{IsJoined}
 use Rattle.ja_value.specs.Labels.{mask_in}
 use Rattle.ja_state.proofs.SpreadLemmas.{spread, spread_join_listed, or_default}

@@ -5,7 +5,7 @@ use Rattle.std.proofs.lemmas.Bool.{cases_eq, cases_lt}
 use Rattle.std.proofs.lemmas.List.{map-append}
 use Rattle.std.proofs.lemmas.Option.{slice_get_past, slice_get_read}
 use Rattle.std.specs.Option.{option_map_or}
-use Rattle.ja_model.specs.AbstractValue.{AbstractValue, join, undefined_value}
+use Rattle.ja_abstract.specs.AbstractValue.{AbstractValue, join, undefined_value}
 use Rattle.ja_value.specs.declared.value.AValue.{AValue}
 use Rattle.ja_value.specs.Value.{value_of}
 use Rattle.ja_state.specs.Joined.{IsJoined}

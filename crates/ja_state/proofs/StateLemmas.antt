@@ -12,10 +12,10 @@ use Rattle.std.specs.Ordering.{nat_cmp}
 use Rattle.std.specs.BTreeMap.{BTreeMap, get, IsEmpty}
 use Rattle.ja_base.specs.declared.ids.Label.{Label}
 use Rattle.ja_base.specs.declared.ids.Site.{Site}
-use Rattle.ja_model.specs.declared.abstraction.Key.{Key}
-use Rattle.ja_model.specs.declared.abstraction.Mask.{Mask}
-use Rattle.ja_model.specs.AbstractValue.{AbstractProperty, no_labels, join, same_label, undefined_value, absent_property, entry_property}
-use Rattle.ja_model.specs.AbstractState.{AbstractState, label_number, new, old, aged, entry_registers, made_property, join_masks, join_states, exactly_none, exactly_some, with_made}
+use Rattle.ja_abstract.specs.declared.abstraction.Key.{Key}
+use Rattle.ja_abstract.specs.declared.abstraction.Mask.{Mask}
+use Rattle.ja_abstract.specs.AbstractValue.{AbstractProperty, no_labels, join, same_label, undefined_value, absent_property, entry_property}
+use Rattle.ja_abstract.specs.AbstractState.{AbstractState, label_number, new, old, aged, entry_registers, made_property, join_masks, join_states, exactly_none, exactly_some, with_made}
 use Rattle.ja_value.specs.declared.value.AValue.{AValue}
 use Rattle.ja_value.specs.Value.{value_of}
 use Rattle.ja_state.specs.declared.object.AObject.{AObject}

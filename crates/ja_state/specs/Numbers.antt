@@ -3,9 +3,9 @@ use Rattle.std.specs.Prelude.{ℕ, is_some, filter, List, Bool, Option}
 use Rattle.std.specs.Option.{option_map, option_and_then}
 use Rattle.std.specs.Ordering.{nat_cmp}
 use Rattle.std.specs.BTreeMap.{BTreeMap, get}
-use Rattle.ja_model.specs.declared.abstraction.Key.{Key}
-use Rattle.ja_model.specs.AbstractValue.{AbstractProperty}
-use Rattle.ja_model.specs.AbstractState.{key_number, keys_below}
+use Rattle.ja_abstract.specs.declared.abstraction.Key.{Key}
+use Rattle.ja_abstract.specs.AbstractValue.{AbstractProperty}
+use Rattle.ja_abstract.specs.AbstractState.{key_number, keys_below}
 use Rattle.ja_value.specs.declared.property.AProp.{AProp}
 use Rattle.ja_value.specs.Value.{property_of}
 

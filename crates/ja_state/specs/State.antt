@@ -7,11 +7,11 @@ use Rattle.std.specs.BTreeMap.{BTreeMap, get}
 use Rattle.ja_base.specs.declared.ids.Label.{Label}
 use Rattle.ja_base.specs.declared.ids.Site.{Site}
 use denote.Ref.{Bor}
-use Rattle.ja_model.specs.declared.abstraction.Key.{Key}
-use Rattle.ja_model.specs.declared.abstraction.Mask.{Mask}
-use Rattle.ja_model.specs.AbstractValue.{AbstractValue, AbstractProperty, entry_property, absent_property, undefined_value, join_properties}
-use Rattle.ja_model.specs.AbstractState.{AbstractState, label_number, key_number, aged_property, new, old}
-use Rattle.ja_model.specs.Reading.{Entries}
+use Rattle.ja_abstract.specs.declared.abstraction.Key.{Key}
+use Rattle.ja_abstract.specs.declared.abstraction.Mask.{Mask}
+use Rattle.ja_abstract.specs.AbstractValue.{AbstractValue, AbstractProperty, entry_property, absent_property, undefined_value, join_properties}
+use Rattle.ja_abstract.specs.AbstractState.{AbstractState, label_number, key_number, aged_property, new, old}
+use Rattle.ja_abstract.specs.Resolved.{Entries}
 use Rattle.ja_value.specs.declared.property.AProp.{AProp}
 use Rattle.ja_value.specs.declared.value.AValue.{AValue}
 use Rattle.ja_value.specs.Labels.{mask_in}

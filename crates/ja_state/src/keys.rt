@@ -1,9 +1,9 @@
 ghost use Rattle.std.specs.Prelude.{◌≡◌, ◌*◌, nat_lt, if◌then◌else◌, Some, None};
-ghost use Rattle.ja_model.specs.AbstractState.{key_number};
+ghost use Rattle.ja_abstract.specs.AbstractState.{key_number};
 ghost use Rattle.ja_value.specs.Labels.{label_at};
 
 use ja_base::Label;
-use ja_model::{Key, Slot};
+use ja_abstract::{Key, Slot};
 use ja_value::label_at;
 
 /// The number of a key: the internal properties, the rests, and then the names.

@@ -2,14 +2,14 @@ ghost use Rattle.std.specs.Prelude.{◌≡◌, ◌≢◌, ◌==◌, ◌||◌, �
 ghost use Rattle.std.specs.Option.{option_map};
 ghost use Rattle.std.specs.Ordering.{nat_cmp};
 ghost use Rattle.std.specs.BTreeMap.{get};
-ghost use Rattle.ja_model.specs.declared.abstraction.Mask.{Mask};
-ghost use Rattle.ja_model.specs.AbstractState.{join_masks};
+ghost use Rattle.ja_abstract.specs.declared.abstraction.Mask.{Mask};
+ghost use Rattle.ja_abstract.specs.AbstractState.{join_masks};
 ghost use Rattle.ja_value.specs.Labels.{mask_in};
 ghost use Rattle.ja_state.specs.Joined.{IsJoined};
 
 use crate::maps::put;
 use ja_base::Memory;
-use ja_model::Mask;
+use ja_abstract::Mask;
 use ja_value::mask_at;
 use std::alloc::Global;
 use std::collections::BTreeMap;

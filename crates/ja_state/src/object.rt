@@ -2,15 +2,15 @@ ghost use Rattle.std.specs.Prelude.{◌≡◌, ◌≢◌, ◌==◌, ◌||◌, �
 ghost use Rattle.std.specs.Option.{option_map};
 ghost use Rattle.std.specs.Ordering.{nat_cmp};
 ghost use Rattle.std.specs.BTreeMap.{get};
-ghost use Rattle.ja_model.specs.AbstractValue.{absent_property, entry_property, join_properties};
-ghost use Rattle.ja_model.specs.AbstractState.{same_key, aged_property};
+ghost use Rattle.ja_abstract.specs.AbstractValue.{absent_property, entry_property, join_properties};
+ghost use Rattle.ja_abstract.specs.AbstractState.{same_key, aged_property};
 ghost use Rattle.ja_value.specs.declared.property.AProp.{AProp};
 ghost use Rattle.ja_value.specs.Value.{property_of};
 
 use crate::keys::key_number;
 use crate::maps::put;
 use ja_base::{Memory, Site};
-use ja_model::Key;
+use ja_abstract::Key;
 use ja_value::AProp;
 use std::alloc::Global;
 use std::collections::BTreeMap;

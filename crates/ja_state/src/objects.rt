@@ -2,7 +2,7 @@ ghost use Rattle.std.specs.Prelude.{◌≡◌, ◌≢◌, ◌==◌, ◌||◌, �
 ghost use Rattle.std.specs.Option.{option_map};
 ghost use Rattle.std.specs.Ordering.{nat_cmp};
 ghost use Rattle.std.specs.BTreeMap.{get};
-ghost use Rattle.ja_model.specs.AbstractState.{same_key};
+ghost use Rattle.ja_abstract.specs.AbstractState.{same_key};
 ghost use Rattle.ja_value.specs.Value.{property_of};
 ghost use Rattle.ja_state.specs.State.{object_of, object_in, entry_keyed, join_keyed, aged_keyed, made_keyed};
 ghost use Rattle.ja_state.specs.Joined.{IsJoined};
@@ -11,7 +11,7 @@ ghost use Rattle.ja_state.specs.declared.object.AObject.{AObject};
 use crate::AObject;
 use crate::maps::{exchange, put};
 use ja_base::{Label, Memory, Site};
-use ja_model::Key;
+use ja_abstract::Key;
 use ja_value::{AProp, label_number};
 use std::alloc::Global;
 use std::collections::BTreeMap;

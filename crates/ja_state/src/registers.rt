@@ -1,14 +1,14 @@
 ghost use Rattle.std.specs.Prelude.{◌≡◌, ◌≢◌, ◌==◌, ◌<◌, ℕ, IfOk, true, false, if◌then◌else◌, map, length, vec_len};
 ghost use Rattle.std.specs.List.{range_with_len};
-ghost use Rattle.ja_model.specs.AbstractValue.{join};
-ghost use Rattle.ja_model.specs.AbstractState.{entry_registers, aged};
+ghost use Rattle.ja_abstract.specs.AbstractValue.{join};
+ghost use Rattle.ja_abstract.specs.AbstractState.{entry_registers, aged};
 ghost use Rattle.ja_value.specs.Value.{value_of};
 ghost use Rattle.ja_state.specs.State.{register_in};
 ghost use Rattle.ja_state.specs.Joined.{IsJoined};
 
 use ja_base::{Label, Memory, Site};
 use ja_graph::GLOBAL;
-use ja_model::Flags;
+use ja_abstract::Flags;
 use ja_prim::{Int, Num, Primitive};
 use ja_value::AValue;
 use std::alloc::Global;

@@ -1,10 +1,10 @@
 ghost use Rattle.std.specs.Prelude.{◌≡◌, ◌≢◌, ◌<◌, ◌≤◌, ◌*◌, nat_lt, [], ◌∷◌, ◌++◌, IfOk, IfSome, OnErr, true, false, if◌then◌else◌, vec_len, filter};
 ghost use Rattle.std.specs.Option.{option_map_or};
 ghost use Rattle.ja_base.specs.declared.ids.Label.{Label};
-ghost use Rattle.ja_model.specs.declared.abstraction.Key.{Key};
-ghost use Rattle.ja_model.specs.AbstractState.{entry_state, join_states, with_register, with_property, with_made, labels_below, sites_below, site_of};
+ghost use Rattle.ja_abstract.specs.declared.abstraction.Key.{Key};
+ghost use Rattle.ja_abstract.specs.AbstractState.{entry_state, join_states, with_register, with_property, with_made, labels_below, sites_below, site_of};
 ghost use Rattle.ja_value.specs.Labels.{label_at};
-ghost use Rattle.ja_model.specs.Reading.{renamed};
+ghost use Rattle.ja_abstract.specs.Resolved.{renamed};
 ghost use Rattle.ja_value.specs.Value.{value_of, property_of};
 
 use crate::AObject;
@@ -14,7 +14,7 @@ use crate::masks::{copy_masks, join_masks, masks_cover};
 use crate::objects::{copy_objects, join_objects, made_objects, objects_cover, write_at};
 use crate::registers::{aged_values, copy_values, entry_values, join_values, values_cover};
 use ja_base::{Label, Memory, Reg, Site};
-use ja_model::{Key, Mask};
+use ja_abstract::{Key, Mask};
 use ja_value::{AProp, AValue, copy_text_part, label_number, mask_at};
 use std::alloc::Global;
 use std::collections::BTreeMap;

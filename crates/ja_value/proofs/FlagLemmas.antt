@@ -3,9 +3,9 @@ use Rattle.std.proofs.Common.{◌≡◌, Bool, true, ◌&&◌, ◌↔◌, refl, 
 use Rattle.std.specs.Bool.{beq, IsTrue}
 use Rattle.std.specs.Cmp.{booleans_Decides}
 use Rattle.std.proofs.lemmas.Bool.{and_parts, and_from}
-use Rattle.ja_model.specs.declared.abstraction.Flags.{Flags}
-use Rattle.ja_model.specs.declared.abstraction.May.{May}
-use Rattle.ja_model.specs.declared.abstraction.AAttrs.{AAttrs}
+use Rattle.ja_abstract.specs.declared.abstraction.Flags.{Flags}
+use Rattle.ja_abstract.specs.declared.abstraction.May.{May}
+use Rattle.ja_abstract.specs.declared.abstraction.AAttrs.{AAttrs}
 
 abbrev flags_eq : Flags → Flags → Bool
 flags_eq a b =

@@ -13,8 +13,8 @@ use Rattle.std.proofs.lemmas.List.{map-append}
 use Rattle.std.proofs.lemmas.List.FromFn.{filter_of_map_range_with_len_more}
 use Rattle.std.proofs.lemmas.Map.Keys.{sorted_head, sorted_tail}
 use Rattle.ja_base.specs.declared.ids.Label.{Label}
-use Rattle.ja_model.specs.AbstractValue.{Labels, no_labels}
-use Rattle.ja_model.specs.AbstractState.{label_number, labels_below, site_of, new, old}
+use Rattle.ja_abstract.specs.AbstractValue.{Labels, no_labels}
+use Rattle.ja_abstract.specs.AbstractState.{label_number, labels_below, site_of, new, old}
 use Rattle.ja_value.specs.Labels.{label_at}
 
 -- a list of numbers as a test

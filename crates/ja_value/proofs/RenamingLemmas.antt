@@ -6,9 +6,9 @@ use Rattle.std.specs.BTreeMap.{is_at}
 use Rattle.std.proofs.lemmas.Bool.{cases_eq}
 use Rattle.std.proofs.lemmas.Bool.Decides.{nat_tests}
 use Rattle.ja_base.specs.declared.ids.Site.{Site}
-use Rattle.ja_model.specs.declared.abstraction.Mask.{Mask}
-use Rattle.ja_model.specs.AbstractState.{exactly_none}
-use Rattle.ja_model.specs.Reading.{renamed_labels}
+use Rattle.ja_abstract.specs.declared.abstraction.Mask.{Mask}
+use Rattle.ja_abstract.specs.AbstractState.{exactly_none}
+use Rattle.ja_abstract.specs.Resolved.{renamed_labels}
 use Rattle.ja_value.specs.Labels.{number_mask, leads}
 use Rattle.ja_value.proofs.LabelLemmas.{has, in_numbers}
 

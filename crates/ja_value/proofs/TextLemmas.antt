@@ -3,9 +3,9 @@ use Rattle.std.proofs.Common.{◌≡◌, ℕ, List, true, false, refl}
 use Rattle.std.specs.Prelude.{nat_eq}
 use Rattle.std.proofs.lemmas.Slice.Eq.{bytes_eq-Decides}
 use lib.Pointwise.{pointwise}
-use Rattle.ja_model.specs.declared.abstraction.TextPart.{TextPart}
-use Rattle.ja_model.specs.declared.abstraction.TextPart.TheVariants as text_part
-use Rattle.ja_model.specs.AbstractValue.{join_texts, text_class, join_text_classes}
+use Rattle.ja_abstract.specs.declared.abstraction.TextPart.{TextPart}
+use Rattle.ja_abstract.specs.declared.abstraction.TextPart.TheVariants as text_part
+use Rattle.ja_abstract.specs.AbstractValue.{join_texts, text_class, join_text_classes}
 
 apart : (s t : List ℕ) → (s ≡ t → ⊥) → pointwise nat_eq s t ≡ false
 apart s t ne =

@@ -2,11 +2,11 @@
 use Rattle.std.proofs.Common.{◌≡◌, ◌||◌, ap, ◌∙◌}
 use Rattle.ja_base.specs.declared.ids.Label.{Label}
 use Rattle.ja_base.specs.declared.ids.Site.{Site}
-use Rattle.ja_model.specs.declared.abstraction.Flags.{Flags}
-use Rattle.ja_model.specs.declared.abstraction.NumberPart.{NumberPart}
-use Rattle.ja_model.specs.declared.abstraction.TextPart.{TextPart}
-use Rattle.ja_model.specs.AbstractValue.{Labels, AbstractValue, same_label, no_labels, of_label, of_labels}
-use Rattle.ja_model.specs.AbstractState.{aged}
+use Rattle.ja_abstract.specs.declared.abstraction.Flags.{Flags}
+use Rattle.ja_abstract.specs.declared.abstraction.NumberPart.{NumberPart}
+use Rattle.ja_abstract.specs.declared.abstraction.TextPart.{TextPart}
+use Rattle.ja_abstract.specs.AbstractValue.{Labels, AbstractValue, same_label, no_labels, of_label, of_labels}
+use Rattle.ja_abstract.specs.AbstractState.{aged}
 use Rattle.ja_value.specs.Labels.{aged_labels}
 
 abbrev pub value : Flags → NumberPart → TextPart → Labels → AbstractValue

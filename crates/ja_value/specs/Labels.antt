@@ -4,9 +4,9 @@ use Rattle.std.specs.Ordering.{nat_cmp}
 use Rattle.std.specs.BTreeMap.{BTreeMap, get, is_at}
 use Rattle.ja_base.specs.declared.ids.Label.{Label}
 use Rattle.ja_base.specs.declared.ids.Site.{Site}
-use Rattle.ja_model.specs.declared.abstraction.Mask.{Mask}
-use Rattle.ja_model.specs.AbstractValue.{Labels}
-use Rattle.ja_model.specs.AbstractState.{site_of, new, old, exactly_none}
+use Rattle.ja_abstract.specs.declared.abstraction.Mask.{Mask}
+use Rattle.ja_abstract.specs.AbstractValue.{Labels}
+use Rattle.ja_abstract.specs.AbstractState.{site_of, new, old, exactly_none}
 
 -- the label whose number is n
 abbrev pub label_at : ℕ → Label

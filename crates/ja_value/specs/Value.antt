@@ -4,8 +4,8 @@ use Rattle.std.specs.BTreeSet.{contains}
 use Rattle.ja_value.specs.declared.label_set.LabelSet.{LabelSet}
 use Rattle.ja_value.specs.declared.value.AValue.{AValue}
 use Rattle.ja_value.specs.declared.property.AProp.{AProp}
-use Rattle.ja_model.specs.AbstractValue.{Labels, AbstractValue, AbstractProperty}
-use Rattle.ja_model.specs.AbstractState.{label_number}
+use Rattle.ja_abstract.specs.AbstractValue.{Labels, AbstractValue, AbstractProperty}
+use Rattle.ja_abstract.specs.AbstractState.{label_number}
 
 abbrev pub labels_in : LabelSet → Labels
 labels_in set l = contains nat_cmp set.numbers (label_number l)

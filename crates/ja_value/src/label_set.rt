@@ -2,13 +2,13 @@ ghost use Rattle.std.specs.Prelude.{◌≡◌, ◌≢◌, ◌||◌, ◌<◌, ◌
 ghost use Rattle.std.specs.List.{list_any};
 ghost use Rattle.std.specs.Ordering.{nat_cmp};
 ghost use Rattle.std.specs.BTreeSet.{contains};
-ghost use Rattle.ja_model.specs.AbstractValue.{same_label, no_labels};
-ghost use Rattle.ja_model.specs.AbstractState.{labels_below, label_number, new, old};
-ghost use Rattle.ja_model.specs.Reading.{renamed_labels};
+ghost use Rattle.ja_abstract.specs.AbstractValue.{same_label, no_labels};
+ghost use Rattle.ja_abstract.specs.AbstractState.{labels_below, label_number, new, old};
+ghost use Rattle.ja_abstract.specs.Resolved.{renamed_labels};
 ghost use Rattle.ja_value.specs.Labels.{label_at, aged_labels, mask_in, number_mask, leads};
 
 use ja_base::{Label, Memory, Site};
-use ja_model::Mask;
+use ja_abstract::Mask;
 use std::alloc::Global;
 use std::collections::{BTreeMap, BTreeSet};
 

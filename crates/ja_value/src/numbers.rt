@@ -1,9 +1,9 @@
 ghost use Rattle.std.specs.Prelude.{◌≡◌, ◌≢◌, ◌↔◌, IsTrue, true, false};
 ghost use Rattle.ja_prim.specs.Index.{is_index};
-ghost use Rattle.ja_model.specs.AbstractValue.{number_class, join_classes, join_numbers};
-ghost use Rattle.ja_model.specs.declared.abstraction.NumberPart.TheVariants as number_part;
+ghost use Rattle.ja_abstract.specs.AbstractValue.{number_class, join_classes, join_numbers};
+ghost use Rattle.ja_abstract.specs.declared.abstraction.NumberPart.TheVariants as number_part;
 
-use ja_model::NumberPart;
+use ja_abstract::NumberPart;
 use ja_prim::Int;
 
 /// One more than the greatest array index (ES3 15.4).

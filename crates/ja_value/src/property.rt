@@ -1,11 +1,11 @@
 ghost use Rattle.std.specs.Prelude.{◌≡◌, ◌≢◌, ◌↔◌, IfOk, OnErr, IsTrue, true, false};
-ghost use Rattle.ja_model.specs.AbstractValue.{join_properties, join_attrs, of_attrs, unknown_attrs, absent_property, entry_property};
-ghost use Rattle.ja_model.specs.AbstractState.{aged_property};
+ghost use Rattle.ja_abstract.specs.AbstractValue.{join_properties, join_attrs, of_attrs, unknown_attrs, absent_property, entry_property};
+ghost use Rattle.ja_abstract.specs.AbstractState.{aged_property};
 
 use crate::AValue;
 use ja_base::{Memory, Site};
 use ja_graph::Attrs;
-use ja_model::{AAttrs, May};
+use ja_abstract::{AAttrs, May};
 use std::alloc::Global;
 
 /// An abstract property: its value, and what is known of its attributes.

@@ -1,10 +1,10 @@
 ghost use Rattle.std.specs.Prelude.{◌≡◌, ◌≢◌, ◌↔◌, IsTrue, IfOk, IfSome, is_some, unwrap_or, true, false};
 ghost use Rattle.ja_prim.specs.Index.{is_index_text};
-ghost use Rattle.ja_model.specs.AbstractValue.{text_class, join_text_classes, join_texts};
-ghost use Rattle.ja_model.specs.declared.abstraction.TextPart.TheVariants as text_part;
+ghost use Rattle.ja_abstract.specs.AbstractValue.{text_class, join_text_classes, join_texts};
+ghost use Rattle.ja_abstract.specs.declared.abstraction.TextPart.TheVariants as text_part;
 
 use ja_base::Memory;
-use ja_model::TextPart;
+use ja_abstract::TextPart;
 use ja_prim::{Text16, array_index};
 use std::alloc::Global;
 

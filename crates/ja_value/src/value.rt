@@ -1,14 +1,14 @@
 ghost use Rattle.std.specs.Prelude.{◌≡◌, ◌≢◌, ◌↔◌, IfOk, OnErr, IsTrue, true, false};
 ghost use Rattle.ja_prim.specs.declared.primitive.Num.TheVariants as num;
 ghost use Rattle.ja_prim.specs.declared.primitive.Primitive.TheVariants as primitive;
-ghost use Rattle.ja_model.specs.AbstractValue.{no_value, join, join_flags, has_present_flag, has_number, has_text, of_flags, row_value, of_primitive, of_label, is_present, has_part};
-ghost use Rattle.ja_model.specs.AbstractState.{labels_below, aged};
+ghost use Rattle.ja_abstract.specs.AbstractValue.{no_value, join, join_flags, has_present_flag, has_number, has_text, of_flags, row_value, of_primitive, of_label, is_present, has_part};
+ghost use Rattle.ja_abstract.specs.AbstractState.{labels_below, aged};
 
 use crate::LabelSet;
 use crate::numbers::{join_numbers, same_numbers, widen_number};
 use crate::texts::{changed_text, copy_text_part, covers_text, replace_text};
 use ja_base::{Label, Memory, Site};
-use ja_model::{Flags, NumberPart, TextPart};
+use ja_abstract::{Flags, NumberPart, TextPart};
 use ja_prim::{Int, Num, Primitive, Text16};
 use std::alloc::Global;
 

@@ -1,6 +1,6 @@
 use Rattle.std.proofs.Common.{◌≡◌, map}
 use Rattle.std.specs.List.{range_with_len}
-use Rattle.ja_model.specs.AbstractState.{name_key}
+use Rattle.ja_abstract.specs.AbstractState.{name_key}
 use Rattle.ja_report.proofs.table.keys_below.Given as goal
 
 -- the names so far

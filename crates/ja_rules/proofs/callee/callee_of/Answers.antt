@@ -3,8 +3,8 @@
 use Rattle.std.proofs.Common.{◌≡◌, Bool, true, false, not, refl, ap, ◌∙◌, ◌||◌}
 use Rattle.std.specs.List.{list_any}
 use Rattle.ja_base.specs.declared.ids.Label.{Label}
-use Rattle.ja_model.specs.AbstractValue.{Labels, AbstractValue, has_present_flag, has_number, has_text}
-use Rattle.ja_model.specs.AbstractState.{labels_below}
+use Rattle.ja_abstract.specs.AbstractValue.{Labels, AbstractValue, has_present_flag, has_number, has_text}
+use Rattle.ja_abstract.specs.AbstractState.{labels_below}
 use Rattle.ja_model.specs.Transfer.{can_be_called}
 use Rattle.ja_value.specs.Value.{labels_in, value_of}
 use Rattle.ja_rules.proofs.ReadingLemmas.{any-filter}

@@ -1,7 +1,7 @@
 use Rattle.ja_base.specs.declared.ids.Label.{Label}
 use Rattle.std.proofs.Common.{List, ◌&&◌}
-use Rattle.ja_model.specs.AbstractValue.{same_label}
-use Rattle.ja_model.specs.AbstractState.{same_key}
+use Rattle.ja_abstract.specs.AbstractValue.{same_label}
+use Rattle.ja_abstract.specs.AbstractState.{same_key}
 use Rattle.ja_rules.specs.Readings.{Adds}
 use Rattle.ja_rules.specs.Walking.{demands_for}
 use Rattle.ja_rules.proofs.Done.{done_more}

@@ -1,5 +1,5 @@
 use Rattle.std.proofs.Common.{◌≡◌, subst, sym, ◌&&◌, ◌||◌}
-use Rattle.ja_model.specs.AbstractValue.{same_label}
+use Rattle.ja_abstract.specs.AbstractValue.{same_label}
 use Rattle.ja_value.specs.declared.label_set.LabelSet.{LabelSet}
 use Rattle.ja_value.specs.Value.{labels_in}
 use Rattle.ja_rules.proofs.ReadingLemmas.{label_added, label_left}

@@ -1,6 +1,6 @@
 use Rattle.std.proofs.Common.{rules, length, ◌≡◌, refl, sym, ◌∙◌}
 use Rattle.std.proofs.lemmas.Bool.{false≢true}
-use Rattle.ja_model.proofs.Order.{LeqEntries, entries_same, entries_both, entries_equal}
+use Rattle.ja_abstract.proofs.Order.{LeqEntries, entries_same, entries_both, entries_equal}
 use Rattle.ja_state.specs.State.{entries_of}
 use Rattle.ja_rules.proofs.States.{rose, stayed, demanded_step, one_pair-leq, demanded_none}
 use Rattle.ja_rules.proofs.table.demand_all.Goals as goal

@@ -1,6 +1,6 @@
 use Rattle.std.proofs.Common.{◌≡◌, ◌≢◌, true, false, vec_len}
 use Rattle.ja_model.specs.Table.{demanded}
-use Rattle.ja_model.proofs.Order.{LeqEntries}
+use Rattle.ja_abstract.proofs.Order.{LeqEntries}
 use Rattle.ja_state.specs.State.{entries_of}
 use Rattle.ja_rules.specs.Readings.{demands_in}
 use Rattle.ja_rules.proofs.States.{demands_of_list}

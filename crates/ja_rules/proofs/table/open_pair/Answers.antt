@@ -1,6 +1,6 @@
 use Rattle.std.proofs.Common.{◌≡◌, ap, ◌∙◌}
-use Rattle.ja_model.specs.AbstractValue.{AbstractProperty, join_properties}
-use Rattle.ja_model.specs.Meaning.{opened}
+use Rattle.ja_abstract.specs.AbstractValue.{AbstractProperty, join_properties}
+use Rattle.ja_abstract.specs.Contents.{opened}
 use Rattle.ja_state.specs.State.{entries_of}
 use Rattle.ja_value.specs.Value.{property_of}
 use Rattle.ja_rules.proofs.Visits.{opened_pair_some}

@@ -1,6 +1,6 @@
 use Rattle.std.proofs.Common.{◌≡◌, sym, ◌∙◌, subst}
 use Rattle.std.specs.Result.{IfOk}
-use Rattle.ja_model.specs.AbstractValue.{AbstractProperty}
+use Rattle.ja_abstract.specs.AbstractValue.{AbstractProperty}
 use Rattle.ja_value.specs.Value.{property_of}
 use Rattle.ja_rules.proofs.Opened.{nothing_is, opened_some, opened_none}
 use Rattle.ja_rules.proofs.table.opened.Goals as goal

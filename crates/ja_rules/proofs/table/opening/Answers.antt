@@ -8,7 +8,7 @@ use Rattle.ja_graph.specs.Program.{nodes_of}
 use Rattle.ja_graph.specs.WellFormed.{IsFunctionWellFormed, fixed_registers}
 use Rattle.ja_machine.specs.Frames.{registers_of}
 use Rattle.ja_machine.specs.Machine.{program_function}
-use Rattle.ja_model.specs.Reading.{Entries}
+use Rattle.ja_abstract.specs.Resolved.{Entries}
 use Rattle.ja_state.specs.State.{entries_of}
 use Rattle.ja_rules.proofs.States.{first_is}
 use Rattle.ja_rules.proofs.Tables.{table-opening, registers-opening}

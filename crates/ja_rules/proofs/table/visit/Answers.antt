@@ -3,7 +3,7 @@ use Rattle.std.specs.Prelude.{IfOk, IsSome}
 use Rattle.std.proofs.lemmas.Result.{on_err_weaker}
 use Rattle.ja_model.specs.declared.table.Item.{Item}
 use Rattle.ja_model.specs.declared.table.Item.TheVariants.{Step}
-use Rattle.ja_model.specs.Reading.{Entries}
+use Rattle.ja_abstract.specs.Resolved.{Entries}
 use Rattle.ja_model.specs.Table.{Table, visited, opened_entries, IsItem}
 use Rattle.ja_state.specs.declared.entries.DemandedEntries.{DemandedEntries}
 use Rattle.ja_state.specs.State.{entries_of}

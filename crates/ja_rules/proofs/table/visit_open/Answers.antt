@@ -1,5 +1,5 @@
 use Rattle.std.proofs.Common.{◌≡◌, ◌∙◌, ap, length, rules}
-use Rattle.ja_model.specs.AbstractState.{labels_below, keys_below}
+use Rattle.ja_abstract.specs.AbstractState.{labels_below, keys_below}
 use Rattle.ja_state.specs.State.{entries_of, pairs_of}
 use Rattle.ja_rules.proofs.Visits.{opening_start, opening_step, opening_end}
 use Rattle.ja_rules.proofs.table.visit_open.Goals as goal

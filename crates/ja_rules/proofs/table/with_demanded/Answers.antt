@@ -1,7 +1,7 @@
 use Rattle.std.proofs.Common.{◌≡◌, List, sym, ap, subst, ◌∙◌}
 use Rattle.ja_base.specs.declared.ids.Label.{Label}
-use Rattle.ja_model.specs.declared.abstraction.Key.{Key}
-use Rattle.ja_model.specs.Reading.{Entries}
+use Rattle.ja_abstract.specs.declared.abstraction.Key.{Key}
+use Rattle.ja_abstract.specs.Resolved.{Entries}
 use Rattle.ja_model.specs.Table.{demanded}
 use Rattle.ja_state.specs.State.{entries_of}
 use Rattle.ja_rules.specs.Readings.{demands_in}

@@ -1,5 +1,5 @@
 use Rattle.std.proofs.Common.{[], ◌∷◌, ◌-◌, refl, ◌∙◌}
-use Rattle.ja_model.specs.AbstractState.{name_key}
+use Rattle.ja_abstract.specs.AbstractState.{name_key}
 use Rattle.ja_value.specs.declared.property.AProp.{AProp}
 use Rattle.ja_state.proofs.ListLemmas.{listing_turn, listing_end}
 use Rattle.ja_state.proofs.NumberLemmas.{names_listed, keys_listed}

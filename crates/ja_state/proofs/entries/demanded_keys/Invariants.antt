@@ -1,5 +1,5 @@
 use Rattle.std.proofs.Common.{[], ◌∷◌, ◌-◌}
-use Rattle.ja_model.specs.AbstractState.{name_key}
+use Rattle.ja_abstract.specs.AbstractState.{name_key}
 use Rattle.ja_value.specs.declared.property.AProp.{AProp}
 use Rattle.ja_state.proofs.ListLemmas.{Listing}
 use Rattle.ja_state.proofs.entries.demanded_keys.Given as goal

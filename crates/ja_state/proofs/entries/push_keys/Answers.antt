@@ -1,5 +1,5 @@
 use Rattle.std.proofs.Common.{arith}
-use Rattle.ja_model.specs.declared.abstraction.Key.TheVariants as key
+use Rattle.ja_abstract.specs.declared.abstraction.Key.TheVariants as key
 use Rattle.ja_state.specs.Numbers.{is_demanded}
 use Rattle.ja_state.proofs.ListLemmas.{filter_step}
 use Rattle.ja_state.proofs.entries.push_keys.Goals as goal

@@ -1,5 +1,5 @@
 use Rattle.std.proofs.Common.{◌≡◌, ◌++◌, map, take}
-use Rattle.ja_model.specs.declared.abstraction.Key.{Key}
+use Rattle.ja_abstract.specs.declared.abstraction.Key.{Key}
 use Rattle.ja_state.proofs.entries.push_pairs.Given as goal
 
 abbrev pub invariant-loop-key : goal.invariant-loop-key

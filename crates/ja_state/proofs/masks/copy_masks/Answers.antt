@@ -1,5 +1,5 @@
 use Rattle.std.proofs.Common.{refl}
-use Rattle.ja_model.specs.declared.abstraction.Mask.{Mask}
+use Rattle.ja_abstract.specs.declared.abstraction.Mask.{Mask}
 use Rattle.ja_state.proofs.MapLemmas.{moved_turn}
 use Rattle.ja_state.proofs.masks.copy_masks.Goals as goal
 

@@ -1,4 +1,4 @@
-use Rattle.ja_model.specs.declared.abstraction.Mask.{Mask}
+use Rattle.ja_abstract.specs.declared.abstraction.Mask.{Mask}
 use Rattle.ja_state.proofs.MapLemmas.{Moved}
 use Rattle.ja_state.proofs.masks.copy_masks.Given as goal
 

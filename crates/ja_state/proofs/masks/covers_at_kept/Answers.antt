@@ -1,6 +1,6 @@
 use Rattle.std.proofs.Common.{◌≡◌, sym, ap, ◌∙◌}
-use Rattle.ja_model.specs.declared.abstraction.Mask.{Mask}
-use Rattle.ja_model.specs.AbstractState.{join_masks}
+use Rattle.ja_abstract.specs.declared.abstraction.Mask.{Mask}
+use Rattle.ja_abstract.specs.AbstractState.{join_masks}
 use Rattle.ja_value.specs.Labels.{mask_in}
 use Rattle.ja_state.proofs.MapLemmas.{each_turn, each_end}
 use Rattle.ja_state.proofs.masks.covers_at_kept.Goals as goal

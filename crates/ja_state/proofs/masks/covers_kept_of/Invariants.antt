@@ -1,6 +1,6 @@
 use Rattle.std.proofs.Common.{◌≡◌}
-use Rattle.ja_model.specs.declared.abstraction.Mask.{Mask}
-use Rattle.ja_model.specs.AbstractState.{join_masks}
+use Rattle.ja_abstract.specs.declared.abstraction.Mask.{Mask}
+use Rattle.ja_abstract.specs.AbstractState.{join_masks}
 use Rattle.ja_value.specs.Labels.{mask_in}
 use Rattle.ja_state.proofs.MapLemmas.{AtEach}
 use Rattle.ja_state.proofs.masks.covers_kept_of.Given as goal

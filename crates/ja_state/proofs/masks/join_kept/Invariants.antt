@@ -1,6 +1,6 @@
 use Rattle.std.specs.BTreeMap.{btree_map_len}
-use Rattle.ja_model.specs.declared.abstraction.Mask.{Mask}
-use Rattle.ja_model.specs.AbstractState.{join_masks}
+use Rattle.ja_abstract.specs.declared.abstraction.Mask.{Mask}
+use Rattle.ja_abstract.specs.AbstractState.{join_masks}
 use Rattle.ja_value.specs.Labels.{mask_in}
 use Rattle.ja_state.proofs.MapLemmas.{Joining}
 use Rattle.ja_state.proofs.masks.join_kept.Given as goal

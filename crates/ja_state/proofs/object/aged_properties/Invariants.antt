@@ -1,4 +1,4 @@
-use Rattle.ja_model.specs.AbstractState.{aged_property}
+use Rattle.ja_abstract.specs.AbstractState.{aged_property}
 use Rattle.ja_value.specs.declared.property.AProp.{AProp}
 use Rattle.ja_value.specs.Value.{property_of}
 use Rattle.ja_state.proofs.MapLemmas.{Moved}

@@ -1,5 +1,5 @@
 use Rattle.std.proofs.Common.{◌==◌, if◌then◌else◌, ap, ◌∙◌}
-use Rattle.ja_model.specs.AbstractState.{same_key}
+use Rattle.ja_abstract.specs.AbstractState.{same_key}
 use Rattle.ja_value.specs.Value.{property_of}
 use Rattle.ja_state.specs.State.{Keyed, object_in}
 use Rattle.ja_state.proofs.ExchangeLemmas.{ObjectExchanged, object_exchanged, object_taken, object_put_back}

@@ -1,5 +1,5 @@
 use Rattle.std.proofs.Common.{◌≡◌, map, take}
-use Rattle.ja_model.specs.AbstractState.{aged}
+use Rattle.ja_abstract.specs.AbstractState.{aged}
 use Rattle.ja_value.specs.declared.value.AValue.{AValue}
 use Rattle.ja_value.specs.Value.{value_of}
 use Rattle.ja_state.proofs.registers.aged_values.Given as goal

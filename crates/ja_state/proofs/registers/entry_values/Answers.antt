@@ -1,6 +1,6 @@
 use Rattle.std.proofs.Common.{◌∙◌, sym, arith}
 use Rattle.std.proofs.lemmas.List.FromFn.{map-range_with_len_more}
-use Rattle.ja_model.specs.AbstractState.{entry_registers}
+use Rattle.ja_abstract.specs.AbstractState.{entry_registers}
 use Rattle.ja_value.specs.Value.{value_of}
 use Rattle.ja_state.proofs.RegisterLemmas.{mapped_push}
 use Rattle.ja_state.proofs.registers.entry_values.Goals as goal

@@ -1,6 +1,6 @@
 use Rattle.std.proofs.Common.{◌≡◌, map}
 use Rattle.std.specs.List.{range_with_len}
-use Rattle.ja_model.specs.AbstractState.{entry_registers}
+use Rattle.ja_abstract.specs.AbstractState.{entry_registers}
 use Rattle.ja_value.specs.Value.{value_of}
 use Rattle.ja_state.proofs.registers.entry_values.Given as goal
 

@@ -1,5 +1,5 @@
 use Rattle.std.proofs.Common.{◌∙◌, refl, arith, length}
-use Rattle.ja_model.specs.AbstractValue.{join}
+use Rattle.ja_abstract.specs.AbstractValue.{join}
 use Rattle.ja_value.specs.Value.{value_of}
 use Rattle.ja_state.specs.State.{register_in}
 use Rattle.ja_state.proofs.RegisterLemmas.{passing_step, passing_end, register_here, join_past}

@@ -1,5 +1,5 @@
 use Rattle.std.proofs.Common.{◌≡◌, ◌<◌, ℕ}
-use Rattle.ja_model.specs.AbstractValue.{join}
+use Rattle.ja_abstract.specs.AbstractValue.{join}
 use Rattle.ja_state.specs.State.{register_in}
 use Rattle.ja_state.proofs.registers.values_cover.Given as goal
 

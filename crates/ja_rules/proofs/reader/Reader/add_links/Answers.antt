@@ -1,5 +1,5 @@
 use Rattle.std.proofs.Common.{ap}
-use Rattle.ja_model.specs.AbstractValue.{AbstractProperty}
+use Rattle.ja_abstract.specs.AbstractValue.{AbstractProperty}
 use Rattle.ja_model.specs.Reading.{own}
 use Rattle.ja_value.specs.Value.{labels_in}
 use Rattle.ja_rules.specs.Readings.{view_of}

@@ -1,6 +1,6 @@
 use Rattle.std.proofs.Common.{subst, ◌&&◌}
-use Rattle.ja_model.specs.AbstractValue.{AbstractProperty}
-use Rattle.ja_model.specs.Reading.{demands_of, prototype}
+use Rattle.ja_abstract.specs.AbstractValue.{AbstractProperty}
+use Rattle.ja_abstract.specs.Resolved.{demands_of, prototype}
 use Rattle.ja_rules.specs.Readings.{view_of, Adds}
 use Rattle.ja_rules.proofs.ReadingLemmas.{adds_behind}
 use Rattle.ja_rules.proofs.reader.Reader.ask.Goals as goal

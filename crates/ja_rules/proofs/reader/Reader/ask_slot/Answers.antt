@@ -1,4 +1,4 @@
-use Rattle.ja_model.specs.Reading.{demands_of}
+use Rattle.ja_abstract.specs.Resolved.{demands_of}
 use Rattle.ja_rules.specs.Readings.{view_of}
 use Rattle.ja_rules.proofs.ReadingLemmas.{adds_if}
 use Rattle.ja_rules.proofs.reader.Reader.ask_slot.Goals as goal

@@ -1,7 +1,7 @@
 use Rattle.std.proofs.Common.{◌∙◌, arith, ◌*◌, ◌≡◌, ◌≤◌, length, ap, ◌||◌}
 use Rattle.ja_base.specs.declared.ids.Label.{Label}
-use Rattle.ja_model.specs.AbstractValue.{Labels, same_label}
-use Rattle.ja_model.specs.AbstractState.{labels_below}
+use Rattle.ja_abstract.specs.AbstractValue.{Labels, same_label}
+use Rattle.ja_abstract.specs.AbstractState.{labels_below}
 use Rattle.ja_model.specs.Reading.{next_prototype}
 use Rattle.ja_value.specs.Value.{labels_in}
 use Rattle.ja_rules.specs.Readings.{view_of}

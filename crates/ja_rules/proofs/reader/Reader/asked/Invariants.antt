@@ -1,6 +1,7 @@
 use Rattle.std.proofs.Common.{◌≡◌}
-use Rattle.ja_model.specs.AbstractValue.{same_label}
-use Rattle.ja_model.specs.Reading.{rounds, next_prototype}
+use Rattle.ja_abstract.specs.AbstractValue.{same_label}
+use Rattle.ja_abstract.specs.Resolved.{rounds}
+use Rattle.ja_model.specs.Reading.{next_prototype}
 use Rattle.ja_value.specs.Value.{labels_in}
 use Rattle.ja_rules.specs.Readings.{view_of}
 use Rattle.ja_rules.proofs.reader.Reader.asked.Given as goal

@@ -1,7 +1,7 @@
 use Rattle.std.proofs.Common.{Bool, [], ap, append-nil, ◌∙◌, vec_len}
 use Rattle.ja_graph.specs.Program.{type_error_prototype}
 use Rattle.ja_machine.specs.Events.{not_a_function_message}
-use Rattle.ja_model.specs.AbstractValue.{AbstractValue, has_part}
+use Rattle.ja_abstract.specs.AbstractValue.{AbstractValue, has_part}
 use Rattle.ja_model.specs.Transfer.{throws, uncalled_part}
 use Rattle.ja_rules.specs.Readings.{view_of}
 use Rattle.ja_rules.proofs.StepLemmas.{none_given, given_as, outcome_as}

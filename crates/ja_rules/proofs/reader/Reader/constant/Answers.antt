@@ -1,6 +1,6 @@
 use Rattle.std.proofs.Common.{[], ◌∷◌, ap, ◌∙◌}
-use Rattle.ja_model.specs.AbstractValue.{of_primitive}
-use Rattle.ja_model.specs.AbstractState.{AbstractState, with_register}
+use Rattle.ja_abstract.specs.AbstractValue.{of_primitive}
+use Rattle.ja_abstract.specs.AbstractState.{AbstractState, with_register}
 use Rattle.ja_state.specs.State.{state_of}
 use Rattle.ja_value.specs.Value.{value_of}
 use Rattle.ja_rules.proofs.StepLemmas.{none_given, state_given, outcome_as}

@@ -1,6 +1,6 @@
 use Rattle.ja_rules.specs.Walking.{demands_for}
 use Rattle.ja_rules.specs.Readings.{view_of, Adds}
-use Rattle.ja_model.specs.Reading.{demands_of, origins}
+use Rattle.ja_abstract.specs.Resolved.{demands_of, origins}
 use Rattle.std.proofs.Common.{List, subst, sym, ◌∙◌}
 use Rattle.ja_base.specs.declared.ids.Label.{Label}
 use Rattle.ja_rules.proofs.ReadingLemmas.{adds_same, demands_for_origins}

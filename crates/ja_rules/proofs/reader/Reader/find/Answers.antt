@@ -1,5 +1,5 @@
 use Rattle.std.proofs.Common.{◌≡◌, filter, ap, ◌∙◌}
-use Rattle.ja_model.specs.AbstractValue.{Labels}
+use Rattle.ja_abstract.specs.AbstractValue.{Labels}
 use Rattle.ja_model.specs.Reading.{searched, demands_of_search, found}
 use Rattle.ja_value.specs.declared.value.AValue.{AValue}
 use Rattle.ja_value.specs.Value.{value_of, labels_in}

@@ -1,6 +1,6 @@
 use Rattle.std.proofs.Common.{[], ap, subst, ◌∙◌, vec_len}
-use Rattle.ja_model.specs.declared.abstraction.Key.TheVariants as key
-use Rattle.ja_model.specs.AbstractValue.{Labels, AbstractValue}
+use Rattle.ja_abstract.specs.declared.abstraction.Key.TheVariants as key
+use Rattle.ja_abstract.specs.AbstractValue.{Labels, AbstractValue}
 use Rattle.ja_model.specs.Reading.{found, demands_of_search}
 use Rattle.ja_model.specs.Transfer.{sets}
 use Rattle.ja_value.specs.Value.{value_of}

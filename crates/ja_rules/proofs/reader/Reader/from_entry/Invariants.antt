@@ -1,8 +1,8 @@
 use Rattle.std.proofs.Common.{◌≡◌, vec_len, map}
 use Rattle.std.specs.Option.{option_map_or}
 use Rattle.ja_base.specs.declared.ids.Label.{Label}
-use Rattle.ja_model.specs.AbstractValue.{no_property}
-use Rattle.ja_model.specs.Reading.{renamed, join_all}
+use Rattle.ja_abstract.specs.AbstractValue.{no_property}
+use Rattle.ja_abstract.specs.Resolved.{renamed, join_all}
 use Rattle.ja_value.specs.Value.{property_of}
 use Rattle.ja_rules.specs.Readings.{view_of}
 use Rattle.ja_rules.proofs.Done.{Done}

@@ -1,6 +1,6 @@
 use Rattle.std.proofs.Common.{◌≡◌, List, [], filter, ap, subst, ◌∙◌, Some, None, append-nil, vec_len}
 use Rattle.ja_base.specs.declared.ids.Label.{Label}
-use Rattle.ja_model.specs.AbstractValue.{Labels}
+use Rattle.ja_abstract.specs.AbstractValue.{Labels}
 use Rattle.ja_model.specs.Reading.{demands_of_walk}
 use Rattle.ja_model.specs.Transfer.{weak_put, strong_put, put, written_labels, demands_of_read}
 use Rattle.ja_value.specs.Value.{value_of}

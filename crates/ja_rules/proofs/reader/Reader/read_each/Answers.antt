@@ -1,8 +1,9 @@
 use Rattle.std.proofs.Common.{◌≡◌, List, map, ap, ◌∙◌}
 use Rattle.ja_base.specs.declared.ids.Label.{Label}
-use Rattle.ja_model.specs.declared.abstraction.Key.{Key}
-use Rattle.ja_model.specs.AbstractValue.{AbstractValue, join}
-use Rattle.ja_model.specs.Reading.{View, got, join_values, demands_of_walk}
+use Rattle.ja_abstract.specs.declared.abstraction.Key.{Key}
+use Rattle.ja_abstract.specs.AbstractValue.{AbstractValue, join}
+use Rattle.ja_model.specs.Reading.{View, got, demands_of_walk}
+use Rattle.ja_abstract.specs.Resolved.{join_values}
 use Rattle.ja_value.specs.declared.value.AValue.{AValue}
 use Rattle.ja_value.specs.Value.{value_of}
 use Rattle.ja_rules.specs.declared.demands.DemandList.{DemandList}

@@ -1,6 +1,7 @@
 use Rattle.std.proofs.Common.{◌≡◌, vec_len, map}
 use Rattle.ja_base.specs.declared.ids.Label.{Label}
-use Rattle.ja_model.specs.Reading.{got, join_values, demands_of_walk}
+use Rattle.ja_model.specs.Reading.{got, demands_of_walk}
+use Rattle.ja_abstract.specs.Resolved.{join_values}
 use Rattle.ja_value.specs.Value.{value_of}
 use Rattle.ja_rules.specs.Readings.{view_of, Adds}
 use Rattle.ja_rules.specs.Walking.{demands_over}

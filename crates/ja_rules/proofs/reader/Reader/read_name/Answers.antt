@@ -2,8 +2,8 @@ use Rattle.std.proofs.Common.{◌++◌, ap, subst, refl, vec_len}
 use Rattle.ja_graph.specs.Program.{reference_error_prototype}
 use Rattle.ja_machine.specs.Events.{unbound_message}
 use Rattle.ja_machine.specs.Nodes.{name_text}
-use Rattle.ja_model.specs.declared.abstraction.Key.TheVariants as key
-use Rattle.ja_model.specs.AbstractValue.{AbstractValue}
+use Rattle.ja_abstract.specs.declared.abstraction.Key.TheVariants as key
+use Rattle.ja_abstract.specs.AbstractValue.{AbstractValue}
 use Rattle.ja_model.specs.Transfer.{throws, sets, read_value, demands_of_read}
 use Rattle.ja_value.specs.Value.{value_of}
 use Rattle.ja_rules.specs.Readings.{view_of}

@@ -1,7 +1,8 @@
 use Rattle.std.proofs.Common.{Bool, ap, ◌∙◌, subst, ◌&&◌, ◌||◌}
 use Rattle.ja_base.specs.declared.ids.Label.{Label}
-use Rattle.ja_model.specs.AbstractValue.{Labels, same_label}
-use Rattle.ja_model.specs.Reading.{outer, may_be_absent, may_lack, demands_of, demands_of_walk}
+use Rattle.ja_abstract.specs.AbstractValue.{Labels, same_label}
+use Rattle.ja_abstract.specs.Resolved.{outer, demands_of}
+use Rattle.ja_model.specs.Reading.{may_be_absent, may_lack, demands_of_walk}
 use Rattle.ja_value.specs.Value.{labels_in}
 use Rattle.ja_rules.specs.Readings.{view_of, Adds}
 use Rattle.ja_rules.proofs.ReadingLemmas.{adds_behind}

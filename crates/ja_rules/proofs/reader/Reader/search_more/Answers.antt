@@ -1,5 +1,5 @@
 use Rattle.std.proofs.Common.{◌∙◌}
-use Rattle.ja_model.specs.AbstractState.{labels_below}
+use Rattle.ja_abstract.specs.AbstractState.{labels_below}
 use Rattle.ja_model.specs.Reading.{next_scope}
 use Rattle.ja_value.specs.Value.{labels_in}
 use Rattle.ja_rules.specs.Readings.{view_of}

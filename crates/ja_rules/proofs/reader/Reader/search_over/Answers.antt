@@ -1,6 +1,6 @@
 use Rattle.std.proofs.Common.{List}
 use Rattle.ja_base.specs.declared.ids.Label.{Label}
-use Rattle.ja_model.specs.declared.abstraction.Key.{Key}
+use Rattle.ja_abstract.specs.declared.abstraction.Key.{Key}
 use Rattle.ja_model.specs.Reading.{View}
 use Rattle.ja_rules.specs.declared.demands.DemandList.{DemandList}
 use Rattle.ja_rules.specs.declared.search.Search.{Search}

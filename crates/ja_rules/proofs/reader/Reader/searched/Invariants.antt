@@ -1,5 +1,6 @@
 use Rattle.std.proofs.Common.{◌≡◌}
-use Rattle.ja_model.specs.Reading.{rounds, next_scope}
+use Rattle.ja_abstract.specs.Resolved.{rounds}
+use Rattle.ja_model.specs.Reading.{next_scope}
 use Rattle.ja_value.specs.Value.{labels_in}
 use Rattle.ja_rules.specs.Readings.{view_of}
 use Rattle.ja_rules.proofs.reader.Reader.searched.Given as goal

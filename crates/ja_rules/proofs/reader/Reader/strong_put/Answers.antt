@@ -1,5 +1,5 @@
 use Rattle.std.proofs.Common.{vec_len}
-use Rattle.ja_model.specs.AbstractState.{with_property}
+use Rattle.ja_abstract.specs.AbstractState.{with_property}
 use Rattle.ja_model.specs.Reading.{demands_of_walk}
 use Rattle.ja_model.specs.Transfer.{gives, strong_put, written}
 use Rattle.ja_value.specs.Value.{value_of}

@@ -1,5 +1,5 @@
 use Rattle.std.proofs.Common.{◌≡◌, filter, ap, ◌∙◌}
-use Rattle.ja_model.specs.AbstractValue.{Labels}
+use Rattle.ja_abstract.specs.AbstractValue.{Labels}
 use Rattle.ja_model.specs.Reading.{asked, demands_of_walk}
 use Rattle.ja_rules.specs.Readings.{view_of, IsWalk}
 use Rattle.ja_rules.specs.Walking.{demands_at, demands_over, Ends}

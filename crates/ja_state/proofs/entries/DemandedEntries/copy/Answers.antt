@@ -1,8 +1,8 @@
 use Rattle.std.specs.Ordering.{nat_cmp}
 use Rattle.std.specs.BTreeMap.{get}
 use Rattle.ja_base.specs.declared.ids.Label.{Label}
-use Rattle.ja_model.specs.declared.abstraction.Key.{Key}
-use Rattle.ja_model.specs.AbstractState.{label_number, key_number}
+use Rattle.ja_abstract.specs.declared.abstraction.Key.{Key}
+use Rattle.ja_abstract.specs.AbstractState.{label_number, key_number}
 use Rattle.ja_state.specs.Numbers.{property_in}
 use Rattle.ja_state.proofs.MapLemmas.{moved_turn, moved_end}
 use Rattle.ja_state.proofs.EntryLemmas.{copied}

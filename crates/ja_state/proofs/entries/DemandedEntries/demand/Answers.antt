@@ -1,6 +1,6 @@
 use Rattle.std.proofs.Common.{Option, Some, unwrap_or}
-use Rattle.ja_model.specs.AbstractState.{label_number, key_number}
-use Rattle.ja_model.specs.AbstractValue.{AbstractProperty, no_property}
+use Rattle.ja_abstract.specs.AbstractState.{label_number, key_number}
+use Rattle.ja_abstract.specs.AbstractValue.{AbstractProperty, no_property}
 use Rattle.ja_state.proofs.MapLemmas.{ok_from, err_from}
 use Rattle.ja_state.proofs.EntryLemmas.{Exchanged, exchanged_whole, exchanged_differs, exchanged_kept}
 use Rattle.ja_state.proofs.entries.DemandedEntries.demand.Goals as goal

@@ -1,6 +1,6 @@
 use Rattle.std.proofs.Common.{ℕ, ◌*◌, map}
 use Rattle.std.specs.BTreeMap.{BTreeMap}
-use Rattle.ja_model.specs.declared.abstraction.Key.{Key}
+use Rattle.ja_abstract.specs.declared.abstraction.Key.{Key}
 use Rattle.ja_value.specs.declared.property.AProp.{AProp}
 use Rattle.ja_value.specs.Labels.{label_at}
 use Rattle.ja_state.specs.Numbers.{keys_in}

@@ -1,6 +1,6 @@
 use Rattle.std.proofs.Common.{Option, Some}
-use Rattle.ja_model.specs.AbstractState.{label_number, key_number}
-use Rattle.ja_model.specs.AbstractValue.{AbstractProperty}
+use Rattle.ja_abstract.specs.AbstractState.{label_number, key_number}
+use Rattle.ja_abstract.specs.AbstractValue.{AbstractProperty}
 use Rattle.ja_value.specs.Value.{property_of}
 use Rattle.ja_state.proofs.MapLemmas.{ok_from, err_from}
 use Rattle.ja_state.proofs.EntryLemmas.{Exchanged, exchanged_whole, exchanged_kept}

@@ -1,5 +1,5 @@
 use Rattle.std.proofs.Common.{◌≡◌, sym, ap, ◌∙◌}
-use Rattle.ja_model.specs.AbstractValue.{join_properties}
+use Rattle.ja_abstract.specs.AbstractValue.{join_properties}
 use Rattle.ja_value.specs.declared.property.AProp.{AProp}
 use Rattle.ja_value.specs.Value.{property_of}
 use Rattle.ja_state.specs.State.{at}

@@ -1,5 +1,5 @@
 use Rattle.std.proofs.Common.{ap, sym, ◌∙◌}
-use Rattle.ja_model.specs.AbstractValue.{join_properties}
+use Rattle.ja_abstract.specs.AbstractValue.{join_properties}
 use Rattle.ja_state.specs.State.{Keyed, object_of}
 use Rattle.ja_state.proofs.object.AObject.join.Goals as goal
 

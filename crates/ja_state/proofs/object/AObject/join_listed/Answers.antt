@@ -1,5 +1,5 @@
 use Rattle.std.proofs.Common.{◌∙◌, ap}
-use Rattle.ja_model.specs.AbstractValue.{AbstractProperty, join_properties}
+use Rattle.ja_abstract.specs.AbstractValue.{AbstractProperty, join_properties}
 use Rattle.ja_value.specs.Value.{property_of}
 use Rattle.ja_state.specs.State.{at}
 use Rattle.ja_state.proofs.MapLemmas.{joining_turn}

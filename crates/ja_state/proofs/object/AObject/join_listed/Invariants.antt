@@ -1,6 +1,6 @@
 use Rattle.std.proofs.Common.{◌≡◌}
 use Rattle.std.specs.BTreeMap.{btree_map_len}
-use Rattle.ja_model.specs.AbstractValue.{AbstractProperty, join_properties}
+use Rattle.ja_abstract.specs.AbstractValue.{AbstractProperty, join_properties}
 use Rattle.ja_value.specs.Value.{property_of}
 use Rattle.ja_state.specs.State.{at}
 use Rattle.ja_state.proofs.MapLemmas.{Joining}

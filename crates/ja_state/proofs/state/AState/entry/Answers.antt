@@ -1,5 +1,5 @@
 use Rattle.std.proofs.Common.{arith}
-use Rattle.ja_model.specs.AbstractState.{label_number}
+use Rattle.ja_abstract.specs.AbstractState.{label_number}
 use Rattle.ja_state.proofs.StateLemmas.{registers_entry, registers_count, no_objects, no_masks}
 use Rattle.ja_state.proofs.state.AState.entry.Goals as goal
 

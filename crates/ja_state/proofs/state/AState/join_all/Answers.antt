@@ -1,5 +1,5 @@
 use Rattle.std.proofs.Common.{List, subst}
-use Rattle.ja_model.specs.AbstractValue.{join}
+use Rattle.ja_abstract.specs.AbstractValue.{join}
 use Rattle.ja_value.specs.declared.value.AValue.{AValue}
 use Rattle.ja_state.specs.Joined.{IsJoined}
 use Rattle.ja_state.specs.State.{register_in}

@@ -1,5 +1,5 @@
 use Rattle.std.proofs.Common.{ap, sym, ◌∙◌}
-use Rattle.ja_model.specs.AbstractState.{AbstractState, join_states}
+use Rattle.ja_abstract.specs.AbstractState.{AbstractState, join_states}
 use Rattle.ja_state.specs.State.{state_of}
 use Rattle.ja_state.proofs.state.AState.joined.Goals as goal
 

@@ -1,6 +1,6 @@
 use Rattle.std.proofs.Common.{[], ◌∷◌, refl, ◌∙◌}
-use Rattle.ja_model.specs.declared.abstraction.Mask.{Mask}
-use Rattle.ja_model.specs.AbstractState.{site_of}
+use Rattle.ja_abstract.specs.declared.abstraction.Mask.{Mask}
+use Rattle.ja_abstract.specs.AbstractState.{site_of}
 use Rattle.ja_state.specs.State.{is_masked}
 use Rattle.ja_state.proofs.ListLemmas.{listing_turn, listing_end, listing_filter, piece_first}
 use Rattle.ja_state.proofs.state.AState.masked.Goals as goal

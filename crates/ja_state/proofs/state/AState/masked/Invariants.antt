@@ -1,6 +1,6 @@
 use Rattle.std.proofs.Common.{[], ◌∷◌}
-use Rattle.ja_model.specs.declared.abstraction.Mask.{Mask}
-use Rattle.ja_model.specs.AbstractState.{site_of}
+use Rattle.ja_abstract.specs.declared.abstraction.Mask.{Mask}
+use Rattle.ja_abstract.specs.AbstractState.{site_of}
 use Rattle.ja_state.proofs.ListLemmas.{Listing}
 use Rattle.ja_state.proofs.state.AState.masked.Given as goal
 

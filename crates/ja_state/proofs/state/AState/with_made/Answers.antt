@@ -1,6 +1,6 @@
 use Rattle.std.proofs.Common.{◌==◌, ℕ, if◌then◌else◌, ◌∙◌, ap, map}
-use Rattle.ja_model.specs.declared.abstraction.Mask.{Mask}
-use Rattle.ja_model.specs.AbstractState.{aged, exactly_some}
+use Rattle.ja_abstract.specs.declared.abstraction.Mask.{Mask}
+use Rattle.ja_abstract.specs.AbstractState.{aged, exactly_some}
 use Rattle.ja_value.specs.declared.value.AValue.{AValue}
 use Rattle.ja_value.specs.Value.{value_of}
 use Rattle.ja_value.specs.Labels.{mask_in}

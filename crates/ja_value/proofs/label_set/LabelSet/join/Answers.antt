@@ -1,5 +1,5 @@
 use Rattle.std.proofs.Common.{◌||◌, ap, sym, ◌∙◌}
-use Rattle.ja_model.specs.AbstractValue.{Labels}
+use Rattle.ja_abstract.specs.AbstractValue.{Labels}
 use Rattle.ja_value.specs.Value.{labels_in}
 use Rattle.ja_value.proofs.label_set.LabelSet.join.Goals as goal
 

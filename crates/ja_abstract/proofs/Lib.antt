@@ -1,0 +1,15 @@
+pub mod Among
+pub mod AtKeys
+pub mod Atoms
+pub mod Compared
+pub mod Converted
+pub mod Examples
+pub mod IndexTexts
+pub mod Joins
+pub mod Keys
+pub mod Labels
+pub mod Lists
+pub mod Order
+pub mod Parts
+pub mod Rounds
+pub mod Texts

@@ -1,0 +1,15 @@
+pub mod AbstractState
+pub mod AbstractValue
+pub mod Composed
+pub mod Contents
+pub mod Keys
+pub mod Made
+pub mod Operations
+pub mod Order
+pub mod Parts
+pub mod Primitives
+pub mod Profile
+pub mod Reading
+pub mod Resolved
+pub mod Values
+pub mod Writes

@@ -1,0 +1,13 @@
+pub mod BuiltIns
+pub mod Calls
+pub mod Edges
+pub mod Enumeration
+pub mod Names
+pub mod Objects
+pub mod Operators
+pub mod Out
+pub mod Properties
+pub mod Scopes
+pub mod Table
+pub mod Transfer
+pub mod Warning

@@ -1,0 +1,4 @@
+pub mod Faults
+pub mod Invariants
+pub mod Sound
+pub mod Statements
