@@ -7,3 +7,7 @@
 //! one of which holds of the heap after them; a state read through a later one holds of both moments
 //! together.
 #![tactic(auto)]
+
+mod laws;
+
+pub use laws::moments_compose;

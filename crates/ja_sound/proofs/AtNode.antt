@@ -55,7 +55,7 @@ use Rattle.ja_meaning.proofs.KeyTexts.{key-among}
 use Rattle.ja_rows.specs.Out as abstract
 use Rattle.ja_rows.specs.Out.{Point, Given}
 use Rattle.ja_sound.specs.Statements.{IsAt, IsGiven}
-use Rattle.ja_sound.proofs.Returned.{IsDestinationOf, frame_with_result}
+use Rattle.ja_sound.proofs.Registers.{IsDestinationOf, destination_of, frame_with_result}
 use Rattle.ja_sound.proofs.Steps as steps
 
 -- ---- texts as keys
@@ -99,16 +99,8 @@ module _ (e : Heap) (c : Conf) (top : Frame) (below : List Frame) (x : Point) (w
   pub fits : (r : Reg) → IsRegister fr.function r → r.0 < length top.registers
   fits r l = let k : length top.registers ≡ fr.function.registers = fr.registers in omega arith
 
-  parameters_are : parameters_of p top.function ≡ length fr.function.parameters
-  parameters_are = ap (λ o. option_map_or (λ (fn : Function). length fn.parameters) o 0) fr.function_is
-
-  apart_by : (n : ℕ) → (n ≡ 0) ⊎ ((n ≡ 2) ⊎ (6 + length fr.function.parameters ≤ n)) → n ≢ 5 + parameters_of p top.function
-  apart_by n (inl z) same = let k = parameters_are in absurd (omega arith)
-  apart_by n (inr (inl z)) same = let k = parameters_are in absurd (omega arith)
-  apart_by n (inr (inr l)) same = let k : parameters_of p top.function ≡ length fr.function.parameters = parameters_are in absurd (omega arith)
-
   pub dest : (r : Reg) → IsDestination fr.function r → IsDestinationOf p top r
-  dest r d = record { fits = fits r d.0; apart = apart_by r.0 d.1 }
+  dest r d = destination_of p c.heap top fr r d
 
   pub dest_thrown : IsDestinationOf p top thrown
   dest_thrown = dest thrown (sets_thrown p good c.heap top fr)

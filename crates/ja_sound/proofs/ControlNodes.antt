@@ -74,7 +74,8 @@ use Rattle.ja_rows.specs.Out.{Point, Given, goes, sets}
 use Rattle.ja_rows.specs.Transfer.{transfer_node}
 use Rattle.ja_rows.specs.Properties.{functions_in, prototype_keys, instance_prototype, instance_value}
 use Rattle.ja_sound.specs.Statements.{IsAt, IsGiven}
-use Rattle.ja_sound.proofs.Returned.{frame_with_result, member-sets}
+use Rattle.ja_sound.proofs.Registers.{frame_with_result}
+use Rattle.ja_sound.proofs.Returned.{member-sets}
 use Rattle.ja_sound.proofs.AtNode as rows
 use Rattle.ja_sound.proofs.PropertyNodes.{member-goes, throws_gives, sets_gives, rd, has, of_heap}
 

@@ -9,10 +9,12 @@ pub mod Covering
 pub mod DigitRows
 pub mod Entered
 pub mod Into
+pub mod Left
 pub mod ObjectNodes
 pub mod Opening
 pub mod OperationRows
 pub mod PropertyNodes
+pub mod Registers
 pub mod Returned
 pub mod SoundSteps
 pub mod Stacked

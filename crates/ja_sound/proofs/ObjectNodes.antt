@@ -99,7 +99,7 @@ use Rattle.ja_rows.specs.Out.{Point, Given, goes, sets, name_keys}
 use Rattle.ja_rows.specs.Transfer.{transfer_node}
 use Rattle.ja_rows.specs.Objects.{bools_of, numbers_of}
 use Rattle.ja_sound.specs.Statements.{IsAt}
-use Rattle.ja_sound.proofs.Returned.{IsDestinationOf, frame_with_result}
+use Rattle.ja_sound.proofs.Registers.{IsDestinationOf, frame_with_result}
 use Rattle.ja_sound.proofs.AtNode as rows
 use Rattle.ja_sound.proofs.PropertyNodes.{member-goes, throws_gives, sets_gives, rd, has, written_gives}
 

@@ -76,7 +76,8 @@ use Rattle.ja_rows.specs.Out.{Point, Given, goes, all_go, sets, sets_in, sets_re
 use Rattle.ja_rows.specs.Names.{without_arrays}
 use Rattle.ja_rows.specs.Transfer.{transfer_node}
 use Rattle.ja_sound.specs.Statements.{IsAt}
-use Rattle.ja_sound.proofs.Returned.{frame_with_result, member-sets}
+use Rattle.ja_sound.proofs.Registers.{frame_with_result}
+use Rattle.ja_sound.proofs.Returned.{member-sets}
 use Rattle.ja_sound.proofs.AtNode.{keys_among}
 use Rattle.ja_sound.proofs.AtNode as rows
 use Rattle.ja_sound.proofs.Steps as steps

@@ -47,24 +47,13 @@ use Rattle.ja_rows.specs.Out.{Point, Given, sets_in}
 use Rattle.ja_rows.specs.Calls as calls
 use Rattle.ja_rows.specs.Calls.{calling_state, given_back, returned}
 use Rattle.ja_sound.specs.Statements.{IsAt, IsGiven, edge_into, IsCalling}
+use Rattle.ja_sound.proofs.Registers.{IsDestinationOf, frame_with_result}
 
 -- a state that a register is set in is given, where the value has a part
 pub member-sets : (w : View) (a : AbstractState) (dst : Reg) (v : AbstractValue) (next : NodeId) → IsTrue (has_present w v) → Member {X = ℕ × AbstractState} (next.0, with_register a dst v) (sets_in w a dst v next)
 member-sets w a dst v next e =
     let x : ℕ × AbstractState = (next.0, with_register a dst v) in
     subst (Member x) (sym (cond-true (has_present w v) (x ∷ []) [] e)) (inl refl)
-
--- a register that a node sets is one of the frame's, and none that holds an argument
-pub record IsDestinationOf (p : Program) (f : Frame) (dst : Reg) : Type 0 where
-  pub fits : dst.0 < length f.registers
-  pub apart : dst.0 ≢ rest_register (parameters_of p f.function)
-
--- .. so the state with the register set holds of the frame with the result
-pub frame_with_result : (p : Program) (h : Heap) (f : Frame) (a : AbstractState) (dst : Reg) (v : Value) (u : AbstractValue) (next : NodeId) → IsDestinationOf p f dst → IsTrue (has_value h u v) → HoldsOfFrame p h f a → HoldsOfFrame p h (with_result f dst v next) (with_register a dst u)
-frame_with_result p h f a dst v u next dest has holds = record {
-  registers = registers_with_result h f a dst v u dest.fits has holds.registers;
-  rest = λ i x more is. let r = rest_register (parameters_of p f.function) in subst (λ (s : AbstractValue). IsTrue (has_value h s x)) (sym (cond-false (dst.0 == r) u (a.register r) (ne_eqb dst.0 r dest.apart))) (holds.rest i x more is);
-}
 
 -- ---- the registers that a node sets
 

@@ -58,7 +58,8 @@ use Rattle.ja_rows.specs.Out as abstract
 use Rattle.ja_rows.specs.Transfer.{transfer_node}
 use Rattle.ja_rows.specs.Out.{Point, Given, goes, sets, read_value}
 use Rattle.ja_sound.specs.Statements.{IsAt, IsGiven}
-use Rattle.ja_sound.proofs.Returned.{IsDestinationOf, frame_with_result, member-sets}
+use Rattle.ja_sound.proofs.Registers.{IsDestinationOf, frame_with_result}
+use Rattle.ja_sound.proofs.Returned.{member-sets}
 
 known_value : (h : Heap) (q : AbstractProperty) (x : Content) (attrs : Attrs) (v : Value) → x ≡ contents.Value v → IsTrue (knows h q (content_of x attrs)) → IsTrue (has_value h q.value v)
 known_value h q (contents.Value u) attrs v is known = subst (λ y. IsTrue (has_value h q.value y)) (value_same u v is) (and_parts _ _ known).0

@@ -1,0 +1,35 @@
+//! What a closed table says of every run. The functions do nothing; their contracts are the laws.
+
+ghost use Rattle.ja_graph.specs.declared.program.Program.{Program};
+ghost use Rattle.ja_graph.specs.WellFormed.{IsWellFormed};
+ghost use Rattle.ja_rows.specs.Table.{Table, IsClosed};
+ghost use Rattle.ja_sound.specs.Invariants.{AreScoped, AreInProfile, AreBounded, AreListed};
+ghost use Rattle.ja_sound.specs.Sound.{CoversRuns};
+ghost use Rattle.ja_sound.specs.Statements.{SoundWithin, SoundInto, SoundOutOf};
+
+use ja_machine::{objects_stay, states_are_kept, steps_go_along_edges};
+
+/// A step within an activation, of any kind of node: where the view's state holds, and the values
+/// that the node demands are there, one of the states that the node gives holds after it.
+pub fn steps_sound()
+    ensures { (p : Program) → IsWellFormed p → SoundWithin p }
+{}
+
+/// A step out of a function: where the state at the exit holds, and the caller's state held when the
+/// function was entered, one of the states that the exit gives back holds of the caller after it.
+pub fn returns_sound()
+    ensures { (p : Program) → IsWellFormed p → SoundOutOf p }
+{
+    steps_go_along_edges();
+}
+
+/// A closed table covers every run of its program, where steps into functions are sound, and the
+/// invariants hold of its runs.
+pub fn closed_covers()
+    ensures { (p : Program) (t : Table) → IsWellFormed p → IsClosed p t → SoundInto p
+        → AreScoped p → AreInProfile p → AreBounded p → AreListed p → CoversRuns p t }
+{
+    states_are_kept();
+    steps_go_along_edges();
+    objects_stay();
+}
