@@ -14,13 +14,17 @@ use Rattle.ja_abstract.specs.Keys.{Spot, named, internal, key_of, name_of}
 use Rattle.ja_abstract.specs.Made.{Own, at_keys_of}
 
 -- the key of a name that stands among the program's, or of a rest
-is_key_by : (p : Program) (o : Option ℕ) (index : Bool) → ((n : ℕ) → o ≡ Some n → n < length p.names) → IsTrue (is_key p (option_map_or name_key o (cond index key.OtherIndex key.OtherName)))
+is_key_by : (p : Program) (o : Option ℕ) (index : Bool)
+    → ((n : ℕ) → o ≡ Some n → n < length p.names)
+    → IsTrue (is_key p (option_map_or name_key o (cond index key.OtherIndex key.OtherName)))
 is_key_by p (Some n) index fits = lt-ltb n (length p.names) (fits n refl)
 is_key_by p None true fits = refl
 is_key_by p None false fits = refl
 
 pub is_key_of : (p : Program) (x : Spot) → IsTrue (is_key p (key_of p x))
-is_key_of p (named t) = is_key_by p (name_of p t) (is_index_text t) (λ n e. (position-Some (λ name. same_text name t) p.names n [] e).0)
+is_key_of p (named t) =
+    is_key_by p (name_of p t) (is_index_text t)
+    (λ n e. (position-Some (λ name. same_text name t) p.names n [] e).0)
 is_key_of p (internal s) = refl
 
 -- there the object's own properties count

@@ -75,7 +75,8 @@ text_and_number = refl
 text_and_number_apart : on op.LooseEq index_text minus ≡ of_bools false true
 text_and_number_apart = refl
 
-remainder_of_class : abstract_binary (operator op.Rem) index two ≡ gives (join nan_value whole_value)
+remainder_of_class : abstract_binary (operator op.Rem) index two
+    ≡ gives (join nan_value whole_value)
 remainder_of_class = refl
 
 unsigned_of_class : (to_uint32 index).value ≡ index
@@ -84,16 +85,23 @@ unsigned_of_class = refl
 shift_of_nan : (abstract_binary (operator op.Shl) nan_value index).value ≡ whole_value
 shift_of_nan = refl
 
-text_sum : abstract_binary (operator op.Add) other_text null_value ≡ gives_or_stops (of_text_part text_part.Text)
+text_sum : abstract_binary (operator op.Add) other_text null_value
+    ≡ gives_or_stops (of_text_part text_part.Text)
 text_sum = refl
 
 -- ---- texts of whole numbers: to 2^53 - 1, without a zero in front, and 0 without a minus
 
 texts : List (List ℕ)
-texts = codes "9007199254740991" ∷ codes "-12" ∷ codes "0" ∷ codes "9007199254740993" ∷ codes "-0" ∷ codes "007" ∷ []
+texts =
+    codes "9007199254740991" ∷ codes "-12" ∷ codes "0" ∷ codes "9007199254740993" ∷ codes "-0" ∷
+    codes "007" ∷ []
 
 whole_texts : map is_whole_text texts ≡ true ∷ true ∷ true ∷ false ∷ false ∷ false ∷ []
-unfolding texts spec.text_to_number spec.literal spec.is_hexadecimal spec.signed_literal spec.unsigned spec.decimal numerals.digits numerals.behind_digits numerals.fraction numerals.behind_fraction numerals.exponent numerals.behind_exponent numerals.behind_decimal numerals.decimal_value numerals.placed behind_blanks before_blanks is_white is_terminator decimal_digits
+unfolding texts spec.text_to_number spec.literal spec.is_hexadecimal spec.signed_literal
+    spec.unsigned spec.decimal numerals.digits numerals.behind_digits numerals.fraction
+    numerals.behind_fraction numerals.exponent numerals.behind_exponent numerals.behind_decimal
+    numerals.decimal_value numerals.placed behind_blanks before_blanks is_white is_terminator
+    decimal_digits
 whole_texts = refl
 
 -- ---- digits by a radix: of a class any text, of two constants the machine's or none

@@ -39,18 +39,23 @@ list_any-filter test keep (x ∷ xs) h =
 
 -- ---- entries of lists that are mapped
 
-pub member-map : {A B : Type 0} (f : A → B) (x : A) (xs : List A) → Member x xs → Member (f x) (map f xs)
+pub member-map : {A B : Type 0} (f : A → B) (x : A) (xs : List A) → Member x xs
+    → Member (f x) (map f xs)
 member-map f x [] m = elim m [ ]
 member-map f x (y ∷ ys) (inl e) = inl (ap f e)
 member-map f x (y ∷ ys) (inr m) = inr (member-map f x ys m)
 
-pub member-flat_map : {A B : Type 0} (f : A → List B) (x : A) (y : B) (xs : List A) → Member x xs → Member y (f x) → Member y (flat_map f xs)
+pub member-flat_map : {A B : Type 0} (f : A → List B) (x : A) (y : B) (xs : List A) → Member x xs
+    → Member y (f x) → Member y (flat_map f xs)
 member-flat_map f x y [] m n = elim m [ ]
-member-flat_map f x y (z ∷ zs) (inl e) n = member-append_left y (f z) (flat_map f zs) (subst (λ u. Member y (f u)) (sym e) n)
-member-flat_map f x y (z ∷ zs) (inr m) n = member-append_right y (f z) (flat_map f zs) (member-flat_map f x y zs m n)
+member-flat_map f x y (z ∷ zs) (inl e) n =
+    member-append_left y (f z) (flat_map f zs) (subst (λ u. Member y (f u)) (sym e) n)
+member-flat_map f x y (z ∷ zs) (inr m) n =
+    member-append_right y (f z) (flat_map f zs) (member-flat_map f x y zs m n)
 
 pub member-range : (a n i : ℕ) → i < n → Member (a + i) (range_with_len a n)
 member-range a zero i l = absurd (omega arith)
 member-range a (suc n) zero l = inl (omega arith)
 member-range a (suc n) (suc i) l =
-    inr (subst (λ k. Member k (range_with_len (a + 1) n)) (let e : a + 1 + i ≡ a + suc i = omega arith in e) (member-range (a + 1) n i (omega arith)))
+    inr (subst (λ k. Member k (range_with_len (a + 1) n))
+    (let e : a + 1 + i ≡ a + suc i = omega arith in e) (member-range (a + 1) n i (omega arith)))

@@ -70,7 +70,8 @@ number_text_has number_part.Whole t = is_whole_text t
 
 -- a text that the value may have as a key: one of its texts, or the text of one of its numbers
 abbrev pub has_key_text : AbstractValue → List ℕ → Bool
-has_key_text v t = text_has v.text t || (number_text_has v.number t || (v.flags.nan && same_text (codes "NaN") t))
+has_key_text v t =
+    text_has v.text t || (number_text_has v.number t || (v.flags.nan && same_text (codes "NaN") t))
 
 -- whether a rest key may be the key of a text, of the text of a number
 abbrev pub text_has_rest : Program → TextPart → Key → Bool
@@ -89,7 +90,8 @@ number_has_rest p number_part.Whole k = true
 
 abbrev pub has_rest : Program → AbstractValue → Key → Bool
 has_rest p v k =
-    text_has_rest p v.text k || (number_has_rest p v.number k || (v.flags.nan && same_key (text_key p (codes "NaN")) k))
+    text_has_rest p v.text k || (number_has_rest p v.number k
+    || (v.flags.nan && same_key (text_key p (codes "NaN")) k))
 
 abbrev pub has_key : Program → AbstractValue → Key → Bool
 has_key p v (key.Name n) = has_key_text v (name_text p n)

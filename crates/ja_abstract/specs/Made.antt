@@ -1,5 +1,6 @@
--- The objects that nodes make, as properties by key, and states with objects more: the new object is the one most
--- recently made at its site, and the one that was new is among the old (SAS 2006, recency abstraction).
+-- The objects that nodes make, as properties by key, and states with objects more: the new object
+-- is the one most recently made at its site, and the one that was new is among the old (SAS 2006,
+-- recency abstraction).
 use Rattle.std.specs.Prelude.{ℕ, ℤ, pos, ◌+◌, if◌then◌else◌, nat_lt, int_lt, List, [], ◌∷◌, ◌++◌, map, length, slice_get, Option, Some, None, unwrap_or}
 use Rattle.std.specs.List.{range_with_len}
 use Rattle.std.specs.Option.{option_map, option_map_or}
@@ -76,7 +77,8 @@ error_own proto message =
 abbrev pub empty_own : Made → Own
 empty_own made.Object = own_of (inherits builtins.OBJECT_PROTOTYPE ∷ [])
 empty_own made.Array =
-    own_of (inherits builtins.ARRAY_PROTOTYPE ∷ property_of length_key (whole_constant 0) kept_hidden ∷ [])
+    own_of (inherits builtins.ARRAY_PROTOTYPE ∷ property_of length_key
+    (whole_constant 0) kept_hidden ∷ [])
 empty_own (made.Error kind) = own_of (inherits (prototype_of_error kind) ∷ [])
 
 abbrev pub wrapper_own : Site → AbstractValue → Own
@@ -132,7 +134,8 @@ parameter_ids p f = option_map_or (λ (fn : Function). fn.parameters) (slice_get
 abbrev pub parameter_properties : AbstractState → ℕ → List NameId → List (Key × AbstractProperty)
 parameter_properties a j [] = []
 parameter_properties a j (n ∷ ns) =
-    parameter_properties a (j + 1) ns ++ property_of (key.Name n) (a.register (parameter_register j)) dont_delete ∷ []
+    parameter_properties a (j + 1) ns ++ property_of (key.Name n)
+    (a.register (parameter_register j)) dont_delete ∷ []
 
 abbrev pub number_alone : NumberPart → Option ℤ
 number_alone (number_part.One z) = Some z
@@ -141,7 +144,8 @@ number_alone n = None
 -- the one number that a value is, if it is nothing else
 abbrev pub one_number : Program → AbstractValue → Option ℤ
 one_number p v =
-    if has_part (labels_of p) (record v { number = number_part.Nothing }) then None else number_alone v.number
+    if has_part (labels_of p) (record v { number = number_part.Nothing }) then None
+    else number_alone v.number
 
 -- an argument is there below a count that is one number, and may be there at any other count
 abbrev pub if_reached : Option ℤ → ℕ → AbstractProperty → AbstractProperty
@@ -152,8 +156,11 @@ if_reached None j q = join_properties q absent_property
 abbrev pub argument_property : Program → FnId → AbstractState → ℕ → AbstractProperty
 argument_property p f a j =
     let parameters = parameters_of p f in
-    let v = if nat_lt j parameters then a.register (parameter_register j) else a.register (rest_register parameters) in
-    if_reached (one_number p (a.register count_register)) j (record { value = v; attrs = of_attrs dont_enum })
+    let v =
+    if nat_lt j parameters then a.register (parameter_register j) else a.register
+    (rest_register parameters) in
+    if_reached (one_number p (a.register count_register)) j
+    (record { value = v; attrs = of_attrs dont_enum })
 
 abbrev pub index_property : Program → FnId → AbstractState → Key → Option AbstractProperty
 index_property p f a key.OtherIndex =
@@ -171,21 +178,25 @@ arguments_own p f a k =
 -- the arguments object first, whose name hides a parameter of its name
 abbrev pub arguments_binding : Option Site → List (Key × AbstractProperty)
 arguments_binding None = []
-arguments_binding (Some site) = property_of (key.Name builtins.ARGUMENTS) (of_label (new site)) dont_delete ∷ []
+arguments_binding (Some site) =
+    property_of (key.Name builtins.ARGUMENTS) (of_label (new site)) dont_delete ∷ []
 
 abbrev pub activation_own : Program → FnId → Option Site → AbstractState → Own
 activation_own p f arguments a =
     let parameters = parameter_properties a 0 (parameter_ids p f) in
-    own_of (slot_of outer (of_labels (a.register scope.0).label) ∷ (arguments_binding arguments ++ parameters))
+    own_of (slot_of outer (of_labels (a.register scope.0).label) ∷
+    (arguments_binding arguments ++ parameters))
 
 -- ---- states with objects more
 
--- an object has its own properties at the keys of the program; at any other key everything is as at entry
+-- an object has its own properties at the keys of the program; at any other key everything is as at
+-- entry
 abbrev pub at_keys_of : Program → Own → Own
 at_keys_of p own k = if is_key p k then own k else entry_property
 
 abbrev pub with_own : Program → AbstractState → Label → Own → AbstractState
-with_own p a l own = record a { property = λ m j. if same_label l m then at_keys_of p own j else a.property m j }
+with_own p a l own =
+    record a { property = λ m j. if same_label l m then at_keys_of p own j else a.property m j }
 
 -- an object is made at a site; what it has is said by the state in which the others are old
 abbrev pub with_object : Program → AbstractState → Site → (AbstractState → Own) → AbstractState
@@ -194,7 +205,8 @@ with_object p a site own =
     with_own p b (new site) (own b)
 
 abbrev pub with_objects :
-    Program → AbstractState → Site → (AbstractState → Own) → Site → (AbstractState → Own) → AbstractState
+    Program → AbstractState → Site → (AbstractState → Own) → Site → (AbstractState → Own)
+    → AbstractState
 with_objects p a first own second other =
     let b = with_made (with_made a first) second in
     with_own p (with_own p b (new first) (own b)) (new second) (other b)

@@ -1,5 +1,5 @@
--- The abstract operations of the built-in functions: what each gives of abstract values, and what it demands (ES3
--- 15.2.4, 15.3.4.3, 15.7.4.2, and the internal properties of 8.6.2).
+-- The abstract operations of the built-in functions: what each gives of abstract values, and what
+-- it demands (ES3 15.2.4, 15.3.4.3, 15.7.4.2, and the internal properties of 8.6.2).
 use Rattle.std.specs.Prelude.{ℕ, pos, Bool, false, not, ◌&&◌, ◌||◌, if◌then◌else◌, ◌==◌, nat_le, List, [], ◌∷◌, map, slice_get, Some}
 use Rattle.std.specs.List.{list_any}
 use Rattle.std.specs.Option.{option_map_or}
@@ -52,7 +52,9 @@ is_object w v = looked (of_bools (has_labels w v) (has_atoms v))
 
 abbrev pub class_of : View → AbstractValue → Looked
 class_of w v =
-    let text = λ (l : Label). of_primitive (primitive.Text (class_name (class_of_site w.program l.site.0))) in
+    let text =
+    λ (l : Label). of_primitive (primitive.Text (class_name (class_of_site w.program l.site.0)))
+    in
     looked (join_values (map (λ l. value_if (v.label l) (text l)) (labels_of w.program)))
 
 abbrev pub value_of : View → AbstractValue → Looked
@@ -73,7 +75,9 @@ abbrev pub of_own :
     View → AbstractValue → List Key → (AbstractProperty → Bool) → (AbstractProperty → Bool) → Looked
 of_own w v keys may_hold may_fail = record {
   value =
-      let some_of = λ (holds : AbstractProperty → Bool). some_label w (λ l. v.label l && holds (own w l keys)) in
+      let some_of =
+      λ (holds : AbstractProperty → Bool). some_label w
+      (λ l. v.label l && holds (own w l keys)) in
       of_bools (some_of may_hold) (some_of may_fail);
   demands = demands_at w v.label (λ l. demands_of_own w l keys);
 }
@@ -105,7 +109,8 @@ makes_arguments s n = false
 -- the site is that of a function's arguments objects
 abbrev pub is_arguments_site : Program → Site → Bool
 is_arguments_site p s =
-    list_any (λ (f : Function). list_any (λ (i : NodeInfo). makes_arguments s i.node) f.nodes) p.functions
+    list_any (λ (f : Function). list_any (λ (i : NodeInfo). makes_arguments s i.node) f.nodes)
+    p.functions
 
 abbrev pub is_list_label : Program → Labels
 is_list_label p l = is_array_label p l || is_arguments_site p l.site
@@ -121,8 +126,8 @@ has_elements w v =
 abbrev pub is_radix : ℕ → Bool
 is_radix radix = nat_le 2 radix && nat_le radix 36
 
--- the digits of a number by a radix (15.7.4.2): of two constants those of the machine, or nothing where it refuses
--- them; of a class any text
+-- the digits of a number by a radix (15.7.4.2): of two constants those of the machine, or nothing
+-- where it refuses them; of a class any text
 abbrev pub digits_of_operands : Operand → Operand → Abstracted
 digits_of_operands (Some n) (Some (Whole (pos radix))) =
     if is_radix radix then gives (of_primitive (primitive.Text (radix_text radix n))) else no_result
@@ -149,4 +154,6 @@ operations =
     ∷ of_two digits_of ∷ []
 
 abbrev pub operation : ℕ → AbstractOperation
-operation which = option_map_or (λ (r : AbstractOperation). r) (slice_get operations which) (λ w vs. looked no_value)
+operation which =
+    option_map_or (λ (r : AbstractOperation). r) (slice_get operations which)
+    (λ w vs. looked no_value)

@@ -1,5 +1,6 @@
--- The abstract operators on primitives (ES3 9, 11): what an operation gives of the primitives that a value may be. An
--- exact part gives what the machine gives, and a class all that it says (SAS 2009, the lattice of values).
+-- The abstract operators on primitives (ES3 9, 11): what an operation gives of the primitives that
+-- a value may be. An exact part gives what the machine gives, and a class all that it says (SAS
+-- 2009, the lattice of values).
 use Rattle.std.specs.Prelude.{pos, Bool, true, false, ◌&&◌, ◌||◌, if◌then◌else◌, List, [], ◌∷◌, ◌++◌, Option, Some, None, Result, Ok, Err}
 use Rattle.std.specs.List.{flat_map}
 use Rattle.ja_prim.specs.declared.primitive.Num.{Num}
@@ -175,7 +176,8 @@ combine f class x y = if is_nan x || is_nan y then gives nan_value else class
 
 abbrev pub on_operands : (Operand → Operand → Abstracted) → Atom → Atom → Abstracted
 on_operands f a b =
-    either (stops_if ((to_num_atom a).may_stop || (to_num_atom b).may_stop)) (over_pairs f (operands a) (operands b))
+    either (stops_if ((to_num_atom a).may_stop || (to_num_atom b).may_stop))
+    (over_pairs f (operands a) (operands b))
 
 abbrev pub arithmetic : (Num → Num → Result Num Stop) → Abstracted → Atom → Atom → Abstracted
 arithmetic f class = on_operands (combine f class)
@@ -219,7 +221,8 @@ compared (Ok None) = Ok primitive.Undefined
 compared (Err stop) = Err stop
 
 abbrev pub compare_operands : Operand → Operand → Abstracted
-compare_operands (Some m) (Some n) = exact (compared (less (primitive.Number m) (primitive.Number n)))
+compare_operands (Some m) (Some n) =
+    exact (compared (less (primitive.Number m) (primitive.Number n)))
 compare_operands x y = if is_nan x || is_nan y then gives undefined_value else both_bools
 
 abbrev pub compare_atoms : Atom → Atom → Abstracted
@@ -261,7 +264,8 @@ same_kind number number = true
 same_kind text text = true
 same_kind a b = false
 
--- two number parts have a number in common, two text parts a text; constants are met by classes alone here
+-- two number parts have a number in common, two text parts a text; constants are met by classes
+-- alone here
 abbrev pub numbers_meet : NumberPart → NumberPart → Bool
 numbers_meet number_part.Nothing b = false
 numbers_meet a number_part.Nothing = false
@@ -313,7 +317,8 @@ loose_inexact a b =
 
 abbrev pub loose_atoms : Atom → Atom → Abstracted
 loose_atoms a b =
-    both_exact (λ q r. exact (to_primitive primitive.Bool (loose_equal q r))) (loose_inexact a b) a b
+    both_exact (λ q r. exact (to_primitive primitive.Bool (loose_equal q r)))
+    (loose_inexact a b) a b
 
 -- ---- the operators
 
@@ -327,7 +332,8 @@ abbrev pub to_num : AbstractValue → Abstracted
 to_num = abstract_unary to_num_atom
 
 abbrev pub index_or_whole : Atom → Abstracted
-index_or_whole (exactly (primitive.Number n)) = gives (of_primitive (primitive.Number (Whole (pos (bits.to_uint32 n)))))
+index_or_whole (exactly (primitive.Number n)) =
+    gives (of_primitive (primitive.Number (Whole (pos (bits.to_uint32 n)))))
 index_or_whole index = gives (of_number_part number_part.Index)
 index_or_whole a = gives whole_value
 
@@ -360,8 +366,8 @@ operator binary_op.LooseNe = loose_atoms
 operator binary_op.StrictEq = strict_atoms
 operator binary_op.StrictNe = strict_atoms
 
--- `<` and `>` are true where the comparison is, `<=` and `>=` where it is false; the others of the pair are what is
--- left (11.8.1 to 11.8.4)
+-- `<` and `>` are true where the comparison is, `<=` and `>=` where it is false; the others of the
+-- pair are what is left (11.8.1 to 11.8.4)
 abbrev pub where_true : AbstractValue → AbstractValue
 where_true v = of_bools v.flags.is_true (v.flags.is_false || v.flags.undefined)
 

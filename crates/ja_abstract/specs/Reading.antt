@@ -1,5 +1,6 @@
--- What is read of an abstract state and the values at entry: own properties, [[Get]] along prototypes and names along
--- scopes (ES3 8.6.2, 10.1.4, 12.6.4), and the values at entry that are demanded for it (SAS 2010, lazy propagation).
+-- What is read of an abstract state and the values at entry: own properties, [[Get]] along
+-- prototypes and names along scopes (ES3 8.6.2, 10.1.4, 12.6.4), and the values at entry that are
+-- demanded for it (SAS 2010, lazy propagation).
 use Rattle.std.specs.Prelude.{Bool, false, ◌&&◌, ◌||◌, if◌then◌else◌, List, [], ◌∷◌, map}
 use Rattle.std.specs.List.{list_any}
 use Rattle.ja_base.specs.declared.ids.Label.{Label}
@@ -27,7 +28,8 @@ some_label w set = list_any set (labels_of w.program)
 
 -- the join over the labels of a set
 abbrev pub at_labels : View → Labels → (Label → AbstractProperty) → AbstractProperty
-at_labels w set f = join_all (map (λ (l : Label). if set l then f l else no_property) (labels_of w.program))
+at_labels w set f =
+    join_all (map (λ (l : Label). if set l then f l else no_property) (labels_of w.program))
 
 abbrev pub has_present : View → AbstractValue → Bool
 has_present w v = is_present (labels_of w.program) v
@@ -61,7 +63,8 @@ slot w l k = (resolved w.state w.entries l k).value
 
 -- the present part of a property, with its attributes; nothing where it has no such part
 abbrev pub present_property : View → AbstractProperty → AbstractProperty
-present_property w q = if has_present w q.value then record q { value = present_part q.value } else no_property
+present_property w q =
+    if has_present w q.value then record q { value = present_part q.value } else no_property
 
 -- ---- prototypes
 
@@ -80,20 +83,23 @@ prototype_walk w start keys = reached (next_prototype w keys) (labels_of w.progr
 abbrev pub ends_at : View → List Key → Labels
 ends_at w keys l = may_be_absent w l keys && (slot w l prototype).flags.absent
 
--- what [[Get]] may find from some labels on, with its attributes: the present parts of the objects on the walk, and
--- absent where it may end
+-- what [[Get]] may find from some labels on, with its attributes: the present parts of the objects
+-- on the walk, and absent where it may end
 abbrev pub get_present : View → Labels → List Key → AbstractProperty
-get_present w start keys = at_labels w (prototype_walk w start keys) (λ l. present_property w (own w l keys))
+get_present w start keys =
+    at_labels w (prototype_walk w start keys) (λ l. present_property w (own w l keys))
 
 abbrev pub get_absent : View → Labels → List Key → AbstractProperty
-get_absent w start keys = at_labels w (λ l. prototype_walk w start keys l && ends_at w keys l) (λ l. absent_property)
+get_absent w start keys =
+    at_labels w (λ l. prototype_walk w start keys l && ends_at w keys l) (λ l. absent_property)
 
 abbrev pub get : View → Labels → List Key → AbstractProperty
 get w start keys = join_properties (get_present w start keys) (get_absent w start keys)
 
 abbrev pub demands_of_get : View → Labels → List Key → Demands
 demands_of_get w start keys =
-    let of_next = λ (l : Label). demands_if (may_be_absent w l keys) (demands_of w.state l prototype) in
+    let of_next =
+    λ (l : Label). demands_if (may_be_absent w l keys) (demands_of w.state l prototype) in
     demands_at w (prototype_walk w start keys) (λ l. both (demands_of_own w l keys) (of_next l))
 
 -- [[HasProperty]], [[CanPut]]: what they may give, by what [[Get]] may find
@@ -124,14 +130,18 @@ scope_walk w start keys = reached (next_scope w keys) (labels_of w.program) star
 -- the objects of the chain that may have the name, and null where the chain may end without one
 abbrev pub found : View → Labels → List Key → AbstractValue
 found w start keys =
-    let ends = λ (l : Label). may_lack (get w (one_label l) keys) && (slot w l outer).flags.absent in
+    let ends =
+    λ (l : Label). may_lack (get w (one_label l) keys) && (slot w l outer).flags.absent in
     join (if some_label w (λ l. scope_walk w start keys l && ends l) then null_value else no_value)
     (of_labels (λ l. scope_walk w start keys l && may_have w (get w (one_label l) keys)))
 
 abbrev pub demands_of_found : View → Labels → List Key → Demands
 demands_of_found w start keys =
-    let of_next = λ (l : Label). demands_if (may_lack (get w (one_label l) keys)) (demands_of w.state l outer) in
-    demands_at w (scope_walk w start keys) (λ l. both (demands_of_get w (one_label l) keys) (of_next l))
+    let of_next =
+    λ (l : Label). demands_if (may_lack (get w (one_label l) keys))
+    (demands_of w.state l outer) in
+    demands_at w (scope_walk w start keys) (λ l. both (demands_of_get w (one_label l) keys)
+    (of_next l))
 
 -- ---- names shown
 
@@ -144,7 +154,8 @@ abbrev pub proper_ancestors : View → Labels → Labels
 proper_ancestors w start m = some_label w (λ l. ancestors w start l && (slot w l prototype).label m)
 
 abbrev pub demands_of_ancestors : View → Labels → Demands
-demands_of_ancestors w start = demands_at w (ancestors w start) (λ l. demands_of w.state l prototype)
+demands_of_ancestors w start =
+    demands_at w (ancestors w start) (λ l. demands_of w.state l prototype)
 
 -- the text of a key
 abbrev pub key_value : Program → Key → AbstractValue
@@ -167,7 +178,8 @@ may_show w k l = may_be_enumerable w (own w l (k ∷ []))
 abbrev pub names_shown : View → Labels → AbstractValue
 names_shown w start =
     let may_be_shown = λ (k : Key). some_label w (λ l. ancestors w start l && may_show w k l) in
-    join_values (map (λ (k : Key). if may_be_shown k then key_value w.program k else no_value) (text_keys w.program))
+    join_values (map (λ (k : Key). if may_be_shown k then key_value w.program k else no_value)
+    (text_keys w.program))
 
 abbrev pub demands_of_shown : View → Labels → Demands
 demands_of_shown w start =

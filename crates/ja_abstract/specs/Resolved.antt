@@ -1,5 +1,5 @@
--- What was as it is at the entry: labels renamed, the resolved reading and what it demands (SAS 2010,
--- lazy propagation); and the least sets of labels that are closed under a step.
+-- What was as it is at the entry: labels renamed, the resolved reading and what it demands (SAS
+-- 2010, lazy propagation); and the least sets of labels that are closed under a step.
 use Rattle.std.specs.Prelude.{ℕ, zero, suc, Bool, false, ◌&&◌, ◌||◌, if◌then◌else◌, List, [], ◌∷◌, map, length, Option, IsTrue, IsSome}
 use Rattle.std.specs.List.{list_any}
 use Rattle.std.specs.Option.{option_map_or}

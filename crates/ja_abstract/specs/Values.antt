@@ -1,5 +1,5 @@
--- The operators on abstract values (ES3 9, 11.4, 11.5 to 11.10): those on primitives, and what they come to on objects
--- (SAS 2009).
+-- The operators on abstract values (ES3 9, 11.4, 11.5 to 11.10): those on primitives, and what they
+-- come to on objects (SAS 2009).
 use Rattle.std.specs.Prelude.{ℕ, Bool, true, false, not, ◌&&◌, ◌||◌, if◌then◌else◌, ◌==◌, List, [], ◌∷◌, length}
 use lib.Chars.{codes}
 use Rattle.ja_prim.specs.declared.primitive.Primitive.TheVariants as primitive
@@ -31,18 +31,31 @@ value_if b v = if b then v else no_value
 -- without its objects
 abbrev pub primitives_of : AbstractValue → AbstractValue
 primitives_of v =
-    record v { flags = record v.flags { absent = false; entry = false; row = false }; label = λ l. false }
+    record v {
+      flags = record v.flags { absent = false; entry = false; row = false };
+      label =
+          λ l. false;
+    }
 
 -- what is absent reads as undefined, and a row leaves the profile
 abbrev pub as_read : AbstractValue → AbstractValue
 as_read v =
     let is_undefined = v.flags.undefined || v.flags.absent in
-    record v { flags = record v.flags { absent = false; entry = false; row = false; undefined = is_undefined } }
+    record v {
+      flags = record v.flags {
+        absent = false;
+        entry = false;
+        row = false;
+        undefined =
+            is_undefined;
+      };
+    }
 
 -- ---- of one value
 
 abbrev pub truth : View → AbstractValue → AbstractValue
-truth w v = join (value_if (has_labels w v) (of_bools true false)) (abstract_unary to_bool_atom v).value
+truth w v =
+    join (value_if (has_labels w v) (of_bools true false)) (abstract_unary to_bool_atom v).value
 
 abbrev pub turned : AbstractValue → AbstractValue
 turned v = of_bools v.flags.is_false v.flags.is_true
@@ -65,7 +78,8 @@ type_of w v =
     ∷ text_if (v.flags.nan || has_number v.number) (codes "number")
     ∷ text_if (has_text v.text) (codes "string")
     ∷ text_if (some_label w (λ l. v.label l && is_function_label w.program l)) (codes "function")
-    ∷ text_if (some_label w (λ l. v.label l && not (is_function_label w.program l))) (codes "object") ∷ [])
+    ∷ text_if (some_label w (λ l. v.label l && not (is_function_label w.program l)))
+    (codes "object") ∷ [])
 
 abbrev pub unary : View → UnaryOp → AbstractValue → AbstractValue
 unary w unary_op.ToNum v = (to_num v).value
@@ -84,7 +98,8 @@ may_equal w a b = some_label w (λ l. a.label l && b.label l)
 
 abbrev pub may_differ : View → AbstractValue → AbstractValue → Bool
 may_differ w a b =
-    some_label w (λ l. a.label l && some_label w (λ m. b.label m && (l.old || not (same_label l m))))
+    some_label w (λ l. a.label l && some_label w
+    (λ m. b.label m && (l.old || not (same_label l m))))
     || ((has_labels w a && has_atoms b) || (has_atoms a && has_labels w b))
 
 abbrev pub is_equality : BinaryOp → Bool

@@ -1,5 +1,6 @@
--- What changes a property: puts, definitions and deletions (ES3 8.6.2.2, 8.6.2.5, 10.1.3, 13, 15.4.5.1), as strong
--- updates at the one object of a new label and as weak updates elsewhere (SAS 2006).
+-- What changes a property: puts, definitions and deletions (ES3 8.6.2.2, 8.6.2.5, 10.1.3, 13,
+-- 15.4.5.1), as strong updates at the one object of a new label and as weak updates elsewhere (SAS
+-- 2006).
 use Rattle.std.specs.Prelude.{ℕ, ℤ, pos, negsuc, Bool, true, false, not, ◌&&◌, ◌||◌, ◌+◌, ◌^◌, if◌then◌else◌, nat_lt, int_lt, List, [], ◌∷◌, ◌++◌, map, filter, Option, Some, None, unwrap_or, is_some}
 use Rattle.std.specs.List.{list_any, flat_map}
 use Rattle.std.specs.Option.{option_map, option_map_or, option_and_then}
@@ -49,16 +50,23 @@ abbrev pub replaced_at : List Write → AbstractProperty → Key → AbstractPro
 replaced_at [] q k = q
 replaced_at (x ∷ xs) q k =
     let before = replaced_at xs q k in
-    if same_key x.key k then (if x.joins then join_properties before x.property else x.property) else before
+    if same_key x.key k then (if x.joins then join_properties before x.property else x.property)
+    else before
 
 -- at the one object of a label, and at all objects of some labels
 abbrev pub strong_update : AbstractState → Label → List Write → AbstractState
 strong_update a l writes =
-    record a { property = λ m j. if same_label l m then replaced_at writes (a.property m j) j else a.property m j }
+    record a {
+      property = λ m j. if same_label l m then replaced_at writes
+          (a.property m j) j else a.property m j;
+    }
 
 abbrev pub weak_update : AbstractState → Labels → (Label → List Write) → AbstractState
 weak_update a target writes =
-    record a { property = λ m j. if target m then joined_at (writes m) (a.property m j) j else a.property m j }
+    record a {
+      property = λ m j. if target m then joined_at (writes m)
+          (a.property m j) j else a.property m j;
+    }
 
 -- the one label of a set, where that is a new one: it has one object
 abbrev pub new_alone : List Label → Option Label
@@ -74,7 +82,8 @@ one_name (key.Name n ∷ []) = Some (key.Name n)
 one_name keys = None
 
 abbrev pub strong_at : View → Labels → List Key → Option (Label × Key)
-strong_at w target keys = option_and_then (λ l. option_map (λ k. (l, k)) (one_name keys)) (one_target w target)
+strong_at w target keys =
+    option_and_then (λ l. option_map (λ k. (l, k)) (one_name keys)) (one_target w target)
 
 -- ---- [[Put]] at a label and a key (8.6.2.2, 15.4.5.1)
 
@@ -136,7 +145,8 @@ may_be_cut part i = true
 abbrev pub length_writes : View → Label → AbstractValue → Option (List Write)
 length_writes w l v =
     let n = (to_num v).value.number in
-    let cut = filter (λ (k : Key). may_be_cut n (index_of_key w.program k)) (index_keys w.program) in
+    let cut =
+    filter (λ (k : Key). may_be_cut n (index_of_key w.program k)) (index_keys w.program) in
     let put = sets_at length_key (put_property w l length_key (of_number_part n)) in
     if may_be_length n then Some (put ∷ map (λ (k : Key). joins_at k absent_property) cut) else None
 
@@ -165,8 +175,10 @@ may_be_wrong_length w l k v =
 
 abbrev pub demands_of_put : View → Label → Key → Demands
 demands_of_put w l k =
-    let grows = is_array_label w.program l && is_index_key w.program k && may_accept (asked_at w l k) in
-    both (demands_of_get w (one_label l) (k ∷ [])) (demands_if grows (demands_of w.state l length_key))
+    let grows =
+    is_array_label w.program l && is_index_key w.program k && may_accept (asked_at w l k) in
+    both (demands_of_get w (one_label l) (k ∷ []))
+    (demands_if grows (demands_of w.state l length_key))
 
 -- ---- [[Put]] at some labels and keys: the states that it may leave
 
@@ -186,17 +198,20 @@ some_at w target keys holds = some_label w (λ l. target l && list_any (holds l)
 
 abbrev pub weak_put : View → Labels → List Key → AbstractValue → List AbstractState
 weak_put w target keys v =
-    if_there (some_at w target keys (λ l k. puts_something w l k v)) (weak_update w.state target (put_list w keys v))
+    if_there (some_at w target keys (λ l k. puts_something w l k v))
+    (weak_update w.state target (put_list w keys v))
 
 abbrev pub put_states : View → Labels → List Key → AbstractValue → List AbstractState
 put_states w target keys v =
-    option_map_or (λ (at : Label × Key). strong_put w at.0 at.1 v) (strong_at w target keys) (weak_put w target keys v)
+    option_map_or (λ (at : Label × Key). strong_put w at.0 at.1 v) (strong_at w target keys)
+    (weak_put w target keys v)
 
 abbrev pub put_may_throw : View → Labels → List Key → AbstractValue → Bool
 put_may_throw w target keys v = some_at w target keys (λ l k. may_be_wrong_length w l k v)
 
 abbrev pub demands_of_puts : View → Labels → List Key → Demands
-demands_of_puts w target keys = demands_at w target (λ l m j. list_any (λ (k : Key). demands_of_put w l k m j) keys)
+demands_of_puts w target keys =
+    demands_at w target (λ l m j. list_any (λ (k : Key). demands_of_put w l k m j) keys)
 
 -- a null base stands for the global object
 abbrev pub or_global : AbstractValue → Labels
@@ -212,7 +227,9 @@ defined w target k q =
 -- .. where it isn't there
 abbrev pub declared : View → Labels → Key → AbstractProperty → AbstractState
 declared w target k q =
-    let weak = weak_update w.state target (λ l. if (own_at w l k).value.flags.absent then sets_at k q ∷ [] else []) in
+    let weak =
+    weak_update w.state target (λ l. if (own_at w l k).value.flags.absent then sets_at k q ∷ []
+    else []) in
     option_map_or (λ l. strong_update w.state l (sets_at k q ∷ [])) (one_target w target) weak
 
 -- ---- [[Delete]] (8.6.2.5)
@@ -255,4 +272,5 @@ delete_states w target keys =
     option_map_or (λ (at : Label × Key). strong_delete w at.0 at.1) (strong_at w target keys) weak
 
 abbrev pub demands_of_delete : View → Labels → List Key → Demands
-demands_of_delete w target keys = demands_at w target (λ l m j. list_any (λ (k : Key). demands_of w.state l k m j) keys)
+demands_of_delete w target keys =
+    demands_at w target (λ l m j. list_any (λ (k : Key). demands_of w.state l k m j) keys)

@@ -6,9 +6,9 @@ ghost use Rattle.ja_abstract.specs.AbstractState.{is_key};
 ghost use Rattle.ja_rules.specs.Readings.{Fits};
 
 use crate::out::{Out, add};
+use ja_abstract::{AAttrs, Flags, Key, May, NumberPart, Slot, TextPart};
 use ja_base::{Context, FnId, Label, Memory, NameId, NodeId, Place, Seq, Site};
 use ja_graph::{GLOBAL, Program, well_formed};
-use ja_abstract::{AAttrs, Flags, Key, May, NumberPart, Slot, TextPart};
 use ja_model::Item;
 use ja_prim::{Int, Text16};
 use ja_report::{Refusal, refusal_text, report, spent_text};

@@ -2,9 +2,9 @@
 
 use crate::out::Out;
 use crate::primitives;
+use ja_abstract::{Mask, NumberPart, TextPart};
 use ja_base::{Label, Site};
 use ja_graph::Attrs;
-use ja_abstract::{Mask, NumberPart, TextPart};
 use ja_prim::{Int, Text16};
 use ja_value::{AProp, AValue, LabelSet, exact_attrs, is_index_text};
 use std::collections::BTreeMap;

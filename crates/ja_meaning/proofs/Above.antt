@@ -91,28 +91,42 @@ holds-above p e c f a b l h = record {
 
 -- ---- what a join keeps
 
-pub holds-join_left : (p : Program) (e c : Heap) (f : Frame) (a b : AbstractState) → Holds p e c f a → Holds p e c f (join_states a b)
+pub holds-join_left : (p : Program) (e c : Heap) (f : Frame) (a b : AbstractState) → Holds p e c f a
+    → Holds p e c f (join_states a b)
 holds-join_left p e c f a b h = record {
   heap = record {
-    objects = λ o x there. tells-join_left e c o x (a.property (label_of c o) (key_of p x)) (b.property (label_of c o) (key_of p x)) (h.heap.objects o x there);
+    objects =
+        λ o x there. tells-join_left e c o x (a.property (label_of c o) (key_of p x))
+        (b.property (label_of c o) (key_of p x)) (h.heap.objects o x there);
     some = λ t l. or_left _ _ (h.heap.some t l);
     none = λ t l. or_left _ _ (h.heap.none t l);
   };
   frame = record {
-    registers = λ r v k. has_value-join_left c (a.register r) (b.register r) v (h.frame.registers r v k);
-    rest = λ i v more is. has_value-join_left c (a.register (rest_register (parameters_of p f.function))) (b.register (rest_register (parameters_of p f.function))) v (h.frame.rest i v more is);
+    registers =
+        λ r v k. has_value-join_left c (a.register r) (b.register r) v (h.frame.registers r v k);
+    rest =
+        λ i v more is. has_value-join_left c (a.register
+        (rest_register (parameters_of p f.function)))
+        (b.register (rest_register (parameters_of p f.function))) v (h.frame.rest i v more is);
   };
 }
 
-pub holds-join_right : (p : Program) (e c : Heap) (f : Frame) (a b : AbstractState) → Holds p e c f b → Holds p e c f (join_states a b)
+pub holds-join_right : (p : Program) (e c : Heap) (f : Frame) (a b : AbstractState)
+    → Holds p e c f b → Holds p e c f (join_states a b)
 holds-join_right p e c f a b h = record {
   heap = record {
-    objects = λ o x there. tells-join_right e c o x (a.property (label_of c o) (key_of p x)) (b.property (label_of c o) (key_of p x)) (h.heap.objects o x there);
+    objects =
+        λ o x there. tells-join_right e c o x (a.property (label_of c o) (key_of p x))
+        (b.property (label_of c o) (key_of p x)) (h.heap.objects o x there);
     some = λ t l. or_right (a.mask t.0).some (b.mask t.0).some (h.heap.some t l);
     none = λ t l. or_right (a.mask t.0).none (b.mask t.0).none (h.heap.none t l);
   };
   frame = record {
-    registers = λ r v k. has_value-join_right c (a.register r) (b.register r) v (h.frame.registers r v k);
-    rest = λ i v more is. has_value-join_right c (a.register (rest_register (parameters_of p f.function))) (b.register (rest_register (parameters_of p f.function))) v (h.frame.rest i v more is);
+    registers =
+        λ r v k. has_value-join_right c (a.register r) (b.register r) v (h.frame.registers r v k);
+    rest =
+        λ i v more is. has_value-join_right c (a.register
+        (rest_register (parameters_of p f.function)))
+        (b.register (rest_register (parameters_of p f.function))) v (h.frame.rest i v more is);
   };
 }

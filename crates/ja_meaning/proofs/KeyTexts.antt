@@ -1,4 +1,5 @@
--- A key register's text has a key among those of its value: a number's by the text that is read back, where it is one of the profile.
+-- A key register's text has a key among those of its value: a number's by the text that is read
+-- back, where it is one of the profile.
 use Rattle.std.specs.Prelude.{◌≡◌, ◌≤◌, ◌<◌, ◌+◌, ◌&&◌, not, ℕ, zero, suc, ℤ, IsTrue, List, [], ◌∷◌, map, length, Some}
 use Rattle.std.specs.List.{list_any, range_with_len}
 use Rattle.std.proofs.Common.{refl, sym, subst, ap, ◌∙◌, inl, inr, arith}
@@ -39,24 +40,37 @@ use Rattle.ja_meaning.proofs.MadeOf.{has_key_of}
 -- ---- numbers
 
 -- the text of a number of the profile says that number
-whole_text_is : (z : ℤ) → IsInProfile (primitive.Number (Whole z)) → IsTrue (is_whole_text (whole_text z))
-whole_text_is z fits = subst (λ r. IsTrue (is_written_so r (whole_text z))) (sym (read_back (Whole z) fits.0 fits.1)) (same_text_refl (whole_text z))
+whole_text_is : (z : ℤ) → IsInProfile (primitive.Number (Whole z))
+    → IsTrue (is_whole_text (whole_text z))
+whole_text_is z fits =
+    subst (λ r. IsTrue (is_written_so r (whole_text z))) (sym (read_back (Whole z) fits.0 fits.1))
+    (same_text_refl (whole_text z))
 
-number_text : (n : NumberPart) (z : ℤ) → IsInProfile (primitive.Number (Whole z)) → IsTrue (number_has n z) → IsTrue (number_text_has n (whole_text z))
+number_text : (n : NumberPart) (z : ℤ) → IsInProfile (primitive.Number (Whole z))
+    → IsTrue (number_has n z) → IsTrue (number_text_has n (whole_text z))
 number_text number_part.Nothing z fits h = h
-number_text (number_part.One m) z fits h = subst (λ k. IsTrue (number_text_has (number_part.One m) (whole_text k))) ((Decides-int_eq m z).0 h) (same_text_refl (whole_text m))
+number_text (number_part.One m) z fits h =
+    subst (λ k. IsTrue (number_text_has (number_part.One m) (whole_text k)))
+    ((Decides-int_eq m z).0 h) (same_text_refl (whole_text m))
 number_text number_part.Index z fits h = number_index_text z ∙ h
-number_text number_part.OtherWhole z fits h = and_from _ _ (whole_text_is z fits) (ap not (number_index_text z) ∙ h)
+number_text number_part.OtherWhole z fits h =
+    and_from _ _ (whole_text_is z fits) (ap not (number_index_text z) ∙ h)
 number_text number_part.Whole z fits h = whole_text_is z fits
 
 -- ---- the text of a key register
 
-key_text_by : (h : Heap) (v : AbstractValue) (u : Value) (t : List ℕ) → IsTrue (has_value h v u) → ((q : Primitive) → u ≡ value.Primitive q → IsInProfile q) → key_of u ≡ Some t → IsTrue (has_key_text v t)
-key_text_by h v (value.Primitive (primitive.Text s)) t has fits is = subst (λ r. IsTrue (has_key_text v r)) (same_Some s t is) (or_left _ _ has)
+key_text_by : (h : Heap) (v : AbstractValue) (u : Value) (t : List ℕ) → IsTrue (has_value h v u)
+    → ((q : Primitive) → u ≡ value.Primitive q → IsInProfile q) → key_of u ≡ Some t
+    → IsTrue (has_key_text v t)
+key_text_by h v (value.Primitive (primitive.Text s)) t has fits is =
+    subst (λ r. IsTrue (has_key_text v r)) (same_Some s t is) (or_left _ _ has)
 key_text_by h v (value.Primitive (primitive.Number NaN)) t has fits is =
-    subst (λ r. IsTrue (has_key_text v r)) (same_Some _ t is) (or_right _ _ (or_right _ _ (and_from _ _ has (same_text_refl (codes "NaN")))))
+    subst (λ r. IsTrue (has_key_text v r)) (same_Some _ t is)
+    (or_right _ _ (or_right _ _ (and_from _ _ has (same_text_refl (codes "NaN")))))
 key_text_by h v (value.Primitive (primitive.Number (Whole z))) t has fits is =
-    subst (λ r. IsTrue (has_key_text v r)) (same_Some (whole_text z) t is) (or_right _ _ (or_left _ _ (number_text v.number z (fits (primitive.Number (Whole z)) refl) has)))
+    subst (λ r. IsTrue (has_key_text v r)) (same_Some (whole_text z) t is)
+    (or_right _ _ (or_left _ _ (number_text v.number z
+    (fits (primitive.Number (Whole z)) refl) has)))
 key_text_by h v (value.Primitive primitive.Undefined) t has fits is = absurd (none-some t is)
 key_text_by h v (value.Primitive primitive.Null) t has fits is = absurd (none-some t is)
 key_text_by h v (value.Primitive (primitive.Bool b)) t has fits is = absurd (none-some t is)
@@ -64,20 +78,31 @@ key_text_by h v (value.Object a) t has fits is = absurd (none-some t is)
 
 -- ---- among the program's keys
 
-among_names : (a n i : ℕ) → a ≤ i → i < a + n → IsTrue (list_any (λ j. same_key j (name_key i)) (map name_key (range_with_len a n)))
+among_names : (a n i : ℕ) → a ≤ i → i < a + n
+    → IsTrue (list_any (λ j. same_key j (name_key i)) (map name_key (range_with_len a n)))
 among_names a zero i low high = absurd (omega arith)
 among_names a (suc n) i low high =
     elim (cases_eq i a) [
-      | inl e ↦ or_left _ _ (subst (λ b. IsTrue (same_key (name_key b) (name_key i))) e (same_key-self (name_key i)))
+      | inl e ↦
+          or_left _ _ (subst (λ b. IsTrue (same_key (name_key b) (name_key i))) e
+          (same_key-self (name_key i)))
       | inr ne ↦ or_right _ _ (among_names (a + 1) n i (omega arith) (omega arith))
     ]
 
 module _ (p : Program) where
-  behind_names : (k : Key) → IsTrue (list_any (λ j. same_key j k) (key.OtherIndex ∷ key.OtherName ∷ key.Slot slot.Prototype ∷ key.Slot slot.Outer ∷ key.Slot slot.Scope ∷ key.Slot slot.Value ∷ [])) → IsTrue (is_among_keys (keys_of p) k)
-  behind_names k h = list_any-append (λ j. same_key j k) (map name_key (range_with_len 0 (length p.names))) _ ∙ or_right _ _ h
+  behind_names : (k : Key) → IsTrue (list_any (λ j. same_key j k)
+      (key.OtherIndex ∷ key.OtherName ∷ key.Slot slot.Prototype ∷ key.Slot slot.Outer ∷ key.Slot
+      slot.Scope ∷ key.Slot slot.Value ∷ [])) → IsTrue (is_among_keys (keys_of p) k)
+  behind_names k h =
+      list_any-append (λ j. same_key j k) (map name_key (range_with_len 0 (length p.names))) _
+      ∙ or_right _ _ h
 
   among_program : (k : Key) → IsTrue (is_key p k) → IsTrue (is_among_keys (keys_of p) k)
-  among_program (key.Name n) h = list_any-append (λ j. same_key j (key.Name n)) (map name_key (range_with_len 0 (length p.names))) _ ∙ or_left _ _ (among_names 0 (length p.names) n.0 (omega arith) (let f : n.0 < length p.names = ltb-true n.0 (length p.names) h in omega arith))
+  among_program (key.Name n) h =
+      list_any-append (λ j. same_key j (key.Name n))
+      (map name_key (range_with_len 0 (length p.names))) _
+      ∙ or_left _ _ (among_names 0 (length p.names) n.0 (omega arith)
+      (let f : n.0 < length p.names = ltb-true n.0 (length p.names) h in omega arith))
   among_program key.OtherIndex h = behind_names key.OtherIndex refl
   among_program key.OtherName h = behind_names key.OtherName refl
   among_program (key.Slot slot.Prototype) h = behind_names (key.Slot slot.Prototype) refl
@@ -85,10 +110,17 @@ module _ (p : Program) where
   among_program (key.Slot slot.Scope) h = behind_names (key.Slot slot.Scope) refl
   among_program (key.Slot slot.Value) h = behind_names (key.Slot slot.Value) refl
 
-  among_value : (v : AbstractValue) (k : Key) → IsTrue (has_key p v k) → IsTrue (is_key p k) → IsTrue (is_among_keys (keys_of_value p v) k)
-  among_value v k has fits = list_any-filter (λ j. same_key j k) (has_key p v) (keys_of p) (some_key (λ j. has_key p v j && same_key j k) (keys_of p) k (among_program k fits) (and_from _ _ has (same_key-self k)))
+  among_value : (v : AbstractValue) (k : Key) → IsTrue (has_key p v k) → IsTrue (is_key p k)
+      → IsTrue (is_among_keys (keys_of_value p v) k)
+  among_value v k has fits =
+      list_any-filter (λ j. same_key j k) (has_key p v) (keys_of p)
+      (some_key (λ j. has_key p v j && same_key j k) (keys_of p) k (among_program k fits)
+      (and_from _ _ has (same_key-self k)))
 
 -- the key of a computed name is among the keys of the register's value
-pub key-among : (p : Program) (h : Heap) (v : AbstractValue) (u : Value) (t : List ℕ) → IsTrue (has_value h v u) → ((q : Primitive) → u ≡ value.Primitive q → IsInProfile q) → key_of u ≡ Some t → IsTrue (is_among_keys (keys_of_value p v) (meaning.key_of p (named t)))
+pub key-among : (p : Program) (h : Heap) (v : AbstractValue) (u : Value) (t : List ℕ)
+    → IsTrue (has_value h v u) → ((q : Primitive) → u ≡ value.Primitive q → IsInProfile q)
+    → key_of u ≡ Some t → IsTrue (is_among_keys (keys_of_value p v) (meaning.key_of p (named t)))
 key-among p h v u t has fits is =
-    among_value p v (meaning.key_of p (named t)) (has_key_of p t v (key_text_by h v u t has fits is)) (is_key_of p (named t))
+    among_value p v (meaning.key_of p (named t))
+    (has_key_of p t v (key_text_by h v u t has fits is)) (is_key_of p (named t))

@@ -1,4 +1,5 @@
--- Each object that a node makes is told of by its properties by key; activations and arguments objects stand in a file of their own.
+-- Each object that a node makes is told of by its properties by key; activations and arguments
+-- objects stand in a file of their own.
 use Rattle.std.specs.Prelude.{◌≡◌, ◌<◌, ℕ, pos, false, IsTrue, List, [], ◌∷◌, length, slice_get, Some}
 use Rattle.std.proofs.Common.{refl, sym, subst, arith}
 use Rattle.std.proofs.lemmas.Bool.{false≢true, cond-false, false_from_ne_true, and_from}
@@ -63,51 +64,98 @@ constructor_name = record { 0 = 31 }
 
 module _ (p : Program) (good : IsWellFormed p) (now : Heap) where
   -- a property of a built-in name
-  pub named_as : (n : NameId) (t : List ℕ) (k : Key) → k ≡ key.Name n → key_of p (named t) ≡ key.Name n → (v : Value) (u : AbstractValue) (attrs : Attrs) → IsTrue (has_value now u v) → IsMadeAs p now (property_with t v attrs) (property_of k u attrs)
-  named_as n t k k_is t_is v u attrs has = record { name = n; key_is = k_is; name_is = t_is; known = and_from _ _ has (of_attrs_allows attrs) }
+  pub named_as : (n : NameId) (t : List ℕ) (k : Key) → k ≡ key.Name n
+      → key_of p (named t) ≡ key.Name n → (v : Value) (u : AbstractValue) (attrs : Attrs)
+      → IsTrue (has_value now u v) → IsMadeAs p now (property_with t v attrs)
+      (property_of k u attrs)
+  named_as n t k k_is t_is v u attrs has =
+      record {
+        name = n;
+        key_is = k_is;
+        name_is = t_is;
+        known = and_from _ _ has
+            (of_attrs_allows attrs);
+      }
 
-  pub builtin_as : (n : NameId) (t : List ℕ) → slice_get builtin_names n.0 ≡ Some t → (v : Value) (u : AbstractValue) (attrs : Attrs) → IsTrue (has_value now u v) → IsMadeAs p now (property_with t v attrs) (property_of (key.Name n) u attrs)
-  builtin_as n t is v u attrs has = named_as n t (key.Name n) refl (builtin_key p good n t is) v u attrs has
+  pub builtin_as : (n : NameId) (t : List ℕ) → slice_get builtin_names n.0 ≡ Some t
+      → (v : Value) (u : AbstractValue) (attrs : Attrs) → IsTrue (has_value now u v)
+      → IsMadeAs p now (property_with t v attrs) (property_of (key.Name n) u attrs)
+  builtin_as n t is v u attrs has =
+      named_as n t (key.Name n) refl (builtin_key p good n t is) v u attrs has
 
   -- .. whose key is that of its text
-  pub text_as : (n : NameId) (t : List ℕ) → slice_get builtin_names n.0 ≡ Some t → (v : Value) (u : AbstractValue) (attrs : Attrs) → IsTrue (has_value now u v) → IsMadeAs p now (property_with t v attrs) (property_of (named_key p t) u attrs)
-  text_as n t is v u attrs has = named_as n t (named_key p t) (builtin_key p good n t is) (builtin_key p good n t is) v u attrs has
+  pub text_as : (n : NameId) (t : List ℕ) → slice_get builtin_names n.0 ≡ Some t
+      → (v : Value) (u : AbstractValue) (attrs : Attrs) → IsTrue (has_value now u v)
+      → IsMadeAs p now (property_with t v attrs) (property_of (named_key p t) u attrs)
+  text_as n t is v u attrs has =
+      named_as n t (named_key p t) (builtin_key p good n t is)
+      (builtin_key p good n t is) v u attrs has
 
   -- ---- slots
 
   -- a text isn't a slot's
   not_slot : (s : Slot) (t : List ℕ) → same_key (key.Slot s) (key_of p (named t)) ≡ false
-  not_slot s t = false_from_ne_true (same_key (key.Slot s) (key_of p (named t))) (λ e. no_slot_of_text p t s (sym (same_key-true (key.Slot s) (key_of p (named t)) e)))
+  not_slot s t =
+      false_from_ne_true (same_key (key.Slot s) (key_of p (named t)))
+      (λ e. no_slot_of_text p t s (sym (same_key-true (key.Slot s) (key_of p (named t)) e)))
 
   -- .. and a slot isn't a text's
   not_text : (t : List ℕ) (s : Slot) → same_key (key_of p (named t)) (key.Slot s) ≡ false
-  not_text t s = false_from_ne_true (same_key (key_of p (named t)) (key.Slot s)) (λ e. no_slot_of_text p t s (same_key-true (key_of p (named t)) (key.Slot s) e))
+  not_text t s =
+      false_from_ne_true (same_key (key_of p (named t)) (key.Slot s))
+      (λ e. no_slot_of_text p t s (same_key-true (key_of p (named t)) (key.Slot s) e))
 
   -- a slot is passed by
-  pub past_slot : (s : Slot) (q : AbstractProperty) (ks : List (Key × AbstractProperty)) (t : List ℕ) (u : SpotContent) → IsTrue (knows now (own_of ks (key_of p (named t))) u) → IsTrue (knows now (own_of ((key.Slot s, q) ∷ ks) (key_of p (named t))) u)
-  past_slot s q ks t u e = subst (λ z. IsTrue (knows now z u)) (sym (cond-false (same_key (key.Slot s) (key_of p (named t))) q (own_of ks (key_of p (named t))) (not_slot s t))) e
+  pub past_slot : (s : Slot) (q : AbstractProperty) (ks : List (Key × AbstractProperty))
+      (t : List ℕ) (u : SpotContent) → IsTrue (knows now (own_of ks (key_of p (named t))) u)
+      → IsTrue (knows now (own_of ((key.Slot s, q) ∷ ks) (key_of p (named t))) u)
+  past_slot s q ks t u e =
+      subst (λ z. IsTrue (knows now z u)) (sym (cond-false
+      (same_key (key.Slot s) (key_of p (named t))) q (own_of ks (key_of p (named t)))
+      (not_slot s t))) e
 
   -- .. and a text
-  pub past_text : (s : Slot) (t : List ℕ) (q : AbstractProperty) (ks : List (Key × AbstractProperty)) (u : SpotContent) → IsTrue (knows now (own_of ks (key.Slot s)) u) → IsTrue (knows now (own_of ((named_key p t, q) ∷ ks) (key.Slot s)) u)
-  past_text s t q ks u e = subst (λ z. IsTrue (knows now z u)) (sym (cond-false (same_key (key_of p (named t)) (key.Slot s)) q (own_of ks (key.Slot s)) (not_text t s))) e
+  pub past_text : (s : Slot) (t : List ℕ) (q : AbstractProperty)
+      (ks : List (Key × AbstractProperty)) (u : SpotContent)
+      → IsTrue (knows now (own_of ks (key.Slot s)) u)
+      → IsTrue (knows now (own_of ((named_key p t, q) ∷ ks) (key.Slot s)) u)
+  past_text s t q ks u e =
+      subst (λ z. IsTrue (knows now z u)) (sym (cond-false
+      (same_key (key_of p (named t)) (key.Slot s)) q (own_of ks (key.Slot s)) (not_text t s))) e
 
   module _ (known : IsHeap p now) where
     -- the one object of an opening site
-    pub first_has : (t : Site) → t.0 < length p.opening → IsTrue (has_value now (of_label (new t)) (value.Object (first_of t)))
-    first_has t l = let one : count now t ≡ 1 = known.opening t l in same_label_from (new t) (label_of now (first_of t)) (sym (Labels.same_parts (label_of now (first_of t)) (new t) refl (Contents.label_is_new now (first_of t) (omega arith))))
+    pub first_has : (t : Site) → t.0 < length p.opening
+        → IsTrue (has_value now (of_label (new t)) (value.Object (first_of t)))
+    first_has t l =
+        let one : count now t ≡ 1 = known.opening t l in
+        same_label_from (new t) (label_of now (first_of t))
+        (sym (Labels.same_parts (label_of now (first_of t)) (new t) refl
+        (Contents.label_is_new now (first_of t) (omega arith))))
 
-    fits : (n : ℕ) (c : Class) → slice_get builtins.BUILTIN_CLASSES n ≡ Some c → n < length p.opening
+    fits : (n : ℕ) (c : Class) → slice_get builtins.BUILTIN_CLASSES n ≡ Some c
+        → n < length p.opening
     fits n c is = let (info, info_is, class_is, fits_) = good.builtins n c is in fits_
 
     -- ---- the objects
 
-    pub error_made : (proto : Site) (text : List ℕ) → proto.0 < length p.opening → IsMade p now (error_object proto text) (error_own proto text)
+    pub error_made : (proto : Site) (text : List ℕ) → proto.0 < length p.opening
+        → IsMade p now (error_object proto text) (error_own proto text)
     error_made proto text l (internal slot.Prototype) = first_has proto l
     error_made proto text l (internal slot.Outer) = refl
     error_made proto text l (internal slot.Scope) = refl
     error_made proto text l (internal slot.Value) = refl
-    error_made proto text l (named t) = past_slot slot.Prototype _ (property_of (key.Name builtins.MESSAGE) (of_primitive (primitive.Text text)) no_attrs ∷ []) t (object_content (error_object proto text) (named t))
-        (named_made p now (error_object proto text).properties (property_of (key.Name builtins.MESSAGE) (of_primitive (primitive.Text text)) no_attrs ∷ []) (builtin_as builtins.MESSAGE (codes "message") refl (value.Primitive (primitive.Text text)) (of_primitive (primitive.Text text)) no_attrs (of_primitive_has (primitive.Text text)), tt) t)
+    error_made proto text l (named t) =
+        past_slot slot.Prototype _ (property_of (key.Name builtins.MESSAGE)
+        (of_primitive (primitive.Text text)) no_attrs ∷ []) t
+        (object_content (error_object proto text) (named t))
+        (named_made p now (error_object proto text).properties
+        (property_of (key.Name builtins.MESSAGE) (of_primitive (primitive.Text text)) no_attrs ∷ []) (
+          builtin_as builtins.MESSAGE (codes "message") refl (value.Primitive (primitive.Text text))
+              (of_primitive (primitive.Text text)) no_attrs (of_primitive_has (primitive.Text text)),
+          tt,
+        )
+        t)
 
     error_fits : (kind : ErrorKind) → (prototype_of_error kind).0 < length p.opening
     error_fits error_kind.Error = fits 13 class.Error refl
@@ -118,77 +166,156 @@ module _ (p : Program) (good : IsWellFormed p) (now : Heap) where
     error_fits error_kind.TypeError = fits 23 class.Error refl
     error_fits error_kind.URIError = fits 25 class.Error refl
 
-    pub an_error : (kind : ErrorKind) (text : List ℕ) → IsMade p now (error_object (prototype_of_error kind) text) (error_own (prototype_of_error kind) text)
+    pub an_error : (kind : ErrorKind) (text : List ℕ)
+        → IsMade p now (error_object (prototype_of_error kind) text)
+        (error_own (prototype_of_error kind) text)
     an_error kind text = error_made (prototype_of_error kind) text (error_fits kind)
 
     pub empty_made : (kind : Made) → IsMade p now (empty_object kind) (empty_own kind)
-    empty_made made_kinds.Object (internal slot.Prototype) = first_has builtins.OBJECT_PROTOTYPE (fits 1 class.Object refl)
+    empty_made made_kinds.Object (internal slot.Prototype) =
+        first_has builtins.OBJECT_PROTOTYPE (fits 1 class.Object refl)
     empty_made made_kinds.Object (internal slot.Outer) = refl
     empty_made made_kinds.Object (internal slot.Scope) = refl
     empty_made made_kinds.Object (internal slot.Value) = refl
-    empty_made made_kinds.Object (named t) = past_slot slot.Prototype _ [] t (object_content (empty_object made_kinds.Object) (named t)) refl
-    empty_made made_kinds.Array (internal slot.Prototype) = first_has builtins.ARRAY_PROTOTYPE (fits 5 class.Array refl)
+    empty_made made_kinds.Object (named t) =
+        past_slot slot.Prototype _ [] t (object_content (empty_object made_kinds.Object) (named t))
+        refl
+    empty_made made_kinds.Array (internal slot.Prototype) =
+        first_has builtins.ARRAY_PROTOTYPE (fits 5 class.Array refl)
     empty_made made_kinds.Array (internal slot.Outer) = refl
     empty_made made_kinds.Array (internal slot.Scope) = refl
     empty_made made_kinds.Array (internal slot.Value) = refl
     empty_made made_kinds.Array (named t) =
-        let ks : List (Key × AbstractProperty) = property_of length_key (of_primitive (primitive.Number (Whole (pos 0)))) kept_hidden ∷ [] in
-        past_slot slot.Prototype _ ks t (object_content (empty_object made_kinds.Array) (named t)) (named_made p now (empty_object made_kinds.Array).properties ks (builtin_as builtins.LENGTH length_name refl (whole_number 0) _ kept_hidden refl, tt) t)
-    empty_made (made_kinds.Error kind) (internal slot.Prototype) = first_has (prototype_of_error kind) (error_fits kind)
+        let ks : List (Key × AbstractProperty) =
+        property_of length_key (of_primitive (primitive.Number (Whole (pos 0)))) kept_hidden ∷
+        [] in
+        past_slot slot.Prototype _ ks t (object_content (empty_object made_kinds.Array) (named t))
+        (named_made p now (empty_object made_kinds.Array).properties ks
+        (builtin_as builtins.LENGTH length_name refl (whole_number 0) _ kept_hidden refl, tt) t)
+    empty_made (made_kinds.Error kind) (internal slot.Prototype) =
+        first_has (prototype_of_error kind) (error_fits kind)
     empty_made (made_kinds.Error kind) (internal slot.Outer) = refl
     empty_made (made_kinds.Error kind) (internal slot.Scope) = refl
     empty_made (made_kinds.Error kind) (internal slot.Value) = refl
-    empty_made (made_kinds.Error kind) (named t) = past_slot slot.Prototype _ [] t (object_content (empty_object (made_kinds.Error kind)) (named t)) refl
+    empty_made (made_kinds.Error kind) (named t) =
+        past_slot slot.Prototype _ [] t (object_content (empty_object (made_kinds.Error kind))
+        (named t)) refl
 
-    pub wrapper_made : (kind : Class) (proto : Site) (n : ℕ) (k : Class) → proto.0 ≡ n → slice_get builtins.BUILTIN_CLASSES n ≡ Some k → (q : Primitive) (v : AbstractValue) → IsTrue (has_primitive v q) → IsMade p now (wrapper kind proto q []) (wrapper_own proto v)
-    wrapper_made kind proto n k n_is is q v has (internal slot.Prototype) = first_has proto (subst (λ z. z < length p.opening) (sym n_is) (fits n k is))
+    pub wrapper_made : (kind : Class) (proto : Site) (n : ℕ) (k : Class) → proto.0 ≡ n
+        → slice_get builtins.BUILTIN_CLASSES n ≡ Some k → (q : Primitive) (v : AbstractValue)
+        → IsTrue (has_primitive v q) → IsMade p now (wrapper kind proto q []) (wrapper_own proto v)
+    wrapper_made kind proto n k n_is is q v has (internal slot.Prototype) =
+        first_has proto (subst (λ z. z < length p.opening) (sym n_is) (fits n k is))
     wrapper_made kind proto n k n_is is q v has (internal slot.Outer) = refl
     wrapper_made kind proto n k n_is is q v has (internal slot.Scope) = refl
     wrapper_made kind proto n k n_is is q v has (internal slot.Value) = has
-    wrapper_made kind proto n k n_is is q v has (named t) = past_slot slot.Prototype _ (slot_of (key.Slot slot.Value) v ∷ []) t (object_content (wrapper kind proto q []) (named t)) (past_slot slot.Value _ [] t (object_content (wrapper kind proto q []) (named t)) refl)
+    wrapper_made kind proto n k n_is is q v has (named t) =
+        past_slot slot.Prototype _ (slot_of (key.Slot slot.Value) v ∷ []) t
+        (object_content (wrapper kind proto q []) (named t))
+        (past_slot slot.Value _ [] t (object_content (wrapper kind proto q []) (named t)) refl)
 
     -- the length of a text: a class counts as an index, so the text has to be short
-    length_has : (part : TextPart) (units : List ℕ) → IsTrue (text_has part units) → IsTrue (is_index (pos (length units))) → IsTrue (has_value now (length_of_text part) (whole_number (length units)))
+    length_has : (part : TextPart) (units : List ℕ) → IsTrue (text_has part units)
+        → IsTrue (is_index (pos (length units))) → IsTrue
+        (has_value now (length_of_text part) (whole_number (length units)))
     length_has text_part.Nothing units h short = absurd (false≢true h)
-    length_has (text_part.One t) units h short = subst (λ z. IsTrue (has_value now (length_of_text (text_part.One t)) (whole_number (length z)))) (Texts.text_same t units h) (int_eq_equiv.refl (pos (length t)))
+    length_has (text_part.One t) units h short =
+        subst (λ z. IsTrue (has_value now (length_of_text (text_part.One t))
+        (whole_number (length z)))) (Texts.text_same t units h) (int_eq_equiv.refl (pos (length t)))
     length_has text_part.IndexText units h short = short
     length_has text_part.OtherText units h short = short
     length_has text_part.Text units h short = short
 
-    pub text_made : (units : List ℕ) (part : TextPart) → IsTrue (text_has part units) → IsTrue (is_index (pos (length units))) → IsMade p now (wrapper class.String builtins.STRING_PROTOTYPE (primitive.Text units) (text_length units)) (text_own part)
-    text_made units part has short (internal slot.Prototype) = first_has builtins.STRING_PROTOTYPE (fits 7 class.String refl)
+    pub text_made : (units : List ℕ) (part : TextPart) → IsTrue (text_has part units)
+        → IsTrue (is_index (pos (length units))) → IsMade p now
+        (wrapper class.String builtins.STRING_PROTOTYPE (primitive.Text units) (text_length units))
+        (text_own part)
+    text_made units part has short (internal slot.Prototype) =
+        first_has builtins.STRING_PROTOTYPE (fits 7 class.String refl)
     text_made units part has short (internal slot.Outer) = refl
     text_made units part has short (internal slot.Scope) = refl
     text_made units part has short (internal slot.Value) = has
     text_made units part has short (named t) =
-        let o : Object = wrapper class.String builtins.STRING_PROTOTYPE (primitive.Text units) (text_length units) in
-        let ks : List (Key × AbstractProperty) = property_of length_key (length_of_text part) all_attrs ∷ [] in
-        past_slot slot.Prototype _ (slot_of (key.Slot slot.Value) (record no_value { text = part }) ∷ ks) t (object_content o (named t)) (past_slot slot.Value _ ks t (object_content o (named t)) (named_made p now (text_length units) ks (builtin_as builtins.LENGTH length_name refl (whole_number (length units)) (length_of_text part) all_attrs (length_has part units has short), tt) t))
+        let o : Object =
+        wrapper class.String builtins.STRING_PROTOTYPE (primitive.Text units)
+        (text_length units) in
+        let ks : List (Key × AbstractProperty) =
+        property_of length_key (length_of_text part) all_attrs ∷ [] in
+        past_slot slot.Prototype _ (slot_of (key.Slot slot.Value)
+        (record no_value { text = part }) ∷ ks) t (object_content o (named t))
+        (past_slot slot.Value _ ks t (object_content o (named t))
+        (named_made p now (text_length units) ks (
+          builtin_as builtins.LENGTH length_name refl
+              (whole_number (length units)) (length_of_text part) all_attrs
+              (length_has part units has short),
+          tt,
+        ) t))
 
-    pub scope_made : (outer : Addr) (chain : Labels) → IsTrue (chain (label_of now outer)) → IsMade p now (scope_object outer) (scope_own chain)
-    scope_made outer chain has (internal slot.Prototype) = first_has builtins.OBJECT_PROTOTYPE (fits 1 class.Object refl)
+    pub scope_made : (outer : Addr) (chain : Labels) → IsTrue (chain (label_of now outer))
+        → IsMade p now (scope_object outer) (scope_own chain)
+    scope_made outer chain has (internal slot.Prototype) =
+        first_has builtins.OBJECT_PROTOTYPE (fits 1 class.Object refl)
     scope_made outer chain has (internal slot.Outer) = has
     scope_made outer chain has (internal slot.Scope) = refl
     scope_made outer chain has (internal slot.Value) = refl
-    scope_made outer chain has (named t) = past_slot slot.Prototype _ (slot_of (key.Slot slot.Outer) (of_labels chain) ∷ []) t (object_content (scope_object outer) (named t)) (past_slot slot.Outer _ [] t (object_content (scope_object outer) (named t)) refl)
+    scope_made outer chain has (named t) =
+        past_slot slot.Prototype _ (slot_of (key.Slot slot.Outer) (of_labels chain) ∷ []) t
+        (object_content (scope_object outer) (named t))
+        (past_slot slot.Outer _ [] t (object_content (scope_object outer) (named t)) refl)
 
-    pub function_made : (function : FnId) (chain proto : Addr) (chains : Labels) (proto_label : Label) → IsTrue (chains (label_of now chain)) → proto_label ≡ label_of now proto → IsMade p now (function_object (parameters_of p function) chain proto) (function_own p function chains proto_label)
-    function_made function chain proto chains l has is (internal slot.Prototype) = first_has builtins.FUNCTION_PROTOTYPE (fits 2 class.Function refl)
-    function_made function chain proto chains l has is (internal slot.Outer) = past_text slot.Outer (codes "prototype") _ [] (object_content (function_object (parameters_of p function) chain proto) (internal slot.Outer)) refl
+    pub function_made : (function : FnId) (chain proto : Addr) (chains : Labels)
+        (proto_label : Label) → IsTrue (chains (label_of now chain))
+        → proto_label ≡ label_of now proto → IsMade p now
+        (function_object (parameters_of p function) chain proto)
+        (function_own p function chains proto_label)
+    function_made function chain proto chains l has is (internal slot.Prototype) =
+        first_has builtins.FUNCTION_PROTOTYPE (fits 2 class.Function refl)
+    function_made function chain proto chains l has is (internal slot.Outer) =
+        past_text slot.Outer (codes "prototype") _ []
+        (object_content (function_object (parameters_of p function) chain proto)
+        (internal slot.Outer)) refl
     function_made function chain proto chains l has is (internal slot.Scope) = has
-    function_made function chain proto chains l has is (internal slot.Value) = past_text slot.Value (codes "prototype") _ [] (object_content (function_object (parameters_of p function) chain proto) (internal slot.Value)) refl
+    function_made function chain proto chains l has is (internal slot.Value) =
+        past_text slot.Value (codes "prototype") _ []
+        (object_content (function_object (parameters_of p function) chain proto)
+        (internal slot.Value)) refl
     function_made function chain proto chains l has is (named t) =
         let o : Object = function_object (parameters_of p function) chain proto in
         let n : ℕ = parameters_of p function in
-        let ks : List (Key × AbstractProperty) = property_of length_key (whole_constant n) all_attrs ∷ property_of (named_key p (codes "prototype")) (of_label l) dont_delete ∷ [] in
-        past_slot slot.Prototype _ (slot_of (key.Slot slot.Scope) (of_labels chains) ∷ ks) t (object_content o (named t)) (past_slot slot.Scope _ ks t (object_content o (named t))
-        (named_made p now o.properties ks (builtin_as builtins.LENGTH length_name refl (whole_number n) (whole_constant n) all_attrs (int_eq_equiv.refl (pos n)), (text_as prototype_name (codes "prototype") refl (value.Object proto) (of_label l) dont_delete (same_label_from l (label_of now proto) is), tt)) t))
+        let ks : List (Key × AbstractProperty) =
+        property_of length_key (whole_constant n) all_attrs ∷ property_of
+        (named_key p (codes "prototype")) (of_label l) dont_delete ∷ [] in
+        past_slot slot.Prototype _ (slot_of (key.Slot slot.Scope) (of_labels chains) ∷ ks) t
+        (object_content o (named t)) (past_slot slot.Scope _ ks t (object_content o (named t))
+        (named_made p now o.properties ks (
+          builtin_as builtins.LENGTH length_name refl
+              (whole_number n) (whole_constant n) all_attrs (int_eq_equiv.refl (pos n)),
+          (
+            text_as prototype_name (codes "prototype") refl (value.Object proto)
+                (of_label l) dont_delete (same_label_from l (label_of now proto) is),
+            tt,
+          ),
+        ) t))
 
-    pub prototype_made : (function : Addr) (l : Label) → l ≡ label_of now function → IsMade p now (prototype_object function) (prototype_own p l)
-    prototype_made function l is (internal slot.Prototype) = first_has builtins.OBJECT_PROTOTYPE (fits 1 class.Object refl)
-    prototype_made function l is (internal slot.Outer) = past_text slot.Outer (codes "constructor") _ [] (object_content (prototype_object function) (internal slot.Outer)) refl
-    prototype_made function l is (internal slot.Scope) = past_text slot.Scope (codes "constructor") _ [] (object_content (prototype_object function) (internal slot.Scope)) refl
-    prototype_made function l is (internal slot.Value) = past_text slot.Value (codes "constructor") _ [] (object_content (prototype_object function) (internal slot.Value)) refl
+    pub prototype_made : (function : Addr) (l : Label) → l ≡ label_of now function
+        → IsMade p now (prototype_object function) (prototype_own p l)
+    prototype_made function l is (internal slot.Prototype) =
+        first_has builtins.OBJECT_PROTOTYPE (fits 1 class.Object refl)
+    prototype_made function l is (internal slot.Outer) =
+        past_text slot.Outer (codes "constructor") _ []
+        (object_content (prototype_object function) (internal slot.Outer)) refl
+    prototype_made function l is (internal slot.Scope) =
+        past_text slot.Scope (codes "constructor") _ []
+        (object_content (prototype_object function) (internal slot.Scope)) refl
+    prototype_made function l is (internal slot.Value) =
+        past_text slot.Value (codes "constructor") _ []
+        (object_content (prototype_object function) (internal slot.Value)) refl
     prototype_made function l is (named t) =
-        let ks : List (Key × AbstractProperty) = property_of (named_key p (codes "constructor")) (of_label l) dont_enum ∷ [] in
-        past_slot slot.Prototype _ ks t (object_content (prototype_object function) (named t)) (named_made p now (prototype_object function).properties ks (text_as constructor_name (codes "constructor") refl (value.Object function) (of_label l) dont_enum (same_label_from l (label_of now function) is), tt) t)
+        let ks : List (Key × AbstractProperty) =
+        property_of (named_key p (codes "constructor")) (of_label l) dont_enum ∷ [] in
+        past_slot slot.Prototype _ ks t (object_content (prototype_object function) (named t))
+        (named_made p now (prototype_object function).properties ks (
+          text_as constructor_name (codes "constructor") refl (value.Object function)
+              (of_label l) dont_enum (same_label_from l (label_of now function) is),
+          tt,
+        ) t)

@@ -1,5 +1,5 @@
--- The contents of the opening heap are known to what Open gives, so values at entry that it leaves as
--- they are hold of that heap.
+-- The contents of the opening heap are known to what Open gives, so values at entry that it leaves
+-- as they are hold of that heap.
 use Rattle.std.proofs.Common.{◌≡◌, ℕ, suc, false, List, [], ◌∷◌, map, Some, inl, inr, refl, sym, ap, ◌∙◌, subst, arith}
 use Rattle.std.specs.Prelude.{IsTrue, slice_get, find}
 use Rattle.std.specs.Option.{option_map_or}

@@ -130,7 +130,8 @@ is_present-known p h heap q contents.Row attrs o e =
 pub value_same : (v u : Value) → contents.Value v ≡ contents.Value u → v ≡ u
 value_same v u e = cc
 
-has_as_read_primitive : (v : AbstractValue) (q : Primitive) → IsTrue (has_primitive v q) → IsTrue (has_primitive (as_read v) q)
+has_as_read_primitive : (v : AbstractValue) (q : Primitive) → IsTrue (has_primitive v q)
+    → IsTrue (has_primitive (as_read v) q)
 has_as_read_primitive v primitive.Undefined e = or_left v.flags.undefined v.flags.absent e
 has_as_read_primitive v primitive.Null e = e
 has_as_read_primitive v (primitive.Bool true) e = e
@@ -139,6 +140,7 @@ has_as_read_primitive v (primitive.Number NaN) e = e
 has_as_read_primitive v (primitive.Number (Whole n)) e = e
 has_as_read_primitive v (primitive.Text t) e = e
 
-pub has_as_read : (h : Heap) (v : AbstractValue) (u : Value) → IsTrue (has_value h v u) → IsTrue (has_value h (as_read v) u)
+pub has_as_read : (h : Heap) (v : AbstractValue) (u : Value) → IsTrue (has_value h v u)
+    → IsTrue (has_value h (as_read v) u)
 has_as_read h v (value.Primitive q) e = has_as_read_primitive v q e
 has_as_read h v (value.Object a) e = e

@@ -1,4 +1,5 @@
--- What joins of values and properties have of a heap: each value and content that one of the two has.
+-- What joins of values and properties have of a heap: each value and content that one of the two
+-- has.
 use Rattle.std.specs.Prelude.{IsTrue}
 use Rattle.std.proofs.lemmas.Bool.{or_left, or_right, and_parts, and_from}
 use Rattle.ja_machine.specs.declared.machine.Value.{Value}

@@ -63,19 +63,22 @@ IsOfHeap h (present_row attrs) = Unit {0}
 abbrev pub Grows : Heap → Heap → Type 0
 Grows before now = (s : Site) → count before s ≤ count now s
 
--- what a property says of a spot of an object: it knows the content, or the content is as at the entry
+-- what a property says of a spot of an object: it knows the content, or the content is as at the
+-- entry
 abbrev pub Tells : Heap → Heap → Addr → Spot → AbstractProperty → Type 0
 Tells at_entry now a x q =
-    IsTrue (knows now q (content now a x)) ⊎ (IsTrue q.value.flags.entry × IsAsAtEntry at_entry now a x)
+    IsTrue (knows now q (content now a x)) ⊎ (IsTrue q.value.flags.entry
+    × IsAsAtEntry at_entry now a x)
 
 abbrev pub Properties : Type 0
 Properties = Label → Key → AbstractProperty
 
--- What the properties and the masks of a state say of the objects of a set. It takes them apart, so that it is the
--- same of a state with another register.
-pub record HoldsOfParts (p : Program) (There : Addr → Type 0) (at_entry now : Heap) (property : Properties)
-    (mask : ℕ → Mask) : Type 0 where
-  pub objects : (a : Addr) (x : Spot) → There a → Tells at_entry now a x (property (label_of now a) (key_of p x))
+-- What the properties and the masks of a state say of the objects of a set. It takes them apart, so
+-- that it is the same of a state with another register.
+pub record HoldsOfParts (p : Program) (There : Addr → Type 0) (at_entry now : Heap)
+    (property : Properties) (mask : ℕ → Mask) : Type 0 where
+  pub objects : (a : Addr) (x : Spot) → There a
+      → Tells at_entry now a x (property (label_of now a) (key_of p x))
   pub some : (t : Site) → count at_entry t < count now t → IsTrue (mask t.0).some
   pub none : (t : Site) → count at_entry t ≡ count now t → IsTrue (mask t.0).none
 
@@ -90,15 +93,18 @@ HoldsOfHeap p at_entry now s = HoldsOf p (IsObjectOf now) at_entry now s
 abbrev pub rest_of : Program → Frame → ℕ
 rest_of p f = rest_register (parameters_of p f.function)
 
-pub record HoldsOfRegisters (p : Program) (now : Heap) (f : Frame) (register : ℕ → AbstractValue) : Type 0 where
-  pub registers : (r : ℕ) (v : Value) → slice_get f.registers r ≡ Some v → IsTrue (has_value now (register r) v)
+pub record HoldsOfRegisters (p : Program) (now : Heap) (f : Frame)
+    (register : ℕ → AbstractValue) : Type 0 where
+  pub registers : (r : ℕ) (v : Value) → slice_get f.registers r ≡ Some v
+      → IsTrue (has_value now (register r) v)
   pub rest : (i : ℕ) (v : Value) → parameters_of p f.function ≤ i → slice_get f.arguments i ≡ Some v
       → IsTrue (has_value now (register (rest_of p f)) v)
 
 abbrev pub HoldsOfFrame : Program → Heap → Frame → AbstractState → Type 0
 HoldsOfFrame p now f s = HoldsOfRegisters p now f s.register
 
--- an abstract state holds of a heap and a frame, where at_entry is the heap when the frame was entered
+-- an abstract state holds of a heap and a frame, where at_entry is the heap when the frame was
+-- entered
 pub record Holds (p : Program) (at_entry now : Heap) (f : Frame) (s : AbstractState) : Type 0 where
   pub heap : HoldsOfHeap p at_entry now s
   pub frame : HoldsOfFrame p now f s

@@ -7,9 +7,9 @@ ghost use Rattle.std.specs.List.{list_all};
 ghost use Rattle.ja_prim.specs.Characters.{is_digit};
 ghost use Rattle.ja_report.specs.Texts.{is_name_unit, is_bare, name_text, slot_text, key_text, device_of, device_text, site_text, label_text, register_text, attr_text, attrs_text, numbered_site};
 
+use ja_abstract::{AAttrs, Key, May, Slot};
 use ja_base::{Label, Memory, Site};
 use ja_graph::{BUILTIN_CLASSES, Program};
-use ja_abstract::{AAttrs, Key, May, Slot};
 use ja_prim::Signature;
 use ja_texts::{push_number, push_plain, push_quoted, push_units};
 

@@ -10,9 +10,9 @@ ghost use Rattle.ja_report.specs.Lines.{label_sites, value_sites};
 
 use crate::output::Output;
 use crate::texts::push_label;
+use ja_abstract::{Flags, NumberPart, TextPart};
 use ja_base::{Label, Memory};
 use ja_graph::Program;
-use ja_abstract::{Flags, NumberPart, TextPart};
 use ja_texts::{push_quoted, push_signed};
 use ja_value::{AValue, LabelSet};
 use std::alloc::Global;

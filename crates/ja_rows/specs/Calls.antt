@@ -1,5 +1,6 @@
--- Calls: the state with which an edge enters its callee, the values that fill its callee's entry, and what its exits
--- give back (SAS 2010, interprocedural analysis with lazy propagation; ES3 10.2, 11.2.2, 11.2.3, 13.2.1, 13.2.2).
+-- Calls: the state with which an edge enters its callee, the values that fill its callee's entry,
+-- and what its exits give back (SAS 2010, interprocedural analysis with lazy propagation; ES3 10.2,
+-- 11.2.2, 11.2.3, 13.2.1, 13.2.2).
 use Rattle.std.specs.Prelude.{ℕ, ℤ, pos, Bool, true, false, ◌&&◌, ◌||◌, ◌-◌, if◌then◌else◌, List, [], ◌∷◌, ◌++◌, map, length, slice_get, drop, Option, Some, None, is_some, unwrap_or}
 use Rattle.std.specs.List.{range_with_len}
 use Rattle.ja_base.specs.declared.ids.FnId.{FnId}
@@ -34,8 +35,10 @@ use Rattle.ja_rows.specs.Properties.{prototype_keys}
 
 -- the callees that run a function at a node
 abbrev pub callees : Program → AbstractState → Node → ℕ → Labels
-callees p a (node.Call dst callee receiver list error) f l = (a.register callee.0).label l && runs (calls_at p) f l
-callees p a (node.New dst callee list site error) f l = (a.register callee.0).label l && runs (constructs_at p) f l
+callees p a (node.Call dst callee receiver list error) f l =
+    (a.register callee.0).label l && runs (calls_at p) f l
+callees p a (node.New dst callee list site error) f l =
+    (a.register callee.0).label l && runs (constructs_at p) f l
 callees p a n f l = false
 
 -- the prototype of what is constructed
@@ -53,7 +56,8 @@ calling_state w n f = w.state
 
 abbrev pub demands_of_calling : View → Node → ℕ → Demands
 demands_of_calling w (node.New dst callee list site error) f =
-    demands_of_get w (callees w.program w.state (node.New dst callee list site error) f) (prototype_keys w.program)
+    demands_of_get w (callees w.program w.state (node.New dst callee list site error) f)
+    (prototype_keys w.program)
 demands_of_calling w n f = no_demands
 
 abbrev pub calling : View → Node → ℕ → View
@@ -89,7 +93,8 @@ length_keys = length_key ∷ []
 -- the number of elements that a `length` says
 abbrev pub element_count : AbstractValue → AbstractValue
 element_count v =
-    join (value_if v.flags.absent (whole_constant 0)) (to_uint32 (to_num (primitives_of v)).value).value
+    join (value_if v.flags.absent (whole_constant 0))
+    (to_uint32 (to_num (primitives_of v)).value).value
 
 abbrev pub elements : View → AbstractValue → Arguments
 elements w v =
@@ -117,7 +122,8 @@ given_args w caller parameters (args.Elements array) = elements w (at w array)
 given_args w caller parameters args.Tail = tail w caller
 
 abbrev pub given : View → FnId → ℕ → Node → Arguments
-given w caller parameters (node.Call dst callee receiver list error) = given_args w caller parameters list
+given w caller parameters (node.Call dst callee receiver list error) =
+    given_args w caller parameters list
 given w caller parameters (node.New dst callee list site error) = listed w parameters list
 given w caller parameters n = listed w parameters []
 
@@ -127,16 +133,20 @@ pub record Entered : Type 0 where
   pub state : AbstractState
   pub demands : Demands
 
--- the registers at a function's entry, in the machine's order: `thrown`, `this`, `scope`, `callee`, `count`, the
--- parameters, the rest of the arguments; the temporaries are undefined
-abbrev pub entry_values : ℕ → AbstractValue → AbstractValue → AbstractValue → Arguments → List AbstractValue
+-- the registers at a function's entry, in the machine's order: `thrown`, `this`, `scope`, `callee`,
+-- `count`, the parameters, the rest of the arguments; the temporaries are undefined
+abbrev pub entry_values : ℕ → AbstractValue → AbstractValue → AbstractValue → Arguments
+    → List AbstractValue
 entry_values parameters receiver chain callee g =
-    undefined_value ∷ receiver ∷ chain ∷ callee ∷ g.count ∷ map g.parameter (range_with_len 0 parameters) ++ g.rest ∷ []
+    undefined_value ∷ receiver ∷ chain ∷ callee ∷ g.count ∷ map g.parameter
+    (range_with_len 0 parameters) ++ g.rest ∷ []
 
 -- the state at a function's entry: each property is as it was, and nothing was made
 abbrev pub entry_of : ℕ → AbstractValue → AbstractValue → AbstractValue → Arguments → AbstractState
 entry_of parameters receiver chain callee g = record {
-  register = λ r. unwrap_or (slice_get (entry_values parameters receiver chain callee g) r) undefined_value;
+  register =
+      λ r. unwrap_or (slice_get (entry_values parameters receiver chain callee g) r)
+      undefined_value;
   property = λ l k. entry_property;
   mask = λ s. exactly_none;
 }
@@ -147,15 +157,18 @@ is_conversion (node.Convert dst src kind other) = true
 is_conversion n = false
 
 abbrev pub callee_value : View → Node → ℕ → AbstractValue
-callee_value w n f = if is_conversion n then undefined_value else of_labels (callees w.program w.state n f)
+callee_value w n f =
+    if is_conversion n then undefined_value else of_labels (callees w.program w.state n f)
 
 abbrev pub chain_value : View → Node → ℕ → AbstractValue
 chain_value w n f =
     if is_conversion n then of_label (new global)
-    else of_labels (λ m. some_label w (λ l. callees w.program w.state n f l && (slot w l scope_key).label m))
+    else of_labels (λ m. some_label w (λ l. callees w.program w.state n f l
+    && (slot w l scope_key).label m))
 
 abbrev pub demands_of_chain : View → Node → ℕ → Demands
-demands_of_chain w n f = demands_at w (callees w.program w.state n f) (λ l. demands_of w.state l scope_key)
+demands_of_chain w n f =
+    demands_at w (callees w.program w.state n f) (λ l. demands_of w.state l scope_key)
 
 abbrev pub entered_by : View → Edge → Node → Entered
 entered_by w e n =
@@ -164,7 +177,9 @@ entered_by w e n =
     let parameters = parameters_of w.program f in
     let g = given c e.caller.function parameters n in
     record {
-      state = entry_of parameters (of_label e.callee.receiver) (chain_value c n f.0) (callee_value c n f.0) g;
+      state =
+          entry_of parameters (of_label e.callee.receiver) (chain_value c n f.0)
+          (callee_value c n f.0) g;
       demands = both (demands_of_calling w n f.0) (both (demands_of_chain c n f.0) g.demands);
     }
 
@@ -180,13 +195,15 @@ demands_of_fill w e n callee m j =
     demands_of_calling w n e.callee.function.0 m j
     || some_label w (λ l. is_some (callee l j) && demands_of c.state l j m j)
 
--- what a construction gives: an object of its function's value, and its receiver in the place of anything else
+-- what a construction gives: an object of its function's value, and its receiver in the place of
+-- anything else
 abbrev pub constructed : AbstractValue → AbstractValue → AbstractValue
 constructed receiver v = join (value_if (has_atoms v) receiver) (of_labels v.label)
 
 abbrev pub returned : View → AbstractState → NodeInfo → Node → AbstractValue → AbstractValue → Given
 returned w a i (node.Call dst callee receiver list error) this v = sets_in w a dst v i.next
-returned w a i (node.New dst callee list site error) this v = sets_in w a dst (constructed this v) i.next
+returned w a i (node.New dst callee list site error) this v =
+    sets_in w a dst (constructed this v) i.next
 returned w a i (node.Convert dst src kind other) this v = sets_in w a dst v i.next
 returned w a i n this v = []
 
@@ -194,7 +211,8 @@ returned w a i n this v = []
 abbrev pub given_back : View → Edge → NodeInfo → AbstractState → Node → Given
 given_back w e i exit (node.Return src) =
     let a = composed w.program (calling_state w i.node e.callee.function.0) exit in
-    returned w a i i.node (renamed_value exit.mask (of_label e.callee.receiver)) (exit.register src.0)
+    returned w a i i.node (renamed_value exit.mask (of_label e.callee.receiver))
+    (exit.register src.0)
 given_back w e i exit node.Escape =
     let a = composed w.program (calling_state w i.node e.callee.function.0) exit in
     sets_in w a thrown (exit.register thrown.0) i.handler

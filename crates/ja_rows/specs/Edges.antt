@@ -53,11 +53,13 @@ is_activation_label p l = is_activation_class (class_of_site p l.site.0)
 
 abbrev pub counts_as_global : View → AbstractValue → Bool
 counts_as_global w v =
-    v.flags.undefined || (v.flags.null || some_label w (λ l. v.label l && is_activation_label w.program l))
+    v.flags.undefined || (v.flags.null || some_label w
+    (λ l. v.label l && is_activation_label w.program l))
 
 abbrev pub receivers : View → AbstractValue → Labels
 receivers w v l =
-    (v.label l && not (is_activation_label w.program l)) || (counts_as_global w v && same_label (new global) l)
+    (v.label l && not (is_activation_label w.program l))
+    || (counts_as_global w v && same_label (new global) l)
 
 -- an edge for each function that some callee runs and each receiver
 abbrev pub edge : Point → ℕ → Label → Edge
@@ -67,7 +69,9 @@ edge x f r =
 
 abbrev pub edges_to : View → Point → (ℕ → Bool) → Labels → List Edge
 edges_to w x is_run receivers =
-    let to_function = λ (f : ℕ). if is_run f then map (edge x f) (filter receivers (labels_of w.program)) else [] in
+    let to_function =
+    λ (f : ℕ). if is_run f then map (edge x f)
+    (filter receivers (labels_of w.program)) else [] in
     flat_map to_function (range_with_len 0 (length w.program.functions))
 
 abbrev pub some_runs : View → (Label → Option FnId) → AbstractValue → ℕ → Bool
@@ -90,7 +94,9 @@ transfer_convert w x i dst src kind other =
     let v = at w src in
     let f = default_function w.program kind in
     record {
-      states = sets w dst (join (value_if (is_kept w other) (of_labels v.label)) (primitives_of v)) i.next;
+      states =
+          sets w dst (join (value_if (is_kept w other) (of_labels v.label)) (primitives_of v))
+          i.next;
       demands = no_demands;
       edges = if is_converted w other then edges_to w x (λ g. g == f.0) v.label else [];
     }

@@ -14,5 +14,6 @@ transfer_names w i list object = out (goes (has_labels w (at w object)) i.next w
 abbrev pub transfer_pick : View → NodeInfo → Reg → Reg → Reg → Out
 transfer_pick w i list dst object =
     let start = (at w object).label in
-    out (sets w dst (names_shown w start) i.next ++ goes (has_labels w (at w object)) i.other w.state)
+    out (sets w dst (names_shown w start) i.next
+    ++ goes (has_labels w (at w object)) i.other w.state)
     (demands_of_shown w start)

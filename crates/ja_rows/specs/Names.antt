@@ -24,7 +24,8 @@ without_arrays p set l = set l && not (is_array_label p l)
 abbrev pub transfer_find_name : View → NodeInfo → Reg → NameId → Out
 transfer_find_name w i dst name =
     let start = (at w scope).label in
-    out (sets w dst (found w start (name_keys name)) i.next) (demands_of_found w start (name_keys name))
+    out (sets w dst (found w start (name_keys name)) i.next)
+    (demands_of_found w start (name_keys name))
 
 -- [[Get]] of the objects of a name (8.7.1); null, that no object has it, throws a ReferenceError
 abbrev pub transfer_read_ref : View → NodeInfo → Reg → Reg → NameId → Site → Out
@@ -32,7 +33,8 @@ transfer_read_ref w i dst base name error =
     let b = at w base in
     let text = unbound_message (name_text w.program name) in
     let unbound = throws w b.flags.null i error builtins.REFERENCE_ERROR_PROTOTYPE text in
-    out (unbound ++ reads w dst b.label (name_keys name) i.next) (demands_of_get w b.label (name_keys name))
+    out (unbound ++ reads w dst b.label (name_keys name) i.next)
+    (demands_of_get w b.label (name_keys name))
 
 -- .. where null gives undefined (11.4.3)
 abbrev pub transfer_read_soft : View → NodeInfo → Reg → Reg → NameId → Out
@@ -45,7 +47,8 @@ transfer_read_soft w i dst base name =
 abbrev pub transfer_write_ref : View → NodeInfo → Reg → NameId → Reg → Out
 transfer_write_ref w i base name src =
     let target = without_arrays w.program (or_global (at w base)) in
-    out (all_go i.next (put_states w target (name_keys name) (at w src))) (demands_of_puts w target (name_keys name))
+    out (all_go i.next (put_states w target (name_keys name) (at w src)))
+    (demands_of_puts w target (name_keys name))
 
 -- [[Delete]] of a name, of null true (11.4.1)
 abbrev pub transfer_delete_ref : View → NodeInfo → Reg → Reg → NameId → Out

@@ -57,7 +57,9 @@ transfer_new_object w i dst site kind =
 -- a function, and the object that its constructions inherit from, each with the other (13.2)
 abbrev pub transfer_make_function : View → NodeInfo → Reg → FnId → Site → Site → Out
 transfer_make_function w i dst function site proto_site =
-    let own = λ (a : AbstractState). function_own w.program function (a.register scope.0).label (new proto_site) in
+    let own =
+    λ (a : AbstractState). function_own w.program function (a.register scope.0).label
+    (new proto_site) in
     let proto = λ (a : AbstractState). prototype_own w.program (new site) in
     let made = with_objects w.program w.state site own proto_site proto in
     out (goes true i.next (with_register made dst (of_label (new site)))) no_demands

@@ -30,7 +30,8 @@ transfer_binary w i dst op a b = out (sets w dst (binary w op (at w a) (at w b))
 -- to one node on true, to the other on false
 abbrev pub transfer_branch : View → NodeInfo → Reg → Out
 transfer_branch w i src =
-    out (goes (at w src).flags.is_true i.next w.state ++ goes (at w src).flags.is_false i.other w.state) no_demands
+    out (goes (at w src).flags.is_true i.next w.state
+    ++ goes (at w src).flags.is_false i.other w.state) no_demands
 
 -- a value is thrown (12.13)
 abbrev pub transfer_throw : View → NodeInfo → Reg → Out

@@ -23,7 +23,8 @@ use Rattle.ja_abstract.specs.Writes.{Result}
 use Rattle.ja_abstract.specs.Values.{as_read}
 use Rattle.ja_rows.specs.declared.table.Edge.{Edge}
 
--- what a node gives: states with the numbers of the nodes that they go to, pairs that are demanded, and call edges
+-- what a node gives: states with the numbers of the nodes that they go to, pairs that are demanded,
+-- and call edges
 pub record Out : Type 0 where
   pub states : List (ℕ × AbstractState)
   pub demands : Demands
@@ -66,17 +67,20 @@ sets_results w dst next (r ∷ rs) = sets_in w r.1 dst r.0 next ++ sets_results 
 -- an error is made at a site and thrown; a message that is too long leaves the profile
 abbrev pub with_error : View → Site → Site → List ℕ → AbstractState
 with_error w error proto text =
-    with_register (with_object w.program w.state error (λ b. error_own proto text)) thrown (of_label (new error))
+    with_register (with_object w.program w.state error (λ b. error_own proto text)) thrown
+    (of_label (new error))
 
 abbrev pub throws : View → Bool → NodeInfo → Site → Site → List ℕ → Given
-throws w b info error proto text = goes (b && is_short text) info.handler (with_error w error proto text)
+throws w b info error proto text =
+    goes (b && is_short text) info.handler (with_error w error proto text)
 
 abbrev pub type_error : View → Bool → NodeInfo → Site → List ℕ → Given
 type_error w b info error text = throws w b info error builtins.TYPE_ERROR_PROTOTYPE text
 
 -- an object is made at a site, and a register has it
 abbrev pub makes : View → Reg → Site → (AbstractState → Own) → AbstractState
-makes w dst site own = with_register (with_object w.program w.state site own) dst (of_label (new site))
+makes w dst site own =
+    with_register (with_object w.program w.state site own) dst (of_label (new site))
 
 abbrev pub makes_if : View → Bool → Reg → Site → Own → NodeId → Given
 makes_if w b dst site own next = goes b next (makes w dst site (λ a. own))

@@ -26,9 +26,11 @@ transfer_enter w x i site arguments =
     let f = x.context.function in
     let own = activation_own w.program f arguments in
     let alone = with_object w.program w.state site own in
-    let with_list = λ (list : Site). with_objects w.program w.state site own list (arguments_own w.program f) in
+    let with_list =
+    λ (list : Site). with_objects w.program w.state site own list (arguments_own w.program f) in
     let made = option_map_or with_list arguments alone in
-    out (goes (has_some_part w (w.state.register count_register)) i.next (enters_scope made site)) no_demands
+    out (goes (has_some_part w (w.state.register count_register)) i.next (enters_scope made site))
+    no_demands
 
 -- a variable is added to the object in `scope`, unless it is there (10.1.3)
 abbrev pub transfer_declare : View → NodeInfo → NameId → Out
@@ -45,7 +47,8 @@ transfer_declare w i name =
 abbrev pub transfer_bind : View → NodeInfo → NameId → Reg → Bool → Out
 transfer_bind w i name src read_only =
     let target = (at w scope).label in
-    let q : AbstractProperty = record { value = at w src; attrs = of_attrs (bound_attrs read_only) } in
+    let q : AbstractProperty =
+    record { value = at w src; attrs = of_attrs (bound_attrs read_only) } in
     out (goes (has_labels w (at w scope)) i.next (defined w target (key.Name name) q)) no_demands
 
 -- an object more before the scope chain (12.14, 13)

@@ -26,12 +26,15 @@ transfer_node w x i (node.DeleteRef dst base name) = transfer_delete_ref w i dst
 transfer_node w x i (node.ToObject dst src sites error) = transfer_to_object w i dst src sites error
 transfer_node w x i (node.NeedObject src error) = transfer_need_object w i src error
 transfer_node w x i (node.ReadProp dst object key) = transfer_read_prop w i dst object key
-transfer_node w x i (node.WriteProp object key src error) = transfer_write_prop w i object key src error
+transfer_node w x i (node.WriteProp object key src error) =
+    transfer_write_prop w i object key src error
 transfer_node w x i (node.DeleteProp dst object key) = transfer_delete_prop w i dst object key
 transfer_node w x i (node.HasProp dst object key) = transfer_has_prop w i dst object key
-transfer_node w x i (node.InstanceOf dst left right not_function not_object) = transfer_instance_of w i dst left right not_function not_object
+transfer_node w x i (node.InstanceOf dst left right not_function not_object) =
+    transfer_instance_of w i dst left right not_function not_object
 transfer_node w x i (node.NewObject dst site kind) = transfer_new_object w i dst site kind
-transfer_node w x i (node.MakeFunction dst function site proto_site) = transfer_make_function w i dst function site proto_site
+transfer_node w x i (node.MakeFunction dst function site proto_site) =
+    transfer_make_function w i dst function site proto_site
 transfer_node w x i (node.Enter site arguments) = transfer_enter w x i site arguments
 transfer_node w x i (node.Declare name) = transfer_declare w i name
 transfer_node w x i (node.Bind name src read_only) = transfer_bind w i name src read_only
@@ -40,8 +43,10 @@ transfer_node w x i (node.Convert dst src kind other) = transfer_convert w x i d
 transfer_node w x i (node.Unary dst op src) = transfer_unary w i dst op src
 transfer_node w x i (node.Binary dst op a b) = transfer_binary w i dst op a b
 transfer_node w x i (node.Branch src) = transfer_branch w i src
-transfer_node w x i (node.Call dst callee receiver args error) = transfer_call w x i dst callee receiver args error
-transfer_node w x i (node.New dst callee args site error) = transfer_new w x i dst callee args site error
+transfer_node w x i (node.Call dst callee receiver args error) =
+    transfer_call w x i dst callee receiver args error
+transfer_node w x i (node.New dst callee args site error) =
+    transfer_new w x i dst callee args site error
 transfer_node w x i (node.Names list object) = transfer_names w i list object
 transfer_node w x i (node.Pick list dst object) = transfer_pick w i list dst object
 transfer_node w x i (node.Throw src) = transfer_throw w i src

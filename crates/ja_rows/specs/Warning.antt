@@ -30,7 +30,8 @@ use Rattle.ja_rows.specs.Table.{Table, view_at}
 
 -- ---- in the abstract
 
--- What may go wrong at a node: whether what is read allows it, and whether it allows the node anything else.
+-- What may go wrong at a node: whether what is read allows it, and whether it allows the node
+-- anything else.
 pub record Test : Type 0 where
   pub kind : WarningKind
   pub fault : View → Bool
@@ -42,7 +43,10 @@ some_entry w entry v = some_label w (λ l. v.label l && is_some (entry l))
 -- what isn't undefined and isn't null
 abbrev pub has_something : View → AbstractValue → Bool
 has_something w v =
-    has_part (labels_of w.program) (record v { flags = record v.flags { undefined = false; null = false } })
+    has_part (labels_of w.program) (record v {
+      flags =
+          record v.flags { undefined = false; null = false };
+    })
 
 -- a row is read, and something else is read or missing
 abbrev pub has_row : View → Labels → List Key → Bool
@@ -78,11 +82,19 @@ abbrev pub row_of_property : Reg → Reg → Test
 row_of_property object k = record {
   kind = ScopeRow;
   fault = λ w. has_row w (at w object).label (keys_if (one_key w (at w k)));
-  more = λ w. not (is_some (one_key w (at w k))) || has_no_row w (at w object).label (keys_if (one_key w (at w k)));
+  more =
+      λ w. not (is_some (one_key w (at w k))) || has_no_row w (at w object).label
+      (keys_if (one_key w (at w k)));
 }
 
 abbrev pub unbound : Reg → Test
-unbound base = record { kind = UnboundName; fault = λ w. (at w base).flags.null; more = λ w. has_labels w (at w base) }
+unbound base =
+    record {
+      kind = UnboundName;
+      fault = λ w. (at w base).flags.null;
+      more = λ w. has_labels w
+          (at w base);
+    }
 
 abbrev pub no_function : (Program → Label → Option FnId) → Reg → Test
 no_function entry callee = record {
@@ -92,7 +104,13 @@ no_function entry callee = record {
 }
 
 abbrev pub no_object : Reg → Test
-no_object src = record { kind = NoObject; fault = λ w. is_nothing (at w src); more = λ w. has_something w (at w src) }
+no_object src =
+    record {
+      kind = NoObject;
+      fault = λ w. is_nothing (at w src);
+      more = λ w. has_something w
+          (at w src);
+    }
 
 abbrev pub tests : Node → List Test
 tests (node.Call dst callee receiver args error) = no_function calls_at callee ∷ []
@@ -118,7 +136,8 @@ abbrev pub operation_at : Program → FnId → NodeInfo → WarningKind → Oper
 operation_at p f i kind = record { kind = kind; place = i.place; builtin = builtin_of p f }
 
 -- the table has a state at a node that is this operation
-pub record IsReached (p : Program) (t : Table) (o : Operation) (test : Test) (w : View) : Type 0 where
+pub record IsReached (p : Program) (t : Table) (o : Operation) (test : Test)
+    (w : View) : Type 0 where
   pub context : Context
   pub number : NodeId
   pub info : NodeInfo
@@ -132,7 +151,9 @@ pub record IsReached (p : Program) (t : Table) (o : Operation) (test : Test) (w 
 abbrev pub operation_of : Warning → Operation
 operation_of w = record { kind = w.kind; place = w.place; builtin = w.builtin }
 
--- ---- the order of warnings: those of the text by line, column and kind, then those of built-in functions by function
+-- ---- the order of warnings
+
+-- those of the text by line, column and kind, then those of built-in functions by function
 
 abbrev pub kind_number : WarningKind → ℕ
 kind_number NotAFunction = 1
@@ -154,18 +175,22 @@ IsBelow (a ∷ as_) (b ∷ bs) = (a < b) ⊎ ((a ≡ b) × IsBelow as_ bs)
 
 abbrev pub AreOrdered : List Warning → Type 0
 AreOrdered [] = Unit {0}
-AreOrdered (w ∷ ws) = AllByRecursion (λ (v : Warning). IsBelow (numbers_of w) (numbers_of v)) ws × AreOrdered ws
+AreOrdered (w ∷ ws) =
+    AllByRecursion (λ (v : Warning). IsBelow (numbers_of w) (numbers_of v)) ws × AreOrdered ws
 
--- some state at the operation allows it to go wrong; the warning is certain where none allows anything else
+-- some state at the operation allows it to go wrong; the warning is certain where none allows
+-- anything else
 pub record IsWarned (p : Program) (t : Table) (w : Warning) : Type 0 where
   pub test : Test
   pub view : View
   pub reached : IsReached p t (operation_of w) test view
   pub fault : IsTrue (test.fault view)
-  pub certain : IsTrue w.certain ↔ ((s : Test) (v : View) → IsReached p t (operation_of w) s v → s.more v ≡ false)
+  pub certain : IsTrue w.certain ↔ ((s : Test) (v : View) → IsReached p t (operation_of w) s v
+      → s.more v ≡ false)
 
 pub record AreWarnings (p : Program) (t : Table) (ws : List Warning) : Type 0 where
   pub ordered : AreOrdered ws
   pub warned : AllByRecursion (IsWarned p t) ws
-  pub complete : (o : Operation) (test : Test) (v : View) → IsReached p t o test v → IsTrue (test.fault v)
+  pub complete : (o : Operation) (test : Test) (v : View) → IsReached p t o test v
+      → IsTrue (test.fault v)
       → Any (λ (w : Warning). operation_of w ≡ o) ws

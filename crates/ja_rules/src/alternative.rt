@@ -11,9 +11,9 @@ ghost use Rattle.ja_rules.specs.Readings.{view_of, demands_in};
 ghost use Rattle.ja_rules.specs.Outcomes.{IsGiven, IsOutcome};
 
 use crate::{DemandList, Outcome, Reader};
+use ja_abstract::{Key, Slot};
 use ja_base::{Label, Memory, NameId, NodeId, Reg, Site};
 use ja_graph::{Attrs, MESSAGE, NodeInfo, Program, THROWN};
-use ja_abstract::{Key, Slot};
 use ja_prim::{MAX_UNITS, Text16, push_ascii};
 use ja_state::AState;
 use ja_value::{AProp, AValue, exact_attrs, unknown_attrs};

@@ -2,8 +2,8 @@ ghost use Rattle.std.specs.Prelude.{◌≡◌, ◌&&◌, IfOk, false};
 ghost use Rattle.ja_abstract.specs.AbstractValue.{same_label};
 ghost use Rattle.ja_abstract.specs.AbstractState.{same_key};
 
-use ja_base::{Label, Memory};
 use ja_abstract::Key;
+use ja_base::{Label, Memory};
 use std::alloc::Global;
 
 /// The pairs of a label and a key whose values at entry were demanded.

@@ -14,9 +14,9 @@ ghost use Rattle.ja_rules.specs.Writing.{written_over, written_more, IsOnlyNew};
 
 use crate::alternative::{Alternative, NO_ATTRS, outcome};
 use crate::{DemandList, Outcome, Reader};
+use ja_abstract::{AAttrs, Key};
 use ja_base::{Label, Memory, NodeId};
 use ja_graph::GLOBAL;
-use ja_abstract::{AAttrs, Key};
 use ja_state::AState;
 use ja_value::{AProp, AValue, LabelSet, exact_attrs, join_attrs, unknown_attrs};
 

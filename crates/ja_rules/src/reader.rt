@@ -10,8 +10,8 @@ ghost use Rattle.ja_value.specs.Value.{value_of, labels_in, property_of};
 
 use crate::DemandList;
 use crate::search::as_read;
-use ja_base::{Label, Memory};
 use ja_abstract::Key;
+use ja_base::{Label, Memory};
 use ja_state::{AState, DemandedEntries};
 use ja_value::{AProp, AValue, LabelSet, unknown_attrs};
 use std::alloc::Global;

@@ -10,8 +10,8 @@ ghost use Rattle.ja_rules.specs.Readings.{Adds, view_of};
 ghost use Rattle.ja_rules.specs.Walking.{demands_at_scope, demands_over};
 
 use crate::{DemandList, Reader};
-use ja_base::{Label, Memory};
 use ja_abstract::{Key, Slot};
+use ja_base::{Label, Memory};
 use ja_value::{AValue, LabelSet};
 use std::alloc::Global;
 

@@ -15,9 +15,9 @@ ghost use Rattle.ja_state.specs.declared.state.AState.{AState};
 ghost use Rattle.ja_state.specs.State.{state_of, entries_of};
 
 use crate::{DemandList, transfer};
+use ja_abstract::{Key, Slot};
 use ja_base::{Label, Memory, NameId, NodeId, Site};
 use ja_graph::{NodeInfo, ObjectSpec, Program, PropertySpec, SpecContent};
-use ja_abstract::{Key, Slot};
 use ja_model::Item;
 use ja_prim::Primitive;
 use ja_state::{AState, DemandedEntries};

@@ -8,8 +8,8 @@ ghost use Rattle.ja_rules.specs.Readings.{Adds, view_of};
 ghost use Rattle.ja_rules.specs.Walking.{IsWalkOver, Meets, Ends, demands_at, demands_over};
 
 use crate::{DemandList, Reader, Walk};
-use ja_base::{Label, Memory};
 use ja_abstract::{Key, Slot};
+use ja_base::{Label, Memory};
 use ja_value::{AProp, AValue, LabelSet};
 use std::alloc::Global;
 

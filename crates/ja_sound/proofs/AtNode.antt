@@ -65,12 +65,14 @@ abbrev IsValueInProfile : Value → Type 0
 IsValueInProfile (value.Primitive q) = IsInProfile q
 IsValueInProfile (value.Object a) = Unit {0}
 
-pub text_in_profile : (t : List ℕ) (q : Primitive) → value.Primitive (primitive.Text t) ≡ value.Primitive q → IsInProfile q
+pub text_in_profile : (t : List ℕ) (q : Primitive)
+    → value.Primitive (primitive.Text t) ≡ value.Primitive q → IsInProfile q
 text_in_profile t q is = subst IsValueInProfile is tt
 
 -- ---- at a node
 
-module _ (e : Heap) (c : Conf) (top : Frame) (below : List Frame) (x : Point) (w : View) (at : IsAt w.program e c top below x w) (good : IsWellFormed w.program) where
+module _ (e : Heap) (c : Conf) (top : Frame) (below : List Frame) (x : Point) (w : View)
+    (at : IsAt w.program e c top below x w) (good : IsWellFormed w.program) where
   abbrev p : Program
   p = w.program
 
@@ -80,7 +82,8 @@ module _ (e : Heap) (c : Conf) (top : Frame) (below : List Frame) (x : Point) (w
   abbrev s : Standing
   s = record { conf = c; top = top; below = below; info = i }
 
-  -- the state that an event leads to is held by one of those that are given, where it is one of a run
+  -- the state that an event leads to is held by one of those that are given, where it is one of a
+  -- run
   abbrev pub Gives : Given → Event → Type 0
   Gives given (event.Next d) = IsState p d → IsGiven p e below given d
   Gives given (event.End end d) = Unit {0}
@@ -108,19 +111,24 @@ module _ (e : Heap) (c : Conf) (top : Frame) (below : List Frame) (x : Point) (w
   pub dest_scope : IsDestinationOf p top scope
   dest_scope = dest scope (sets_scope p good c.heap top fr)
 
-  pub has : (r : Reg) → IsRegister fr.function r → IsTrue (has_value c.heap (abstract.at w r) (register_of top r))
+  pub has : (r : Reg) → IsRegister fr.function r
+      → IsTrue (has_value c.heap (abstract.at w r) (register_of top r))
   has r l = at.holds.frame.registers r.0 (register_of top r) (register_held top r (fits r l))
 
   pub of_heap : (r : Reg) → IsRegister fr.function r → IsValueOf c.heap (register_of top r)
   of_heap r l = register_of_heap p c.heap top r fr (fits r l)
 
   -- what a register holds is of the profile
-  pub in_profile : (r : Reg) → IsRegister fr.function r → (q : Primitive) → register_of top r ≡ value.Primitive q → IsInProfile q
+  pub in_profile : (r : Reg) → IsRegister fr.function r → (q : Primitive)
+      → register_of top r ≡ value.Primitive q → IsInProfile q
   in_profile r l q is = at.profile r.0 q (register_held top r (fits r l) ∙ ap Some is)
 
   -- the key of what a key register holds is among the keys of its value
-  pub keys_among : (r : Reg) → IsRegister fr.function r → (t : List ℕ) → key_text (register_of top r) ≡ Some t → IsTrue (is_among_keys (keys_of_value p (abstract.at w r)) (key_of p (named t)))
-  keys_among r l t is = key-among p c.heap (abstract.at w r) (register_of top r) t (has r l) (in_profile r l) is
+  pub keys_among : (r : Reg) → IsRegister fr.function r → (t : List ℕ)
+      → key_text (register_of top r) ≡ Some t → IsTrue
+      (is_among_keys (keys_of_value p (abstract.at w r)) (key_of p (named t)))
+  keys_among r l t is =
+      key-among p c.heap (abstract.at w r) (register_of top r) t (has r l) (in_profile r l) is
 
   pub scope_is : IsRegister fr.function scope
   scope_is = register_scope p good c.heap top fr
@@ -128,49 +136,83 @@ module _ (e : Heap) (c : Conf) (top : Frame) (below : List Frame) (x : Point) (w
   -- ---- sites, names
 
   pub row : (t : Site) → IsNodeSite p t → t.0 < length c.heap.objects
-  row t l = let k : length c.heap.objects ≡ length p.sites = at.known.heap.rows in let m : t.0 < length p.sites = l.1 in omega arith
+  row t l =
+      let k : length c.heap.objects ≡ length p.sites = at.known.heap.rows in
+      let m : t.0 < length p.sites = l.1 in omega arith
 
-  pub name_among : (n : NameId) → IsName p n → IsTrue (is_among_keys (abstract.name_keys n) (key_of p (named (name_text p n))))
-  name_among n l = or_left _ _ (same_key_from (key.Name n) (key_of p (named (name_text p n))) (sym (key_of-name p good n l)))
+  pub name_among : (n : NameId) → IsName p n → IsTrue
+      (is_among_keys (abstract.name_keys n) (key_of p (named (name_text p n))))
+  name_among n l =
+      or_left _ _ (same_key_from (key.Name n) (key_of p (named (name_text p n)))
+      (sym (key_of-name p good n l)))
 
   pub only_name : (n : NameId) (y : Spot) → key.Name n ≡ key_of p y → y ≡ named (name_text p n)
   only_name n (named u) is = ap named (sym (text_of_key p u n (sym is)))
   only_name n (internal q) is = cc
 
   -- the one object of an opening site is new
-  pub opened : (h : Heap) → IsHeap p h → (t : Site) → t.0 < length p.opening → label_of h (first_of t) ≡ new t
-  opened h known t l = let one : count h t ≡ 1 = known.opening t l in Labels.same_parts (label_of h (first_of t)) (new t) refl (Contents.label_is_new h (first_of t) (omega arith))
+  pub opened : (h : Heap) → IsHeap p h → (t : Site) → t.0 < length p.opening
+      → label_of h (first_of t) ≡ new t
+  opened h known t l =
+      let one : count h t ≡ 1 = known.opening t l in
+      Labels.same_parts (label_of h (first_of t)) (new t) refl
+      (Contents.label_is_new h (first_of t) (omega arith))
 
   -- ---- states that are given
 
   -- a state holds of a heap, with the registers of the view
-  pub leaves : (given : Given) (n : NodeId) (now : Heap) (f : Frame) (a : AbstractState) → Member {X = ℕ × AbstractState} (n.0, a) given → Holds p e now (moved_to f n) a → Gives given (next_state c now (moved_to f n ∷ below))
-  leaves given n now f a among holds after = record { top = moved_to f n; frames_are = refl; state = a; among = among; holds = holds }
+  pub leaves : (given : Given) (n : NodeId) (now : Heap) (f : Frame) (a : AbstractState)
+      → Member {X = ℕ × AbstractState} (n.0, a) given → Holds p e now (moved_to f n) a
+      → Gives given (next_state c now (moved_to f n ∷ below))
+  leaves given n now f a among holds after =
+      record { top = moved_to f n; frames_are = refl; state = a; among = among; holds = holds }
 
   -- an object is made, and a register has it
-  pub makes_to : (given : Given) (dst : Reg) (n : NodeId) (t : Site) (o : Object) (own : AbstractState → Own) → IsNodeSite p t → IsDestinationOf p top dst → (IsHeap p (with_new c.heap t o) → IsMade p (with_new c.heap t o) o (own (with_made w.state t))) → Member {X = ℕ × AbstractState} (n.0, abstract.makes w dst t own) given → Gives given (next_state c (with_new c.heap t o) (with_result top dst (value.Object (new_address c.heap t)) n ∷ below))
+  pub makes_to : (given : Given) (dst : Reg) (n : NodeId) (t : Site) (o : Object)
+      (own : AbstractState → Own) → IsNodeSite p t → IsDestinationOf p top dst
+      → (IsHeap p (with_new c.heap t o) → IsMade p (with_new c.heap t o) o
+      (own (with_made w.state t))) → Member {X = ℕ × AbstractState}
+      (n.0, abstract.makes w dst t own) given → Gives given
+      (next_state c (with_new c.heap t o) (with_result top dst
+      (value.Object (new_address c.heap t)) n ∷ below))
   makes_to given dst n t o own site d made_ among after =
       let now : Heap = with_new c.heap t o in
       let a : Addr = new_address c.heap t in
       let u : AbstractValue = of_label (new t) in
-      let told : IsTrue (has_value now u (value.Object a)) = same_label_from (new t) (label_of now a) (sym (Contents.label-with_new_new c.heap t o (row t site))) in
+      let told : IsTrue (has_value now u (value.Object a)) =
+      same_label_from (new t) (label_of now a)
+      (sym (Contents.label-with_new_new c.heap t o (row t site))) in
       record {
         top = with_result top dst (value.Object a) n;
         frames_are = refl;
         state = abstract.makes w dst t own;
         among = among;
         holds = record {
-          heap = with_object_holds p e c.heap t o (row t site) w.state at.grows (λ b y there. inside p c.heap at.known.heap b y) at.holds.heap own (made_ after.heap);
-          frame = frame_with_result p now top (with_object w.program w.state t own) dst (value.Object a) u n d told (frame_aged p c.heap t o (row t site) top w.state fr.values fr.arguments at.holds.frame);
+          heap =
+              with_object_holds p e c.heap t o (row t site) w.state at.grows
+              (λ b y there. inside p c.heap at.known.heap b y) at.holds.heap own (made_ after.heap);
+          frame =
+              frame_with_result p now top (with_object w.program w.state t own) dst
+              (value.Object a) u n d told (frame_aged p c.heap t o
+              (row t site) top w.state fr.values fr.arguments at.holds.frame);
         };
       }
 
   -- what a register is set to, anywhere
-  pub sets_to : (given : Given) (dst : Reg) (n : NodeId) (v : Value) (u : AbstractValue) → IsDestinationOf p top dst → IsValueOf c.heap v → IsTrue (has_value c.heap u v) → (IsTrue (has_present w u) → Member {X = ℕ × AbstractState} (n.0, with_register w.state dst u) given) → Gives given (next_state c c.heap (with_result top dst v n ∷ below))
+  pub sets_to : (given : Given) (dst : Reg) (n : NodeId) (v : Value) (u : AbstractValue)
+      → IsDestinationOf p top dst → IsValueOf c.heap v → IsTrue (has_value c.heap u v)
+      → (IsTrue (has_present w u) → Member {X = ℕ × AbstractState}
+      (n.0, with_register w.state dst u) given) → Gives given
+      (next_state c c.heap (with_result top dst v n ∷ below))
   sets_to given dst n v u d there told among after = record {
     top = with_result top dst v n;
     frames_are = refl;
     state = with_register w.state dst u;
     among = among (is_present-has_value p c.heap at.known.heap u v there told);
-    holds = record { heap = at.holds.heap; frame = frame_with_result p c.heap top w.state dst v u n d told at.holds.frame };
+    holds =
+        record {
+          heap = at.holds.heap;
+          frame = frame_with_result p c.heap top w.state dst v u n d
+              told at.holds.frame;
+        };
   }

@@ -14,12 +14,21 @@ use Rattle.ja_sound.specs.Invariants.{runs_function, IsRunning}
 
 -- ---- what is called or constructed runs a function
 
-running_by : (p : Program) (a : Addr) (f : FnId) (select : SiteInfo → Option FnId) → ((s : SiteInfo) → IsTrue (is_some (select s)) → IsTrue (runs_function s)) → (o : Option SiteInfo) → slice_get p.sites a.site.0 ≡ o → option_and_then select o ≡ Some f → IsRunning p a
+running_by : (p : Program) (a : Addr) (f : FnId) (select : SiteInfo → Option FnId)
+    → ((s : SiteInfo) → IsTrue (is_some (select s)) → IsTrue (runs_function s))
+    → (o : Option SiteInfo) → slice_get p.sites a.site.0 ≡ o → option_and_then select o ≡ Some f
+    → IsRunning p a
 running_by p a f select runs None is e = absurd (none-some f e)
-running_by p a f select runs (Some s) is e = (s, is, runs s (subst (λ r. IsTrue (is_some r)) (sym e) refl))
+running_by p a f select runs (Some s) is e =
+    (s, is, runs s (subst (λ r. IsTrue (is_some r)) (sym e) refl))
 
-pub called_runs : (p : Program) (a : Addr) (f : FnId) → function_called p (value.Object a) ≡ Some f → IsRunning p a
-called_runs p a f e = running_by p a f (λ s. s.calls) (λ s k. or_left _ _ k) (slice_get p.sites a.site.0) refl e
+pub called_runs : (p : Program) (a : Addr) (f : FnId) → function_called p (value.Object a) ≡ Some f
+    → IsRunning p a
+called_runs p a f e =
+    running_by p a f (λ s. s.calls) (λ s k. or_left _ _ k) (slice_get p.sites a.site.0) refl e
 
-pub constructing_runs : (p : Program) (a : Addr) (f : FnId) → function_constructing p (value.Object a) ≡ Some f → IsRunning p a
-constructing_runs p a f e = running_by p a f (λ s. s.constructs) (λ s k. or_right (is_some s.calls) _ k) (slice_get p.sites a.site.0) refl e
+pub constructing_runs : (p : Program) (a : Addr) (f : FnId)
+    → function_constructing p (value.Object a) ≡ Some f → IsRunning p a
+constructing_runs p a f e =
+    running_by p a f (λ s. s.constructs) (λ s k. or_right (is_some s.calls) _ k)
+    (slice_get p.sites a.site.0) refl e

@@ -51,43 +51,73 @@ use Rattle.ja_sound.proofs.Steps.{read_at, frame}
 
 -- ---- the object that is constructed
 
-module _ (p : Program) (now : Heap) (v : AbstractValue) (proto : Addr) (has : IsTrue (has_value now v (value.Object proto))) where
-  by_spot : (x : Spot) → IsTrue (knows now (constructed_own v (key_of p x)) (object_content (constructed_object proto) x))
+module _ (p : Program) (now : Heap) (v : AbstractValue) (proto : Addr)
+    (has : IsTrue (has_value now v (value.Object proto))) where
+  by_spot : (x : Spot) → IsTrue (knows now (constructed_own v (key_of p x))
+      (object_content (constructed_object proto) x))
   by_spot (internal slots.Prototype) = has
   by_spot (internal slots.Outer) = refl
   by_spot (internal slots.Scope) = refl
   by_spot (internal slots.Value) = refl
   by_spot (named t) =
-      let other : same_key prototype (key_of p (named t)) ≡ false = false_from_ne_true (same_key prototype (key_of p (named t))) (λ e. no_slot_of_text p t slots.Prototype (sym (same_key-true prototype (key_of p (named t)) e))) in
-      subst (λ q. IsTrue (knows now q missing)) (sym (cond-false (same_key prototype (key_of p (named t))) (bare v) absent_property other)) refl
+      let other : same_key prototype (key_of p (named t)) ≡ false =
+      false_from_ne_true (same_key prototype (key_of p (named t)))
+      (λ e. no_slot_of_text p t slots.Prototype
+      (sym (same_key-true prototype (key_of p (named t)) e))) in
+      subst (λ q. IsTrue (knows now q missing)) (sym
+      (cond-false (same_key prototype (key_of p (named t))) (bare v) absent_property other)) refl
 
   pub constructed_made : IsMade p now (constructed_object proto) (constructed_own v)
   constructed_made = by_spot
 
 -- ---- its prototype
 
-module _ (h : Heap) (default_is : label_of h (first_of builtins.OBJECT_PROTOTYPE) ≡ new builtins.OBJECT_PROTOTYPE) (q : AbstractProperty) where
+module _ (h : Heap) (default_is : label_of h (first_of builtins.OBJECT_PROTOTYPE)
+    ≡ new builtins.OBJECT_PROTOTYPE) (q : AbstractProperty) where
   abbrev other : AbstractValue
   other = value_if (has_no_object q.value) (of_label (new builtins.OBJECT_PROTOTYPE))
 
   abbrev whole : AbstractValue
   whole = join other (of_labels q.value.label)
 
-  default_has : IsTrue (has_no_object q.value) → IsTrue (has_value h whole (value.Object (first_of builtins.OBJECT_PROTOTYPE)))
-  default_has e = has_value-join_left h other (of_labels q.value.label) (value.Object (first_of builtins.OBJECT_PROTOTYPE)) (subst (λ v. IsTrue (has_value h v (value.Object (first_of builtins.OBJECT_PROTOTYPE)))) (sym (cond-true (has_no_object q.value) (of_label (new builtins.OBJECT_PROTOTYPE)) no_value e)) (same_label_from (new builtins.OBJECT_PROTOTYPE) (label_of h (first_of builtins.OBJECT_PROTOTYPE)) (sym default_is)))
+  default_has : IsTrue (has_no_object q.value)
+      → IsTrue (has_value h whole (value.Object (first_of builtins.OBJECT_PROTOTYPE)))
+  default_has e =
+      has_value-join_left h other (of_labels q.value.label)
+      (value.Object (first_of builtins.OBJECT_PROTOTYPE))
+      (subst (λ v. IsTrue (has_value h v (value.Object (first_of builtins.OBJECT_PROTOTYPE))))
+      (sym (cond-true (has_no_object q.value) (of_label (new builtins.OBJECT_PROTOTYPE)) no_value
+      e)) (same_label_from (new builtins.OBJECT_PROTOTYPE)
+      (label_of h (first_of builtins.OBJECT_PROTOTYPE)) (sym default_is)))
 
-  by_content : (x : Content) (attrs : Attrs) → IsTrue (knows h q (Rattle.ja_abstract.specs.Contents.content_of x attrs)) → IsTrue (has_value h whole (value.Object (prototype_for (Some x))))
-  by_content (contents.Value (value.Object b)) attrs e = has_value-join_right h other (of_labels q.value.label) (value.Object b) (and_parts (q.value.label (label_of h b)) _ e).0
-  by_content (contents.Value (value.Primitive r)) attrs e = default_has (or_right q.value.flags.absent _ (or_right q.value.flags.row _ (has_atoms-from q.value r (and_parts (has_primitive q.value r) _ e).0)))
-  by_content contents.Row attrs e = default_has (or_right q.value.flags.absent _ (or_left _ _ (and_parts q.value.flags.row _ e).0))
+  by_content : (x : Content) (attrs : Attrs) → IsTrue
+      (knows h q (Rattle.ja_abstract.specs.Contents.content_of x attrs))
+      → IsTrue (has_value h whole (value.Object (prototype_for (Some x))))
+  by_content (contents.Value (value.Object b)) attrs e =
+      has_value-join_right h other (of_labels q.value.label) (value.Object b)
+      (and_parts (q.value.label (label_of h b)) _ e).0
+  by_content (contents.Value (value.Primitive r)) attrs e =
+      default_has (or_right q.value.flags.absent _
+      (or_right q.value.flags.row _ (has_atoms-from q.value r
+      (and_parts (has_primitive q.value r) _ e).0)))
+  by_content contents.Row attrs e =
+      default_has (or_right q.value.flags.absent _
+      (or_left _ _ (and_parts q.value.flags.row _ e).0))
 
-  pub prototype-has : (g : Option Property) → IsTrue (knows h q (property_content g)) → IsTrue (has_value h whole (value.Object (prototype_for (option_map (λ (r : Property). r.content) g))))
+  pub prototype-has : (g : Option Property) → IsTrue (knows h q (property_content g))
+      → IsTrue (has_value h whole (value.Object (prototype_for
+      (option_map (λ (r : Property). r.content) g))))
   prototype-has None e = default_has (or_left _ _ e)
   prototype-has (Some r) e = by_content r.content r.attrs e
 
 -- ---- the calling state
 
-module _ (e : Heap) (c : Conf) (top : Frame) (below : List Frame) (x : Point) (w : View) (at : IsAt w.program e c top below x w) (default_is : label_of c.heap (first_of builtins.OBJECT_PROTOTYPE) ≡ new builtins.OBJECT_PROTOTYPE) (dst callee : Reg) (args : List Reg) (site error : Site) (f : ℕ) (row : site.0 < length c.heap.objects) (a : Addr) (there : IsObjectOf c.heap a) (in_callees : IsTrue (callees w.program w.state (node.New dst callee args site error) f (label_of c.heap a))) where
+module _ (e : Heap) (c : Conf) (top : Frame) (below : List Frame) (x : Point) (w : View)
+    (at : IsAt w.program e c top below x w) (default_is : label_of c.heap
+    (first_of builtins.OBJECT_PROTOTYPE) ≡ new builtins.OBJECT_PROTOTYPE) (dst callee : Reg)
+    (args : List Reg) (site error : Site) (f : ℕ) (row : site.0 < length c.heap.objects) (a : Addr)
+    (there : IsObjectOf c.heap a) (in_callees : IsTrue
+    (callees w.program w.state (node.New dst callee args site error) f (label_of c.heap a))) where
   abbrev n : Node
   n = node.New dst callee args site error
 
@@ -97,18 +127,33 @@ module _ (e : Heap) (c : Conf) (top : Frame) (below : List Frame) (x : Point) (w
   abbrev now : Heap
   now = with_new c.heap site (constructed_object proto)
 
-  proto_has : IsFilled w.entries (demands_of_calling w n f) → IsTrue (has_value c.heap (prototype_value w n f) (value.Object proto))
+  proto_has : IsFilled w.entries (demands_of_calling w n f)
+      → IsTrue (has_value c.heap (prototype_value w n f) (value.Object proto))
   proto_has filled =
       let set : Labels = callees w.program w.state n f in
-      let one : IsTrue (is_among_keys (prototype_keys w.program) (key_of w.program (named (codes "prototype")))) = or_left _ _ (same_key-self (key_of w.program (named (codes "prototype")))) in
-      prototype-has c.heap default_is (get w set (prototype_keys w.program)) (heap.get c.heap a (codes "prototype")) (get_known e c.heap w (read_at e c top below x w at) set (prototype_keys w.program) filled (codes "prototype") one a there in_callees)
+      let one : IsTrue (is_among_keys (prototype_keys w.program)
+      (key_of w.program (named (codes "prototype")))) = or_left _ _
+      (same_key-self (key_of w.program (named (codes "prototype")))) in
+      prototype-has c.heap default_is (get w set (prototype_keys w.program))
+      (heap.get c.heap a (codes "prototype")) (get_known e c.heap w
+      (read_at e c top below x w at) set (prototype_keys w.program) filled
+      (codes "prototype") one a there in_callees)
 
-  pub calling_holds : IsObjectOf c.heap proto → IsFilled w.entries (demands_of_calling w n f) → Holds w.program e now top (calling_state w n f)
+  pub calling_holds : IsObjectOf c.heap proto → IsFilled w.entries (demands_of_calling w n f)
+      → Holds w.program e now top (calling_state w n f)
   calling_holds proto_there filled =
       let v : AbstractValue = aged site (prototype_value w n f) in
-      let has : IsTrue (has_value now v (value.Object proto)) = aged_has c.heap site (constructed_object proto) row (prototype_value w n f) (value.Object proto) proto_there (proto_has filled) in
+      let has : IsTrue (has_value now v (value.Object proto)) =
+      aged_has c.heap site (constructed_object proto) row (prototype_value w n f)
+      (value.Object proto) proto_there (proto_has filled) in
       let fr : IsFrame w.program c.heap top = frame e c top below x w at in
       record {
-        heap = with_object_holds w.program e c.heap site (constructed_object proto) row w.state at.grows (λ b y o. inside w.program c.heap at.known.heap b y) at.holds.heap (λ s. constructed_own v) (constructed_made w.program now v proto has);
-        frame = frame_aged w.program c.heap site (constructed_object proto) row top w.state fr.values fr.arguments at.holds.frame;
+        heap =
+            with_object_holds w.program e c.heap site
+            (constructed_object proto) row w.state at.grows
+            (λ b y o. inside w.program c.heap at.known.heap b y) at.holds.heap
+            (λ s. constructed_own v) (constructed_made w.program now v proto has);
+        frame =
+            frame_aged w.program c.heap site (constructed_object proto) row top w.state fr.values
+            fr.arguments at.holds.frame;
       }

@@ -51,7 +51,8 @@ use Rattle.ja_sound.proofs.Callables.{called_runs}
 
 -- ---- from an entry's parts
 
-module _ (e : Heap) (d : Conf) (top : Frame) (x : Point) (w : View) (f : FnId) (receiver : Addr) (callee : Option Addr) (chain : Addr) (arguments : List Value) (steps : ℕ) where
+module _ (e : Heap) (d : Conf) (top : Frame) (x : Point) (w : View) (f : FnId) (receiver : Addr)
+    (callee : Option Addr) (chain : Addr) (arguments : List Value) (steps : ℕ) where
   abbrev p : Program
   p = w.program
 
@@ -65,10 +66,18 @@ module _ (e : Heap) (d : Conf) (top : Frame) (x : Point) (w : View) (f : FnId) (
     pub grows : Grows e d.heap
     pub entries : EntriesHold p e w.entries
     pub edge : Member (edge_into x d.heap frame) (transfer_node w x x.info n).edges
-    pub calling_holds : IsFilled w.entries (demands_of_calling w n f.0) → Holds p e d.heap top (calling_state w n f.0)
-    pub chain_has : IsFilled w.entries (demands_of_calling w n f.0) → IsFilled w.entries (demands_of_chain (calling w n f.0) n f.0) → IsTrue (has_value d.heap (chain_value (calling w n f.0) n f.0) (value.Object chain))
-    pub callee_has : IsFilled w.entries (demands_of_calling w n f.0) → IsTrue (has_value d.heap (callee_value (calling w n f.0) n f.0) (object_or_undefined callee))
-    pub given : IsFilled w.entries (demands_of_calling w n f.0) → IsFilled w.entries (calls.given (calling w n f.0) x.context.function (parameters_of p f) n).demands → AreGiven d.heap (parameters_of p f) arguments (calls.given (calling w n f.0) x.context.function (parameters_of p f) n)
+    pub calling_holds : IsFilled w.entries (demands_of_calling w n f.0)
+        → Holds p e d.heap top (calling_state w n f.0)
+    pub chain_has : IsFilled w.entries (demands_of_calling w n f.0)
+        → IsFilled w.entries (demands_of_chain (calling w n f.0) n f.0)
+        → IsTrue (has_value d.heap (chain_value (calling w n f.0) n f.0) (value.Object chain))
+    pub callee_has : IsFilled w.entries (demands_of_calling w n f.0)
+        → IsTrue (has_value d.heap (callee_value (calling w n f.0) n f.0)
+        (object_or_undefined callee))
+    pub given : IsFilled w.entries (demands_of_calling w n f.0)
+        → IsFilled w.entries (calls.given (calling w n f.0) x.context.function
+        (parameters_of p f) n).demands → AreGiven d.heap (parameters_of p f) arguments
+        (calls.given (calling w n f.0) x.context.function (parameters_of p f) n)
 
   abbrev n : Node
   n = x.info.node
@@ -90,12 +99,23 @@ module _ (e : Heap) (d : Conf) (top : Frame) (x : Point) (w : View) (f : FnId) (
     is_entered = record {
       edge = enters.edge;
       state = λ filled.
-          let first : IsFilled w.entries (demands_of_calling w n f.0) = λ l k h. filled l k (or_left _ _ h) in
-          let second : IsFilled w.entries (demands_of_chain c n f.0) = λ l k h. filled l k (or_right (demands_of_calling w n f.0 l k) _ (or_left _ _ h)) in
-          let third : IsFilled w.entries (calls.given c x.context.function (parameters_of p f) n).demands = λ l k h. filled l k (or_right (demands_of_calling w n f.0 l k) _ (or_right (demands_of_chain c n f.0 l k) _ h)) in
-          entry_holds d.heap p steps f receiver callee chain arguments (of_label (label_of d.heap receiver)) (chain_value c n f.0) (callee_value c n f.0) (calls.given c x.context.function (parameters_of p f) n) (same_label-self (label_of d.heap receiver)) (enters.chain_has first second) (enters.callee_has first) (enters.given first third);
+          let first : IsFilled w.entries (demands_of_calling w n f.0) =
+          λ l k h. filled l k (or_left _ _ h) in
+          let second : IsFilled w.entries (demands_of_chain c n f.0) =
+          λ l k h. filled l k (or_right (demands_of_calling w n f.0 l k) _ (or_left _ _ h)) in
+          let third : IsFilled w.entries (calls.given c x.context.function
+          (parameters_of p f) n).demands = λ l k h. filled l k
+          (or_right (demands_of_calling w n f.0 l k) _
+          (or_right (demands_of_chain c n f.0 l k) _ h)) in
+          entry_holds d.heap p steps f receiver callee chain arguments
+          (of_label (label_of d.heap receiver)) (chain_value c n f.0) (callee_value c n f.0)
+          (calls.given c x.context.function (parameters_of p f) n)
+          (same_label-self (label_of d.heap receiver)) (enters.chain_has first second)
+          (enters.callee_has first) (enters.given first third);
       calling = enters.calling_holds;
-      values = λ a y there filled pair. own-knows e d.heap c (read_calling filled) a y (key_of p y) (same_key-self (key_of p y)) there pair;
+      values =
+          λ a y there filled pair. own-knows e d.heap c (read_calling filled) a y (key_of p y)
+          (same_key-self (key_of p y)) there pair;
     }
 
 -- ---- the chain of a callee
@@ -107,37 +127,74 @@ module _ (e h : Heap) (c : View) (read : Reads e h c) (n : Node) (f : ℕ) where
   abbrev chains : AbstractValue
   chains = of_labels (λ m. some_label c (λ l. set l && (slot c l scope_key).label m))
 
-  some-object : (test : Labels) (a : Addr) → IsObjectOf h a → IsTrue (test (label_of h a)) → IsTrue (some_label c test)
-  some-object test a there k = some_among test (labels_of c.program) (label_of h a) (label_of-among c.program h read.heap_now a there) k
+  some-object : (test : Labels) (a : Addr) → IsObjectOf h a → IsTrue (test (label_of h a))
+      → IsTrue (some_label c test)
+  some-object test a there k =
+      some_among test (labels_of c.program) (label_of h a)
+      (label_of-among c.program h read.heap_now a there) k
 
-  slot_known : (a : Addr) → IsObjectOf h a → IsFilled c.entries (demands_of c.state (label_of h a) scope_key) → IsTrue (knows h (resolved c.state c.entries (label_of h a) scope_key) (content h a (internal slots.Scope)))
-  slot_known a there filled = own-knows e h c read a (internal slots.Scope) scope_key (same_key-self scope_key) there filled
+  slot_known : (a : Addr) → IsObjectOf h a → IsFilled c.entries
+      (demands_of c.state (label_of h a) scope_key)
+      → IsTrue (knows h (resolved c.state c.entries (label_of h a) scope_key)
+      (content h a (internal slots.Scope)))
+  slot_known a there filled =
+      own-knows e h c read a (internal slots.Scope) scope_key (same_key-self scope_key) there filled
 
-  by_slot : (a : Addr) (o : Object) → object_at h a ≡ Some o → IsTrue (set (label_of h a)) → IsFilled c.entries (demands_of c.state (label_of h a) scope_key) → (r : Option Addr) → o.slots.scope ≡ r → IsSome r → IsTrue (has_value h chains (value.Object (unwrap_or r (first_of global))))
+  by_slot : (a : Addr) (o : Object) → object_at h a ≡ Some o → IsTrue (set (label_of h a))
+      → IsFilled c.entries (demands_of c.state (label_of h a) scope_key) → (r : Option Addr)
+      → o.slots.scope ≡ r → IsSome r → IsTrue (has_value h chains
+      (value.Object (unwrap_or r (first_of global))))
   by_slot a o at has filled None is scoped = absurd (false≢true scoped)
   by_slot a o at has filled (Some b) is scoped =
       let there : IsObjectOf h a = subst (λ z. IsSome z) (sym at) refl in
-      let label : IsTrue ((slot c (label_of h a) scope_key).label (label_of h b)) = subst (λ u. IsTrue (knows h (resolved c.state c.entries (label_of h a) scope_key) u)) (Contents.content-at h a o (internal slots.Scope) at ∙ ap held_address is) (slot_known a there filled) in
-      some-object (λ l. set l && (slot c l scope_key).label (label_of h b)) a there (and_from _ _ has label)
+      let label : IsTrue ((slot c (label_of h a) scope_key).label (label_of h b)) =
+      subst (λ u. IsTrue (knows h (resolved c.state c.entries (label_of h a) scope_key) u))
+      (Contents.content-at h a o (internal slots.Scope) at ∙ ap held_address is)
+      (slot_known a there filled) in
+      some-object (λ l. set l && (slot c l scope_key).label (label_of h b)) a there
+      (and_from _ _ has label)
 
   -- the chain of a callee, which has one, is in what the state gives
-  pub chain-has : (a : Addr) (o : Object) → object_at h a ≡ Some o → IsSome o.slots.scope → IsTrue (set (label_of h a)) → IsFilled c.entries (demands_of_chain c n f) → IsTrue (has_value h chains (value.Object (chain_of h (Some a))))
+  pub chain-has : (a : Addr) (o : Object) → object_at h a ≡ Some o → IsSome o.slots.scope
+      → IsTrue (set (label_of h a)) → IsFilled c.entries (demands_of_chain c n f)
+      → IsTrue (has_value h chains (value.Object (chain_of h (Some a))))
   chain-has a o at scoped has filled =
       let there : IsObjectOf h a = subst (λ z. IsSome z) (sym at) refl in
-      let here : IsFilled c.entries (demands_of c.state (label_of h a) scope_key) = λ m j k. filled m j (some-object (λ l. set l && demands_of c.state l scope_key m j) a there (and_from _ _ has k)) in
-      subst (λ r. IsTrue (has_value h chains (value.Object (unwrap_or r (first_of global))))) (sym (ap (λ r. option_and_then (λ (q : Object). q.slots.scope) r) at)) (by_slot a o at has here o.slots.scope refl scoped)
+      let here : IsFilled c.entries (demands_of c.state (label_of h a) scope_key) =
+      λ m j k. filled m j (some-object (λ l. set l && demands_of c.state l scope_key m j) a
+      there (and_from _ _ has k)) in
+      subst (λ r. IsTrue (has_value h chains (value.Object (unwrap_or r (first_of global)))))
+      (sym (ap (λ r. option_and_then (λ (q : Object). q.slots.scope) r) at))
+      (by_slot a o at has here o.slots.scope refl scoped)
 
 -- ---- a call
 
-module _ (e : Heap) (c : Conf) (d : Conf) (same_heap : d.heap ≡ c.heap) (top : Frame) (below : List Frame) (x : Point) (w : View) (here : IsAt w.program e c top below x w) (global_there : IsObjectOf c.heap (first_of global)) (global_new : label_of c.heap (first_of global) ≡ new global) (dst callee receiver : Reg) (list : Args) (error : Site) (a r : Addr) (o : Object) (object_is : object_at c.heap a ≡ Some o) (called : IsTrue ((at w callee).label (label_of c.heap a))) (f : FnId) (f_is : function_called w.program (value.Object a) ≡ Some f) (in_range : f.0 < length w.program.functions) (u : Value) (u_there : IsValueOf c.heap u) (u_has : IsTrue (has_value c.heap (at w receiver) u)) (r_is : receiver_of c.heap u ≡ Some r) (arguments : List Value) (steps : ℕ) where
+module _ (e : Heap) (c : Conf) (d : Conf) (same_heap : d.heap ≡ c.heap) (top : Frame)
+    (below : List Frame) (x : Point) (w : View) (here : IsAt w.program e c top below x w)
+    (global_there : IsObjectOf c.heap (first_of global))
+    (global_new : label_of c.heap (first_of global) ≡ new global) (dst callee receiver : Reg)
+    (list : Args) (error : Site) (a r : Addr) (o : Object) (object_is : object_at c.heap a ≡ Some o)
+    (called : IsTrue ((at w callee).label (label_of c.heap a))) (f : FnId)
+    (f_is : function_called w.program (value.Object a) ≡ Some f)
+    (in_range : f.0 < length w.program.functions) (u : Value) (u_there : IsValueOf c.heap u)
+    (u_has : IsTrue (has_value c.heap (at w receiver) u)) (r_is : receiver_of c.heap u ≡ Some r)
+    (arguments : List Value) (steps : ℕ) where
   abbrev call : Node
   call = node.Call dst callee receiver list error
 
-  pub call_enters : (IsFilled w.entries (calls.given w x.context.function (parameters_of w.program f) call).demands → AreGiven c.heap (parameters_of w.program f) arguments (calls.given w x.context.function (parameters_of w.program f) call)) → EntersFrom e c top x w f r (Some a) (chain_of c.heap (Some a)) arguments steps call
+  pub call_enters : (IsFilled w.entries (calls.given w x.context.function
+      (parameters_of w.program f) call).demands → AreGiven c.heap
+      (parameters_of w.program f) arguments (calls.given w x.context.function
+      (parameters_of w.program f) call)) → EntersFrom e c top x w f r (Some a)
+      (chain_of c.heap (Some a)) arguments steps call
   call_enters given =
       let there : IsObjectOf c.heap a = subst (λ z. IsSome z) (sym object_is) refl in
-      let (r_there, r_has) = receiver-is w c.heap here.known.heap global_there global_new (at w receiver) u r u_there u_has r_is in
-      let run : IsTrue (runs (calls_at w.program) f.0 (label_of c.heap a)) = subst (λ g. IsTrue (option_map_or (λ (k : FnId). k.0 == f.0) g false)) (sym f_is) (eq-eqb f.0 f.0 refl) in
+      let (r_there, r_has) =
+      receiver-is w c.heap here.known.heap global_there global_new
+      (at w receiver) u r u_there u_has r_is in
+      let run : IsTrue (runs (calls_at w.program) f.0 (label_of c.heap a)) =
+      subst (λ g. IsTrue (option_map_or (λ (k : FnId). k.0 == f.0) g false)) (sym f_is)
+      (eq-eqb f.0 f.0 refl) in
       let read : Reads e c.heap w = record {
         heap_at_entry = here.entry_heap;
         heap_now = here.known.heap;
@@ -150,9 +207,15 @@ module _ (e : Heap) (c : Conf) (d : Conf) (same_heap : d.heap ≡ c.heap) (top :
         heap = here.known.heap;
         grows = here.grows;
         entries = here.entries;
-        edge = member-edges w c.heap here.known.heap x (some_runs w (calls_at w.program) (at w callee)) (receivers w (at w receiver)) f.0 r in_range (run-called w c.heap here.known.heap (at w callee) a f there called f_is) r_there r_has;
+        edge =
+            member-edges w c.heap here.known.heap x (some_runs w (calls_at w.program) (at w callee))
+            (receivers w (at w receiver)) f.0 r in_range
+            (run-called w c.heap here.known.heap (at w callee) a f there called f_is) r_there r_has;
         calling_holds = λ filled. here.holds;
-        chain_has = λ first filled. chain-has e c.heap w read call f.0 a o object_is (here.scopes.scope a o object_is (called_runs w.program a f f_is)) (and_from _ _ called run) filled;
+        chain_has =
+            λ first filled. chain-has e c.heap w read call f.0 a o object_is
+            (here.scopes.scope a o object_is (called_runs w.program a f f_is))
+            (and_from _ _ called run) filled;
         callee_has = λ filled. and_from _ _ called run;
         given = λ filled third. given third;
       }

@@ -56,18 +56,19 @@ module _ (p : Program) (good : IsWellFormed p) where
   left_fits h f i known at r (inl is) =
       let k : length f.registers ≡ known.function.registers = known.registers in
       let l : r.0 < known.function.registers =
-          returned_register known.function i.node r is
-          (node_well_formed p good h f known i at).names_registers in
+      returned_register known.function i.node r is
+      (node_well_formed p good h f known i at).names_registers in
       omega arith
   left_fits h f i known at r (inr is) =
       let k : length f.registers ≡ known.function.registers = known.registers in
       let d : IsDestination known.function r =
-          subst (IsDestination known.function) (sym is) (sets_thrown p good h f known) in
+      subst (IsDestination known.function) (sym is) (sets_thrown p good h f known) in
       let l : r.0 < known.function.registers = d.0 in
       omega arith
 
   pub returns_sound : AreSteps p → SoundOutOf p
-  returns_sound steps e m c d answer top caller moved below x y w exit calling at next known after same =
+  returns_sound steps e m c d answer top caller moved below x y w exit calling at next known after
+      same =
       let frames = subst (AreFrames p c.heap) at.frames_are at.known.frames in
       given_after p destinations_fit e m c d top caller moved below x y w exit calling at
       (left_fits c.heap top y.info frames.0 at.info) steps answer next after

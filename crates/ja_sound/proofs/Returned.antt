@@ -50,7 +50,9 @@ use Rattle.ja_sound.specs.Statements.{IsAt, IsGiven, edge_into, IsCalling}
 use Rattle.ja_sound.proofs.Registers.{IsDestinationOf, frame_with_result}
 
 -- a state that a register is set in is given, where the value has a part
-pub member-sets : (w : View) (a : AbstractState) (dst : Reg) (v : AbstractValue) (next : NodeId) → IsTrue (has_present w v) → Member {X = ℕ × AbstractState} (next.0, with_register a dst v) (sets_in w a dst v next)
+pub member-sets : (w : View) (a : AbstractState) (dst : Reg) (v : AbstractValue) (next : NodeId)
+    → IsTrue (has_present w v) → Member {X = ℕ × AbstractState} (next.0, with_register a dst v)
+    (sets_in w a dst v next)
 member-sets w a dst v next e =
     let x : ℕ × AbstractState = (next.0, with_register a dst v) in
     subst (Member x) (sym (cond-true (has_present w v) (x ∷ []) [] e)) (inl refl)
@@ -64,9 +66,13 @@ Sets (node.Convert dst src hint other) r = dst ≡ r
 Sets n r = ⊥
 
 abbrev pub DestinationsFit : Program → Type 0
-DestinationsFit p = (h : Heap) (f : Frame) (i : NodeInfo) (r : Reg) → IsFrame p h f → node_at p f.function f.node ≡ Some i → Sets i.node r ⊎ (r ≡ thrown) → IsDestinationOf p f r
+DestinationsFit p =
+    (h : Heap) (f : Frame) (i : NodeInfo) (r : Reg) → IsFrame p h f
+    → node_at p f.function f.node ≡ Some i → Sets i.node r ⊎ (r ≡ thrown) → IsDestinationOf p f r
 
-module _ (p : Program) (fit : DestinationsFit p) (e m : Heap) (c d : Conf) (top caller moved : Frame) (below : List Frame) (x y : Point) (w exit : View) (calling : IsCalling p e m caller top x w) (at : IsAt p m c top (caller ∷ below) y exit) where
+module _ (p : Program) (fit : DestinationsFit p) (e m : Heap) (c d : Conf)
+    (top caller moved : Frame) (below : List Frame) (x y : Point) (w exit : View)
+    (calling : IsCalling p e m caller top x w) (at : IsAt p m c top (caller ∷ below) y exit) where
   abbrev cs : AbstractState
   cs = calling_state w x.info.node top.function.0
 
@@ -82,21 +88,45 @@ module _ (p : Program) (fit : DestinationsFit p) (e m : Heap) (c d : Conf) (top 
   -- the composed state holds of the caller as it stands
   back_holds : Holds p e c.heap caller back
   back_holds = record {
-    heap = subst (λ q. HoldsOfHeap p e c.heap (composed q cs exit.state)) (sym calling.program) (composed_holds p e m c.heap calling.heap calling.grows at.grows cs exit.state calling.holds.heap at.holds.heap);
+    heap =
+        subst (λ q. HoldsOfHeap p e c.heap (composed q cs exit.state)) (sym calling.program)
+        (composed_holds p e m c.heap calling.heap calling.grows at.grows cs exit.state
+        calling.holds.heap at.holds.heap);
     frame = record {
-      registers = λ r v is. has-renamed m c.heap exit.state aged (cs.register r) v (calling.frame.values r v is) (calling.holds.frame.registers r v is);
-      rest = λ i v more is. has-renamed m c.heap exit.state aged (cs.register (rest_register (parameters_of p caller.function))) v (calling.frame.arguments i v is) (calling.holds.frame.rest i v more is);
+      registers =
+          λ r v is. has-renamed m c.heap exit.state aged (cs.register r) v
+          (calling.frame.values r v is) (calling.holds.frame.registers r v is);
+      rest =
+          λ i v more is. has-renamed m c.heap exit.state aged
+          (cs.register (rest_register (parameters_of p caller.function))) v
+          (calling.frame.arguments i v is) (calling.holds.frame.rest i v more is);
     };
   }
 
   -- .. and with a result of it
-  given_with : (given : Given) (dst : Reg) (v : Value) (u : AbstractValue) (next : NodeId) → IsDestinationOf p caller dst → IsValueOf c.heap v → IsTrue (has_value c.heap u v) → ((among : IsTrue (has_present w u)) → Member {X = ℕ × AbstractState} (next.0, with_register back dst u) given) → (n : ℕ) → IsGiven p e below given (record { heap = c.heap; frames = with_result caller dst v next ∷ below; steps = n })
+  given_with : (given : Given) (dst : Reg) (v : Value) (u : AbstractValue) (next : NodeId)
+      → IsDestinationOf p caller dst → IsValueOf c.heap v → IsTrue (has_value c.heap u v)
+      → ((among : IsTrue (has_present w u)) → Member {X = ℕ × AbstractState}
+      (next.0, with_register back dst u) given) → (n : ℕ)
+      → IsGiven p e below given (record {
+        heap = c.heap;
+        frames =
+            with_result caller dst v next ∷ below;
+        steps = n;
+      })
   given_with given dst v u next dest there has among n = record {
     top = with_result caller dst v next;
     frames_are = refl;
     state = with_register back dst u;
-    among = among (subst (λ q. IsTrue (is_present (labels_of q) u)) (sym calling.program) (is_present-has_value p c.heap at.known.heap u v there has));
-    holds = record { heap = back_holds.heap; frame = frame_with_result p c.heap caller back dst v u next dest has back_holds.frame };
+    among =
+        among (subst (λ q. IsTrue (is_present (labels_of q) u)) (sym calling.program)
+        (is_present-has_value p c.heap at.known.heap u v there has));
+    holds =
+        record {
+          heap = back_holds.heap;
+          frame = frame_with_result p c.heap caller back dst v u next
+              dest has back_holds.frame;
+        };
   }
 
   -- ---- what a construction gives
@@ -105,14 +135,23 @@ module _ (p : Program) (fit : DestinationsFit p) (e m : Heap) (c d : Conf) (top 
   this = renamed_value exit.state.mask (of_label (label_of m top.receiver))
 
   this_has : IsTrue (has_value c.heap this (value.Object top.receiver))
-  this_has = has-renamed m c.heap exit.state aged (of_label (label_of m top.receiver)) (value.Object top.receiver) calling.receiver (same_label-self (label_of m top.receiver))
+  this_has =
+      has-renamed m c.heap exit.state aged (of_label (label_of m top.receiver))
+      (value.Object top.receiver) calling.receiver (same_label-self (label_of m top.receiver))
 
-  constructed_has : (v : Value) (u : AbstractValue) → IsTrue (has_value c.heap u v) → IsTrue (has_value c.heap (calls.constructed this u) (constructed top.receiver v))
-  constructed_has (value.Object a) u has = has_value-join_right c.heap (value_if (has_atoms u) this) (of_labels u.label) (value.Object a) has
+  constructed_has : (v : Value) (u : AbstractValue) → IsTrue (has_value c.heap u v)
+      → IsTrue (has_value c.heap (calls.constructed this u) (constructed top.receiver v))
+  constructed_has (value.Object a) u has =
+      has_value-join_right c.heap (value_if (has_atoms u) this) (of_labels u.label)
+      (value.Object a) has
   constructed_has (value.Primitive q) u has =
-      has_value-join_left c.heap (value_if (has_atoms u) this) (of_labels u.label) (value.Object top.receiver) (subst (λ z. IsTrue (has_value c.heap z (value.Object top.receiver))) (sym (cond-true (has_atoms u) this no_value (has_atoms-from u q has))) this_has)
+      has_value-join_left c.heap (value_if (has_atoms u) this) (of_labels u.label)
+      (value.Object top.receiver) (subst (λ z. IsTrue
+      (has_value c.heap z (value.Object top.receiver)))
+      (sym (cond-true (has_atoms u) this no_value (has_atoms-from u q has))) this_has)
 
-  constructed_there : (v : Value) → IsValueOf c.heap v → IsValueOf c.heap (constructed top.receiver v)
+  constructed_there : (v : Value) → IsValueOf c.heap v
+      → IsValueOf c.heap (constructed top.receiver v)
   constructed_there (value.Object a) there = there
   constructed_there (value.Primitive q) there = frames_known.0.receiver
 
@@ -123,38 +162,63 @@ module _ (p : Program) (fit : DestinationsFit p) (e m : Heap) (c d : Conf) (top 
   Gives given o = o ≡ Some (event.Next d) → IsGiven p e below given d
 
   -- the state that a step leads to
-  gives : (given : Given) (f : Frame) (n : ℕ) → IsGiven p e below given (record { heap = c.heap; frames = f ∷ below; steps = n }) → Some (event.Next (record { heap = c.heap; frames = f ∷ below; steps = n })) ≡ Some (event.Next d) → IsGiven p e below given d
-  gives given f n g is = subst (IsGiven p e below given) (next_same (record { heap = c.heap; frames = f ∷ below; steps = n }) d is) g
+  gives : (given : Given) (f : Frame) (n : ℕ) → IsGiven p e below given
+      (record { heap = c.heap; frames = f ∷ below; steps = n })
+      → Some (event.Next (record { heap = c.heap; frames = f ∷ below; steps = n }))
+      ≡ Some (event.Next d) → IsGiven p e below given d
+  gives given f n g is =
+      subst (IsGiven p e below given) (next_same
+      (record { heap = c.heap; frames = f ∷ below; steps = n }) d is) g
     where
       next_same : (a b : Conf) → Some (event.Next a) ≡ Some (event.Next b) → a ≡ b
       next_same a b q = cc
 
   -- ---- a Return
 
-  return_at : (v : Value) (u : AbstractValue) → IsValueOf c.heap v → IsTrue (has_value c.heap u v) → (i : NodeInfo) (n : Node) → x.info ≡ i → i.node ≡ n → Gives (returned w back i n this u) (returns s caller below v i n)
+  return_at : (v : Value) (u : AbstractValue) → IsValueOf c.heap v → IsTrue (has_value c.heap u v)
+      → (i : NodeInfo) (n : Node) → x.info ≡ i → i.node ≡ n
+      → Gives (returned w back i n this u) (returns s caller below v i n)
   return_at v u there has i (node.Call dst callee receiver args error) is at_node step =
-      gives _ _ _ (given_with _ dst v u i.next (fit m caller i dst calling.frame (calling.info ∙ ap Some is) (inl (subst (λ k. Sets k dst) (sym at_node) refl))) there has (member-sets w back dst u i.next) _) step
+      gives _ _ _ (given_with _ dst v u i.next (fit m caller i dst calling.frame
+      (calling.info ∙ ap Some is) (inl (subst (λ k. Sets k dst) (sym at_node) refl))) there has
+      (member-sets w back dst u i.next) _) step
   return_at v u there has i (node.New dst callee args site error) is at_node step =
-      gives _ _ _ (given_with _ dst (constructed top.receiver v) (calls.constructed this u) i.next (fit m caller i dst calling.frame (calling.info ∙ ap Some is) (inl (subst (λ k. Sets k dst) (sym at_node) refl))) (constructed_there v there) (constructed_has v u has) (member-sets w back dst (calls.constructed this u) i.next) _) step
+      gives _ _ _ (given_with _ dst (constructed top.receiver v) (calls.constructed this u) i.next
+      (fit m caller i dst calling.frame (calling.info ∙ ap Some is)
+      (inl (subst (λ k. Sets k dst) (sym at_node) refl))) (constructed_there v there)
+      (constructed_has v u has) (member-sets w back dst (calls.constructed this u) i.next) _) step
   return_at v u there has i (node.Convert dst src kind other) is at_node step =
-      gives _ _ _ (given_with _ dst v u i.next (fit m caller i dst calling.frame (calling.info ∙ ap Some is) (inl (subst (λ k. Sets k dst) (sym at_node) refl))) there has (member-sets w back dst u i.next) _) step
+      gives _ _ _ (given_with _ dst v u i.next (fit m caller i dst calling.frame
+      (calling.info ∙ ap Some is) (inl (subst (λ k. Sets k dst) (sym at_node) refl))) there has
+      (member-sets w back dst u i.next) _) step
   return_at v u there has i n is at_node step = absurd (none-some (event.Next d) step)
 
   abbrev edge : Edge
   edge = edge_into x m top
 
-  return_by : (v : Value) (u : AbstractValue) → IsValueOf c.heap v → IsTrue (has_value c.heap u v) → Gives (returned w back x.info x.info.node this u) (return_step p s (caller ∷ below) v)
+  return_by : (v : Value) (u : AbstractValue) → IsValueOf c.heap v → IsTrue (has_value c.heap u v)
+      → Gives (returned w back x.info x.info.node this u) (return_step p s (caller ∷ below) v)
   return_by v u there has step =
-      return_at v u there has x.info x.info.node refl refl (subst (λ o. option_and_then (λ (i : NodeInfo). returns s caller below v i i.node) o ≡ Some (event.Next d)) calling.info step)
+      return_at v u there has x.info x.info.node refl refl
+      (subst (λ o. option_and_then (λ (i : NodeInfo). returns s caller below v i i.node) o
+      ≡ Some (event.Next d)) calling.info step)
 
   -- ---- an Escape
 
-  escape_by : (v : Value) (u : AbstractValue) → IsValueOf c.heap v → IsTrue (has_value c.heap u v) → Gives (sets_in w back thrown u x.info.handler) (escape_step p s (caller ∷ below) v)
+  escape_by : (v : Value) (u : AbstractValue) → IsValueOf c.heap v → IsTrue (has_value c.heap u v)
+      → Gives (sets_in w back thrown u x.info.handler) (escape_step p s (caller ∷ below) v)
   escape_by v u there has step =
-      gives _ _ _ (given_with _ thrown v u x.info.handler (fit m caller x.info thrown calling.frame calling.info (inr refl)) there has (member-sets w back thrown u x.info.handler) _) (subst (λ o. option_map (λ (i : NodeInfo). next_state s.conf s.conf.heap (with_result caller thrown v i.handler ∷ below)) o ≡ Some (event.Next d)) calling.info step)
+      gives _ _ _ (given_with _ thrown v u x.info.handler
+      (fit m caller x.info thrown calling.frame calling.info (inr refl)) there has
+      (member-sets w back thrown u x.info.handler) _)
+      (subst (λ o. option_map (λ (i : NodeInfo). next_state s.conf s.conf.heap
+      (with_result caller thrown v i.handler ∷ below)) o ≡ Some (event.Next d)) calling.info step)
 
-  module _ (registers_fit : (r : Reg) → y.info.node ≡ node.Return r ⊎ (r ≡ thrown) → r.0 < length top.registers) (steps : AreSteps p) (answer : Answer) (next : step p c answer ≡ Some (event.Next d)) (after : d.frames ≡ moved ∷ below) where
-    held : (r : Reg) → r.0 < length top.registers → IsTrue (has_value c.heap (exit.state.register r.0) (register_of top r))
+  module _ (registers_fit : (r : Reg) → y.info.node ≡ node.Return r ⊎ (r ≡ thrown)
+      → r.0 < length top.registers) (steps : AreSteps p) (answer : Answer)
+      (next : step p c answer ≡ Some (event.Next d)) (after : d.frames ≡ moved ∷ below) where
+    held : (r : Reg) → r.0 < length top.registers
+        → IsTrue (has_value c.heap (exit.state.register r.0) (register_of top r))
     held r l = at.holds.frame.registers r.0 (register_of top r) (register_held top r l)
 
     there_is : (r : Reg) → r.0 < length top.registers → IsValueOf c.heap (register_of top r)
@@ -163,34 +227,68 @@ module _ (p : Program) (fit : DestinationsFit p) (e m : Heap) (c d : Conf) (top 
     top_of : (f : Frame) (fs : List Frame) → c.frames ≡ f ∷ fs → (top ≡ f) × (caller ∷ below ≡ fs)
     top_of f fs is = let k : top ∷ caller ∷ below ≡ f ∷ fs = sym at.frames_are ∙ is in (cc, cc)
 
-    info_of : (f : Frame) (fs : List Frame) (i : NodeInfo) → c.frames ≡ f ∷ fs → node_at p f.function f.node ≡ Some i → i ≡ y.info
-    info_of f fs i is at_node = same_Some i y.info (sym at_node ∙ (ap (λ (g : Frame). node_at p g.function g.node) (sym (top_of f fs is).0) ∙ at.info))
+    info_of : (f : Frame) (fs : List Frame) (i : NodeInfo) → c.frames ≡ f ∷ fs
+        → node_at p f.function f.node ≡ Some i → i ≡ y.info
+    info_of f fs i is at_node =
+        same_Some i y.info (sym at_node ∙ (ap (λ (g : Frame). node_at p g.function g.node)
+        (sym (top_of f fs is).0) ∙ at.info))
 
     short : (fs : List Frame) → d.frames ≡ fs → length fs ≡ suc (length below)
     short fs is = sym (ap length is) ∙ ap length after
 
-    left : (n : Node) → y.info.node ≡ n → (caller_info : NodeInfo) × (k : NodeId) × ReturnsTo n caller_info k
+    left : (n : Node) → y.info.node ≡ n → (caller_info : NodeInfo) × (k : NodeId)
+        × ReturnsTo n caller_info k
     left n is =
         let (more, rest) = steps c answer (event.Next d) next in
         elim rest [
-          | inl g ↦ let u : length (g.moved ∷ g.below) ≡ suc (length below) = short (g.moved ∷ g.below) g.after_is in let v : suc (length below) ≡ length g.below = ap length (top_of g.top g.below g.before_is).1 in let z : length (g.moved ∷ g.below) ≡ suc (length g.below) = refl in absurd (omega arith)
+          | inl g ↦
+              let u : length (g.moved ∷ g.below) ≡ suc (length below) = short
+              (g.moved ∷ g.below) g.after_is in let v : suc (length below)
+              ≡ length g.below = ap length (top_of g.top g.below g.before_is).1 in
+              let z : length (g.moved ∷ g.below) ≡ suc (length g.below) = refl in
+              absurd (omega arith)
           | inr other ↦ elim other [
-            | inl g ↦ let u : length (g.entered ∷ g.top ∷ g.below) ≡ suc (length below) = short (g.entered ∷ g.top ∷ g.below) g.after_is in let v : suc (length below) ≡ length g.below = ap length (top_of g.top g.below g.before_is).1 in let z : length (g.entered ∷ g.top ∷ g.below) ≡ suc (suc (length g.below)) = refl in absurd (omega arith)
-            | inr g ↦ (g.caller_info, g.moved.node, subst (λ (k : Node). ReturnsTo k g.caller_info g.moved.node) (ap (λ (i : NodeInfo). i.node) (info_of g.top (g.caller ∷ g.below) g.info g.before_is g.info_is) ∙ is) g.edge)
+            | inl g ↦
+                let u : length (g.entered ∷ g.top ∷ g.below)
+                ≡ suc (length below) = short (g.entered ∷ g.top ∷ g.below) g.after_is in
+                let v : suc (length below) ≡ length g.below = ap length
+                (top_of g.top g.below g.before_is).1 in let z : length (g.entered ∷ g.top ∷ g.below)
+                ≡ suc (suc (length g.below)) = refl in absurd (omega arith)
+            | inr g ↦ (
+              g.caller_info,
+              g.moved.node,
+              subst (λ (k : Node). ReturnsTo k g.caller_info
+                  g.moved.node) (ap (λ (i : NodeInfo). i.node)
+                  (info_of g.top (g.caller ∷ g.below) g.info g.before_is g.info_is) ∙ is) g.edge,
+            )
           ]
         ]
 
-    by_node : (n : Node) → y.info.node ≡ n → node_step p s answer n ≡ Some (event.Next d) → IsGiven p e below (given_back w edge x.info exit.state n) d
-    by_node (node.Return src) is taken = let l = registers_fit src (inl is) in return_by (register_of top src) (exit.state.register src.0) (there_is src l) (held src l) taken
-    by_node node.Escape is taken = let l = registers_fit thrown (inr refl) in escape_by (register_of top thrown) (exit.state.register thrown.0) (there_is thrown l) (held thrown l) taken
+    by_node : (n : Node) → y.info.node ≡ n → node_step p s answer n ≡ Some (event.Next d)
+        → IsGiven p e below (given_back w edge x.info exit.state n) d
+    by_node (node.Return src) is taken =
+        let l = registers_fit src (inl is) in return_by (register_of top src)
+        (exit.state.register src.0) (there_is src l) (held src l) taken
+    by_node node.Escape is taken =
+        let l = registers_fit thrown (inr refl) in
+        escape_by (register_of top thrown) (exit.state.register thrown.0) (there_is thrown l)
+        (held thrown l) taken
     by_node n is taken = elim (left n is).2 [ ]
 
-    taken_is : step p c answer ≡ Some (event.Next d) → node_step p s answer y.info.node ≡ Some (event.Next d)
+    taken_is : step p c answer ≡ Some (event.Next d)
+        → node_step p s answer y.info.node ≡ Some (event.Next d)
     taken_is k = elim (cases_Bool (fits p (wants p c) answer)) [
       | inl fit_it ↦
-          let frames : frames_step p c answer c.frames ≡ node_step p s answer y.info.node = ap (frames_step p c answer) at.frames_are ∙ ap (λ o. option_and_then (λ (i : NodeInfo). node_step p (record { conf = c; top = top; below = caller ∷ below; info = i }) answer i.node) o) at.info in
-          sym frames ∙ (sym (cond-true (fits p (wants p c) answer) (frames_step p c answer c.frames) None fit_it) ∙ k)
-      | inr never ↦ absurd (none-some (event.Next d) (sym (cond-false (fits p (wants p c) answer) (frames_step p c answer c.frames) None never) ∙ k))
+          let frames : frames_step p c answer c.frames ≡ node_step p s answer y.info.node =
+          ap (frames_step p c answer) at.frames_are
+          ∙ ap (λ o. option_and_then (λ (i : NodeInfo). node_step p
+          (record { conf = c; top = top; below = caller ∷ below; info = i }) answer i.node) o)
+          at.info in
+          sym frames ∙ (sym (cond-true (fits p (wants p c) answer)
+          (frames_step p c answer c.frames) None fit_it) ∙ k)
+      | inr never ↦
+          absurd (none-some (event.Next d) (sym (cond-false (fits p (wants p c) answer)
+          (frames_step p c answer c.frames) None never) ∙ k))
     ]
 
     -- what is left gives back one of the states, which holds of the caller

@@ -11,7 +11,8 @@ use Rattle.ja_machine.specs.Runs.{IsSameActivation}
 -- ---- the frames of a state, each entered from the one below it
 
 -- after these answers the frame below called, and one answer more entered the frame
-pub record IsAbove (p : Program) (answers : List Answer) (f g : Frame) (rest : List Frame) : Type 0 where
+pub record IsAbove (p : Program) (answers : List Answer) (f g : Frame)
+    (rest : List Frame) : Type 0 where
   pub later : List Answer
   pub answer : Answer
   pub earlier : List Answer

@@ -31,14 +31,15 @@ is_null v = false
 abbrev pub if_so : Bool → WarningKind → Option WarningKind
 if_so b kind = if b then Some kind else None
 
--- what goes wrong at the next step: the callee runs no function, undefined or null has no property, the base of a
--- name is null
+-- what goes wrong at the next step: the callee runs no function, undefined or null has no property,
+-- the base of a name is null
 abbrev pub fault_at : Program → Frame → Node → Option WarningKind
 fault_at p f (node.Call dst callee receiver args error) =
     if_so (not (is_some (function_called p (register_of f callee)))) NotAFunction
 fault_at p f (node.New dst callee args site error) =
     if_so (not (is_some (function_constructing p (register_of f callee)))) NotAFunction
-fault_at p f (node.ToObject dst src sites error) = if_so (is_nothing_value (register_of f src)) NoObject
+fault_at p f (node.ToObject dst src sites error) =
+    if_so (is_nothing_value (register_of f src)) NoObject
 fault_at p f (node.ReadRef dst base name error) = if_so (is_null (register_of f base)) UnboundName
 fault_at p f n = None
 

@@ -1,6 +1,6 @@
 -- Invariants of the states of a run, which the theorem has as premises: objects that run functions
--- have a scope chain, numbers are of the profile, texts and arguments are few, and an arguments object
--- is one by its site.
+-- have a scope chain, numbers are of the profile, texts and arguments are few, and an arguments
+-- object is one by its site.
 use Rattle.std.specs.Prelude.{◌≡◌, ◌||◌, List, Bool, IsTrue, slice_get, Some, is_some, IsSome, ℕ, ◌∷◌, ◌≤◌, pos, length}
 use Rattle.ja_base.specs.declared.ids.Reg.{Reg}
 use Rattle.ja_prim.specs.declared.primitive.Primitive.{Primitive}
@@ -30,29 +30,38 @@ IsRunning p a = (s : SiteInfo) × (slice_get p.sites a.site.0 ≡ Some s) × IsT
 
 -- each of them has a scope chain
 pub record HaveScopes (p : Program) (h : Heap) : Type 0 where
-  pub scope : (a : Addr) (o : Object) → object_at h a ≡ Some o → IsRunning p a → IsSome o.slots.scope
+  pub scope : (a : Addr) (o : Object) → object_at h a ≡ Some o → IsRunning p a
+      → IsSome o.slots.scope
 
 -- .. in each state of a run
 abbrev pub AreScoped : Program → Type 0
 AreScoped p = (answers : List Answer) (c : Conf) → state_of p answers ≡ Some c → HaveScopes p c.heap
 
 abbrev pub HasProfile : Frame → Type 0
-HasProfile f = (r : ℕ) (q : Primitive) → slice_get f.registers r ≡ Some (value.Primitive q) → IsInProfile q
+HasProfile f =
+    (r : ℕ) (q : Primitive) → slice_get f.registers r ≡ Some (value.Primitive q) → IsInProfile q
 
 -- .. in each state of a run
 abbrev pub AreInProfile : Program → Type 0
-AreInProfile p = (answers : List Answer) (c : Conf) (top : Frame) (below : List Frame) → state_of p answers ≡ Some c → c.frames ≡ top ∷ below → HasProfile top
+AreInProfile p =
+    (answers : List Answer) (c : Conf) (top : Frame) (below : List Frame)
+    → state_of p answers ≡ Some c → c.frames ≡ top ∷ below → HasProfile top
 
 pub record IsBounded (f : Frame) : Type 0 where
-  pub texts : (r : Reg) (units : List ℕ) → register_of f r ≡ value.Primitive (primitive.Text units) → IsTrue (is_index (pos (length units)))
+  pub texts : (r : Reg) (units : List ℕ) → register_of f r ≡ value.Primitive (primitive.Text units)
+      → IsTrue (is_index (pos (length units)))
   pub arguments : length f.arguments ≤ 4294967295
 
 pub record HaveListSites (p : Program) (h : Heap) : Type 0 where
-  pub by_site : (a : Addr) (o : Object) → object_at h a ≡ Some o → o.slots.arguments ≡ is_arguments_site p a.site
+  pub by_site : (a : Addr) (o : Object) → object_at h a ≡ Some o
+      → o.slots.arguments ≡ is_arguments_site p a.site
 
 -- .. in each state of a run
 abbrev pub AreBounded : Program → Type 0
-AreBounded p = (answers : List Answer) (c : Conf) (top : Frame) (below : List Frame) → state_of p answers ≡ Some c → c.frames ≡ top ∷ below → IsBounded top
+AreBounded p =
+    (answers : List Answer) (c : Conf) (top : Frame) (below : List Frame)
+    → state_of p answers ≡ Some c → c.frames ≡ top ∷ below → IsBounded top
 
 abbrev pub AreListed : Program → Type 0
-AreListed p = (answers : List Answer) (c : Conf) → state_of p answers ≡ Some c → HaveListSites p c.heap
+AreListed p =
+    (answers : List Answer) (c : Conf) → state_of p answers ≡ Some c → HaveListSites p c.heap

@@ -10,8 +10,8 @@ ghost use Rattle.ja_state.specs.Numbers.{property_in, entry_in, is_demanded, key
 use crate::keys::{key_number, label_among};
 use crate::maps::{exchange, put};
 use crate::object::copy_properties;
-use ja_base::{Label, Memory, NameId};
 use ja_abstract::{Key, Slot};
+use ja_base::{Label, Memory, NameId};
 use ja_value::{AProp, AValue, label_number, unknown_attrs};
 use std::alloc::Global;
 use std::collections::BTreeMap;

@@ -2,8 +2,8 @@ ghost use Rattle.std.specs.Prelude.{◌≡◌, ◌*◌, nat_lt, if◌then◌else
 ghost use Rattle.ja_abstract.specs.AbstractState.{key_number};
 ghost use Rattle.ja_value.specs.Labels.{label_at};
 
-use ja_base::Label;
 use ja_abstract::{Key, Slot};
+use ja_base::Label;
 use ja_value::label_at;
 
 /// The number of a key: the internal properties, the rests, and then the names.

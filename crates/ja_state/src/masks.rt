@@ -8,8 +8,8 @@ ghost use Rattle.ja_value.specs.Labels.{mask_in};
 ghost use Rattle.ja_state.specs.Joined.{IsJoined};
 
 use crate::maps::put;
-use ja_base::Memory;
 use ja_abstract::Mask;
+use ja_base::Memory;
 use ja_value::mask_at;
 use std::alloc::Global;
 use std::collections::BTreeMap;

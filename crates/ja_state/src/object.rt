@@ -9,8 +9,8 @@ ghost use Rattle.ja_value.specs.Value.{property_of};
 
 use crate::keys::key_number;
 use crate::maps::put;
-use ja_base::{Memory, Site};
 use ja_abstract::Key;
+use ja_base::{Memory, Site};
 use ja_value::AProp;
 use std::alloc::Global;
 use std::collections::BTreeMap;

@@ -10,8 +10,8 @@ ghost use Rattle.ja_state.specs.declared.object.AObject.{AObject};
 
 use crate::AObject;
 use crate::maps::{exchange, put};
-use ja_base::{Label, Memory, Site};
 use ja_abstract::Key;
+use ja_base::{Label, Memory, Site};
 use ja_value::{AProp, label_number};
 use std::alloc::Global;
 use std::collections::BTreeMap;

@@ -6,9 +6,9 @@ ghost use Rattle.ja_value.specs.Value.{value_of};
 ghost use Rattle.ja_state.specs.State.{register_in};
 ghost use Rattle.ja_state.specs.Joined.{IsJoined};
 
+use ja_abstract::Flags;
 use ja_base::{Label, Memory, Site};
 use ja_graph::GLOBAL;
-use ja_abstract::Flags;
 use ja_prim::{Int, Num, Primitive};
 use ja_value::AValue;
 use std::alloc::Global;

@@ -7,8 +7,8 @@ ghost use Rattle.ja_abstract.specs.AbstractState.{labels_below, label_number, ne
 ghost use Rattle.ja_abstract.specs.Resolved.{renamed_labels};
 ghost use Rattle.ja_value.specs.Labels.{label_at, aged_labels, mask_in, number_mask, leads};
 
-use ja_base::{Label, Memory, Site};
 use ja_abstract::Mask;
+use ja_base::{Label, Memory, Site};
 use std::alloc::Global;
 use std::collections::{BTreeMap, BTreeSet};
 

@@ -3,9 +3,9 @@ ghost use Rattle.ja_abstract.specs.AbstractValue.{join_properties, join_attrs, o
 ghost use Rattle.ja_abstract.specs.AbstractState.{aged_property};
 
 use crate::AValue;
+use ja_abstract::{AAttrs, May};
 use ja_base::{Memory, Site};
 use ja_graph::Attrs;
-use ja_abstract::{AAttrs, May};
 use std::alloc::Global;
 
 /// An abstract property: its value, and what is known of its attributes.

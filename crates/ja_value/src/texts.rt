@@ -3,8 +3,8 @@ ghost use Rattle.ja_prim.specs.Index.{is_index_text};
 ghost use Rattle.ja_abstract.specs.AbstractValue.{text_class, join_text_classes, join_texts};
 ghost use Rattle.ja_abstract.specs.declared.abstraction.TextPart.TheVariants as text_part;
 
-use ja_base::Memory;
 use ja_abstract::TextPart;
+use ja_base::Memory;
 use ja_prim::{Text16, array_index};
 use std::alloc::Global;
 

@@ -7,8 +7,8 @@ ghost use Rattle.ja_abstract.specs.AbstractState.{labels_below, aged};
 use crate::LabelSet;
 use crate::numbers::{join_numbers, same_numbers, widen_number};
 use crate::texts::{changed_text, copy_text_part, covers_text, replace_text};
-use ja_base::{Label, Memory, Site};
 use ja_abstract::{Flags, NumberPart, TextPart};
+use ja_base::{Label, Memory, Site};
 use ja_prim::{Int, Num, Primitive, Text16};
 use std::alloc::Global;
 
