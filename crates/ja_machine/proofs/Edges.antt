@@ -291,8 +291,10 @@ module _ (p : Program) (s : Standing) (frames_are : s.conf.frames ≡ s.top ∷ 
       makes_along dst sites.number (wrapper class.Number builtins.NUMBER_PROTOTYPE
       (primitive.Number n) [])
   to_object_along may dst sites error (value.Primitive (primitive.Text units)) =
-      makes_along dst sites.text (wrapper class.String builtins.STRING_PROTOTYPE
-      (primitive.Text units) (text_length units))
+      let o : Object = wrapper class.String builtins.STRING_PROTOTYPE (primitive.Text units)
+      (text_length units) in
+      either_way Taken (is_short units) (Nodes.makes s dst sites.text o)
+      (left_scope s scope_kind.TextLength) (λ e. makes_along dst sites.text o) (λ e. refl)
 
   need_object_along : IsTrue (may_throw s.info.node) → (error : Site) (x : Value)
       → Taken (Nodes.need_object_step s error x)
