@@ -3,8 +3,8 @@
 //!
 //! Values, properties and states are records of functions, with their joins and their order
 //! (`AbstractValue`, `AbstractState`, `Order`); operators on abstract primitives and values
-//! (`Primitives`, `Values`, `Operations`); the keys of texts and numbers (`Keys`); what is read of a
-//! state and the values at entry, along prototypes and scopes, and what it demands (`Resolved`,
+//! (`Primitives`, `Values`, `Operations`); the keys of texts and numbers (`Keys`); what is read of
+//! a state and the values at entry, along prototypes and scopes, and what it demands (`Resolved`,
 //! `Reading`); the objects that nodes make (`Made`); puts, definitions and deletions (`Writes`); a
 //! state read through a later one (`Composed`); the contents of the opening heap (`Contents`).
 //!

@@ -150,9 +150,11 @@ module _ (p : Program) (good : IsWellFormed p) (now : Heap) where
         (of_primitive (primitive.Text text)) no_attrs ∷ []) t
         (object_content (error_object proto text) (named t))
         (named_made p now (error_object proto text).properties
-        (property_of (key.Name builtins.MESSAGE) (of_primitive (primitive.Text text)) no_attrs ∷ []) (
+        (property_of (key.Name builtins.MESSAGE) (of_primitive (primitive.Text text)) no_attrs
+        ∷ []) (
           builtin_as builtins.MESSAGE (codes "message") refl (value.Primitive (primitive.Text text))
-              (of_primitive (primitive.Text text)) no_attrs (of_primitive_has (primitive.Text text)),
+              (of_primitive (primitive.Text text)) no_attrs
+              (of_primitive_has (primitive.Text text)),
           tt,
         )
         t)

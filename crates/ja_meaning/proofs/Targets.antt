@@ -39,7 +39,8 @@ filter-among keep (m ∷ ms) l a k =
           subst (IsAmong l) (sym (cond-false (keep m) (m ∷ filter keep ms) (filter keep ms) out_))
           (elim (or_cases (same_label l m) (list_any (same_label l) ms) a) [
             | inl s ↦
-                absurd (false≢true (sym out_ ∙ subst (λ z. IsTrue (keep z)) (same_label-true l m s) k))
+                absurd (false≢true (sym out_
+                ∙ subst (λ z. IsTrue (keep z)) (same_label-true l m s) k))
             | inr r ↦ filter-among keep ms l r k
           ])
     ]

@@ -2,10 +2,10 @@
 //! and the one now (`Meaning`): definitions and laws.
 //!
 //! Proved, as lemmas, of any two heaps of a run: a resolved reading knows what an object has, so do
-//! [[Get]] along prototypes, the search of a scope chain and the names that `for`-`in` shows; a state
-//! with objects more holds of the heap with them; a put, a definition and a deletion lead to states
-//! one of which holds of the heap after them; a state read through a later one holds of both moments
-//! together.
+//! [[Get]] along prototypes, the search of a scope chain and the names that `for`-`in` shows; a
+//! state with objects more holds of the heap with them; a put, a definition and a deletion lead to
+//! states one of which holds of the heap after them; a state read through a later one holds of both
+//! moments together.
 #![tactic(auto)]
 
 mod laws;

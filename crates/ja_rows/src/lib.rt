@@ -1,7 +1,7 @@
 //! The abstract step by families of nodes (`Names`, `Properties`, `Objects`, `Scopes`, `Operators`,
-//! `Edges`, `Enumeration`, `BuiltIns`, and the dispatch over them, `Transfer`), entering a function,
-//! filling its entry and giving back (`Calls`), tables, their visits and when they are closed
-//! (`Table`), and the warnings of a table (`Warning`): definitions over these types.
+//! `Edges`, `Enumeration`, `BuiltIns`, and the dispatch over them, `Transfer`), entering a
+//! function, filling its entry and giving back (`Calls`), tables, their visits and when they are
+//! closed (`Table`), and the warnings of a table (`Warning`): definitions over these types.
 //!
 //! Proved, as lemmas: what a visit that changes nothing says of a table.
 #![tactic(auto)]

@@ -135,7 +135,8 @@ module _ (w : View) (c : Heap) (known : IsHeap w.program c) where
         (λ act. (
           global_there,
           global_has v (or_right v.flags.undefined _
-              (or_right v.flags.null _ (some-object (λ l. v.label l && is_activation_label p l) b there
+              (or_right v.flags.null _
+              (some-object (λ l. v.label l && is_activation_label p l) b there
               (and_from _ _ has (sym test ∙ act))))),
         ))
         (λ other. (there, or_left _ _ (and_from _ _ has (ap not (sym test ∙ other)))))

@@ -7,6 +7,7 @@ pub mod Constructed
 pub mod ControlNodes
 pub mod Covering
 pub mod DigitRows
+pub mod Elements
 pub mod Entered
 pub mod Into
 pub mod Left

@@ -480,7 +480,8 @@ module _ (e : Heap) (c : Conf) (top : Frame) (below : List Frame) (x : Point) (w
               record {
                 heap = h.heap;
                 frame = frame_with_result p now top h.state dst
-                    (bool_value b) h.value i.next (rows.dest e c top below x w at good dst d) h.has f;
+                    (bool_value b) h.value i.next
+                    (rows.dest e c top below x w at good dst d) h.has f;
               };
         }
 

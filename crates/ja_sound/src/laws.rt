@@ -15,8 +15,9 @@ pub fn steps_sound()
     ensures { (p : Program) → IsWellFormed p → SoundWithin p }
 {}
 
-/// A step out of a function: where the state at the exit holds, and the caller's state held when the
-/// function was entered, one of the states that the exit gives back holds of the caller after it.
+/// A step out of a function: where the state at the exit holds, and the caller's state held when
+/// the function was entered, one of the states that the exit gives back holds of the caller after
+/// it.
 pub fn returns_sound()
     ensures { (p : Program) → IsWellFormed p → SoundOutOf p }
 {
