@@ -8,7 +8,6 @@ pub mod Operations
 pub mod Order
 pub mod Parts
 pub mod Primitives
-pub mod Profile
 pub mod Reading
 pub mod Resolved
 pub mod Values

@@ -40,7 +40,7 @@ use Rattle.ja_machine.specs.Frames.{register_of, thrown, with_result}
 use Rattle.ja_machine.specs.State.{IsFrame, IsObjectOf, IsValueOf}
 use Rattle.ja_machine.specs.declared.machine.Answer.{Answer}
 use Rattle.ja_machine.specs.declared.machine.Answer.TheVariants as answers
-use Rattle.ja_machine.specs.Calls.{function_called, function_constructing, ArgumentsRead, receiver_of, calls, calls_with, call_step, constructs, new_step, stays, convert_step, enters, return_step, escape_step, returns, given as arguments_given, object_in, default_function}
+use Rattle.ja_machine.specs.Calls.{function_called, function_constructing, ArgumentsRead, receiver_of, calls, calls_with, call_step, constructs, constructs_with, register_values, new_step, stays, convert_step, enters, return_step, escape_step, returns, given as arguments_given, object_in, default_function}
 use Rattle.ja_machine.specs.Intrinsics.{rows as operation_rows, Computation, IntrinsicOutcome}
 use Rattle.ja_machine.specs.Machine.{is_of_kinds, fits, device_wants}
 use Rattle.ja_machine.specs.Nodes.{intrinsic_step, sets_given, device_step}
@@ -162,6 +162,12 @@ module _ (e : Heap) (c : Conf) (top : Frame) (below : List Frame) (x : Point) (w
       enters_inside given c.heap f receiver (object_in u) arguments
   calls_with_inside given f u (Some receiver) (Err kind) = left_inside given kind
 
+  constructs_with_inside : (given : Given) (f : FnId) (u : Value) (site : Site) (g : ArgumentsRead)
+      → Inside given (Some (constructs_with p s f u site g))
+  constructs_with_inside given f u site (Ok arguments) =
+      enters_inside given _ f _ (object_in u) arguments
+  constructs_with_inside given f u site (Err kind) = left_inside given kind
+
   pub call_inside : (dst callee receiver : Reg) (args : Args) (error : Site) → IsReg callee
       → IsNodeSite p error → Inside (transfer_node w x i
       (node.Call dst callee receiver args error)).states
@@ -203,7 +209,7 @@ module _ (e : Heap) (c : Conf) (top : Frame) (below : List Frame) (x : Point) (w
           (register_of top callee) (of_heap e c top below x w at good callee r)
           (has e c top below x w at good callee r) none) (λ y m. m))
       by (Some f) is =
-          enters_inside _ _ f _ (object_in (register_of top callee)) (map (register_of top) args)
+          constructs_with_inside _ f (register_of top callee) site (register_values top args)
 
   -- ---- Convert: what is kept
 

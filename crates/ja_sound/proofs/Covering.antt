@@ -44,7 +44,6 @@ use Rattle.ja_rows.specs.Table.{Table, IsClosed, StateAt, ValuesOf, Effects, no_
 use Rattle.ja_rows.specs.Calls.{calling_state, demands_of_calling, demands_of_fill, entered_by, filled_with, given_back}
 use Rattle.ja_rows.proofs.Applied.{HasState, IfDemanded, settled-state, settled-demand, settled-edge, settled-value}
 use Rattle.ja_sound.specs.Sound.{IsCovered, CoversRuns}
-use Rattle.ja_sound.specs.Invariants.{AreBounded, AreListed, AreInProfile, AreScoped}
 use Rattle.ja_sound.specs.Statements.{IsAt, IsGiven, SoundWithin, edge_into, IsEntered, SoundInto, IsCalling, SoundOutOf}
 use Rattle.ja_sound.proofs.Stacked.{IsAbove, AreStacked}
 
@@ -244,8 +243,7 @@ module _ (p : Program) (t : Table) (closed : IsClosed p t) where
   state-there P (Some s) h = (s, refl, h)
 
   module _ (within : SoundWithin p) (into : SoundInto p) (out_of : SoundOutOf p)
-      (states : AreStates p) (steps : AreSteps p) (scoped : AreScoped p) (profile : AreInProfile p)
-      (bounded : AreBounded p) (listed : AreListed p) (grows : GrowsAlong p) where
+      (states : AreStates p) (steps : AreSteps p) (grows : GrowsAlong p) where
     -- ---- a moment of a run
 
     module _ (answers : List Answer) (c : Conf) (reached : state_of p answers ≡ Some c)
@@ -273,10 +271,6 @@ module _ (p : Program) (t : Table) (closed : IsClosed p t) where
             (states (drop (length answers - cov.top.born) answers) cov.at_entry
             cov.at_entry_is).heap;
         known = states answers c reached;
-        scopes = scoped answers c reached;
-        profile = profile answers c cov.top cov.below reached cov.frames_are;
-        bounded = bounded answers c cov.top cov.below reached cov.frames_are;
-        lists = listed answers c reached;
         grows = grows answers cov.top.born cov.at_entry c cov.at_entry_is reached;
         frames_are = cov.frames_are;
         context = refl;

@@ -47,7 +47,7 @@ use Rattle.ja_rows.specs.Calls.{calling, calling_state, callees, demands_of_call
 use Rattle.ja_sound.specs.Statements.{IsAt, edge_into, IsEntered}
 use Rattle.ja_sound.proofs.Called.{member-edges, run-called, receiver-is}
 use Rattle.ja_sound.proofs.Entered.{AreGiven, entry_holds}
-use Rattle.ja_sound.proofs.Callables.{called_runs}
+use Rattle.ja_sound.proofs.Callables.{called_scoped}
 
 -- ---- from an entry's parts
 
@@ -214,7 +214,7 @@ module _ (e : Heap) (c : Conf) (d : Conf) (same_heap : d.heap ≡ c.heap) (top :
         calling_holds = λ filled. here.holds;
         chain_has =
             λ first filled. chain-has e c.heap w read call f.0 a o object_is
-            (here.scopes.scope a o object_is (called_runs w.program a f f_is))
+            (called_scoped w.program c.heap here.known.heap a o object_is f f_is)
             (and_from _ _ called run) filled;
         callee_has = λ filled. and_from _ _ called run;
         given = λ filled third. given third;

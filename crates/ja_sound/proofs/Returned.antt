@@ -1,8 +1,8 @@
 -- A function that is left gives back a state that holds of its caller's frame.
-use Rattle.std.specs.Prelude.{◌≡◌, ◌<◌, ◌⊎◌, ◌≢◌, ◌==◌, ℕ, suc, IsTrue, List, [], ◌∷◌, length, Option, Some, None}
+use Rattle.std.specs.Prelude.{◌≡◌, ◌<◌, ◌⊎◌, ℕ, suc, IsTrue, List, [], ◌∷◌, length, Option, Some, None}
 use Rattle.std.specs.Option.{option_and_then, option_map}
 use Rattle.std.proofs.Common.{refl, sym, subst, ap, ◌∙◌, inl, inr, arith}
-use Rattle.std.proofs.lemmas.Bool.{cond-true, cond-false, ne_eqb, cases_Bool}
+use Rattle.std.proofs.lemmas.Bool.{cond-true, cond-false, cases_Bool}
 use Rattle.std.proofs.lemmas.Option.{none-some, same_Some}
 use Rattle.ja_base.specs.declared.ids.NodeId.{NodeId}
 use Rattle.ja_base.specs.declared.ids.Reg.{Reg}
@@ -36,10 +36,10 @@ use Rattle.ja_abstract.specs.Composed.{composed, renamed_value}
 use Rattle.ja_abstract.proofs.Labels.{same_label-self}
 use Rattle.ja_abstract.proofs.Lists.{Member}
 use Rattle.ja_abstract.proofs.Atoms.{has_atoms-from}
-use Rattle.ja_meaning.specs.Meaning.{has_value, HoldsOfHeap, HoldsOfFrame, Holds}
+use Rattle.ja_meaning.specs.Meaning.{has_value, HoldsOfHeap, Holds}
 use Rattle.ja_meaning.proofs.Parts.{is_present-has_value}
 use Rattle.ja_meaning.proofs.Values.{has_value-join_left, has_value-join_right}
-use Rattle.ja_meaning.proofs.Frames.{registers_with_result, register_of_heap, register_held}
+use Rattle.ja_meaning.proofs.Frames.{register_of_heap, register_held}
 use Rattle.ja_meaning.proofs.Resolved.{IsAged}
 use Rattle.ja_meaning.proofs.Composed.{has-renamed, composed_holds}
 use Rattle.ja_rows.specs.declared.table.Edge.{Edge}

@@ -1,7 +1,7 @@
 -- Steps within an activation: what an event leads to is held by one of the states that the node
 -- gives. Some kinds of nodes, each in a few lines.
 use Rattle.std.specs.Prelude.{◌≡◌, ◌<◌, ◌++◌, ℕ, Bool, true, false, IsTrue, List, [], ◌∷◌, length, Option, Some, None, unwrap_or}
-use Rattle.std.proofs.Common.{refl, sym, subst, ap, ◌∙◌, inl}
+use Rattle.std.proofs.Common.{refl, sym, subst, ◌∙◌, inl}
 use Rattle.std.proofs.lemmas.Bool.{cond-true, or_right, and_parts}
 use Rattle.std.specs.Option.{option_map, option_map_or}
 use Rattle.ja_base.specs.declared.ids.NodeId.{NodeId}
@@ -256,8 +256,7 @@ module _ (e : Heap) (c : Conf) (top : Frame) (below : List Frame) (x : Point) (w
       → key_of (register_of top r) ≡ Some t → IsTrue
       (is_among_keys (abstract.keys_in w r) (meaning.key_of p (named t)))
   key_known r t l is =
-      key-among p c.heap (abstract.at w r) (register_of top r) t (has r l)
-      (λ q e. at.profile r.0 q (register_held top r l ∙ ap Some e)) is
+      key-among p c.heap (abstract.at w r) (register_of top r) t (has r l) is
 
   -- ReadProp: the read of the object of a register at the name of another
   read_prop_gives : (dst object key : Reg) (a : Addr) (t : List ℕ) → IsDestinationOf p top dst

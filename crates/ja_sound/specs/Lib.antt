@@ -1,4 +1,3 @@
 pub mod Faults
-pub mod Invariants
 pub mod Sound
 pub mod Statements

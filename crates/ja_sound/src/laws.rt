@@ -3,7 +3,6 @@
 ghost use Rattle.ja_graph.specs.declared.program.Program.{Program};
 ghost use Rattle.ja_graph.specs.WellFormed.{IsWellFormed};
 ghost use Rattle.ja_rows.specs.Table.{Table, IsClosed};
-ghost use Rattle.ja_sound.specs.Invariants.{AreScoped, AreInProfile, AreBounded, AreListed};
 ghost use Rattle.ja_sound.specs.Sound.{CoversRuns};
 ghost use Rattle.ja_sound.specs.Statements.{SoundWithin, SoundInto, SoundOutOf};
 
@@ -24,11 +23,10 @@ pub fn returns_sound()
     steps_go_along_edges();
 }
 
-/// A closed table covers every run of its program, where steps into functions are sound, and the
-/// invariants hold of its runs.
+/// A closed table covers every run of its program, where steps into functions are sound.
 pub fn closed_covers()
     ensures { (p : Program) (t : Table) → IsWellFormed p → IsClosed p t → SoundInto p
-        → AreScoped p → AreInProfile p → AreBounded p → AreListed p → CoversRuns p t }
+        → CoversRuns p t }
 {
     states_are_kept();
     steps_go_along_edges();

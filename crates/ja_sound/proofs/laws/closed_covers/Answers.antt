@@ -7,9 +7,9 @@ use Rattle.ja_sound.proofs.SoundSteps.{steps_sound}
 
 pub returns : goal.returns
 returns c =
-    λ p t good closed into scoped profile bounded listed.
+    λ p t good closed into.
     let states = c.states_are_kept.ensures p good in
     let steps = c.steps_go_along_edges.ensures p in
     covers_runs p t closed (steps_sound p good) into (returns_sound p good steps) states steps
-    scoped profile bounded listed (grows_along p (c.objects_stay.ensures p))
+    (grows_along p (c.objects_stay.ensures p))
     (opening_good p good states t closed)
