@@ -18,7 +18,7 @@ use Rattle.ja_machine.specs.declared.machine.Value.{Value}
 use Rattle.ja_machine.specs.declared.machine.Value.TheVariants as value
 use Rattle.ja_machine.specs.declared.machine.Object.{Object}
 use Rattle.ja_machine.specs.declared.machine.Heap.{Heap}
-use Rattle.ja_machine.specs.Calls.{function_called, receiver_of, is_activation}
+use Rattle.ja_machine.specs.Calls.{function_called, function_constructing, receiver_of, is_activation}
 use Rattle.ja_machine.specs.Heap.{object_at, class_at}
 use Rattle.ja_machine.specs.Machine.{class_of_site}
 use Rattle.ja_machine.specs.Objects.{first_of}
@@ -33,7 +33,7 @@ use Rattle.ja_meaning.specs.Meaning.{has_value}
 use Rattle.ja_meaning.proofs.Parts.{label_of-among}
 use Rattle.ja_rows.specs.declared.table.Edge.{Edge}
 use Rattle.ja_rows.specs.Out.{Point}
-use Rattle.ja_rows.specs.Edges.{edge, edges_to, runs, calls_at, some_runs, receivers, is_activation_class, is_activation_label, counts_as_global}
+use Rattle.ja_rows.specs.Edges.{edge, edges_to, runs, calls_at, constructs_at, some_runs, receivers, is_activation_class, is_activation_label, counts_as_global}
 
 -- what of a list passes is among what is kept
 member-filter : (keep : Labels) (ls : List Label) (l : Label) → IsAmong l ls → IsTrue (keep l)
@@ -87,6 +87,14 @@ module _ (w : View) (c : Heap) (known : IsHeap w.program c) where
       → IsTrue (some_runs w (calls_at p) v f.0)
   run-called v a f there has is =
       some-object (λ l. v.label l && runs (calls_at p) f.0 l) a there
+      (and_from _ _ has (subst (λ o. IsTrue (option_map_or (λ (g : FnId). g.0 == f.0) o false))
+      (sym is) (eq-eqb f.0 f.0 refl)))
+
+  pub run-constructing : (v : AbstractValue) (a : Addr) (f : FnId) → IsObjectOf c a
+      → IsTrue (v.label (label_of c a)) → function_constructing p (value.Object a) ≡ Some f
+      → IsTrue (some_runs w (constructs_at p) v f.0)
+  run-constructing v a f there has is =
+      some-object (λ l. v.label l && runs (constructs_at p) f.0 l) a there
       (and_from _ _ has (subst (λ o. IsTrue (option_map_or (λ (g : FnId). g.0 == f.0) o false))
       (sym is) (eq-eqb f.0 f.0 refl)))
 

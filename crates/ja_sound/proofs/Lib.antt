@@ -9,6 +9,7 @@ pub mod Covering
 pub mod DigitRows
 pub mod Elements
 pub mod Entered
+pub mod EnteringNodes
 pub mod Into
 pub mod Left
 pub mod ObjectNodes

@@ -42,7 +42,7 @@ use Rattle.ja_sound.proofs.Entered.{AreGiven, entry_holds}
 
 -- ---- no object goes
 
-counts_stay : (c d : Heap) → ((a : Addr) → IsObjectOf c a → IsObjectOf d a) → (s : Site) (n : ℕ)
+pub counts_stay : (c d : Heap) → ((a : Addr) → IsObjectOf c a → IsObjectOf d a) → (s : Site) (n : ℕ)
     → count c s ≡ n → n ≤ count d s
 counts_stay c d stay s zero e = omega arith
 counts_stay c d stay s (suc k) e =
