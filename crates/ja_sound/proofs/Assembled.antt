@@ -1,9 +1,9 @@
--- T4a: one step within an activation, from the rows of all kinds of nodes.
+-- One step within an activation, from the rows of all kinds of nodes.
 use Rattle.std.specs.Prelude.{◌≡◌, ℕ, suc, true, IsTrue, List, ◌∷◌, Option, Some, None}
 use Rattle.std.specs.List.{AllByRecursion}
 use Rattle.std.specs.Option.{option_and_then, option_to_list}
 use Rattle.std.proofs.Common.{refl, sym, subst, ap, ◌∙◌, inl, inr, arith}
-use Rattle.std.proofs.lemmas.Bool.{cases_Bool, cond-true, cond-false}
+use Rattle.std.proofs.lemmas.Bool.{cases_Bool, cond-false}
 use Rattle.std.proofs.lemmas.Option.{none-some}
 use Rattle.ja_base.specs.declared.ids.Reg.{Reg}
 use Rattle.ja_base.specs.declared.ids.Site.{Site}
@@ -42,6 +42,7 @@ use Rattle.ja_sound.proofs.ControlNodes.{Within, within, const_gives, move_gives
 use Rattle.ja_sound.proofs.ObjectNodes.{SitesOf, new_object_gives, push_scope_gives, to_object_gives, make_function_gives, bind_gives, declare_gives, enter_gives}
 use Rattle.ja_sound.proofs.PropertyNodes.{find_gives, read_ref_gives, read_soft_gives, write_ref_gives, delete_ref_gives, read_prop_gives, write_prop_gives, delete_prop_gives, has_prop_gives, has, of_heap}
 use Rattle.ja_sound.proofs.AtNode as rows
+use Rattle.ja_sound.proofs.Taken.{node_taken}
 
 -- ---- what the rows take
 
@@ -227,12 +228,6 @@ module _ (operations : RowsCover) (e : Heap) (c : Conf) (top : Frame) (below : L
       (λ o. Rattle.std.specs.Option.option_map_or
       (λ (info : NodeInfo). node_wants c.heap top info.node) o wanted.Tick) at.info
 
-  step_is : (answer : Answer) → frames_step p c answer c.frames ≡ node_step p s answer i.node
-  step_is answer =
-      ap (frames_step p c answer) at.frames_are ∙ ap
-      (λ o. option_and_then (λ (info : NodeInfo). node_step p
-      (record { conf = c; top = top; below = below; info = info }) answer info.node) o) at.info
-
   pub sound_at : (d : Conf) (answer : Answer) (moved : Frame)
       → IsFilled w.entries (transfer w x).demands → step p c answer ≡ Some (event.Next d)
       → IsState p d → d.frames ≡ moved ∷ below → IsGiven p e below (transfer w x).states d
@@ -244,14 +239,14 @@ module _ (operations : RowsCover) (e : Heap) (c : Conf) (top : Frame) (below : L
             (rows.formed e c top below x w at good).name
             (rows.made e c top below x w at good) filled
             (subst (λ z. fits p z answer ≡ true) wants_is fit) d
-            (sym (step_is answer) ∙ (sym (cond-true (fits p (wants p c) answer)
-            (frames_step p c answer c.frames) None fit) ∙ taken)) known moved after
+            (node_taken p c top below i at.frames_are at.info answer (event.Next d) taken) known
+            moved after
         | inr never ↦
             absurd (none-some (event.Next d) (sym (cond-false (fits p (wants p c) answer)
             (frames_step p c answer c.frames) None never) ∙ taken))
       ]
 
--- ---- T4a
+-- ---- of each program
 
 -- the statement at a view
 abbrev At : Program → Heap → Conf → Conf → Answer → Frame → Frame → List Frame → Point → View

@@ -1,14 +1,13 @@
 -- Calls, constructions and conversions: what is asked of an entry holds of the function that each
 -- enters (ES3 8.6.2.6, 10.2, 11.2.2, 11.2.3, 13.2.1, 13.2.2).
-use Rattle.std.specs.Prelude.{◌≡◌, ◌<◌, ◌≤◌, ◌+◌, ◌&&◌, ◌==◌, ℕ, suc, true, false, nat_le, IsTrue, List, [], ◌∷◌, map, drop, length, slice_get, Option, Some, None, IsSome, Ok, Err}
+use Rattle.std.specs.Prelude.{◌≡◌, ◌<◌, ◌≤◌, ◌+◌, ◌==◌, ℕ, suc, true, false, nat_le, IsTrue, List, [], ◌∷◌, map, drop, length, Option, Some, None, Ok, Err}
 use Rattle.std.specs.List.{AllByRecursion}
 use Rattle.std.specs.Option.{option_map, option_map_or, option_to_list}
-use Rattle.std.proofs.Common.{refl, sym, subst, ap, ◌∙◌, arith, le_trans}
+use Rattle.std.proofs.Common.{refl, sym, subst, ap, arith, le_trans}
 use Rattle.std.proofs.lemmas.Bool.{false≢true, eq-eqb, and_from, cond-true}
 use Rattle.std.proofs.lemmas.Option.{none-some, slice_get_within}
 use Rattle.ja_base.specs.declared.ids.FnId.{FnId}
 use Rattle.ja_base.specs.declared.ids.Reg.{Reg}
-use Rattle.ja_base.specs.declared.ids.ScopeKind.{ScopeKind}
 use Rattle.ja_base.specs.declared.ids.ScopeKind.TheVariants.{Register, TextLength}
 use Rattle.ja_base.specs.declared.ids.Site.{Site}
 use Rattle.ja_base.proofs.Lists.{all_weaker}
@@ -21,7 +20,6 @@ use Rattle.ja_graph.specs.declared.builtins.TheConstants as builtins
 use Rattle.ja_graph.specs.declared.node.Args.{Args}
 use Rattle.ja_graph.specs.declared.node.Args.TheVariants as args
 use Rattle.ja_graph.specs.declared.node.Hint.{Hint}
-use Rattle.ja_graph.specs.declared.node.Hint.TheVariants as hint
 use Rattle.ja_graph.specs.declared.node.Node.{Node}
 use Rattle.ja_graph.specs.declared.node.Node.TheVariants as node
 use Rattle.ja_graph.specs.declared.node.NodeInfo.{NodeInfo}
@@ -53,7 +51,7 @@ use Rattle.ja_machine.proofs.Lists.{either_way}
 use Rattle.ja_machine.proofs.Nodes.{global_there}
 use Rattle.ja_machine.proofs.Reading.{callee_prototype_there}
 use Rattle.ja_abstract.specs.AbstractValue.{AbstractValue, same_label}
-use Rattle.ja_abstract.specs.AbstractState.{AbstractState, new}
+use Rattle.ja_abstract.specs.AbstractState.{new}
 use Rattle.ja_abstract.specs.Contents.{label_of}
 use Rattle.ja_abstract.specs.Parts.{has_primitive}
 use Rattle.ja_abstract.specs.Reading.{View}
@@ -62,7 +60,7 @@ use Rattle.ja_abstract.specs.Values.{primitives_of, has_atoms}
 use Rattle.ja_abstract.proofs.Atoms.{has_atoms-from}
 use Rattle.ja_abstract.proofs.Labels.{same_label_from}
 use Rattle.ja_abstract.proofs.Lists.{Member}
-use Rattle.ja_meaning.specs.Meaning.{has_value, Grows, Holds, context_of}
+use Rattle.ja_meaning.specs.Meaning.{has_value, Grows, Holds}
 use Rattle.ja_meaning.proofs.Builtins.{global_fits}
 use Rattle.ja_meaning.proofs.Contents
 use Rattle.ja_meaning.proofs.Frames.{register_held}

@@ -1,14 +1,10 @@
 -- A step into a function: from what its node gives, all that is asked of an entry.
-use Rattle.std.specs.Prelude.{◌≡◌, ◌<◌, ◌&&◌, ◌==◌, ℕ, false, IsTrue, List, length, unwrap_or, Option, Some, None, IsSome}
-use Rattle.std.specs.Option.{option_map_or, option_and_then}
+use Rattle.std.specs.Prelude.{◌≡◌, ◌&&◌, ℕ, IsTrue, List, unwrap_or, Option, Some, None, IsSome}
+use Rattle.std.specs.Option.{option_and_then}
 use Rattle.std.proofs.Common.{refl, sym, subst, ap, ◌∙◌}
-use Rattle.std.proofs.lemmas.Bool.{false≢true, eq-eqb, or_left, or_right, and_from}
+use Rattle.std.proofs.lemmas.Bool.{false≢true, or_left, or_right, and_from}
 use Rattle.ja_base.specs.declared.ids.FnId.{FnId}
-use Rattle.ja_base.specs.declared.ids.Reg.{Reg}
-use Rattle.ja_base.specs.declared.ids.Site.{Site}
-use Rattle.ja_graph.specs.declared.node.Args.{Args}
 use Rattle.ja_graph.specs.declared.node.Node.{Node}
-use Rattle.ja_graph.specs.declared.node.Node.TheVariants as node
 use Rattle.ja_graph.specs.declared.program.Program.{Program}
 use Rattle.ja_graph.specs.Program.{global}
 use Rattle.ja_machine.specs.declared.machine.Addr.{Addr}
@@ -17,15 +13,14 @@ use Rattle.ja_machine.specs.declared.machine.Value.TheVariants as value
 use Rattle.ja_machine.specs.declared.machine.Object.{Object}
 use Rattle.ja_machine.specs.declared.machine.Heap.{Heap}
 use Rattle.ja_machine.specs.declared.machine.Frame.{Frame}
-use Rattle.ja_machine.specs.declared.machine.Conf.{Conf}
-use Rattle.ja_machine.specs.Calls.{function_called, receiver_of, chain_of}
+use Rattle.ja_machine.specs.Calls.{chain_of}
 use Rattle.ja_machine.specs.Heap.{object_at}
 use Rattle.ja_machine.specs.Objects.{first_of}
 use Rattle.ja_machine.specs.Frames.{entered, parameters_of, object_or_undefined}
-use Rattle.ja_machine.specs.State.{IsHeap, IsObjectOf, IsValueOf}
+use Rattle.ja_machine.specs.State.{IsHeap, IsObjectOf}
 use Rattle.ja_abstract.specs.declared.abstraction.Slot.TheVariants as slots
 use Rattle.ja_abstract.specs.AbstractValue.{Labels, AbstractValue, of_label, of_labels}
-use Rattle.ja_abstract.specs.AbstractState.{labels_of, new}
+use Rattle.ja_abstract.specs.AbstractState.{labels_of}
 use Rattle.ja_abstract.specs.Resolved.{resolved, demands_of, IsFilled}
 use Rattle.ja_abstract.specs.Keys.{internal, key_of}
 use Rattle.ja_abstract.specs.Contents.{content, held_address, label_of}
@@ -41,13 +36,10 @@ use Rattle.ja_meaning.proofs.Resolved.{own-knows}
 use Rattle.ja_meaning.proofs.Moments.{Reads}
 use Rattle.ja_rows.specs.Out.{Point, at}
 use Rattle.ja_rows.specs.Transfer.{transfer_node}
-use Rattle.ja_rows.specs.Edges.{calls_at, some_runs, receivers, runs}
 use Rattle.ja_rows.specs.Calls as calls
 use Rattle.ja_rows.specs.Calls.{calling, calling_state, callees, demands_of_calling, chain_value, callee_value, demands_of_chain}
-use Rattle.ja_sound.specs.Statements.{IsAt, edge_into, IsEntered}
-use Rattle.ja_sound.proofs.Called.{member-edges, run-called, receiver-is}
+use Rattle.ja_sound.specs.Statements.{edge_into, IsEntered}
 use Rattle.ja_sound.proofs.Entered.{AreGiven, entry_holds}
-use Rattle.ja_sound.proofs.Callables.{called_scoped}
 
 -- ---- from an entry's parts
 

@@ -11,6 +11,7 @@ pub mod Elements
 pub mod Entered
 pub mod EnteringNodes
 pub mod Into
+pub mod IntoSound
 pub mod Left
 pub mod ObjectNodes
 pub mod Opening
@@ -21,3 +22,4 @@ pub mod Returned
 pub mod SoundSteps
 pub mod Stacked
 pub mod Steps
+pub mod Taken
