@@ -1,4 +1,4 @@
--- T4a: one step within an activation, from the rows of all kinds of nodes.
+-- One step within an activation, from the rows of all kinds of nodes.
 use Rattle.std.specs.Prelude.{◌≡◌, ℕ, suc, true, IsTrue, List, ◌∷◌, Option, Some, None}
 use Rattle.std.specs.List.{AllByRecursion}
 use Rattle.std.specs.Option.{option_and_then, option_to_list}
@@ -250,7 +250,7 @@ module _ (operations : RowsCover) (e : Heap) (c : Conf) (top : Frame) (below : L
             (frames_step p c answer c.frames) None never) ∙ taken))
       ]
 
--- ---- T4a
+-- ---- all kinds of nodes
 
 -- the statement at a view
 abbrev At : Program → Heap → Conf → Conf → Answer → Frame → Frame → List Frame → Point → View
