@@ -255,18 +255,18 @@ only (primitive.Text s) r e =
 -- ---- conversions
 
 -- of a number part: what holds of each of its whole numbers holds of each primitive that it has
-by_whole : (n : NumberPart) (P : Primitive → Type 0)
+pub by_whole : (n : NumberPart) (P : Primitive → Type 0)
     → ((z : ℤ) → IsTrue (number_has n z) → P (primitive.Number (Whole z))) → (q : Primitive)
     → IsTrue (has_primitive (of_number_part n) q) → P q
 by_whole n P f q e = let (z, is, has) = whole_of n q e in subst P (sym is) (f z has)
 
-by_text : (s : TextPart) (P : Primitive → Type 0)
+pub by_text : (s : TextPart) (P : Primitive → Type 0)
     → ((t : List ℕ) → IsTrue (text_has s t) → P (primitive.Text t)) → (q : Primitive)
     → IsTrue (has_primitive (of_text_part s) q) → P q
 by_text s P f q e = let (t, is, has) = text_of s q e in subst P (sym is) (f t has)
 
 -- any result is covered by all numbers, or a stop
-any_number : (x : Result Num Stop) → Covers (gives_or_stops (join nan_value whole_value))
+pub any_number : (x : Result Num Stop) → Covers (gives_or_stops (join nan_value whole_value))
     (to_primitive primitive.Number x)
 any_number (Ok NaN) = refl
 any_number (Ok (Whole z)) = refl
@@ -316,13 +316,13 @@ to_text-covers any_text q h = by_text text_part.Text (ToText any_text) (λ t e. 
 -- ---- arithmetic
 
 -- the operand has the number
-abbrev Takes : Num → Operand → Type 0
+abbrev pub Takes : Num → Operand → Type 0
 Takes n (Some m) = m ≡ n
 Takes NaN None = ⊥
 Takes (Whole z) None = Unit {0}
 
 -- a number of an atom is one of its operands'
-operand-takes : (a : Atom) (n : Num) → Has (primitive.Number n) a → Some_ (Takes n) (operand a)
+pub operand-takes : (a : Atom) (n : Num) → Has (primitive.Number n) a → Some_ (Takes n) (operand a)
 operand-takes (exactly r) n h =
     subst (λ q. Some_ (Takes n) (operand (exactly q))) (sym (only r (primitive.Number n) h))
     (inl refl)
@@ -332,7 +332,7 @@ operand-takes whole (Whole z) h = inl tt
 operand-takes a NaN h = absurd (false≢true h)
 operand-takes a (Whole z) h = absurd (false≢true h)
 
-some-flat_map : (n : Num) (xs : List Atom) → Some_ (Has (primitive.Number n)) xs
+pub some-flat_map : (n : Num) (xs : List Atom) → Some_ (Has (primitive.Number n)) xs
     → Some_ (Takes n) (flat_map operand xs)
 some-flat_map n [] s = elim s [ ]
 some-flat_map n (a ∷ as_) (inl h) =
@@ -349,7 +349,7 @@ operands-take a q n h e =
     some-flat_map n (atoms (to_num_atom a).value)
     (atoms-have (to_num_atom a).value (primitive.Number n) c)
 
-may_stop : (a : Atom) (q : Primitive) (stop : Stop) → Has q a → to_number q ≡ Err stop
+pub may_stop : (a : Atom) (q : Primitive) (stop : Stop) → Has q a → to_number q ≡ Err stop
     → IsTrue (to_num_atom a).may_stop
 may_stop a q stop h e =
     subst (λ x. Covers (to_num_atom a) (to_primitive primitive.Number x)) e (to_num-covers a q h)
@@ -410,7 +410,7 @@ module _ (f : Num → Num → Result Num Stop) (class : Abstracted) (is : IsArit
       (of_both f (to_number q) (to_number r)))
   arithmetic-covers a b q r h i = arithmetic_by a b q r h i (to_number q) (to_number r) refl refl
 
-judged-covers : (negative : Bool) (n d : ℕ) → Covers (gives_or_stops whole_value)
+pub judged-covers : (negative : Bool) (n d : ℕ) → Covers (gives_or_stops whole_value)
     (to_primitive primitive.Number (judged negative n d))
 judged-covers negative n d =
     let is_whole : Result Num Stop =
@@ -421,7 +421,7 @@ judged-covers negative n d =
     (λ x. Covers (gives_or_stops whole_value) (to_primitive primitive.Number x)) (λ _. refl)
     (λ _. refl))
 
-nan_right : (operation : ℤ → ℤ → Result Num Stop) (m : Num)
+pub nan_right : (operation : ℤ → ℤ → Result Num Stop) (m : Num)
     → numbers.of_both operation m NaN ≡ Ok NaN
 nan_right operation NaN = refl
 nan_right operation (Whole z) = refl
@@ -438,11 +438,11 @@ sub-is =
 
 -- ---- equality
 
-abbrev is_exact : Atom → Bool
+abbrev pub is_exact : Atom → Bool
 is_exact (exactly q) = true
 is_exact a = false
 
-both_exact-by : {A : Type 0} (P : A → Type 0) (f : Primitive → Primitive → A) (otherwise : A)
+pub both_exact-by : {A : Type 0} (P : A → Type 0) (f : Primitive → Primitive → A) (otherwise : A)
     (a b : Atom) → ((q r : Primitive) → a ≡ exactly q → b ≡ exactly r → P (f q r))
     → (is_exact a && is_exact b ≡ false → P otherwise) → P (both_exact f otherwise a b)
 both_exact-by P f otherwise (exactly q) (exactly r) g h = g q r refl refl
@@ -589,7 +589,7 @@ meets a b (primitive.Number NaN) r h i apart e = absurd (nan_unequal r e)
     nan_unequal s f = false≢true f
 meets a b q r h i apart e = absurd (false≢true e)
 
-any_bool : (b : Bool) → Covers both_bools (Ok (primitive.Bool b))
+pub any_bool : (b : Bool) → Covers both_bools (Ok (primitive.Bool b))
 any_bool true = refl
 any_bool false = refl
 

@@ -16,21 +16,10 @@ use Rattle.ja_prim.specs.Arithmetic as numbers
 use Rattle.ja_abstract.specs.declared.abstraction.NumberPart.TheVariants as number_part
 use Rattle.ja_abstract.specs.declared.abstraction.TextPart.TheVariants as text_part
 use Rattle.ja_abstract.specs.Primitives.{Atom, exactly, index, other_whole, whole, index_text, other_text, any_text, atoms, of_text_part, Abstracted, gives, gives_or_stops, exact, whole_value, of_bools, both_bools, to_num_atom, Operand, operands, on_operands, arithmetic, both_exact, exactly_text, add_atoms, compared, compare_operands, compare_atoms, kind_of, kind_of_primitive, same_kind, strict_atoms, is_nothing_atom, on_converted, loose_inexact, loose_atoms}
-use Rattle.ja_abstract.proofs.Atoms.{Covers, covers-exact, Has, only, strict-covers}
-use Rattle.ja_abstract.proofs.Converted.{covers-is, by_whole, by_text, Takes, operands-take, converted-has, numbers-cover, to_primitive-of_both, Any, any, arithmetic-covers, whole-is, any_bool, just_false}
+use Rattle.ja_abstract.proofs.Atoms.{Covers, covers-exact, Has, only, strict-covers, is_exact, both_exact-by, by_whole, by_text, Takes, any_bool}
+use Rattle.ja_abstract.proofs.Converted.{covers-is, operands-take, converted-has, numbers-cover, to_primitive-of_both, Any, any, arithmetic-covers, whole-is, just_false}
 
 -- ---- exact atoms
-
-abbrev is_exact : Atom → Bool
-is_exact (exactly q) = true
-is_exact a = false
-
-both_exact-by : {A : Type 0} (P : A → Type 0) (f : Primitive → Primitive → A) (otherwise : A)
-    (a b : Atom) → ((q r : Primitive) → a ≡ exactly q → b ≡ exactly r → P (f q r))
-    → (is_exact a && is_exact b ≡ false → P otherwise) → P (both_exact f otherwise a b)
-both_exact-by P f otherwise (exactly q) (exactly r) g h = g q r refl refl
-both_exact-by P f otherwise (exactly q) b g h = h refl
-both_exact-by P f otherwise a b g h = h refl
 
 -- what the machine gives of two primitives covers itself where both atoms are exact
 exact-covers : (g : Primitive → Primitive → Result Primitive Stop) (otherwise : Abstracted)

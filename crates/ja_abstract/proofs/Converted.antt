@@ -30,7 +30,7 @@ use Rattle.ja_abstract.specs.Parts.{number_has, text_has, has_primitive}
 use Rattle.ja_abstract.specs.Primitives.{Atom, exactly, index, other_whole, whole, index_text, other_text, any_text, atoms, of_number_part, of_text_part, Abstracted, gives, gives_or_stops, stops_if, either, over, over_pairs, exact, nan_value, whole_value, of_bools, both_bools, to_bool_atom, to_num_atom, Operand, operand, operands, combine, arithmetic, combine_bits, bit_op, of_operand, on_operand, index_or_whole, to_num, to_uint32}
 use Rattle.ja_abstract.proofs.Parts.{of_primitive_has}
 use Rattle.ja_abstract.proofs.Joins.{has_primitive-join_left, has_primitive-join_right}
-use Rattle.ja_abstract.proofs.Atoms.{Covers, covers-left, covers-right, covers-exact, Some_, some-left, some-right, Has, atoms-have, only, whole_of, text_of, to_num-covers, unary-covers}
+use Rattle.ja_abstract.proofs.Atoms.{Covers, covers-left, covers-right, covers-exact, Some_, some-left, some-right, Has, atoms-have, only, whole_of, text_of, to_num-covers, unary-covers, by_whole, by_text, any_number, Takes, operand-takes, some-flat_map, may_stop, judged-covers, nan_right, any_bool}
 
 -- ---- what is covered, with stops and without
 
@@ -68,42 +68,7 @@ gives-is = record { from = gives-from; left = gives-left; right = gives-right }
 
 -- ---- classes
 
--- of a number part: what holds of each of its whole numbers holds of each primitive that it has
-pub by_whole : (n : NumberPart) (P : Primitive → Type 0)
-    → ((z : ℤ) → IsTrue (number_has n z) → P (primitive.Number (Whole z))) → (q : Primitive)
-    → IsTrue (has_primitive (of_number_part n) q) → P q
-by_whole n P f q e = let (z, is, has) = whole_of n q e in subst P (sym is) (f z has)
-
-pub by_text : (s : TextPart) (P : Primitive → Type 0)
-    → ((t : List ℕ) → IsTrue (text_has s t) → P (primitive.Text t)) → (q : Primitive)
-    → IsTrue (has_primitive (of_text_part s) q) → P q
-by_text s P f q e = let (t, is, has) = text_of s q e in subst P (sym is) (f t has)
-
 -- ---- numbers of atoms
-
--- the operand has the number
-abbrev pub Takes : Num → Operand → Type 0
-Takes n (Some m) = m ≡ n
-Takes NaN None = ⊥
-Takes (Whole z) None = Unit {0}
-
-operand-takes : (a : Atom) (n : Num) → Has (primitive.Number n) a → Some_ (Takes n) (operand a)
-operand-takes (exactly r) n h =
-    subst (λ q. Some_ (Takes n) (operand (exactly q))) (sym (only r (primitive.Number n) h))
-    (inl refl)
-operand-takes index (Whole z) h = inl tt
-operand-takes other_whole (Whole z) h = inl tt
-operand-takes whole (Whole z) h = inl tt
-operand-takes a NaN h = absurd (false≢true h)
-operand-takes a (Whole z) h = absurd (false≢true h)
-
-some-flat_map : (n : Num) (xs : List Atom) → Some_ (Has (primitive.Number n)) xs
-    → Some_ (Takes n) (flat_map operand xs)
-some-flat_map n [] s = elim s [ ]
-some-flat_map n (a ∷ as_) (inl h) =
-    some-left (Takes n) (operand a) (flat_map operand as_) (operand-takes a n h)
-some-flat_map n (a ∷ as_) (inr s) =
-    some-right (Takes n) (operand a) (flat_map operand as_) (some-flat_map n as_ s)
 
 -- the number of a primitive of an atom is one of the atoms that it is converted to, and of its
 -- operands
@@ -116,11 +81,6 @@ converted-has a q n h e =
 pub operands-take : (a : Atom) (q : Primitive) (n : Num) → Has q a → to_number q ≡ Ok n
     → Some_ (Takes n) (operands a)
 operands-take a q n h e = some-flat_map n (atoms (to_num_atom a).value) (converted-has a q n h e)
-
-may_stop : (a : Atom) (q : Primitive) (stop : Stop) → Has q a → to_number q ≡ Err stop
-    → IsTrue (to_num_atom a).may_stop
-may_stop a q stop h e =
-    subst (λ x. Covers (to_num_atom a) (to_primitive primitive.Number x)) e (to_num-covers a q h)
 
 -- ---- operations on the numbers of atoms
 
@@ -247,23 +207,6 @@ pub any : (m : Num) → OfWhole Any m
 any NaN = tt
 any (Whole z) = tt
 
-nan_right : (operation : ℤ → ℤ → Result Num Stop) (m : Num)
-    → numbers.of_both operation m NaN ≡ Ok NaN
-nan_right operation NaN = refl
-nan_right operation (Whole z) = refl
-
--- a judged result is whole, or a stop
-judged-covers : (negative : Bool) (n d : ℕ) → Covers (gives_or_stops whole_value)
-    (to_primitive primitive.Number (judged negative n d))
-judged-covers negative n d =
-    let is_whole : Result Num Stop =
-    if n % d == 0 then Ok (Whole (signed negative (n / d))) else Err stops_.Fraction in
-    cond_both (nat_lt (max_magnitude * d) n) (Err stops_.Range) is_whole
-    (λ x. Covers (gives_or_stops whole_value) (to_primitive primitive.Number x)) (λ _. refl)
-    (λ _. cond_both (n % d == 0) (Ok (Whole (signed negative (n / d)))) (Err stops_.Fraction)
-    (λ x. Covers (gives_or_stops whole_value) (to_primitive primitive.Number x)) (λ _. refl)
-    (λ _. refl))
-
 -- sum, difference and product
 pub whole-is : (operation : ℤ → ℤ → ℤ) → IsArithmetic Covers Any
     (numbers.of_both (λ m n. numbers.judged_whole (operation m n))) (gives_or_stops whole_value)
@@ -272,12 +215,6 @@ whole-is operation = record {
   right_nan = nan_right (λ m n. numbers.judged_whole (operation m n));
   whole = λ y z u v. judged-covers (is_negative (operation y z)) (unsigned_abs (operation y z)) 1;
 }
-
-any_number : (x : Result Num Stop) → Covers (gives_or_stops (join nan_value whole_value))
-    (to_primitive primitive.Number x)
-any_number (Ok NaN) = refl
-any_number (Ok (Whole z)) = refl
-any_number (Err stop) = refl
 
 pub div-is : IsArithmetic Covers Any numbers.div (gives_or_stops (join nan_value whole_value))
 div-is =
@@ -399,10 +336,6 @@ pub to_int32-covers : (a : Atom) (n : Num) → Has (primitive.Number n) a
 to_int32-covers = number-covers (λ m. Whole (bits.to_int32 m)) (λ z. refl)
 
 -- ---- truth
-
-pub any_bool : (b : Bool) → Covers both_bools (Ok (primitive.Bool b))
-any_bool true = refl
-any_bool false = refl
 
 pub just_true : (b : Bool) → IsTrue b → Covers (gives (of_bools true false)) (Ok (primitive.Bool b))
 just_true true e = refl

@@ -1,4 +1,4 @@
--- The resolved reading of today's view knows what each object has now.
+-- The resolved reading of a view knows what each object has now.
 use Rattle.std.specs.Prelude.{IsTrue}
 use Rattle.ja_graph.specs.declared.program.Program.{Program}
 use Rattle.ja_machine.specs.declared.machine.Addr.{Addr}

@@ -23,6 +23,7 @@ use Rattle.ja_abstract.specs.declared.abstraction.Key.{Key}
 use Rattle.ja_abstract.specs.declared.abstraction.Key.TheVariants as key
 use Rattle.ja_abstract.specs.AbstractValue.{Labels, AbstractValue, AbstractProperty, same_label, no_value, of_label, of_primitive, has_part, join_attrs, unknown_attrs, of_attrs, bare, join_properties}
 use Rattle.ja_abstract.specs.AbstractState.{AbstractState, new, labels_of, same_key, with_register, with_property, with_made}
+use Rattle.ja_abstract.specs.Reading.{no_demands}
 use Rattle.ja_abstract.specs.Resolved.{Entries, Demands, prototype, join_values}
 use Rattle.ja_model.specs.Reading.{View, own, may_be_absent, may_be_present, some_label, may_refuse, may_accept, got, found, demands_of_walk, demands_of_search}
 
@@ -31,9 +32,6 @@ use Rattle.ja_model.specs.Reading.{View, own, may_be_absent, may_be_present, som
 pub record Out : Type 0 where
   pub states : List (ℕ × AbstractState)
   pub demands : Demands
-
-abbrev pub no_demands : Demands
-no_demands l k = false
 
 abbrev pub no_states : List (ℕ × AbstractState)
 no_states = []

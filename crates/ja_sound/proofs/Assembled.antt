@@ -110,7 +110,8 @@ module _ (operations : RowsCover) (e : Heap) (c : Conf) (top : Frame) (below : L
   by_kind : (answer : Answer) (n : Node) → Sets (option_to_list (register_set n))
       → Named (registers_named n) → AllByRecursion (IsName p) (option_to_list (name_in n))
       → AreMade p (λ t. makes_arguments t n) (makings n)
-      → IsFilled w.entries (transfer_node w x i n).demands → fits p (node_wants c.heap top n) answer ≡ true
+      → IsFilled w.entries (transfer_node w x i n).demands
+      → fits p (node_wants c.heap top n) answer ≡ true
       → Inside (transfer_node w x i n).states (node_step p s answer n)
   unfolding register_set registers_named name_in makings
   by_kind answer (node.Const dst q) d r n m f fit =
@@ -121,8 +122,8 @@ module _ (operations : RowsCover) (e : Heap) (c : Conf) (top : Frame) (below : L
       in_ _ _ (find_gives e c top below x w at good dst name d.0 n.0 f (register_of top scope)
       (there scope scope_is) (held scope scope_is))
   by_kind answer (node.ReadRef dst base name error) d r n m f fit =
-      in_ _ _ (read_ref_gives e c top below x w at good dst base name error d.0 n.0 m.each.0.told.site
-      f (register_of top base) (there base r.0) (held base r.0))
+      in_ _ _ (read_ref_gives e c top below x w at good dst base name error d.0 n.0
+      m.each.0.told.site f (register_of top base) (there base r.0) (held base r.0))
   by_kind answer (node.ReadSoft dst base name) d r n m f fit =
       in_ _ _ (read_soft_gives e c top below x w at good dst base name d.0 n.0 f
       (register_of top base) (there base r.0) (held base r.0))
@@ -246,7 +247,7 @@ module _ (operations : RowsCover) (e : Heap) (c : Conf) (top : Frame) (below : L
             (frames_step p c answer c.frames) None never) ∙ taken))
       ]
 
--- ---- of each program
+-- ---- all kinds of nodes
 
 -- the statement at a view
 abbrev At : Program → Heap → Conf → Conf → Answer → Frame → Frame → List Frame → Point → View

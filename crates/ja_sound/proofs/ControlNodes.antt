@@ -77,7 +77,8 @@ use Rattle.ja_sound.specs.Statements.{IsAt, IsGiven}
 use Rattle.ja_sound.proofs.Registers.{frame_with_result}
 use Rattle.ja_sound.proofs.Returned.{member-sets}
 use Rattle.ja_sound.proofs.AtNode as rows
-use Rattle.ja_sound.proofs.PropertyNodes.{member-goes, throws_gives, sets_gives, rd, has, of_heap}
+use Rattle.ja_sound.proofs.PropertyNodes.{throws_gives, sets_gives, rd, has, of_heap}
+use Rattle.ja_sound.proofs.Steps.{member-goes}
 
 -- what a filter keeps passes
 pass_at : {X : Type 0} (test : X → Bool) (y : X) (ys : List X) (j : ℕ) (x : X) → test y ≡ true

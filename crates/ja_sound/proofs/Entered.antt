@@ -193,8 +193,8 @@ module _ (h : Heap) (w : View) (top : Frame) where
         λ i v l e. has_value-join_right h undefined_value
         (join_values (drop parameters (calls.values_of w list))) v
         (join_has (drop parameters (calls.values_of w list))
-        (drop parameters (map (register_of top) list)) (i - parameters) v (paired list has parameters)
-        (dropped (map (register_of top) list) parameters i v l e));
+        (drop parameters (map (register_of top) list)) (i - parameters) v
+        (paired list has parameters) (dropped (map (register_of top) list) parameters i v l e));
     no_rest =
         has_value-join_left h undefined_value (join_values
         (drop parameters (calls.values_of w list))) undefined refl;

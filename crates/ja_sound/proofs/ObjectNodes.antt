@@ -102,7 +102,8 @@ use Rattle.ja_rows.specs.Objects.{bools_of, numbers_of}
 use Rattle.ja_sound.specs.Statements.{IsAt}
 use Rattle.ja_sound.proofs.Registers.{IsDestinationOf, frame_with_result}
 use Rattle.ja_sound.proofs.AtNode as rows
-use Rattle.ja_sound.proofs.PropertyNodes.{member-goes, throws_gives, sets_gives, rd, has, written_gives}
+use Rattle.ja_sound.proofs.PropertyNodes.{throws_gives, sets_gives, rd, has, written_gives}
+use Rattle.ja_sound.proofs.Steps.{member-goes}
 
 -- ---- a property is defined
 

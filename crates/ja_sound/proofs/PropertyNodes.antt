@@ -81,12 +81,7 @@ use Rattle.ja_sound.proofs.Returned.{member-sets}
 use Rattle.ja_sound.proofs.AtNode.{keys_among}
 use Rattle.ja_sound.proofs.AtNode as rows
 use Rattle.ja_sound.proofs.Steps as steps
-
-pub member-goes : (b : Bool) (n : NodeId) (a : AbstractState) → IsTrue b
-    → Member {X = ℕ × AbstractState} (n.0, a) (goes b n a)
-member-goes b n a e =
-    let x : ℕ × AbstractState = (n.0, a) in
-    subst (Member x) (sym (cond-true b (x ∷ []) [] e)) (inl refl)
+use Rattle.ja_sound.proofs.Steps.{member-goes}
 
 member-results : (w : View) (dst : Reg) (n : NodeId) (v : AbstractValue) (a : AbstractState)
     (rs : List Result) → Member {X = Result} (v, a) rs → IsTrue (has_present w v)

@@ -75,7 +75,7 @@ read_is : (g : Option Property) → option_map_or (λ (r : Property). r.content)
 read_is None = refl
 read_is (Some r) = refl
 
-member-goes : (b : Bool) (n : NodeId) (a : AbstractState) → IsTrue b
+pub member-goes : (b : Bool) (n : NodeId) (a : AbstractState) → IsTrue b
     → Member {X = ℕ × AbstractState} (n.0, a) (goes b n a)
 member-goes b n a e =
     let x : ℕ × AbstractState = (n.0, a) in

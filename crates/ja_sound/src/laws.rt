@@ -15,8 +15,8 @@ pub fn steps_sound()
 {}
 
 /// A step into a function, by a call, a construction or a conversion: the edge is one of those that
-/// the node gives, and where the values that it demands are there, the state at the function's entry
-/// holds, the caller's state still does, and the values that fill the callee's entry hold.
+/// the node gives, and where the values that it demands are there, the state at the function's
+/// entry holds, the caller's state still does, and so do the values that fill the callee's entry.
 pub fn entries_sound()
     ensures { (p : Program) → IsWellFormed p → SoundInto p }
 {
