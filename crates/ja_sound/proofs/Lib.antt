@@ -1,4 +1,5 @@
 pub mod Assembled
+pub mod AtCovered
 pub mod AtNode
 pub mod CallNodes
 pub mod Callables
