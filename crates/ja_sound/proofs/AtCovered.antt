@@ -1,4 +1,5 @@
--- A state of a run that a table covers is one at a node, with the table's state and values at entry.
+-- A state of a run that a table covers is one at a node, with the table's state and its values at
+-- entry.
 use Rattle.std.specs.Prelude.{◌≡◌, ◌-◌, ℕ, List, length, drop, Some}
 use Rattle.std.proofs.Common.{refl}
 use Rattle.ja_base.specs.declared.ids.Context.{Context}

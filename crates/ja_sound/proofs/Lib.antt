@@ -24,3 +24,4 @@ pub mod SoundSteps
 pub mod Stacked
 pub mod Steps
 pub mod Taken
+pub mod Warned

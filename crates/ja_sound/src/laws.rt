@@ -1,9 +1,12 @@
 //! What a closed table says of every run. The functions do nothing; their contracts are the laws.
 
+ghost use Rattle.std.specs.Prelude.{List};
 ghost use Rattle.ja_graph.specs.declared.program.Program.{Program};
 ghost use Rattle.ja_graph.specs.WellFormed.{IsWellFormed};
+ghost use Rattle.ja_rows.specs.declared.table.Warning.{Warning};
 ghost use Rattle.ja_rows.specs.Table.{Table, IsClosed};
-ghost use Rattle.ja_sound.specs.Sound.{CoversRuns};
+ghost use Rattle.ja_rows.specs.Warning.{AreWarnings};
+ghost use Rattle.ja_sound.specs.Sound.{CoversRuns, WarnsOfFaults};
 ghost use Rattle.ja_sound.specs.Statements.{SoundWithin, SoundInto, SoundOutOf};
 
 use ja_machine::{objects_stay, states_are_kept, steps_go_along_edges};
@@ -32,11 +35,25 @@ pub fn returns_sound()
     steps_go_along_edges();
 }
 
-/// A closed table covers every run of its program.
+/// A closed table covers every run of its program: after each list of answers, the table has a
+/// state at the node and the context of the top frame, that state holds of the heap and the frame,
+/// and the values at entry hold of the heap in which the frame was entered.
 pub fn closed_covers()
     ensures { (p : Program) (t : Table) → IsWellFormed p → IsClosed p t → CoversRuns p t }
 {
     states_are_kept();
     steps_go_along_edges();
+    objects_stay();
+}
+
+/// An operation without a warning never goes wrong: where a run comes to the call or the
+/// construction of what is no function, to the object of undefined or null, or to the read of a
+/// name that no object of its scope chain has, the warnings of a closed table have that operation.
+pub fn warned_of_faults()
+    ensures { (p : Program) (t : Table) (ws : List Warning) → IsWellFormed p → IsClosed p t
+        → AreWarnings p t ws → WarnsOfFaults p ws }
+{
+    closed_covers();
+    states_are_kept();
     objects_stay();
 }
