@@ -1,10 +1,12 @@
 -- Copies of the block of a `finally` (ES3 12.14).
-use Rattle.std.specs.Prelude.{ℕ, ◌+◌, ◌-◌, Bool, true, if◌then◌else◌, nat_le, map, Option, Some, None}
+use Rattle.std.specs.Prelude.{ℕ, ◌+◌, ◌-◌, ◌==◌, Bool, true, false, ◌&&◌, if◌then◌else◌, nat_le, length, map, Option, Some, None}
 use Rattle.ja_base.specs.declared.ids.Reg.{Reg}
 use Rattle.ja_graph.specs.Renaming.{Renaming, renamed}
 use Rattle.ja_lower_listing.specs.declared.item.Block.{Block}
 use Rattle.ja_lower_listing.specs.declared.item.BlockNode.{BlockNode}
 use Rattle.ja_lower_listing.specs.declared.item.Item.TheVariants as item
+use Rattle.ja_lower_listing.specs.declared.item.Target.{Target}
+use Rattle.ja_lower_listing.specs.declared.item.Target.TheVariants as target
 use Rattle.ja_lower_draft.specs.Lines.{Listing, with_item}
 
 -- The block of a `finally`, and where its temporaries begin: it is copied on each way out.
@@ -42,6 +44,18 @@ abbrev pub moved_block : ℕ → Reg → ℕ → Block → Block
 moved_block first above by b = record b { nodes = map (moved_node first above by) b.nodes }
 
 -- a copy behind a listing, whose temporaries begin behind a register
-unfoldable pub with_block : Template → Reg → Listing → Listing
-with_block t above l =
+abbrev pub with_copy_of : Template → Reg → Listing → Listing
+with_copy_of t above l =
     with_item l (item.Copy (moved_block t.temporary above (above.0 + 1 - t.temporary) t.block))
+
+-- a block that does nothing: it has no nodes, and what comes to it goes on behind it
+abbrev pub is_behind : Target → Bool
+is_behind target.Behind = true
+is_behind other = false
+
+abbrev pub does_nothing : Block → Bool
+does_nothing block = is_behind block.entry && (length block.nodes == 0)
+
+-- A block is copied, unless it does nothing.
+unfoldable pub with_block : Template → Reg → Listing → Listing
+with_block t above l = if does_nothing t.block then l else with_copy_of t above l

@@ -4,7 +4,8 @@
 //! The lines of a listing are those of its definition as they are added (`Draft`), with copies of
 //! blocks, which are written out last. A copy of the block of a `finally` has its nodes at the same
 //! places, with the block's temporaries moved up behind a register, every other register as it was,
-//! and the block's edges (`laws.rt`).
+//! and the block's edges; a block that does nothing has no copies, and lines come to the same graph
+//! as with them (`laws.rt`).
 #![tactic(auto)]
 
 pub mod conversion;

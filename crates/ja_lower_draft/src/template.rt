@@ -10,7 +10,7 @@ use crate::listed::Listed;
 use crate::moves::Moves;
 use crate::part::{Part, lines};
 use ja_base::{Memory, Reg};
-use ja_lower_listing::{Block, block_of};
+use ja_lower_listing::{Block, Target, block_of};
 use sqlite_items::Items;
 use std::alloc::Global;
 use std::marker::Model;
@@ -46,7 +46,8 @@ impl Model for Template {
 }
 
 /// The most nodes of a block that is written out once for all its copies. A larger one stays in its
-/// parts, since it may have any number of nodes; few copies of it are ever written out.
+/// parts, since it may have any number of nodes; few copies of it are ever written out. One without
+/// nodes is always written out: where it leads tells whether it has copies.
 const MOST_WRITTEN: u32 = 4_096;
 
 impl Template {
@@ -62,7 +63,7 @@ impl Template {
         let (listed, parts, nodes) = draft.into_parts();
         let source = if nodes > MOST_NODES {
             Source::TooLong(listed)
-        } else if nodes <= MOST_WRITTEN && around <= MOST_NODES {
+        } else if nodes == 0 || (nodes <= MOST_WRITTEN && around <= MOST_NODES) {
             let items = lines(alloc, &parts)?;
             let block = block_of(alloc, items)?;
             Source::Written(Rc::new(alloc, block)?)
@@ -77,12 +78,34 @@ impl Template {
     }
 }
 
+/// Whether a block has no nodes, and what comes to it goes on behind it.
+fn does_nothing(block: &Block) -> bool
+    ensures { result ≡ copies.does_nothing block.now }
+{
+    match block.entry {
+        Target::Behind => block.nodes.is_empty(),
+        Target::Node(_) | Target::Spot(_) | Target::Out => false,
+    }
+}
+
+impl Template {
+    /// Whether the block does nothing.
+    #[tactic(auto, using(crate::proofs::CopyLemmas::does_something))]
+    fn does_nothing(&self) -> bool
+        ensures { result ≡ copies.does_nothing self.now.block }
+    {
+        match &self.source {
+            Source::Written(block) => does_nothing(block),
+            Source::Parts(_) | Source::TooLong(_) => false,
+        }
+    }
+}
+
 impl Draft {
-    /// Adds a copy of a block, whose temporaries begin behind a register. Past the last number of a
-    /// register, and behind 16,777,216 lines that are kept, memory counts as refused.
-    #[tactic(auto, unfolding(crate::specs::Copies::with_block), using(crate::proofs::Rulesets::for_block))]
-    pub fn block(&mut self, template: &Template, above: Reg) -> Result<(), Memory>
-        ensures { lines.Adds (copies.with_block template.now above self.old) result self.new }
+    /// Adds a copy of a block.
+    #[tactic(auto, using(crate::proofs::Rulesets::for_block))]
+    fn copy_of(&mut self, template: &Template, above: Reg) -> Result<(), Memory>
+        ensures { lines.Adds (copies.with_copy_of template.now above self.old) result self.new }
     {
         let Some(base) = above.0.checked_add(1) else {
             return Err(Memory);
@@ -107,5 +130,18 @@ impl Draft {
                 Ok(())
             }
         }
+    }
+
+    /// Adds a copy of a block, whose temporaries begin behind a register, unless it does nothing.
+    /// Past the last number of a register, and behind 16,777,216 lines that are kept, memory counts
+    /// as refused.
+    #[tactic(auto, unfolding(crate::specs::Copies::with_block))]
+    pub fn block(&mut self, template: &Template, above: Reg) -> Result<(), Memory>
+        ensures { lines.Adds (copies.with_block template.now above self.old) result self.new }
+    {
+        if template.does_nothing() {
+            return Ok(());
+        }
+        self.copy_of(template, above)
     }
 }

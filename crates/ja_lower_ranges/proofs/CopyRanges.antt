@@ -25,6 +25,7 @@ use Rattle.ja_lower_listing.specs.Listing.{with_edges, nodes_from, block_of, inf
 use Rattle.ja_lower_listing.proofs.Inside.{block_whole}
 use Rattle.ja_lower_draft.specs.Lines.{Listing, Scene}
 use Rattle.ja_lower_draft.specs.Copies.{Template, moved_register, moving, moves_with, moved_node, moved_block, with_block}
+use Rattle.ja_lower_draft.proofs.CopyLemmas.{with_or_without}
 use Rattle.ja_lower_statements.specs.Ways.{Way, of_loop, of_switch, of_label, of_catch, of_finally, Leaving, with_scope, copied_above, leave, restored, arrive, arrive_or, jump_to, leave_all}
 use Rattle.ja_lower_ranges.specs.InRange.{Limits, IsTemporary, IsDestination, IsOfTexts, IsOfTextsWithoutFunctions, IsInRange, OfNode, AllInRange}
 use Rattle.ja_lower_ranges.proofs.LineRanges.{sound_with_item, sound_with_jump, sound_move_to_scope}
@@ -147,13 +148,13 @@ module _ (limits : Limits) where
   pub sound_with_block : (t : Template) → IsTemporary limits t.temporary
       → (above : Reg) (l : Listing) → IsSoundBlock limits t.block → IsSound limits l
       → IsSound limits (with_block t above l)
-  unfolding with_block
   sound_with_block t temporary above l h s =
       let by = above.0 + 1 - t.temporary in
-      sound_with_item (item.Copy (moved_block t.temporary above by t.block)) (
+      with_or_without t above l (IsSound limits) s
+      (sound_with_item (item.Copy (moved_block t.temporary above by t.block)) (
         moved_nodes_in_range t.temporary above by temporary t.block.nodes h.0,
         moved_whole t.temporary above by t.block h.1,
-      ) s
+      ) s)
 
 -- ---- the nodes that lines come to
 

@@ -13,6 +13,7 @@ use Rattle.ja_lower_listing.specs.declared.item.Item.TheVariants as item
 use Rattle.ja_syntax.specs.declared.tree.Name.{Name}
 use Rattle.ja_lower_draft.specs.Copies.{Template, with_block}
 use Rattle.ja_lower_draft.specs.Lines.{Listing, Scene, register, with_jump, with_copy, with_move, restarted, behind_spots}
+use Rattle.ja_lower_draft.proofs.CopyLemmas.{with_or_without}
 use Rattle.ja_lower_expressions.specs.Literals.{scope, list_named_function}
 use Rattle.ja_lower_statements.specs.Ways.{Way, of_loop, of_switch, of_label, of_catch, of_finally, Leaving, leave, restored, arrive, arrive_or, jump_to, leave_all, leaving}
 use Rattle.ja_lower_statements.specs.Statements.{Around, Does, Guarded, unlabelled, inside, handled_at, nth_spot, list_all_statements, list_guarded, list_handler, list_caught, list_catch, keep_block, list_rethrow, list_ways_out, protected, list_finally}
@@ -37,8 +38,9 @@ behind_move scene place saved items =
 
 pub copy_passed : (t : Template) (above : Reg) (l : Listing)
     → scope_behind (with_block t above l).items ≡ scope_behind l.items
-unfolding with_block
-copy_passed t above l = one_more l.items _
+copy_passed t above l =
+    with_or_without t above l (λ x. scope_behind x.items ≡ scope_behind l.items) refl
+    (one_more l.items _)
 
 -- ---- jumps
 
@@ -390,8 +392,8 @@ one_behind i g = more_behind (i ∷ []) g
 
 copy_behind : {xs : List Item} (t : Template) (above : Reg) (l : Listing) → Goes xs l.items
     → Goes xs (with_block t above l).items
-unfolding with_block
-copy_behind t above l g = one_behind _ g
+copy_behind {xs} t above l g =
+    with_or_without t above l (λ x. Goes xs x.items) g (one_behind _ g)
 
 sets : (scene : Scene) (place : Place) (handler : Spot) (saved : Reg) (xs : List Item)
     {ys : List Item} → Goes ((xs ++ item.Spot handler ∷ [])

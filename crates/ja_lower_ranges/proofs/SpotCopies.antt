@@ -15,6 +15,7 @@ use Rattle.ja_lower_listing.specs.declared.item.Item.TheVariants as item
 use Rattle.ja_lower_listing.specs.Listing.{behind, led, goes, leads, jump_of, way_on, edge, goes_on, with_edges, nodes_from, block_of}
 use Rattle.ja_lower_draft.specs.Copies.{Template, moved_node, with_block}
 use Rattle.ja_lower_draft.specs.Lines.{Listing, Scene}
+use Rattle.ja_lower_draft.proofs.CopyLemmas.{with_or_without}
 use Rattle.ja_lower_ranges.specs.Spots.{times, OfSpot, OfTarget, OfTargets, OfBlock, OfEdges}
 use Rattle.ja_lower_ranges.proofs.SpotCounts.{one_if, free_from, free_below, IsBelow, block_map}
 use Rattle.ja_lower_ranges.proofs.SpotLines.{KeptAt, copy}
@@ -193,10 +194,9 @@ moved_around n first above by (x ∷ ns) h = (h.0, moved_around n first above by
 pub kept_with_block : {scene : Scene} {ks ps : List Spot} {o : Listing} (l : Listing) (t : Template)
     (above : Reg) → IsBlock l.spot t → KeptAt scene ks ps o l
     → KeptAt scene ks ps o (with_block t above l)
-unfolding with_block
-kept_with_block l t above h k =
-    copy _ (
+kept_with_block {scene} {ks} {ps} {o} l t above h k =
+    with_or_without t above l (KeptAt scene ks ps o) k (copy _ (
       h.0,
       moved_around l.spot t.temporary above (above.0 + 1 - t.temporary) t.block.nodes
           h.1,
-    ) k
+    ) k)

@@ -11,10 +11,10 @@ source_block (source.Written block) = block.value
 source_block (source.Parts parts) = block_of (lines_of parts.value)
 source_block (source.TooLong listed) = block_of listed.lines
 
--- whether a block is as long as a source says that it is
+-- whether a block is as long as a source says that it is: it is written out, or it has nodes
 abbrev pub IsAsLong : Source → ℕ → Type 0
 IsAsLong (source.Written block) nodes = Unit {0}
-IsAsLong (source.Parts parts) nodes = Unit {0}
+IsAsLong (source.Parts parts) nodes = 0 < nodes
 IsAsLong (source.TooLong listed) nodes = 65536 < nodes
 
 -- how many nodes a block has, as a number of 32 bits: the last one stands for all above it
