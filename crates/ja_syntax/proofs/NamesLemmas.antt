@@ -1,14 +1,15 @@
 -- Names, each once: where one is found, and what one more does.
 use Rattle.std.proofs.Common.{◌≡◌, ℕ, ◌+◌, Bool, true, false, cond, nat_lt, not, ◌||◌, if◌then◌else◌, List, [], ◌∷◌, ◌++◌, length, map, Bor, Some, None, refl, sym, ap, ◌∙◌, append_assoc, append-nil, arith}
-use Rattle.std.specs.List.{filter, fold, list_any, position, position_or_len}
+use Rattle.std.specs.List.{filter, flat_map, fold, list_any, position, position_or_len}
 use Rattle.std.specs.Str.{bytes_eq}
 use Rattle.std.specs.Cmp.Lexicographic.{bytes_decides, nat_list_eq_equiv}
 use Rattle.std.proofs.lemmas.Bool.{ltb-false}
 use Rattle.std.proofs.lemmas.List.{map_push}
 use Rattle.std.proofs.lemmas.List.Sums.{prefix_len-le-length}
 use Rattle.indexmap.specs.IndexSet.{insert_key}
-use Rattle.ja_syntax.specs.Hoisted.{once}
+use Rattle.ja_syntax.specs.Hoisted.{hoisted_variables, once, variables_of}
 use Rattle.ja_syntax.specs.code.Hoisted.{with_name}
+use Rattle.ja_syntax.specs.declared.tree.Statement.{Statement}
 
 abbrev Texts : Type 0
 Texts = List (Bor (List ℕ))
@@ -139,6 +140,8 @@ fold-with_name ts (u ∷ us) =
     ap (λ names. fold with_name names us) (sym (once-push ts u)) ∙ fold-with_name (ts ++ u ∷ []) us
     ∙ ap once (append_assoc ts (u ∷ []) us)
 
-pub added_once : (us : List (List ℕ)) → fold with_name [] us ≡ once us
-unfolding once
-added_once us = fold-with_name [] us
+-- the variables of statements, each added where it is new
+pub hoisted_once : (ss : List Statement)
+    → fold with_name [] (flat_map variables_of ss) ≡ hoisted_variables ss
+unfolding once hoisted_variables
+hoisted_once ss = fold-with_name [] (flat_map variables_of ss)
