@@ -5,7 +5,6 @@ pub mod Listed
 pub mod NumberingLemmas
 pub mod Rulesets
 pub mod Scenes
-pub mod Shifts
 pub mod SiteLemmas
 pub mod Sizes
 pub mod WellFormedLemmas

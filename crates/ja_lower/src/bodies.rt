@@ -37,8 +37,7 @@ fn nodes_of(alloc: Global, listing: Draft, room: usize) -> Result<Seq<NodeInfo>,
         return Err(LowerFault::Nodes);
     }
     let items = listing.into_items(alloc)?;
-    let nodes = assembled(alloc, items)?;
-    Ok(nodes)
+    Ok(assembled(alloc, items)?)
 }
 
 /// The name of a function, which is empty where it has none.
@@ -235,8 +234,7 @@ fn all_prelude(
 {
     let mut bodies = Vec::with_capacity(scene.alloc, functions.len())?;
     add_functions(scene, functions, MAX_NODES, &mut bodies)?;
-    let named = at_paths(scene.alloc, paths, bodies)?;
-    Ok(named)
+    Ok(at_paths(scene.alloc, paths, bodies)?)
 }
 
 /// The functions of the texts of built-in functions, where the program has these names, each by its

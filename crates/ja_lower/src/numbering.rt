@@ -1,45 +1,12 @@
 //! The sites of a function's nodes, numbered from a number on.
 
-ghost use Rattle.std.specs.Prelude.{◌≡◌, ◌+◌, ◌-◌, ◌<◌, ◌^◌, min, IfOk, OnOk};
-ghost use Rattle.std.specs.List.{AllByRecursion};
-ghost use Rattle.ja_graph.specs.Node as graph;
-ghost use Rattle.ja_graph.specs.Renaming.{renamed};
+ghost use Rattle.std.specs.Prelude.{◌≡◌, ◌+◌, IfOk, OnOk};
+ghost use Rattle.std.specs.Option.{option_map};
+ghost use Rattle.ja_graph.specs.Renaming.{renamed, renamed_wrappers};
 ghost use Rattle.ja_lower.specs.Lowering as spec;
 
-use ja_base::{FnId, Memory, NameId, Reg, Seq, Site};
-use ja_graph::{Making, NodeInfo, Renames, makings, renamed};
-use std::alloc::Global;
-
-/// Sites that are numbered from a number on, as far as numbers go.
-#[derive(Drop)]
-struct Shift {
-    first: u32,
-}
-
-impl Renames for Shift {
-    ghost renaming = { λ s. record {
-      register = λ r. r;
-      name = λ n. n;
-      function = λ f. f;
-      site = λ x. record { 0 = min (s.first + x.0) (2 ^ 32 - 1) };
-    } };
-
-    fn register(&self, register: Reg) -> Reg {
-        register
-    }
-
-    fn name(&self, name: NameId) -> NameId {
-        name
-    }
-
-    fn function(&self, function: FnId) -> FnId {
-        function
-    }
-
-    fn site(&self, site: Site) -> Site {
-        Site(self.first.saturating_add(site.0))
-    }
-}
+use ja_base::{Memory, Seq, Site};
+use ja_graph::{Node, NodeInfo, Wrappers, makings};
 
 /// The number behind so many sites. Past the last number that a site may have counts as refused
 /// memory.
@@ -52,54 +19,110 @@ pub(crate) fn behind(first: u32, count: usize) -> Result<u32, Memory>
     }
 }
 
-/// Fails where a site would have a number past the last one.
-fn check_sites(first: u32, makings: &[Making]) -> Result<(), Memory>
-    ensures { OnOk result (AllByRecursion (λ m. first + m.site.0 < 2 ^ 32) makings.now) }
+/// Numbers a site from a number on.
+fn shift_site(first: u32, site: &mut Site) -> Result<(), Memory>
+    ensures { OnOk result (site.new ≡ (spec.shifting first).site site.old) }
 {
-    for making in makings {
-        behind(first, making.site.0 as usize)?;
-    }
+    *site = Site(behind(first, site.0 as usize)?);
     Ok(())
 }
 
-/// A node of these makings with its sites numbered from a number on.
-#[tactic(auto, using(crate::proofs::Shifts::shifts_alike))]
-fn shifted(
-    alloc: Global,
-    first: u32,
-    info: &NodeInfo,
-    makings: &[Making],
-) -> Result<NodeInfo, Memory>
-    requires makings { makings.now ≡ graph.makings info.now.node }
-    ensures { IfOk result (λ copy. copy ≡ record info.now
-        { node = renamed (spec.shifting first) info.now.node }) }
+/// Numbers a site, if there is one, from a number on.
+fn shift_optional(first: u32, site: &mut Option<Site>) -> Result<(), Memory>
+    ensures { OnOk result (site.new ≡ option_map (spec.shifting first).site site.old) }
 {
-    check_sites(first, makings)?;
-    let node = renamed(alloc, &info.node, &Shift { first })?;
-    Ok(NodeInfo {
-        node,
-        next: info.next,
-        other: info.other,
-        handler: info.handler,
-        place: info.place,
-    })
+    match site {
+        Some(site) => shift_site(first, site),
+        None => Ok(()),
+    }
 }
 
-/// Nodes with their sites numbered from a number on.
-#[tactic(auto, unfolding(crate::specs::Lowering::numbered))]
-pub(crate) fn numbered(
-    alloc: Global,
-    first_site: u32,
-    nodes: &[NodeInfo],
-) -> Result<Seq<NodeInfo>, Memory>
-    ensures { IfOk result (λ list. list ≡ spec.numbered first_site nodes.now) }
+/// Numbers the sites of conversions from a number on.
+fn shift_wrappers(first: u32, sites: &mut Wrappers) -> Result<(), Memory>
+    ensures { OnOk result (sites.new ≡ renamed_wrappers (spec.shifting first) sites.old) }
 {
-    let mut list = Vec::with_capacity(alloc, nodes.len())?;
+    shift_site(first, &mut sites.boolean)?;
+    shift_site(first, &mut sites.number)?;
+    shift_site(first, &mut sites.text)
+}
+
+/// Numbers the sites of a node from a number on. Past the last number memory counts as refused.
+#[tactic(auto, unfolding(ja_graph::specs::Renaming::renamed))]
+fn shift(first: u32, node: &mut Node) -> Result<(), Memory>
+    ensures { OnOk result (node.new ≡ renamed (spec.shifting first) node.old) }
+{
+    match node {
+        Node::ReadRef { error, .. } => shift_site(first, error),
+        Node::NeedObject { error, .. } => shift_site(first, error),
+        Node::WriteProp { error, .. } => shift_site(first, error),
+        Node::Call { error, .. } => shift_site(first, error),
+        Node::NewObject { site, .. } => shift_site(first, site),
+        Node::PushScope { site } => shift_site(first, site),
+        Node::ToObject { sites, error, .. } => {
+            shift_wrappers(first, sites)?;
+            shift_site(first, error)
+        }
+        Node::InstanceOf {
+            not_function,
+            not_object,
+            ..
+        } => {
+            shift_site(first, not_function)?;
+            shift_site(first, not_object)
+        }
+        Node::MakeFunction {
+            site,
+            proto_site,
+            ..
+        } => {
+            shift_site(first, site)?;
+            shift_site(first, proto_site)
+        }
+        Node::Enter { site, arguments } => {
+            shift_site(first, site)?;
+            shift_optional(first, arguments)
+        }
+        Node::New { site, error, .. } => {
+            shift_site(first, site)?;
+            shift_site(first, error)
+        }
+        Node::Const { .. }
+        | Node::Move { .. }
+        | Node::FindName { .. }
+        | Node::ReadSoft { .. }
+        | Node::WriteRef { .. }
+        | Node::DeleteRef { .. }
+        | Node::ReadProp { .. }
+        | Node::DeleteProp { .. }
+        | Node::HasProp { .. }
+        | Node::Declare { .. }
+        | Node::Bind { .. }
+        | Node::Convert { .. }
+        | Node::Unary { .. }
+        | Node::Binary { .. }
+        | Node::Branch { .. }
+        | Node::Names { .. }
+        | Node::Pick { .. }
+        | Node::Throw { .. }
+        | Node::Return { .. }
+        | Node::Escape
+        | Node::Intrinsic { .. }
+        | Node::Device { .. }
+        | Node::Stop { .. } => Ok(()),
+    }
+}
+
+/// Numbers the sites of nodes from a number on, in the nodes' own memory.
+#[tactic(auto, unfolding(crate::specs::Lowering::numbered))]
+pub(crate) fn numbered(first_site: u32, nodes: Seq<NodeInfo>) -> Result<Seq<NodeInfo>, Memory>
+    ensures { IfOk result (λ list. list ≡ spec.numbered first_site nodes) }
+{
+    let mut list = nodes.into_vec();
     let mut first = first_site;
-    for info in nodes {
-        let makings = makings(&info.node);
-        list.push(shifted(alloc, first, info, makings.as_slice())?)?;
-        first = behind(first, makings.as_slice().len())?;
+    for info in list.iter_mut() {
+        let sites = makings(&info.node).as_slice().len();
+        shift(first, &mut info.node)?;
+        first = behind(first, sites)?;
     }
     Ok(Seq::from_vec(list))
 }

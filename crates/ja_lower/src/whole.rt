@@ -20,12 +20,12 @@ pub(crate) struct Whole {
 }
 
 /// A function whose sites are numbered from a number on.
-fn function_of(alloc: Global, first: u32, body: Body) -> Result<Function, Memory>
+fn function_of(first: u32, body: Body) -> Result<Function, Memory>
     ensures function { IfOk result (λ f. f ≡ spec.function_of first body) }
     ensures registers { IfOk result (λ f. f.registers ≤ 262144) }
 {
     let registers = register_count(body.parameters.len(), body.nodes.as_slice())?;
-    let nodes = numbered(alloc, first, body.nodes.as_slice())?;
+    let nodes = numbered(first, body.nodes)?;
     Ok(Function {
         name: body.name,
         parameters: body.parameters,
@@ -48,8 +48,7 @@ fn add(whole: &mut Whole, first_site: u32, first_function: u32, body: Body) -> R
     let function = FnId(first_function + whole.functions.len() as u32);
     let first = behind(first_site, whole.sites.len())?;
     add_sites(&mut whole.sites, function, body.nodes.as_slice())?;
-    let alloc = *whole.functions.allocator();
-    whole.functions.push(function_of(alloc, first, body)?)?;
+    whole.functions.push(function_of(first, body)?)?;
     Ok(())
 }
 

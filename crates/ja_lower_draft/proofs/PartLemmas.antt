@@ -57,6 +57,20 @@ count_moved m block p e =
     ap (λ i. node_count (i ∷ [])) e ∙ (omega
     (arith, length-map block.nodes (moved_node m.temporary m.above m.by)))
 
+pub count_node : (node : Node) (other handler : Option Spot) (place : Place)
+    → node_count (line_of (part.Node node other handler place) ∷ []) ≡ 1
+unfolding node_count
+count_node node other handler place =
+    ap (λ i. node_count (i ∷ [])) (of_node node other handler place)
+
+pub count_spot : (s : Spot) → node_count (line_of (part.Spot s) ∷ []) ≡ 0
+unfolding node_count
+count_spot s = ap (λ i. node_count (i ∷ [])) (of_spot s)
+
+pub count_jump : (s : Spot) → node_count (line_of (part.Jump s) ∷ []) ≡ 0
+unfolding node_count
+count_jump s = ap (λ i. node_count (i ∷ [])) (of_jump s)
+
 pub count_written : (block : Rc Block Global) (m : Moves)
     → node_count (line_of (part.Written block m) ∷ []) ≡ length block.value.nodes
 count_written block m = count_moved m block.value (part.Written block m) (of_written block m)

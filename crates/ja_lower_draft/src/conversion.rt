@@ -34,8 +34,7 @@ pub fn literal(
         draft.new }
 {
     let prim = prim.copy()?;
-    let dst = constant(scene, place, prim, draft)?;
-    Ok(dst)
+    constant(scene, place, prim, draft)
 }
 
 /// Moves a register to the next temporary.
@@ -57,8 +56,7 @@ pub fn set(
 ) -> Result<(), Memory>
     ensures { code_lines.Adds (lines.with_move scene.now place dst src draft.old) result draft.new }
 {
-    draft.node(scene.handler, place, Node::Move { dst, src })?;
-    Ok(())
+    draft.node(scene.handler, place, Node::Move { dst, src })
 }
 
 /// Adds the default value of a register, with a hint.
@@ -112,8 +110,7 @@ pub fn number(
     ensures { code_lines.Gives (lines.with_number scene.now place src draft.old) result draft.new }
 {
     let value = default_value(scene, place, Hint::Number, src, draft)?;
-    let dst = unary(scene, place, UnaryOp::ToNum, value, draft)?;
-    Ok(dst)
+    unary(scene, place, UnaryOp::ToNum, value, draft)
 }
 
 /// Adds ToString of a register.
@@ -122,8 +119,7 @@ pub fn text(scene: &Scene<'_, '_>, place: Place, src: Reg, draft: &mut Draft) ->
     ensures { code_lines.Gives (lines.with_text scene.now place src draft.old) result draft.new }
 {
     let value = default_value(scene, place, Hint::Text, src, draft)?;
-    let dst = unary(scene, place, UnaryOp::ToText, value, draft)?;
-    Ok(dst)
+    unary(scene, place, UnaryOp::ToText, value, draft)
 }
 
 /// Adds ToBoolean of a register.
@@ -135,6 +131,5 @@ pub fn truth(
 ) -> Result<Reg, Memory>
     ensures { code_lines.Gives (lines.with_truth scene.now place src draft.old) result draft.new }
 {
-    let dst = unary(scene, place, UnaryOp::ToBool, src, draft)?;
-    Ok(dst)
+    unary(scene, place, UnaryOp::ToBool, src, draft)
 }

@@ -199,7 +199,7 @@ impl Draft {
     }
 
     /// Adds the spot of what follows.
-    #[tactic(auto, unfolding(ja_lower_listing::specs::Listing::node_count), using(crate::proofs::PartLemmas::of_spot))]
+    #[tactic(auto, using(crate::proofs::Rulesets::for_mark))]
     pub fn mark(&mut self, spot: Spot) -> Result<(), Memory>
         ensures { code_lines.Adds (lines.with_spot spot self.old) result self.new }
     {
@@ -207,7 +207,7 @@ impl Draft {
     }
 
     /// Adds a jump.
-    #[tactic(auto, unfolding(ja_lower_listing::specs::Listing::node_count), using(crate::proofs::PartLemmas::of_jump))]
+    #[tactic(auto, using(crate::proofs::Rulesets::for_jump))]
     pub fn jump(&mut self, spot: Spot) -> Result<(), Memory>
         ensures { code_lines.Adds (lines.with_jump spot self.old) result self.new }
     {
@@ -215,7 +215,7 @@ impl Draft {
     }
 
     /// Adds a node, with the spots of its edges.
-    #[tactic(auto, unfolding(ja_lower_listing::specs::Listing::node_count), using(crate::proofs::PartLemmas::of_node))]
+    #[tactic(auto, using(crate::proofs::Rulesets::for_with_edges))]
     fn with_edges(
         &mut self,
         node: Node,

@@ -51,6 +51,5 @@ pub(crate) fn moved(alloc: Global, node: &Node, first: u32, by: u32) -> Result<N
     if registers_with(0, node) > (1 << 32) - u64::from(by) {
         return Err(Memory);
     }
-    let copy = renamed(alloc, node, &Moving { first, by })?;
-    Ok(copy)
+    renamed(alloc, node, &Moving { first, by })
 }

@@ -65,8 +65,7 @@ impl Renames for Staying {
 fn copy_of(alloc: Global, node: &Node) -> Result<Node, Memory>
     ensures { IfOk result (λ copy. copy ≡ node.now) }
 {
-    let copy = renamed(alloc, node, &Staying {})?;
-    Ok(copy)
+    renamed(alloc, node, &Staying {})
 }
 
 /// The line of a part.

@@ -48,10 +48,7 @@ fn property_text(alloc: Global, name: &PropertyName) -> Result<Text16, Memory>
     ensures { IfOk result (λ text. text ≡ spec.property_text name.now) }
 {
     match name {
-        PropertyName::Word(text) | PropertyName::Text(text) => {
-            let text = text.copy()?;
-            Ok(text)
-        }
+        PropertyName::Word(text) | PropertyName::Text(text) => Ok(text.copy()?),
         PropertyName::Number(n) => number_text(alloc, *n),
     }
 }

@@ -1,3 +1,2 @@
-pub mod NamesLemmas
 pub mod Rulesets
 pub mod TextOrderLemmas

@@ -3,7 +3,6 @@
 ghost use Rattle.std.specs.Prelude.{◌≡◌, ◌+◌, ◌<◌, ◌≤◌, ◌^◌, [], length, IfOk, OnOk};
 ghost use Rattle.ja_lower_names.specs.Names as spec;
 
-use indexmap::IndexSet;
 use ja_base::{Memory, NameId, Seq};
 use ja_prim::Text16;
 use std::alloc::Global;
@@ -13,19 +12,17 @@ use std::marker::Model;
 /// than 2^32. Contracts see the list of texts.
 #[derive(Drop)]
 pub struct Names<'a> {
-    texts: IndexSet<&'a [u16]>,
+    list: ja_syntax::Names<'a>,
 }
 
 impl<'a> Model for Names<'a> {
-    ghost use Rattle.std.specs.Prelude.{◌<◌, ◌≤◌, ◌^◌, ℕ, List, length, map};
-    ghost use Rattle.std.specs.List.{All};
-    ghost use Rattle.ja_prim.specs.Texts.{max_units};
+    ghost use Rattle.std.specs.Prelude.{◌<◌, ◌^◌, ℕ, List, length};
 
     ghost Value = { List (List ℕ) };
 
-    ghost view = { λ n. map (λ t. t.now) n.texts.keys };
+    ghost view = { λ n. n.list };
 
-    ghost invariant = { λ n. (length n.texts.keys < 2 ^ 32) × All (λ t. length t.now ≤ max_units) n.texts.keys };
+    ghost invariant = { λ n. length n.list < 2 ^ 32 };
 }
 
 impl<'a> Names<'a> {
@@ -34,7 +31,7 @@ impl<'a> Names<'a> {
         ensures { result ≡ [] }
     {
         Names {
-            texts: IndexSet::new(alloc),
+            list: ja_syntax::Names::new(alloc),
         }
     }
 
@@ -42,7 +39,7 @@ impl<'a> Names<'a> {
     pub fn len(&self) -> usize
         ensures { result ≡ length self.now }
     {
-        self.texts.len()
+        self.list.len()
     }
 
     /// The number of a name: its place among the names, or the number behind the last one where it
@@ -50,10 +47,7 @@ impl<'a> Names<'a> {
     pub fn number(&self, text: &[u16]) -> NameId
         ensures { result ≡ spec.number self.now text.now }
     {
-        match self.texts.get_index_of(text) {
-            Some(place) => NameId(place as u32),
-            None => NameId(self.texts.len() as u32),
-        }
+        NameId(self.list.place(text) as u32)
     }
 
     /// Adds a name, if it isn't one yet.
@@ -62,18 +56,13 @@ impl<'a> Names<'a> {
         ensures names { OnOk result (self.new ≡ spec.with_name self.old text.now) }
         ensures few { OnOk result (length self.new ≤ length self.old + 1) }
     {
-        self.texts.insert(text.units())?;
-        Ok(())
+        self.list.add(text)
     }
 
     /// The texts of the names, in memory of their own.
     pub fn texts(&self, alloc: Global) -> Result<Seq<Text16>, Memory>
         ensures { IfOk result (λ texts. texts ≡ self.now) }
     {
-        let mut texts = Vec::new(alloc);
-        for text in self.texts.as_slice() {
-            texts.push(Text16::from_slice(alloc, text)?)?;
-        }
-        Ok(Seq::from_vec(texts))
+        self.list.texts(alloc)
     }
 }

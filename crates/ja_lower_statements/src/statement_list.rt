@@ -10,7 +10,7 @@ use crate::blocks::trial;
 use crate::choices::{if_alone, if_else, if_then, labelled, switch};
 use crate::loops::{do_loop, for_in_loop, for_loop, while_loop};
 use crate::statement_parts::{declare_all, evaluate, return_from, throw};
-use crate::way::{break_out, continue_out};
+use crate::way::{Jump, jump_out};
 use ja_base::Memory;
 use ja_lower_draft::Draft;
 use ja_syntax::Statement;
@@ -108,9 +108,11 @@ pub fn statement(
             draft,
         ),
         Statement::Continue { label, place } => {
-            continue_out(scene, *place, label, around.ways, draft)
+            jump_out(scene, *place, Jump::Continue, label, around.ways, draft)
         }
-        Statement::Break { label, place } => break_out(scene, *place, label, around.ways, draft),
+        Statement::Break { label, place } => {
+            jump_out(scene, *place, Jump::Break, label, around.ways, draft)
+        }
         Statement::Return { value, place } => return_from(value, around, base, *place, draft),
         Statement::Labelled { label, body } => labelled(body.get(), label, around, base, draft),
         Statement::Switch {

@@ -5,7 +5,7 @@ ghost use Rattle.std.specs.List.{list_any};
 ghost use Rattle.std.specs.Str.{bytes_eq};
 ghost use Rattle.ja_lower_draft.specs.code.Lines as lines;
 ghost use Rattle.ja_lower_statements.specs.Ways as spec;
-ghost use Rattle.ja_lower_statements.specs.code.Standing.{step_of, way_of, Leaves};
+ghost use Rattle.ja_lower_statements.specs.code.Standing.{step_of, target_of, way_of, Leaves};
 ghost use Rattle.ja_lower_statements.specs.Statements.{label_text};
 
 use ja_base::{Memory, Place, Reg};
@@ -163,6 +163,25 @@ fn continue_target(label: &Option<Name>, way: &Way<'_>) -> Option<Spot>
     }
 }
 
+/// A statement that goes on elsewhere (12.7, 12.8).
+#[derive(Clone, Copy)]
+pub enum Jump {
+    Break,
+    Continue,
+}
+
+impl Jump {
+    /// Where it goes, if it is to this way.
+    fn target(self, label: &Option<Name>, way: &Way<'_>) -> Option<Spot>
+        ensures { result ≡ target_of self (label_text label.now) (way_of way.now) }
+    {
+        match self {
+            Jump::Break => break_target(label, way),
+            Jump::Continue => continue_target(label, way),
+        }
+    }
+}
+
 /// Sets the scope chain to the register, if another one is in force.
 fn set_scope(
     scene: &Scene<'_, '_>,
@@ -237,43 +256,22 @@ fn arrive(
     draft.jump(target)
 }
 
-/// Lists a `break` out of these ways, the innermost first (12.8).
+/// Lists a `break` or a `continue` out of these ways, the innermost first (12.7, 12.8).
 #[tactic(auto, unfolding(crate::specs::Ways::jump_to))]
-pub(crate) fn break_out(
+pub(crate) fn jump_out(
     scene: &Scene<'_, '_>,
     place: Place,
+    jump: Jump,
     label: &Option<Name>,
     ways: &[Way<'_>],
     draft: &mut Draft,
 ) -> Result<(), Memory>
-    ensures { lines.Adds (spec.jump_to scene.now place (spec.break_target (label_text label.now))
+    ensures { lines.Adds (spec.jump_to scene.now place (target_of jump (label_text label.now))
         (map way_of ways.now) (spec.leaving draft.old)) result draft.new }
 {
     let mut kept = None;
     for way in ways {
-        if let Some(target) = break_target(label, way) {
-            return arrive(scene, place, kept, target, draft);
-        }
-        kept = leave(scene, place, None, way, kept, draft)?;
-    }
-    Ok(())
-}
-
-/// Lists a `continue` out of these ways, the innermost first (12.7).
-#[tactic(auto, unfolding(crate::specs::Ways::jump_to))]
-pub(crate) fn continue_out(
-    scene: &Scene<'_, '_>,
-    place: Place,
-    label: &Option<Name>,
-    ways: &[Way<'_>],
-    draft: &mut Draft,
-) -> Result<(), Memory>
-    ensures { lines.Adds (spec.jump_to scene.now place (spec.continue_target (label_text label.now))
-        (map way_of ways.now) (spec.leaving draft.old)) result draft.new }
-{
-    let mut kept = None;
-    for way in ways {
-        if let Some(target) = continue_target(label, way) {
+        if let Some(target) = jump.target(label, way) {
             return arrive(scene, place, kept, target, draft);
         }
         kept = leave(scene, place, None, way, kept, draft)?;

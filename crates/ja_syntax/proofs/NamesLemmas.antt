@@ -1,12 +1,15 @@
--- Names, each once: what one more does.
-use Rattle.std.proofs.Common.{◌≡◌, ℕ, Bool, true, false, cond, not, ◌||◌, if◌then◌else◌, List, [], ◌∷◌, ◌++◌, map, Bor, refl, sym, ap, ◌∙◌, append_assoc, append-nil}
-use Rattle.std.specs.List.{filter, fold, list_any}
+-- Names, each once: where one is found, and what one more does.
+use Rattle.std.proofs.Common.{◌≡◌, ℕ, ◌+◌, Bool, true, false, cond, nat_lt, not, ◌||◌, if◌then◌else◌, List, [], ◌∷◌, ◌++◌, length, map, Bor, Some, None, refl, sym, ap, ◌∙◌, append_assoc, append-nil, arith}
+use Rattle.std.specs.List.{filter, flat_map, fold, list_any, position, position_or_len}
 use Rattle.std.specs.Str.{bytes_eq}
 use Rattle.std.specs.Cmp.Lexicographic.{bytes_decides, nat_list_eq_equiv}
+use Rattle.std.proofs.lemmas.Bool.{ltb-false}
 use Rattle.std.proofs.lemmas.List.{map_push}
+use Rattle.std.proofs.lemmas.List.Sums.{prefix_len-le-length}
 use Rattle.indexmap.specs.IndexSet.{insert_key}
-use Rattle.ja_syntax.specs.Hoisted.{once}
+use Rattle.ja_syntax.specs.Hoisted.{hoisted_variables, once, variables_of}
 use Rattle.ja_syntax.specs.code.Hoisted.{with_name}
+use Rattle.ja_syntax.specs.declared.tree.Statement.{Statement}
 
 abbrev Texts : Type 0
 Texts = List (Bor (List ℕ))
@@ -19,6 +22,34 @@ any_now : (t : List ℕ) (ks : Texts) → list_any (λ k. bytes_eq t k.now) ks
     ≡ list_any (bytes_eq t) (nows ks)
 any_now t [] = refl
 any_now t (k ∷ ks) = ap (λ b. bytes_eq t k.now || b) (any_now t ks)
+
+pub position_now : (t : List ℕ) (ks : Texts)
+    → position_or_len (λ k. bytes_eq t k.now) ks ≡ position_or_len (bytes_eq t) (nows ks)
+position_now t [] = refl
+position_now t (k ∷ ks) = ap (λ n. cond (not (bytes_eq t k.now)) (1 + n) 0) (position_now t ks)
+
+module _ {X : Type 0} (p : X → Bool) (xs : List X) where
+  -- a place that is found is the first one, and where none is found that is the length
+  pub found_at : (i : ℕ) → Some i ≡ position p xs → i ≡ position_or_len p xs
+  found_at i is = at (nat_lt (position_or_len p xs) (length xs)) is
+    where
+      at : (b : Bool) → Some i ≡ cond b (Some (position_or_len p xs)) None
+          → i ≡ position_or_len p xs
+      at true e = cc
+      at false e = absurd (cc)
+
+  pub found_nowhere : None ≡ position p xs → length xs ≡ position_or_len p xs
+  found_nowhere is = at (nat_lt (position_or_len p xs) (length xs)) refl is
+    where
+      at : (b : Bool) → nat_lt (position_or_len p xs) (length xs) ≡ b
+          → None ≡ cond b (Some (position_or_len p xs)) None → length xs ≡ position_or_len p xs
+      at true low e = absurd (cc)
+      at false low e =
+          omega (
+            arith,
+            ltb-false (position_or_len p xs) (length xs) low,
+            prefix_len-le-length (λ x. not (p x)) xs,
+          )
 
 -- a text that is put into the set is a name that is added
 pub inserted_now : (ks : Texts) (k : Bor (List ℕ))
@@ -109,6 +140,8 @@ fold-with_name ts (u ∷ us) =
     ap (λ names. fold with_name names us) (sym (once-push ts u)) ∙ fold-with_name (ts ++ u ∷ []) us
     ∙ ap once (append_assoc ts (u ∷ []) us)
 
-pub added_once : (us : List (List ℕ)) → fold with_name [] us ≡ once us
-unfolding once
-added_once us = fold-with_name [] us
+-- the variables of statements, each added where it is new
+pub hoisted_once : (ss : List Statement)
+    → fold with_name [] (flat_map variables_of ss) ≡ hoisted_variables ss
+unfolding once hoisted_variables
+hoisted_once ss = fold-with_name [] (flat_map variables_of ss)

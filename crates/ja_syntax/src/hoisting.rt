@@ -153,7 +153,7 @@ fn add_case<'a>(names: &mut Names<'a>, case: &'a Case) -> Result<(), Memory>
 
 /// The variables of a body or of the program: the names of all `var` in the statements but in
 /// functions inside them, each once, in the order in which the text has them first.
-#[tactic(auto, using(crate::proofs::NamesLemmas::added_once), unfolding(crate::specs::Hoisted::hoisted_variables))]
+#[tactic(auto, using(crate::proofs::NamesLemmas::hoisted_once))]
 pub fn hoisted_variables(alloc: Global, statements: &[Statement]) -> Result<Seq<Text16>, Memory>
     ensures { IfOk result (λ names. names ≡ spec.hoisted_variables statements.now) }
 {

@@ -20,6 +20,7 @@ mod tree;
 pub use arguments::mentions_arguments;
 pub use hoisting::{Hoisted, hoist, hoisted_functions, hoisted_variables, is_function};
 pub use laws::symbols_are_spelt;
+pub use names::Names;
 pub use references::is_reference;
 pub use symbol::{Symbol, same_symbol};
 pub use symbols::{is_arguments, names_arguments, scope_of, symbol_of};

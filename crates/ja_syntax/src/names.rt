@@ -1,6 +1,8 @@
 //! Names, each once.
 
-ghost use Rattle.std.specs.Prelude.{◌≡◌, [], map, IfOk, OnOk};
+ghost use Rattle.std.specs.Prelude.{◌≡◌, ◌+◌, ◌≤◌, [], length, IfOk, OnOk};
+ghost use Rattle.std.specs.List.{position_or_len};
+ghost use Rattle.std.specs.Str.{bytes_eq};
 ghost use Rattle.ja_syntax.specs.code.Hoisted.{with_name};
 
 use indexmap::IndexSet;
@@ -11,7 +13,7 @@ use std::marker::Model;
 
 /// Names, each once, in the order in which they were added. Contracts see the list of texts.
 #[derive(Drop)]
-pub(crate) struct Names<'a> {
+pub struct Names<'a> {
     texts: IndexSet<&'a [u16]>,
 }
 
@@ -29,7 +31,7 @@ impl<'a> Model for Names<'a> {
 
 impl<'a> Names<'a> {
     /// No names.
-    pub(crate) fn new(alloc: Global) -> Self
+    pub fn new(alloc: Global) -> Self
         ensures { result ≡ [] }
     {
         Names {
@@ -37,16 +39,35 @@ impl<'a> Names<'a> {
         }
     }
 
+    /// How many they are.
+    pub fn len(&self) -> usize
+        ensures { result ≡ length self.now }
+    {
+        self.texts.len()
+    }
+
+    /// The place of a name among them, or how many they are where it isn't one of them.
+    pub fn place(&self, text: &[u16]) -> usize
+        ensures first { result ≡ position_or_len (bytes_eq text.now) self.now }
+        ensures within { result ≤ length self.now }
+    {
+        match self.texts.get_index_of(text) {
+            Some(place) => place,
+            None => self.texts.len(),
+        }
+    }
+
     /// Adds a name, if it isn't one yet.
-    pub(crate) fn add(&mut self, text: &'a Text16) -> Result<(), Memory>
-        ensures { OnOk result (self.new ≡ with_name self.old text.now) }
+    pub fn add(&mut self, text: &'a Text16) -> Result<(), Memory>
+        ensures names { OnOk result (self.new ≡ with_name self.old text.now) }
+        ensures few { length self.new ≤ length self.old + 1 }
     {
         self.texts.insert(text.units())?;
         Ok(())
     }
 
     /// The texts of the names, in memory of their own.
-    pub(crate) fn texts(&self, alloc: Global) -> Result<Seq<Text16>, Memory>
+    pub fn texts(&self, alloc: Global) -> Result<Seq<Text16>, Memory>
         ensures { IfOk result (λ texts. texts ≡ self.now) }
     {
         let mut texts = Vec::new(alloc);

@@ -71,13 +71,13 @@ pub statement_list::statement-returns-in-Continue :
 statement_list::statement-returns-in-Continue t c =
     let e = does_continue c.in-Continue.label c.in-Continue.place (around_of c.args.around.now)
     c.args.base c.args.draft.now in
-    rw (c.in-Continue.is, e) c.continue_out.ensures
+    rw (c.in-Continue.is, e) c.jump_out.ensures
 
 pub statement_list::statement-returns-in-Break : goal.statement_list::statement-returns-in-Break
 statement_list::statement-returns-in-Break t c =
     let e = does_break c.in-Break.label c.in-Break.place (around_of c.args.around.now) c.args.base
     c.args.draft.now in
-    rw (c.in-Break.is, e) c.break_out.ensures
+    rw (c.in-Break.is, e) c.jump_out-in-Break.ensures
 
 pub statement_list::statement-returns-in-Return : goal.statement_list::statement-returns-in-Return
 statement_list::statement-returns-in-Return t c =

@@ -6,6 +6,9 @@ use Rattle.ja_base.specs.declared.ids.Reg.{Reg}
 use Rattle.ja_lower_statements.specs.declared.around.Around.{Around}
 use Rattle.ja_lower_statements.specs.declared.trials.Guarded.{Guarded}
 use Rattle.ja_lower_statements.specs.declared.trials.Kept.{Kept}
+use Rattle.ja_lower_listing.specs.declared.item.Spot.{Spot}
+use Rattle.ja_lower_statements.specs.declared.way.Jump.{Jump}
+use Rattle.ja_lower_statements.specs.declared.way.Jump.TheVariants as jump
 use Rattle.ja_lower_statements.specs.declared.way.Step.{Step}
 use Rattle.ja_lower_statements.specs.declared.way.Step.TheVariants as step
 use Rattle.ja_lower_statements.specs.declared.way.Way.{Way}
@@ -28,6 +31,11 @@ abbrev pub way_of : Way → ways.Way
 way_of way =
     step_of way.step (map (λ t. t.now) way.labels.now) way.text.now
     (option_map (λ t. t.now) way.block)
+
+-- where a jump goes, without or with a label, if it is to a way
+abbrev pub target_of : Jump → Option (List ℕ) → ways.Way → Option Spot
+target_of jump.Break = ways.break_target
+target_of jump.Continue = ways.continue_target
 
 abbrev pub around_of : Around → statements.Around
 around_of a =
