@@ -14,8 +14,6 @@ use Rattle.ja_syntax.specs.declared.tree.Initialiser.{Initialiser}
 use Rattle.ja_syntax.specs.declared.tree.Name.{Name}
 use Rattle.ja_syntax.specs.declared.tree.PropertyName.{PropertyName}
 use Rattle.ja_syntax.specs.declared.tree.PropertyName.TheVariants as property
-use Rattle.ja_syntax.specs.declared.tree.Suffix.{Suffix}
-use Rattle.ja_syntax.specs.declared.tree.Suffix.TheVariants as suffix
 use Rattle.ja_syntax.specs.declared.tree.Case.{Case, roll-Case}
 use Rattle.ja_syntax.specs.declared.tree.Statement.{Statement, roll-Statement}
 use Rattle.ja_syntax.specs.declared.tree.Expression.{Expression, roll-Expression}

@@ -1,6 +1,6 @@
 -- The numbers of whole functions and of the program are in range, and their listings end with
 -- Escape.
-use Rattle.std.proofs.Common.{◌≡◌, ℕ, ◌-◌, Bool, true, false, if◌then◌else◌, List, [], ◌∷◌, ◌++◌, map, length, None, refl, ap, arith}
+use Rattle.std.proofs.Common.{◌≡◌, ℕ, Bool, true, false, if◌then◌else◌, List, [], ◌∷◌, ◌++◌, map, length, None, refl, ap, arith}
 use Rattle.ja_base.specs.declared.ids.Place.{Place}
 use Rattle.ja_prim.specs.declared.primitive.Primitive.TheVariants as primitive
 use Rattle.ja_graph.specs.declared.node.Node.TheVariants.{Return}

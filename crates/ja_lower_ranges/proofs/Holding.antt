@@ -10,12 +10,12 @@ use Rattle.ja_graph.specs.declared.node.Node.TheVariants.{Const, Convert, Move, 
 use Rattle.ja_graph.specs.declared.node.UnaryOp.{UnaryOp}
 use Rattle.ja_lower_listing.specs.declared.item.Spot.{Spot}
 use Rattle.ja_lower_listing.specs.declared.item.Item.TheVariants as item
-use Rattle.ja_lower_draft.specs.Lines.{Listing, Valued, Scene, register, name_id, with_node, with_branch, with_result, with_spot, with_jump, spot_of, behind_spots, restarted, with_default, with_unary, with_number, with_text, with_truth, with_const, with_copy, with_move}
+use Rattle.ja_lower_draft.specs.Lines.{Listing, Valued, Scene, register, name_id, with_node, with_branch, with_result, with_spot, with_jump, behind_spots, restarted, with_default, with_unary, with_number, with_text, with_truth, with_const, with_copy, with_move}
 use Rattle.ja_lower_expressions.specs.Literals.{scope, function_id}
 use Rattle.ja_lower_expressions.specs.References.{Listed, Form}
 use Rattle.ja_lower_expressions.specs.Specials.{is_name}
 use Rattle.ja_lower_names.specs.TextOrder.{Part, Parts, a_function, a_name}
-use Rattle.ja_lower_ranges.specs.InRange.{Limits, IsTemporary, IsDestination}
+use Rattle.ja_lower_ranges.specs.InRange.{Limits, IsTemporary}
 use Rattle.ja_lower_ranges.proofs.LineRanges.{sound_with_item}
 use Rattle.ja_lower_ranges.proofs.NodeRanges.{Asks, in_range}
 use Rattle.ja_lower_ranges.proofs.Sound.{IsSound, IsSoundOutcome}

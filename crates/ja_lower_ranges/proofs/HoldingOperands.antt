@@ -1,5 +1,5 @@
 -- What references and operators list holds.
-use Rattle.std.proofs.Common.{◌≡◌, ◌<◌, ◌+◌, ℕ, Bool, true, false, not, ◌&&◌, if◌then◌else◌, List, [], ◌∷◌, Option, Some, None, is_some, inl, inr, refl}
+use Rattle.std.proofs.Common.{◌≡◌, ℕ, Bool, true, false, not, ◌&&◌, if◌then◌else◌, List, [], ◌∷◌, Option, Some, None, is_some, inl, inr, refl}
 use Rattle.ja_base.specs.declared.ids.Place.{Place}
 use Rattle.ja_base.specs.declared.ids.Reg.{Reg}
 use Rattle.ja_prim.specs.declared.primitive.Primitive.TheVariants as primitive
@@ -12,7 +12,6 @@ use Rattle.ja_syntax.specs.declared.tree.UpdateOperator.TheVariants.{IncrementBe
 use Rattle.ja_graph.specs.declared.node.BinaryOp.{BinaryOp}
 use Rattle.ja_graph.specs.declared.node.Hint.TheVariants as hint
 use Rattle.ja_graph.specs.declared.node.Node.TheVariants.{Branch, Convert, Binary, FindName, ReadRef, ReadSoft, DeleteRef, ToObject, ReadProp, DeleteProp, NeedObject, HasProp, InstanceOf}
-use Rattle.ja_lower_listing.specs.declared.item.Spot.{Spot}
 use Rattle.ja_lower_expressions.specs.declared.outcome.Outcome.{Outcome}
 use Rattle.ja_lower_expressions.specs.declared.outcome.Outcome.TheVariants.{Value, Name, Member}
 use Rattle.ja_lower_expressions.specs.declared.outcome.Outcome.TheVariants as outcome

@@ -6,7 +6,6 @@ use Rattle.ja_base.specs.declared.ids.Reg.{Reg}
 use Rattle.ja_graph.specs.declared.node.BinaryOp.TheVariants.{StrictEq}
 use Rattle.ja_graph.specs.declared.node.Node.TheVariants.{Binary, Branch, Names, Pick}
 use Rattle.ja_lower_listing.specs.declared.item.Spot.{Spot}
-use Rattle.ja_lower_listing.specs.declared.item.Item.{Item}
 use Rattle.ja_syntax.specs.declared.tree.Name.{Name}
 use Rattle.ja_syntax.specs.declared.tree.CatchOf.{CatchOf}
 use Rattle.ja_syntax.specs.declared.tree.Declaration.{Declaration}
@@ -16,7 +15,7 @@ use Rattle.ja_syntax.specs.declared.tree.ForFirst.TheVariants as first
 use Rattle.ja_syntax.specs.declared.tree.ForTarget.{ForTarget}
 use Rattle.ja_syntax.specs.declared.tree.ForTarget.TheVariants as target
 use Rattle.ja_lower_draft.specs.Copies.{Template, with_block}
-use Rattle.ja_lower_draft.specs.Lines.{Listing, Scene, register, spot_of, behind_spots, restarted, with_jump, with_spot}
+use Rattle.ja_lower_draft.specs.Lines.{Listing, register, spot_of, behind_spots, restarted, with_spot}
 use Rattle.ja_lower_expressions.specs.References.{Form, value_of, with_name}
 use Rattle.ja_lower_expressions.specs.Literals.{scope}
 use Rattle.ja_lower_statements.specs.Statements.{Around, Does, list_all_statements, declare_with, declare_one, declare_all, with_condition, list_branch, list_then, list_else, list_if_alone, list_if, list_do, list_while, for_condition, for_update, for_first, list_for, for_in_reference, for_in_first, list_for_in, returned, list_return, list_throw, list_labelled, Clause, list_test, list_tests, default_or, default_spot, list_bodies, list_switch, count, list_guarded, list_handler, list_caught, list_catch, keep_block, list_rethrow, list_ways_out, list_finally, list_try}
@@ -30,7 +29,7 @@ use Rattle.ja_lower_ranges.proofs.HoldingOperands.{holds_put_value, holds_object
 use Rattle.ja_lower_ranges.proofs.Sound.{IsSoundBlock, IsSoundWay}
 use Rattle.ja_lower_ranges.proofs.SpotCopies.{IsBlock, block_later, kept_with_block, listed_block}
 use Rattle.ja_lower_ranges.proofs.SpotCounts.{free, taken, pending_times, Among, IsBelow, AreBelow, below_later, below_append, among_more, spot_map}
-use Rattle.ja_lower_ranges.proofs.SpotLines.{KeptAt, begun, handler_now, take, nth, on_from_inside}
+use Rattle.ja_lower_ranges.proofs.SpotLines.{begun, handler_now, take, nth, on_from_inside}
 use Rattle.ja_lower_ranges.proofs.SpotWays.{IsKnownWay, AreKnown, ways_later, IsTarget, kept_jump_to, kept_leave_all}
 
 -- ---- what is around a statement

@@ -1,15 +1,11 @@
 -- Listings whose numbers are in range.
-use Rattle.std.proofs.Common.{◌≡◌, ◌<◌, ℕ, List, true}
+use Rattle.std.proofs.Common.{◌≡◌, ◌<◌, List, true}
 use Rattle.std.specs.List.{AllByRecursion}
 use Rattle.ja_lower_expressions.specs.declared.outcome.Outcome.{Outcome}
 use Rattle.ja_lower_expressions.specs.declared.outcome.Outcome.TheVariants as outcome
-use Rattle.ja_lower_draft.specs.Lines.{Listing, Valued, Scene}
-use Rattle.ja_lower_expressions.specs.References.{Listed, Form}
+use Rattle.ja_lower_draft.specs.Lines.{Listing}
 use Rattle.ja_lower_statements.specs.Ways.{Way, of_loop, of_switch, of_label, of_catch, of_finally}
-use Rattle.ja_lower_statements.specs.Statements.{Around, Does}
-use Rattle.ja_lower_names.specs.TextOrder.{Parts}
-use Rattle.ja_lower_ranges.specs.Found.{HasParts}
-use Rattle.ja_lower_ranges.specs.InRange.{Limits, IsTemporary, IsInRange, OfNodes, limits_of}
+use Rattle.ja_lower_ranges.specs.InRange.{Limits, IsTemporary, IsInRange, OfNodes}
 use Rattle.ja_lower_listing.specs.Laws.{IsWhole}
 use Rattle.ja_lower_listing.specs.declared.item.Block.{Block}
 use Rattle.ja_lower_listing.specs.declared.item.Item.{Item}
