@@ -129,7 +129,8 @@ module _ {t : Text} {c : Context t} where
       → IsTarget target → HoldWays t (c.pending ++ c.known) c.from.spot ways → Holds c l
       → Holds c (jump_to (scene_at c) place target ways (leaving l))
   holds_jump_to {l} {ways} place target goes w h = record {
-    numbers = sound_jump_to (bounds t) (scene_at c) place target ways (leaving l) w.numbers h.numbers;
+    numbers = sound_jump_to (bounds t) (scene_at c) place target ways (leaving l) w.numbers
+        h.numbers;
     spots = kept_jump_to place target goes ways (leaving l) w.spots h.spots;
   }
 
@@ -137,7 +138,8 @@ module _ {t : Text} {c : Context t} where
       → HoldWays t (c.pending ++ c.known) c.from.spot ways → Holds c l
       → Holds c (leave_all (scene_at c) place value ways (leaving l))
   holds_leave_all {l} {ways} place value w h = record {
-    numbers = sound_leave_all (bounds t) (scene_at c) place value ways (leaving l) w.numbers h.numbers;
+    numbers = sound_leave_all (bounds t) (scene_at c) place value ways (leaving l) w.numbers
+        h.numbers;
     spots = kept_leave_all place value ways (leaving l) w.spots h.spots;
   }
 
