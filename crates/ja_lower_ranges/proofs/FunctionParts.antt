@@ -14,8 +14,6 @@ use Rattle.ja_syntax.specs.declared.tree.Initialiser.{Initialiser}
 use Rattle.ja_syntax.specs.declared.tree.Name.{Name}
 use Rattle.ja_syntax.specs.declared.tree.PropertyName.{PropertyName}
 use Rattle.ja_syntax.specs.declared.tree.PropertyName.TheVariants as property
-use Rattle.ja_syntax.specs.declared.tree.Suffix.{Suffix}
-use Rattle.ja_syntax.specs.declared.tree.Suffix.TheVariants as suffix
 use Rattle.ja_syntax.specs.declared.tree.Case.{Case, roll-Case}
 use Rattle.ja_syntax.specs.declared.tree.Statement.{Statement, roll-Statement}
 use Rattle.ja_syntax.specs.declared.tree.Expression.{Expression, roll-Expression}
@@ -26,6 +24,7 @@ use Rattle.ja_lower_names.specs.TextOrder.{Parts, one_name, one_variable, if_any
 use Rattle.ja_lower_names.specs.code.TextOrder.{in_expression, in_case}
 use Rattle.ja_lower_names.proofs.TextOrderLemmas.{Expressions, Statements, Cases, expression_layer, statement_layer, case_layer, expression_opened, statement_opened, function_layer}
 use Rattle.ja_lower_ranges.specs.Found.{HasPart, HasParts, HasText, HasFunction}
+use Rattle.ja_lower_ranges.proofs.HoldingExpressions.{each_option, each_suffix}
 
 -- a scene that has parts has those of each function among them
 record Carries (scene : Scene) (parts : Parts) : Type 0 where
@@ -138,20 +137,6 @@ module _ (scene : Scene) where
   body (x ∷ xs) =
       both (in_statement x.0) (flat_map in_statement (map (λ (y : FineStatement). y.0) xs)) x.1
       (body xs)
-
-  each_option : {A : Type 0} (P : Option A → Type 0) → P None → ((e : A) → P (Some e))
-      → (x : Option A) → P x
-  each_option P empty full None = empty
-  each_option P empty full (Some e) = full e
-
-  each_suffix : (P : Suffix Fine → Type 0)
-      → ((name : Name) (place : Place) → P (suffix.Member name place))
-      → ((key : Fine) (place : Place) → P (suffix.Index key place))
-      → ((arguments : List Fine) (place : Place) → P (suffix.Call arguments place))
-      → (x : Suffix Fine) → P x
-  each_suffix P member index call (suffix.Member name place) = member name place
-  each_suffix P member index call (suffix.Index key place) = index key place
-  each_suffix P member index call (suffix.Call arguments place) = call arguments place
 
   -- a function in a level
   function : (f : FunctionOf FineStatement)

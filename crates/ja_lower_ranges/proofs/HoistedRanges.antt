@@ -14,40 +14,39 @@ use Rattle.ja_syntax.specs.declared.tree.Statement.{Statement, roll-Statement}
 use Rattle.ja_syntax.specs.declared.tree.Expression.{Expression}
 use Rattle.ja_syntax.specs.declared.tree.Expression.TheOpen.{Statement-F, Case-F}
 use Rattle.ja_syntax.specs.declared.tree.Expression.TheFolds.{fold-Expression, fold-roll-Statement, fold-roll-Case, para-roll-Case, ind-Statement, map-Statement, map-Case}
-use Rattle.ja_lower_draft.specs.Lines.{Scene}
 use Rattle.ja_lower_names.specs.TextOrder.{Parts, if_any, in_name, in_initialiser, in_declaration, expression_step, statement_step, case_step, in_statement}
 use Rattle.ja_lower_names.specs.code.TextOrder.{in_expression, in_case}
 use Rattle.ja_lower_names.proofs.TextOrderLemmas.{Expressions, Statements, Cases, statement_layer, case_layer, statement_opened}
-use Rattle.ja_lower_ranges.specs.Found.{HasName, HasPart, HasParts, HasText}
+use Rattle.ja_lower_ranges.proofs.Holding.{Text, ReachesName, Reaches, ReachesAll}
 
--- a scene that has the parts has each of the names
+-- where the parts of a text are reached, each of the names is
 record Tells (parts : Parts) (names : Texts) : Type 0 where
-  told : (scene : Scene) → HasParts scene parts → AllByRecursion (HasName scene) names
+  told : (t : Text) → ReachesAll t parts → AllByRecursion (ReachesName t) names
 
 tells_nothing : (parts : Parts) → Tells parts []
-tells_nothing parts = record { told = λ scene has. tt }
+tells_nothing parts = record { told = λ t has. tt }
 
 tells_both : (first second : Parts) (before behind : Texts) → Tells first before
     → Tells second behind → Tells (first ++ second) (before ++ behind)
 tells_both first second before behind h i = record {
-  told = λ scene has.
-      all_append (HasName scene) before behind
-      (h.told scene (all_left (HasPart scene) first second has))
-      (i.told scene (all_right (HasPart scene) first second has));
+  told = λ t has.
+      all_append (ReachesName t) before behind
+      (h.told t (all_left (Reaches t) first second has))
+      (i.told t (all_right (Reaches t) first second has));
 }
 
 tells_first : (first second : Parts) (names : Texts) → Tells first names
     → Tells (first ++ second) names
 tells_first first second names h =
-    record { told = λ scene has. h.told scene (all_left (HasPart scene) first second has) }
+    record { told = λ t has. h.told t (all_left (Reaches t) first second has) }
 
 tells_second : (first second : Parts) (names : Texts) → Tells second names
     → Tells (first ++ second) names
 tells_second first second names h =
-    record { told = λ scene has. h.told scene (all_right (HasPart scene) first second has) }
+    record { told = λ t has. h.told t (all_right (Reaches t) first second has) }
 
 tells_name : (n : Name) → Tells (in_name n) (n.text ∷ [])
-tells_name n = record { told = λ scene has. (has.0 refl, tt) }
+tells_name n = record { told = λ t has. (has.0 refl, tt) }
 
 -- ---- a level, in which each statement stands with the fact
 
@@ -234,10 +233,10 @@ tells_body (x ∷ xs) =
     tells_both (in_statement x) (flat_map in_statement xs) (variables_of x)
     (flat_map variables_of xs) (tells_variables x) (tells_body xs)
 
--- a scene that has the text of a body has each variable that the body declares
-pub hoisted_found : (scene : Scene) (statements : List Statement) → HasText scene statements
-    → AllByRecursion (HasName scene) (hoisted_variables statements)
+-- where a body is reached, each variable that it declares is
+pub hoisted_reached : (t : Text) (statements : List Statement)
+    → ReachesAll t (flat_map in_statement statements)
+    → AllByRecursion (ReachesName t) (hoisted_variables statements)
 unfolding hoisted_variables
-hoisted_found scene statements has =
-    all_once (HasName scene) (flat_map variables_of statements)
-    ((tells_body statements).told scene has)
+hoisted_reached t statements has =
+    all_once (ReachesName t) (flat_map variables_of statements) ((tells_body statements).told t has)

@@ -1,15 +1,11 @@
--- What each part of a listing keeps.
-use Rattle.std.proofs.Common.{◌≡◌, ◌<◌, ℕ, List, true}
+-- Listings whose numbers are in range.
+use Rattle.std.proofs.Common.{◌≡◌, ◌<◌, List, true}
 use Rattle.std.specs.List.{AllByRecursion}
 use Rattle.ja_lower_expressions.specs.declared.outcome.Outcome.{Outcome}
 use Rattle.ja_lower_expressions.specs.declared.outcome.Outcome.TheVariants as outcome
-use Rattle.ja_lower_draft.specs.Lines.{Listing, Valued, Scene}
-use Rattle.ja_lower_expressions.specs.References.{Listed, Form}
+use Rattle.ja_lower_draft.specs.Lines.{Listing}
 use Rattle.ja_lower_statements.specs.Ways.{Way, of_loop, of_switch, of_label, of_catch, of_finally}
-use Rattle.ja_lower_statements.specs.Statements.{Around, Does}
-use Rattle.ja_lower_names.specs.TextOrder.{Parts}
-use Rattle.ja_lower_ranges.specs.Found.{HasParts}
-use Rattle.ja_lower_ranges.specs.InRange.{Limits, IsTemporary, IsInRange, OfNodes, limits_of}
+use Rattle.ja_lower_ranges.specs.InRange.{Limits, IsTemporary, IsInRange, OfNodes}
 use Rattle.ja_lower_listing.specs.Laws.{IsWhole}
 use Rattle.ja_lower_listing.specs.declared.item.Block.{Block}
 use Rattle.ja_lower_listing.specs.declared.item.Item.{Item}
@@ -33,11 +29,6 @@ pub record IsSound (limits : Limits) (l : Listing) : Type 0 where
   pub nodes : AreSoundLines limits l.items
   pub next : IsTemporary limits l.temporary
 
--- so is the register of a value
-pub record IsSoundValued (limits : Limits) (v : Valued) : Type 0 where
-  pub listing : IsSound limits v.listing
-  pub value : IsTemporary limits v.value.0
-
 -- what an expression comes to: the register of a value is a temporary, and the number of a name is
 -- that of one; a special form is where names may be special forms
 abbrev pub IsSoundOutcome : Limits → Outcome → Type 0
@@ -45,18 +36,6 @@ IsSoundOutcome limits (outcome.Value v) = IsTemporary limits v.0
 IsSoundOutcome limits (outcome.Name base name place) = name.0 < limits.names
 IsSoundOutcome limits (outcome.Member object key place) = Unit {0}
 IsSoundOutcome limits (outcome.Special form place) = limits.specials ≡ true
-
-pub record IsSoundListed (limits : Limits) (r : Listed) : Type 0 where
-  pub listing : IsSound limits r.listing
-  pub outcome : IsSoundOutcome limits r.outcome
-
--- an expression, in any function of any program that has these names and functions
-abbrev pub IsSoundForm : Parts → Form → Type 0
-IsSoundForm parts x =
-    (parameters : ℕ) (scene : Scene) (l : Listing)
-    → HasParts scene parts
-    → IsSound (limits_of parameters scene) l
-    → IsSoundListed (limits_of parameters scene) (x scene l)
 
 -- a way that a jump leaves: the block of a `finally` is in range, and its temporaries begin at one
 abbrev pub IsSoundWay : Limits → Way → Type 0
@@ -66,13 +45,3 @@ IsSoundWay limits (of_label label end) = Unit {0}
 IsSoundWay limits (of_catch saved) = Unit {0}
 IsSoundWay limits (of_finally saved t) =
     IsSoundBlock limits t.block × IsTemporary limits t.temporary
-
--- a statement
-abbrev pub IsSoundDoes : Parts → Does → Type 0
-IsSoundDoes parts d =
-    (parameters : ℕ) (around : Around) (base : ℕ) (l : Listing)
-    → HasParts around.scene parts
-    → AllByRecursion (IsSoundWay (limits_of parameters around.scene)) around.ways
-    → IsTemporary (limits_of parameters around.scene) base
-    → IsSound (limits_of parameters around.scene) l
-    → IsSound (limits_of parameters around.scene) (d around base l)

@@ -1,6 +1,6 @@
 -- What a listing keeps of its spots while lines are added: each that is taken stands once or is
 -- pending, and lines lead to taken ones.
-use Rattle.std.proofs.Common.{◌≡◌, ◌<◌, ◌≤◌, ◌+◌, ℕ, List, [], ◌∷◌, ◌++◌, Option, Some, None, arith}
+use Rattle.std.proofs.Common.{◌≡◌, ◌<◌, ◌≤◌, ◌+◌, ℕ, List, [], ◌∷◌, ◌++◌, Option, Some, None, le_refl, arith}
 use Rattle.std.specs.List.{AllByRecursion}
 use Rattle.ja_base.specs.declared.ids.Place.{Place}
 use Rattle.ja_graph.specs.declared.node.Node.{Node}
@@ -84,39 +84,26 @@ pub branch : {scene : Scene} {ks ps : List Spot} {o : Listing} {items : List Ite
 branch {scene = scene} node place other there k =
     one_with node place (Some other) scene.handler (below_now other k there) (handler_now k) k
 
+-- a jump back, to a spot taken before one of these
+pub jump_back : {scene : Scene} {ks ps : List Spot} {o : Listing} {items : List Item} {n : ℕ}
+    (p s : Spot) → Among (ps ++ ks) p → s.0 ≤ p.0 → Kept scene ks ps o items n
+    → Kept scene ks ps o (items ++ item.Jump s ∷ []) n
+unfolding times
+jump_back {scene} {ks} {ps} {o} {items} {n} p s there before k = record {
+  handler = k.handler;
+  known = k.known;
+  pending = k.pending;
+  low = k.low;
+  stand = λ i. omega (arith, k.stand i, times_append i items (item.Jump s ∷ []));
+  led = λ h. edges_append (IsBelow n) items (item.Jump s ∷ []) (k.led h)
+      (omega (arith, before, below_now p k there), tt);
+}
+
 -- a jump to a pending spot or to one that is known
 pub jump : {scene : Scene} {ks ps : List Spot} {o : Listing} {items : List Item} {n : ℕ} (s : Spot)
     → Among (ps ++ ks) s → Kept scene ks ps o items n
     → Kept scene ks ps o (items ++ item.Jump s ∷ []) n
-unfolding times
-jump {scene} {ks} {ps} {o} {items} {n} s there k =
-    record {
-      handler = k.handler;
-      known = k.known;
-      pending = k.pending;
-      low = k.low;
-      stand = λ i. omega (arith, k.stand i, times_append i items (item.Jump s ∷ []));
-      led =
-          λ h. edges_append (IsBelow n) items (item.Jump s ∷ []) (k.led h)
-          (below_now s k there, tt);
-    }
-
--- a jump back, to a spot taken before a pending one
-pub jump_back : {scene : Scene} {ks ps : List Spot} {p : Spot} {o : Listing} {items : List Item}
-    {n : ℕ} (s : Spot) → s.0 ≤ p.0 → Kept scene ks (p ∷ ps) o items n
-    → Kept scene ks (p ∷ ps) o (items ++ item.Jump s ∷ []) n
-unfolding times
-jump_back {scene} {ks} {ps} {p} {o} {items} {n} s before k =
-    record {
-      handler = k.handler;
-      known = k.known;
-      pending = k.pending;
-      low = k.low;
-      stand = λ i. omega (arith, k.stand i, times_append i items (item.Jump s ∷ []));
-      led =
-          λ h. edges_append (IsBelow n) items (item.Jump s ∷ []) (k.led h)
-          (omega (arith, before, k.pending.0), tt);
-    }
+jump s there k = jump_back s s there (le_refl s.0) k
 
 -- a pending spot
 pub stands : {scene : Scene} {ks ps : List Spot} {o : Listing} {items : List Item} {n : ℕ}

@@ -9,14 +9,14 @@ ghost use Rattle.ja_lower_statements.specs.Functions.{program_listing, function_
 ghost use Rattle.ja_lower_ranges.specs.Spots.{HasItsSpots};
 
 /// Each spot to which an edge or a jump of a program leads stands in its listing, and only once.
-#[tactic(auto, using(crate::proofs::SpotFunctions::program_has_spots))]
+#[tactic(auto, using(crate::proofs::HoldingFunctions::program_has_spots))]
 pub fn programs_have_their_spots()
     ensures { (scene : Scene) (statements : List Statement)
         → HasItsSpots (program_listing scene statements) }
 {}
 
 /// Each spot to which an edge or a jump of a function leads stands in its listing, and only once.
-#[tactic(auto, using(crate::proofs::SpotFunctions::function_has_spots))]
+#[tactic(auto, using(crate::proofs::HoldingFunctions::function_has_spots))]
 pub fn functions_have_their_spots()
     ensures { (scene : Scene) (f : FunctionOf Statement) → HasItsSpots (function_listing scene f) }
 {}
