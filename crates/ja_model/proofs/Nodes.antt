@@ -22,7 +22,7 @@ use Rattle.ja_graph.specs.Program.{node_at, global, reference_error_prototype, t
 use Rattle.ja_graph.specs.WellFormed.{IsWellFormed, IsNodeWellFormed, IsDestination, IsRegister, IsName, StandsBefore, builtin_names}
 use Rattle.ja_machine.specs.Machine.{program_function, class_of_site}
 use Rattle.ja_machine.proofs.Growing.{IsNodeSite}
-use Rattle.ja_machine.proofs.Nodes.{IsMade, node_makings}
+use Rattle.ja_machine.proofs.Nodes.{IsTold, node_told}
 
 -- ---- the built-in objects and names
 
@@ -74,7 +74,7 @@ site_before p good i s (j, q, before, at, site_is) =
 
 -- the sites of a node stand behind those of the objects that are there when a run begins
 abbrev pub HasNodeSites : Program → Node → Type 0
-HasNodeSites p node = AllByRecursion (IsMade p) (makings node)
+HasNodeSites p node = AllByRecursion (IsTold p) (makings node)
 
 -- the site of the error that a read throws
 pub read_site : (p : Program) (dst base : Reg) (name : NameId) (error : Site)
@@ -138,4 +138,4 @@ module _ (p : Program) (good : IsWellFormed p) (n : NodeId) (info : NodeInfo)
 
   -- .. and its sites behind those of the objects that are there when a run begins
   pub sites_at : HasNodeSites p info.node
-  sites_at = (node_makings p good 0 good.text n.0 info good.text_is node_of_text).each
+  sites_at = node_told p good 0 good.text n.0 info good.text_is node_of_text
