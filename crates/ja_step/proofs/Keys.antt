@@ -1,5 +1,5 @@
 -- Numbers of the profile are keys.
-use Rattle.std.proofs.Common.{◌≡◌, ◌≤ℤ◌, ℤ, pos, negsuc, true, Some, arith}
+use Rattle.std.proofs.Common.{◌≡◌, ◌≤ℤ◌, ℤ, pos, negsuc, true, Some, refl, arith}
 use Rattle.std.specs.Prelude.{neg_ℤ, nat_le, unsigned_abs}
 use Rattle.std.proofs.lemmas.Bool.{le-leb}
 use Rattle.std.proofs.lemmas.Int.{ints}
