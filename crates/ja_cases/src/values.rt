@@ -3,7 +3,7 @@
 use crate::out::Out;
 use crate::primitives;
 use ja_base::{Label, Site};
-use ja_graph::Attrs;
+use ja_graph::{Attrs, NO_ATTRS};
 use ja_model::{Mask, NumberPart, TextPart};
 use ja_prim::{Int, Text16};
 use ja_value::{AProp, AValue, LabelSet, exact_attrs, is_index_text};
@@ -151,8 +151,7 @@ pub fn values(out: &mut Out) {
         ages(out, &value);
         let attrs = exact_attrs(Attrs {
             read_only: true,
-            dont_enum: false,
-            dont_delete: false,
+            ..NO_ATTRS
         });
         property_joins(out, &mut AProp { value, attrs });
     }

@@ -25,7 +25,7 @@ mod well_formed_opening;
 mod well_formed_programs;
 mod well_formed_sites;
 
-pub use attrs::Attrs;
+pub use attrs::{ALL_ATTRS, Attrs, DONT_DELETE, DONT_ENUM, KEPT_HIDDEN, NO_ATTRS};
 pub use builtins::{
     APPLY, ARGUMENTS, ARRAY_PROTOTYPE, BOOLEAN, BOOLEAN_PROTOTYPE, BOOLEAN_TO_STRING,
     BOOLEAN_VALUE_OF, BUILTIN_CLASSES, BUILTIN_NAMES, CALL, CALLEE, ERROR, ERROR_PROTOTYPE,

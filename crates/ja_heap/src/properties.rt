@@ -16,7 +16,7 @@ ghost use Rattle.ja_machine.specs.code.Writes as code;
 ghost use Rattle.ja_heap.specs.code.Slots as kept;
 
 use ja_base::Memory;
-use ja_graph::Attrs;
+use ja_graph::{Attrs, NO_ATTRS};
 use ja_machine::{Content, Property, Value};
 use ja_prim::{Text16, array_index};
 use std::alloc::Global;
@@ -29,13 +29,6 @@ const FEW: usize = 8;
 
 /// How many slots an object begins with. Most objects of a run have one or two properties.
 const FIRST: usize = 2;
-
-/// No attribute is set.
-const NO_ATTRS: Attrs = Attrs {
-    read_only: false,
-    dont_enum: false,
-    dont_delete: false,
-};
 
 /// The properties of an object, in order of insertion. One that is deleted leaves its slot empty,
 /// until more than half of the slots are. Contracts see the list of properties.

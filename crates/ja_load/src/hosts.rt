@@ -9,7 +9,7 @@ ghost use Rattle.ja_prelude.specs.Table.{opening_objects as table_objects};
 
 use ja_base::{FnId, Memory, NameId, Place, Seq, Site};
 use ja_graph::{
-    Attrs, BUILTIN_CLASSES, Class, FUNCTION_PROTOTYPE, GLOBAL, LENGTH, ObjectSpec, PropertySpec,
+    ALL_ATTRS, BUILTIN_CLASSES, Class, DONT_ENUM, FUNCTION_PROTOTYPE, GLOBAL, LENGTH, ObjectSpec, PropertySpec,
     SiteInfo, SpecContent,
 };
 use ja_prelude::opening_objects;
@@ -111,11 +111,7 @@ fn property_named(name: NameId, which: u32) -> PropertySpec
     PropertySpec {
         name,
         content: SpecContent::Object(device_site(which)),
-        attrs: Attrs {
-            read_only: false,
-            dont_enum: true,
-            dont_delete: false,
-        },
+        attrs: DONT_ENUM,
     }
 }
 
@@ -195,11 +191,7 @@ fn device_object(alloc: Global, which: u32) -> Result<ObjectSpec, Memory>
     properties.push(PropertySpec {
         name: LENGTH,
         content: SpecContent::Prim(Primitive::Number(Num::Whole(Int::new(0).unwrap()))),
-        attrs: Attrs {
-            read_only: true,
-            dont_enum: true,
-            dont_delete: true,
-        },
+        attrs: ALL_ATTRS,
     })?;
     Ok(ObjectSpec {
         site: device_site(which),

@@ -8,13 +8,14 @@ use Rattle.std.proofs.lemmas.Cmp.{nat_list_eq_equiv}
 use Rattle.ja_base.specs.declared.ids.Label.{Label}
 use Rattle.ja_base.specs.declared.ids.Site.{Site}
 use Rattle.ja_graph.specs.declared.attrs.Attrs.{Attrs}
+use Rattle.ja_graph.specs.declared.attrs.TheConstants.{NO_ATTRS}
 use Rattle.ja_prim.specs.Texts.{same_text}
 use Rattle.ja_machine.specs.declared.machine.Addr.{Addr}
 use Rattle.ja_machine.specs.declared.machine.Value.{Value}
 use Rattle.ja_machine.specs.declared.machine.Property.{Property}
 use Rattle.ja_machine.specs.declared.machine.Object.{Object}
 use Rattle.ja_machine.specs.declared.machine.Heap.{Heap}
-use Rattle.ja_machine.specs.Heap.{count, object_at, with_new, new_address, with_object, property_of, no_attrs}
+use Rattle.ja_machine.specs.Heap.{count, object_at, with_new, new_address, with_object, property_of}
 use Rattle.ja_machine.specs.Writes.{with_value, object_with_value}
 use Rattle.ja_machine.specs.State.{IsObjectOf}
 use Rattle.ja_machine.proofs.Heaps
@@ -106,7 +107,7 @@ text_same t u e = text_is t u (sym e)
 
 -- the attributes after a write
 abbrev pub attrs_after : Option Property → Attrs
-attrs_after None = no_attrs
+attrs_after None = NO_ATTRS
 attrs_after (Some q) = q.attrs
 
 -- a text is the same as itself

@@ -9,10 +9,10 @@ ghost use Rattle.ja_machine.specs.Objects as objects;
 ghost use Rattle.ja_prim.specs.Texts.{same_text};
 
 use crate::arguments::{argument, argument_count, index_text, object_or_undefined};
-use crate::made::{DONT_DELETE, DONT_ENUM, first_of};
+use crate::made::first_of;
 use crate::messages::name_text;
 use ja_base::{FnId, Memory, NameId};
-use ja_graph::{Class, OBJECT_PROTOTYPE, Program};
+use ja_graph::{Class, DONT_DELETE, DONT_ENUM, OBJECT_PROTOTYPE, Program};
 use ja_heap::Object;
 use ja_machine::{Addr, Content, Slots, Value};
 use ja_prim::Text16;

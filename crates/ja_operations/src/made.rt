@@ -8,50 +8,15 @@ ghost use Rattle.ja_machine.specs.Writes.{whole_number};
 
 use ja_base::{Memory, Site};
 use ja_graph::{
-    ARRAY_PROTOTYPE, Attrs, BOOLEAN_PROTOTYPE, Class, ERROR_PROTOTYPE, EVAL_ERROR_PROTOTYPE,
-    ErrorKind, FUNCTION_PROTOTYPE, Made, NUMBER_PROTOTYPE, OBJECT_PROTOTYPE, RANGE_ERROR_PROTOTYPE,
-    REFERENCE_ERROR_PROTOTYPE, STRING_PROTOTYPE, SYNTAX_ERROR_PROTOTYPE, TYPE_ERROR_PROTOTYPE,
-    URI_ERROR_PROTOTYPE,
+    ALL_ATTRS, ARRAY_PROTOTYPE, BOOLEAN_PROTOTYPE, Class, DONT_DELETE, DONT_ENUM, ERROR_PROTOTYPE,
+    EVAL_ERROR_PROTOTYPE, ErrorKind, FUNCTION_PROTOTYPE, KEPT_HIDDEN, Made, NO_ATTRS,
+    NUMBER_PROTOTYPE, OBJECT_PROTOTYPE, RANGE_ERROR_PROTOTYPE, REFERENCE_ERROR_PROTOTYPE,
+    STRING_PROTOTYPE, SYNTAX_ERROR_PROTOTYPE, TYPE_ERROR_PROTOTYPE, URI_ERROR_PROTOTYPE,
 };
 use ja_heap::Object;
 use ja_machine::{Addr, Content, Slots, Value};
 use ja_prim::{Int, Num, Primitive, Text16};
 use std::alloc::Global;
-
-/// No attribute is set.
-const NO_ATTRS: Attrs = Attrs {
-    read_only: false,
-    dont_enum: false,
-    dont_delete: false,
-};
-
-/// The attributes of a variable (ES3 10.1.3).
-pub const DONT_DELETE: Attrs = Attrs {
-    read_only: false,
-    dont_enum: false,
-    dont_delete: true,
-};
-
-/// The attributes of a `constructor` (13.2) and of what an arguments object has (10.1.8).
-pub(crate) const DONT_ENUM: Attrs = Attrs {
-    read_only: false,
-    dont_enum: true,
-    dont_delete: false,
-};
-
-/// The attributes of an array's length (15.4.5.2).
-const KEPT_HIDDEN: Attrs = Attrs {
-    read_only: false,
-    dont_enum: true,
-    dont_delete: true,
-};
-
-/// The attributes of the length of a text (15.5.5.1) and of a function (15.3.5.1).
-const ALL_ATTRS: Attrs = Attrs {
-    read_only: true,
-    dont_enum: true,
-    dont_delete: true,
-};
 
 /// The only object of a site without a node.
 pub fn first_of(site: Site) -> Addr

@@ -12,9 +12,9 @@ ghost use Rattle.ja_step.specs.code.Steps.{held, standing, leads_to};
 
 use crate::Conf;
 use ja_base::{FnId, Memory, NameId, Reg, ScopeKind, Site};
-use ja_graph::{Attrs, NodeInfo, Program, SCOPE};
+use ja_graph::{Attrs, DONT_DELETE, NodeInfo, Program, SCOPE};
 use ja_machine::{Addr, Content, End, Value};
-use ja_operations::made::{DONT_DELETE, function_object, prototype_object, scope_object};
+use ja_operations::made::{function_object, prototype_object, scope_object};
 use ja_operations::messages::name_text;
 use ja_prim::Primitive;
 use std::alloc::Global;
@@ -146,8 +146,7 @@ impl Conf {
                 let value = self.frame.held(alloc, src)?;
                 let attrs = Attrs {
                     read_only,
-                    dont_enum: false,
-                    dont_delete: true,
+                    ..DONT_DELETE
                 };
                 self.heap
                     .define(alloc, a, name, Content::Value(value), attrs)?;

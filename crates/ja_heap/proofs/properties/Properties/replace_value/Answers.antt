@@ -1,8 +1,8 @@
 use Rattle.std.proofs.Common.{◌≡◌, ◌∙◌, ℕ, List, Some, None, true, false, sym, ap, refl}
 use Rattle.std.specs.Prelude.{find, is_some}
+use Rattle.ja_graph.specs.declared.attrs.TheConstants.{NO_ATTRS}
 use Rattle.ja_machine.specs.declared.machine.Content.TheVariants as contents
 use Rattle.ja_machine.specs.declared.machine.Property.{Property}
-use Rattle.ja_machine.specs.Heap.{no_attrs}
 use Rattle.ja_machine.specs.Writes.{new_property, with_value}
 use Rattle.ja_heap.specs.code.Slots.{live, slot_of}
 use Rattle.ja_heap.proofs.InSlots as slots
@@ -39,7 +39,7 @@ returns c =
     let at : slot_of name xs ≡ Some i = ap (slot_of name) (sym c.as_slice.ensures.value)
     ∙ (sym c.slot_of.ensures.slot ∙ c.in-Some.is) in
     let change : Property → Property = λ q. record q { content = contents.Value c.args.v } in
-    let new : List ℕ → Property = λ n. new_property n (contents.Value c.args.v) no_attrs in
+    let new : List ℕ → Property = λ n. new_property n (contents.Value c.args.v) NO_ATTRS in
     let there : is_some (find (slots.is_named name) c.args.self.now)
     ≡ true = ap (λ (qs : List Property). is_some (find (slots.is_named name) qs))
     (sym c.self.view_is) ∙ slots.is_found name xs i at in
