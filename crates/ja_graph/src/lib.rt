@@ -40,7 +40,9 @@ pub use builtins::{
 pub use facts::may_throw;
 pub use node::{Args, BinaryOp, ErrorKind, Hint, Made, Node, NodeInfo, UnaryOp, Wrappers};
 pub use node_registers::registers_with;
-pub use program::{Class, Function, ObjectSpec, Program, PropertySpec, SiteInfo, SpecContent};
+pub use program::{
+    Class, Function, MAX_DEVICES, ObjectSpec, Program, PropertySpec, SiteInfo, SpecContent,
+};
 pub use registers::{CALLEE_REGISTER, COUNT, FIXED_REGISTERS, REST, SCOPE, THIS, THROWN};
 pub use renaming::{Renames, renamed};
 pub use sites::{Making, NodeMakings, makings};

@@ -3,6 +3,7 @@
 ghost use Rattle.std.specs.Prelude.{◌≡◌, [], ◌≤◌, length, IfOk};
 ghost use Rattle.ja_graph.specs.declared.builtins.TheConstants as builtins;
 ghost use Rattle.ja_prim.specs.declared.primitive.Primitive.TheVariants as primitive;
+ghost use Rattle.ja_prim.specs.Judged.{max_magnitude};
 ghost use Rattle.ja_machine.specs.Objects as objects;
 ghost use Rattle.ja_machine.specs.Writes.{whole_number};
 
@@ -27,7 +28,7 @@ pub fn first_of(site: Site) -> Addr
 
 /// A whole number, of at most 9,007,199,254,740,991.
 pub(crate) fn whole_number(n: u64) -> Value
-    requires { n ≤ 9007199254740991 }
+    requires { n ≤ max_magnitude }
     ensures { result ≡ whole_number n }
 {
     Value::Primitive(Primitive::Number(Num::Whole(Int::new(n as i64).unwrap())))
@@ -169,7 +170,7 @@ pub fn function_object(
     chain: Addr,
     prototype: Addr,
 ) -> Result<Object, Memory>
-    requires { parameters ≤ 9007199254740991 }
+    requires { parameters ≤ max_magnitude }
     ensures { IfOk result (λ o. o ≡ objects.function_object parameters chain prototype) }
 {
     let length = Text16::from_ascii(alloc, b"length")?;
