@@ -1,6 +1,6 @@
 //! Properties in order of insertion. Each stays in its slot, so that none is moved where another is
 //! deleted.
-ghost use Rattle.std.specs.Prelude.{◌≡◌, ◌<◌, ◌++◌, ◌∷◌, [], true, not, if◌then◌else◌};
+ghost use Rattle.std.specs.Prelude.{◌≡◌, ◌<◌, ◌≤◌, ◌++◌, ◌∷◌, [], true, not, if◌then◌else◌};
 ghost use Rattle.std.specs.Prelude.{Some, IfSome, OnOk, OnErr, is_some};
 ghost use Rattle.std.specs.Prelude.{ℕ, ◌-◌, List, nat_eq, ◌||◌, length, take, find, filter, map};
 ghost use Rattle.std.specs.Cmp.Lexicographic.{pointwise};
@@ -35,8 +35,6 @@ const FIRST: usize = 2;
 #[derive(Drop)]
 pub(crate) struct Properties {
     slots: Vec<Option<Property>>,
-    /// How many slots are empty.
-    empty: usize,
     /// The slot of each name. Where there is none, the slots are looked through.
     places: Option<Box<HashMap<Text16, usize>>>,
 }
@@ -265,6 +263,16 @@ fn without_name(
     }
 }
 
+/// How many slots are empty: those that no name of the table has, where there is one.
+fn empty_slots(slots: &[Option<Property>], places: &Option<Box<HashMap<Text16, usize>>>) -> usize
+    ensures { result ≤ length slots.now }
+{
+    match places {
+        Some(table) => slots.len().saturating_sub(table.len()),
+        None => slots.iter().filter(|slot| slot.is_none()).count(),
+    }
+}
+
 /// Whether what is in a slot isn't an element from a new length of an array on, below the old one.
 fn stays(new: u32, old: i64, slot: &Option<Property>) -> bool
     ensures { result ≡ kept.stays new old slot.now }
@@ -315,7 +323,6 @@ impl Properties {
     {
         Properties {
             slots: Vec::new(alloc),
-            empty: 0,
             places: None,
         }
     }
@@ -460,8 +467,8 @@ impl Properties {
                 self.slots[i] = None;
                 let places = self.places.take();
                 self.places = without_name(places, name);
-                self.empty = self.empty.saturating_add(1);
-                if self.empty > self.slots.len() / 2 {
+                let empty = empty_slots(self.slots.as_slice(), &self.places);
+                if empty > self.slots.len() / 2 {
                     self.close_gaps();
                 }
             }
@@ -477,7 +484,6 @@ impl Properties {
                 ensures { result ≡ is_some slot.now }
             { slot.is_some() },
         );
-        self.empty = 0;
         let places = self.places.take();
         self.places = placed_anew(places, self.slots.as_slice());
     }
@@ -502,7 +508,6 @@ impl Properties {
                 ensures { result ≡ kept.stays new old slot.now }
             { stays(new, old, slot) },
         );
-        self.empty = 0;
         let places = self.places.take();
         self.places = placed_anew(places, self.slots.as_slice());
     }
