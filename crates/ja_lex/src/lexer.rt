@@ -72,17 +72,13 @@ fn first_element(alloc: Global, texts: &mut Texts, text: &[char]) -> Result<Elem
     } else if begins_comment(text, '*') {
         Ok(long_comment(text))
     } else if begins_number(text) {
-        let element = number(alloc, text)?;
-        Ok(element)
+        Ok(number(alloc, text)?)
     } else if begins_word(text) {
-        let element = word(alloc, texts, text)?;
-        Ok(element)
+        Ok(word(alloc, texts, text)?)
     } else if begins_string(text) {
-        let element = string(alloc, texts, text)?;
-        Ok(element)
+        Ok(string(alloc, texts, text)?)
     } else {
-        let element = mark(alloc, texts, text)?;
-        Ok(element)
+        Ok(mark(alloc, texts, text)?)
     }
 }
 
