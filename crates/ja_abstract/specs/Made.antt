@@ -12,13 +12,13 @@ use Rattle.ja_base.specs.declared.ids.FnId.{FnId}
 use Rattle.ja_prim.specs.declared.primitive.Num.TheVariants.{Whole}
 use Rattle.ja_prim.specs.declared.primitive.Primitive.TheVariants as primitive
 use Rattle.ja_graph.specs.declared.attrs.Attrs.{Attrs}
+use Rattle.ja_graph.specs.declared.attrs.TheConstants.{ALL_ATTRS, DONT_DELETE, DONT_ENUM, KEPT_HIDDEN, NO_ATTRS}
 use Rattle.ja_graph.specs.declared.builtins.TheConstants as builtins
 use Rattle.ja_graph.specs.declared.node.Made.{Made}
 use Rattle.ja_graph.specs.declared.node.Made.TheVariants as made
 use Rattle.ja_graph.specs.declared.program.Program.{Program}
 use Rattle.ja_graph.specs.declared.program.Function.{Function}
-use Rattle.ja_machine.specs.Heap.{no_attrs}
-use Rattle.ja_machine.specs.Objects.{dont_enum, dont_delete, kept_hidden, all_attrs, prototype_of_error}
+use Rattle.ja_machine.specs.Objects.{prototype_of_error}
 use Rattle.ja_machine.specs.Frames.{scope, parameters_of}
 use Rattle.ja_abstract.specs.declared.abstraction.NumberPart.{NumberPart}
 use Rattle.ja_abstract.specs.declared.abstraction.NumberPart.TheVariants as number_part
@@ -72,13 +72,13 @@ value_key = key.Slot slot.Value
 abbrev pub error_own : Site → List ℕ → Own
 error_own proto message =
     own_of (inherits proto
-    ∷ property_of (key.Name builtins.MESSAGE) (of_primitive (primitive.Text message)) no_attrs ∷ [])
+    ∷ property_of (key.Name builtins.MESSAGE) (of_primitive (primitive.Text message)) NO_ATTRS ∷ [])
 
 abbrev pub empty_own : Made → Own
 empty_own made.Object = own_of (inherits builtins.OBJECT_PROTOTYPE ∷ [])
 empty_own made.Array =
     own_of (inherits builtins.ARRAY_PROTOTYPE ∷ property_of length_key
-    (whole_constant 0) kept_hidden ∷ [])
+    (whole_constant 0) KEPT_HIDDEN ∷ [])
 empty_own (made.Error kind) = own_of (inherits (prototype_of_error kind) ∷ [])
 
 abbrev pub wrapper_own : Site → AbstractValue → Own
@@ -93,7 +93,7 @@ abbrev pub text_own : TextPart → Own
 text_own part =
     own_of (inherits builtins.STRING_PROTOTYPE
     ∷ slot_of value_key (record no_value { text = part })
-    ∷ property_of length_key (length_of_text part) all_attrs ∷ [])
+    ∷ property_of length_key (length_of_text part) ALL_ATTRS ∷ [])
 
 abbrev pub scope_own : Labels → Own
 scope_own chain = own_of (inherits builtins.OBJECT_PROTOTYPE ∷ slot_of outer (of_labels chain) ∷ [])
@@ -102,13 +102,13 @@ abbrev pub function_own : Program → FnId → Labels → Label → Own
 function_own p function chain proto =
     own_of (inherits builtins.FUNCTION_PROTOTYPE
     ∷ slot_of scope_key (of_labels chain)
-    ∷ property_of length_key (whole_constant (parameters_of p function)) all_attrs
-    ∷ property_of (named_key p (codes "prototype")) (of_label proto) dont_delete ∷ [])
+    ∷ property_of length_key (whole_constant (parameters_of p function)) ALL_ATTRS
+    ∷ property_of (named_key p (codes "prototype")) (of_label proto) DONT_DELETE ∷ [])
 
 abbrev pub prototype_own : Program → Label → Own
 prototype_own p function =
     own_of (inherits builtins.OBJECT_PROTOTYPE
-    ∷ property_of (named_key p (codes "constructor")) (of_label function) dont_enum ∷ [])
+    ∷ property_of (named_key p (codes "constructor")) (of_label function) DONT_ENUM ∷ [])
 
 abbrev pub constructed_own : AbstractValue → Own
 constructed_own proto = own_of (slot_of prototype proto ∷ [])
@@ -135,7 +135,7 @@ abbrev pub parameter_properties : AbstractState → ℕ → List NameId → List
 parameter_properties a j [] = []
 parameter_properties a j (n ∷ ns) =
     parameter_properties a (j + 1) ns ++ property_of (key.Name n)
-    (a.register (parameter_register j)) dont_delete ∷ []
+    (a.register (parameter_register j)) DONT_DELETE ∷ []
 
 abbrev pub number_alone : NumberPart → Option ℤ
 number_alone (number_part.One z) = Some z
@@ -160,7 +160,7 @@ argument_property p f a j =
     if nat_lt j parameters then a.register (parameter_register j) else a.register
     (rest_register parameters) in
     if_reached (one_number p (a.register count_register)) j
-    (record { value = v; attrs = of_attrs dont_enum })
+    (record { value = v; attrs = of_attrs DONT_ENUM })
 
 abbrev pub index_property : Program → FnId → AbstractState → Key → Option AbstractProperty
 index_property p f a key.OtherIndex =
@@ -171,15 +171,15 @@ index_property p f a k = option_map (argument_property p f a) (index_of_key p k)
 abbrev pub arguments_own : Program → FnId → AbstractState → Own
 arguments_own p f a k =
     let own = own_of (inherits builtins.OBJECT_PROTOTYPE
-    ∷ property_of (key.Name builtins.CALLEE) (a.register callee_register) dont_enum
-    ∷ property_of length_key (a.register count_register) dont_enum ∷ []) in
+    ∷ property_of (key.Name builtins.CALLEE) (a.register callee_register) DONT_ENUM
+    ∷ property_of length_key (a.register count_register) DONT_ENUM ∷ []) in
     unwrap_or (index_property p f a k) (own k)
 
 -- the arguments object first, whose name hides a parameter of its name
 abbrev pub arguments_binding : Option Site → List (Key × AbstractProperty)
 arguments_binding None = []
 arguments_binding (Some site) =
-    property_of (key.Name builtins.ARGUMENTS) (of_label (new site)) dont_delete ∷ []
+    property_of (key.Name builtins.ARGUMENTS) (of_label (new site)) DONT_DELETE ∷ []
 
 abbrev pub activation_own : Program → FnId → Option Site → AbstractState → Own
 activation_own p f arguments a =

@@ -7,9 +7,9 @@ use Rattle.std.specs.Option.{option_map, option_map_or, option_and_then}
 use Rattle.ja_base.specs.declared.ids.Label.{Label}
 use Rattle.ja_prim.specs.declared.primitive.Num.TheVariants.{Whole}
 use Rattle.ja_prim.specs.declared.primitive.Primitive.TheVariants as primitive
+use Rattle.ja_graph.specs.declared.attrs.TheConstants.{NO_ATTRS}
 use Rattle.ja_graph.specs.declared.program.Program.{Program}
 use Rattle.ja_graph.specs.Program.{global}
-use Rattle.ja_machine.specs.Heap.{no_attrs}
 use Rattle.ja_machine.specs.Writes.{is_array}
 use Rattle.ja_machine.specs.Machine.{class_of_site}
 use Rattle.ja_abstract.specs.declared.abstraction.AAttrs.{AAttrs}
@@ -94,7 +94,7 @@ own_at w l k = resolved w.state w.entries l k
 abbrev pub put_attrs : View → AbstractProperty → AAttrs
 put_attrs w q =
     join_attrs (if has_present w q.value then q.attrs else unknown_attrs)
-    (if q.value.flags.absent then of_attrs no_attrs else unknown_attrs)
+    (if q.value.flags.absent then of_attrs NO_ATTRS else unknown_attrs)
 
 abbrev pub put_property : View → Label → Key → AbstractValue → AbstractProperty
 put_property w l k v = record { value = v; attrs = put_attrs w (own_at w l k) }

@@ -4,7 +4,7 @@ use crate::out::Out;
 use crate::primitives;
 use ja_abstract::{Mask, NumberPart, TextPart};
 use ja_base::{Label, Site};
-use ja_graph::Attrs;
+use ja_graph::{Attrs, NO_ATTRS};
 use ja_prim::{Int, Text16};
 use ja_value::{AProp, AValue, LabelSet, exact_attrs, is_index_text};
 use std::collections::BTreeMap;
@@ -151,8 +151,7 @@ pub fn values(out: &mut Out) {
         ages(out, &value);
         let attrs = exact_attrs(Attrs {
             read_only: true,
-            dont_enum: false,
-            dont_delete: false,
+            ..NO_ATTRS
         });
         property_joins(out, &mut AProp { value, attrs });
     }

@@ -25,7 +25,7 @@ mod well_formed_opening;
 mod well_formed_programs;
 mod well_formed_sites;
 
-pub use attrs::Attrs;
+pub use attrs::{ALL_ATTRS, Attrs, DONT_DELETE, DONT_ENUM, KEPT_HIDDEN, NO_ATTRS};
 pub use builtins::{
     APPLY, ARGUMENTS, ARRAY_PROTOTYPE, BOOLEAN, BOOLEAN_PROTOTYPE, BOOLEAN_TO_STRING,
     BOOLEAN_VALUE_OF, BUILTIN_CLASSES, BUILTIN_NAMES, CALL, CALLEE, ERROR, ERROR_PROTOTYPE,
@@ -40,7 +40,9 @@ pub use builtins::{
 pub use facts::may_throw;
 pub use node::{Args, BinaryOp, ErrorKind, Hint, Made, Node, NodeInfo, UnaryOp, Wrappers};
 pub use node_registers::registers_with;
-pub use program::{Class, Function, ObjectSpec, Program, PropertySpec, SiteInfo, SpecContent};
+pub use program::{
+    Class, Function, MAX_DEVICES, ObjectSpec, Program, PropertySpec, SiteInfo, SpecContent,
+};
 pub use registers::{CALLEE_REGISTER, COUNT, FIXED_REGISTERS, REST, SCOPE, THIS, THROWN};
 pub use renaming::{Renames, renamed};
 pub use sites::{Making, NodeMakings, makings};

@@ -2,6 +2,9 @@ use crate::{Attrs, NodeInfo};
 use ja_base::{FnId, NameId, Place, Seq, Site};
 use ja_prim::{Primitive, Signature, Text16};
 
+/// The greatest number of devices of a program.
+pub const MAX_DEVICES: usize = 64;
+
 /// The class of an object (ES3 8.6.2), which its site fixes; an activation has one of its own.
 #[derive(Clone, Copy, Debug, PartialEq, Eq)]
 pub enum Class {

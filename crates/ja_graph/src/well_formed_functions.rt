@@ -28,7 +28,7 @@ fn is_last_escape(nodes: &[NodeInfo]) -> bool
 /// Whether a function has the registers that each has, and not too many.
 fn has_registers(function: &Function) -> bool
     ensures { IsTrue result ↔ ((graph.fixed_registers function.now ≤ function.now.registers)
-        × (function.now.registers ≤ 262144)) }
+        × (function.now.registers ≤ graph.max_registers)) }
 {
     function.registers >= FIXED_REGISTERS
         && (function.registers - FIXED_REGISTERS) as usize >= function.parameters.len()
@@ -83,7 +83,7 @@ pub(crate) fn are_functions_well_formed(program: &Program) -> bool
 
 /// Whether functions have at most 131,072 nodes in all.
 pub(crate) fn have_few_nodes(functions: &[Function]) -> bool
-    ensures { IsTrue result ↔ (graph.node_count functions.now ≤ 131072) }
+    ensures { IsTrue result ↔ (graph.node_count functions.now ≤ graph.max_nodes) }
 {
     let mut left = MOST_NODES;
     for function in functions {

@@ -10,12 +10,12 @@ use Rattle.std.specs.HashMap.{HashMap, get}
 use Rattle.std.specs.Global.{Global}
 use Rattle.std.specs.Prelude.{Box, IfSome, ◌-◌}
 use Rattle.ja_graph.specs.declared.attrs.Attrs.{Attrs}
+use Rattle.ja_graph.specs.declared.attrs.TheConstants.{NO_ATTRS}
 use Rattle.ja_machine.specs.declared.machine.Content.{Content}
 use Rattle.ja_machine.specs.declared.machine.Content.TheVariants as contents
 use Rattle.ja_machine.specs.declared.machine.Property.{Property}
 use Rattle.ja_machine.specs.declared.machine.Value.{Value}
 use Rattle.ja_prim.specs.Texts.{same_text}
-use Rattle.ja_machine.specs.Heap.{no_attrs}
 use Rattle.ja_machine.specs.Objects.{with_property}
 use Rattle.ja_machine.specs.Writes.{new_property, with_value, with_definition, without}
 use Rattle.ja_machine.specs.code.Writes.{shared_from_now}
@@ -169,7 +169,7 @@ module _ (name : List ℕ) where
   -- .. as the machine says it
   pub value_first : (v : Value) (qs : List Property)
       → with_first (λ q. record q { content = contents.Value v })
-      (new_property name (contents.Value v) no_attrs) qs ≡ with_value qs name v
+      (new_property name (contents.Value v) NO_ATTRS) qs ≡ with_value qs name v
   value_first v [] = refl
   value_first v (q ∷ qs) =
       elim (cases_Bool (same_text q.name name))

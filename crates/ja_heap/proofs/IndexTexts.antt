@@ -10,7 +10,7 @@ use Rattle.std.proofs.lemmas.Int.{ints}
 use Rattle.ja_base.proofs.Tests.{and_left_true, and_right_true}
 use Rattle.ja_prim.specs.Characters.{is_digit}
 use Rattle.ja_prim.specs.Conversions.{index_of}
-use Rattle.ja_prim.specs.Index.{with_digits, starts_with_zero, is_index_text}
+use Rattle.ja_prim.specs.Index.{index_end, with_digits, starts_with_zero, is_index_text}
 use Rattle.ja_prim.specs.Texts.{same_text}
 use Rattle.ja_machine.specs.declared.machine.Property.{Property}
 use Rattle.ja_machine.specs.Writes.{is_cut, without}
@@ -79,7 +79,7 @@ index_text t i h =
           let few = nat_lt 0 (length t) && nat_le (length t) 10 in
           let digits = few && list_all is_digit t in
           let first = not (starts_with_zero t) || (length t == 1) in
-          let k = and_left_true (digits && first) (nat_lt (with_digits 0 t) 4294967295) u in
+          let k = and_left_true (digits && first) (nat_lt (with_digits 0 t) index_end) u in
           let m = and_left_true digits first k in
           let n = and_left_true few (list_all is_digit t) m in
           let o = and_left_true (nat_lt 0 (length t)) (nat_le (length t) 10) n in

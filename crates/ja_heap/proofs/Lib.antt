@@ -5,3 +5,4 @@ pub mod Cuts
 pub mod Changes
 pub mod Puts
 pub mod InSlots
+pub mod Settings

@@ -5,12 +5,13 @@ use Rattle.std.specs.Cmp.Lexicographic.{bytes_decides}
 use Rattle.std.specs.Option.{option_map_or}
 use Rattle.std.proofs.lemmas.Bool.{cases_Bool}
 use Rattle.std.proofs.lemmas.Cmp.{nat_list_eq_equiv}
+use Rattle.ja_graph.specs.declared.attrs.TheConstants.{NO_ATTRS}
 use Rattle.ja_machine.specs.declared.machine.Content.TheVariants as contents
 use Rattle.ja_machine.specs.declared.machine.Object.{Object}
 use Rattle.ja_machine.specs.declared.machine.Property.{Property}
 use Rattle.ja_machine.specs.declared.machine.Value.{Value}
 use Rattle.ja_prim.specs.Texts.{same_text}
-use Rattle.ja_machine.specs.Heap.{property_of, no_attrs}
+use Rattle.ja_machine.specs.Heap.{property_of}
 use Rattle.ja_machine.specs.Writes.{with_value, new_property, property_number, object_with_value, length_name, length_of, whole_number, with_length, with_element, is_cut}
 use Rattle.ja_prim.specs.Conversions.{index_of}
 
@@ -39,8 +40,8 @@ pub set_behind : (keep : Property → Bool) (name : List ℕ) (v : Value)
     → ((q : Property) → same_text q.name name ≡ true → keep q ≡ true) → (qs : List Property)
     → filter keep (with_value qs name v) ≡ with_value (filter keep qs) name v
 set_behind keep name v h [] =
-    let k : keep (new_property name (contents.Value v) no_attrs)
-    ≡ true = h (new_property name (contents.Value v) no_attrs) (nat_list_eq_equiv.refl name) in
+    let k : keep (new_property name (contents.Value v) NO_ATTRS)
+    ≡ true = h (new_property name (contents.Value v) NO_ATTRS) (nat_list_eq_equiv.refl name) in
     simp k
 set_behind keep name v h (q ∷ qs) =
     elim (cases_Bool (same_text q.name name)) [

@@ -23,14 +23,14 @@ impl Heap {
     fn prototype_at(&self, a: Addr) -> Option<Addr>
         ensures { result ≡ option_and_then spec.prototype_of (spec.object_at self.now a) }
     {
-        self.object(a)?.slots().prototype
+        self.object(a)?.prototype()
     }
 
     /// The object behind one of a scope chain.
     fn outer_at(&self, a: Addr) -> Option<Addr>
         ensures { result ≡ option_and_then spec.outer_of (spec.object_at self.now a) }
     {
-        self.object(a)?.slots().outer
+        self.object(a)?.outer()
     }
 
     /// The property of a name, own or inherited: the nearest one (ES3 8.6.2.1).

@@ -157,7 +157,7 @@ impl Heap {
         match self.object(a) {
             Some(object) => match object.class() {
                 Class::Array => true,
-                _ => object.slots().arguments,
+                _ => object.is_arguments(),
             },
             None => false,
         }

@@ -12,7 +12,7 @@ ghost use Rattle.ja_machine.specs.code.Writes as code;
 use crate::properties::Properties;
 use ja_base::Memory;
 use ja_graph::{Attrs, Class};
-use ja_machine::{Content, Property, Slots, Value};
+use ja_machine::{Addr, Content, Property, Slots, Value};
 use ja_prim::{Int, Num, Primitive, Text16, array_index, to_text};
 use std::alloc::Global;
 use std::marker::Model;
@@ -21,7 +21,11 @@ use std::marker::Model;
 /// insertion. Contracts see the object of the machine. To let it go is one call.
 pub struct Object {
     class: Class,
-    slots: Slots,
+    is_arguments: bool,
+    prototype: Option<Addr>,
+    outer: Option<Addr>,
+    scope: Option<Addr>,
+    value: Option<Primitive>,
     properties: Properties,
 }
 
@@ -47,14 +51,28 @@ impl Model for Object {
 
     ghost Value = { MachineObject };
 
-    ghost view = { λ o. record { class = o.class; slots = o.slots; properties = o.properties } };
+    ghost view = { λ o. record {
+      class = o.class;
+      slots = record {
+        prototype = o.prototype;
+        outer = o.outer;
+        scope = o.scope;
+        value = o.value;
+        arguments = o.is_arguments;
+      };
+      properties = o.properties;
+    } };
 }
 
 impl Drop for Object {
     fn drop(self) {
         let Object {
             class: _,
-            slots: _,
+            is_arguments: _,
+            prototype: _,
+            outer: _,
+            scope: _,
+            value: _,
             properties: _,
         } = self;
     }
@@ -67,7 +85,11 @@ impl Object {
     {
         Object {
             class,
-            slots,
+            is_arguments: slots.arguments,
+            prototype: slots.prototype,
+            outer: slots.outer,
+            scope: slots.scope,
+            value: slots.value,
             properties: Properties::new(alloc),
         }
     }
@@ -95,11 +117,39 @@ impl Object {
         self.class
     }
 
-    /// The internal properties.
-    pub fn slots(&self) -> &Slots
-        ensures { result.now ≡ self.now.slots }
+    /// The object that it inherits from.
+    pub fn prototype(&self) -> Option<Addr>
+        ensures { result ≡ self.now.slots.prototype }
     {
-        &self.slots
+        self.prototype
+    }
+
+    /// The next object of a scope chain.
+    pub fn outer(&self) -> Option<Addr>
+        ensures { result ≡ self.now.slots.outer }
+    {
+        self.outer
+    }
+
+    /// The scope chain of a function.
+    pub fn scope(&self) -> Option<Addr>
+        ensures { result ≡ self.now.slots.scope }
+    {
+        self.scope
+    }
+
+    /// The internal value.
+    pub fn value(&self) -> Option<&Primitive>
+        ensures { option_map (λ q. q.now) result ≡ self.now.slots.value }
+    {
+        self.value.as_ref()
+    }
+
+    /// Whether it is an arguments object.
+    pub fn is_arguments(&self) -> bool
+        ensures { result ≡ self.now.slots.arguments }
+    {
+        self.is_arguments
     }
 
     /// An own property.

@@ -1,6 +1,6 @@
 //! Properties in order of insertion. Each stays in its slot, so that none is moved where another is
 //! deleted.
-ghost use Rattle.std.specs.Prelude.{◌≡◌, ◌<◌, ◌++◌, ◌∷◌, [], true, not, if◌then◌else◌};
+ghost use Rattle.std.specs.Prelude.{◌≡◌, ◌<◌, ◌≤◌, ◌++◌, ◌∷◌, [], true, not, if◌then◌else◌};
 ghost use Rattle.std.specs.Prelude.{Some, IfSome, OnOk, OnErr, is_some};
 ghost use Rattle.std.specs.Prelude.{ℕ, ◌-◌, List, nat_eq, ◌||◌, length, take, find, filter, map};
 ghost use Rattle.std.specs.Cmp.Lexicographic.{pointwise};
@@ -16,7 +16,7 @@ ghost use Rattle.ja_machine.specs.code.Writes as code;
 ghost use Rattle.ja_heap.specs.code.Slots as kept;
 
 use ja_base::Memory;
-use ja_graph::Attrs;
+use ja_graph::{Attrs, NO_ATTRS};
 use ja_machine::{Content, Property, Value};
 use ja_prim::{Text16, array_index};
 use std::alloc::Global;
@@ -30,20 +30,11 @@ const FEW: usize = 8;
 /// How many slots an object begins with. Most objects of a run have one or two properties.
 const FIRST: usize = 2;
 
-/// No attribute is set.
-const NO_ATTRS: Attrs = Attrs {
-    read_only: false,
-    dont_enum: false,
-    dont_delete: false,
-};
-
 /// The properties of an object, in order of insertion. One that is deleted leaves its slot empty,
 /// until more than half of the slots are. Contracts see the list of properties.
 #[derive(Drop)]
 pub(crate) struct Properties {
     slots: Vec<Option<Property>>,
-    /// How many slots are empty.
-    empty: usize,
     /// The slot of each name. Where there is none, the slots are looked through.
     places: Option<Box<HashMap<Text16, usize>>>,
 }
@@ -272,6 +263,16 @@ fn without_name(
     }
 }
 
+/// How many slots are empty: those that no name of the table has, where there is one.
+fn empty_slots(slots: &[Option<Property>], places: &Option<Box<HashMap<Text16, usize>>>) -> usize
+    ensures { result ≤ length slots.now }
+{
+    match places {
+        Some(table) => slots.len().saturating_sub(table.len()),
+        None => slots.iter().filter(|slot| slot.is_none()).count(),
+    }
+}
+
 /// Whether what is in a slot isn't an element from a new length of an array on, below the old one.
 fn stays(new: u32, old: i64, slot: &Option<Property>) -> bool
     ensures { result ≡ kept.stays new old slot.now }
@@ -322,7 +323,6 @@ impl Properties {
     {
         Properties {
             slots: Vec::new(alloc),
-            empty: 0,
             places: None,
         }
     }
@@ -467,8 +467,8 @@ impl Properties {
                 self.slots[i] = None;
                 let places = self.places.take();
                 self.places = without_name(places, name);
-                self.empty = self.empty.saturating_add(1);
-                if self.empty > self.slots.len() / 2 {
+                let empty = empty_slots(self.slots.as_slice(), &self.places);
+                if empty > self.slots.len() / 2 {
                     self.close_gaps();
                 }
             }
@@ -484,7 +484,6 @@ impl Properties {
                 ensures { result ≡ is_some slot.now }
             { slot.is_some() },
         );
-        self.empty = 0;
         let places = self.places.take();
         self.places = placed_anew(places, self.slots.as_slice());
     }
@@ -509,7 +508,6 @@ impl Properties {
                 ensures { result ≡ kept.stays new old slot.now }
             { stays(new, old, slot) },
         );
-        self.empty = 0;
         let places = self.places.take();
         self.places = placed_anew(places, self.slots.as_slice());
     }

@@ -5,6 +5,10 @@ use Rattle.ja_base.specs.declared.ids.Place.{Place}
 use Rattle.ja_lex.specs.declared.spot.Spot.{Spot}
 use Rattle.ja_prim.specs.Characters.{char_at, is_terminator}
 
+-- the greatest number of bytes of a text that is read
+abbrev pub max_bytes : ℕ
+max_bytes = 16777216
+
 abbrev pub place_at : ℕ → ℕ → Place
 place_at line column = record { line = line; column = column }
 

@@ -1,4 +1,5 @@
 ghost use Rattle.std.specs.Prelude.{◌≡◌, ◌≤◌, length, IfSome};
+ghost use Rattle.ja_lex.specs.Spots.{max_bytes};
 ghost use Rattle.ja_lex.specs.Blanks as spec;
 ghost use Rattle.ja_lex.specs.Tokens.{line_comment};
 
@@ -37,7 +38,7 @@ pub fn line_comment(text: &[char]) -> Element
 /// A comment that begins with `/*`.
 #[tactic(auto, unfolding(crate::specs::Blanks::long_comment))]
 pub fn long_comment(text: &[char]) -> Element
-    requires { length text.now ≤ 16777216 }
+    requires { length text.now ≤ max_bytes }
     ensures { result ≡ spec.long_comment text.now }
 {
     match closing(behind(text, 2)) {

@@ -52,7 +52,7 @@ fn after(spot: Spot, text: &[char]) -> Spot
 impl<'a> Cursor<'a> {
     /// All characters of a text.
     pub fn new(text: &'a [char]) -> Self
-        requires { length text.now ≤ 16777216 }
+        requires { length text.now ≤ spec.max_bytes }
         ensures rest { result.rest.now ≡ text.now }
         ensures spot { result.spot ≡ spec.beginning }
     {

@@ -9,7 +9,7 @@ const SLOTS: usize = 1024;
 /// Texts of tokens that were read, at most one in each slot, so that a token whose text was read
 /// before shares its units.
 #[derive(Drop)]
-pub struct Texts {
+pub(crate) struct Texts {
     kept: Vec<Option<Text16>>,
 }
 
@@ -24,7 +24,7 @@ fn slot_of(text: &Text16) -> usize {
 
 impl Texts {
     /// No text is kept.
-    pub fn new(alloc: Global) -> Result<Texts, AllocError> {
+    pub(crate) fn new(alloc: Global) -> Result<Texts, AllocError> {
         let mut kept = Vec::new(alloc);
         for _slot in 0..SLOTS {
             kept.push(None)?;
@@ -49,7 +49,7 @@ impl Texts {
     }
 
     /// The same text: the one that is kept, if it is this one; else this one is kept from now on.
-    pub fn shared(&mut self, text: Text16) -> Result<Text16, AllocError>
+    pub(crate) fn shared(&mut self, text: Text16) -> Result<Text16, AllocError>
         ensures { IfOk result (λ same. same ≡ text) }
     {
         let slot = slot_of(&text);

@@ -2,7 +2,7 @@ ghost use Rattle.std.specs.Prelude.{◌≡◌, ◌<◌, ◌≤◌, false, length
 ghost use Rattle.std.specs.List.{list_any};
 ghost use Rattle.std.specs.Str.{chars};
 ghost use Rattle.ja_prim.specs.Characters.{is_terminator, is_blank};
-ghost use Rattle.ja_lex.specs.Spots.{beginning};
+ghost use Rattle.ja_lex.specs.Spots.{beginning, max_bytes};
 ghost use Rattle.ja_lex.specs.Laws.{IsEnded};
 ghost use Rattle.ja_lex.specs.Tokens as spec;
 
@@ -62,7 +62,7 @@ fn begins_string(text: &[char]) -> bool
 /// What some characters begin with.
 #[tactic(auto, unfolding(crate::specs::Tokens::first_element))]
 fn first_element(alloc: Global, texts: &mut Texts, text: &[char]) -> Result<Element, Memory>
-    requires { length text.now ≤ 16777216 }
+    requires { length text.now ≤ max_bytes }
     ensures { IfOk result (λ e. e ≡ spec.first_element text.now) }
 {
     if is_blank(char_at(text, 0)) {
@@ -72,17 +72,13 @@ fn first_element(alloc: Global, texts: &mut Texts, text: &[char]) -> Result<Elem
     } else if begins_comment(text, '*') {
         Ok(long_comment(text))
     } else if begins_number(text) {
-        let element = number(alloc, text)?;
-        Ok(element)
+        Ok(number(alloc, text)?)
     } else if begins_word(text) {
-        let element = word(alloc, texts, text)?;
-        Ok(element)
+        Ok(word(alloc, texts, text)?)
     } else if begins_string(text) {
-        let element = string(alloc, texts, text)?;
-        Ok(element)
+        Ok(string(alloc, texts, text)?)
     } else {
-        let element = mark(alloc, texts, text)?;
-        Ok(element)
+        Ok(mark(alloc, texts, text)?)
     }
 }
 
@@ -139,7 +135,7 @@ fn skip_mark(cursor: &mut Cursor<'_>)
 
 /// Takes the next token.
 fn next_token(alloc: Global, texts: &mut Texts, cursor: &mut Cursor<'_>) -> Result<Token, Memory>
-    requires { length cursor.old.rest.now ≤ 16777216 }
+    requires { length cursor.old.rest.now ≤ max_bytes }
     ensures next { IfOk result (λ token. spec.tokens_after 0 false cursor.old.spot
         cursor.old.rest.now ≡ spec.followed token
         (spec.tokens_after 0 false cursor.new.spot cursor.new.rest.now)) }
@@ -170,7 +166,7 @@ fn next_token(alloc: Global, texts: &mut Texts, cursor: &mut Cursor<'_>) -> Resu
 /// of memory.
 #[tactic(auto, using(crate::proofs::Endings::tokens_end_once))]
 pub fn tokens(alloc: Global, text: &str) -> Result<Seq<Token>, Memory>
-    requires { length text.now ≤ 16777216 }
+    requires { length text.now ≤ max_bytes }
     ensures value { IfOk result (λ tokens. tokens ≡ spec.tokens text.now) }
     ensures ended { IfOk result IsEnded }
 {

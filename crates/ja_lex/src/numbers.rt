@@ -3,6 +3,7 @@ ghost use Rattle.std.specs.List.{list_all};
 ghost use Rattle.std.specs.Str.Parse.{AllDigits};
 ghost use Rattle.ja_prim.specs.Characters.{is_ascii};
 ghost use Rattle.ja_prim.specs.Numerals as numerals;
+ghost use Rattle.ja_lex.specs.Spots.{max_bytes};
 ghost use Rattle.ja_lex.specs.Numbers as spec;
 
 use crate::characters::{
@@ -112,7 +113,7 @@ fn decimal_length(text: &[char]) -> usize
 /// The exact value of the longest decimal literal.
 #[tactic(auto, using(crate::proofs::Rulesets::for_decimal_value), unfolding(ja_prim::specs::Numerals::decimal_value))]
 fn decimal_value(alloc: Global, text: &[char]) -> Result<Result<Num, Stop>, AllocFailed<u16>>
-    requires { length text.now ≤ 16777216 }
+    requires { length text.now ≤ max_bytes }
     ensures { IfOk result (λ value. value ≡ numerals.decimal_value false text.now) }
 {
     let rest = behind_fraction(behind_digits(text));
@@ -170,7 +171,7 @@ fn is_run_into(text: &[char], index: usize) -> bool
 /// The number that the text begins with.
 #[tactic(auto, unfolding(crate::specs::Numbers::number))]
 pub fn number(alloc: Global, text: &[char]) -> Result<Element, AllocFailed<u16>>
-    requires { length text.now ≤ 16777216 }
+    requires { length text.now ≤ max_bytes }
     ensures { IfOk result (λ e. e ≡ spec.number text.now) }
 {
     if is_octal(text) {

@@ -1,6 +1,7 @@
 ghost use Rattle.std.specs.Prelude.{◌≡◌, ◌≤◌, ◌+◌, ◌++◌, true, length, IfOk, IfSome, OnOk};
 ghost use Rattle.std.specs.Char.{digit_value};
 ghost use Rattle.ja_prim.specs.Characters.{char_at, is_hexadecimal};
+ghost use Rattle.ja_lex.specs.Spots.{max_bytes};
 ghost use Rattle.ja_lex.specs.Strings as spec;
 
 use crate::characters::{behind, char_at, is_digit, is_escape, is_hexadecimal, is_terminator};
@@ -194,7 +195,7 @@ fn push_item(units: &mut Vec<u16>, item: Item) -> Result<(), AllocFailed<u16>>
 
 /// What stands before the next quote, or `None` where an item is wrong or no quote comes.
 fn read_body(alloc: Global, quote: char, text: &[char]) -> Result<Option<Body>, AllocFailed<u16>>
-    requires { length text.now ≤ 16777216 }
+    requires { length text.now ≤ max_bytes }
     ensures value { IfOk result (λ body. body ≡ spec.body_after quote 0 text.now) }
     ensures within { IfOk result (λ body. IfSome body (λ b. b.length ≤ 100663296)) }
 {
@@ -226,7 +227,7 @@ fn read_body(alloc: Global, quote: char, text: &[char]) -> Result<Option<Body>, 
 /// The string literal that the text begins with.
 #[tactic(auto, unfolding(crate::specs::Strings::string))]
 pub fn string(alloc: Global, texts: &mut Texts, text: &[char]) -> Result<Element, AllocError>
-    requires { length text.now ≤ 16777216 }
+    requires { length text.now ≤ max_bytes }
     ensures { IfOk result (λ e. e ≡ spec.string text.now) }
 {
     let body = read_body(alloc, char_at(text, 0), behind(text, 1))?;

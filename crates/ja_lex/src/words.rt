@@ -1,4 +1,5 @@
 ghost use Rattle.std.specs.Prelude.{◌≡◌, ◌≤◌, length, IfOk};
+ghost use Rattle.ja_lex.specs.Spots.{max_bytes};
 ghost use Rattle.ja_lex.specs.Words as spec;
 
 use crate::characters::{Class, is_escape, run, run_length, units};
@@ -13,7 +14,7 @@ use std::alloc::{AllocError, Global};
 /// The identifier or reserved word that the text begins with, or its escape.
 #[tactic(auto, using(crate::proofs::Classed::all_part), unfolding(crate::specs::Words::word))]
 pub fn word(alloc: Global, texts: &mut Texts, text: &[char]) -> Result<Element, AllocError>
-    requires { length text.now ≤ 16777216 }
+    requires { length text.now ≤ max_bytes }
     ensures { IfOk result (λ e. e ≡ spec.word text.now) }
 {
     let length = run_length(Class::Part, text);

@@ -9,6 +9,7 @@ use Rattle.std.proofs.lemmas.List.FromFn.{length-enumerate_from}
 use Rattle.std.proofs.lemmas.Option.{slice_get_within, same_Some}
 use Rattle.ja_base.specs.declared.ids.Site.{Site}
 use Rattle.ja_base.proofs.Lists.{all_append, all_at, element_within}
+use Rattle.ja_graph.specs.declared.attrs.TheConstants.{ALL_ATTRS}
 use Rattle.ja_device.specs.code.Signatures.{AreDistinct}
 use Rattle.ja_graph.specs.declared.builtins.TheConstants.{BUILTIN_CLASSES, FUNCTION_PROTOTYPE, GLOBAL, LENGTH}
 use Rattle.ja_graph.specs.declared.program.Class.{Class}
@@ -415,7 +416,7 @@ length_property =
     record {
       name = LENGTH;
       content = content.Prim (number_of 0);
-      attrs = record { read_only = true; dont_enum = true; dont_delete = true };
+      attrs = ALL_ATTRS;
     }
 
 device-well_formed : (p : Program) (own : ℕ) (signatures : List Signature) (others : List SiteInfo)

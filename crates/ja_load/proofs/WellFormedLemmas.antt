@@ -11,7 +11,7 @@ use Rattle.ja_lower_expressions.specs.Specials.{is_name}
 use Rattle.ja_graph.specs.declared.program.Function.{Function}
 use Rattle.ja_graph.specs.declared.program.Program.{Program}
 use Rattle.ja_graph.specs.declared.program.SiteInfo.{SiteInfo}
-use Rattle.ja_graph.specs.WellFormed.{IsFunctionWellFormed, OwnedMaking, makings_from, IsSiteTold, NamesFunctions, IsWellFormed, builtin_names, node_count}
+use Rattle.ja_graph.specs.WellFormed.{IsFunctionWellFormed, OwnedMaking, makings_from, IsSiteTold, NamesFunctions, IsWellFormed, builtin_names, node_count, max_registers, max_names}
 use Rattle.ja_lower.specs.declared.lowered.Lowered.{Lowered}
 use Rattle.ja_lower.specs.Limits.{function_count, prelude_count, size_of, prelude_size_of, IsWithin}
 use Rattle.ja_lower.specs.Lowering as lowering
@@ -45,7 +45,7 @@ pub record LoweringLaws : Type 0 where
       → p.functions ≡ (lowered_with_prelude names paths prelude signatures first
       statements).functions → p.names ≡ (lowered_with_prelude names paths prelude signatures first
       statements).names → p.signatures ≡ signatures → slice_get p.functions f ≡ Some fn
-      → fn.registers ≤ 262144 → IsFunctionWellFormed p fn
+      → fn.registers ≤ max_registers → IsFunctionWellFormed p fn
   pub numbered : (names paths : List (List ℕ)) (prelude : List Statement)
       (signatures : List Signature) (first : ℕ) (statements : List Statement)
       → map (λ (m : OwnedMaking). m.making.site.0)
@@ -155,8 +155,8 @@ has_devices laws facts p signatures statements fit made =
 pub made_is_well_formed : LoweringLaws → PreludeFacts
     → (p : Program) (signatures : List Signature) (statements : List Statement)
     → AreSignatures signatures → IsWithin (names_before signatures) statements
-    → AllByRecursion (λ (fn : Function). fn.registers ≤ 262144)
-    (whole signatures statements).functions → length (whole signatures statements).names ≤ 1048576
+    → AllByRecursion (λ (fn : Function). fn.registers ≤ max_registers)
+    (whole signatures statements).functions → length (whole signatures statements).names ≤ max_names
     → IsMade p signatures statements → IsWellFormed p
 made_is_well_formed laws facts p signatures statements fit within registers few_names made =
     let l = whole signatures statements in
@@ -215,7 +215,7 @@ made_is_well_formed laws facts p signatures statements fit within registers few_
       each =
           λ f fn is. laws.well_formed builtin_names prelude_paths prelude_statements signatures
           first statements p f fn paths_each facts.allowed made.functions made.names made.devices is
-          (all_at (λ (fn : Function). fn.registers ≤ 262144) l.functions f fn registers
+          (all_at (λ (fn : Function). fn.registers ≤ max_registers) l.functions f fn registers
           (sym (ap (λ fns. slice_get fns f) made.functions) ∙ is));
       few_nodes = omega (arith, nodes, ap node_count made.functions);
       objects = λ i o is. objects_with_devices p own signatures l.sites has i o is;
@@ -264,8 +264,8 @@ made_is_well_formed laws facts p signatures statements fit within registers few_
 pub program_is_well_formed : LoweringLaws → PreludeFacts
     → (text : String Global) (signatures : List Signature) (statements : List Statement)
     → AreSignatures signatures → IsWithin (names_before signatures) statements
-    → AllByRecursion (λ (fn : Function). fn.registers ≤ 262144)
-    (whole signatures statements).functions → length (whole signatures statements).names ≤ 1048576
+    → AllByRecursion (λ (fn : Function). fn.registers ≤ max_registers)
+    (whole signatures statements).functions → length (whole signatures statements).names ≤ max_names
     → IsWellFormed (program_of text signatures statements)
 unfolding program_of
 program_is_well_formed laws facts text signatures statements fit within registers few_names =

@@ -4,6 +4,7 @@ use Rattle.std.specs.Prelude.{ℕ, Bool, true, false, not, ◌+◌, ◌==◌, if
 use Rattle.std.specs.List.{enumerate_from, list_any}
 use Rattle.ja_base.specs.declared.ids.NameId.{NameId}
 use Rattle.ja_base.specs.declared.ids.Site.{Site}
+use Rattle.ja_graph.specs.declared.attrs.TheConstants.{ALL_ATTRS, DONT_ENUM}
 use Rattle.ja_lower_names.specs.Names.{number}
 use Rattle.ja_prim.specs.declared.signature.Signature.{Signature}
 use Rattle.ja_graph.specs.declared.builtins.TheConstants.{BUILTIN_CLASSES, FUNCTION_PROTOTYPE, GLOBAL, LENGTH}
@@ -45,7 +46,7 @@ device_object which = record {
       record {
         name = LENGTH;
         content = spec.Prim (number_of 0);
-        attrs = record { read_only = true; dont_enum = true; dont_delete = true };
+        attrs = ALL_ATTRS;
       } ∷ [];
 }
 
@@ -55,7 +56,7 @@ property_named name which =
     record {
       name = name;
       content = spec.Object (device_site which);
-      attrs = record { read_only = false; dont_enum = true; dont_delete = false };
+      attrs = DONT_ENUM;
     }
 
 -- .. in a program with these names

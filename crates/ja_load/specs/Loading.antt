@@ -17,6 +17,7 @@ use Rattle.ja_lower.specs.declared.lowered.Lowered.{Lowered}
 use Rattle.ja_lower.specs.Lowering.{device_names, first_names, lowered_with_prelude}
 use Rattle.ja_prelude.specs.Prelude.{prelude_paths, prelude_statements}
 use Rattle.ja_prelude.specs.Table.{builtin_sites}
+use Rattle.ja_prelude.specs.declared.texts.TheConstants.{TEXT_FIRST, VALUE_FIRST}
 use Rattle.ja_prim.specs.declared.signature.Signature.{Signature}
 use Rattle.ja_syntax.specs.declared.tree.Statement.{Statement}
 
@@ -46,8 +47,8 @@ program_with text signatures own l =
       names = l.names;
       signatures = signatures;
       opening = opening_with l.names signatures;
-      value_first = record { 0 = first + 41 };
-      text_first = record { 0 = first + 42 };
+      value_first = record { 0 = first + VALUE_FIRST };
+      text_first = record { 0 = first + TEXT_FIRST };
       text = text;
     }
 

@@ -3,14 +3,17 @@
 ghost use Rattle.std.specs.Prelude.{◌≡◌, ◌≤◌, ◌++◌, ◌==◌, length, map, not, filter, if◌then◌else◌, IfOk, OnOk};
 ghost use Rattle.std.specs.List.{enumerate_from, list_any};
 ghost use Rattle.ja_graph.specs.declared.builtins.TheConstants.{GLOBAL};
+ghost use Rattle.ja_graph.specs.declared.program.TheConstants.{MAX_DEVICES};
+ghost use Rattle.ja_graph.specs.WellFormed.{max_names};
+ghost use Rattle.ja_lower.specs.Limits.{max_functions};
 ghost use Rattle.ja_load.specs.Hosts as spec;
 ghost use Rattle.ja_lower_names.specs.Names.{number as number_in};
 ghost use Rattle.ja_prelude.specs.Table.{opening_objects as table_objects};
 
 use ja_base::{FnId, Memory, NameId, Place, Seq, Site};
 use ja_graph::{
-    Attrs, BUILTIN_CLASSES, Class, FUNCTION_PROTOTYPE, GLOBAL, LENGTH, ObjectSpec, PropertySpec,
-    SiteInfo, SpecContent,
+    ALL_ATTRS, BUILTIN_CLASSES, Class, DONT_ENUM, FUNCTION_PROTOTYPE, GLOBAL, LENGTH, ObjectSpec,
+    PropertySpec, SiteInfo, SpecContent,
 };
 use ja_prelude::opening_objects;
 use ja_prim::{Int, Num, Primitive, Signature, Text16};
@@ -31,7 +34,7 @@ pub(crate) fn copied(alloc: Global, signatures: &[Signature]) -> Result<Seq<Sign
 
 /// The site of the device of a number.
 fn device_site(which: u32) -> Site
-    requires { which ≤ 64 }
+    requires { which ≤ MAX_DEVICES }
     ensures { result ≡ spec.device_site which }
 {
     Site(BUILTIN_CLASSES.len() as u32 + which)
@@ -58,8 +61,8 @@ pub(crate) fn add_device_sites(
     first: u32,
     signatures: &[Signature],
 ) -> Result<(), Memory>
-    requires first { first ≤ 4096 }
-    requires few { length signatures.now ≤ 64 }
+    requires first { first ≤ max_functions }
+    requires few { length signatures.now ≤ MAX_DEVICES }
     ensures { OnOk result (sites.new.items ≡ sites.old.items
         ++ spec.device_sites first signatures.now) }
 {
@@ -72,7 +75,7 @@ pub(crate) fn add_device_sites(
 /// The number of a name: its first place among the names, or the number behind the last one where
 /// it isn't one of them.
 fn number(names: &[Text16], name: &Text16) -> NameId
-    requires { length names.now ≤ 1048576 }
+    requires { length names.now ≤ max_names }
     ensures { result ≡ number_in names.now name.now }
 {
     for (place, other) in names.iter().enumerate() {
@@ -85,7 +88,7 @@ fn number(names: &[Text16], name: &Text16) -> NameId
 
 /// The numbers of the names of devices.
 fn numbers(alloc: Global, names: &[Text16], signatures: &[Signature]) -> Result<Vec<NameId>, Memory>
-    requires { length names.now ≤ 1048576 }
+    requires { length names.now ≤ max_names }
     ensures { IfOk result (λ numbers. numbers.items
         ≡ map (λ s. number_in names.now s.name) signatures.now) }
 {
@@ -105,17 +108,13 @@ fn is_among(names: &[NameId], name: NameId) -> bool
 
 /// The property of the global object that has the device of a number, under this name.
 fn property_named(name: NameId, which: u32) -> PropertySpec
-    requires { which ≤ 64 }
+    requires { which ≤ MAX_DEVICES }
     ensures { result ≡ spec.property_named name which }
 {
     PropertySpec {
         name,
         content: SpecContent::Object(device_site(which)),
-        attrs: Attrs {
-            read_only: false,
-            dont_enum: true,
-            dont_delete: false,
-        },
+        attrs: DONT_ENUM,
     }
 }
 
@@ -134,7 +133,7 @@ fn with_devices(
     properties: Seq<PropertySpec>,
     names: &[NameId],
 ) -> Result<Seq<PropertySpec>, Memory>
-    requires { length names.now ≤ 64 }
+    requires { length names.now ≤ MAX_DEVICES }
     ensures { IfOk result (λ all. all ≡ filter
         (λ q. not (list_any (λ n. n.0 == q.name.0) names.now)) properties
         ++ map (λ row. spec.property_named row.1 row.0) (enumerate_from 0 names.now)) }
@@ -148,7 +147,7 @@ fn with_devices(
 
 /// A built-in object, with the devices of these names where it is the global object.
 fn object_with(object: ObjectSpec, names: &[NameId]) -> Result<ObjectSpec, Memory>
-    requires { length names.now ≤ 64 }
+    requires { length names.now ≤ MAX_DEVICES }
     ensures { IfOk result (λ o. o ≡ (if object.site.0 == GLOBAL.0
         then record object {
           properties = filter
@@ -173,8 +172,8 @@ fn built_in(
     names: &[Text16],
     signatures: &[Signature],
 ) -> Result<Vec<ObjectSpec>, Memory>
-    requires names { length names.now ≤ 1048576 }
-    requires few { length signatures.now ≤ 64 }
+    requires names { length names.now ≤ max_names }
+    requires few { length signatures.now ≤ MAX_DEVICES }
     ensures { IfOk result (λ objects. objects.items
         ≡ map (spec.object_with_devices names.now signatures.now) table_objects) }
 {
@@ -188,18 +187,14 @@ fn built_in(
 
 /// The function object of the device of a number.
 fn device_object(alloc: Global, which: u32) -> Result<ObjectSpec, Memory>
-    requires { which ≤ 64 }
+    requires { which ≤ MAX_DEVICES }
     ensures { IfOk result (λ o. o ≡ spec.device_object which) }
 {
     let mut properties = Vec::new(alloc);
     properties.push(PropertySpec {
         name: LENGTH,
         content: SpecContent::Prim(Primitive::Number(Num::Whole(Int::new(0).unwrap()))),
-        attrs: Attrs {
-            read_only: true,
-            dont_enum: true,
-            dont_delete: true,
-        },
+        attrs: ALL_ATTRS,
     })?;
     Ok(ObjectSpec {
         site: device_site(which),
@@ -218,8 +213,8 @@ pub(crate) fn opening_with(
     names: &[Text16],
     signatures: &[Signature],
 ) -> Result<Seq<ObjectSpec>, Memory>
-    requires names { length names.now ≤ 1048576 }
-    requires few { length signatures.now ≤ 64 }
+    requires names { length names.now ≤ max_names }
+    requires few { length signatures.now ≤ MAX_DEVICES }
     ensures { IfOk result (λ objects. objects ≡ spec.opening_with names.now signatures.now) }
 {
     let mut objects = built_in(alloc, names, signatures)?;

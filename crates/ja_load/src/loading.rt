@@ -1,14 +1,16 @@
 ghost use Rattle.std.specs.Prelude.{◌≡◌, ◌<◌, ◌≤◌, ◌+◌, ◌++◌, None, length, IfOk, IfErr, OnOk};
 ghost use Rattle.std.specs.List.{AllByRecursion};
 ghost use Rattle.std.specs.String.{string_bytes};
+ghost use Rattle.ja_lex.specs.Spots.{max_bytes};
 ghost use Rattle.ja_device.specs.code.Signatures.{AreSignatures};
 ghost use Rattle.ja_graph.specs.WellFormed as graph;
+ghost use Rattle.ja_graph.specs.declared.program.TheConstants.{MAX_DEVICES};
 ghost use Rattle.ja_load.specs.Built as built;
 ghost use Rattle.ja_load.specs.code.Explaining.{Explains, ExplainsAnalysis};
 ghost use Rattle.ja_load.specs.Hosts.{device_sites};
 ghost use Rattle.ja_load.specs.Loading.{IsProgramOf, IsProgramToRun, names_before, program_of, program_with, sites_before};
 ghost use Rattle.ja_load.specs.code.Loading.{HasNone, HasNoneToRun};
-ghost use Rattle.ja_lower.specs.Limits.{IsWithin};
+ghost use Rattle.ja_lower.specs.Limits.{IsWithin, max_functions};
 ghost use Rattle.ja_lower.specs.Lowering.{behind_devices, device_names, followed_by, lowered, lowered_prelude};
 ghost use Rattle.ja_prelude.specs.Prelude as spec;
 ghost use Rattle.ja_prelude.specs.code.Prelude as code;
@@ -22,7 +24,7 @@ use ja_grammar::ParseFault;
 use ja_graph::{BUILTIN_CLASSES, Program, SiteInfo};
 use ja_lower::{LowerFault, Lowered, device_functions, laws, lower};
 use ja_parse::parse;
-use ja_prelude::{Prelude, builtin_sites, laws as prelude_laws};
+use ja_prelude::{Prelude, TEXT_FIRST, VALUE_FIRST, builtin_sites, laws as prelude_laws};
 use ja_prim::{Signature, Text16};
 use ja_syntax::Tree;
 use std::alloc::Global;
@@ -58,7 +60,7 @@ fn names_before(
 /// How many sites stand before those of a text: one for each built-in object, and one for each
 /// device.
 fn sites_before(signatures: &[Signature]) -> u32
-    requires { length signatures.now ≤ 64 }
+    requires { length signatures.now ≤ MAX_DEVICES }
     ensures { result ≡ sites_before signatures.now }
 {
     BUILTIN_CLASSES.len() as u32 + signatures.len() as u32
@@ -74,12 +76,13 @@ fn lower_within(
     tree: &Tree,
 ) -> Result<Lowered, LoadFault>
     requires prelude { prelude.now ≡ code.the_prelude }
-    requires few { length signatures.now ≤ 64 }
+    requires few { length signatures.now ≤ MAX_DEVICES }
     ensures lowered { IfOk result (λ l. l ≡ lowered (names_before signatures.now)
         (sites_before signatures.now) tree.now.statements) }
     ensures within { IfOk result (λ _. IsWithin (names_before signatures.now) tree.now.statements) }
-    ensures registers { IfOk result (λ l. AllByRecursion (λ fn. fn.registers ≤ 262144) l.functions) }
-    ensures names { IfOk result (λ l. length l.names ≤ 1048576) }
+    ensures registers { IfOk result (λ l. AllByRecursion (λ fn.
+        fn.registers ≤ graph.max_registers) l.functions) }
+    ensures names { IfOk result (λ l. length l.names ≤ graph.max_names) }
     ensures fault { IfErr result (Explains signatures.now tree.now.statements) }
 {
     prelude_laws::names_are_told();
@@ -114,12 +117,13 @@ fn built_in(
     first_function: u32,
 ) -> Result<Lowered, Memory>
     requires prelude { prelude.now ≡ code.the_prelude }
-    requires few { length signatures.now ≤ 64 }
-    requires functions { first_function ≤ 4160 }
+    requires few { length signatures.now ≤ MAX_DEVICES }
+    requires functions { first_function ≤ max_functions + MAX_DEVICES }
     ensures lowered { IfOk result (λ l. l ≡ behind_devices signatures.now
         (lowered_prelude graph.builtin_names spec.prelude_paths first_site first_function
         spec.prelude_statements)) }
-    ensures registers { IfOk result (λ l. AllByRecursion (λ fn. fn.registers ≤ 262144) l.functions) }
+    ensures registers { IfOk result (λ l. AllByRecursion (λ fn.
+        fn.registers ≤ graph.max_registers) l.functions) }
 {
     let built_in = prelude.functions(alloc, first_site, first_function)?;
     let mut functions = device_functions(alloc, signatures)?.into_vec();
@@ -139,14 +143,15 @@ fn with_built_in(
     text: Lowered,
 ) -> Result<Lowered, Memory>
     requires prelude { prelude.now ≡ code.the_prelude }
-    requires devices { length signatures.now ≤ 64 }
-    requires few { length text.functions ≤ 4096 }
-    requires registers { AllByRecursion (λ fn. fn.registers ≤ 262144) text.functions }
+    requires devices { length signatures.now ≤ MAX_DEVICES }
+    requires few { length text.functions ≤ max_functions }
+    requires registers { AllByRecursion (λ fn. fn.registers ≤ graph.max_registers) text.functions }
     ensures lowered { IfOk result (λ l. l ≡ followed_by text
         (behind_devices signatures.now (lowered_prelude graph.builtin_names spec.prelude_paths
         (sites_before signatures.now + length text.sites)
         (length text.functions + length signatures.now) spec.prelude_statements))) }
-    ensures registers { IfOk result (λ l. AllByRecursion (λ fn. fn.registers ≤ 262144) l.functions) }
+    ensures registers { IfOk result (λ l. AllByRecursion (λ fn.
+        fn.registers ≤ graph.max_registers) l.functions) }
 {
     let first_site = site_behind(sites_before(signatures), text.sites.len())?;
     let first_function = (text.functions.len() + signatures.len()) as u32;
@@ -170,8 +175,8 @@ fn all_sites(
     signatures: &[Signature],
     others: Seq<SiteInfo>,
 ) -> Result<Seq<SiteInfo>, Memory>
-    requires few { own ≤ 4096 }
-    requires devices { length signatures.now ≤ 64 }
+    requires few { own ≤ max_functions }
+    requires devices { length signatures.now ≤ MAX_DEVICES }
     ensures { IfOk result (λ sites. sites ≡ builtin_sites (own + length signatures.now)
         ++ device_sites own signatures.now ++ others) }
 {
@@ -190,9 +195,9 @@ fn program_with(
     lowered: Lowered,
     text: &str,
 ) -> Result<Program, Memory>
-    requires few { own ≤ 4096 }
-    requires devices { length signatures.now ≤ 64 }
-    requires names { length lowered.names ≤ 1048576 }
+    requires few { own ≤ max_functions }
+    requires devices { length signatures.now ≤ MAX_DEVICES }
+    requires names { length lowered.names ≤ graph.max_names }
     ensures program { IfOk result (λ p. p ≡ program_with p.text signatures.now own lowered) }
     ensures text { IfOk result (λ p. string_bytes p.text ≡ text.now) }
 {
@@ -208,8 +213,8 @@ fn program_with(
         names: lowered.names,
         signatures,
         opening,
-        value_first: FnId(first + 41),
-        text_first: FnId(first + 42),
+        value_first: FnId(first + VALUE_FIRST),
+        text_first: FnId(first + TEXT_FIRST),
         text,
     })
 }
@@ -280,7 +285,7 @@ fn built_program(
 /// first one.
 #[tactic(auto, using(crate::proofs::PlainPrograms::is_program))]
 pub fn load(alloc: Global, text: &str, signatures: &[Signature]) -> Result<Program, LoadFault>
-    requires text { length text.now ≤ 16777216 }
+    requires text { length text.now ≤ max_bytes }
     requires devices { AreSignatures signatures.now }
     ensures program { IfOk result (IsProgramOf text.now signatures.now) }
     ensures well_formed { IfOk result graph.IsWellFormed }
@@ -307,7 +312,7 @@ pub fn load_to_run(
     text: &str,
     signatures: &[Signature],
 ) -> Result<Program, LoadFault>
-    requires text { length text.now ≤ 16777216 }
+    requires text { length text.now ≤ max_bytes }
     requires devices { AreSignatures signatures.now }
     ensures program { IfOk result (IsProgramToRun text.now signatures.now) }
     ensures well_formed { IfOk result graph.IsWellFormed }

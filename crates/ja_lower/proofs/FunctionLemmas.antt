@@ -14,9 +14,8 @@ use Rattle.ja_graph.specs.declared.node.NodeInfo.{NodeInfo}
 use Rattle.ja_graph.specs.declared.program.Function.{Function}
 use Rattle.ja_graph.specs.declared.program.Program.{Program}
 use Rattle.ja_graph.specs.Node.{register_set, registers_named, registers_in, name_in, function_in}
-use Rattle.ja_graph.specs.WellFormed.{LastIsEscape}
 use Rattle.ja_graph.specs.Renaming.{renamed}
-use Rattle.ja_graph.specs.WellFormed.{IsRegister, IsDestination, IsName, IsFunction, IsAllowed, IsNodeWellFormed, IsFunctionWellFormed}
+use Rattle.ja_graph.specs.WellFormed.{IsRegister, IsDestination, IsName, IsFunction, IsAllowed, IsNodeWellFormed, IsFunctionWellFormed, LastIsEscape, max_registers}
 use Rattle.ja_graph.proofs.RegisterLemmas.{first_stay, each_among}
 use Rattle.ja_lower_listing.specs.declared.item.Item.{Item}
 use Rattle.ja_lower_listing.specs.Listing.{assembled}
@@ -255,7 +254,7 @@ module _ (p : Program) (first : ℕ) (body : Body) (fits : FitsIn p body) where
         handler = omega (arith, inside.handler, count);
       }
 
-  pub function_well_formed : registers_of (length body.parameters) body.nodes ≤ 262144
+  pub function_well_formed : registers_of (length body.parameters) body.nodes ≤ max_registers
       → IsFunctionWellFormed p (function_of first body)
   function_well_formed few =
       let fn = function_of first body in
@@ -299,13 +298,13 @@ get-functions first (body ∷ bodies) (suc f) fn is =
 
 pub functions_well_formed : (p : Program) (first : ℕ) (bodies : List Body)
     → AllByRecursion (FitsIn p) bodies → p.functions ≡ functions_of first bodies
-    → (f : ℕ) (fn : Function) → slice_get p.functions f ≡ Some fn → fn.registers ≤ 262144
+    → (f : ℕ) (fn : Function) → slice_get p.functions f ≡ Some fn → fn.registers ≤ max_registers
     → IsFunctionWellFormed p fn
 functions_well_formed p first bodies fit are f fn is few =
     let from = get-functions first bodies f fn (ap (λ fs. slice_get fs f) (sym are) ∙ is) in
     let fits = all_at (FitsIn p) bodies f from.1 fit from.2 in
     let low : registers_of (length from.1.parameters) from.1.nodes
-    ≤ 262144 = subst (λ (g : Function). g.registers ≤ 262144) (sym from.3) few in
+    ≤ max_registers = subst (λ (g : Function). g.registers ≤ max_registers) (sym from.3) few in
     subst (IsFunctionWellFormed p) from.3 (function_well_formed p from.0 from.1 fits low)
 
 -- the functions that the nodes of a body make objects of are those of a program with more functions

@@ -8,7 +8,7 @@ use Rattle.ja_prim.specs.declared.signature.Signature.{Signature}
 use Rattle.ja_graph.specs.declared.program.Function.{Function}
 use Rattle.ja_graph.specs.declared.program.Program.{Program}
 use Rattle.ja_graph.specs.declared.program.SiteInfo.{SiteInfo}
-use Rattle.ja_graph.specs.WellFormed.{IsFunctionWellFormed, OwnedMaking, makings_from, IsSiteTold, NamesFunctions, node_count}
+use Rattle.ja_graph.specs.WellFormed.{IsFunctionWellFormed, OwnedMaking, makings_from, IsSiteTold, NamesFunctions, node_count, max_registers}
 use Rattle.ja_lower_statements.specs.Functions.{program_listing, function_listing}
 use Rattle.ja_lower_draft.specs.Lines.{Scene}
 use Rattle.ja_lower_names.specs.Names.{number}
@@ -210,7 +210,7 @@ module _ (names paths : List (List ℕ)) (prelude : List Statement) (signatures 
 
     are_well_formed : AreAllowed (own_bodies names prelude) → p.names ≡ whole.names
         → p.signatures ≡ signatures → (f : ℕ) (fn : Function) → slice_get p.functions f ≡ Some fn
-        → fn.registers ≤ 262144 → IsFunctionWellFormed p fn
+        → fn.registers ≤ max_registers → IsFunctionWellFormed p fn
     are_well_formed allowed same asked f fn is few =
         let in_names : p.names ≡ names_of false before statements = same ∙ whole_names in
         let there : length (names_of false before statements)
@@ -310,7 +310,7 @@ pub functions_are_well_formed : (names paths : List (List ℕ)) (prelude : List 
     → AreAllowed (prelude_bodies (prelude_names names prelude) prelude)
     → p.functions ≡ (lowered_with_prelude names paths prelude signatures first statements).functions
     → p.names ≡ (lowered_with_prelude names paths prelude signatures first statements).names
-    → p.signatures ≡ signatures → slice_get p.functions f ≡ Some fn → fn.registers ≤ 262144
+    → p.signatures ≡ signatures → slice_get p.functions f ≡ Some fn → fn.registers ≤ max_registers
     → IsFunctionWellFormed p fn
 functions_are_well_formed names paths prelude signatures first statements p f fn path_each allowed
     functions same asked is few =

@@ -7,7 +7,7 @@ ghost use Rattle.std.specs.Option.{option_map_or};
 ghost use Rattle.ja_lower_names.specs.Names.{number};
 ghost use Rattle.ja_lower_names.specs.TextOrder as text;
 ghost use Rattle.ja_lower_listing.specs.Listing.{assembled};
-ghost use Rattle.ja_lower.specs.Limits.{size_of_body, size_of_bodies};
+ghost use Rattle.ja_lower.specs.Limits.{max_size, size_of_body, size_of_bodies};
 ghost use Rattle.ja_lower.specs.Lowering as spec;
 ghost use Rattle.ja_lower.specs.code.Room.{Exceeds};
 
@@ -28,7 +28,7 @@ const MAX_NODES: usize = 65_536;
 /// The nodes of a listing, if there is room for them.
 #[tactic(auto, using(ja_lower_listing::proofs::Kept::assembled_counted))]
 fn nodes_of(alloc: Global, listing: Draft, room: usize) -> Result<Seq<NodeInfo>, LowerFault>
-    requires { room ≤ 65536 }
+    requires { room ≤ max_size }
     ensures nodes { IfOk result (λ nodes. nodes ≡ assembled listing.items) }
     ensures within { IfOk result (λ nodes. length nodes ≤ room) }
     ensures fault { IfErr result (Exceeds room (length (assembled listing.items))) }
@@ -67,7 +67,7 @@ fn program_body(
     statements: &[Statement],
     room: usize,
 ) -> Result<Body, LowerFault>
-    requires { room ≤ 65536 }
+    requires { room ≤ max_size }
     ensures body { IfOk result (λ body. body ≡ spec.program_body scene.now statements.now) }
     ensures within { IfOk result (λ body. size_of_body body ≤ room) }
     ensures fault { IfErr result (Exceeds room
@@ -88,7 +88,7 @@ fn function_body(
     function: &FunctionTree,
     room: usize,
 ) -> Result<Body, LowerFault>
-    requires { room ≤ 65536 }
+    requires { room ≤ max_size }
     ensures body { IfOk result (λ body. body ≡ spec.function_body scene.now function.now) }
     ensures within { IfOk result (λ body. size_of_body body ≤ room) }
     ensures fault { IfErr result (Exceeds room
@@ -116,7 +116,7 @@ fn add_functions(
     room: usize,
     bodies: &mut Vec<Body>,
 ) -> Result<(), LowerFault>
-    requires { room ≤ 65536 }
+    requires { room ≤ max_size }
     ensures bodies { OnOk result (bodies.new.items ≡ bodies.old.items
         ++ map (λ f. spec.function_body scene.now f.now) functions.now) }
     ensures within { OnOk result (sum_by (λ f. size_of_body (spec.function_body scene.now f.now))
@@ -142,8 +142,8 @@ fn all_bodies(
     requires functions { map (λ f. f.now) functions.now ≡ text.functions_in statements.now }
     ensures bodies { IfOk result (λ bodies. bodies.items ≡ spec.bodies_of scene.now statements.now) }
     ensures within { IfOk result (λ bodies. size_of_bodies (spec.bodies_of scene.now statements.now)
-        ≤ 65536) }
-    ensures fault { IfErr result (Exceeds 65536
+        ≤ max_size) }
+    ensures fault { IfErr result (Exceeds max_size
         (size_of_bodies (spec.bodies_of scene.now statements.now))) }
 {
     let program = program_body(scene, statements, MAX_NODES)?;
@@ -179,8 +179,8 @@ pub(crate) fn bodies_of(
         ≡ spec.bodies_of (spec.scene_of names.now statements.now) statements.now) }
     ensures within { IfOk result (λ bodies.
         size_of_bodies (spec.bodies_of (spec.scene_of names.now statements.now) statements.now)
-        ≤ 65536) }
-    ensures fault { IfErr result (Exceeds 65536
+        ≤ max_size) }
+    ensures fault { IfErr result (Exceeds max_size
         (size_of_bodies (spec.bodies_of (spec.scene_of names.now statements.now) statements.now))) }
 {
     let places = places_of(alloc, functions)?;
@@ -228,8 +228,8 @@ fn all_prelude(
         (text.functions_in statements.now))) }
     ensures within { IfOk result (λ bodies.
         size_of_bodies (map (spec.function_body scene.now) (text.functions_in statements.now))
-        ≤ 65536) }
-    ensures fault { IfErr result (Exceeds 65536
+        ≤ max_size) }
+    ensures fault { IfErr result (Exceeds max_size
         (size_of_bodies (map (spec.function_body scene.now) (text.functions_in statements.now)))) }
 {
     let mut bodies = Vec::with_capacity(scene.alloc, functions.len())?;
@@ -251,8 +251,8 @@ pub(crate) fn prelude_bodies(
     ensures bodies { IfOk result (λ bodies. bodies.items
         ≡ spec.at_paths paths.now (spec.prelude_bodies names.now statements.now)) }
     ensures within { IfOk result (λ bodies.
-        size_of_bodies (spec.prelude_bodies names.now statements.now) ≤ 65536) }
-    ensures fault { IfErr result (Exceeds 65536
+        size_of_bodies (spec.prelude_bodies names.now statements.now) ≤ max_size) }
+    ensures fault { IfErr result (Exceeds max_size
         (size_of_bodies (spec.prelude_bodies names.now statements.now))) }
 {
     let places = places_of(alloc, functions)?;

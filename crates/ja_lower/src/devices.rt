@@ -3,6 +3,7 @@
 ghost use Rattle.std.specs.Prelude.{◌≡◌, ◌≤◌, ℕ, length, IfOk};
 ghost use Rattle.std.specs.List.{AllByRecursion};
 ghost use Rattle.ja_graph.specs.WellFormed.{max_registers};
+ghost use Rattle.ja_graph.specs.declared.program.TheConstants.{MAX_DEVICES};
 ghost use Rattle.ja_lower.specs.Lowering as spec;
 
 use crate::Body;
@@ -50,7 +51,7 @@ fn device_body(alloc: Global, which: u32, signature: &Signature) -> Result<Body,
 /// The functions of devices, each by its name.
 #[tactic(auto, unfolding(crate::specs::Lowering::device_bodies))]
 fn device_bodies(alloc: Global, signatures: &[Signature]) -> Result<Vec<Body>, Memory>
-    requires few { length signatures.now ≤ 64 }
+    requires few { length signatures.now ≤ MAX_DEVICES }
     ensures { IfOk result (λ bodies. bodies.items ≡ spec.device_bodies signatures.now) }
 {
     let mut bodies = Vec::with_capacity(alloc, signatures.len())?;
@@ -64,7 +65,7 @@ fn device_bodies(alloc: Global, signatures: &[Signature]) -> Result<Vec<Body>, M
 /// are the same wherever sites are numbered from. The error is want of memory.
 #[tactic(auto, using(crate::proofs::DeviceBodies::devices_alike))]
 pub fn device_functions(alloc: Global, signatures: &[Signature]) -> Result<Seq<Function>, Memory>
-    requires few { length signatures.now ≤ 64 }
+    requires few { length signatures.now ≤ MAX_DEVICES }
     ensures functions { IfOk result (λ functions. (first : ℕ)
         → functions ≡ spec.functions_of first (spec.device_bodies signatures.now)) }
     ensures registers { IfOk result (λ functions.

@@ -17,11 +17,12 @@
 ghost use Rattle.std.specs.Prelude.{◌≡◌, ◌<◌, ◌≤◌, ◌+◌, ◌^◌, length, map, filter, IfOk, IfErr, OnOk};
 ghost use Rattle.std.specs.List.{AllByRecursion, fold};
 ghost use Rattle.ja_graph.specs.WellFormed.{max_names, max_registers};
+ghost use Rattle.ja_graph.specs.declared.program.TheConstants.{MAX_DEVICES};
 ghost use Rattle.ja_lower_expressions.specs.Specials.{is_name};
 ghost use Rattle.ja_lower_names.specs.Names.{with_name};
 ghost use Rattle.ja_lower_names.specs.code.TextParts.{named_of};
-ghost use Rattle.ja_lower.specs.Limits.{IsWithin};
-ghost use Rattle.ja_lower.specs.code.Limits.{Explains, ExplainsPrelude, IsPreludeWithin};
+ghost use Rattle.ja_lower.specs.Limits.{IsWithin, max_functions};
+ghost use Rattle.ja_lower.specs.code.Limits.{Explains, ExplainsPrelude, IsPreludeWithin, max_names_before};
 ghost use Rattle.ja_lower.specs.Lowering as spec;
 ghost use Rattle.ja_lower.specs.code.Room.{HasTooMany};
 
@@ -81,7 +82,7 @@ fn names_of<'a>(
     first: &'a [Text16],
     statements: &'a [Statement],
 ) -> Result<Names<'a>, Memory>
-    requires { length first.now ≤ 65536 }
+    requires { length first.now ≤ max_names_before }
     ensures { IfOk result (λ names. names ≡ spec.names_of specials first.now statements.now) }
 {
     let mut names = Names::new(alloc);
@@ -137,7 +138,7 @@ pub fn lower(
     names: &[Text16],
     first_site: u32,
 ) -> Result<Lowered, LowerFault>
-    requires names { length names.now ≤ 65536 }
+    requires names { length names.now ≤ max_names_before }
     ensures lowered { IfOk result (λ l. l ≡ spec.lowered names.now first_site tree.now.statements) }
     ensures within { IfOk result (λ l. IsWithin names.now tree.now.statements) }
     ensures registers { IfOk result (λ l. AllByRecursion (λ fn. fn.registers ≤ max_registers)
@@ -164,7 +165,7 @@ pub fn prelude_names(
     names: &[Text16],
     statements: &[Statement],
 ) -> Result<Seq<Text16>, Memory>
-    requires { length names.now ≤ 65536 }
+    requires { length names.now ≤ max_names_before }
     ensures { IfOk result (λ texts. texts ≡ spec.prelude_names names.now statements.now) }
 {
     let names = names_of(alloc, true, names, statements)?;
@@ -189,8 +190,8 @@ pub fn lower_prelude(
     first_site: u32,
     first_function: u32,
 ) -> Result<Lowered, LowerFault>
-    requires names { length names.now ≤ 65536 }
-    requires functions { first_function ≤ 4160 }
+    requires names { length names.now ≤ max_names_before }
+    requires functions { first_function ≤ max_functions + MAX_DEVICES }
     ensures lowered { IfOk result (λ l. l ≡ spec.lowered_prelude names.now paths.now first_site
         first_function statements.now) }
     ensures within { IfOk result (λ l. IsPreludeWithin names.now statements.now) }

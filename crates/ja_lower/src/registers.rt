@@ -1,6 +1,7 @@
 //! How many registers a function has.
 
 ghost use Rattle.std.specs.Prelude.{◌≡◌, ◌≤◌, IfOk};
+ghost use Rattle.ja_graph.specs.WellFormed.{max_registers};
 ghost use Rattle.ja_lower.specs.Lowering as spec;
 
 use ja_base::Memory;
@@ -14,7 +15,7 @@ const MAX_REGISTERS: u64 = 262_144;
 #[tactic(auto, unfolding(crate::specs::Lowering::registers_of))]
 pub(crate) fn register_count(parameters: usize, nodes: &[NodeInfo]) -> Result<u32, Memory>
     ensures count { IfOk result (λ count. count ≡ spec.registers_of parameters nodes.now) }
-    ensures few { IfOk result (λ count. count ≤ 262144) }
+    ensures few { IfOk result (λ count. count ≤ max_registers) }
 {
     if parameters > MAX_REGISTERS as usize {
         return Err(Memory);

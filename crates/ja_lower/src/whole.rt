@@ -2,6 +2,7 @@
 
 ghost use Rattle.std.specs.Prelude.{◌≡◌, ◌<◌, ◌≤◌, ◌+◌, ◌^◌, ◌++◌, ◌∷◌, [], length, IfOk, OnOk};
 ghost use Rattle.std.specs.List.{AllByRecursion};
+ghost use Rattle.ja_graph.specs.WellFormed.{max_registers};
 ghost use Rattle.ja_lower.specs.Lowering as spec;
 
 use crate::Body;
@@ -22,7 +23,7 @@ pub(crate) struct Whole {
 /// A function whose sites are numbered from a number on.
 fn function_of(first: u32, body: Body) -> Result<Function, Memory>
     ensures function { IfOk result (λ f. f ≡ spec.function_of first body) }
-    ensures registers { IfOk result (λ f. f.registers ≤ 262144) }
+    ensures registers { IfOk result (λ f. f.registers ≤ max_registers) }
 {
     let registers = register_count(body.parameters.len(), body.nodes.as_slice())?;
     let nodes = numbered(first, body.nodes)?;
@@ -43,7 +44,7 @@ fn add(whole: &mut Whole, first_site: u32, first_function: u32, body: Body) -> R
     ensures sites { OnOk result (whole.new.sites.items ≡ whole.old.sites.items
         ++ spec.sites_of_nodes (first_function + length whole.old.functions.items) body.nodes) }
     ensures registers { OnOk result ((spec.function_of (first_site + length whole.old.sites.items)
-        body).registers ≤ 262144) }
+        body).registers ≤ max_registers) }
 {
     let function = FnId(first_function + whole.functions.len() as u32);
     let first = behind(first_site, whole.sites.len())?;
@@ -64,7 +65,7 @@ pub(crate) fn whole_of(
     ensures functions { IfOk result (λ w. w.functions.items
         ≡ spec.functions_of first_site bodies.items) }
     ensures sites { IfOk result (λ w. w.sites.items ≡ spec.sites_of first_function bodies.items) }
-    ensures registers { IfOk result (λ w. AllByRecursion (λ f. f.registers ≤ 262144)
+    ensures registers { IfOk result (λ w. AllByRecursion (λ f. f.registers ≤ max_registers)
         w.functions.items) }
 {
     let mut whole = Whole {

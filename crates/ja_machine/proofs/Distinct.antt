@@ -8,6 +8,7 @@ use Rattle.std.proofs.lemmas.Bool.{false≢true, cases_Bool}
 use lib.Pointwise.{bytes_decides}
 use Rattle.ja_base.proofs.Lists.{all_weaker}
 use Rattle.ja_graph.specs.declared.attrs.Attrs.{Attrs}
+use Rattle.ja_graph.specs.declared.attrs.TheConstants.{DONT_DELETE}
 use Rattle.ja_prim.specs.Texts.{same_text}
 use Rattle.ja_machine.specs.declared.machine.Addr.{Addr}
 use Rattle.ja_machine.specs.declared.machine.Value.{Value}
@@ -19,7 +20,7 @@ use Rattle.ja_machine.specs.declared.machine.Heap.{Heap}
 use Rattle.ja_machine.specs.Heap.{object_at, property_of, own, prototypes}
 use Rattle.ja_machine.specs.Writes.{with_value, with_definition}
 use Rattle.ja_machine.specs.Frames.{argument}
-use Rattle.ja_machine.specs.Objects.{dont_delete, property_with, with_flag, first_flag}
+use Rattle.ja_machine.specs.Objects.{property_with, with_flag, first_flag}
 use Rattle.ja_machine.specs.Objects.{with_property, with_parameters}
 use Rattle.ja_machine.specs.Objects.{argument_element, with_elements}
 use Rattle.ja_machine.specs.Enumeration.{is_enumerable, own_names, names_along, names}
@@ -165,7 +166,7 @@ pub distinct-with_parameters :
 distinct-with_parameters [] qs arguments flags all = all
 distinct-with_parameters (name ∷ names) qs arguments flags all =
     let value : Value = argument arguments 0 in
-    let q : Property = with_flag (property_with name value dont_delete) (first_flag flags) in
+    let q : Property = with_flag (property_with name value DONT_DELETE) (first_flag flags) in
     let further : HaveDistinctNames (with_property qs q) = distinct-with_property qs q all in
     distinct-with_parameters names (with_property qs q) (drop 1 arguments) (drop 1 flags) further
 

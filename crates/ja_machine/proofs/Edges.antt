@@ -16,6 +16,7 @@ use Rattle.ja_base.specs.declared.ids.Site.{Site}
 use Rattle.ja_prim.specs.declared.primitive.Primitive.{Primitive}
 use Rattle.ja_prim.specs.declared.primitive.Primitive.TheVariants as primitive
 use Rattle.ja_graph.specs.declared.attrs.Attrs.{Attrs}
+use Rattle.ja_graph.specs.declared.attrs.TheConstants.{DONT_DELETE}
 use Rattle.ja_graph.specs.declared.builtins.TheConstants as builtins
 use Rattle.ja_graph.specs.declared.node.Args.{Args}
 use Rattle.ja_graph.specs.declared.node.Hint.{Hint}
@@ -49,7 +50,7 @@ use Rattle.ja_machine.specs.Writes.{put, define, delete, can_delete}
 use Rattle.ja_machine.specs.Values.{OperatorOutcome, unary, binary, key_of}
 use Rattle.ja_machine.specs.Enumeration.{names}
 use Rattle.ja_machine.specs.Frames.{register_of, thrown, scope, undefined, with_result, with_register, moved_to, with_remaining, entered}
-use Rattle.ja_machine.specs.Objects.{dont_delete, first_of, error_object, empty_object, wrapper, text_length, scope_object}
+use Rattle.ja_machine.specs.Objects.{first_of, error_object, empty_object, wrapper, text_length, scope_object}
 use Rattle.ja_machine.specs.Events.{Standing, next_state, goes_on, sets, sets_in, left_scope, throws, throws_value, sets_content, sets_outcome, unbound_message, nothing_message, not_an_object_message, array_length_message, no_function_message, no_prototype_message, not_a_function_message, not_a_constructor_message}
 use Rattle.ja_machine.specs.Calls.{ArgumentsRead, given, chain_of, receiver_of, object_in, function_called, function_constructing, enters, calls_with, calls, register_values, constructs_with, constructs, stays, default_function, convert_step, constructed, returns, return_step, escape_step}
 use Rattle.ja_machine.specs.Intrinsics.{Computation, rows}
@@ -369,8 +370,8 @@ module _ (p : Program) (s : Standing) (frames_are : s.conf.frames ≡ s.top ∷ 
       let h : Heap = s.conf.heap in
       let text : List ℕ = Nodes.name_text p name in
       goes_along _ (either_way (AllStay h) (is_some (own h a text)) h
-      (define h a text (contents.Value undefined) dont_delete) (λ e. stay_same h)
-      (λ e. stay-define h a text (contents.Value undefined) dont_delete))
+      (define h a text (contents.Value undefined) DONT_DELETE) (λ e. stay_same h)
+      (λ e. stay-define h a text (contents.Value undefined) DONT_DELETE))
   declare_along name (value.Primitive q) = refl
 
   bind_along : (name : NameId) (read_only : Bool) (v x : Value)

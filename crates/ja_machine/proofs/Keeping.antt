@@ -13,6 +13,7 @@ use Rattle.ja_base.specs.declared.ids.ScopeKind.{ScopeKind}
 use Rattle.ja_base.specs.declared.ids.ScopeKind.TheVariants as scope_kind
 use Rattle.ja_base.specs.declared.ids.Site.{Site}
 use Rattle.ja_base.proofs.Lists.{all_weaker}
+use Rattle.ja_graph.specs.declared.attrs.TheConstants.{DONT_DELETE}
 use Rattle.ja_prim.specs.declared.primitive.Primitive.{Primitive}
 use Rattle.ja_prim.specs.declared.primitive.Primitive.TheVariants as primitive
 use Rattle.ja_prim.specs.Texts.{is_short}
@@ -50,7 +51,7 @@ use Rattle.ja_machine.specs.Writes.{put, define, delete, can_delete}
 use Rattle.ja_machine.specs.Enumeration.{names}
 use Rattle.ja_machine.specs.Values.{OperatorOutcome, unary, binary, key_of}
 use Rattle.ja_machine.specs.Frames.{undefined, register_of, thrown, scope, parameters_of, object_or_undefined, with_remaining}
-use Rattle.ja_machine.specs.Objects.{dont_delete, first_of, empty_object, wrapper, text_length}
+use Rattle.ja_machine.specs.Objects.{first_of, empty_object, wrapper, text_length}
 use Rattle.ja_machine.specs.Objects.{scope_object, function_object, prototype_object}
 use Rattle.ja_machine.specs.Objects.{constructed_object, sharing, with_parameters, with_property}
 use Rattle.ja_machine.specs.Objects.{property_with, empty_arguments, arguments_object, activation}
@@ -462,7 +463,7 @@ module _ (p : Program) (good : IsWellFormed p) (s : Standing) (here : IsAt p s) 
       let flags : List Bool = sharing names s.top.arguments in
       let bound : List Property = with_parameters [] names s.top.arguments flags in
       let own_arguments : Property = property_with (codes "arguments")
-      (value.Object (new_address s.conf.heap list)) dont_delete in
+      (value.Object (new_address s.conf.heap list)) DONT_DELETE in
       let o : Object = activation outer (with_property bound own_arguments) in
       let before : List Property =
       (empty_arguments (object_or_undefined s.top.callee) (length s.top.arguments)).properties in
@@ -516,10 +517,10 @@ module _ (p : Program) (good : IsWellFormed p) (s : Standing) (here : IsAt p s) 
   declare_kept name (value.Primitive q) = tt
   declare_kept name (value.Object a) =
       let text : List ℕ = Nodes.name_text p name in
-      let now : Heap = define s.conf.heap a text (contents.Value undefined) dont_delete in
+      let now : Heap = define s.conf.heap a text (contents.Value undefined) DONT_DELETE in
       standing.goes_on_kept p good s here _ (either_way (IsKept p s.conf.heap)
       (is_some (own s.conf.heap a text)) s.conf.heap now (λ e. standing.same p good s here)
-      (λ e. kept-define p s.conf.heap a here.heap text (contents.Value undefined) dont_delete
+      (λ e. kept-define p s.conf.heap a here.heap text (contents.Value undefined) DONT_DELETE
       tt))
 
   bind_kept : (name : NameId) (read_only : Bool) (v x : Value) → Held v

@@ -6,6 +6,7 @@ use Rattle.std.specs.List.{AllByRecursion}
 use Rattle.std.specs.Option.{is_some}
 use Rattle.std.proofs.lemmas.Bool.{false≢true}
 use Rattle.std.proofs.lemmas.Option.{same_Some}
+use Rattle.ja_graph.specs.declared.attrs.TheConstants.{DONT_DELETE}
 use Rattle.ja_graph.specs.declared.program.Class.{Class}
 use Rattle.ja_graph.specs.declared.program.Class.TheVariants as class
 use Rattle.ja_graph.specs.declared.program.Program.{Program}
@@ -17,7 +18,7 @@ use Rattle.ja_machine.specs.declared.machine.Property.{Property}
 use Rattle.ja_machine.specs.declared.machine.Object.{Object}
 use Rattle.ja_machine.specs.declared.machine.Heap.{Heap}
 use Rattle.ja_machine.specs.Frames.{argument}
-use Rattle.ja_machine.specs.Objects.{dont_delete, property_with, with_flag, first_flag}
+use Rattle.ja_machine.specs.Objects.{property_with, with_flag, first_flag}
 use Rattle.ja_machine.specs.Objects.{with_property, with_parameters, argument_element}
 use Rattle.ja_machine.specs.Objects.{with_elements}
 use Rattle.ja_machine.specs.State.{IsObjectOf, IsValueOf, IsContentOf, HaveDistinctNames}
@@ -83,7 +84,7 @@ module _ (h : Heap) where
       → Hold (IsContentOf h) (with_parameters qs names arguments flags)
   hold-with_parameters [] qs arguments flags values all = all
   hold-with_parameters (name ∷ names) qs arguments flags values all =
-      let q : Property = with_flag (property_with name (argument arguments 0) dont_delete)
+      let q : Property = with_flag (property_with name (argument arguments 0) DONT_DELETE)
       (first_flag flags) in
       hold-with_parameters names (with_property qs q) (drop 1 arguments) (drop 1 flags)
       (all_drop (IsValueOf h) 1 arguments values)

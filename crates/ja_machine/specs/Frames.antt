@@ -8,7 +8,7 @@ use Rattle.ja_base.specs.declared.ids.NodeId.{NodeId}
 use Rattle.ja_base.specs.declared.ids.Reg.{Reg}
 use Rattle.ja_prim.specs.declared.primitive.Primitive.TheVariants.{Undefined}
 use Rattle.ja_prim.specs.Texts.{same_text}
-use Rattle.ja_graph.specs.declared.registers.TheConstants.{SCOPE, THROWN}
+use Rattle.ja_graph.specs.declared.registers.TheConstants.{SCOPE, THROWN, REST}
 use Rattle.ja_graph.specs.declared.program.Function.{Function}
 use Rattle.ja_graph.specs.declared.program.Program.{Program}
 use Rattle.ja_machine.specs.declared.machine.Addr.{Addr}
@@ -64,7 +64,7 @@ abbrev pub entry_registers : ℕ → ℕ → Addr → Option Addr → Addr → L
 entry_registers registers parameters receiver callee chain arguments =
     undefined ∷ value.Object receiver ∷ value.Object chain ∷ object_or_undefined callee
     ∷ whole_number (length arguments) ∷ map (argument arguments) (range_with_len 0 parameters)
-    ++ replicate (registers - 5 - parameters) undefined
+    ++ replicate (registers - REST.0 - parameters) undefined
 
 -- the frame of a function that is entered after so many steps
 abbrev pub entered : Program → ℕ → FnId → Addr → Option Addr → Addr → List Value → Frame

@@ -3,7 +3,6 @@ use Rattle.std.specs.Prelude.{ℕ, zero, suc, Bool, true, false, not, if◌then�
 use Rattle.std.specs.Option.{option_and_then, option_map, option_map_or}
 use Rattle.std.specs.List.{sum_by, list_any}
 use Rattle.ja_base.specs.declared.ids.Site.{Site}
-use Rattle.ja_graph.specs.declared.attrs.Attrs.{Attrs}
 use Rattle.ja_graph.specs.declared.program.Class.{Class}
 use Rattle.ja_prim.specs.Texts.{same_text}
 use Rattle.ja_machine.specs.declared.machine.Addr.{Addr}
@@ -88,10 +87,6 @@ has h a name = is_some (get h a name)
 
 abbrev pub can_put : Heap → Addr → List ℕ → Bool
 can_put h a name = option_map_or (λ (q : Property). not q.attrs.read_only) (get h a name) true
-
--- no attribute is set
-abbrev pub no_attrs : Attrs
-no_attrs = record { read_only = false; dont_enum = false; dont_delete = false }
 
 -- whether the own property of the name is there, and shared by a parameter and `arguments` (10.1.8)
 abbrev pub is_shared : Heap → Addr → List ℕ → Bool

@@ -1,6 +1,6 @@
 -- The operations that the built-in functions are written with: what each gives of the values that
 -- it takes and of the heap.
-use Rattle.std.specs.Prelude.{◌≡◌, ◌⊎◌, ℕ, suc, ◌∷◌, pos, negsuc, nat_le, Bool, false, ◌&&◌, if◌then◌else◌, List, [], map, length, Option, Some, None, is_some, Result, Ok, Err}
+use Rattle.std.specs.Prelude.{◌≡◌, ◌⊎◌, ℕ, suc, ◌∷◌, ◌++◌, pos, negsuc, nat_le, Bool, false, ◌&&◌, if◌then◌else◌, List, [], map, length, Option, Some, None, is_some, Result, Ok, Err}
 use Rattle.std.specs.Fmt.{digits}
 use Rattle.std.specs.Option.{option_and_then, option_map, option_map_or}
 use lib.Chars.{codes}
@@ -105,11 +105,19 @@ is_list h (value.Primitive q) = false
 abbrev pub radix_text : ℕ → Num → List ℕ
 radix_text radix NaN = codes "NaN"
 radix_text radix (Whole (pos n)) = digits radix false n
-radix_text radix (Whole (negsuc n)) = 45 ∷ digits radix false (suc n)
+radix_text radix (Whole (negsuc n)) = codes "-" ++ digits radix false (suc n)
+
+-- the least and the greatest radix
+abbrev pub min_radix : ℕ
+min_radix = 2
+
+abbrev pub max_radix : ℕ
+max_radix = 36
 
 abbrev pub digits_of : Heap → Value → Value → IntrinsicOutcome
 digits_of h (value.Primitive (Number n)) (value.Primitive (Number (Whole (pos radix)))) =
-    if nat_le 2 radix && nat_le radix 36 then Ok (Text (radix_text radix n)) else refused
+    if nat_le min_radix radix && nat_le radix max_radix then Ok (Text (radix_text radix n))
+    else refused
 digits_of h v w = refused
 
 -- ---- all of them

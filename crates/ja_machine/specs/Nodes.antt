@@ -12,6 +12,7 @@ use Rattle.ja_prim.specs.declared.primitive.Primitive.{Primitive}
 use Rattle.ja_prim.specs.declared.primitive.Primitive.TheVariants as primitive
 use Rattle.ja_prim.specs.Texts.{is_short}
 use Rattle.ja_graph.specs.declared.attrs.Attrs.{Attrs}
+use Rattle.ja_graph.specs.declared.attrs.TheConstants.{DONT_DELETE}
 use Rattle.ja_graph.specs.declared.builtins.TheConstants as builtins
 use Rattle.ja_graph.specs.declared.node.Wrappers.{Wrappers}
 use Rattle.ja_graph.specs.declared.node.Node.{Node}
@@ -39,7 +40,7 @@ use Rattle.ja_machine.specs.Writes.{put, define, delete, can_delete, is_array}
 use Rattle.ja_machine.specs.Enumeration.{names, shows}
 use Rattle.ja_machine.specs.Values.{unary, binary, truth, key_of}
 use Rattle.ja_machine.specs.Frames.{undefined, register_of, scope, thrown, moved_to, with_register, parameters_of, object_or_undefined, remaining, with_remaining, without_first}
-use Rattle.ja_machine.specs.Objects.{dont_delete, first_of, empty_object, wrapper, text_length, scope_object, function_object, prototype_object, sharing, with_parameters, with_property, property_with, arguments_object, activation}
+use Rattle.ja_machine.specs.Objects.{first_of, empty_object, wrapper, text_length, scope_object, function_object, prototype_object, sharing, with_parameters, with_property, property_with, arguments_object, activation}
 use Rattle.ja_machine.specs.Events.{Standing, next_state, goes_on, sets, sets_in, left_scope, throws, throws_value, sets_content, sets_outcome, unbound_message, nothing_message, not_an_object_message, array_length_message, no_function_message, no_prototype_message}
 use Rattle.ja_machine.specs.Intrinsics.{Computation, rows}
 use Rattle.ja_machine.specs.Calls.{call_step, new_step, convert_step, return_step, escape_step}
@@ -220,7 +221,7 @@ enter s site outer names (Some list) =
     let flags = sharing names s.top.arguments in
     let bound = with_parameters [] names s.top.arguments flags in
     let own = activation outer (with_property bound
-    (property_with (codes "arguments") (value.Object (new_address h list)) dont_delete)) in
+    (property_with (codes "arguments") (value.Object (new_address h list)) DONT_DELETE)) in
     enters_scope
     s
     (with_new (with_new h site own) list (arguments_object (object_or_undefined s.top.callee)
@@ -237,11 +238,11 @@ declare_step p s name (value.Object a) =
     let h = s.conf.heap in
     let text = name_text p name in
     goes_on s (if is_some (own h a text) then h
-    else define h a text (contents.Value undefined) dont_delete)
+    else define h a text (contents.Value undefined) DONT_DELETE)
 declare_step p s name (value.Primitive q) = not_taken s
 
 abbrev pub bound_attrs : Bool → Attrs
-bound_attrs read_only = record dont_delete { read_only = read_only }
+bound_attrs read_only = record DONT_DELETE { read_only = read_only }
 
 abbrev pub bind_step : Program → Standing → NameId → Bool → Value → Value → Event
 bind_step p s name read_only v (value.Object a) =

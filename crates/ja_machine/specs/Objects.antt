@@ -4,6 +4,7 @@ use Rattle.std.specs.List.{list_any}
 use lib.Chars.{codes}
 use Rattle.ja_base.specs.declared.ids.Site.{Site}
 use Rattle.ja_graph.specs.declared.attrs.Attrs.{Attrs}
+use Rattle.ja_graph.specs.declared.attrs.TheConstants.{ALL_ATTRS, DONT_DELETE, DONT_ENUM, KEPT_HIDDEN, NO_ATTRS}
 use Rattle.ja_graph.specs.declared.builtins.TheConstants as builtins
 use Rattle.ja_graph.specs.declared.node.ErrorKind.{ErrorKind}
 use Rattle.ja_graph.specs.declared.node.ErrorKind.TheVariants as error_kind
@@ -23,25 +24,8 @@ use Rattle.ja_machine.specs.declared.machine.Content.TheVariants as contents
 use Rattle.ja_machine.specs.declared.machine.Property.{Property}
 use Rattle.ja_machine.specs.declared.machine.Slots.{Slots}
 use Rattle.ja_machine.specs.declared.machine.Object.{Object}
-use Rattle.ja_machine.specs.Heap.{no_attrs}
 use Rattle.ja_machine.specs.Writes.{new_property, length_name, whole_number}
 use Rattle.ja_machine.specs.Frames.{argument}
-
--- ---- attributes
-
-abbrev pub dont_enum : Attrs
-dont_enum = record no_attrs { dont_enum = true }
-
-abbrev pub dont_delete : Attrs
-dont_delete = record no_attrs { dont_delete = true }
-
--- those of an array's length (15.4.5.2)
-abbrev pub kept_hidden : Attrs
-kept_hidden = record { read_only = false; dont_enum = true; dont_delete = true }
-
--- those of the length of a text (15.5.5.1) and of a function (15.3.5.1)
-abbrev pub all_attrs : Attrs
-all_attrs = record { read_only = true; dont_enum = true; dont_delete = true }
 
 abbrev pub property_with : List ℕ → Value → Attrs → Property
 property_with name v attrs = new_property name (contents.Value v) attrs
@@ -80,14 +64,14 @@ prototype_of_error error_kind.URIError = builtins.URI_ERROR_PROTOTYPE
 abbrev pub error_object : Site → List ℕ → Object
 error_object prototype message =
     object_with class.Error (inheriting prototype)
-    (property_with (codes "message") (value.Primitive (Text message)) no_attrs ∷ [])
+    (property_with (codes "message") (value.Primitive (Text message)) NO_ATTRS ∷ [])
 
 -- a new empty object (15.2.2.1), array (15.4.2.1) or error (15.11.2.1)
 abbrev pub empty_object : Made → Object
 empty_object made.Object = object_with class.Object (inheriting builtins.OBJECT_PROTOTYPE) []
 empty_object made.Array =
     object_with class.Array (inheriting builtins.ARRAY_PROTOTYPE)
-    (property_with length_name (whole_number 0) kept_hidden ∷ [])
+    (property_with length_name (whole_number 0) KEPT_HIDDEN ∷ [])
 empty_object (made.Error kind) = object_with class.Error (inheriting (prototype_of_error kind)) []
 
 -- the object of a boolean, a number or a text (9.9)
@@ -96,7 +80,7 @@ wrapper class prototype q properties =
     object_with class (record (inheriting prototype) { value = Some q }) properties
 
 abbrev pub text_length : List ℕ → List Property
-text_length units = property_with length_name (whole_number (length units)) all_attrs ∷ []
+text_length units = property_with length_name (whole_number (length units)) ALL_ATTRS ∷ []
 
 -- an object before a scope chain (12.14, 13), made as by `new Object()`
 abbrev pub scope_object : Addr → Object
@@ -111,14 +95,14 @@ function_object parameters chain prototype =
     object_with
     class.Function
     (record (inheriting builtins.FUNCTION_PROTOTYPE) { scope = Some chain })
-    (property_with length_name (whole_number parameters) all_attrs
-    ∷ property_with (codes "prototype") (value.Object prototype) dont_delete ∷ [])
+    (property_with length_name (whole_number parameters) ALL_ATTRS
+    ∷ property_with (codes "prototype") (value.Object prototype) DONT_DELETE ∷ [])
 
 -- the object that its constructions inherit from
 abbrev pub prototype_object : Addr → Object
 prototype_object function =
     object_with class.Object (inheriting builtins.OBJECT_PROTOTYPE)
-    (property_with (codes "constructor") (value.Object function) dont_enum ∷ [])
+    (property_with (codes "constructor") (value.Object function) DONT_ENUM ∷ [])
 
 -- what a construction makes (13.2.2)
 abbrev pub constructed_object : Addr → Object
@@ -153,7 +137,7 @@ abbrev pub with_parameters : List Property → List (List ℕ) → List Value �
 with_parameters qs [] arguments flags = qs
 with_parameters qs (name ∷ names) arguments flags =
     with_parameters (with_property qs (with_flag
-    (property_with name (argument arguments 0) dont_delete) (first_flag flags))) names
+    (property_with name (argument arguments 0) DONT_DELETE) (first_flag flags))) names
     (drop 1 arguments) (drop 1 flags)
 
 abbrev pub index_text : ℕ → List ℕ
@@ -161,7 +145,7 @@ index_text i = to_text (Number (Whole (pos i)))
 
 -- a property that `for`-`in` doesn't show
 abbrev pub hidden : List ℕ → Value → Property
-hidden name v = property_with name v dont_enum
+hidden name v = property_with name v DONT_ENUM
 
 -- the element of `arguments` at an index
 abbrev pub argument_element : ℕ → Value → List Bool → Property

@@ -3,6 +3,7 @@ use Rattle.std.specs.Prelude.{ℕ, ◌+◌, ◌^◌, ℤ, pos, negsuc, int_lt, n
 use Rattle.std.specs.Option.{option_map_or}
 use lib.Chars.{codes}
 use Rattle.ja_graph.specs.declared.attrs.Attrs.{Attrs}
+use Rattle.ja_graph.specs.declared.attrs.TheConstants.{NO_ATTRS}
 use Rattle.ja_graph.specs.declared.program.Class.{Class}
 use Rattle.ja_graph.specs.declared.program.Class.TheVariants as class
 use Rattle.ja_prim.specs.declared.primitive.Num.{Num}
@@ -21,7 +22,7 @@ use Rattle.ja_machine.specs.declared.machine.Object.{Object}
 use Rattle.ja_machine.specs.declared.machine.Heap.{Heap}
 use Rattle.ja_machine.specs.declared.machine.Put.{Put}
 use Rattle.ja_machine.specs.declared.machine.Put.TheVariants as put_ends
-use Rattle.ja_machine.specs.Heap.{object_at, own, with_object, property_of, can_put, is_shared, no_attrs}
+use Rattle.ja_machine.specs.Heap.{object_at, own, with_object, property_of, can_put, is_shared}
 
 -- a property that is new: it comes last, and isn't shared
 abbrev pub new_property : List ℕ → Content → Attrs → Property
@@ -30,7 +31,7 @@ new_property name content attrs =
 
 -- the properties after the value of a name is set: attributes stay, and a new property has none
 abbrev pub with_value : List Property → List ℕ → Value → List Property
-with_value [] name v = new_property name (contents.Value v) no_attrs ∷ []
+with_value [] name v = new_property name (contents.Value v) NO_ATTRS ∷ []
 with_value (q ∷ qs) name v =
     if same_text q.name name then record q { content = contents.Value v } ∷ qs else q
     ∷ with_value qs name v

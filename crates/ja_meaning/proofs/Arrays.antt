@@ -8,13 +8,14 @@ use Rattle.ja_prim.specs.Texts.{same_text}
 use Rattle.ja_prim.specs.declared.primitive.Num.TheVariants.{NaN, Whole}
 use Rattle.ja_prim.specs.declared.primitive.Primitive.TheVariants as primitive
 use Rattle.ja_graph.specs.declared.attrs.Attrs.{Attrs}
+use Rattle.ja_graph.specs.declared.attrs.TheConstants.{NO_ATTRS}
 use Rattle.ja_machine.specs.declared.machine.Value.{Value}
 use Rattle.ja_machine.specs.declared.machine.Value.TheVariants as value
 use Rattle.ja_machine.specs.declared.machine.Content.{Content}
 use Rattle.ja_machine.specs.declared.machine.Content.TheVariants as contents
 use Rattle.ja_machine.specs.declared.machine.Property.{Property}
 use Rattle.ja_machine.specs.declared.machine.Object.{Object}
-use Rattle.ja_machine.specs.Heap.{property_of, no_attrs}
+use Rattle.ja_machine.specs.Heap.{property_of}
 use Rattle.ja_machine.specs.Writes.{object_with_value, length_name, whole_number, number_held, property_number, length_of, grown, with_length, is_cut}
 use Rattle.ja_abstract.specs.declared.abstraction.Slot.TheVariants as slot
 use Rattle.ja_abstract.specs.Contents.{SpotContent, missing, held, present, present_row, object_content, property_content, content_of}
@@ -44,8 +45,8 @@ value_other o t v (internal slot.Value) ne = refl
 
 -- the attributes of a content
 abbrev attrs_in : SpotContent → Attrs
-attrs_in missing = no_attrs
-attrs_in (held v) = no_attrs
+attrs_in missing = NO_ATTRS
+attrs_in (held v) = NO_ATTRS
 attrs_in (present v attrs) = attrs
 attrs_in (present_row attrs) = attrs
 

@@ -5,6 +5,7 @@ use Rattle.std.proofs.Common.{sym, subst, ap, ◌∙◌, inl, inr, append_assoc}
 use Rattle.std.proofs.lemmas.Bool.{false≢true, cases_Bool, cond-true, cond-false, and_from, false_from_ne_true}
 use Rattle.ja_base.specs.declared.ids.NameId.{NameId}
 use Rattle.ja_prim.specs.Texts.{same_text}
+use Rattle.ja_graph.specs.declared.attrs.TheConstants.{DONT_DELETE}
 use Rattle.ja_graph.specs.declared.program.Program.{Program}
 use Rattle.ja_graph.specs.WellFormed.{IsWellFormed}
 use Rattle.ja_machine.specs.declared.machine.Value.{Value}
@@ -12,7 +13,7 @@ use Rattle.ja_machine.specs.declared.machine.Property.{Property}
 use Rattle.ja_machine.specs.declared.machine.Heap.{Heap}
 use Rattle.ja_machine.specs.Frames.{argument}
 use Rattle.ja_machine.specs.Nodes.{name_text}
-use Rattle.ja_machine.specs.Objects.{dont_delete, property_with, with_property, with_flag, with_parameters, first_flag}
+use Rattle.ja_machine.specs.Objects.{property_with, with_property, with_flag, with_parameters, first_flag}
 use Rattle.ja_abstract.specs.declared.abstraction.Key.{Key}
 use Rattle.ja_abstract.specs.declared.abstraction.Key.TheVariants as key
 use Rattle.ja_abstract.specs.AbstractValue.{AbstractValue, AbstractProperty, of_attrs}
@@ -83,12 +84,12 @@ module _ (p : Program) (good : IsWellFormed p) (now : Heap) (a : AbstractState) 
   pub bound_one : (n : NameId) → n.0 < length p.names
       → (v : AbstractValue) (u : Value) (flag : Bool) → IsTrue (has_value now v u)
       → (ks : List (Key × AbstractProperty)) (qs : List Property) → Tell ks qs
-      → Tell (property_of (key.Name n) v dont_delete ∷ ks)
-      (with_property qs (with_flag (property_with (name_text p n) u dont_delete) flag))
+      → Tell (property_of (key.Name n) v DONT_DELETE ∷ ks)
+      (with_property qs (with_flag (property_with (name_text p n) u DONT_DELETE) flag))
   bound_one n l v u flag has ks qs told =
       let k = key_of p (named t) in
-      let q : Property = with_flag (property_with (name_text p n) u dont_delete) flag in
-      let x : AbstractProperty = record { value = v; attrs = of_attrs dont_delete } in
+      let q : Property = with_flag (property_with (name_text p n) u DONT_DELETE) flag in
+      let x : AbstractProperty = record { value = v; attrs = of_attrs DONT_DELETE } in
       let name_key : key_of p (named (name_text p n)) ≡ key.Name n = key_of-name p good n l in
       elim (cases_Bool (same_text (name_text p n) t)) [
         | inl s ↦
@@ -99,7 +100,7 @@ module _ (p : Program) (good : IsWellFormed p) (now : Heap) (a : AbstractState) 
             (find (λ (r : Property). same_text r.name t) (with_property qs q)))))
             (sym (cond-true (same_key (key.Name n) k) x (own_of ks k) here))
             (subst (λ o. IsTrue (knows now x (property_content o)))
-            (sym (with_property-same qs q t s)) (and_from _ _ has (of_attrs_allows dont_delete)))
+            (sym (with_property-same qs q t s)) (and_from _ _ has (of_attrs_allows DONT_DELETE)))
         | inr s ↦
             let apart : same_key (key.Name n) k ≡ false =
             false_from_ne_true (same_key (key.Name n) k)
@@ -133,9 +134,9 @@ module _ (p : Program) (good : IsWellFormed p) (now : Heap) (a : AbstractState) 
   bound_all [] j arguments flags names held_ ks qs told = told
   bound_all (n ∷ ns) j arguments flags names held_ ks qs told =
       let x : Key × AbstractProperty =
-      property_of (key.Name n) (a.register (parameter_register j)) dont_delete in
+      property_of (key.Name n) (a.register (parameter_register j)) DONT_DELETE in
       let q : Property =
-      with_flag (property_with (name_text p n) (argument arguments 0) dont_delete)
+      with_flag (property_with (name_text p n) (argument arguments 0) DONT_DELETE)
       (first_flag flags) in
       subst (λ ys. Tell ys (with_parameters (with_property qs q) (map (name_text p) ns)
       (drop 1 arguments) (drop 1 flags))) (sym (append_assoc (parameter_properties a (j + 1) ns)

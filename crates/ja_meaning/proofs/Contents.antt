@@ -5,6 +5,7 @@ use Rattle.std.specs.Option.{option_map_or}
 use Rattle.std.proofs.lemmas.Bool.{cases_Bool, false≢true, eq-eqb, ne_eqb, eqb-true, not-false}
 use Rattle.ja_base.specs.declared.ids.Label.{Label}
 use Rattle.ja_base.specs.declared.ids.Site.{Site}
+use Rattle.ja_graph.specs.declared.attrs.TheConstants.{NO_ATTRS}
 use Rattle.ja_prim.specs.Texts.{same_text}
 use Rattle.ja_graph.specs.declared.attrs.Attrs.{Attrs}
 use Rattle.ja_machine.specs.declared.machine.Addr.{Addr}
@@ -12,7 +13,7 @@ use Rattle.ja_machine.specs.declared.machine.Value.{Value}
 use Rattle.ja_machine.specs.declared.machine.Property.{Property}
 use Rattle.ja_machine.specs.declared.machine.Object.{Object}
 use Rattle.ja_machine.specs.declared.machine.Heap.{Heap}
-use Rattle.ja_machine.specs.Heap.{count, object_at, with_new, new_address, with_object, property_of, no_attrs}
+use Rattle.ja_machine.specs.Heap.{count, object_at, with_new, new_address, with_object, property_of}
 use Rattle.ja_machine.specs.Writes.{with_value, object_with_value}
 use Rattle.ja_machine.specs.State.{IsObjectOf}
 use Rattle.ja_machine.proofs.Heaps
@@ -95,7 +96,7 @@ label-with_object h a old new there b =
 
 -- the attributes after a write
 abbrev pub attrs_after : Option Property → Attrs
-attrs_after None = no_attrs
+attrs_after None = NO_ATTRS
 attrs_after (Some q) = q.attrs
 
 abbrev text_of : Spot → List ℕ

@@ -14,6 +14,7 @@ use Rattle.ja_prim.specs.declared.primitive.Num.TheVariants.{Whole}
 use Rattle.ja_prim.specs.declared.primitive.Primitive.TheVariants as primitive
 use Rattle.ja_prim.specs.Conversions.{index_of}
 use Rattle.ja_prim.specs.Texts.{same_text}
+use Rattle.ja_graph.specs.declared.attrs.TheConstants.{DONT_DELETE, DONT_ENUM}
 use Rattle.ja_graph.specs.declared.builtins.TheConstants as builtins
 use Rattle.ja_graph.specs.declared.program.Class.TheVariants as class
 use Rattle.ja_graph.specs.declared.program.Program.{Program}
@@ -26,7 +27,7 @@ use Rattle.ja_machine.specs.declared.machine.Property.{Property}
 use Rattle.ja_machine.specs.declared.machine.Heap.{Heap}
 use Rattle.ja_machine.specs.Frames.{argument, parameters_of}
 use Rattle.ja_machine.specs.Nodes.{name_text}
-use Rattle.ja_machine.specs.Objects.{activation, arguments_object, with_elements, argument_element, index_text, with_parameters, with_property, property_with, dont_delete, dont_enum}
+use Rattle.ja_machine.specs.Objects.{activation, arguments_object, with_elements, argument_element, index_text, with_parameters, with_property, property_with}
 use Rattle.ja_machine.specs.Writes.{length_name, whole_number}
 use Rattle.ja_machine.specs.State.{IsHeap}
 use Rattle.ja_abstract.specs.declared.abstraction.Key.{Key}
@@ -81,7 +82,7 @@ module _ (p : Program) (good : IsWellFormed p) (now : Heap) (a : AbstractState) 
   slot_absent [] j s ys e = e
   slot_absent (n ∷ ns) j s ys e =
       let y : Key × AbstractProperty =
-      property_of (key.Name n) (a.register (parameter_register j)) dont_delete in
+      property_of (key.Name n) (a.register (parameter_register j)) DONT_DELETE in
       let other : same_key (key.Name n) (key.Slot s) ≡ false =
       false_from_ne_true (same_key (key.Name n) (key.Slot s))
       (λ same. let is : key.Name n ≡ key.Slot s = same_key-true (key.Name n)
@@ -130,7 +131,7 @@ module _ (p : Program) (good : IsWellFormed p) (now : Heap) (a : AbstractState) 
         (has_value now (of_label (new list)) (value.Object d))) where
       abbrev with_list : List Property
       with_list =
-          with_property bound (property_with (codes "arguments") (value.Object d) dont_delete)
+          with_property bound (property_with (codes "arguments") (value.Object d) DONT_DELETE)
 
       arguments_text : name_text p builtins.ARGUMENTS ≡ codes "arguments"
       arguments_text =
@@ -139,11 +140,11 @@ module _ (p : Program) (good : IsWellFormed p) (now : Heap) (a : AbstractState) 
 
       list_told : (t : List ℕ) → builtins.ARGUMENTS.0 < length p.names
           → Tell p good now a t (property_of (key.Name builtins.ARGUMENTS)
-          (of_label (new list)) dont_delete ∷ parameter_properties a 0 ns) with_list
+          (of_label (new list)) DONT_DELETE ∷ parameter_properties a 0 ns) with_list
       list_told t l =
           subst (λ u. Tell p good now a t (property_of (key.Name builtins.ARGUMENTS)
-          (of_label (new list)) dont_delete ∷ parameter_properties a 0 ns)
-          (with_property bound (property_with u (value.Object d) dont_delete))) arguments_text
+          (of_label (new list)) DONT_DELETE ∷ parameter_properties a 0 ns)
+          (with_property bound (property_with u (value.Object d) DONT_DELETE))) arguments_text
           (bound_one p good now a t builtins.ARGUMENTS l (of_label (new list))
           (value.Object d) false is_new (parameter_properties a 0 ns) bound (bound_told t))
 
@@ -155,7 +156,7 @@ module _ (p : Program) (good : IsWellFormed p) (now : Heap) (a : AbstractState) 
       listed_activation_made l (internal slot.Value) = slots_absent ns slot.Value
       listed_activation_made l (named t) =
           past_slot p good now slot.Outer _ (property_of (key.Name builtins.ARGUMENTS)
-          (of_label (new list)) dont_delete ∷ parameter_properties a 0 ns) t
+          (of_label (new list)) DONT_DELETE ∷ parameter_properties a 0 ns) t
           (object_content (activation outer with_list) (named t)) (list_told t l)
 
 -- ---- the arguments object
@@ -198,7 +199,7 @@ element_at :
     (t : List ℕ) (n : ℕ) → index_of t ≡ Some n → (qs : List Property) (i j : ℕ) → n ≡ i + j
     → (vs : List Value) (flags : List Bool) → i + length vs ≤ 4294967295
     → property_content (found t (with_elements qs i vs flags))
-    ≡ option_map_or (λ (v : Value). present v dont_enum) (slice_get vs j)
+    ≡ option_map_or (λ (v : Value). present v DONT_ENUM) (slice_get vs j)
     (property_content (found t qs))
 element_at t n is qs i j at [] flags few = refl
 element_at t n is qs i zero at (v ∷ vs) flags few =
@@ -215,7 +216,7 @@ element_at t n is qs i (suc j) at (v ∷ vs) flags few =
     let differs : same_text (index_text i) t ≡ false =
     other_element t n is i (omega arith) (λ q. omega arith) in
     element_at t n is (with_property qs e) (i + 1) j (omega arith) vs (drop 1 flags) (omega arith)
-    ∙ ap (λ o. option_map_or (λ (u : Value). present u dont_enum) (slice_get vs j)
+    ∙ ap (λ o. option_map_or (λ (u : Value). present u DONT_ENUM) (slice_get vs j)
     (property_content o)) (with_property-other qs e t differs)
 
 -- a join over a range knows what one of its members does
@@ -251,7 +252,7 @@ module _ (p : Program) (good : IsWellFormed p) (now : Heap) (known : IsHeap p no
   one = one_number p (a.register count_register)
 
   abbrev at_index : ℕ → SpotContent
-  at_index i = option_map_or (λ (v : Value). present v dont_enum) (slice_get arguments i) missing
+  at_index i = option_map_or (λ (v : Value). present v DONT_ENUM) (slice_get arguments i) missing
 
   -- the count, where it is one number
   count_is : (z : ℤ) → one ≡ Some z → z ≡ pos (length arguments)
@@ -267,32 +268,32 @@ module _ (p : Program) (good : IsWellFormed p) (now : Heap) (known : IsHeap p no
       → IsTrue (knows now (if_reached c j (record {
         value = if nat_lt j params then a.register
             (parameter_register j) else a.register (rest_register params);
-        attrs = of_attrs dont_enum;
+        attrs = of_attrs DONT_ENUM;
       }))
-      (present v dont_enum))
+      (present v DONT_ENUM))
   reached_some i j v None is below le has =
       knows-join_left now (record {
         value = if nat_lt j params then a.register
             (parameter_register j) else a.register (rest_register params);
-        attrs = of_attrs dont_enum;
+        attrs = of_attrs DONT_ENUM;
       })
-      absent_property (present v dont_enum) (and_from _ _ has (of_attrs_allows dont_enum))
+      absent_property (present v DONT_ENUM) (and_from _ _ has (of_attrs_allows DONT_ENUM))
   reached_some i j v (Some z) is below le has =
       subst (λ y. IsTrue (knows now (if_reached (Some y) j
       (record {
         value = if nat_lt j params then a.register (parameter_register j) else a.register
             (rest_register params);
-        attrs = of_attrs dont_enum;
-      })) (present v dont_enum)))
+        attrs = of_attrs DONT_ENUM;
+      })) (present v DONT_ENUM)))
       (sym (count_is z is))
-      (subst (λ q. IsTrue (knows now q (present v dont_enum)))
+      (subst (λ q. IsTrue (knows now q (present v DONT_ENUM)))
       (sym (cond-true (nat_lt j (length arguments))
       (record {
         value = if nat_lt j params then a.register (parameter_register j) else a.register
             (rest_register params);
-        attrs = of_attrs dont_enum;
+        attrs = of_attrs DONT_ENUM;
       }) absent_property
-      (lt-ltb j (length arguments) (omega arith)))) (and_from _ _ has (of_attrs_allows dont_enum)))
+      (lt-ltb j (length arguments) (omega arith)))) (and_from _ _ has (of_attrs_allows DONT_ENUM)))
 
   reached_none : (j : ℕ) (q : AbstractProperty) (c : Option ℤ) → one ≡ c → length arguments ≤ j
       → IsTrue (knows now (if_reached c j q) missing)
@@ -313,7 +314,7 @@ module _ (p : Program) (good : IsWellFormed p) (now : Heap) (known : IsHeap p no
 
   one_index : (i : ℕ) (g : Option Value) → slice_get arguments i ≡ g
       → IsTrue (knows now (argument_property p f a i)
-      (option_map_or (λ (v : Value). present v dont_enum) g missing))
+      (option_map_or (λ (v : Value). present v DONT_ENUM) g missing))
   one_index i (Some v) is = reached_some i i v one refl (within i v is) (omega arith) (each i v is)
   one_index i None is = reached_none i _ one refl (past arguments i is)
 
@@ -321,19 +322,19 @@ module _ (p : Program) (good : IsWellFormed p) (now : Heap) (known : IsHeap p no
   any_index : (i : ℕ) (g : Option Value) → slice_get arguments i ≡ g
       → IsTrue (knows now (join_properties absent_property
       (join_all (map (argument_property p f a) (range_with_len 0 (params + 1)))))
-      (option_map_or (λ (v : Value). present v dont_enum) g missing))
+      (option_map_or (λ (v : Value). present v DONT_ENUM) g missing))
   any_index i None is =
       knows-join_left now absent_property (join_all
       (map (argument_property p f a) (range_with_len 0 (params + 1)))) missing refl
   any_index i (Some v) is =
       knows-join_right now absent_property (join_all
-      (map (argument_property p f a) (range_with_len 0 (params + 1)))) (present v dont_enum)
+      (map (argument_property p f a) (range_with_len 0 (params + 1)))) (present v DONT_ENUM)
       (elim (cases_lt i params) [
         | inl less ↦
-            knows-range now (argument_property p f a) (present v dont_enum) 0 (params + 1) i
+            knows-range now (argument_property p f a) (present v DONT_ENUM) 0 (params + 1) i
             (omega arith) (omega arith) (one_index i (Some v) is)
         | inr more ↦
-            knows-range now (argument_property p f a) (present v dont_enum) 0 (params + 1) params
+            knows-range now (argument_property p f a) (present v DONT_ENUM) 0 (params + 1) params
             (omega arith) (omega arith)
             (reached_some i params v one refl (within i v is) (omega arith)
             (subst (λ u. IsTrue (has_value now u v))
@@ -349,7 +350,7 @@ module _ (p : Program) (good : IsWellFormed p) (now : Heap) (known : IsHeap p no
   by_key t i is (key.Name n) k_is =
       subst (λ o. IsTrue (knows now (unwrap_or (option_map (argument_property p f a) o)
       (own_of (inherits builtins.OBJECT_PROTOTYPE ∷ property_of (key.Name builtins.CALLEE)
-      (a.register 3) dont_enum ∷ property_of length_key (a.register count_register) dont_enum ∷ [])
+      (a.register 3) DONT_ENUM ∷ property_of length_key (a.register count_register) DONT_ENUM ∷ [])
       (key.Name n))) (at_index i))) (sym (ap index_of (text_of_key p t n k_is) ∙ is))
       (one_index i (slice_get arguments i) refl)
   by_key t i is key.OtherIndex k_is = any_index i (slice_get arguments i) refl
@@ -359,13 +360,13 @@ module _ (p : Program) (good : IsWellFormed p) (now : Heap) (known : IsHeap p no
 
   abbrev fixed : List (Key × AbstractProperty)
   fixed =
-      property_of (key.Name builtins.CALLEE) (a.register 3) dont_enum ∷ property_of length_key
-      (a.register count_register) dont_enum ∷ []
+      property_of (key.Name builtins.CALLEE) (a.register 3) DONT_ENUM ∷ property_of length_key
+      (a.register count_register) DONT_ENUM ∷ []
 
   abbrev first_two : List Property
   first_two =
-      property_with (codes "callee") callee dont_enum ∷ property_with length_name
-      (whole_number (length arguments)) dont_enum ∷ []
+      property_with (codes "callee") callee DONT_ENUM ∷ property_with length_name
+      (whole_number (length arguments)) DONT_ENUM ∷ []
 
   other_key : (t : List ℕ) → index_of t ≡ None → (k : Key) → key_of p (named t) ≡ k
       → index_property p f a k ≡ None
@@ -393,12 +394,12 @@ module _ (p : Program) (good : IsWellFormed p) (now : Heap) (known : IsHeap p no
       (property_content (found t o.properties)))
   by_index t (Some i) is =
       let none : found t first_two ≡ None =
-      two_passed (property_with (codes "callee") callee dont_enum)
-      (property_with length_name (whole_number (length arguments)) dont_enum) t
+      two_passed (property_with (codes "callee") callee DONT_ENUM)
+      (property_with length_name (whole_number (length arguments)) DONT_ENUM) t
       (not_named (codes "callee") t i refl is) (not_named length_name t i refl is) in
       subst (λ x. IsTrue (knows now (arguments_own p f a (key_of p (named t))) x))
       (sym (element_at t i is first_two 0 i (omega arith) arguments flags (omega arith)
-      ∙ ap (λ o. option_map_or (λ (v : Value). present v dont_enum) (slice_get arguments i)
+      ∙ ap (λ o. option_map_or (λ (v : Value). present v DONT_ENUM) (slice_get arguments i)
       (property_content o)) none))
       (by_key t i is (key_of p (named t)) refl)
   by_index t None none =
@@ -410,10 +411,10 @@ module _ (p : Program) (good : IsWellFormed p) (now : Heap) (known : IsHeap p no
       (sym (passed t first_two 0 arguments flags (λ k low high. no_element t none k (omega arith))))
       (named_made p now first_two fixed (
         builtin_as p good now builtins.CALLEE
-            (codes "callee") refl callee (a.register 3) dont_enum callee_has,
+            (codes "callee") refl callee (a.register 3) DONT_ENUM callee_has,
         (
           builtin_as p good now builtins.LENGTH length_name refl (whole_number (length arguments))
-              (a.register count_register) dont_enum count_has,
+              (a.register count_register) DONT_ENUM count_has,
           tt,
         ),
       ) t)))

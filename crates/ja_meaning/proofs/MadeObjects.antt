@@ -14,6 +14,7 @@ use Rattle.ja_prim.specs.declared.primitive.Primitive.TheVariants as primitive
 use Rattle.ja_prim.specs.declared.primitive.Num.TheVariants.{Whole}
 use Rattle.ja_prim.specs.Index.{is_index}
 use Rattle.ja_graph.specs.declared.attrs.Attrs.{Attrs}
+use Rattle.ja_graph.specs.declared.attrs.TheConstants.{ALL_ATTRS, DONT_DELETE, DONT_ENUM, KEPT_HIDDEN, NO_ATTRS}
 use Rattle.ja_graph.specs.declared.builtins.TheConstants as builtins
 use Rattle.ja_graph.specs.declared.node.Made.{Made}
 use Rattle.ja_graph.specs.declared.node.Made.TheVariants as made_kinds
@@ -28,9 +29,9 @@ use Rattle.ja_machine.specs.declared.machine.Value.{Value}
 use Rattle.ja_machine.specs.declared.machine.Value.TheVariants as value
 use Rattle.ja_machine.specs.declared.machine.Object.{Object}
 use Rattle.ja_machine.specs.declared.machine.Heap.{Heap}
-use Rattle.ja_machine.specs.Heap.{count, no_attrs}
+use Rattle.ja_machine.specs.Heap.{count}
 use Rattle.ja_machine.specs.Frames.{parameters_of}
-use Rattle.ja_machine.specs.Objects.{first_of, error_object, empty_object, wrapper, text_length, scope_object, function_object, prototype_object, prototype_of_error, property_with, dont_enum, dont_delete, kept_hidden, all_attrs}
+use Rattle.ja_machine.specs.Objects.{first_of, error_object, empty_object, wrapper, text_length, scope_object, function_object, prototype_object, prototype_of_error, property_with}
 use Rattle.ja_machine.specs.Writes.{length_name, whole_number}
 use Rattle.ja_machine.specs.State.{IsHeap}
 use Rattle.ja_abstract.specs.declared.abstraction.Key.{Key}
@@ -147,13 +148,13 @@ module _ (p : Program) (good : IsWellFormed p) (now : Heap) where
     error_made proto text l (internal slot.Value) = refl
     error_made proto text l (named t) =
         past_slot slot.Prototype _ (property_of (key.Name builtins.MESSAGE)
-        (of_primitive (primitive.Text text)) no_attrs ∷ []) t
+        (of_primitive (primitive.Text text)) NO_ATTRS ∷ []) t
         (object_content (error_object proto text) (named t))
         (named_made p now (error_object proto text).properties
-        (property_of (key.Name builtins.MESSAGE) (of_primitive (primitive.Text text)) no_attrs
+        (property_of (key.Name builtins.MESSAGE) (of_primitive (primitive.Text text)) NO_ATTRS
         ∷ []) (
           builtin_as builtins.MESSAGE (codes "message") refl (value.Primitive (primitive.Text text))
-              (of_primitive (primitive.Text text)) no_attrs
+              (of_primitive (primitive.Text text)) NO_ATTRS
               (of_primitive_has (primitive.Text text)),
           tt,
         )
@@ -189,11 +190,11 @@ module _ (p : Program) (good : IsWellFormed p) (now : Heap) where
     empty_made made_kinds.Array (internal slot.Value) = refl
     empty_made made_kinds.Array (named t) =
         let ks : List (Key × AbstractProperty) =
-        property_of length_key (of_primitive (primitive.Number (Whole (pos 0)))) kept_hidden ∷
+        property_of length_key (of_primitive (primitive.Number (Whole (pos 0)))) KEPT_HIDDEN ∷
         [] in
         past_slot slot.Prototype _ ks t (object_content (empty_object made_kinds.Array) (named t))
         (named_made p now (empty_object made_kinds.Array).properties ks
-        (builtin_as builtins.LENGTH length_name refl (whole_number 0) _ kept_hidden refl, tt) t)
+        (builtin_as builtins.LENGTH length_name refl (whole_number 0) _ KEPT_HIDDEN refl, tt) t)
     empty_made (made_kinds.Error kind) (internal slot.Prototype) =
         first_has (prototype_of_error kind) (error_fits kind)
     empty_made (made_kinds.Error kind) (internal slot.Outer) = refl
@@ -242,13 +243,13 @@ module _ (p : Program) (good : IsWellFormed p) (now : Heap) where
         wrapper class.String builtins.STRING_PROTOTYPE (primitive.Text units)
         (text_length units) in
         let ks : List (Key × AbstractProperty) =
-        property_of length_key (length_of_text part) all_attrs ∷ [] in
+        property_of length_key (length_of_text part) ALL_ATTRS ∷ [] in
         past_slot slot.Prototype _ (slot_of (key.Slot slot.Value)
         (record no_value { text = part }) ∷ ks) t (object_content o (named t))
         (past_slot slot.Value _ ks t (object_content o (named t))
         (named_made p now (text_length units) ks (
           builtin_as builtins.LENGTH length_name refl
-              (whole_number (length units)) (length_of_text part) all_attrs
+              (whole_number (length units)) (length_of_text part) ALL_ATTRS
               (length_has part units has short),
           tt,
         ) t))
@@ -285,16 +286,16 @@ module _ (p : Program) (good : IsWellFormed p) (now : Heap) where
         let o : Object = function_object (parameters_of p function) chain proto in
         let n : ℕ = parameters_of p function in
         let ks : List (Key × AbstractProperty) =
-        property_of length_key (whole_constant n) all_attrs ∷ property_of
-        (named_key p (codes "prototype")) (of_label l) dont_delete ∷ [] in
+        property_of length_key (whole_constant n) ALL_ATTRS ∷ property_of
+        (named_key p (codes "prototype")) (of_label l) DONT_DELETE ∷ [] in
         past_slot slot.Prototype _ (slot_of (key.Slot slot.Scope) (of_labels chains) ∷ ks) t
         (object_content o (named t)) (past_slot slot.Scope _ ks t (object_content o (named t))
         (named_made p now o.properties ks (
           builtin_as builtins.LENGTH length_name refl
-              (whole_number n) (whole_constant n) all_attrs (int_eq_equiv.refl (pos n)),
+              (whole_number n) (whole_constant n) ALL_ATTRS (int_eq_equiv.refl (pos n)),
           (
             text_as prototype_name (codes "prototype") refl (value.Object proto)
-                (of_label l) dont_delete (same_label_from l (label_of now proto) is),
+                (of_label l) DONT_DELETE (same_label_from l (label_of now proto) is),
             tt,
           ),
         ) t))
@@ -314,10 +315,10 @@ module _ (p : Program) (good : IsWellFormed p) (now : Heap) where
         (object_content (prototype_object function) (internal slot.Value)) refl
     prototype_made function l is (named t) =
         let ks : List (Key × AbstractProperty) =
-        property_of (named_key p (codes "constructor")) (of_label l) dont_enum ∷ [] in
+        property_of (named_key p (codes "constructor")) (of_label l) DONT_ENUM ∷ [] in
         past_slot slot.Prototype _ ks t (object_content (prototype_object function) (named t))
         (named_made p now (prototype_object function).properties ks (
           text_as constructor_name (codes "constructor") refl (value.Object function)
-              (of_label l) dont_enum (same_label_from l (label_of now function) is),
+              (of_label l) DONT_ENUM (same_label_from l (label_of now function) is),
           tt,
         ) t)

@@ -19,6 +19,7 @@ use Rattle.ja_prim.specs.Comparison.{to_primitive}
 use Rattle.ja_prim.specs.Conversions.{to_number, index_of}
 use Rattle.ja_prim.specs.Index.{is_index, is_index_text, with_digits}
 use Rattle.ja_prim.specs.Texts.{same_text}
+use Rattle.ja_graph.specs.declared.attrs.TheConstants.{NO_ATTRS}
 use Rattle.ja_graph.specs.declared.builtins.TheConstants as builtins
 use Rattle.ja_graph.specs.declared.program.Program.{Program}
 use Rattle.ja_graph.specs.WellFormed.{IsWellFormed, builtin_names}
@@ -30,7 +31,7 @@ use Rattle.ja_machine.specs.declared.machine.Object.{Object}
 use Rattle.ja_machine.specs.declared.machine.Heap.{Heap}
 use Rattle.ja_machine.specs.declared.machine.Put.{Put}
 use Rattle.ja_machine.specs.declared.machine.Put.TheVariants as put_ends
-use Rattle.ja_machine.specs.Heap.{object_at, with_object, property_of, no_attrs}
+use Rattle.ja_machine.specs.Heap.{object_at, with_object, property_of}
 use Rattle.ja_machine.specs.Nodes.{name_text}
 use Rattle.ja_machine.specs.Writes.{PutOutcome, written, put_own, put_array, put_length_value, put_length, unsigned_number, object_with_value, with_element, with_length, grown, length_of, length_name, whole_number, is_array}
 use Rattle.ja_machine.specs.State.{IsObjectOf}
@@ -249,13 +250,13 @@ module _ (e c : Heap) (w : View) (r : Reads e c w) (good : IsWellFormed w.progra
       (allows_attrs (put_attrs w q) (attrs_after g))
   attrs_allowed q None there known =
       allows_attrs-join_right (if has_present w q.value then q.attrs else unknown_attrs)
-      (if q.value.flags.absent then of_attrs no_attrs else unknown_attrs) no_attrs
-      (subst (λ m. IsTrue (allows_attrs m no_attrs))
-      (sym (cond-true q.value.flags.absent (of_attrs no_attrs) unknown_attrs known))
-      (of_attrs_allows no_attrs))
+      (if q.value.flags.absent then of_attrs NO_ATTRS else unknown_attrs) NO_ATTRS
+      (subst (λ m. IsTrue (allows_attrs m NO_ATTRS))
+      (sym (cond-true q.value.flags.absent (of_attrs NO_ATTRS) unknown_attrs known))
+      (of_attrs_allows NO_ATTRS))
   attrs_allowed q (Some g) there known =
       allows_attrs-join_left (if has_present w q.value then q.attrs else unknown_attrs)
-      (if q.value.flags.absent then of_attrs no_attrs else unknown_attrs) g.attrs
+      (if q.value.flags.absent then of_attrs NO_ATTRS else unknown_attrs) g.attrs
       (subst (λ m. IsTrue (allows_attrs m g.attrs))
       (sym (cond-true (has_present w q.value) q.attrs unknown_attrs
       (is_present-known p c r.heap_now q g.content g.attrs there known)))

@@ -4,11 +4,11 @@ use Rattle.std.specs.Prelude.{◌≡◌, ℕ, if◌then◌else◌, IsTrue, List,
 use Rattle.std.proofs.Common.{refl, sym, subst}
 use Rattle.std.proofs.lemmas.Bool.{cond-true}
 use Rattle.ja_base.specs.declared.ids.Label.{Label}
+use Rattle.ja_graph.specs.declared.attrs.TheConstants.{NO_ATTRS}
 use Rattle.ja_graph.specs.declared.program.Program.{Program}
 use Rattle.ja_machine.specs.declared.machine.Addr.{Addr}
 use Rattle.ja_machine.specs.declared.machine.Property.{Property}
 use Rattle.ja_machine.specs.declared.machine.Heap.{Heap}
-use Rattle.ja_machine.specs.Heap.{no_attrs}
 use Rattle.ja_machine.specs.Heap as heap
 use Rattle.ja_machine.specs.State.{IsObjectOf}
 use Rattle.ja_abstract.specs.declared.abstraction.AAttrs.{AAttrs}
@@ -39,7 +39,7 @@ module _ (p : Program) (e c : Heap) (w : View) (r : IsRead p e c w) (t : List �
 
   -- the attributes of one that is added
   abbrev added : AAttrs
-  added = if may_be_absent w here k then of_attrs no_attrs else unknown_attrs
+  added = if may_be_absent w here k then of_attrs NO_ATTRS else unknown_attrs
 
   -- the attributes of a property that is written over are those that it had
   pub written_attrs-Some : (q : Property) → heap.own c a t ≡ Some q
@@ -56,10 +56,10 @@ module _ (p : Program) (e c : Heap) (w : View) (r : IsRead p e c w) (t : List �
 
   -- a property that is added has none
   pub written_attrs-None : heap.own c a t ≡ None
-      → IsTrue (allows_attrs (written_attrs w (label_of c a) k) no_attrs)
+      → IsTrue (allows_attrs (written_attrs w (label_of c a) k) NO_ATTRS)
   written_attrs-None none =
       let absent : IsTrue (may_be_absent w here k) = may_be_absent-own p e c w r t k same a o filled
       none in
-      allows_attrs-join_right kept added no_attrs
-      (subst (λ m. IsTrue (allows_attrs m no_attrs))
-      (sym (cond-true (may_be_absent w here k) (of_attrs no_attrs) unknown_attrs absent)) refl)
+      allows_attrs-join_right kept added NO_ATTRS
+      (subst (λ m. IsTrue (allows_attrs m NO_ATTRS))
+      (sym (cond-true (may_be_absent w here k) (of_attrs NO_ATTRS) unknown_attrs absent)) refl)

@@ -19,12 +19,13 @@ use Rattle.ja_machine.specs.declared.machine.Value.TheVariants as value
 use Rattle.ja_machine.specs.declared.machine.Object.{Object}
 use Rattle.ja_machine.specs.declared.machine.Heap.{Heap}
 use Rattle.ja_machine.specs.declared.machine.Frame.{Frame}
-use Rattle.ja_machine.specs.Heap.{count, with_new, new_address, no_attrs}
+use Rattle.ja_machine.specs.Heap.{count, with_new, new_address}
 use Rattle.ja_machine.specs.Frames.{thrown, with_result}
 use Rattle.ja_machine.specs.Objects.{first_of, property_with, error_object}
 use Rattle.ja_machine.specs.Nodes.{name_text}
 use Rattle.ja_machine.specs.State.{IsHeap, IsObjectOf, IsValueOf}
 use Rattle.ja_machine.proofs.Heaps
+use Rattle.ja_graph.specs.declared.attrs.TheConstants.{NO_ATTRS}
 use Rattle.ja_abstract.specs.declared.abstraction.Mask.{Mask}
 use Rattle.ja_abstract.specs.declared.abstraction.Slot.TheVariants as slot
 use Rattle.ja_abstract.specs.declared.abstraction.Key.{Key}
@@ -239,10 +240,10 @@ module _ (p : Program) (good : IsWellFormed p) (e h : Heap) (s proto : Site) (te
       subst (λ v. IsTrue (knows now (error_state.property (new s) (key_of p (named v)))
       (object_content (error_object proto text) (named v)))) e
       (subst (λ k. IsTrue (knows now (error_state.property (new s) k)
-      (present (value.Primitive (primitive.Text text)) no_attrs))) (sym message_key)
+      (present (value.Primitive (primitive.Text text)) NO_ATTRS))) (sym message_key)
       (subst (λ q. IsTrue (knows now q (present (value.Primitive (primitive.Text text))
-      no_attrs))) (sym property_message) (and_from _ _ (of_primitive_has (primitive.Text text))
-      (of_attrs_allows no_attrs))))
+      NO_ATTRS))) (sym property_message) (and_from _ _ (of_primitive_has (primitive.Text text))
+      (of_attrs_allows NO_ATTRS))))
 
   other_told : (u : List ℕ) → same_text (codes "message") u ≡ false
       → IsTrue (knows now (error_state.property (new s) (key_of p (named u)))
@@ -250,7 +251,7 @@ module _ (p : Program) (good : IsWellFormed p) (e h : Heap) (s proto : Site) (te
   other_told u ne =
       subst (λ c. IsTrue (knows now (error_state.property (new s) (key_of p (named u)))
       (property_content c))) (sym (cond-false (same_text (codes "message") u)
-      (Some (property_with (codes "message") (value.Primitive (primitive.Text text)) no_attrs))
+      (Some (property_with (codes "message") (value.Primitive (primitive.Text text)) NO_ATTRS))
       None ne))
       (none_told (key_of p (named u)) (false_from_ne_true _
       (λ k. let t : codes "message" ≡ u = sym message_text

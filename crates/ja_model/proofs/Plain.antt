@@ -12,6 +12,7 @@ use Rattle.ja_base.specs.declared.ids.Site.{Site}
 use Rattle.ja_prim.specs.declared.primitive.Primitive.TheVariants as primitive
 use Rattle.ja_prim.specs.Texts.{same_text}
 use Rattle.ja_graph.specs.declared.attrs.Attrs.{Attrs}
+use Rattle.ja_graph.specs.declared.attrs.TheConstants.{NO_ATTRS}
 use Rattle.ja_graph.specs.declared.program.ObjectSpec.{ObjectSpec}
 use Rattle.ja_graph.specs.declared.program.PropertySpec.{PropertySpec}
 use Rattle.ja_graph.specs.declared.program.SpecContent.{SpecContent}
@@ -28,7 +29,7 @@ use Rattle.ja_machine.specs.declared.machine.Content.TheVariants as contents
 use Rattle.ja_machine.specs.declared.machine.Property.{Property}
 use Rattle.ja_machine.specs.declared.machine.Object.{Object}
 use Rattle.ja_machine.specs.declared.machine.Heap.{Heap}
-use Rattle.ja_machine.specs.Heap.{size, object_at, with_new, with_object, chain, own, or_else, first_own, prototypes, scopes, get, has, prototype_of, outer_of, no_attrs}
+use Rattle.ja_machine.specs.Heap.{size, object_at, with_new, with_object, chain, own, or_else, first_own, prototypes, scopes, get, has, prototype_of, outer_of}
 use Rattle.ja_machine.specs.Writes.{object_with_value}
 use Rattle.ja_machine.specs.Frames.{undefined}
 use Rattle.ja_machine.specs.Objects.{first_of, property_with, error_object}
@@ -201,7 +202,7 @@ module _ (p : Program) (h : Heap) (leads : LeadsToPlain p h) where
     error_holds (named u) =
         either_way (λ c. HoldsPlain p (property_content c)) (same_text (codes "message") u)
         (Some (property_with (codes "message") (value.Primitive (primitive.Text text))
-        no_attrs)) None (λ e. tt) (λ e. tt)
+        NO_ATTRS)) None (λ e. tt) (λ e. tt)
     error_holds (internal slot.Prototype) = proto_plain
     error_holds (internal slot.Outer) = tt
     error_holds (internal slot.Scope) = tt

@@ -6,6 +6,7 @@ use Rattle.ja_base.specs.declared.ids.Label.{Label}
 use Rattle.ja_base.specs.declared.ids.NodeId.{NodeId}
 use Rattle.ja_base.specs.declared.ids.Reg.{Reg}
 use Rattle.ja_base.specs.declared.ids.Site.{Site}
+use Rattle.ja_graph.specs.declared.attrs.TheConstants.{NO_ATTRS}
 use Rattle.ja_prim.specs.declared.primitive.Primitive.TheVariants as primitive
 use Rattle.ja_prim.specs.Texts.{is_short}
 use Rattle.ja_graph.specs.declared.node.Node.{Node}
@@ -14,7 +15,6 @@ use Rattle.ja_graph.specs.declared.node.NodeInfo.{NodeInfo}
 use Rattle.ja_graph.specs.declared.program.Program.{Program}
 use Rattle.ja_graph.specs.declared.program.SiteInfo.{SiteInfo}
 use Rattle.ja_graph.specs.Program.{global, reference_error_prototype, type_error_prototype, message}
-use Rattle.ja_machine.specs.Heap.{no_attrs}
 use Rattle.ja_machine.specs.Frames.{thrown, scope}
 use Rattle.ja_machine.specs.Events.{unbound_message, not_a_function_message}
 use Rattle.ja_machine.specs.Nodes.{name_text}
@@ -53,7 +53,7 @@ sets w dst v next = gives (has_part w.labels v) next (with_register w.state dst 
 -- the state in which an error of this prototype and message was made at a site and thrown
 abbrev pub message_property : List ℕ → AbstractProperty
 message_property text =
-    record { value = of_primitive (primitive.Text text); attrs = of_attrs no_attrs }
+    record { value = of_primitive (primitive.Text text); attrs = of_attrs NO_ATTRS }
 
 abbrev pub with_error : AbstractState → Site → Site → List ℕ → AbstractState
 with_error a error proto text =
@@ -97,7 +97,7 @@ written_labels base l = base.label l || (base.flags.null && same_label (new glob
 abbrev pub written_attrs : View → Label → Key → AAttrs
 written_attrs w l k =
     join_attrs (if may_be_present w l k then (own w l k).attrs else unknown_attrs)
-    (if may_be_absent w l k then of_attrs no_attrs else unknown_attrs)
+    (if may_be_absent w l k then of_attrs NO_ATTRS else unknown_attrs)
 
 abbrev pub written : View → Label → Key → AbstractValue → AbstractProperty
 written w l k v = record { value = v; attrs = written_attrs w l k }

@@ -4,11 +4,12 @@ use Rattle.std.proofs.lemmas.List.{append-nil, drop-drop, drop_more}
 use Rattle.std.proofs.lemmas.Option.{unwrap_or-slice_get}
 use Rattle.std.specs.Prelude.{slice_get, unwrap_or}
 use Rattle.std.specs.List.{list_any}
+use Rattle.ja_graph.specs.declared.attrs.TheConstants.{DONT_DELETE}
 use Rattle.ja_prim.specs.Texts.{same_text}
 use Rattle.ja_machine.specs.declared.machine.Property.{Property}
 use Rattle.ja_machine.specs.declared.machine.Value.{Value}
 use Rattle.ja_machine.specs.Frames.{undefined, argument}
-use Rattle.ja_machine.specs.Objects.{dont_delete, property_with, with_property, with_flag}
+use Rattle.ja_machine.specs.Objects.{property_with, with_property, with_flag}
 use Rattle.ja_machine.specs.Objects.{first_flag, with_parameters, sharing}
 use Rattle.ja_machine.specs.Objects.{argument_element, with_elements}
 
@@ -80,11 +81,11 @@ module _ {X : Type 0} (text : X → List ℕ) (names : List X) (arguments : List
 
   pub bound : (i : ℕ) (qs : List Property) (x : X) → drop i names ≡ x ∷ drop (i + 1) names
       → all_bound i qs ≡ all_bound (i + 1) (with_property qs
-      (with_flag (property_with (text x) (argument arguments i) dont_delete)
+      (with_flag (property_with (text x) (argument arguments i) DONT_DELETE)
       (first_flag (drop i flags))))
   bound i qs x at =
       let put : Value → List Property = λ v.
-      with_property qs (with_flag (property_with (text x) v dont_delete)
+      with_property qs (with_flag (property_with (text x) v DONT_DELETE)
       (first_flag (drop i flags))) in
       ap (λ (ns : List X). with_parameters qs (map text ns) (drop i arguments) (drop i flags)) at
       ∙ ap (λ (v : Value). with_parameters (put v) (map text (drop (i + 1) names))

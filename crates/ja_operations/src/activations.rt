@@ -7,12 +7,13 @@ ghost use Rattle.ja_machine.specs.Frames as frames;
 ghost use Rattle.ja_machine.specs.Nodes.{name_text, parameter_names};
 ghost use Rattle.ja_machine.specs.Objects as objects;
 ghost use Rattle.ja_prim.specs.Texts.{same_text};
+ghost use Rattle.ja_prim.specs.Judged.{max_magnitude};
 
 use crate::arguments::{argument, argument_count, index_text, object_or_undefined};
-use crate::made::{DONT_DELETE, DONT_ENUM, first_of};
+use crate::made::first_of;
 use crate::messages::name_text;
 use ja_base::{FnId, Memory, NameId};
-use ja_graph::{Class, OBJECT_PROTOTYPE, Program};
+use ja_graph::{Class, DONT_DELETE, DONT_ENUM, OBJECT_PROTOTYPE, Program};
 use ja_heap::Object;
 use ja_machine::{Addr, Content, Slots, Value};
 use ja_prim::Text16;
@@ -118,7 +119,7 @@ fn empty_arguments(
     callee: Option<Addr>,
     arguments: &[Value],
 ) -> Result<Object, Memory>
-    ensures few { OnOk result (length arguments.now ≤ 9007199254740991) }
+    ensures few { OnOk result (length arguments.now ≤ max_magnitude) }
     ensures object { IfOk result (λ o.
         o ≡ objects.empty_arguments (frames.object_or_undefined callee) (length arguments.now)) }
 {

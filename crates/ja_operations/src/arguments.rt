@@ -1,6 +1,7 @@
 //! The arguments of a call, one by one and counted, and the names of elements (ES3 10.1.8, 15.4).
 
 ghost use Rattle.std.specs.Prelude.{◌≡◌, ◌≤◌, IfOk, OnOk, length};
+ghost use Rattle.ja_prim.specs.Judged.{max_magnitude};
 ghost use Rattle.ja_machine.specs.Frames as frames;
 ghost use Rattle.ja_machine.specs.Objects as objects;
 ghost use Rattle.ja_machine.specs.Writes as writes;
@@ -16,7 +17,7 @@ use std::alloc::Global;
 /// 9,007,199,254,740,991.
 pub fn argument_count(arguments: &[Value]) -> Result<Value, Memory>
     ensures count { IfOk result (λ count. count ≡ writes.whole_number (length arguments.now)) }
-    ensures few { OnOk result (length arguments.now ≤ 9007199254740991) }
+    ensures few { OnOk result (length arguments.now ≤ max_magnitude) }
 {
     let count = arguments.len() as u64;
     if count > 9_007_199_254_740_991 {
@@ -47,7 +48,7 @@ pub fn object_or_undefined(object: Option<Addr>) -> Value
 
 /// The name of the element at an index, which is at most 9,007,199,254,740,991.
 pub fn index_text(alloc: Global, index: u64) -> Result<Text16, Memory>
-    requires { index ≤ 9007199254740991 }
+    requires { index ≤ max_magnitude }
     ensures { IfOk result (λ name. name ≡ objects.index_text index) }
 {
     let number = Num::Whole(Int::new(index as i64).unwrap());

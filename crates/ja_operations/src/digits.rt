@@ -2,15 +2,15 @@
 
 ghost use Rattle.std.specs.Prelude.{◌≡◌, ◌≤◌, ◌<◌, false, length, IfOk};
 ghost use Rattle.std.specs.Fmt.{digit_glyph, digits};
-ghost use Rattle.ja_machine.specs.Intrinsics.{radix_text};
+ghost use Rattle.ja_machine.specs.Intrinsics.{max_radix, min_radix, radix_text};
 
 use ja_base::Memory;
 use ja_prim::{Num, Text16};
 use std::alloc::Global;
 
-/// The digit of a number below 36, in lower case.
+/// The digit of a number below the greatest radix, in lower case.
 fn digit(n: u64) -> u16
-    requires { n < 36 }
+    requires { n < max_radix }
     ensures { result ≡ digit_glyph false n }
 {
     if n < 10 { 48 + n as u16 } else { 87 + n as u16 }
@@ -18,8 +18,8 @@ fn digit(n: u64) -> u16
 
 /// The digits of a number that isn't negative: at most 64, since there are two digits or more.
 fn digits(alloc: Global, n: u64, radix: u64) -> Result<Vec<u16>, Memory>
-    requires low { 2 ≤ radix }
-    requires high { radix ≤ 36 }
+    requires low { min_radix ≤ radix }
+    requires high { radix ≤ max_radix }
     ensures digits { IfOk result (λ units. units.items ≡ digits radix false n) }
     ensures few { IfOk result (λ units. length units.items ≤ 64) }
 {
@@ -37,8 +37,8 @@ fn digits(alloc: Global, n: u64, radix: u64) -> Result<Vec<u16>, Memory>
 
 /// The digits of a number in a radix, with `-` before those of a negative one, or `NaN`.
 pub(crate) fn radix_text(alloc: Global, number: Num, radix: u64) -> Result<Text16, Memory>
-    requires low { 2 ≤ radix }
-    requires high { radix ≤ 36 }
+    requires low { min_radix ≤ radix }
+    requires high { radix ≤ max_radix }
     ensures { IfOk result (λ text. text ≡ radix_text radix number) }
 {
     match number {

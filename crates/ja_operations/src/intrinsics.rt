@@ -82,7 +82,7 @@ fn value_of(alloc: Global, heap: &Heap, value: &Value) -> Result<Outcome, Memory
     let Some(object) = heap.object(*a) else {
         return Ok(Err(REFUSED));
     };
-    match &object.slots().value {
+    match object.value() {
         None => Ok(Err(REFUSED)),
         Some(internal) => Ok(Ok(internal.copy()?)),
     }

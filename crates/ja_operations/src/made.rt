@@ -3,55 +3,21 @@
 ghost use Rattle.std.specs.Prelude.{◌≡◌, [], ◌≤◌, length, IfOk};
 ghost use Rattle.ja_graph.specs.declared.builtins.TheConstants as builtins;
 ghost use Rattle.ja_prim.specs.declared.primitive.Primitive.TheVariants as primitive;
+ghost use Rattle.ja_prim.specs.Judged.{max_magnitude};
 ghost use Rattle.ja_machine.specs.Objects as objects;
 ghost use Rattle.ja_machine.specs.Writes.{whole_number};
 
 use ja_base::{Memory, Site};
 use ja_graph::{
-    ARRAY_PROTOTYPE, Attrs, BOOLEAN_PROTOTYPE, Class, ERROR_PROTOTYPE, EVAL_ERROR_PROTOTYPE,
-    ErrorKind, FUNCTION_PROTOTYPE, Made, NUMBER_PROTOTYPE, OBJECT_PROTOTYPE, RANGE_ERROR_PROTOTYPE,
-    REFERENCE_ERROR_PROTOTYPE, STRING_PROTOTYPE, SYNTAX_ERROR_PROTOTYPE, TYPE_ERROR_PROTOTYPE,
-    URI_ERROR_PROTOTYPE,
+    ALL_ATTRS, ARRAY_PROTOTYPE, BOOLEAN_PROTOTYPE, Class, DONT_DELETE, DONT_ENUM, ERROR_PROTOTYPE,
+    EVAL_ERROR_PROTOTYPE, ErrorKind, FUNCTION_PROTOTYPE, KEPT_HIDDEN, Made, NO_ATTRS,
+    NUMBER_PROTOTYPE, OBJECT_PROTOTYPE, RANGE_ERROR_PROTOTYPE, REFERENCE_ERROR_PROTOTYPE,
+    STRING_PROTOTYPE, SYNTAX_ERROR_PROTOTYPE, TYPE_ERROR_PROTOTYPE, URI_ERROR_PROTOTYPE,
 };
 use ja_heap::Object;
 use ja_machine::{Addr, Content, Slots, Value};
 use ja_prim::{Int, Num, Primitive, Text16};
 use std::alloc::Global;
-
-/// No attribute is set.
-const NO_ATTRS: Attrs = Attrs {
-    read_only: false,
-    dont_enum: false,
-    dont_delete: false,
-};
-
-/// The attributes of a variable (ES3 10.1.3).
-pub const DONT_DELETE: Attrs = Attrs {
-    read_only: false,
-    dont_enum: false,
-    dont_delete: true,
-};
-
-/// The attributes of a `constructor` (13.2) and of what an arguments object has (10.1.8).
-pub(crate) const DONT_ENUM: Attrs = Attrs {
-    read_only: false,
-    dont_enum: true,
-    dont_delete: false,
-};
-
-/// The attributes of an array's length (15.4.5.2).
-const KEPT_HIDDEN: Attrs = Attrs {
-    read_only: false,
-    dont_enum: true,
-    dont_delete: true,
-};
-
-/// The attributes of the length of a text (15.5.5.1) and of a function (15.3.5.1).
-const ALL_ATTRS: Attrs = Attrs {
-    read_only: true,
-    dont_enum: true,
-    dont_delete: true,
-};
 
 /// The only object of a site without a node.
 pub fn first_of(site: Site) -> Addr
@@ -62,7 +28,7 @@ pub fn first_of(site: Site) -> Addr
 
 /// A whole number, of at most 9,007,199,254,740,991.
 pub(crate) fn whole_number(n: u64) -> Value
-    requires { n ≤ 9007199254740991 }
+    requires { n ≤ max_magnitude }
     ensures { result ≡ whole_number n }
 {
     Value::Primitive(Primitive::Number(Num::Whole(Int::new(n as i64).unwrap())))
@@ -204,7 +170,7 @@ pub fn function_object(
     chain: Addr,
     prototype: Addr,
 ) -> Result<Object, Memory>
-    requires { parameters ≤ 9007199254740991 }
+    requires { parameters ≤ max_magnitude }
     ensures { IfOk result (λ o. o ≡ objects.function_object parameters chain prototype) }
 {
     let length = Text16::from_ascii(alloc, b"length")?;

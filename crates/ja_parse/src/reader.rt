@@ -7,6 +7,7 @@ ghost use Rattle.ja_grammar.specs.code.Answering.{Answers};
 ghost use Rattle.ja_grammar.specs.Language.{Explains, Spells, max_levels, token_fault};
 ghost use Rattle.ja_grammar.specs.Language as spec;
 ghost use Rattle.ja_grammar.specs.ReadStatement.{program};
+ghost use Rattle.ja_lex.specs.Spots.{max_bytes};
 ghost use Rattle.ja_lex.specs.Tokens.{tokens};
 ghost use Rattle.ja_syntax.specs.code.Rules.{KeepsRules};
 ghost use Rattle.ja_syntax.specs.declared.tree.Statement.{Statement as StatementOf};
@@ -86,7 +87,7 @@ pub fn read(alloc: Global, tokens: &[Token]) -> Result<Items<Statement>, ParseFa
 /// label behind it, at that label. `Memory` where memory was refused.
 #[tactic(auto, using(crate::proofs::Rulesets::for_parse))]
 pub fn parse(alloc: Global, text: &str) -> Result<Tree, ParseFault>
-    requires { length text.now ≤ 16777216 }
+    requires { length text.now ≤ max_bytes }
     ensures tree { IfOk result (λ tree. Spells max_levels (tokens text.now) tree.statements) }
     ensures only { IfOk result (λ tree. (levels : ℕ) (others : List StatementOf)
         → Spells levels (tokens text.now) others → others ≡ tree.statements) }

@@ -26,7 +26,7 @@ use Rattle.ja_prelude.proofs.Allowed.{are_plain, all_allowed, all_alone}
 use Rattle.ja_prelude.proofs.Evaluating.{reading, listing}
 use Rattle.ja_prelude.proofs.Readings.{computing, computing_is, functions_by, names_by}
 use Rattle.ja_prelude.proofs.Rows.{Row, rows_by, bodies, rows_computed, size_of_row, by_path_of, by_path_computed, size_computed, parameters_computed}
-use Rattle.ja_prelude.specs.declared.texts.TheConstants.{FUNCTIONS}
+use Rattle.ja_prelude.specs.declared.texts.TheConstants.{FUNCTIONS, FUNCTION_COUNT}
 
 -- ---- reading
 
@@ -63,16 +63,16 @@ texts_are_functions =
     subst (λ r. list_all (λ f. length (functions_by r (tree_of f.1.now)) == 1) FUNCTIONS ≡ true)
     computing_is one_each
 
-counted : length (functions_by computing prelude_statements) ≡ 43
+counted : length (functions_by computing prelude_statements) ≡ FUNCTION_COUNT
 unfolding reading listing
 counted = refl
 
-pub functions_counted : prelude_count prelude_statements ≡ 43
+pub functions_counted : prelude_count prelude_statements ≡ FUNCTION_COUNT
 unfolding functions_in
 functions_counted =
-    subst (λ r. length (functions_by r prelude_statements) ≡ 43) computing_is counted
+    subst (λ r. length (functions_by r prelude_statements) ≡ FUNCTION_COUNT) computing_is counted
 
-pub paths_counted : length prelude_paths ≡ 43
+pub paths_counted : length prelude_paths ≡ FUNCTION_COUNT
 unfolding prelude_paths
 paths_counted = refl
 

@@ -25,6 +25,7 @@ use Rattle.ja_prelude.specs.Table.{TableRow, builtin_sites, call_of, construct_o
 use Rattle.ja_prelude.proofs.ListLemmas.{all-found, all-get, get-first, get-front, get-range, lt_of, or-second}
 use Rattle.ja_prelude.proofs.ObjectLemmas.{below-at, object-well_formed}
 use Rattle.ja_prelude.proofs.TableLemmas.{are_objects, contents-plain, functions-below, functions-scoped, is_below, is_global, is_plain, is_plain_content, is_plain_prototype, leads_to_plain, names_count, prototypes-plain, sites-classes, sites-plain, sites_count, table-count, table-inside, table-objects, table-sites}
+use Rattle.ja_prelude.specs.declared.texts.TheConstants.{FUNCTION_COUNT}
 
 -- ---- objects
 
@@ -86,34 +87,37 @@ sites-all P test first table each all (site ∷ rows) =
       tt,
     )
 
-functions-named : (first : ℕ) (p : Program) (k : Option ℕ) → first + 43 ≤ length p.functions
-    → is_below 43 k ≡ true → AllByRecursion (IsFunction p)
+functions-named : (first : ℕ) (p : Program) (k : Option ℕ)
+    → first + FUNCTION_COUNT ≤ length p.functions
+    → is_below FUNCTION_COUNT k ≡ true → AllByRecursion (IsFunction p)
     (option_to_list (option_map (function_of first) k))
 functions-named first p None many below = tt
-functions-named first p (Some k) many below = (omega (arith, many, lt_of k 43 below), tt)
+functions-named first p (Some k) many below =
+    (omega (arith, many, lt_of k FUNCTION_COUNT below), tt)
 
 -- the functions that they run are there
-pub sites_name_functions : (first : ℕ) (p : Program) → first + 43 ≤ length p.functions
+pub sites_name_functions : (first : ℕ) (p : Program) → first + FUNCTION_COUNT ≤ length p.functions
     → AllByRecursion (NamesFunctions p) (builtin_sites first)
 unfolding builtin_sites
 sites_name_functions first p many =
-    sites-all (NamesFunctions p) (λ (row : TableRow). is_below 43 (call_of row.object.role)
-    && is_below 43 (construct_of row.object.role)) first table_rows each functions-below
+    sites-all (NamesFunctions p) (λ (row : TableRow).
+    is_below FUNCTION_COUNT (call_of row.object.role)
+    && is_below FUNCTION_COUNT (construct_of row.object.role)) first table_rows each functions-below
     (enumerate_from 0 BUILTIN_CLASSES)
   where
-    each : (c : Class) (row : TableRow) → (is_below 43 (call_of row.object.role)
-        && is_below 43 (construct_of row.object.role)) ≡ true
+    each : (c : Class) (row : TableRow) → (is_below FUNCTION_COUNT (call_of row.object.role)
+        && is_below FUNCTION_COUNT (construct_of row.object.role)) ≡ true
         → NamesFunctions p (site_of first c row.path row.object.role)
     each c row below = record {
       owner = tt;
       calls =
           functions-named first p (call_of row.object.role) many
-          (and_left_true (is_below 43 (call_of row.object.role))
-          (is_below 43 (construct_of row.object.role)) below);
+          (and_left_true (is_below FUNCTION_COUNT (call_of row.object.role))
+          (is_below FUNCTION_COUNT (construct_of row.object.role)) below);
       constructs =
           functions-named first p (construct_of row.object.role) many
-          (and_right_true (is_below 43 (call_of row.object.role))
-          (is_below 43 (construct_of row.object.role)) below);
+          (and_right_true (is_below FUNCTION_COUNT (call_of row.object.role))
+          (is_below FUNCTION_COUNT (construct_of row.object.role)) below);
     }
 
 pub sites_have_no_owner : (first : ℕ) → AllByRecursion (λ (info : SiteInfo). info.owner ≡ None)
@@ -121,8 +125,9 @@ pub sites_have_no_owner : (first : ℕ) → AllByRecursion (λ (info : SiteInfo)
 unfolding builtin_sites
 sites_have_no_owner first =
     sites-all (λ (info : SiteInfo). info.owner ≡ None)
-    (λ (row : TableRow). is_below 43 (call_of row.object.role)
-    && is_below 43 (construct_of row.object.role)) first table_rows (λ c row below. refl)
+    (λ (row : TableRow). is_below FUNCTION_COUNT (call_of row.object.role)
+    && is_below FUNCTION_COUNT (construct_of row.object.role)) first table_rows
+    (λ c row below. refl)
     functions-below (enumerate_from 0 BUILTIN_CLASSES)
 
 -- the site of this number is one of theirs

@@ -14,6 +14,7 @@ use Rattle.ja_graph.specs.declared.program.SpecContent.{SpecContent}
 use Rattle.ja_graph.specs.declared.program.SpecContent.TheVariants as content
 use Rattle.ja_graph.specs.WellFormed.{builtin_names}
 use Rattle.ja_prelude.specs.Table.{NamedSite, TableEntry, TableRow, attrs_told, builtin_number, builtin_sites, call_of, construct_of, function_of, functions_of, is_at_its_path, is_function, is_function_class, is_global_name, is_of_its_kind, named_sites, names_at, opening_objects, path_of, prototype_told, rows_of, scope_rows, table_rows, unbuilt_rows}
+use Rattle.ja_prelude.specs.declared.texts.TheConstants.{VALUE_FIRST, FUNCTION_COUNT}
 
 -- ---- by names
 
@@ -41,7 +42,8 @@ unfolding builtin_sites
 all_sites_are_named first = refl
 
 pub functions_are_numbered : (first : ℕ)
-    → flat_map functions_of (builtin_sites first) ≡ map (function_of first) (range_with_len 0 41)
+    → flat_map functions_of (builtin_sites first)
+    ≡ map (function_of first) (range_with_len 0 VALUE_FIRST)
 unfolding builtin_sites
 functions_are_numbered first = refl
 
@@ -172,8 +174,9 @@ pub sites-classes : (first : ℕ) → map (λ (s : SiteInfo). s.class) (builtin_
 unfolding builtin_sites
 sites-classes first = refl
 
-pub functions-below : list_all (λ (row : TableRow). is_below 43 (call_of row.object.role)
-    && is_below 43 (construct_of row.object.role)) table_rows ≡ true
+pub functions-below : list_all (λ (row : TableRow).
+    is_below FUNCTION_COUNT (call_of row.object.role)
+    && is_below FUNCTION_COUNT (construct_of row.object.role)) table_rows ≡ true
 functions-below = refl
 
 pub sites-plain : (first : ℕ) → map (λ (s : SiteInfo). is_none s.calls && is_none s.constructs)

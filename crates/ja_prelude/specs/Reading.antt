@@ -44,6 +44,10 @@ AreSpelled (text ∷ texts) statements =
     (tree : List Statement) × (others : List Statement)
     × IsSpelled text tree × AreSpelled texts others × (statements ≡ tree ++ others)
 
+-- the greatest number of tokens of the text of a built-in function, and of its bytes
+abbrev pub max_tokens : ℕ
+max_tokens = 65536
+
 -- a text of few bytes and tokens
 abbrev pub is_few : List ℕ → Bool
-is_few text = nat_le (length text) 65536 && nat_le (length (tokens text)) 65536
+is_few text = nat_le (length text) max_tokens && nat_le (length (tokens text)) max_tokens

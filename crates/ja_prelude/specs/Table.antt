@@ -15,6 +15,7 @@ use Rattle.ja_prim.specs.declared.primitive.Num.TheVariants.{NaN, Whole}
 use Rattle.ja_prim.specs.declared.primitive.Primitive.{Primitive}
 use Rattle.ja_prim.specs.declared.primitive.Primitive.TheVariants as primitive
 use Rattle.ja_graph.specs.declared.attrs.Attrs.{Attrs}
+use Rattle.ja_graph.specs.declared.attrs.TheConstants.{ALL_ATTRS, DONT_ENUM, KEPT_HIDDEN}
 use Rattle.ja_graph.specs.declared.builtins.TheConstants.{BUILTIN_CLASSES}
 use Rattle.ja_graph.specs.declared.builtins.TheConstants as sites
 use Rattle.ja_graph.specs.declared.node.ErrorKind.{ErrorKind}
@@ -292,25 +293,17 @@ constants =
     ++ words "Number.NEGATIVE_INFINITY Number.POSITIVE_INFINITY"
     ++ words "Math.E Math.LN10 Math.LN2 Math.LOG2E Math.LOG10E Math.PI Math.SQRT1_2 Math.SQRT2"
 
-abbrev pub hidden : Attrs
-hidden = record { read_only = false; dont_enum = true; dont_delete = false }
-
-abbrev pub kept : Attrs
-kept = record { read_only = false; dont_enum = true; dont_delete = true }
-
-abbrev pub fixed : Attrs
-fixed = record { read_only = true; dont_enum = true; dont_delete = true }
-
 -- The attributes of a property of the object with this path. The three values of the global object
--- (15.1.1) and the `length` of an array (15.4.5.2) are kept; the `length` of any other object
--- (15.3.5.1, 15.5.5.1), `prototype` (15.2.3.1) and the constants are fixed; any other property is
--- only hidden (15).
+-- (15.1.1) and the `length` of an array (15.4.5.2) are DontEnum and DontDelete; the `length` of any
+-- other object (15.3.5.1, 15.5.5.1), `prototype` (15.2.3.1) and the constants have all attributes;
+-- any other property is only DontEnum (15).
 abbrev pub attrs_told : List ℕ → List ℕ → Attrs
 attrs_told path name =
-    if is_word (member path name) (words "NaN Infinity undefined Array.prototype.length") then kept
-    else if is_word name (words "length prototype") then fixed
-    else if is_word (member path name) constants then fixed
-    else hidden
+    if is_word (member path name) (words "NaN Infinity undefined Array.prototype.length")
+    then KEPT_HIDDEN
+    else if is_word name (words "length prototype") then ALL_ATTRS
+    else if is_word (member path name) constants then ALL_ATTRS
+    else DONT_ENUM
 
 -- names of properties of the object with this path
 pub record NamesAt : Type 0 where

@@ -20,7 +20,7 @@ ghost use Rattle.ja_prelude.specs.Prelude.{prelude_statements};
 ghost use Rattle.ja_prelude.specs.Table.{function_paths, lengths};
 ghost use Rattle.ja_prelude.specs.Texts.{error_kinds, error_texts, prelude_texts, texts_at};
 ghost use Rattle.ja_prelude.specs.Uses.{uses, uses_told};
-ghost use Rattle.ja_prelude.specs.declared.texts.TheConstants.{FUNCTIONS};
+ghost use Rattle.ja_prelude.specs.declared.texts.TheConstants.{FUNCTIONS, FUNCTION_COUNT};
 
 /// Each text is in the language and short, and its tree is that of the grammar.
 #[tactic(auto, using(crate::proofs::Rulesets::for_texts_are_read))]
@@ -49,8 +49,8 @@ pub fn trees_are_the_grammars()
 #[tactic(auto, using(crate::proofs::Rulesets::for_texts_are_functions))]
 pub fn texts_are_functions()
     ensures each { list_all (λ f. length (functions_in (tree_of f.1.now)) == 1) FUNCTIONS ≡ true }
-    ensures functions { prelude_count prelude_statements ≡ 43 }
-    ensures paths { length prelude_paths ≡ 43 }
+    ensures functions { prelude_count prelude_statements ≡ FUNCTION_COUNT }
+    ensures paths { length prelude_paths ≡ FUNCTION_COUNT }
 {}
 
 /// The functions are those of the table, and the two default values behind them: each has the path

@@ -29,4 +29,4 @@ mod texts;
 pub use objects::{builtin_names, builtin_sites, opening_objects};
 pub use prelude::Prelude;
 pub use table::{BuiltinObject, Constant, Content, Entry, OPENING, Role, TableRow};
-pub use texts::{BuiltinFunction, FUNCTIONS};
+pub use texts::{BuiltinFunction, FUNCTION_COUNT, FUNCTIONS, TEXT_FIRST, VALUE_FIRST};

@@ -16,6 +16,7 @@ ghost use Rattle.ja_graph.specs.declared.program.SiteInfo.{SiteInfo};
 ghost use Rattle.ja_graph.specs.Kinds.{IsPlain, IsPlainContent};
 ghost use Rattle.ja_prelude.specs.Opening.{IsGlobalName};
 ghost use Rattle.ja_prelude.specs.Table.{builtin_sites, opening_objects};
+ghost use Rattle.ja_prelude.specs.declared.texts.TheConstants.{FUNCTION_COUNT};
 
 /// Names that are each added once are all different, and where some follow the built-in ones, and
 /// then others, these come first.
@@ -53,7 +54,7 @@ pub fn sites_are_told()
         → p.sites ≡ builtin_sites first ++ others → p.opening ≡ opening_objects → (s : ℕ)
         → s < length p.opening → (info : SiteInfo) → slice_get p.sites s ≡ Some info
         → info.owner ≡ None }
-    ensures functions { (first : ℕ) (p : Program) → first + 43 ≤ length p.functions
+    ensures functions { (first : ℕ) (p : Program) → first + FUNCTION_COUNT ≤ length p.functions
         → AllByRecursion (NamesFunctions p) (builtin_sites first) }
 {}
 

@@ -1,9 +1,11 @@
 //! The built-in functions, as each program has them.
 
-ghost use Rattle.std.specs.Prelude.{◌≡◌, ◌≤◌, true, map, IfOk};
+ghost use Rattle.std.specs.Prelude.{◌≡◌, ◌≤◌, ◌+◌, true, map, IfOk};
 ghost use Rattle.std.specs.List.{AllByRecursion, list_all};
-ghost use Rattle.ja_graph.specs.WellFormed.{builtin_names};
+ghost use Rattle.ja_graph.specs.WellFormed.{builtin_names, max_registers};
+ghost use Rattle.ja_graph.specs.declared.program.TheConstants.{MAX_DEVICES};
 ghost use Rattle.ja_lower.specs.Lowering.{lowered_prelude};
+ghost use Rattle.ja_lower.specs.Limits.{max_functions};
 ghost use Rattle.ja_prelude.specs.Prelude as spec;
 ghost use Rattle.ja_prelude.specs.code.Prelude as code;
 ghost use Rattle.ja_prim.specs.Texts.{is_short};
@@ -68,12 +70,12 @@ impl Prelude {
         first_function: u32,
     ) -> Result<Lowered, Memory>
         requires prelude { self.now ≡ code.the_prelude }
-        requires functions { first_function ≤ 4160 }
+        requires functions { first_function ≤ max_functions + MAX_DEVICES }
         ensures lowered { IfOk result (λ l. l
             ≡ lowered_prelude builtin_names spec.prelude_paths first_site first_function
             spec.prelude_statements) }
         ensures registers { IfOk result (λ l.
-            AllByRecursion (λ fn. fn.registers ≤ 262144) l.functions) }
+            AllByRecursion (λ fn. fn.registers ≤ max_registers) l.functions) }
     {
         texts_are_functions();
         names_are_told();

@@ -17,7 +17,7 @@ use std::alloc::Global;
 /// Tokens with their numbers as places.
 #[tactic(auto, unfolding(crate::specs::Reading::numbered))]
 fn numbered(alloc: Global, tokens: Vec<Token>) -> Result<Vec<Token>, Memory>
-    requires { length tokens.items ≤ 65536 }
+    requires { length tokens.items ≤ spec.max_tokens }
     ensures { IfOk result (λ list. list.items ≡ spec.numbered 1 tokens.items) }
 {
     let mut list = Vec::new(alloc);

@@ -6,14 +6,15 @@ use self::Content::{Object, Prim, Row};
 use self::Role::{Constructor, Function, Plain, Wrapper};
 use ja_base::Site;
 use ja_graph::{
-    APPLY, ARRAY_PROTOTYPE, Attrs, BOOLEAN, BOOLEAN_PROTOTYPE, BOOLEAN_TO_STRING, BOOLEAN_VALUE_OF,
-    CALL, ERROR, ERROR_PROTOTYPE, ERROR_TO_STRING, EVAL_ERROR, EVAL_ERROR_PROTOTYPE, ErrorKind,
-    FUNCTION, FUNCTION_PROTOTYPE, GLOBAL, HAS_OWN_PROPERTY, IS_FINITE, IS_NAN, IS_PROTOTYPE_OF,
-    MATH, NUMBER, NUMBER_PROTOTYPE, NUMBER_TO_STRING, NUMBER_VALUE_OF, OBJECT, OBJECT_PROTOTYPE,
-    OBJECT_TO_STRING, OBJECT_VALUE_OF, PROPERTY_IS_ENUMERABLE, RANGE_ERROR, RANGE_ERROR_PROTOTYPE,
-    REFERENCE_ERROR, REFERENCE_ERROR_PROTOTYPE, STRING, STRING_PROTOTYPE, STRING_TO_STRING,
-    STRING_VALUE_OF, SYNTAX_ERROR, SYNTAX_ERROR_PROTOTYPE, TYPE_ERROR, TYPE_ERROR_PROTOTYPE,
-    URI_ERROR, URI_ERROR_PROTOTYPE,
+    ALL_ATTRS, APPLY, ARRAY_PROTOTYPE, Attrs, BOOLEAN, BOOLEAN_PROTOTYPE, BOOLEAN_TO_STRING,
+    BOOLEAN_VALUE_OF, CALL, DONT_ENUM, ERROR, ERROR_PROTOTYPE, ERROR_TO_STRING, EVAL_ERROR,
+    EVAL_ERROR_PROTOTYPE, ErrorKind, FUNCTION, FUNCTION_PROTOTYPE, GLOBAL, HAS_OWN_PROPERTY,
+    IS_FINITE, IS_NAN, IS_PROTOTYPE_OF, KEPT_HIDDEN, MATH, NUMBER, NUMBER_PROTOTYPE,
+    NUMBER_TO_STRING, NUMBER_VALUE_OF, OBJECT, OBJECT_PROTOTYPE, OBJECT_TO_STRING, OBJECT_VALUE_OF,
+    PROPERTY_IS_ENUMERABLE, RANGE_ERROR, RANGE_ERROR_PROTOTYPE, REFERENCE_ERROR,
+    REFERENCE_ERROR_PROTOTYPE, STRING, STRING_PROTOTYPE, STRING_TO_STRING, STRING_VALUE_OF,
+    SYNTAX_ERROR, SYNTAX_ERROR_PROTOTYPE, TYPE_ERROR, TYPE_ERROR_PROTOTYPE, URI_ERROR,
+    URI_ERROR_PROTOTYPE,
 };
 
 /// A primitive value of the table.
@@ -63,27 +64,6 @@ pub struct BuiltinObject {
 /// properties.
 pub type TableRow = (&'static [u8], BuiltinObject, &'static [Entry]);
 
-/// DontEnum (8.6.1).
-const HIDDEN: Attrs = Attrs {
-    read_only: false,
-    dont_enum: true,
-    dont_delete: false,
-};
-
-/// DontEnum and DontDelete.
-const KEPT: Attrs = Attrs {
-    read_only: false,
-    dont_enum: true,
-    dont_delete: true,
-};
-
-/// ReadOnly, DontEnum and DontDelete.
-const FIXED: Attrs = Attrs {
-    read_only: true,
-    dont_enum: true,
-    dont_delete: true,
-};
-
 /// The built-in objects, each behind its prototype and its scope.
 pub const OPENING: [TableRow; 43] = [
     // 15.2.4
@@ -95,17 +75,17 @@ pub const OPENING: [TableRow; 43] = [
             role: Plain,
         },
         &[
-            (b"constructor", Object(OBJECT), HIDDEN),
-            (b"toString", Object(OBJECT_TO_STRING), HIDDEN),
-            (b"valueOf", Object(OBJECT_VALUE_OF), HIDDEN),
-            (b"hasOwnProperty", Object(HAS_OWN_PROPERTY), HIDDEN),
-            (b"isPrototypeOf", Object(IS_PROTOTYPE_OF), HIDDEN),
+            (b"constructor", Object(OBJECT), DONT_ENUM),
+            (b"toString", Object(OBJECT_TO_STRING), DONT_ENUM),
+            (b"valueOf", Object(OBJECT_VALUE_OF), DONT_ENUM),
+            (b"hasOwnProperty", Object(HAS_OWN_PROPERTY), DONT_ENUM),
+            (b"isPrototypeOf", Object(IS_PROTOTYPE_OF), DONT_ENUM),
             (
                 b"propertyIsEnumerable",
                 Object(PROPERTY_IS_ENUMERABLE),
-                HIDDEN,
+                DONT_ENUM,
             ),
-            (b"toLocaleString", Row, HIDDEN),
+            (b"toLocaleString", Row, DONT_ENUM),
         ],
     ),
     // 15.1
@@ -117,36 +97,36 @@ pub const OPENING: [TableRow; 43] = [
             role: Plain,
         },
         &[
-            (b"NaN", Prim(NaN), KEPT),
-            (b"undefined", Prim(Undefined), KEPT),
-            (b"parseInt", Row, HIDDEN),
-            (b"parseFloat", Row, HIDDEN),
-            (b"isNaN", Object(IS_NAN), HIDDEN),
-            (b"isFinite", Object(IS_FINITE), HIDDEN),
-            (b"Object", Object(OBJECT), HIDDEN),
-            (b"Function", Object(FUNCTION), HIDDEN),
-            (b"Array", Row, HIDDEN),
-            (b"String", Object(STRING), HIDDEN),
-            (b"Boolean", Object(BOOLEAN), HIDDEN),
-            (b"Number", Object(NUMBER), HIDDEN),
-            (b"Error", Object(ERROR), HIDDEN),
-            (b"EvalError", Object(EVAL_ERROR), HIDDEN),
-            (b"RangeError", Object(RANGE_ERROR), HIDDEN),
-            (b"ReferenceError", Object(REFERENCE_ERROR), HIDDEN),
-            (b"SyntaxError", Object(SYNTAX_ERROR), HIDDEN),
-            (b"TypeError", Object(TYPE_ERROR), HIDDEN),
-            (b"URIError", Object(URI_ERROR), HIDDEN),
-            (b"Math", Object(MATH), HIDDEN),
-            (b"Infinity", Row, KEPT),
-            (b"eval", Row, HIDDEN),
-            (b"decodeURI", Row, HIDDEN),
-            (b"decodeURIComponent", Row, HIDDEN),
-            (b"encodeURI", Row, HIDDEN),
-            (b"encodeURIComponent", Row, HIDDEN),
-            (b"escape", Row, HIDDEN),
-            (b"unescape", Row, HIDDEN),
-            (b"Date", Row, HIDDEN),
-            (b"RegExp", Row, HIDDEN),
+            (b"NaN", Prim(NaN), KEPT_HIDDEN),
+            (b"undefined", Prim(Undefined), KEPT_HIDDEN),
+            (b"parseInt", Row, DONT_ENUM),
+            (b"parseFloat", Row, DONT_ENUM),
+            (b"isNaN", Object(IS_NAN), DONT_ENUM),
+            (b"isFinite", Object(IS_FINITE), DONT_ENUM),
+            (b"Object", Object(OBJECT), DONT_ENUM),
+            (b"Function", Object(FUNCTION), DONT_ENUM),
+            (b"Array", Row, DONT_ENUM),
+            (b"String", Object(STRING), DONT_ENUM),
+            (b"Boolean", Object(BOOLEAN), DONT_ENUM),
+            (b"Number", Object(NUMBER), DONT_ENUM),
+            (b"Error", Object(ERROR), DONT_ENUM),
+            (b"EvalError", Object(EVAL_ERROR), DONT_ENUM),
+            (b"RangeError", Object(RANGE_ERROR), DONT_ENUM),
+            (b"ReferenceError", Object(REFERENCE_ERROR), DONT_ENUM),
+            (b"SyntaxError", Object(SYNTAX_ERROR), DONT_ENUM),
+            (b"TypeError", Object(TYPE_ERROR), DONT_ENUM),
+            (b"URIError", Object(URI_ERROR), DONT_ENUM),
+            (b"Math", Object(MATH), DONT_ENUM),
+            (b"Infinity", Row, KEPT_HIDDEN),
+            (b"eval", Row, DONT_ENUM),
+            (b"decodeURI", Row, DONT_ENUM),
+            (b"decodeURIComponent", Row, DONT_ENUM),
+            (b"encodeURI", Row, DONT_ENUM),
+            (b"encodeURIComponent", Row, DONT_ENUM),
+            (b"escape", Row, DONT_ENUM),
+            (b"unescape", Row, DONT_ENUM),
+            (b"Date", Row, DONT_ENUM),
+            (b"RegExp", Row, DONT_ENUM),
         ],
     ),
     // 15.3.4
@@ -158,11 +138,11 @@ pub const OPENING: [TableRow; 43] = [
             role: Function(0),
         },
         &[
-            (b"length", Prim(Number(0)), FIXED),
-            (b"constructor", Object(FUNCTION), HIDDEN),
-            (b"apply", Object(APPLY), HIDDEN),
-            (b"call", Object(CALL), HIDDEN),
-            (b"toString", Row, HIDDEN),
+            (b"length", Prim(Number(0)), ALL_ATTRS),
+            (b"constructor", Object(FUNCTION), DONT_ENUM),
+            (b"apply", Object(APPLY), DONT_ENUM),
+            (b"call", Object(CALL), DONT_ENUM),
+            (b"toString", Row, DONT_ENUM),
         ],
     ),
     // 15.2.1, 15.2.2, 15.2.3
@@ -174,8 +154,8 @@ pub const OPENING: [TableRow; 43] = [
             role: Constructor(1, 2),
         },
         &[
-            (b"length", Prim(Number(1)), FIXED),
-            (b"prototype", Object(OBJECT_PROTOTYPE), FIXED),
+            (b"length", Prim(Number(1)), ALL_ATTRS),
+            (b"prototype", Object(OBJECT_PROTOTYPE), ALL_ATTRS),
         ],
     ),
     // 15.3.1, 15.3.2, 15.3.3
@@ -187,8 +167,8 @@ pub const OPENING: [TableRow; 43] = [
             role: Constructor(3, 4),
         },
         &[
-            (b"length", Prim(Number(1)), FIXED),
-            (b"prototype", Object(FUNCTION_PROTOTYPE), FIXED),
+            (b"length", Prim(Number(1)), ALL_ATTRS),
+            (b"prototype", Object(FUNCTION_PROTOTYPE), ALL_ATTRS),
         ],
     ),
     // 15.4.4
@@ -200,20 +180,20 @@ pub const OPENING: [TableRow; 43] = [
             role: Plain,
         },
         &[
-            (b"length", Prim(Number(0)), KEPT),
-            (b"constructor", Row, HIDDEN),
-            (b"toString", Row, HIDDEN),
-            (b"concat", Row, HIDDEN),
-            (b"join", Row, HIDDEN),
-            (b"pop", Row, HIDDEN),
-            (b"push", Row, HIDDEN),
-            (b"reverse", Row, HIDDEN),
-            (b"shift", Row, HIDDEN),
-            (b"slice", Row, HIDDEN),
-            (b"splice", Row, HIDDEN),
-            (b"unshift", Row, HIDDEN),
-            (b"toLocaleString", Row, HIDDEN),
-            (b"sort", Row, HIDDEN),
+            (b"length", Prim(Number(0)), KEPT_HIDDEN),
+            (b"constructor", Row, DONT_ENUM),
+            (b"toString", Row, DONT_ENUM),
+            (b"concat", Row, DONT_ENUM),
+            (b"join", Row, DONT_ENUM),
+            (b"pop", Row, DONT_ENUM),
+            (b"push", Row, DONT_ENUM),
+            (b"reverse", Row, DONT_ENUM),
+            (b"shift", Row, DONT_ENUM),
+            (b"slice", Row, DONT_ENUM),
+            (b"splice", Row, DONT_ENUM),
+            (b"unshift", Row, DONT_ENUM),
+            (b"toLocaleString", Row, DONT_ENUM),
+            (b"sort", Row, DONT_ENUM),
         ],
     ),
     // 15.5.1, 15.5.2, 15.5.3
@@ -225,9 +205,9 @@ pub const OPENING: [TableRow; 43] = [
             role: Constructor(5, 6),
         },
         &[
-            (b"length", Prim(Number(1)), FIXED),
-            (b"fromCharCode", Row, HIDDEN),
-            (b"prototype", Object(STRING_PROTOTYPE), FIXED),
+            (b"length", Prim(Number(1)), ALL_ATTRS),
+            (b"fromCharCode", Row, DONT_ENUM),
+            (b"prototype", Object(STRING_PROTOTYPE), ALL_ATTRS),
         ],
     ),
     // 15.5.4
@@ -239,27 +219,27 @@ pub const OPENING: [TableRow; 43] = [
             role: Wrapper(Empty),
         },
         &[
-            (b"length", Prim(Number(0)), FIXED),
-            (b"constructor", Object(STRING), HIDDEN),
-            (b"toString", Object(STRING_TO_STRING), HIDDEN),
-            (b"valueOf", Object(STRING_VALUE_OF), HIDDEN),
-            (b"charAt", Row, HIDDEN),
-            (b"charCodeAt", Row, HIDDEN),
-            (b"concat", Row, HIDDEN),
-            (b"indexOf", Row, HIDDEN),
-            (b"lastIndexOf", Row, HIDDEN),
-            (b"slice", Row, HIDDEN),
-            (b"split", Row, HIDDEN),
-            (b"substring", Row, HIDDEN),
-            (b"toLowerCase", Row, HIDDEN),
-            (b"toUpperCase", Row, HIDDEN),
-            (b"substr", Row, HIDDEN),
-            (b"match", Row, HIDDEN),
-            (b"replace", Row, HIDDEN),
-            (b"search", Row, HIDDEN),
-            (b"localeCompare", Row, HIDDEN),
-            (b"toLocaleLowerCase", Row, HIDDEN),
-            (b"toLocaleUpperCase", Row, HIDDEN),
+            (b"length", Prim(Number(0)), ALL_ATTRS),
+            (b"constructor", Object(STRING), DONT_ENUM),
+            (b"toString", Object(STRING_TO_STRING), DONT_ENUM),
+            (b"valueOf", Object(STRING_VALUE_OF), DONT_ENUM),
+            (b"charAt", Row, DONT_ENUM),
+            (b"charCodeAt", Row, DONT_ENUM),
+            (b"concat", Row, DONT_ENUM),
+            (b"indexOf", Row, DONT_ENUM),
+            (b"lastIndexOf", Row, DONT_ENUM),
+            (b"slice", Row, DONT_ENUM),
+            (b"split", Row, DONT_ENUM),
+            (b"substring", Row, DONT_ENUM),
+            (b"toLowerCase", Row, DONT_ENUM),
+            (b"toUpperCase", Row, DONT_ENUM),
+            (b"substr", Row, DONT_ENUM),
+            (b"match", Row, DONT_ENUM),
+            (b"replace", Row, DONT_ENUM),
+            (b"search", Row, DONT_ENUM),
+            (b"localeCompare", Row, DONT_ENUM),
+            (b"toLocaleLowerCase", Row, DONT_ENUM),
+            (b"toLocaleUpperCase", Row, DONT_ENUM),
         ],
     ),
     // 15.6.1, 15.6.2, 15.6.3
@@ -271,8 +251,8 @@ pub const OPENING: [TableRow; 43] = [
             role: Constructor(7, 8),
         },
         &[
-            (b"length", Prim(Number(1)), FIXED),
-            (b"prototype", Object(BOOLEAN_PROTOTYPE), FIXED),
+            (b"length", Prim(Number(1)), ALL_ATTRS),
+            (b"prototype", Object(BOOLEAN_PROTOTYPE), ALL_ATTRS),
         ],
     ),
     // 15.6.4
@@ -284,9 +264,9 @@ pub const OPENING: [TableRow; 43] = [
             role: Wrapper(False),
         },
         &[
-            (b"constructor", Object(BOOLEAN), HIDDEN),
-            (b"toString", Object(BOOLEAN_TO_STRING), HIDDEN),
-            (b"valueOf", Object(BOOLEAN_VALUE_OF), HIDDEN),
+            (b"constructor", Object(BOOLEAN), DONT_ENUM),
+            (b"toString", Object(BOOLEAN_TO_STRING), DONT_ENUM),
+            (b"valueOf", Object(BOOLEAN_VALUE_OF), DONT_ENUM),
         ],
     ),
     // 15.7.1, 15.7.2, 15.7.3
@@ -298,13 +278,13 @@ pub const OPENING: [TableRow; 43] = [
             role: Constructor(9, 10),
         },
         &[
-            (b"length", Prim(Number(1)), FIXED),
-            (b"prototype", Object(NUMBER_PROTOTYPE), FIXED),
-            (b"NaN", Prim(NaN), FIXED),
-            (b"MAX_VALUE", Row, FIXED),
-            (b"MIN_VALUE", Row, FIXED),
-            (b"POSITIVE_INFINITY", Row, FIXED),
-            (b"NEGATIVE_INFINITY", Row, FIXED),
+            (b"length", Prim(Number(1)), ALL_ATTRS),
+            (b"prototype", Object(NUMBER_PROTOTYPE), ALL_ATTRS),
+            (b"NaN", Prim(NaN), ALL_ATTRS),
+            (b"MAX_VALUE", Row, ALL_ATTRS),
+            (b"MIN_VALUE", Row, ALL_ATTRS),
+            (b"POSITIVE_INFINITY", Row, ALL_ATTRS),
+            (b"NEGATIVE_INFINITY", Row, ALL_ATTRS),
         ],
     ),
     // 15.7.4
@@ -316,13 +296,13 @@ pub const OPENING: [TableRow; 43] = [
             role: Wrapper(Number(0)),
         },
         &[
-            (b"constructor", Object(NUMBER), HIDDEN),
-            (b"toString", Object(NUMBER_TO_STRING), HIDDEN),
-            (b"valueOf", Object(NUMBER_VALUE_OF), HIDDEN),
-            (b"toLocaleString", Row, HIDDEN),
-            (b"toFixed", Row, HIDDEN),
-            (b"toExponential", Row, HIDDEN),
-            (b"toPrecision", Row, HIDDEN),
+            (b"constructor", Object(NUMBER), DONT_ENUM),
+            (b"toString", Object(NUMBER_TO_STRING), DONT_ENUM),
+            (b"valueOf", Object(NUMBER_VALUE_OF), DONT_ENUM),
+            (b"toLocaleString", Row, DONT_ENUM),
+            (b"toFixed", Row, DONT_ENUM),
+            (b"toExponential", Row, DONT_ENUM),
+            (b"toPrecision", Row, DONT_ENUM),
         ],
     ),
     // 15.11.1, 15.11.2, 15.11.3
@@ -334,8 +314,8 @@ pub const OPENING: [TableRow; 43] = [
             role: Constructor(11, 12),
         },
         &[
-            (b"length", Prim(Number(1)), FIXED),
-            (b"prototype", Object(ERROR_PROTOTYPE), FIXED),
+            (b"length", Prim(Number(1)), ALL_ATTRS),
+            (b"prototype", Object(ERROR_PROTOTYPE), ALL_ATTRS),
         ],
     ),
     // 15.11.4
@@ -347,10 +327,10 @@ pub const OPENING: [TableRow; 43] = [
             role: Plain,
         },
         &[
-            (b"constructor", Object(ERROR), HIDDEN),
-            (b"name", Prim(ErrorName(ErrorKind::Error)), HIDDEN),
-            (b"message", Prim(Empty), HIDDEN),
-            (b"toString", Object(ERROR_TO_STRING), HIDDEN),
+            (b"constructor", Object(ERROR), DONT_ENUM),
+            (b"name", Prim(ErrorName(ErrorKind::Error)), DONT_ENUM),
+            (b"message", Prim(Empty), DONT_ENUM),
+            (b"toString", Object(ERROR_TO_STRING), DONT_ENUM),
         ],
     ),
     // 15.11.7
@@ -362,8 +342,8 @@ pub const OPENING: [TableRow; 43] = [
             role: Constructor(13, 14),
         },
         &[
-            (b"length", Prim(Number(1)), FIXED),
-            (b"prototype", Object(EVAL_ERROR_PROTOTYPE), FIXED),
+            (b"length", Prim(Number(1)), ALL_ATTRS),
+            (b"prototype", Object(EVAL_ERROR_PROTOTYPE), ALL_ATTRS),
         ],
     ),
     // 15.11.7
@@ -375,9 +355,9 @@ pub const OPENING: [TableRow; 43] = [
             role: Plain,
         },
         &[
-            (b"constructor", Object(EVAL_ERROR), HIDDEN),
-            (b"name", Prim(ErrorName(ErrorKind::EvalError)), HIDDEN),
-            (b"message", Prim(Empty), HIDDEN),
+            (b"constructor", Object(EVAL_ERROR), DONT_ENUM),
+            (b"name", Prim(ErrorName(ErrorKind::EvalError)), DONT_ENUM),
+            (b"message", Prim(Empty), DONT_ENUM),
         ],
     ),
     // 15.11.7
@@ -389,8 +369,8 @@ pub const OPENING: [TableRow; 43] = [
             role: Constructor(15, 16),
         },
         &[
-            (b"length", Prim(Number(1)), FIXED),
-            (b"prototype", Object(RANGE_ERROR_PROTOTYPE), FIXED),
+            (b"length", Prim(Number(1)), ALL_ATTRS),
+            (b"prototype", Object(RANGE_ERROR_PROTOTYPE), ALL_ATTRS),
         ],
     ),
     // 15.11.7
@@ -402,9 +382,9 @@ pub const OPENING: [TableRow; 43] = [
             role: Plain,
         },
         &[
-            (b"constructor", Object(RANGE_ERROR), HIDDEN),
-            (b"name", Prim(ErrorName(ErrorKind::RangeError)), HIDDEN),
-            (b"message", Prim(Empty), HIDDEN),
+            (b"constructor", Object(RANGE_ERROR), DONT_ENUM),
+            (b"name", Prim(ErrorName(ErrorKind::RangeError)), DONT_ENUM),
+            (b"message", Prim(Empty), DONT_ENUM),
         ],
     ),
     // 15.11.7
@@ -416,8 +396,8 @@ pub const OPENING: [TableRow; 43] = [
             role: Constructor(17, 18),
         },
         &[
-            (b"length", Prim(Number(1)), FIXED),
-            (b"prototype", Object(REFERENCE_ERROR_PROTOTYPE), FIXED),
+            (b"length", Prim(Number(1)), ALL_ATTRS),
+            (b"prototype", Object(REFERENCE_ERROR_PROTOTYPE), ALL_ATTRS),
         ],
     ),
     // 15.11.7
@@ -429,9 +409,13 @@ pub const OPENING: [TableRow; 43] = [
             role: Plain,
         },
         &[
-            (b"constructor", Object(REFERENCE_ERROR), HIDDEN),
-            (b"name", Prim(ErrorName(ErrorKind::ReferenceError)), HIDDEN),
-            (b"message", Prim(Empty), HIDDEN),
+            (b"constructor", Object(REFERENCE_ERROR), DONT_ENUM),
+            (
+                b"name",
+                Prim(ErrorName(ErrorKind::ReferenceError)),
+                DONT_ENUM,
+            ),
+            (b"message", Prim(Empty), DONT_ENUM),
         ],
     ),
     // 15.11.7
@@ -443,8 +427,8 @@ pub const OPENING: [TableRow; 43] = [
             role: Constructor(19, 20),
         },
         &[
-            (b"length", Prim(Number(1)), FIXED),
-            (b"prototype", Object(SYNTAX_ERROR_PROTOTYPE), FIXED),
+            (b"length", Prim(Number(1)), ALL_ATTRS),
+            (b"prototype", Object(SYNTAX_ERROR_PROTOTYPE), ALL_ATTRS),
         ],
     ),
     // 15.11.7
@@ -456,9 +440,9 @@ pub const OPENING: [TableRow; 43] = [
             role: Plain,
         },
         &[
-            (b"constructor", Object(SYNTAX_ERROR), HIDDEN),
-            (b"name", Prim(ErrorName(ErrorKind::SyntaxError)), HIDDEN),
-            (b"message", Prim(Empty), HIDDEN),
+            (b"constructor", Object(SYNTAX_ERROR), DONT_ENUM),
+            (b"name", Prim(ErrorName(ErrorKind::SyntaxError)), DONT_ENUM),
+            (b"message", Prim(Empty), DONT_ENUM),
         ],
     ),
     // 15.11.7
@@ -470,8 +454,8 @@ pub const OPENING: [TableRow; 43] = [
             role: Constructor(21, 22),
         },
         &[
-            (b"length", Prim(Number(1)), FIXED),
-            (b"prototype", Object(TYPE_ERROR_PROTOTYPE), FIXED),
+            (b"length", Prim(Number(1)), ALL_ATTRS),
+            (b"prototype", Object(TYPE_ERROR_PROTOTYPE), ALL_ATTRS),
         ],
     ),
     // 15.11.7
@@ -483,9 +467,9 @@ pub const OPENING: [TableRow; 43] = [
             role: Plain,
         },
         &[
-            (b"constructor", Object(TYPE_ERROR), HIDDEN),
-            (b"name", Prim(ErrorName(ErrorKind::TypeError)), HIDDEN),
-            (b"message", Prim(Empty), HIDDEN),
+            (b"constructor", Object(TYPE_ERROR), DONT_ENUM),
+            (b"name", Prim(ErrorName(ErrorKind::TypeError)), DONT_ENUM),
+            (b"message", Prim(Empty), DONT_ENUM),
         ],
     ),
     // 15.11.7
@@ -497,8 +481,8 @@ pub const OPENING: [TableRow; 43] = [
             role: Constructor(23, 24),
         },
         &[
-            (b"length", Prim(Number(1)), FIXED),
-            (b"prototype", Object(URI_ERROR_PROTOTYPE), FIXED),
+            (b"length", Prim(Number(1)), ALL_ATTRS),
+            (b"prototype", Object(URI_ERROR_PROTOTYPE), ALL_ATTRS),
         ],
     ),
     // 15.11.7
@@ -510,9 +494,9 @@ pub const OPENING: [TableRow; 43] = [
             role: Plain,
         },
         &[
-            (b"constructor", Object(URI_ERROR), HIDDEN),
-            (b"name", Prim(ErrorName(ErrorKind::URIError)), HIDDEN),
-            (b"message", Prim(Empty), HIDDEN),
+            (b"constructor", Object(URI_ERROR), DONT_ENUM),
+            (b"name", Prim(ErrorName(ErrorKind::URIError)), DONT_ENUM),
+            (b"message", Prim(Empty), DONT_ENUM),
         ],
     ),
     // 15.8
@@ -524,32 +508,32 @@ pub const OPENING: [TableRow; 43] = [
             role: Plain,
         },
         &[
-            (b"abs", Row, HIDDEN),
-            (b"ceil", Row, HIDDEN),
-            (b"floor", Row, HIDDEN),
-            (b"round", Row, HIDDEN),
-            (b"max", Row, HIDDEN),
-            (b"min", Row, HIDDEN),
-            (b"pow", Row, HIDDEN),
-            (b"E", Row, FIXED),
-            (b"LN10", Row, FIXED),
-            (b"LN2", Row, FIXED),
-            (b"LOG2E", Row, FIXED),
-            (b"LOG10E", Row, FIXED),
-            (b"PI", Row, FIXED),
-            (b"SQRT1_2", Row, FIXED),
-            (b"SQRT2", Row, FIXED),
-            (b"acos", Row, HIDDEN),
-            (b"asin", Row, HIDDEN),
-            (b"atan", Row, HIDDEN),
-            (b"atan2", Row, HIDDEN),
-            (b"cos", Row, HIDDEN),
-            (b"exp", Row, HIDDEN),
-            (b"log", Row, HIDDEN),
-            (b"random", Row, HIDDEN),
-            (b"sin", Row, HIDDEN),
-            (b"sqrt", Row, HIDDEN),
-            (b"tan", Row, HIDDEN),
+            (b"abs", Row, DONT_ENUM),
+            (b"ceil", Row, DONT_ENUM),
+            (b"floor", Row, DONT_ENUM),
+            (b"round", Row, DONT_ENUM),
+            (b"max", Row, DONT_ENUM),
+            (b"min", Row, DONT_ENUM),
+            (b"pow", Row, DONT_ENUM),
+            (b"E", Row, ALL_ATTRS),
+            (b"LN10", Row, ALL_ATTRS),
+            (b"LN2", Row, ALL_ATTRS),
+            (b"LOG2E", Row, ALL_ATTRS),
+            (b"LOG10E", Row, ALL_ATTRS),
+            (b"PI", Row, ALL_ATTRS),
+            (b"SQRT1_2", Row, ALL_ATTRS),
+            (b"SQRT2", Row, ALL_ATTRS),
+            (b"acos", Row, DONT_ENUM),
+            (b"asin", Row, DONT_ENUM),
+            (b"atan", Row, DONT_ENUM),
+            (b"atan2", Row, DONT_ENUM),
+            (b"cos", Row, DONT_ENUM),
+            (b"exp", Row, DONT_ENUM),
+            (b"log", Row, DONT_ENUM),
+            (b"random", Row, DONT_ENUM),
+            (b"sin", Row, DONT_ENUM),
+            (b"sqrt", Row, DONT_ENUM),
+            (b"tan", Row, DONT_ENUM),
         ],
     ),
     // 15.1.2.4
@@ -560,7 +544,7 @@ pub const OPENING: [TableRow; 43] = [
             prototype: Some(FUNCTION_PROTOTYPE),
             role: Function(25),
         },
-        &[(b"length", Prim(Number(1)), FIXED)],
+        &[(b"length", Prim(Number(1)), ALL_ATTRS)],
     ),
     // 15.1.2.5
     (
@@ -570,7 +554,7 @@ pub const OPENING: [TableRow; 43] = [
             prototype: Some(FUNCTION_PROTOTYPE),
             role: Function(26),
         },
-        &[(b"length", Prim(Number(1)), FIXED)],
+        &[(b"length", Prim(Number(1)), ALL_ATTRS)],
     ),
     // 15.2.4.2
     (
@@ -580,7 +564,7 @@ pub const OPENING: [TableRow; 43] = [
             prototype: Some(FUNCTION_PROTOTYPE),
             role: Function(27),
         },
-        &[(b"length", Prim(Number(0)), FIXED)],
+        &[(b"length", Prim(Number(0)), ALL_ATTRS)],
     ),
     // 15.2.4.4
     (
@@ -590,7 +574,7 @@ pub const OPENING: [TableRow; 43] = [
             prototype: Some(FUNCTION_PROTOTYPE),
             role: Function(28),
         },
-        &[(b"length", Prim(Number(0)), FIXED)],
+        &[(b"length", Prim(Number(0)), ALL_ATTRS)],
     ),
     // 15.2.4.5
     (
@@ -600,7 +584,7 @@ pub const OPENING: [TableRow; 43] = [
             prototype: Some(FUNCTION_PROTOTYPE),
             role: Function(29),
         },
-        &[(b"length", Prim(Number(1)), FIXED)],
+        &[(b"length", Prim(Number(1)), ALL_ATTRS)],
     ),
     // 15.2.4.6
     (
@@ -610,7 +594,7 @@ pub const OPENING: [TableRow; 43] = [
             prototype: Some(FUNCTION_PROTOTYPE),
             role: Function(30),
         },
-        &[(b"length", Prim(Number(1)), FIXED)],
+        &[(b"length", Prim(Number(1)), ALL_ATTRS)],
     ),
     // 15.2.4.7
     (
@@ -620,7 +604,7 @@ pub const OPENING: [TableRow; 43] = [
             prototype: Some(FUNCTION_PROTOTYPE),
             role: Function(31),
         },
-        &[(b"length", Prim(Number(1)), FIXED)],
+        &[(b"length", Prim(Number(1)), ALL_ATTRS)],
     ),
     // 15.3.4.3
     (
@@ -630,7 +614,7 @@ pub const OPENING: [TableRow; 43] = [
             prototype: Some(FUNCTION_PROTOTYPE),
             role: Function(32),
         },
-        &[(b"length", Prim(Number(2)), FIXED)],
+        &[(b"length", Prim(Number(2)), ALL_ATTRS)],
     ),
     // 15.3.4.4
     (
@@ -640,7 +624,7 @@ pub const OPENING: [TableRow; 43] = [
             prototype: Some(FUNCTION_PROTOTYPE),
             role: Function(33),
         },
-        &[(b"length", Prim(Number(1)), FIXED)],
+        &[(b"length", Prim(Number(1)), ALL_ATTRS)],
     ),
     // 15.5.4.2
     (
@@ -650,7 +634,7 @@ pub const OPENING: [TableRow; 43] = [
             prototype: Some(FUNCTION_PROTOTYPE),
             role: Function(34),
         },
-        &[(b"length", Prim(Number(0)), FIXED)],
+        &[(b"length", Prim(Number(0)), ALL_ATTRS)],
     ),
     // 15.5.4.3
     (
@@ -660,7 +644,7 @@ pub const OPENING: [TableRow; 43] = [
             prototype: Some(FUNCTION_PROTOTYPE),
             role: Function(35),
         },
-        &[(b"length", Prim(Number(0)), FIXED)],
+        &[(b"length", Prim(Number(0)), ALL_ATTRS)],
     ),
     // 15.6.4.2
     (
@@ -670,7 +654,7 @@ pub const OPENING: [TableRow; 43] = [
             prototype: Some(FUNCTION_PROTOTYPE),
             role: Function(36),
         },
-        &[(b"length", Prim(Number(0)), FIXED)],
+        &[(b"length", Prim(Number(0)), ALL_ATTRS)],
     ),
     // 15.6.4.3
     (
@@ -680,7 +664,7 @@ pub const OPENING: [TableRow; 43] = [
             prototype: Some(FUNCTION_PROTOTYPE),
             role: Function(37),
         },
-        &[(b"length", Prim(Number(0)), FIXED)],
+        &[(b"length", Prim(Number(0)), ALL_ATTRS)],
     ),
     // 15.7.4.2
     (
@@ -690,7 +674,7 @@ pub const OPENING: [TableRow; 43] = [
             prototype: Some(FUNCTION_PROTOTYPE),
             role: Function(38),
         },
-        &[(b"length", Prim(Number(1)), FIXED)],
+        &[(b"length", Prim(Number(1)), ALL_ATTRS)],
     ),
     // 15.7.4.4
     (
@@ -700,7 +684,7 @@ pub const OPENING: [TableRow; 43] = [
             prototype: Some(FUNCTION_PROTOTYPE),
             role: Function(39),
         },
-        &[(b"length", Prim(Number(0)), FIXED)],
+        &[(b"length", Prim(Number(0)), ALL_ATTRS)],
     ),
     // 15.11.4.4
     (
@@ -710,6 +694,6 @@ pub const OPENING: [TableRow; 43] = [
             prototype: Some(FUNCTION_PROTOTYPE),
             role: Function(40),
         },
-        &[(b"length", Prim(Number(0)), FIXED)],
+        &[(b"length", Prim(Number(0)), ALL_ATTRS)],
     ),
 ];

@@ -10,6 +10,7 @@ ghost use Rattle.ja_graph.specs.WellFormed.{builtin_names};
 ghost use Rattle.ja_graph.specs.declared.builtins.TheConstants.{BUILTIN_CLASSES};
 ghost use Rattle.ja_prelude.specs.Described.{descriptions, names_in_order, object_at};
 ghost use Rattle.ja_prelude.specs.Table.{attrs_told, builtin_sites, construct_of, function_of, functions_of, is_at_its_path, is_function_class, is_of_its_kind, named_sites, names_at, opening_objects, path_of, prototype_told, rows_of, scope_rows, table_rows, unbuilt_rows};
+ghost use Rattle.ja_prelude.specs.declared.texts.TheConstants.{VALUE_FIRST};
 
 /// The number of each property is that of its name in the table.
 #[tactic(auto, using(crate::proofs::TableLemmas::properties_are_named))]
@@ -37,7 +38,7 @@ pub fn sites_are_named()
 #[tactic(auto, using(crate::proofs::Rulesets::for_functions_are_numbered))]
 pub fn functions_are_numbered()
     ensures numbers { (first : ℕ) → flat_map functions_of (builtin_sites first)
-        ≡ map (function_of first) (range_with_len 0 41) }
+        ≡ map (function_of first) (range_with_len 0 VALUE_FIRST) }
     ensures called { (first : ℕ) → map (λ info. is_some info.calls) (builtin_sites first)
         ≡ map is_function_class BUILTIN_CLASSES }
     ensures constructing { map (λ row. is_some (construct_of row.object.role)) table_rows

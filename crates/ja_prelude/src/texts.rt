@@ -4,10 +4,20 @@
 /// A built-in function: its path from the global object, and its text.
 pub type BuiltinFunction = (&'static [u8], &'static str);
 
+/// How many built-in functions there are.
+pub const FUNCTION_COUNT: usize = 43;
+
+/// The number of the function that begins the default value of an object with `valueOf` (8.6.2.6).
+/// Those before it are the functions of objects.
+pub const VALUE_FIRST: u32 = 41;
+
+/// The number of the function that begins it with `toString`.
+pub const TEXT_FIRST: u32 = 42;
+
 /// The built-in functions, in the order of their objects: of a constructor first what it does as a
 /// function (`[[Call]]`), then what it does behind `new` (`[[Construct]]`). The last two give the
 /// default value of an object.
-pub const FUNCTIONS: [BuiltinFunction; 43] = [
+pub const FUNCTIONS: [BuiltinFunction; FUNCTION_COUNT] = [
     // Function.prototype (15.3.4)
     (b"Function.prototype", "function prototype() {}"),
     // Object, as a function (15.2.1.1) and as a constructor (15.2.2.1)

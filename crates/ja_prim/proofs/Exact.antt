@@ -39,7 +39,7 @@ is_zero : (b : ℕ) → (b == 0) ≡ true → b ≡ 0
 is_zero b h = grind (arith, nat_tests)
 
 judged_exact : (negative : Bool) (n d v : ℕ) → 0 < d
-    → judged negative n d ≡ Ok (Whole (signed negative v)) → (v * d ≡ n) × (v ≤ 9007199254740991)
+    → judged negative n d ≡ Ok (Whole (signed negative v)) → (v * d ≡ n) × (v ≤ max_magnitude)
 unfolding parted
 judged_exact negative n d v p h =
     let k : ℕ = n / d in
@@ -63,7 +63,7 @@ parted_whole negative v h = go (v == max_magnitude) (not_less max_magnitude v h)
     go true f = rw f refl
     go false f = rw f refl
 
-pub judged_found : (negative : Bool) (n d v : ℕ) → 0 < d → v * d ≡ n → v ≤ 9007199254740991
+pub judged_found : (negative : Bool) (n d v : ℕ) → 0 < d → v * d ≡ n → v ≤ max_magnitude
     → judged negative n d ≡ Ok (Whole (signed negative v))
 judged_found negative n d v p e h =
     judged_parts negative n d v 0 (omega (arith, e)) p ∙ parted_whole negative v h

@@ -15,7 +15,7 @@ use Rattle.ja_prim.specs.declared.primitive.Num.TheVariants.{NaN, Whole}
 use Rattle.ja_prim.specs.Blanks.{behind_blanks, before_blanks}
 use Rattle.ja_prim.specs.Characters.{is_white, is_terminator, is_blank, is_digit}
 use Rattle.ja_prim.specs.Texts.{same_text}
-use Rattle.ja_prim.specs.Judged.{judged, signed}
+use Rattle.ja_prim.specs.Judged.{judged, signed, max_magnitude}
 use Rattle.ja_prim.specs.LawsOfTexts.{IsReadBack}
 use Rattle.ja_prim.specs.Numerals as numerals
 use Rattle.ja_prim.specs.TextToNumber as spec
@@ -143,14 +143,14 @@ literal_minus ds = rw (positive (length ds)) refl
 -- ---- texts
 
 value_of : (negative : Bool) (d : ℕ) (ds : List ℕ) (n : ℕ) → AllDigits 10 (d ∷ ds)
-    → digits_value 10 (d ∷ ds) ≡ n → n ≤ 9007199254740991
+    → digits_value 10 (d ∷ ds) ≡ n → n ≤ max_magnitude
     → spec.decimal negative (d ∷ ds) ≡ Ok (Whole (signed negative n))
 value_of negative d ds n h e small =
     decimal_of_digits negative d ds h ∙ ap (λ (x : ℕ). judged negative x 1) e
     ∙ judged_found negative n 1 n (lit< tt) (omega arith) small
 
 read_digits : (n : ℕ) (t : List ℕ) → 0 < length t → AllDigits 10 t → digits_value 10 t ≡ n
-    → n ≤ 9007199254740991 → spec.text_to_number t ≡ Ok (Whole (pos n))
+    → n ≤ max_magnitude → spec.text_to_number t ≡ Ok (Whole (pos n))
 unfolding spec.text_to_number
 read_digits n [] h k e small = absurd (omega arith)
 read_digits n (d ∷ ds) h k e small =
@@ -158,7 +158,7 @@ read_digits n (d ∷ ds) h k e small =
     ∙ literal_digits d ds k ∙ signed_digits d ds k ∙ value_of false d ds n k e small
 
 read_minus : (n : ℕ) (t : List ℕ) → 0 < length t → AllDigits 10 t → digits_value 10 t ≡ n
-    → n ≤ 9007199254740991 → spec.text_to_number (45 ∷ t) ≡ Ok (Whole (signed true n))
+    → n ≤ max_magnitude → spec.text_to_number (45 ∷ t) ≡ Ok (Whole (signed true n))
 unfolding spec.text_to_number
 read_minus n [] h k e small = absurd (omega arith)
 read_minus n (d ∷ ds) h k e small =
@@ -172,14 +172,14 @@ unfolding spec.text_to_number spec.literal spec.is_hexadecimal spec.signed_liter
     is_white is_terminator
 nan_back = refl
 
-whole_back : (z : ℤ) → neg_ℤ (pos 9007199254740991) ≤ℤ z → z ≤ℤ pos 9007199254740991
+whole_back : (z : ℤ) → neg_ℤ (pos max_magnitude) ≤ℤ z → z ≤ℤ pos max_magnitude
     → spec.text_to_number (signed_decimal z) ≡ Ok (Whole z)
 whole_back (pos n) low high =
-    let small : n ≤ 9007199254740991 = omega (arith, ints) in
+    let small : n ≤ max_magnitude = omega (arith, ints) in
     let i = decimal_is_IsNumeral n (omega arith) in
     read_digits n (decimal n) i.0.0 i.0.1 i.1 small
 whole_back (negsuc n) low high =
-    let small : suc n ≤ 9007199254740991 = omega (arith, ints) in
+    let small : suc n ≤ max_magnitude = omega (arith, ints) in
     let i = decimal_is_IsNumeral (suc n) (omega arith) in
     read_minus (suc n) (decimal (suc n)) i.0.0 i.0.1 i.1 small
 

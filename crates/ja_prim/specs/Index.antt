@@ -4,8 +4,12 @@ use Rattle.std.specs.Prelude.{ℕ, ◌+◌, ◌-◌, ◌*◌, ℤ, pos, negsuc, 
 use Rattle.std.specs.List.{list_all}
 use Rattle.ja_prim.specs.Characters.{is_digit}
 
+-- the number behind the last array index: 2^32 - 1
+abbrev pub index_end : ℕ
+index_end = 4294967295
+
 abbrev pub is_index : ℤ → Bool
-is_index (pos n) = nat_lt n 4294967295
+is_index (pos n) = nat_lt n index_end
 is_index (negsuc n) = false
 
 -- the number that the digits write, from the first on
@@ -21,4 +25,4 @@ starts_with_zero (c ∷ cs) = c == 48
 abbrev pub is_index_text : List ℕ → Bool
 is_index_text t =
     nat_lt 0 (length t) && nat_le (length t) 10 && list_all is_digit t
-    && (not (starts_with_zero t) || (length t == 1)) && nat_lt (with_digits 0 t) 4294967295
+    && (not (starts_with_zero t) || (length t == 1)) && nat_lt (with_digits 0 t) index_end

@@ -46,7 +46,7 @@ IsRanked a b = just_one (is_less a b) (strict_equal a b) (is_less b a) ≡ true
 -- v is m * 10^up / 10^down, and the profile has it
 pub record IsValue (m up down v : ℕ) : Type 0 where
   pub exact : v * 10 ^ down ≡ m * 10 ^ up
-  pub small : v ≤ 9007199254740991
+  pub small : v ≤ max_magnitude
 
 -- the value of the literal of digits m, of which f stand behind the point, and of the exponent e or
 -- -e

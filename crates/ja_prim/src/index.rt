@@ -6,6 +6,9 @@ ghost use Rattle.ja_prim.specs.Index as spec;
 
 use crate::Text16;
 
+/// One more than the greatest array index (ES3 15.4).
+const INDEX_END: u64 = 4_294_967_295;
+
 /// Whether a unit is a decimal digit.
 pub fn is_digit(unit: u16) -> bool
     ensures { result ≡ is_digit unit }
@@ -56,7 +59,7 @@ pub fn array_index(a: &Text16) -> Option<u32>
         return None;
     }
     let value = digits_value(units);
-    if value < 4_294_967_295 {
+    if value < INDEX_END {
         Some(value as u32)
     } else {
         None

@@ -1,4 +1,4 @@
-ghost use Rattle.std.specs.Prelude.{◌≡◌, ◌≤◌, ◌<◌, drop, length};
+ghost use Rattle.std.specs.Prelude.{◌≡◌, ◌≤◌, ◌<◌, ◌^◌, drop, length};
 ghost use Rattle.std.specs.Char.{is_ascii_hexdigit};
 ghost use Rattle.std.specs.List.{list_all, prefix_len};
 ghost use Rattle.std.specs.Str.Parse.{AllDigits};
@@ -139,7 +139,7 @@ fn behind_exponent(units: &[u16]) -> &[u16]
 /// The value of a decimal literal with no sign, or NaN.
 #[tactic(auto, using(crate::proofs::Digits::all_digits_append), unfolding(crate::specs::TextToNumber::decimal, crate::specs::Numerals::behind_decimal, crate::specs::Numerals::decimal_value))]
 fn decimal(negative: bool, units: &[u16]) -> Result<Num, Stop>
-    requires { length units.now < 9223372036854775808 }
+    requires { length units.now < 2 ^ 63 }
     ensures { result ≡ spec.decimal negative units.now }
 {
     let whole = digits(units);
@@ -173,7 +173,7 @@ fn unsigned(units: &[u16]) -> &[u16]
 /// The value of a literal that may have a sign: a decimal literal, or `Infinity`.
 #[tactic(auto, unfolding(crate::specs::TextToNumber::signed_literal))]
 fn signed_literal(units: &[u16]) -> Result<Num, Stop>
-    requires { length units.now < 9223372036854775808 }
+    requires { length units.now < 2 ^ 63 }
     ensures { result ≡ spec.signed_literal units.now }
 {
     let rest = unsigned(units);
@@ -212,7 +212,7 @@ fn is_hexadecimal(units: &[u16]) -> bool
 /// The value of a literal with no white space at its ends.
 #[tactic(auto, unfolding(crate::specs::TextToNumber::literal, crate::specs::code::Capped::parted))]
 fn literal(units: &[u16]) -> Result<Num, Stop>
-    requires { length units.now < 9223372036854775808 }
+    requires { length units.now < 2 ^ 63 }
     ensures { result ≡ spec.literal units.now }
 {
     if units.is_empty() {
@@ -231,7 +231,7 @@ fn literal(units: &[u16]) -> Result<Num, Stop>
 /// isn't whole.
 #[tactic(auto, unfolding(crate::specs::TextToNumber::text_to_number))]
 pub fn text_to_number(units: &[u16]) -> Result<Num, Stop>
-    requires { length units.now < 9223372036854775808 }
+    requires { length units.now < 2 ^ 63 }
     ensures { result ≡ spec.text_to_number units.now }
 {
     literal(trimmed(units))

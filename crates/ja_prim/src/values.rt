@@ -40,8 +40,8 @@ pub fn placed(
     exponent: &[u16],
 ) -> Result<Num, Stop>
     requires all { AllDigits 10 (whole.now ++ places.now) }
-    requires short { length whole.now < 9223372036854775808 }
-    requires short_places { length places.now < 9223372036854775808 }
+    requires short { length whole.now < 2 ^ 63 }
+    requires short_places { length places.now < 2 ^ 63 }
     ensures { result ≡ spec.placed negative below (digits_value 10 (whole.now ++ places.now))
         (digits_value 10 exponent.now) (length places.now) }
 {

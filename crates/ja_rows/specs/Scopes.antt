@@ -4,10 +4,10 @@ use Rattle.std.specs.Option.{option_map_or}
 use Rattle.ja_base.specs.declared.ids.NameId.{NameId}
 use Rattle.ja_base.specs.declared.ids.Reg.{Reg}
 use Rattle.ja_base.specs.declared.ids.Site.{Site}
+use Rattle.ja_graph.specs.declared.attrs.TheConstants.{DONT_DELETE}
 use Rattle.ja_graph.specs.declared.node.NodeInfo.{NodeInfo}
 use Rattle.ja_machine.specs.Frames.{scope}
 use Rattle.ja_machine.specs.Nodes.{bound_attrs}
-use Rattle.ja_machine.specs.Objects.{dont_delete}
 use Rattle.ja_abstract.specs.declared.abstraction.Key.TheVariants as key
 use Rattle.ja_abstract.specs.AbstractValue.{AbstractProperty, of_label, undefined_value, of_attrs}
 use Rattle.ja_abstract.specs.AbstractState.{AbstractState, new, with_register}
@@ -37,7 +37,7 @@ abbrev pub transfer_declare : View → NodeInfo → NameId → Out
 transfer_declare w i name =
     let target = (at w scope).label in
     let k = key.Name name in
-    let q : AbstractProperty = record { value = undefined_value; attrs = of_attrs dont_delete } in
+    let q : AbstractProperty = record { value = undefined_value; attrs = of_attrs DONT_DELETE } in
     let stays = some_label w (λ l. target l && has_present w (own_at w l k).value) in
     let is_new = some_label w (λ l. target l && is_missing w l k) in
     let given = goes stays i.next w.state ++ goes is_new i.next (declared w target k q) in

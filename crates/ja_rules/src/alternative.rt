@@ -13,18 +13,11 @@ ghost use Rattle.ja_rules.specs.Outcomes.{IsGiven, IsOutcome};
 use crate::{DemandList, Outcome, Reader};
 use ja_abstract::{Key, Slot};
 use ja_base::{Label, Memory, NameId, NodeId, Reg, Site};
-use ja_graph::{Attrs, MESSAGE, NodeInfo, Program, THROWN};
+use ja_graph::{MESSAGE, NO_ATTRS, NodeInfo, Program, THROWN};
 use ja_prim::{MAX_UNITS, Text16, push_ascii};
 use ja_state::AState;
 use ja_value::{AProp, AValue, exact_attrs, unknown_attrs};
 use std::alloc::Global;
-
-/// No attribute is set.
-pub(crate) const NO_ATTRS: Attrs = Attrs {
-    read_only: false,
-    dont_enum: false,
-    dont_delete: false,
-};
 
 /// What the message of a ReferenceError says after the name.
 const IS_NOT_BOUND: &[u8] = b" is not bound";

@@ -12,11 +12,11 @@ ghost use Rattle.ja_rules.specs.Walking.{demands_over};
 ghost use Rattle.ja_rules.specs.Outcomes.{IsGiven, IsOutcome};
 ghost use Rattle.ja_rules.specs.Writing.{written_over, written_more, IsOnlyNew};
 
-use crate::alternative::{Alternative, NO_ATTRS, outcome};
+use crate::alternative::{Alternative, outcome};
 use crate::{DemandList, Outcome, Reader};
 use ja_abstract::{AAttrs, Key};
 use ja_base::{Label, Memory, NodeId};
-use ja_graph::GLOBAL;
+use ja_graph::{GLOBAL, NO_ATTRS};
 use ja_state::AState;
 use ja_value::{AProp, AValue, LabelSet, exact_attrs, join_attrs, unknown_attrs};
 

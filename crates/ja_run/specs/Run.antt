@@ -35,9 +35,13 @@ abbrev pub answer_with : Wants → List Primitive → Answer
 answer_with (wanted.Device which) (q ∷ left) = answers.Device q
 answer_with w left = answer_to w
 
+-- what stands in the place of an answer where the run has ended before: nothing comes of it
+abbrev pub no_answer : Answer
+no_answer = answers.Tick
+
 -- the answer in a state, if the run has not ended before
 abbrev pub answer_in : Program → Option Conf → List Primitive → Answer
-answer_in p None left = answers.Tick
+answer_in p None left = no_answer
 answer_in p (Some c) left = answer_with (wants p c) left
 
 -- the answer behind earlier ones

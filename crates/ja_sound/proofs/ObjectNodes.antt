@@ -22,6 +22,7 @@ use Rattle.ja_prim.specs.Index.{is_index}
 use Rattle.ja_prim.specs.declared.primitive.Num.{Num}
 use Rattle.ja_prim.specs.Texts.{same_text, is_short, max_units}
 use Rattle.ja_graph.specs.declared.attrs.Attrs.{Attrs}
+use Rattle.ja_graph.specs.declared.attrs.TheConstants.{DONT_DELETE}
 use Rattle.ja_graph.specs.declared.builtins.TheConstants as builtins
 use Rattle.ja_graph.specs.declared.node.ErrorKind.TheVariants as error_kind
 use Rattle.ja_graph.specs.declared.node.Node.TheVariants as node
@@ -50,7 +51,7 @@ use Rattle.ja_machine.specs.Frames.{register_of, undefined, scope, with_result, 
 use Rattle.ja_machine.specs.Heap.{object_at, with_new, count, new_address, own, is_shared, with_object}
 use Rattle.ja_machine.specs.Nodes.{name_text, to_object_step, push_scope_step, makes, make_function_step, enter, enter_step, parameter_names, declare_step, bind_step, bound_attrs}
 use Rattle.ja_machine.specs.State.{IsHeap, IsFrame, IsObjectOf, IsValueOf}
-use Rattle.ja_machine.specs.Objects.{empty_object, wrapper, text_length, scope_object, function_object, prototype_object, activation, arguments_object, with_parameters, with_property, property_with, sharing, dont_delete}
+use Rattle.ja_machine.specs.Objects.{empty_object, wrapper, text_length, scope_object, function_object, prototype_object, activation, arguments_object, with_parameters, with_property, property_with, sharing}
 use Rattle.ja_machine.specs.Writes.{define, with_definition, whole_number}
 use Rattle.ja_machine.proofs.Growing.{IsNodeSite}
 use Rattle.ja_machine.proofs.Lists.{either_way, is_some_from}
@@ -544,7 +545,7 @@ module _ (e : Heap) (c : Conf) (top : Frame) (below : List Frame) (x : Point) (w
     k = key.Name name
 
     abbrev q : AbstractProperty
-    q = record { value = undefined_value; attrs = of_attrs dont_delete }
+    q = record { value = undefined_value; attrs = of_attrs DONT_DELETE }
 
     abbrev declared_given : Given
     declared_given = (transfer_node w x i (node.Declare name)).states
@@ -570,7 +571,7 @@ module _ (e : Heap) (c : Conf) (top : Frame) (below : List Frame) (x : Point) (w
 
       declare_by : (g : Option Property) → own c.heap a (name_text p name) ≡ g
           → Gives declared_given (goes_on s (if is_some g then c.heap else define c.heap a
-          (name_text p name) (contents.Value undefined) dont_delete))
+          (name_text p name) (contents.Value undefined) DONT_DELETE))
       declare_by (Some z) is =
           let some : IsTrue (has_present w own_u.value) =
           is_present-known p c.heap at.known.heap own_u z.content z.attrs
@@ -589,10 +590,10 @@ module _ (e : Heap) (c : Conf) (top : Frame) (below : List Frame) (x : Point) (w
           let absent : IsTrue own_u.value.flags.absent =
           subst (λ g. IsTrue (knows c.heap own_u (property_content g))) is own_known in
           let (o, o_is) = some_value (object_at c.heap a) there in
-          defined_gives chain name n_ok a there told q (contents.Value undefined) dont_delete
+          defined_gives chain name n_ok a there told q (contents.Value undefined) DONT_DELETE
           (λ l. if (own_at w l k).value.flags.absent then sets_at k q ∷ [] else [])
           (cond-true own_u.value.flags.absent (sets_at k q ∷ []) [] absent)
-          (λ now labels. of_attrs_allows dont_delete) o o_is declared_given
+          (λ now labels. of_attrs_allows DONT_DELETE) o o_is declared_given
           (member-append_right _ (goes (some_label w
           (λ l. chain l && has_present w (own_at w l k).value)) i.next w.state) _
           (member-goes (some_label w (λ l. chain l && is_missing w l k)) i.next
@@ -698,7 +699,7 @@ module _ (e : Heap) (c : Conf) (top : Frame) (below : List Frame) (x : Point) (w
     abbrev first_o : Object
     first_o =
         activation outer (with_property (with_parameters [] names_in top.arguments flags)
-        (property_with (codes "arguments") (value.Object (new_address c.heap list)) dont_delete))
+        (property_with (codes "arguments") (value.Object (new_address c.heap list)) DONT_DELETE))
 
     abbrev list_o : Object
     list_o = arguments_object (object_or_undefined top.callee) top.arguments flags

@@ -5,6 +5,7 @@ use Rattle.std.specs.Option.{option_map_or, option_to_list}
 use Rattle.std.specs.List.{AllByRecursion}
 use Rattle.ja_base.specs.declared.ids.FnId.{FnId}
 use Rattle.ja_base.specs.declared.ids.NameId.{NameId}
+use Rattle.ja_prim.specs.Judged.{max_magnitude}
 use Rattle.ja_graph.specs.declared.node.NodeInfo.{NodeInfo}
 use Rattle.ja_graph.specs.declared.program.Function.{Function}
 use Rattle.ja_graph.specs.declared.program.Program.{Program}
@@ -22,11 +23,11 @@ module _ (p : Program) (fn : Function) (info : NodeInfo) (well : IsNodeWellForme
 
   -- .. and so is its function, which has no more parameters than registers
   pub few_parameters : IsWellFormed p → (f : FnId) → function_in info.node ≡ Some f
-      → parameters_of p f ≤ 9007199254740991
+      → parameters_of p f ≤ max_magnitude
   few_parameters good f e = few (slice_get p.functions f.0) refl
     where
       few : (found : Option Function) → slice_get p.functions f.0 ≡ found
-          → option_map_or (λ (g : Function). length g.parameters) found 0 ≤ 9007199254740991
+          → option_map_or (λ (g : Function). length g.parameters) found 0 ≤ max_magnitude
       few None is = omega arith
       few (Some g) is =
           let most : g.registers ≤ 262144 = (good.each f.0 g is).few_registers in

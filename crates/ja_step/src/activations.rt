@@ -12,13 +12,12 @@ ghost use Rattle.ja_step.specs.code.Steps.{held, standing, leads_to};
 
 use crate::Conf;
 use ja_base::{Memory, ScopeKind, Site};
-use ja_graph::{NodeInfo, Program, SCOPE};
+use ja_graph::{DONT_DELETE, NodeInfo, Program, SCOPE};
 use ja_heap::Object;
 use ja_machine::{Addr, Content, End, Value};
 use ja_operations::activations::{
     arguments_object, empty_activation, parameters, sharing, with_parameters,
 };
-use ja_operations::made::DONT_DELETE;
 use ja_prim::Text16;
 use std::alloc::Global;
 
@@ -74,7 +73,7 @@ impl Conf {
             (parameter_names program.now self.now.frame.function) self.now.frame.arguments.items
             flags.now in IfOk result (λ o. o ≡ objects.activation outer
             (objects.with_property bound (objects.property_with (codes "arguments")
-            (value.Object list) objects.dont_delete))) }
+            (value.Object list) DONT_DELETE))) }
     {
         let mut object = self.activation(alloc, program, outer, flags)?;
         let name = Text16::from_ascii(alloc, b"arguments")?;

@@ -125,7 +125,7 @@ impl Conf {
             return first_of(GLOBAL);
         };
         match self.heap.object(callee) {
-            Some(object) => object.slots().scope.unwrap_or(first_of(GLOBAL)),
+            Some(object) => object.scope().unwrap_or(first_of(GLOBAL)),
             None => first_of(GLOBAL),
         }
     }

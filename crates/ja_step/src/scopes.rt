@@ -2,6 +2,7 @@
 //! 10.1.3, 12.14, 13).
 
 ghost use Rattle.std.specs.Prelude.{◌≡◌, ◌<◌, ◌≤◌, IfOk, length};
+ghost use Rattle.ja_prim.specs.Judged.{max_magnitude};
 ghost use Rattle.ja_machine.specs.Frames.{scope, parameters_of};
 ghost use Rattle.ja_machine.specs.Heap.{new_address, with_new};
 ghost use Rattle.ja_machine.specs.Objects as objects;
@@ -12,9 +13,9 @@ ghost use Rattle.ja_step.specs.code.Steps.{held, standing, leads_to};
 
 use crate::Conf;
 use ja_base::{FnId, Memory, NameId, Reg, ScopeKind, Site};
-use ja_graph::{Attrs, NodeInfo, Program, SCOPE};
+use ja_graph::{Attrs, DONT_DELETE, NodeInfo, Program, SCOPE};
 use ja_machine::{Addr, Content, End, Value};
-use ja_operations::made::{DONT_DELETE, function_object, prototype_object, scope_object};
+use ja_operations::made::{function_object, prototype_object, scope_object};
 use ja_operations::messages::name_text;
 use ja_prim::Primitive;
 use std::alloc::Global;
@@ -52,7 +53,7 @@ impl Conf {
         site: Site,
         proto_site: Site,
     ) -> Result<Option<End>, Memory>
-        requires { parameters_of program.now function ≤ 9007199254740991 }
+        requires { parameters_of program.now function ≤ max_magnitude }
         ensures { IfOk result (λ end. leads_to self.old end self.new
             ≡ make_function_step program.now (standing self.old info.now) dst function site
             proto_site (held self.old scope)) }
@@ -78,7 +79,7 @@ impl Conf {
         site: Site,
         proto_site: Site,
     ) -> Result<Option<End>, Memory>
-        requires { parameters ≤ 9007199254740991 }
+        requires { parameters ≤ max_magnitude }
         ensures { IfOk result (λ end. leads_to self.old end self.new
             ≡ (let h = self.old.heap in let f = new_address h site in
             sets_in (standing self.old info.now)
@@ -146,8 +147,7 @@ impl Conf {
                 let value = self.frame.held(alloc, src)?;
                 let attrs = Attrs {
                     read_only,
-                    dont_enum: false,
-                    dont_delete: true,
+                    ..DONT_DELETE
                 };
                 self.heap
                     .define(alloc, a, name, Content::Value(value), attrs)?;

@@ -22,10 +22,7 @@ use Rattle.ja_top.specs.declared.status.Status.{Status}
 use Rattle.ja_top.specs.declared.status.Status.TheVariants.{Done, Warned, NotText, Syntax, Scope}
 use Rattle.ja_top.specs.declared.status.Status.TheVariants.{Limit, Spent, Unbuilt}
 
--- the greatest number of bytes of a text, and of visits
-abbrev pub max_bytes : ℕ
-max_bytes = 16777216
-
+-- the greatest number of visits
 abbrev pub budget : ℕ
 budget = 1000000
 

@@ -5,10 +5,11 @@ use Rattle.std.specs.Prelude.{◌≡◌, ◌≤◌, ◌⊎◌, ◌+◌, ℕ, Str
 use Rattle.std.specs.declared.alloc.Global.{Global}
 use Rattle.ja_base.specs.Streams.{Rose, Keeps, Took, IsAtEnd, IsLonger, TakesCount, Appends}
 use Rattle.ja_base.specs.Streams.{AppendsFront, TurnsTo}
+use Rattle.ja_lex.specs.Spots.{max_bytes}
 use Rattle.ja_device.specs.Devices.{AllSeen}
 use Rattle.ja_report.specs.declared.refusals.Refusal.TheVariants as refusal
 use Rattle.ja_report.specs.Refusals.{refusal_text}
-use Rattle.ja_top.specs.Analyses.{Analyses, max_bytes}
+use Rattle.ja_top.specs.Analyses.{Analyses}
 use Rattle.ja_top.specs.declared.status.Status.{Status}
 use Rattle.ja_top.specs.declared.status.Status.TheVariants.{Done, Warned, Usage, ReadFault}
 use Rattle.ja_top.specs.declared.status.Status.TheVariants.{WriteFault, TooLong, NotText, Syntax}

@@ -1,6 +1,7 @@
 //! The answer of the analysis to bytes.
 
 ghost use Rattle.std.specs.Prelude.{◌≡◌, ◌≤◌, IfOk, length};
+ghost use Rattle.ja_lex.specs.Spots.{max_bytes};
 ghost use Rattle.ja_device.specs.code.Signatures.{AreSignatures};
 ghost use Rattle.ja_graph.specs.Kinds.{AreBuilt};
 ghost use Rattle.ja_graph.specs.WellFormed.{IsWellFormed};
@@ -81,7 +82,7 @@ fn solve_and_report(alloc: Global, program: &Program) -> Result<Answer, Memory>
 // Analyses a text.
 #[tactic(auto, using(crate::proofs::Reporting::analyses))]
 fn analyse_text(alloc: Global, text: &str, signatures: &[Signature]) -> Result<Answer, Memory>
-    requires text { length text.now ≤ 16777216 }
+    requires text { length text.now ≤ max_bytes }
     requires devices { AreSignatures signatures.now }
     ensures { IfOk result (λ a. Analyses text.now signatures.now a.status a.text.items) }
 {
@@ -112,7 +113,7 @@ pub fn analyse<D: Device>(
     bytes: &[u8],
     devices: &Devices<D>,
 ) -> Result<Answer, Memory>
-    requires { length bytes.now ≤ 16777216 }
+    requires { length bytes.now ≤ max_bytes }
     ensures { IfOk result
         (λ a. Analyses bytes.now (signatures_of devices.now) a.status a.text.items) }
 {

@@ -1,6 +1,7 @@
 //! The answer of `run` to bytes.
 
 ghost use Rattle.std.specs.Prelude.{◌≡◌, ◌≤◌, IfOk, IfErr, length};
+ghost use Rattle.ja_lex.specs.Spots.{max_bytes};
 ghost use Rattle.ja_graph.specs.WellFormed.{IsWellFormed};
 ghost use Rattle.ja_top.specs.Runs.{MayBeLeft, MayBeLeftByText, Runs, Transcribes, signatures_of};
 ghost use Rattle.ja_top.specs.Statuses.{status_of_end};
@@ -61,7 +62,7 @@ fn transcribe_text<D: Device>(
     devices: &mut Devices<D>,
     steps: u64,
 ) -> Result<Answer, Memory>
-    requires { length text.now ≤ 16777216 }
+    requires { length text.now ≤ max_bytes }
     ensures transcript { IfOk result
         (λ a. Runs text.now steps devices.old devices.new a.status a.text.items) }
     ensures memory { IfErr result (λ _. MayBeLeftByText text.now steps devices.old devices.new) }
@@ -93,7 +94,7 @@ pub fn run<D: Device>(
     devices: &mut Devices<D>,
     steps: u64,
 ) -> Result<Answer, Memory>
-    requires { length bytes.now ≤ 16777216 }
+    requires { length bytes.now ≤ max_bytes }
     ensures transcript { IfOk result
         (λ a. Runs bytes.now steps devices.old devices.new a.status a.text.items) }
     ensures memory { IfErr result (λ _. MayBeLeftByText bytes.now steps devices.old devices.new) }

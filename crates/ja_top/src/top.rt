@@ -5,6 +5,7 @@ ghost use Rattle.std.specs.Prelude.{true};
 ghost use Rattle.std.specs.declared.alloc.Global.{Global};
 ghost use Rattle.ja_base.specs.Streams.{NeverFalls, Appends, AppendsFront, TurnsTo};
 ghost use Rattle.ja_base.specs.Streams.{HasCause as StreamCause};
+ghost use Rattle.ja_lex.specs.Spots.{max_bytes};
 ghost use Rattle.ja_top.specs.Answers.{DevicesComeBack, HasCause, IsAnswered, call_of, written_of};
 ghost use Rattle.ja_top.specs.code.Commands.{AsksFor, Follows, StopsShort};
 
@@ -29,7 +30,7 @@ fn follow<D: Device>(
     bytes: &[u8],
     devices: &mut Devices<D>,
 ) -> Result<Answer, Memory>
-    requires { length bytes.now ≤ 16777216 }
+    requires { length bytes.now ≤ max_bytes }
     ensures answer { IfOk result
         (λ a. Follows command bytes.now devices.old devices.new a.status a.text.items) }
     ensures memory { IfErr result (λ _. StopsShort command bytes.now devices.old devices.new) }

@@ -5,6 +5,7 @@ use Rattle.std.specs.Option.{option_map_or}
 use Rattle.ja_prim.specs.Characters.{is_digit, is_part}
 use Rattle.ja_prim.specs.declared.signature.Kinds.{Kinds}
 use Rattle.ja_prim.specs.declared.signature.Signature.{Signature}
+use Rattle.ja_graph.specs.declared.program.TheConstants.{MAX_DEVICES}
 use Rattle.ja_device.specs.declared.fault.DevicesFault.{DevicesFault}
 use Rattle.ja_device.specs.declared.fault.DevicesFault.TheVariants.{TooMany, BadName, NoKinds, Twice}
 
@@ -31,20 +32,20 @@ AreDistinct ss =
 
 -- The devices of a program: at most 64, each fit, and no two with one name.
 pub record AreSignatures (ss : List Signature) : Type 0 where
-  pub few : length ss ≤ 64
+  pub few : length ss ≤ MAX_DEVICES
   pub fit : AllByRecursion (λ s. is_fit s ≡ true) ss
   pub distinct : AreDistinct ss
 
 -- The one of an index is the first that isn't fit behind those before it.
 pub record IsFirstAt (ss : List Signature) (index : ℕ) (s : Signature) : Type 0 where
-  pub few : length ss ≤ 64
+  pub few : length ss ≤ MAX_DEVICES
   pub at : slice_get ss index ≡ Some s
   pub before : AreSignatures (take index ss)
 
 -- why they are no devices of a program: there are too many, or the first that isn't fit has no name
 -- for a device, no kinds, or the name of an earlier one
 abbrev pub IsRefused : List Signature → DevicesFault → Type 0
-IsRefused ss TooMany = 64 < length ss
+IsRefused ss TooMany = MAX_DEVICES < length ss
 IsRefused ss (BadName index) =
     (s : Signature) × IsFirstAt ss index s × (is_identifier s.name ≡ false)
 IsRefused ss (NoKinds index) =

@@ -7,6 +7,10 @@ use Rattle.ja_lower.specs.Lowering.{names_of, prelude_names}
 use Rattle.ja_syntax.specs.declared.tree.Statement.{Statement}
 use Rattle.ja_lower.specs.Limits.{max_functions, max_size, function_count, prelude_count, size_of, prelude_size_of, IsWithinSize}
 
+-- the greatest number of names that stand before those of a text
+abbrev pub max_names_before : ℕ
+max_names_before = 65536
+
 -- what a fault says of so many functions of this size, with so many names
 abbrev pub ExplainsSize : ℕ → ℕ → ℕ → LowerFault → Type 0
 ExplainsSize functions size names Functions = max_functions < functions

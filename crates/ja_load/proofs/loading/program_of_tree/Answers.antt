@@ -1,6 +1,6 @@
 use Rattle.std.proofs.Common.{◌≤◌, length, ap, sym, ◌∙◌, subst, arith}
 use Rattle.std.specs.List.{AllByRecursion}
-use Rattle.ja_graph.specs.WellFormed.{IsWellFormed}
+use Rattle.ja_graph.specs.WellFormed.{IsWellFormed, max_registers, max_names}
 use Rattle.ja_graph.specs.declared.program.Function.{Function}
 use Rattle.ja_lower.specs.declared.lowered.Lowered.{Lowered}
 use Rattle.ja_load.specs.Loading.{names_before, sites_before}
@@ -60,9 +60,9 @@ returns-clause-well_formed c =
     let parts = whole_of_parts laws signatures statements _ text in
     let all = c.in_ok-whole.ensures.lowered ∙ parts in
     let registers = subst (λ (l : Lowered).
-    AllByRecursion (λ (fn : Function). fn.registers ≤ 262144) l.functions) all
+    AllByRecursion (λ (fn : Function). fn.registers ≤ max_registers) l.functions) all
     c.in_ok-whole.ensures.registers in
-    let few_names = subst (λ (l : Lowered). length l.names ≤ 1048576) parts
+    let few_names = subst (λ (l : Lowered). length l.names ≤ max_names) parts
     c.in_ok-lowered.ensures.names in
     let program = program_of_parts _ signatures statements _ _ c.in_ok-program.ensures.program count
     all in

@@ -5,7 +5,7 @@ use Rattle.ja_syntax.specs.declared.tree.FunctionOf.{FunctionOf}
 use Rattle.ja_syntax.specs.declared.tree.Statement.{Statement}
 use Rattle.ja_base.specs.declared.ids.Place.{Place}
 use Rattle.std.proofs.Common.{List}
-use Rattle.ja_lower.specs.Limits.{size_of_bodies}
+use Rattle.ja_lower.specs.Limits.{size_of_bodies, max_size}
 use Rattle.ja_lower.specs.Lowering.{function_body, prelude_bodies}
 use Rattle.ja_lower.specs.code.Room.{Exceeds}
 use Rattle.ja_lower.proofs.bodies.prelude_bodies.Goals as goal
@@ -22,5 +22,5 @@ returns-clause-fault c =
       specials = true;
     } in
     subst (λ ps. IfErr c.all_prelude.result
-    (Exceeds 65536 (size_of_bodies (map (function_body (scene ps))
+    (Exceeds max_size (size_of_bodies (map (function_body (scene ps))
     (functions_in c.args.statements.now))))) places c.all_prelude.ensures.fault

@@ -3,6 +3,7 @@ use Rattle.std.specs.List.{AllByRecursion}
 use Rattle.std.specs.Vec.Iter.{into_iter_items}
 use Rattle.ja_graph.specs.declared.program.Function.{Function}
 use Rattle.ja_graph.specs.declared.program.SiteInfo.{SiteInfo}
+use Rattle.ja_graph.specs.WellFormed.{max_registers}
 use Rattle.ja_lower.specs.declared.body.Body.{Body}
 use Rattle.ja_lower.specs.Lowering.{function_of, functions_of, sites_of}
 use Rattle.ja_lower.proofs.Wholes.{functions_more, sites_more, functions_done, sites_done, all_more}
@@ -37,8 +38,9 @@ loop-body-preserved c =
           ∙ sites_more ss number c.in-Some.body rest
           ∙ ap (λ xs. ss ++ sites_of number xs) (sym step) ∙ c.loop-body.invariant.sites;
       registers =
-          subst (λ xs. AllByRecursion (λ (f : Function). f.registers ≤ 262144) xs) (sym more)
-          (all_more (λ (f : Function). f.registers ≤ 262144) fs _ c.loop-body.invariant.registers
+          subst (λ xs. AllByRecursion (λ (f : Function). f.registers ≤ max_registers) xs) (sym more)
+          (all_more (λ (f : Function). f.registers ≤ max_registers) fs _
+          c.loop-body.invariant.registers
           c.in_ok-add.ensures.registers);
     }
 

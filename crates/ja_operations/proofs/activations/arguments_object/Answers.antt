@@ -1,9 +1,10 @@
 use Rattle.std.proofs.Common.{◌≡◌, ℕ, ◌+◌, ◌<◌, Bool, List, length, drop, sym, ap, ◌∙◌, arith}
+use Rattle.ja_graph.specs.declared.attrs.TheConstants.{DONT_ENUM}
 use Rattle.ja_machine.specs.declared.machine.Object.{Object}
 use Rattle.ja_machine.specs.declared.machine.Property.{Property}
 use Rattle.ja_machine.specs.declared.machine.Value.{Value}
 use Rattle.ja_machine.specs.Frames.{argument}
-use Rattle.ja_machine.specs.Objects.{dont_enum, property_with, with_property, with_flag}
+use Rattle.ja_machine.specs.Objects.{property_with, with_property, with_flag}
 use Rattle.ja_machine.specs.Objects.{first_flag, index_text}
 use Rattle.ja_operations.proofs.Sharing.{all_elements, one_more}
 use Rattle.ja_operations.proofs.activations.arguments_object.Goals as goal
@@ -25,7 +26,7 @@ loop-index-preserved c =
     let low : i < length arguments = omega (arith, c.loop-index-test.true) in
     let put : List ℕ → Value → Bool → Object =
     λ t v b. record o {
-      properties = with_property o.properties (with_flag (property_with t v dont_enum) b);
+      properties = with_property o.properties (with_flag (property_with t v DONT_ENUM) b);
     } in
     let flag : Bool = first_flag (drop i flags) in
     let changed : c.set_property.new.self ≡ put (index_text i) (argument arguments i) flag =

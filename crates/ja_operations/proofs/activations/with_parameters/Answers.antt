@@ -1,12 +1,13 @@
 use Rattle.std.proofs.Common.{◌≡◌, ℕ, ◌+◌, ◌<◌, Bool, List, length, drop, get_or, sym, ap, ◌∙◌, arith}
 use Rattle.std.proofs.lemmas.List.{drop_more}
 use Rattle.ja_base.specs.declared.ids.NameId.{NameId}
+use Rattle.ja_graph.specs.declared.attrs.TheConstants.{DONT_DELETE}
 use Rattle.ja_machine.specs.declared.machine.Object.{Object}
 use Rattle.ja_machine.specs.declared.machine.Property.{Property}
 use Rattle.ja_machine.specs.declared.machine.Value.{Value}
 use Rattle.ja_machine.specs.Frames.{argument}
 use Rattle.ja_machine.specs.Nodes.{name_text}
-use Rattle.ja_machine.specs.Objects.{dont_delete, property_with, with_property, with_flag, first_flag}
+use Rattle.ja_machine.specs.Objects.{property_with, with_property, with_flag, first_flag}
 use Rattle.ja_operations.proofs.Sharing.{all_bound, bound}
 use Rattle.ja_operations.proofs.activations.with_parameters.Goals as goal
 
@@ -23,7 +24,7 @@ loop-index-preserved c =
     let put : List ℕ → Value → Bool → Object = λ t v b.
     record o {
       properties = with_property o.properties
-          (with_flag (property_with t v dont_delete) b);
+          (with_flag (property_with t v DONT_DELETE) b);
     } in
     let changed : c.set_property.new.self ≡ put (text x) (argument arguments i)
     (first_flag (drop i flags)) =

@@ -27,8 +27,8 @@ invariant_of-self c =
           c.self.invariant.1),
     )
 
-pub invariant_of-self-else-self-len : goal.invariant_of-self-else-self-len
-invariant_of-self-else-self-len c =
+pub invariant_of-self-else-empty-len : goal.invariant_of-self-else-empty-len
+invariant_of-self-else-empty-len c =
     let name = c.args.name.now in
     let xs = c.self.inside.slots.items in
     let i = c.in-Some.i in
@@ -40,8 +40,8 @@ invariant_of-self-else-self-len c =
           c.self.invariant.1),
     )
 
-pub returns-then-self-len : goal.returns-then-self-len
-returns-then-self-len c =
+pub returns-then-empty-len : goal.returns-then-empty-len
+returns-then-empty-len c =
     let name = c.args.name.now in
     let xs = c.self.inside.slots.items in
     let i = c.in-Some.i in
@@ -50,8 +50,8 @@ returns-then-self-len c =
     c.close_gaps.ensures ∙ (slots.removed name xs i c.self.invariant.0 at
     ∙ ap (λ (qs : List Property). without qs name) c.self.view_is)
 
-pub returns-else-self-len : goal.returns-else-self-len
-returns-else-self-len c =
+pub returns-else-empty-len : goal.returns-else-empty-len
+returns-else-empty-len c =
     let name = c.args.name.now in
     let xs = c.self.inside.slots.items in
     let i = c.in-Some.i in
