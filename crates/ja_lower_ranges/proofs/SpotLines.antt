@@ -54,50 +54,45 @@ pub handler_now : {scene : Scene} {ks ps : List Spot} {o : Listing} {items : Lis
 handler_now {scene = scene} k =
     spot_map (λ s low. omega (arith, low, k.low)) scene.handler k.handler
 
--- a node, whose edges lead to taken spots
-pub one_with : {scene : Scene} {ks ps : List Spot} {o : Listing} {items : List Item} {n : ℕ}
-    (node : Node) (place : Place) (other handler : Option Spot) → OfSpot (IsBelow n) other
-    → OfSpot (IsBelow n) handler → Kept scene ks ps o items n
-    → Kept scene ks ps o (items ++ item.Node node other handler place ∷ []) n
-unfolding times
-one_with {scene} {ks} {ps} {o} {items} {n} node place other handler first second k =
-    let line = item.Node node other handler place in
-    record {
-      handler = k.handler;
-      known = k.known;
-      pending = k.pending;
-      low = k.low;
-      stand = λ i. omega (arith, k.stand i, times_append i items (line ∷ []));
-      led = λ h. edges_append (IsBelow n) items (line ∷ []) (k.led h) ((first, second), tt);
-    }
+-- a line that leads to taken spots; where it is a spot, that was pending
+line : {scene : Scene} {ks ps qs : List Spot} {o : Listing} {items : List Item} {n : ℕ} (x : Item)
+    → AreBelow n qs → OfEdges (IsBelow n) x
+    → ((i : ℕ) → times i (x ∷ []) + pending_times qs i ≡ pending_times ps i)
+    → Kept scene ks ps o items n → Kept scene ks qs o (items ++ x ∷ []) n
+line {items = items} {n = n} x below edges counted k = record {
+  handler = k.handler;
+  known = k.known;
+  pending = below;
+  low = k.low;
+  stand = λ i. omega (arith, k.stand i, times_append i items (x ∷ []), counted i);
+  led = λ h. edges_append (IsBelow n) items (x ∷ []) (k.led h) (edges, tt);
+}
 
 pub one : {scene : Scene} {ks ps : List Spot} {o : Listing} {items : List Item} {n : ℕ}
     (node : Node) (place : Place) → Kept scene ks ps o items n
     → Kept scene ks ps o (items ++ item.Node node None scene.handler place ∷ []) n
-one {scene = scene} node place k = one_with node place None scene.handler tt (handler_now k) k
+unfolding times
+one {scene = scene} node place k =
+    line (item.Node node None scene.handler place) k.pending (tt, handler_now k) (λ i. omega arith)
+    k
 
 -- a node that leads to a spot
 pub branch : {scene : Scene} {ks ps : List Spot} {o : Listing} {items : List Item} {n : ℕ}
     (node : Node) (place : Place) (other : Spot) → Among (ps ++ ks) other
     → Kept scene ks ps o items n → Kept scene ks ps o
     (items ++ item.Node node (Some other) scene.handler place ∷ []) n
+unfolding times
 branch {scene = scene} node place other there k =
-    one_with node place (Some other) scene.handler (below_now other k there) (handler_now k) k
+    line (item.Node node (Some other) scene.handler place) k.pending
+    (below_now other k there, handler_now k) (λ i. omega arith) k
 
 -- a jump back, to a spot taken before one of these
 pub jump_back : {scene : Scene} {ks ps : List Spot} {o : Listing} {items : List Item} {n : ℕ}
     (p s : Spot) → Among (ps ++ ks) p → s.0 ≤ p.0 → Kept scene ks ps o items n
     → Kept scene ks ps o (items ++ item.Jump s ∷ []) n
 unfolding times
-jump_back {scene} {ks} {ps} {o} {items} {n} p s there before k = record {
-  handler = k.handler;
-  known = k.known;
-  pending = k.pending;
-  low = k.low;
-  stand = λ i. omega (arith, k.stand i, times_append i items (item.Jump s ∷ []));
-  led = λ h. edges_append (IsBelow n) items (item.Jump s ∷ []) (k.led h)
-      (omega (arith, before, below_now p k there), tt);
-}
+jump_back p s there before k =
+    line (item.Jump s) k.pending (omega (arith, before, below_now p k there)) (λ i. omega arith) k
 
 -- a jump to a pending spot or to one that is known
 pub jump : {scene : Scene} {ks ps : List Spot} {o : Listing} {items : List Item} {n : ℕ} (s : Spot)
@@ -109,29 +104,14 @@ jump s there k = jump_back s s there (le_refl s.0) k
 pub stands : {scene : Scene} {ks ps : List Spot} {o : Listing} {items : List Item} {n : ℕ}
     (p : Spot) → Kept scene ks (p ∷ ps) o items n → Kept scene ks ps o (items ++ item.Spot p ∷ []) n
 unfolding times
-stands {scene} {ks} {ps} {o} {items} {n} p k =
-    record {
-      handler = k.handler;
-      known = k.known;
-      pending = k.pending.1;
-      low = k.low;
-      stand = λ i. omega (arith, k.stand i, times_append i items (item.Spot p ∷ []));
-      led = λ h. edges_append (IsBelow n) items (item.Spot p ∷ []) (k.led h) (tt, tt);
-    }
+stands p k = line (item.Spot p) k.pending.1 tt (λ i. omega arith) k
 
 -- a copy of a block that leads to taken spots
 pub copy : {scene : Scene} {ks ps : List Spot} {o : Listing} {items : List Item} {n : ℕ}
     (block : Block) → OfBlock (IsBelow n) block → Kept scene ks ps o items n
     → Kept scene ks ps o (items ++ item.Copy block ∷ []) n
 unfolding times
-copy {scene} {ks} {ps} {o} {items} {n} block h k = record {
-  handler = k.handler;
-  known = k.known;
-  pending = k.pending;
-  low = k.low;
-  stand = λ i. omega (arith, k.stand i, times_append i items (item.Copy block ∷ []));
-  led = λ led. edges_append (IsBelow n) items (item.Copy block ∷ []) (k.led led) (h, tt);
-}
+copy block leads k = line (item.Copy block) k.pending leads (λ i. omega arith) k
 
 -- ---- spots are taken
 
@@ -226,19 +206,7 @@ swap {ks = ks} {ps = ps} {p = p} {q = q} {items = items} k = record {
 
 -- ---- lines that were begun anew
 
-pub on_from : {scene : Scene} {ks ps : List Spot} {o : Listing} {inner : Scene} {l : Listing}
-    {items : List Item} {n : ℕ} → Kept scene ks ps o l.items l.spot
-    → Kept inner (ps ++ ks) [] l items n → Kept scene ks ps o items n
-on_from {ps = ps} {l = l} {n = n} k r = record {
-  handler = k.handler;
-  known = k.known;
-  pending = below_later l.spot n ps r.low k.pending;
-  low = omega (arith, k.low, r.low);
-  stand = λ i. omega (arith, k.stand i, r.stand i);
-  led = λ h. r.led (k.led h);
-}
-
--- other spots may be known inside
+-- .. where other spots may be known
 pub on_from_inside : {scene : Scene} {ks ps : List Spot} {o : Listing} {inner : Scene} {l : Listing}
     {items : List Item} {n : ℕ} (xs : List Spot) → Kept scene ks ps o l.items l.spot
     → Kept inner (xs ++ (ps ++ ks)) [] l items n → Kept scene ks ps o items n
