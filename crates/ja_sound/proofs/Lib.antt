@@ -24,4 +24,5 @@ pub mod SoundSteps
 pub mod Stacked
 pub mod Steps
 pub mod Taken
+pub mod Throwing
 pub mod Warned
