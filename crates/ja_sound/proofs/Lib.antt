@@ -11,6 +11,7 @@ pub mod DigitRows
 pub mod Elements
 pub mod Entered
 pub mod EnteringNodes
+pub mod FaultKinds
 pub mod Into
 pub mod IntoSound
 pub mod Left
