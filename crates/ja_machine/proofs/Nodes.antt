@@ -7,6 +7,7 @@ use Rattle.std.specs.List.{AllByRecursion, range_with_len}
 use Rattle.std.proofs.lemmas.Bool.{false≢true}
 use Rattle.std.proofs.lemmas.Option.{same_Some}
 use Rattle.ja_base.specs.declared.ids.Site.{Site}
+use Rattle.ja_base.proofs.Lists.{all_weaker}
 use Rattle.ja_graph.specs.declared.builtins.TheConstants as builtins
 use Rattle.ja_graph.specs.declared.node.ErrorKind.{ErrorKind}
 use Rattle.ja_graph.specs.declared.node.ErrorKind.TheVariants as error_kind
@@ -243,3 +244,11 @@ module _ (p : Program) where
             (all_unmap Made (owned g) (makings info.node) k.each)
             (node_arguments p good f fn n info fn_is info_is);
       }
+
+  -- .. each with its class
+  pub node_told : IsWellFormed p → (f : ℕ) (fn : Function) (n : ℕ) (info : NodeInfo)
+      → slice_get p.functions f ≡ Some fn → slice_get fn.nodes n ≡ Some info
+      → AllByRecursion (IsTold p) (makings info.node)
+  node_told good f fn n info fn_is info_is =
+      all_weaker (λ (m : Making). IsMadeAs p (makes_arguments m.site info.node) m) (IsTold p)
+      (λ m made. made.told) (makings info.node) (node_makings good f fn n info fn_is info_is).each
