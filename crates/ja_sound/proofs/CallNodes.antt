@@ -191,7 +191,8 @@ module _ (e : Heap) (c : Conf) (top : Frame) (below : List Frame) (x : Point) (w
           by_gives _ _ (throws_gives e c top below x w at good _
           (has_other w (constructs_at p) (abstract.at w callee)) error error_kind.TypeError
           not_a_constructor_message site_ok (constructing_other w c.heap at.known.heap
-          (abstract.at w callee) (register_of top callee) (of_heap e c top below x w at good callee r)
+          (abstract.at w callee) (register_of top callee)
+          (of_heap e c top below x w at good callee r)
           (has e c top below x w at good callee r) none) (λ y m. m))
       by (Some f) is =
           constructs_with_inside _ f (register_of top callee) site (register_values top args)

@@ -343,13 +343,13 @@ module _ (e h : Heap) (w : View) (read : Reads e h w) (good : IsWellFormed w.pro
         all_given_in h parameters arguments g v (λ j. refl) refl
         (has_value-join_left h undefined_value element_value undefined refl)
         (λ j u at.
-            let below : j < length arguments = slice_get_within arguments j u at in
-            let here : slice_get (map f (range_with_len 0 n)) j ≡ Some (Ok u) =
-            given_at (map f (range_with_len 0 n)) arguments j u is at in
-            has_value-join_right h undefined_value element_value u
-            (each_in j u (omega arith) (same_Some (f j) (Ok u)
-            (ap (λ k. Some (f k)) (let z : j ≡ 0 + j = omega arith in z)
-            ∙ (sym (slice_get-map_range f 0 n j (omega arith)) ∙ here)))))
+        let below : j < length arguments = slice_get_within arguments j u at in
+        let here : slice_get (map f (range_with_len 0 n)) j ≡ Some (Ok u) =
+        given_at (map f (range_with_len 0 n)) arguments j u is at in
+        has_value-join_right h undefined_value element_value u
+        (each_in j u (omega arith) (same_Some (f j) (Ok u)
+        (ap (λ k. Some (f k)) (let z : j ≡ 0 + j = omega arith in z)
+        ∙ (sym (slice_get-map_range f 0 n j (omega arith)) ∙ here)))))
         (subst HasCount (sym many) (counted (heap.get h a length_name) n refl c_is))
     up_to_given parameters arguments (Err kind) c_is is = absurd (cc)
 

@@ -11,6 +11,7 @@ pub mod DigitRows
 pub mod Elements
 pub mod Entered
 pub mod EnteringNodes
+pub mod FaultKinds
 pub mod Into
 pub mod IntoSound
 pub mod Left
@@ -24,4 +25,5 @@ pub mod SoundSteps
 pub mod Stacked
 pub mod Steps
 pub mod Taken
+pub mod Throwing
 pub mod Warned

@@ -1,6 +1,6 @@
 -- What goes wrong at a node is allowed by the state that a table has there, so that the table's
 -- warnings have it.
-use Rattle.std.specs.Prelude.{◌≡◌, Bool, not, true, false, IsTrue, List, Option, Some, None, is_some, Any, Contains}
+use Rattle.std.specs.Prelude.{◌≡◌, not, IsTrue, List, Option, Some, None, is_some, Any, Contains}
 use Rattle.std.specs.List.{AllByRecursion}
 use Rattle.std.specs.Option.{option_map}
 use Rattle.std.proofs.Common.{refl, sym, ap, ◌∙◌, arith}
@@ -38,22 +38,13 @@ use Rattle.ja_rows.specs.Out.{Point, name_keys}
 use Rattle.ja_rows.specs.Out as abstract
 use Rattle.ja_rows.specs.Table.{Table, view_at, point}
 use Rattle.ja_rows.specs.Warning.{Test, Operation, operation_at, operation_of, tests, no_function, no_object, unbound, AreWarnings}
-use Rattle.ja_sound.specs.Faults.{is_nothing_value, is_null, if_so, fault_at, fault_of_frames}
+use Rattle.ja_sound.specs.Faults.{is_nothing_value, is_null, fault_at, fault_of_frames}
 use Rattle.ja_sound.specs.Sound.{IsCovered, CoversRuns, WarnsOfFaults}
 use Rattle.ja_sound.specs.Statements.{IsAt}
 use Rattle.ja_sound.proofs.AtCovered.{GrowsAlong, at_covered}
 use Rattle.ja_sound.proofs.AtNode as nodes
 use Rattle.ja_sound.proofs.Called.{called_other, constructing_other}
-
--- a kind is said where its test passes
-so_parts : (b : Bool) (kind said : WarningKind) → if_so b kind ≡ Some said
-    → IsTrue b × (kind ≡ said)
-so_parts true kind said e = (refl, same_Some kind said e)
-so_parts false kind said e = absurd (none-some said e)
-
-no_value : {A : Type 0} (o : Option A) → IsTrue (not (is_some o)) → o ≡ None
-no_value None e = refl
-no_value (Some a) e = absurd (false≢true e)
+use Rattle.ja_sound.proofs.FaultKinds.{so_parts, no_value}
 
 -- a test of the node that says the kind, and that the view passes
 pub record IsTold (w : View) (n : Node) (kind : WarningKind) : Type 0 where

@@ -1,3 +1,4 @@
 pub mod Faults
 pub mod Sound
 pub mod Statements
+pub mod Throws

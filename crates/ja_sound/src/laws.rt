@@ -8,6 +8,7 @@ ghost use Rattle.ja_rows.specs.Table.{Table, IsClosed};
 ghost use Rattle.ja_rows.specs.Warning.{AreWarnings};
 ghost use Rattle.ja_sound.specs.Sound.{CoversRuns, WarnsOfFaults};
 ghost use Rattle.ja_sound.specs.Statements.{SoundWithin, SoundInto, SoundOutOf};
+ghost use Rattle.ja_sound.specs.Throws.{FaultsThrow};
 
 use ja_machine::{objects_stay, states_are_kept, steps_go_along_edges};
 
@@ -56,4 +57,13 @@ pub fn warned_of_faults()
     closed_covers();
     states_are_kept();
     objects_stay();
+}
+
+/// What goes wrong is what throws: `fault_of` says an operation of a state that is reached exactly
+/// where its step throws the error of that kind at that node, with its prototype and its message,
+/// made at a site for errors of the node, or leaves the profile since the message is too long.
+pub fn faults_throw()
+    ensures { (p : Program) → IsWellFormed p → FaultsThrow p }
+{
+    states_are_kept();
 }

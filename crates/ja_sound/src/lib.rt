@@ -4,9 +4,12 @@
 //! Laws, of every well-formed program: a step within an activation is sound, of each kind of node
 //! (`steps_sound`), and so are a step into a function (`entries_sound`) and one out of it
 //! (`returns_sound`); so a closed table covers every run (`closed_covers`), and its warnings have
-//! each operation that goes wrong in some run (`warned_of_faults`).
+//! each operation that goes wrong in some run (`warned_of_faults`). What goes wrong is what throws
+//! (`faults_throw`).
 #![tactic(auto)]
 
 mod laws;
 
-pub use laws::{closed_covers, entries_sound, returns_sound, steps_sound, warned_of_faults};
+pub use laws::{
+    closed_covers, entries_sound, faults_throw, returns_sound, steps_sound, warned_of_faults,
+};
