@@ -8,6 +8,7 @@ pub mod Builtins
 pub mod Composed
 pub mod Contents
 pub mod Deletes
+pub mod ExactOperators
 pub mod Found
 pub mod Frames
 pub mod Gets
@@ -15,16 +16,19 @@ pub mod Grown
 pub mod Inside
 pub mod KeyTexts
 pub mod Labelled
+pub mod LabelledOperators
 pub mod MadeActivations
 pub mod MadeObjects
 pub mod MadeOf
 pub mod Moments
 pub mod Opened
+pub mod OperatorCases
 pub mod Operators
 pub mod Parts
 pub mod PutStates
 pub mod Puts
 pub mod Putting
+pub mod Renamed
 pub mod Resolved
 pub mod Shown
 pub mod Targets
