@@ -76,7 +76,7 @@ module _ (w : View) where
   -- ---- of one object
 
   -- a test of the labels of one label is that of this
-  test_label : (l : Label) → IsLabelOf w l → (test : Labels) (b : Bool) → test l ≡ b
+  pub test_label : (l : Label) → IsLabelOf w l → (test : Labels) (b : Bool) → test l ≡ b
       → some_label w (λ m. same_label l m && test m) ≡ b
   test_label l is test true holds =
       some_among (λ m. same_label l m && test m) (labels_of w.program) l is

@@ -22,6 +22,7 @@ pub mod MadeObjects
 pub mod MadeOf
 pub mod Moments
 pub mod Opened
+pub mod Operations
 pub mod OperatorCases
 pub mod Operators
 pub mod Parts

@@ -2,7 +2,8 @@
 use Rattle.std.specs.Prelude.{◌≡◌, ◌&&◌, ◌||◌, ℕ, Bool, true, false, if◌then◌else◌, [], ◌∷◌}
 use Rattle.std.specs.List.{list_any}
 use Rattle.std.proofs.Common.{refl, sym, ap, ◌∙◌}
-use Rattle.std.proofs.Math.Bool.{or-false}
+use Rattle.std.proofs.Math.Bool.{and-true, or-false}
+use Rattle.std.proofs.lemmas.Bool.{and_right}
 use Rattle.ja_base.specs.declared.ids.Label.{Label}
 use Rattle.ja_base.specs.declared.ids.Site.{Site}
 use Rattle.ja_abstract.specs.declared.abstraction.Mask.{Mask}
@@ -13,16 +14,8 @@ use Rattle.ja_abstract.specs.Resolved.{origins, renamed_labels}
 -- one label, if it is there
 one_there : (set : Labels) (l : Label) (b : Bool)
     → (set l && b) ≡ list_any set (if b then l ∷ [] else [])
-one_there set l true = and_true (set l) ∙ sym (or-false (set l))
-  where
-    and_true : (x : Bool) → (x && true) ≡ x
-    and_true true = refl
-    and_true false = refl
-one_there set l false = and_false (set l)
-  where
-    and_false : (x : Bool) → (x && false) ≡ false
-    and_false true = refl
-    and_false false = refl
+one_there set l true = and-true (set l) ∙ sym (or-false (set l))
+one_there set l false = and_right (set l) false refl
 
 at_site : (mask : ℕ → Mask) (set : Labels) (s : Site) (is_old : Bool)
     → renamed_labels mask set (record { site = s; old = is_old })

@@ -26,7 +26,7 @@ use Rattle.ja_abstract.proofs.Keys.{same_key-true, same_key-self}
 use Rattle.ja_abstract.proofs.Labels.{IsAmong, same_label-self, some_among}
 use Rattle.ja_abstract.proofs.Parts.{has_primitive-labels}
 use Rattle.ja_abstract.proofs.Joins.{and_three}
-use Rattle.ja_meaning.specs.Meaning.{has_value, knows, Tells, IsOfHeap, Grows}
+use Rattle.ja_meaning.specs.Meaning.{has_value, knows, Tells, IsOfHeap}
 pub use Rattle.ja_meaning.specs.RenamingLaws.{IsAged}
 use Rattle.ja_meaning.proofs.Moments.{Reads}
 use Rattle.ja_meaning.proofs.Inside.{inside}

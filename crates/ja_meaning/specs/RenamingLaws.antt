@@ -1,7 +1,6 @@
 -- What renaming comes to: the labels of an object at the entry of a function and now (SAS 2010).
 use Rattle.std.specs.Prelude.{◌≡◌, ◌<◌, ℕ, IsTrue}
 use Rattle.std.specs.List.{list_any}
-use Rattle.ja_base.specs.declared.ids.Label.{Label}
 use Rattle.ja_base.specs.declared.ids.Site.{Site}
 use Rattle.ja_machine.specs.declared.machine.Addr.{Addr}
 use Rattle.ja_machine.specs.declared.machine.Heap.{Heap}
