@@ -12,6 +12,7 @@ pub mod Into
 pub mod Left
 pub mod ObjectNodes
 pub mod Opening
+pub mod OperationLists
 pub mod OperationRows
 pub mod PropertyNodes
 pub mod Registers
