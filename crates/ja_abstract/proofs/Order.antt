@@ -26,7 +26,7 @@ use Rattle.ja_abstract.proofs.Joins.{number_has-join_left, text_has-join_left}
 -- ---- one test
 
 -- x is set where y is
-abbrev Below : Bool → Bool → Type 0
+abbrev pub Below : Bool → Bool → Type 0
 Below x y = x || y ≡ y
 
 below-or : (x y : Bool) → Below x (x || y)
@@ -213,19 +213,19 @@ masks_equal a b h k = λ i. record {
 abbrev HasNumbers : NumberPart → NumberPart → Type 0
 HasNumbers a b = (n : ℤ) → IsTrue (number_has a n) → IsTrue (number_has b n)
 
-same_number : (m n : ℤ) → IsTrue (int_eq m n) → m ≡ n
+pub same_number : (m n : ℤ) → IsTrue (int_eq m n) → m ≡ n
 same_number m n h = (Decides-int_eq m n).0 h
 
-number_itself : (m : ℤ) → IsTrue (int_eq m m)
+pub number_itself : (m : ℤ) → IsTrue (int_eq m m)
 number_itself m = (Decides-int_eq m m).1 refl
 
 -- a constant has no two numbers
-one_alone : (m : ℤ) → (number_has (number_part.One m) (pos 0) ≡ true)
+pub one_alone : (m : ℤ) → (number_has (number_part.One m) (pos 0) ≡ true)
     → (number_has (number_part.One m) (pos 1) ≡ true) → ⊥
 one_alone m h k = let e : pos 0 ≡ pos 1 = sym (same_number m (pos 0) h) ∙ same_number m (pos 1) k in
     absurd (cc)
 
-one_alone_below : (m : ℤ) → (number_has (number_part.One m) (negsuc 0) ≡ true)
+pub one_alone_below : (m : ℤ) → (number_has (number_part.One m) (negsuc 0) ≡ true)
     → (number_has (number_part.One m) (negsuc 1) ≡ true) → ⊥
 one_alone_below m h k =
     let e : negsuc 0 ≡ negsuc 1 = sym (same_number m (negsuc 0) h) ∙ same_number m (negsuc 1) k in
@@ -272,10 +272,10 @@ numbers_equal number_part.Whole number_part.Whole h k = refl
 abbrev HasTexts : TextPart → TextPart → Type 0
 HasTexts a b = (t : List ℕ) → IsTrue (text_has a t) → IsTrue (text_has b t)
 
-same_text : (s t : List ℕ) → IsTrue (text_has (text_part.One s) t) → s ≡ t
+pub same_text : (s t : List ℕ) → IsTrue (text_has (text_part.One s) t) → s ≡ t
 same_text s t h = (bytes_decides s t).0 h
 
-text_itself : (t : List ℕ) → IsTrue (text_has (text_part.One t) t)
+pub text_itself : (t : List ℕ) → IsTrue (text_has (text_part.One t) t)
 text_itself t = (bytes_decides t t).1 refl
 
 -- the texts 0 and 1 are those of indices, the empty one and "a" aren't

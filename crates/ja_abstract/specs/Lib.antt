@@ -6,6 +6,7 @@ pub mod Keys
 pub mod Made
 pub mod Operations
 pub mod Order
+pub mod OrderLaws
 pub mod Parts
 pub mod Primitives
 pub mod Reading

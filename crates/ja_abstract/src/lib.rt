@@ -8,11 +8,16 @@
 //! `Reading`); the objects that nodes make (`Made`); puts, definitions and deletions (`Writes`); a
 //! state read through a later one (`Composed`); the contents of the opening heap (`Contents`).
 //!
+//! Laws: values, properties and states are ordered by what they have, and their joins are the least
+//! upper bounds (`order_laws.rt`).
+//!
 //! Proved, as lemmas: a join is above what it joins and has each part that one of the two has;
 //! operators on abstract primitives cover those on primitives; the keys and the labels of a program
 //! are all there are.
 #![tactic(auto)]
 
 mod abstraction;
+mod order_laws;
 
 pub use abstraction::{AAttrs, Flags, Key, Mask, May, NumberPart, Slot, TextPart};
+pub use order_laws::{classes_are_ordered, joins_are_least, order_is_by_parts, parts_are_ordered};

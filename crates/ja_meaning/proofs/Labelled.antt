@@ -102,7 +102,7 @@ module _ (w : View) where
     or_left (apart l m) _ (apart_from l m a b (or_right l.old _ (ap not other))),
   )
 
-  -- an object and a primitive are different
+  -- an object and a primitive are different, in either order
   pub label_primitive : (l : Label) (q : Primitive) → IsLabel l
       → (may_equal w (of_label l) (of_primitive q) ≡ false)
       × (may_differ w (of_label l) (of_primitive q) ≡ true)
@@ -117,6 +117,22 @@ module _ (w : View) where
         (or_left (has_labels w (of_label l) && has_atoms (of_primitive q)) _
         (and_from _ _ (some_among (same_label l) (labels_of w.program) l a (same_label-self l))
         (has_atoms-of (of_primitive q) q (of_primitive_has q)))),
+  )
+
+  pub primitive_label : (l : Label) (q : Primitive) → IsLabel l
+      → (may_equal w (of_primitive q) (of_label l) ≡ false)
+      × (may_differ w (of_primitive q) (of_label l) ≡ true)
+  primitive_label l q a = (
+    false_from_ne_true (may_equal w (of_primitive q) (of_label l)) (λ e.
+        let (k, among, both) =
+        among_some (λ j. (of_primitive q).label j && same_label l j) (labels_of w.program) e in
+        let (none, lk) = and_parts _ _ both in
+        no_label q k none),
+    or_right (some_label w (λ k. (of_primitive q).label k
+        && some_label w (λ n. same_label l n && (k.old || not (same_label k n))))) _
+        (or_right (has_labels w (of_primitive q) && has_atoms (of_label l)) _
+        (and_from _ _ (has_atoms-of (of_primitive q) q (of_primitive_has q))
+        (some_among (same_label l) (labels_of w.program) l a (same_label-self l)))),
   )
 
   -- an object is true

@@ -26,19 +26,14 @@ use Rattle.ja_abstract.proofs.Keys.{same_key-true, same_key-self}
 use Rattle.ja_abstract.proofs.Labels.{IsAmong, same_label-self, some_among}
 use Rattle.ja_abstract.proofs.Parts.{has_primitive-labels}
 use Rattle.ja_abstract.proofs.Joins.{and_three}
-use Rattle.ja_meaning.specs.Meaning.{has_value, knows, Tells, IsOfHeap, Grows}
+use Rattle.ja_meaning.specs.Meaning.{has_value, knows, Tells, IsOfHeap}
+pub use Rattle.ja_meaning.specs.RenamingLaws.{IsAged}
 use Rattle.ja_meaning.proofs.Moments.{Reads}
 use Rattle.ja_meaning.proofs.Inside.{inside}
 use Rattle.ja_meaning.proofs.Parts.{knows-known_part, knows-join_all}
 use Rattle.ja_meaning.proofs.Values.{knows-join_left, knows-join_right}
 
 -- ---- labels at the entry and now
-
--- the masks hold of two heaps, and no object goes from the one to the other
-pub record IsAged (e c : Heap) (mask : ℕ → Mask) : Type 0 where
-  pub grows : Grows e c
-  pub some : (t : Site) → count e t < count c t → IsTrue (mask t.0).some
-  pub none : (t : Site) → count e t ≡ count c t → IsTrue (mask t.0).none
 
 -- the masks of a state that is read hold
 pub aged_from_read : (e c : Heap) (w : View) → Reads e c w → IsAged e c w.state.mask

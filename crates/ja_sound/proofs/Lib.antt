@@ -17,6 +17,7 @@ pub mod IntoSound
 pub mod Left
 pub mod ObjectNodes
 pub mod Opening
+pub mod OperationLists
 pub mod OperationRows
 pub mod PropertyNodes
 pub mod Registers

@@ -1,4 +1,5 @@
 pub mod Faults
+pub mod OperationLaws
 pub mod Sound
 pub mod Statements
 pub mod Throws
