@@ -5,7 +5,6 @@
 //! (`steps_sound`), and so are a step into a function (`entries_sound`) and one out of it
 //! (`returns_sound`); so a closed table covers every run (`closed_covers`), and its warnings have
 //! each operation that goes wrong in some run (`warned_of_faults`). What goes wrong is what throws
-//!
 //! (`faults_throw`). The abstract operations of the built-in functions cover the machine's
 //! (`operations_cover`).
 #![tactic(auto)]
