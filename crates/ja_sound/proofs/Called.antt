@@ -53,6 +53,22 @@ member-filter keep (m ∷ ms) l a k =
           (λ _. more)
     ]
 
+-- the label of an object that is called or constructed runs its function
+runs_by : (o : Option FnId) (f : FnId) → o ≡ Some f
+    → IsTrue (option_map_or (λ (g : FnId). g.0 == f.0) o false)
+runs_by o f is =
+    subst (λ r. IsTrue (option_map_or (λ (g : FnId). g.0 == f.0) r false)) (sym is)
+    (eq-eqb f.0 f.0 refl)
+
+pub runs-called : (p : Program) (h : Heap) (a : Addr) (f : FnId)
+    → function_called p (value.Object a) ≡ Some f → IsTrue (runs (calls_at p) f.0 (label_of h a))
+runs-called p h a f is = runs_by (function_called p (value.Object a)) f is
+
+pub runs-constructing : (p : Program) (h : Heap) (a : Addr) (f : FnId)
+    → function_constructing p (value.Object a) ≡ Some f
+    → IsTrue (runs (constructs_at p) f.0 (label_of h a))
+runs-constructing p h a f is = runs_by (function_constructing p (value.Object a)) f is
+
 module _ (w : View) (c : Heap) (known : IsHeap w.program c) where
   abbrev p : Program
   p = w.program
@@ -89,16 +105,14 @@ module _ (w : View) (c : Heap) (known : IsHeap w.program c) where
       → IsTrue (some_runs w (calls_at p) v f.0)
   run-called v a f there has is =
       some-object (λ l. v.label l && runs (calls_at p) f.0 l) a there
-      (and_from _ _ has (subst (λ o. IsTrue (option_map_or (λ (g : FnId). g.0 == f.0) o false))
-      (sym is) (eq-eqb f.0 f.0 refl)))
+      (and_from _ _ has (runs-called p c a f is))
 
   pub run-constructing : (v : AbstractValue) (a : Addr) (f : FnId) → IsObjectOf c a
       → IsTrue (v.label (label_of c a)) → function_constructing p (value.Object a) ≡ Some f
       → IsTrue (some_runs w (constructs_at p) v f.0)
   run-constructing v a f there has is =
       some-object (λ l. v.label l && runs (constructs_at p) f.0 l) a there
-      (and_from _ _ has (subst (λ o. IsTrue (option_map_or (λ (g : FnId). g.0 == f.0) o false))
-      (sym is) (eq-eqb f.0 f.0 refl)))
+      (and_from _ _ has (runs-constructing p c a f is))
 
   -- a primitive, or an object that runs none
   other_by : (entry : Label → Option FnId) (v : AbstractValue) (u : Value) → IsValueOf c u

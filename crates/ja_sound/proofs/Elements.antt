@@ -2,7 +2,7 @@
 -- rows give has each of them (ES3 10.1.8, 15.3.4.3).
 use Rattle.std.specs.Prelude.{◌≡◌, ◌<◌, ◌≤◌, ◌+◌, ◌-◌, ℕ, zero, suc, ℤ, pos, negsuc, Bool, IsTrue, List, [], ◌∷◌, map, drop, length, slice_get, unwrap_or, is_some, Option, Some, None, Result, Ok, Err}
 use Rattle.std.specs.List.{range_with_len}
-use Rattle.std.specs.Option.{option_map, option_map_or}
+use Rattle.std.specs.Option.{option_map}
 use Rattle.std.proofs.Common.{refl, sym, subst, ap, ◌∙◌, arith}
 use Rattle.std.proofs.lemmas.Bool.{lt-ltb, or_left, or_right, and_parts, cond-true}
 use Rattle.std.proofs.lemmas.Cmp.{int_eq_equiv}
@@ -19,7 +19,6 @@ use Rattle.ja_prim.specs.Bits.{to_uint32}
 use Rattle.ja_prim.specs.Conversions.{to_number}
 use Rattle.ja_prim.proofs.Bitwise.{uint32_below}
 use Rattle.ja_graph.specs.declared.attrs.Attrs.{Attrs}
-use Rattle.ja_graph.specs.declared.program.Function.{Function}
 use Rattle.ja_graph.specs.declared.program.Program.{Program}
 use Rattle.ja_graph.specs.WellFormed.{IsWellFormed}
 use Rattle.ja_machine.specs.declared.machine.Addr.{Addr}
@@ -67,6 +66,7 @@ use Rattle.ja_rows.specs.Calls.{length_keys, element_count}
 use Rattle.ja_rows.specs.Calls as calls
 use Rattle.ja_sound.proofs.ControlNodes.{primitives-have}
 use Rattle.ja_sound.proofs.Entered.{AreGiven}
+use Rattle.ja_sound.proofs.Registers.{parameters_are}
 
 -- ---- values that are given together
 
@@ -135,10 +135,6 @@ module _ (h : Heap) (w : View) (heap_known : IsHeap w.program h) (f : Frame)
   abbrev rests : AbstractValue
   rests = w.state.register (rest_register (parameters_of w.program f.function))
 
-  parameters_are : parameters_of w.program f.function ≡ length known.function.parameters
-  parameters_are =
-      ap (λ o. option_map_or (λ (fn : Function). length fn.parameters) o 0) known.function_is
-
   count_has : IsTrue (has_value h counts (whole_number (length f.arguments)))
   count_has =
       holds.registers count_register (whole_number (length f.arguments)) known.count_is
@@ -146,7 +142,8 @@ module _ (h : Heap) (w : View) (heap_known : IsHeap w.program h) (f : Frame)
   rest_undefined : IsTrue (has_value h rests undefined)
   rest_undefined =
       holds.registers (rest_register (parameters_of w.program f.function)) undefined
-      (ap (λ n. slice_get f.registers (5 + n)) parameters_are ∙ known.rest_is)
+      (ap (λ n. slice_get f.registers (5 + n)) (parameters_are w.program h f known)
+      ∙ known.rest_is)
 
   dropped : (vs : List Value) (j : ℕ) → slice_get (drop 1 vs) j ≡ slice_get vs (suc j)
   dropped [] j = refl

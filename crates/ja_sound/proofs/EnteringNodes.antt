@@ -2,7 +2,7 @@
 -- enters (ES3 8.6.2.6, 10.2, 11.2.2, 11.2.3, 13.2.1, 13.2.2).
 use Rattle.std.specs.Prelude.{◌≡◌, ◌<◌, ◌≤◌, ◌+◌, ◌==◌, ℕ, suc, true, false, nat_le, IsTrue, List, [], ◌∷◌, map, drop, length, Option, Some, None, Ok, Err}
 use Rattle.std.specs.List.{AllByRecursion}
-use Rattle.std.specs.Option.{option_map, option_map_or, option_to_list}
+use Rattle.std.specs.Option.{option_map, option_to_list}
 use Rattle.std.proofs.Common.{refl, sym, subst, ap, arith, le_trans}
 use Rattle.std.proofs.lemmas.Bool.{false≢true, eq-eqb, and_from, cond-true}
 use Rattle.std.proofs.lemmas.Option.{none-some, slice_get_within}
@@ -24,7 +24,6 @@ use Rattle.ja_graph.specs.declared.node.Node.{Node}
 use Rattle.ja_graph.specs.declared.node.Node.TheVariants as node
 use Rattle.ja_graph.specs.declared.node.NodeInfo.{NodeInfo}
 use Rattle.ja_graph.specs.declared.program.Class.TheVariants as class
-use Rattle.ja_graph.specs.declared.program.Function.{Function}
 use Rattle.ja_graph.specs.declared.program.Program.{Program}
 use Rattle.ja_graph.specs.Node.{argument_registers}
 use Rattle.ja_graph.specs.Program.{global}
@@ -72,13 +71,14 @@ use Rattle.ja_rows.specs.Out.{Point}
 use Rattle.ja_rows.specs.Out as abstract
 use Rattle.ja_sound.specs.Statements.{IsAt, edge_into, IsEntered}
 use Rattle.ja_sound.proofs.AtNode as nodes
-use Rattle.ja_sound.proofs.Called.{member-edges, run-called, run-constructing, receiver-is}
+use Rattle.ja_sound.proofs.Called.{member-edges, runs-called, runs-constructing, run-called, run-constructing, receiver-is}
 use Rattle.ja_sound.proofs.Callables.{called_scoped, constructing_scoped}
 use Rattle.ja_sound.proofs.Constructed as constructed
 use Rattle.ja_sound.proofs.Elements.{elements_given, tail_given}
 use Rattle.ja_sound.proofs.Entered.{AreGiven, Has, listed_given}
 use Rattle.ja_sound.proofs.Into.{EntersFrom, is_entered, chain-has}
 use Rattle.ja_sound.proofs.Opening.{counts_stay}
+use Rattle.ja_sound.proofs.Registers.{parameters_are}
 use Rattle.ja_sound.proofs.Steps as steps
 
 module _ (e : Heap) (c : Conf) (top : Frame) (below : List Frame) (x : Point) (w : View)
@@ -204,7 +204,7 @@ module _ (e : Heap) (c : Conf) (top : Frame) (below : List Frame) (x : Point) (w
     arguments_given args.Tail fit allowed parameters arguments is filled =
         let same : drop 1 top.arguments ≡ arguments = cc in
         let count_is : parameters_of p top.function ≡ length fr.function.parameters =
-        ap (λ o. option_map_or (λ (fn : Function). length fn.parameters) o 0) fr.function_is in
+        parameters_are p c.heap top fr in
         let few : parameters_of p top.function ≤ 1 = omega (arith, count_is, allowed) in
         subst (λ (f : FnId). AreGiven c.heap parameters arguments (rows.tail w f))
         (sym (ap (λ (y : _). y.function) at.context))
@@ -233,8 +233,7 @@ module _ (e : Heap) (c : Conf) (top : Frame) (below : List Frame) (x : Point) (w
           global_new (abstract.at w receiver) (register_of top receiver) r
           (there receiver receiver_fits) (held receiver receiver_fits) r_is in
           let run : IsTrue (runs (calls_at p) f.0 (label_of c.heap a)) =
-          subst (λ g. IsTrue (option_map_or (λ (k : FnId). k.0 == f.0) g false)) (sym f_is)
-          (eq-eqb f.0 f.0 refl) in
+          runs-called p c.heap a f f_is in
           record {
             entry_heap = at.entry_heap;
             heap = at.known.heap;
@@ -332,9 +331,7 @@ module _ (e : Heap) (c : Conf) (top : Frame) (below : List Frame) (x : Point) (w
           (label_of (now a) a))
       callee_now callee_is f_is =
           and_from _ _ (subst (λ u. IsTrue (has_value (now a) (abstract.at v callee) u)) callee_is
-          (held_now callee callee_fits))
-          (subst (λ g. IsTrue (option_map_or (λ (k : FnId). k.0 == f.0) g false)) (sym f_is)
-          (eq-eqb f.0 f.0 refl))
+          (held_now callee callee_fits)) (runs-constructing p (now a) a f f_is)
 
     construction_from : (a : Addr) (f : FnId) (arguments : List Value)
         → register_of top callee ≡ value.Object a
@@ -349,8 +346,7 @@ module _ (e : Heap) (c : Conf) (top : Frame) (below : List Frame) (x : Point) (w
         subst (λ v. IsTrue (has_value c.heap (abstract.at w callee) v)) callee_is
         (held callee callee_fits) in
         let run : IsTrue (runs (constructs_at p) f.0 (label_of c.heap a)) =
-        subst (λ g. IsTrue (option_map_or (λ (k : FnId). k.0 == f.0) g false)) (sym f_is)
-        (eq-eqb f.0 f.0 refl) in
+        runs-constructing p c.heap a f f_is in
         let made : Object = constructed_object (proto a) in
         let grown : Grows e (now a) = λ t. le_trans (at.grows t)
         (counts_stay c.heap (now a) (Heaps.grows-with_new c.heap site made row) t
