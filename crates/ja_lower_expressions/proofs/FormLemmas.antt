@@ -13,12 +13,13 @@ use Rattle.ja_syntax.specs.declared.tree.Suffix.{Suffix}
 use Rattle.ja_syntax.specs.declared.tree.Suffix.TheVariants as suffix
 use Rattle.ja_syntax.specs.declared.tree.Operation.{Operation}
 use Rattle.ja_syntax.specs.declared.tree.Name.{Name}
+use Rattle.ja_syntax.specs.declared.tree.Case.{Case}
 use Rattle.ja_syntax.specs.declared.tree.Statement.{Statement}
-use Rattle.ja_syntax.specs.declared.tree.Expression.{Expression}
+use Rattle.ja_syntax.specs.declared.tree.Expression.{Expression, roll-Expression}
 use Rattle.ja_syntax.specs.declared.tree.Expression.TheVariants as e
 use Rattle.ja_syntax.specs.declared.tree.Expression.TheVariants.{rolls-This, rolls-Name, rolls-Literal, rolls-Array, rolls-Object, rolls-Function, rolls-Chain, rolls-New, rolls-Unary, rolls-Update, rolls-Binary, rolls-Conditional, rolls-Assign, rolls-Sequence}
 use Rattle.ja_syntax.specs.declared.tree.Expression.TheOpen.{Expression-F}
-use Rattle.ja_syntax.specs.declared.tree.Expression.TheFolds.{fold-roll-Expression}
+use Rattle.ja_syntax.specs.declared.tree.Expression.TheFolds.{fold-roll-Expression, map-Expression}
 use Rattle.ja_lower_draft.specs.Lines.{Listing, Scene, register, with_const, with_copy}
 use Rattle.ja_lower_expressions.specs.References.{Form, valued, value_of, with_name}
 use Rattle.ja_lower_expressions.specs.Operators.{list_unary, list_update, list_conditional}
@@ -51,137 +52,98 @@ module _ (g : Suffix Expression → Suffix Form)
   suffix_is (suffix.Index key place) = index key place
   suffix_is (suffix.Call arguments place) = call arguments place
 
+-- a level of an expression, with what each part is listed as in its place
+abbrev level : Expression-F Expression Statement Case → Expression-F Form (Unit {0}) (Unit {0})
+level = map-Expression Expression Statement Case Form (Unit {0}) (Unit {0}) form (λ _. tt) (λ _. tt)
+
+-- an expression is listed as its level
+formed : {x : Expression} (y : Expression-F Expression Statement Case) → roll-Expression y ≡ x
+    → (scene : Scene) (l : Listing) → form x scene l ≡ form_step (level y) scene l
+unfolding form
+formed y rolled scene l =
+    ap (λ (f : Form). f scene l) (ap form (sym rolled)
+    ∙ fold-roll-Expression Form (Unit {0}) (Unit {0}) form_step (λ _. tt) (λ _. tt) y)
+
 pub of_this : (place : Place) (scene : Scene) (l : Listing)
     → form (e.This place) scene l ≡ valued (with_copy scene place (register 1) l)
-unfolding form
-of_this place scene l =
-    ap (λ (x : Expression). form x scene l) (sym (rolls-This place))
-    ∙ ap (λ (f : Form). f scene l) (fold-roll-Expression Form (Unit {0}) (Unit {0}) form_step
-    (λ _. tt) (λ _. tt) (Expression-F.This place))
+of_this place scene l = formed _ (rolls-This place) scene l
 
 pub of_name : (name : Name) (scene : Scene) (l : Listing)
     → form (e.Name name) scene l ≡ with_name name.text name.place scene l
-unfolding form
-of_name name scene l =
-    ap (λ (x : Expression). form x scene l) (sym (rolls-Name name))
-    ∙ ap (λ (f : Form). f scene l) (fold-roll-Expression Form (Unit {0}) (Unit {0}) form_step
-    (λ _. tt) (λ _. tt) (Expression-F.Name name))
+of_name name scene l = formed _ (rolls-Name name) scene l
 
 pub of_literal : (value : Primitive) (place : Place) (scene : Scene) (l : Listing)
     → form (e.Literal value place) scene l ≡ valued (with_const scene place value l)
-unfolding form
-of_literal value place scene l =
-    ap (λ (x : Expression). form x scene l) (sym (rolls-Literal value place))
-    ∙ ap (λ (f : Form). f scene l) (fold-roll-Expression Form (Unit {0}) (Unit {0}) form_step
-    (λ _. tt) (λ _. tt) (Expression-F.Literal value place))
+of_literal value place scene l = formed _ (rolls-Literal value place) scene l
 
 pub of_array : (elements : List (Option Expression)) (place : Place) (scene : Scene) (l : Listing)
     → form (e.Array elements place) scene l
     ≡ valued (list_array (map element_of elements) place scene l)
-unfolding form
 of_array elements place scene l =
-    ap (λ (x : Expression). form x scene l) (sym (rolls-Array elements place))
-    ∙ (ap (λ (f : Form). f scene l) (fold-roll-Expression Form (Unit {0}) (Unit {0}) form_step
-    (λ _. tt) (λ _. tt) (Expression-F.Array elements place))
+    formed _ (rolls-Array elements place) scene l
     ∙ ap (λ (xs : List (Option Form)). valued (list_array xs place scene l))
-    (map_alike _ element_of (element_is _ refl (λ v. refl)) elements))
+    (map_alike _ element_of (element_is _ refl (λ v. refl)) elements)
 
 pub of_object : (properties : List (Property Expression)) (place : Place) (scene : Scene)
     (l : Listing) → form (e.Object properties place) scene l
     ≡ valued (list_object (map property_of properties) place scene l)
-unfolding form
 of_object properties place scene l =
-    ap (λ (x : Expression). form x scene l) (sym (rolls-Object properties place))
-    ∙ (ap (λ (f : Form). f scene l) (fold-roll-Expression Form (Unit {0}) (Unit {0}) form_step
-    (λ _. tt) (λ _. tt) (Expression-F.Object properties place))
+    formed _ (rolls-Object properties place) scene l
     ∙ ap (λ (xs : List Member). valued (list_object xs place scene l))
-    (map_after _ member_of property_of (λ p. refl) properties))
+    (map_after _ member_of property_of (λ p. refl) properties)
 
 pub of_function : (function : FunctionOf Statement) (scene : Scene) (l : Listing)
     → form (e.Function function) scene l ≡ valued
     (list_function function.name function.place scene l)
-unfolding form
-of_function function scene l =
-    ap (λ (x : Expression). form x scene l) (sym (rolls-Function function))
-    ∙ ap (λ (f : Form). f scene l) (fold-roll-Expression Form (Unit {0}) (Unit {0}) form_step
-    (λ _. tt) (λ _. tt) (Expression-F.Expression::Function function))
+of_function function scene l = formed _ (rolls-Function function) scene l
 
 pub of_chain : (head : Expression) (suffixes : List (Suffix Expression)) (scene : Scene)
     (l : Listing) → form (e.Chain head suffixes) scene l
     ≡ fold (with_suffix scene) (form head scene l) (map suffix_of suffixes)
-unfolding form
 of_chain head suffixes scene l =
-    ap (λ (x : Expression). form x scene l) (sym (rolls-Chain head suffixes))
-    ∙ (ap (λ (f : Form). f scene l) (fold-roll-Expression Form (Unit {0}) (Unit {0}) form_step
-    (λ _. tt) (λ _. tt) (Expression-F.Chain head suffixes))
+    formed _ (rolls-Chain head suffixes) scene l
     ∙ ap (λ (xs : List (Suffix Form)). fold (with_suffix scene) (form head scene l) xs)
-    (map_alike _ suffix_of (suffix_is _ (λ n p. refl) (λ k p. refl) (λ xs p. refl)) suffixes))
+    (map_alike _ suffix_of (suffix_is _ (λ n p. refl) (λ k p. refl) (λ xs p. refl)) suffixes)
 
 pub of_new : (callee : Expression) (arguments : List Expression) (place : Place) (scene : Scene)
     (l : Listing) → form (e.New callee arguments place) scene l
     ≡ valued (list_new (form callee) (map form arguments) place scene l)
-unfolding form
-of_new callee arguments place scene l =
-    ap (λ (x : Expression). form x scene l) (sym (rolls-New callee arguments place))
-    ∙ ap (λ (f : Form). f scene l) (fold-roll-Expression Form (Unit {0}) (Unit {0}) form_step
-    (λ _. tt) (λ _. tt) (Expression-F.New callee arguments place))
+of_new callee arguments place scene l = formed _ (rolls-New callee arguments place) scene l
 
 pub of_unary : (operator : UnaryOperator) (operand : Expression) (place : Place) (scene : Scene)
     (l : Listing) → form (e.Unary operator operand place) scene l
     ≡ valued (list_unary operator (form operand) place scene l)
-unfolding form
-of_unary operator operand place scene l =
-    ap (λ (x : Expression). form x scene l) (sym (rolls-Unary operator operand place))
-    ∙ ap (λ (f : Form). f scene l) (fold-roll-Expression Form (Unit {0}) (Unit {0}) form_step
-    (λ _. tt) (λ _. tt) (Expression-F.Unary operator operand place))
+of_unary operator operand place scene l = formed _ (rolls-Unary operator operand place) scene l
 
 pub of_update : (operator : UpdateOperator) (operand : Expression) (place : Place) (scene : Scene)
     (l : Listing) → form (e.Update operator operand place) scene l
     ≡ valued (list_update operator (form operand) place scene l)
-unfolding form
-of_update operator operand place scene l =
-    ap (λ (x : Expression). form x scene l) (sym (rolls-Update operator operand place))
-    ∙ ap (λ (f : Form). f scene l) (fold-roll-Expression Form (Unit {0}) (Unit {0}) form_step
-    (λ _. tt) (λ _. tt) (Expression-F.Update operator operand place))
+of_update operator operand place scene l = formed _ (rolls-Update operator operand place) scene l
 
 pub of_binary : (first : Expression) (operations : List (Operation Expression)) (place : Place)
     (scene : Scene) (l : Listing) → form (e.Binary first operations place) scene l
     ≡ valued (apply_operations place (map operation_of operations) scene
     (value_of (form first) scene l))
-unfolding form
 of_binary first operations place scene l =
-    ap (λ (x : Expression). form x scene l) (sym (rolls-Binary first operations place))
-    ∙ (ap (λ (f : Form). f scene l) (fold-roll-Expression Form (Unit {0}) (Unit {0}) form_step
-    (λ _. tt) (λ _. tt) (Expression-F.Binary first operations place))
+    formed _ (rolls-Binary first operations place) scene l
     ∙ ap (λ (xs : List (Operation Form)).
     valued (apply_operations place xs scene (value_of (form first) scene l)))
-    (map_alike _ operation_of (λ o. refl) operations))
+    (map_alike _ operation_of (λ o. refl) operations)
 
 pub of_conditional : (condition consequent otherwise : Expression) (place : Place) (scene : Scene)
     (l : Listing) → form (e.Conditional condition consequent otherwise place) scene l
     ≡ valued (list_conditional (form condition) (form consequent) (form otherwise) place scene l)
-unfolding form
 of_conditional condition consequent otherwise place scene l =
-    ap (λ (x : Expression). form x scene l)
-    (sym (rolls-Conditional condition consequent otherwise place))
-    ∙ ap (λ (f : Form). f scene l) (fold-roll-Expression Form (Unit {0}) (Unit {0}) form_step
-    (λ _. tt) (λ _. tt) (Expression-F.Conditional condition consequent otherwise place))
+    formed _ (rolls-Conditional condition consequent otherwise place) scene l
 
 pub of_assign : (target : Expression) (operator : Option BinaryOperator) (value : Expression)
     (place : Place) (scene : Scene) (l : Listing)
     → form (e.Assign target operator value place) scene l
     ≡ valued (list_assignment (form target) operator (form value) place scene l)
-unfolding form
 of_assign target operator value place scene l =
-    ap (λ (x : Expression). form x scene l) (sym (rolls-Assign target operator value place))
-    ∙ ap (λ (f : Form). f scene l) (fold-roll-Expression Form (Unit {0}) (Unit {0}) form_step
-    (λ _. tt) (λ _. tt) (Expression-F.Assign target operator value place))
+    formed _ (rolls-Assign target operator value place) scene l
 
 pub of_sequence : (first : Expression) (others : List Expression) (place : Place) (scene : Scene)
     (l : Listing) → form (e.Sequence first others place) scene l
     ≡ valued (list_others (map form others) scene (value_of (form first) scene l))
-unfolding form
-of_sequence first others place scene l =
-    ap (λ (x : Expression). form x scene l) (sym (rolls-Sequence first others place))
-    ∙ ap (λ (f : Form). f scene l) (fold-roll-Expression Form (Unit {0}) (Unit {0}) form_step
-    (λ _. tt) (λ _. tt) (Expression-F.Sequence first others place))
+of_sequence first others place scene l = formed _ (rolls-Sequence first others place) scene l

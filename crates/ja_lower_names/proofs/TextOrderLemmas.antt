@@ -133,87 +133,81 @@ function_layer f =
     ∙ ap (λ (ps : Parts). a_function f ∷ (if_any in_name f.name
     ++ (flat_map in_name f.parameters ++ ps))) (statements f.body)
 
+-- behind other parts stand those of one level of an expression, however it is written
+spelt : (parts : Parts) {x : Expression} {ps : Parts} (y : Expression-F Expression Statement Case)
+    → roll-Expression y ≡ x → expression_step (expression_layer y) ≡ ps
+    → parts ++ in_expression x ≡ parts ++ ps
+spelt parts y rolled is =
+    ap (λ ps. parts ++ ps) (ap in_expression (sym rolled) ∙ (expression_opened y ∙ is))
+
+-- .. and of a statement
+written : (parts : Parts) {x : Statement} {ps : Parts} (y : Statement-F Expression Statement Case)
+    → roll-Statement y ≡ x → statement_step (statement_layer y) ≡ ps
+    → parts ++ in_statement x ≡ parts ++ ps
+written parts y rolled is =
+    ap (λ ps. parts ++ ps) (ap in_statement (sym rolled) ∙ (statement_opened y ∙ is))
+
 pub of_this : (parts : Parts) (place : Place) → parts ++ in_expression (e.This place) ≡ parts
-of_this parts place =
-    ap (λ ps. parts ++ ps) (ap in_expression (sym (e.rolls-This place))
-    ∙ expression_opened (Expression-F.This place)) ∙ append-nil parts
+of_this parts place = spelt parts _ (e.rolls-This place) refl ∙ append-nil parts
 
 pub of_name : (parts : Parts) (name : Name)
     → parts ++ in_expression (e.Name name) ≡ parts ++ one_variable name.text
-of_name parts name =
-    ap (λ ps. parts ++ ps) (ap in_expression (sym (e.rolls-Name name))
-    ∙ expression_opened (Expression-F.Name name))
+of_name parts name = spelt parts _ (e.rolls-Name name) refl
 
 pub of_literal : (parts : Parts) (value : Primitive) (place : Place)
     → parts ++ in_expression (e.Literal value place) ≡ parts ++ in_literal value
-of_literal parts value place =
-    ap (λ ps. parts ++ ps) (ap in_expression (sym (e.rolls-Literal value place))
-    ∙ expression_opened (Expression-F.Literal value place))
+of_literal parts value place = spelt parts _ (e.rolls-Literal value place) refl
 
 pub of_array : (parts : Parts) (elements : List (Option Expression)) (place : Place)
     → parts ++ in_expression (e.Array elements place) ≡ parts
     ++ flat_map (if_any in_expression) elements
 of_array parts elements place =
-    ap (λ ps. parts ++ ps) (ap in_expression (sym (e.rolls-Array elements place))
-    ∙ (expression_opened (Expression-F.Array elements place)
-    ∙ after (if_any (λ (p : Expressions). p.1)) _ (if_any in_expression)
-    (optional_is _ refl (λ v. refl)) elements))
+    spelt parts _ (e.rolls-Array elements place) (after (if_any (λ (p : Expressions). p.1)) _
+    (if_any in_expression) (optional_is _ refl (λ v. refl)) elements)
 
 pub of_object : (parts : Parts) (properties : List (Property Expression)) (place : Place)
     → parts ++ in_expression (e.Object properties place) ≡ parts
     ++ flat_map (in_property in_expression) properties
 of_object parts properties place =
-    ap (λ ps. parts ++ ps) (ap in_expression (sym (e.rolls-Object properties place))
-    ∙ (expression_opened (Expression-F.Object properties place)
-    ∙ after (in_property (λ (p : Expressions). p.1)) _ (in_property in_expression) (λ p. refl)
-    properties))
+    spelt parts _ (e.rolls-Object properties place) (after (in_property (λ (p : Expressions). p.1))
+    _ (in_property in_expression) (λ p. refl) properties)
 
 pub of_function : (parts : Parts) (function : FunctionOf Statement)
     → parts ++ in_expression (e.Function function) ≡ parts ++ function_parts function
-of_function parts function =
-    ap (λ ps. parts ++ ps) (ap in_expression (sym (e.rolls-Function function))
-    ∙ (expression_opened (Expression-F.Expression::Function function) ∙ function_layer function))
+of_function parts function = spelt parts _ (e.rolls-Function function) (function_layer function)
 
 pub of_chain : (parts : Parts) (head : Expression) (suffixes : List (Suffix Expression))
     → parts ++ in_expression (e.Chain head suffixes) ≡ (parts ++ in_expression head)
     ++ flat_map (in_suffix in_expression) suffixes
 of_chain parts head suffixes =
-    ap (λ ps. parts ++ ps) (ap in_expression (sym (e.rolls-Chain head suffixes))
-    ∙ (expression_opened (Expression-F.Chain head suffixes)
-    ∙ ap (λ ps. in_expression head ++ ps) (after (in_suffix (λ (p : Expressions). p.1)) _
-    (in_suffix in_expression) (suffix_is _ (λ n p. refl) (λ k p. refl) (λ xs p. expressions xs))
-    suffixes))) ∙ sym (append_assoc parts (in_expression head)
-    (flat_map (in_suffix in_expression) suffixes))
+    spelt parts _ (e.rolls-Chain head suffixes) (ap (λ ps. in_expression head ++ ps)
+    (after (in_suffix (λ (p : Expressions). p.1)) _ (in_suffix in_expression)
+    (suffix_is _ (λ n p. refl) (λ k p. refl) (λ xs p. expressions xs)) suffixes))
+    ∙ sym (append_assoc parts (in_expression head) (flat_map (in_suffix in_expression) suffixes))
 
 pub of_new : (parts : Parts) (callee : Expression) (arguments : List Expression) (place : Place)
     → parts ++ in_expression (e.New callee arguments place) ≡ (parts ++ in_expression callee)
     ++ flat_map in_expression arguments
 of_new parts callee arguments place =
-    ap (λ ps. parts ++ ps) (ap in_expression (sym (e.rolls-New callee arguments place))
-    ∙ (expression_opened (Expression-F.New callee arguments place)
-    ∙ ap (λ ps. in_expression callee ++ ps) (expressions arguments)))
+    spelt parts _ (e.rolls-New callee arguments place) (ap (λ ps. in_expression callee ++ ps)
+    (expressions arguments))
     ∙ sym (append_assoc parts (in_expression callee) (flat_map in_expression arguments))
 
 pub of_unary : (parts : Parts) (operator : UnaryOperator) (operand : Expression) (place : Place)
     → parts ++ in_expression (e.Unary operator operand place) ≡ parts ++ in_expression operand
-of_unary parts operator operand place =
-    ap (λ ps. parts ++ ps) (ap in_expression (sym (e.rolls-Unary operator operand place))
-    ∙ expression_opened (Expression-F.Unary operator operand place))
+of_unary parts operator operand place = spelt parts _ (e.rolls-Unary operator operand place) refl
 
 pub of_update : (parts : Parts) (operator : UpdateOperator) (operand : Expression) (place : Place)
     → parts ++ in_expression (e.Update operator operand place) ≡ parts ++ in_expression operand
-of_update parts operator operand place =
-    ap (λ ps. parts ++ ps) (ap in_expression (sym (e.rolls-Update operator operand place))
-    ∙ expression_opened (Expression-F.Update operator operand place))
+of_update parts operator operand place = spelt parts _ (e.rolls-Update operator operand place) refl
 
 pub of_binary : (parts : Parts) (first : Expression) (operations : List (Operation Expression))
     (place : Place) → parts ++ in_expression (e.Binary first operations place)
     ≡ (parts ++ in_expression first) ++ flat_map (in_operation in_expression) operations
 of_binary parts first operations place =
-    ap (λ ps. parts ++ ps) (ap in_expression (sym (e.rolls-Binary first operations place))
-    ∙ (expression_opened (Expression-F.Binary first operations place)
-    ∙ ap (λ ps. in_expression first ++ ps) (after (in_operation (λ (p : Expressions). p.1)) _
-    (in_operation in_expression) (λ o. refl) operations)))
+    spelt parts _ (e.rolls-Binary first operations place) (ap (λ ps. in_expression first ++ ps)
+    (after (in_operation (λ (p : Expressions). p.1)) _ (in_operation in_expression) (λ o. refl)
+    operations))
     ∙ sym (append_assoc parts (in_expression first)
     (flat_map (in_operation in_expression) operations))
 
@@ -222,9 +216,7 @@ pub of_conditional : (parts : Parts) (condition : Expression) (consequent : Expr
     → parts ++ in_expression (e.Conditional condition consequent otherwise place)
     ≡ ((parts ++ in_expression condition) ++ in_expression consequent) ++ in_expression otherwise
 of_conditional parts condition consequent otherwise place =
-    ap (λ ps. parts ++ ps) (ap in_expression
-    (sym (e.rolls-Conditional condition consequent otherwise place))
-    ∙ expression_opened (Expression-F.Conditional condition consequent otherwise place))
+    spelt parts _ (e.rolls-Conditional condition consequent otherwise place) refl
     ∙ sym (append_assoc parts (in_expression condition)
     (in_expression consequent ++ (in_expression otherwise)))
     ∙ sym (append_assoc (parts ++ in_expression condition) (in_expression consequent)
@@ -235,17 +227,15 @@ pub of_assign : (parts : Parts) (goal : Expression) (operator : Option BinaryOpe
     ++ in_expression (e.Assign goal operator value place) ≡ (parts ++ in_expression goal)
     ++ in_expression value
 of_assign parts goal operator value place =
-    ap (λ ps. parts ++ ps) (ap in_expression (sym (e.rolls-Assign goal operator value place))
-    ∙ expression_opened (Expression-F.Assign goal operator value place))
+    spelt parts _ (e.rolls-Assign goal operator value place) refl
     ∙ sym (append_assoc parts (in_expression goal) (in_expression value))
 
 pub of_sequence : (parts : Parts) (first : Expression) (others : List Expression) (place : Place)
     → parts ++ in_expression (e.Sequence first others place) ≡ (parts ++ in_expression first)
     ++ flat_map in_expression others
 of_sequence parts first others place =
-    ap (λ ps. parts ++ ps) (ap in_expression (sym (e.rolls-Sequence first others place))
-    ∙ (expression_opened (Expression-F.Sequence first others place)
-    ∙ ap (λ ps. in_expression first ++ ps) (expressions others)))
+    spelt parts _ (e.rolls-Sequence first others place) (ap (λ ps. in_expression first ++ ps)
+    (expressions others))
     ∙ sym (append_assoc parts (in_expression first) (flat_map in_expression others))
 
 -- ---- statements
@@ -338,29 +328,22 @@ of_case parts case =
 
 pub of_block : (parts : Parts) (body : List Statement) (place : Place)
     → parts ++ in_statement (s.Block body place) ≡ parts ++ flat_map in_statement body
-of_block parts body place =
-    ap (λ ps. parts ++ ps) (ap in_statement (sym (s.rolls-Block body place))
-    ∙ (statement_opened (Statement-F.Block body place) ∙ statements body))
+of_block parts body place = written parts _ (s.rolls-Block body place) (statements body)
 
 pub of_variables : (parts : Parts) (declarations : List (Declaration Expression)) (place : Place)
     → parts ++ in_statement (s.Variables declarations place) ≡ parts
     ++ flat_map (in_declaration in_expression) declarations
 of_variables parts declarations place =
-    ap (λ ps. parts ++ ps) (ap in_statement (sym (s.rolls-Variables declarations place))
-    ∙ (statement_opened (Statement-F.Variables declarations place)
-    ∙ after (in_declaration (λ (p : Expressions). p.1)) _ (in_declaration in_expression)
-    (declaration_is _ (λ n. refl) (λ n i. refl)) declarations))
+    written parts _ (s.rolls-Variables declarations place) (after (in_declaration
+    (λ (p : Expressions). p.1)) _ (in_declaration in_expression) (declaration_is _ (λ n. refl)
+    (λ n i. refl)) declarations)
 
 pub of_empty : (parts : Parts) (place : Place) → parts ++ in_statement (s.Empty place) ≡ parts
-of_empty parts place =
-    ap (λ ps. parts ++ ps) (ap in_statement (sym (s.rolls-Empty place))
-    ∙ statement_opened (Statement-F.Empty place)) ∙ append-nil parts
+of_empty parts place = written parts _ (s.rolls-Empty place) refl ∙ append-nil parts
 
 pub of_value : (parts : Parts) (value : Expression) (place : Place)
     → parts ++ in_statement (s.Expression value place) ≡ parts ++ in_expression value
-of_value parts value place =
-    ap (λ ps. parts ++ ps) (ap in_statement (sym (s.rolls-Expression value place))
-    ∙ statement_opened (Statement-F.Expression value place))
+of_value parts value place = written parts _ (s.rolls-Expression value place) refl
 
 pub of_if : (parts : Parts) (condition : Expression) (consequent : Statement)
     (otherwise : Option Statement) (place : Place)
@@ -368,9 +351,8 @@ pub of_if : (parts : Parts) (condition : Expression) (consequent : Statement)
     ≡ ((parts ++ in_expression condition) ++ in_statement consequent)
     ++ if_any in_statement otherwise
 of_if parts condition consequent otherwise place =
-    ap (λ ps. parts ++ ps) (ap in_statement (sym (s.rolls-If condition consequent otherwise place))
-    ∙ (statement_opened (Statement-F.If condition consequent otherwise place)
-    ∙ if_layer condition consequent otherwise place))
+    written parts _ (s.rolls-If condition consequent otherwise place) (if_layer condition consequent
+    otherwise place)
     ∙ sym (append_assoc parts (in_expression condition)
     (in_statement consequent ++ (if_any in_statement otherwise)))
     ∙ sym (append_assoc (parts ++ in_expression condition) (in_statement consequent)
@@ -380,16 +362,14 @@ pub of_do : (parts : Parts) (body : Statement) (condition : Expression) (place :
     → parts ++ in_statement (s.Do body condition place) ≡ (parts ++ in_statement body)
     ++ in_expression condition
 of_do parts body condition place =
-    ap (λ ps. parts ++ ps) (ap in_statement (sym (s.rolls-Do body condition place))
-    ∙ statement_opened (Statement-F.Do body condition place))
+    written parts _ (s.rolls-Do body condition place) refl
     ∙ sym (append_assoc parts (in_statement body) (in_expression condition))
 
 pub of_while : (parts : Parts) (condition : Expression) (body : Statement) (place : Place)
     → parts ++ in_statement (s.While condition body place) ≡ (parts ++ in_expression condition)
     ++ in_statement body
 of_while parts condition body place =
-    ap (λ ps. parts ++ ps) (ap in_statement (sym (s.rolls-While condition body place))
-    ∙ statement_opened (Statement-F.While condition body place))
+    written parts _ (s.rolls-While condition body place) refl
     ∙ sym (append_assoc parts (in_expression condition) (in_statement body))
 
 pub of_for : (parts : Parts) (head : ForFirst Expression) (condition : Option Expression)
@@ -398,9 +378,8 @@ pub of_for : (parts : Parts) (head : ForFirst Expression) (condition : Option Ex
     ≡ (((parts ++ in_first in_expression head) ++ if_any in_expression condition)
     ++ if_any in_expression update) ++ in_statement body
 of_for parts head condition update body place =
-    ap (λ ps. parts ++ ps) (ap in_statement (sym (s.rolls-For head condition update body place))
-    ∙ (statement_opened (Statement-F.For head condition update body place)
-    ∙ for_layer head condition update body place))
+    written parts _ (s.rolls-For head condition update body place) (for_layer head condition update
+    body place)
     ∙ sym (append_assoc parts (in_first in_expression head)
     (if_any in_expression condition ++ (if_any in_expression update ++ (in_statement body))))
     ∙ sym (append_assoc (parts ++ in_first in_expression head) (if_any in_expression condition)
@@ -412,9 +391,7 @@ pub of_for_in : (parts : Parts) (goal : ForTarget Expression) (object : Expressi
     (body : Statement) (place : Place) → parts ++ in_statement (s.ForIn goal object body place)
     ≡ ((parts ++ in_target in_expression goal) ++ in_expression object) ++ in_statement body
 of_for_in parts goal object body place =
-    ap (λ ps. parts ++ ps) (ap in_statement (sym (s.rolls-ForIn goal object body place))
-    ∙ (statement_opened (Statement-F.ForIn goal object body place)
-    ∙ for_in_layer goal object body place))
+    written parts _ (s.rolls-ForIn goal object body place) (for_in_layer goal object body place)
     ∙ sym (append_assoc parts (in_target in_expression goal)
     (in_expression object ++ (in_statement body)))
     ∙ sym (append_assoc (parts ++ in_target in_expression goal) (in_expression object)
@@ -423,41 +400,32 @@ of_for_in parts goal object body place =
 pub of_continue : (parts : Parts) (label : Option Name) (place : Place)
     → parts ++ in_statement (s.Continue label place) ≡ parts
 of_continue parts label place =
-    ap (λ ps. parts ++ ps) (ap in_statement (sym (s.rolls-Continue label place))
-    ∙ statement_opened (Statement-F.Continue label place)) ∙ append-nil parts
+    written parts _ (s.rolls-Continue label place) refl ∙ append-nil parts
 
 pub of_break : (parts : Parts) (label : Option Name) (place : Place)
     → parts ++ in_statement (s.Break label place) ≡ parts
-of_break parts label place =
-    ap (λ ps. parts ++ ps) (ap in_statement (sym (s.rolls-Break label place))
-    ∙ statement_opened (Statement-F.Break label place)) ∙ append-nil parts
+of_break parts label place = written parts _ (s.rolls-Break label place) refl ∙ append-nil parts
 
 pub of_return : (parts : Parts) (value : Option Expression) (place : Place)
     → parts ++ in_statement (s.Return value place) ≡ parts ++ if_any in_expression value
 of_return parts value place =
-    ap (λ ps. parts ++ ps) (ap in_statement (sym (s.rolls-Return value place))
-    ∙ (statement_opened (Statement-F.Return value place) ∙ return_layer value place))
+    written parts _ (s.rolls-Return value place) (return_layer value place)
 
 pub of_labelled : (parts : Parts) (label : Name) (body : Statement)
     → parts ++ in_statement (s.Labelled label body) ≡ parts ++ in_statement body
-of_labelled parts label body =
-    ap (λ ps. parts ++ ps) (ap in_statement (sym (s.rolls-Labelled label body))
-    ∙ statement_opened (Statement-F.Labelled label body))
+of_labelled parts label body = written parts _ (s.rolls-Labelled label body) refl
 
 pub of_switch : (parts : Parts) (value : Expression) (cases : List Case) (place : Place)
     → parts ++ in_statement (s.Switch value cases place) ≡ (parts ++ in_expression value)
     ++ flat_map in_case cases
 of_switch parts value cases place =
-    ap (λ ps. parts ++ ps) (ap in_statement (sym (s.rolls-Switch value cases place))
-    ∙ (statement_opened (Statement-F.Switch value cases place)
-    ∙ ap (λ ps. in_expression value ++ ps) (after (λ (p : Cases). p.1) (λ x. (x, in_case x)) in_case
-    (λ x. refl) cases))) ∙ sym (append_assoc parts (in_expression value) (flat_map in_case cases))
+    written parts _ (s.rolls-Switch value cases place) (ap (λ ps. in_expression value ++ ps)
+    (after (λ (p : Cases). p.1) (λ x. (x, in_case x)) in_case (λ x. refl) cases))
+    ∙ sym (append_assoc parts (in_expression value) (flat_map in_case cases))
 
 pub of_throw : (parts : Parts) (value : Expression) (place : Place)
     → parts ++ in_statement (s.Throw value place) ≡ parts ++ in_expression value
-of_throw parts value place =
-    ap (λ ps. parts ++ ps) (ap in_statement (sym (s.rolls-Throw value place))
-    ∙ statement_opened (Statement-F.Throw value place))
+of_throw parts value place = written parts _ (s.rolls-Throw value place) refl
 
 pub of_try : (parts : Parts) (block : List Statement) (caught : Option (CatchOf Statement))
     (finally : Option (List Statement)) (place : Place)
@@ -465,9 +433,7 @@ pub of_try : (parts : Parts) (block : List Statement) (caught : Option (CatchOf 
     ≡ ((parts ++ flat_map in_statement block) ++ if_any (in_catch in_statement) caught)
     ++ if_any (flat_map in_statement) finally
 of_try parts block caught finally place =
-    ap (λ ps. parts ++ ps) (ap in_statement (sym (s.rolls-Try block caught finally place))
-    ∙ (statement_opened (Statement-F.Try block caught finally place)
-    ∙ try_layer block caught finally place))
+    written parts _ (s.rolls-Try block caught finally place) (try_layer block caught finally place)
     ∙ sym (append_assoc parts (flat_map in_statement block)
     (if_any (in_catch in_statement) caught ++ (if_any (flat_map in_statement) finally)))
     ∙ sym (append_assoc (parts ++ flat_map in_statement block)
@@ -475,6 +441,4 @@ of_try parts block caught finally place =
 
 pub of_declared : (parts : Parts) (function : FunctionOf Statement)
     → parts ++ in_statement (s.Function function) ≡ parts ++ function_parts function
-of_declared parts function =
-    ap (λ ps. parts ++ ps) (ap in_statement (sym (s.rolls-Function function))
-    ∙ (statement_opened (Statement-F.Statement::Function function) ∙ declared_layer function))
+of_declared parts function = written parts _ (s.rolls-Function function) (declared_layer function)

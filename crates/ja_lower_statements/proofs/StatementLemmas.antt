@@ -47,13 +47,12 @@ many : (xs : List Statement) → map (λ (p : Statement × Does). p.1) (map (λ 
     ≡ map does xs
 many xs = map_after (λ x. (x, does x)) (λ (p : Statement × Does). p.1) does (λ x. refl) xs
 
-at : {f g : Does} → f ≡ g → (a : Around) (b : ℕ) (l : Listing) → f a b l ≡ g a b l
-at e a b l = ap (λ (d : Does). d a b l) e
-
-module _ (x : Statement) (y : Statement-F Expression Statement Case) (rolled : roll-Statement y ≡ x)
-    (d : Does) (same : statement_level (layer y) ≡ d) where
-  listed : (a : Around) (b : ℕ) (l : Listing) → does x a b l ≡ d a b l
-  listed = at (ap does (sym rolled) ∙ (opened y ∙ same))
+-- a statement is listed as its level
+listed : {x : Statement} {d : Does} (y : Statement-F Expression Statement Case)
+    → roll-Statement y ≡ x → statement_level (layer y) ≡ d → (a : Around) (b : ℕ) (l : Listing)
+    → does x a b l ≡ d a b l
+listed y rolled same a b l =
+    ap (λ (d : Does). d a b l) (ap does (sym rolled) ∙ (opened y ∙ same))
 
 module _ (f : Declaration Expression → Declaration Expressions)
     (k : Declaration Expressions → Declaration Form)
@@ -102,9 +101,7 @@ body_of case = refl
 
 pub does_block : (body : List Statement) (place : Place) (a : Around) (b : ℕ) (l : Listing)
     → does (s.Block body place) a b l ≡ list_all_statements (map does body) a b l
-does_block body place =
-    listed (s.Block body place) (Statement-F.Block body place) (rolls-Block body place)
-    (list_all_statements (map does body)) (ap list_all_statements (many body))
+does_block body place = listed _ (rolls-Block body place) (ap list_all_statements (many body))
 
 abbrev declared : List (Declaration Form) → Does
 declared ds around base m = declare_all ds around.scene base m
@@ -119,24 +116,17 @@ pub does_variables : (declarations : List (Declaration Expression)) (place : Pla
     (b : ℕ) (l : Listing) → does (s.Variables declarations place) a b l
     ≡ declare_all (map declaration_of declarations) a.scene b l
 does_variables declarations place =
-    listed (s.Variables declarations place) (Statement-F.Variables declarations place)
-    (rolls-Variables declarations place) (declared (map declaration_of declarations))
-    (variables_layer declarations place)
+    listed _ (rolls-Variables declarations place) (variables_layer declarations place)
 
 pub does_empty : (place : Place) (a : Around) (b : ℕ) (l : Listing)
     → does (s.Empty place) a b l ≡ (λ (around : Around) (base : ℕ) (m : Listing). m) a b l
-does_empty place =
-    listed (s.Empty place) (Statement-F.Empty place) (rolls-Empty place)
-    ((λ (around : Around) (base : ℕ) (m : Listing). m)) (refl)
+does_empty place = listed _ (rolls-Empty place) refl
 
 pub does_expression : (value : Expression) (place : Place) (a : Around) (b : ℕ) (l : Listing)
     → does (s.Expression value place) a b l
     ≡ (λ (around : Around) (base : ℕ) (m : Listing).
     (value_of (form value) around.scene (restarted base m)).listing) a b l
-does_expression value place =
-    listed (s.Expression value place) (Statement-F.Expression value place)
-    (rolls-Expression value place) ((λ (around : Around) (base : ℕ) (m : Listing).
-    (value_of (form value) around.scene (restarted base m)).listing)) (refl)
+does_expression value place = listed _ (rolls-Expression value place) refl
 
 if_layer : (condition : Expression) (then : Statement) (otherwise : Option Statement)
     (place : Place) → statement_level (layer (Statement-F.If condition then otherwise place))
@@ -148,33 +138,24 @@ pub does_if_alone : (condition : Expression) (then : Statement) (place : Place) 
     (l : Listing) → does (s.If condition then None place) a b l
     ≡ list_if_alone (form condition) (does then) place a b l
 does_if_alone condition then place =
-    listed (s.If condition then None place) (Statement-F.If condition then None place)
-    (rolls-If condition then None place) (list_if (form condition) (does then) None place)
-    (if_layer condition then None place)
+    listed _ (rolls-If condition then None place) (if_layer condition then None place)
 
 pub does_if_else : (condition : Expression) (then otherwise : Statement) (place : Place)
     (a : Around) (b : ℕ) (l : Listing) → does (s.If condition then (Some otherwise) place) a b l
     ≡ list_else (does otherwise) a b (list_then (form condition) (does then) place a b l)
 does_if_else condition then otherwise place =
-    listed (s.If condition then (Some otherwise) place)
-    (Statement-F.If condition then (Some otherwise) place)
-    (rolls-If condition then (Some otherwise) place)
-    (list_if (form condition) (does then) (Some (does otherwise)) place)
+    listed _ (rolls-If condition then (Some otherwise) place)
     (if_layer condition then (Some otherwise) place)
 
 pub does_do : (body : Statement) (condition : Expression) (place : Place) (a : Around) (b : ℕ)
     (l : Listing) → does (s.Do body condition place) a b l
     ≡ list_do (does body) (form condition) place a b l
-does_do body condition place =
-    listed (s.Do body condition place) (Statement-F.Do body condition place)
-    (rolls-Do body condition place) (list_do (does body) (form condition) place) (refl)
+does_do body condition place = listed _ (rolls-Do body condition place) refl
 
 pub does_while : (condition : Expression) (body : Statement) (place : Place) (a : Around) (b : ℕ)
     (l : Listing) → does (s.While condition body place) a b l
     ≡ list_while (form condition) (does body) place a b l
-does_while condition body place =
-    listed (s.While condition body place) (Statement-F.While condition body place)
-    (rolls-While condition body place) (list_while (form condition) (does body) place) (refl)
+does_while condition body place = listed _ (rolls-While condition body place) refl
 
 for_layer : (head : ForFirst Expression) (condition update : Option Expression) (body : Statement)
     (place : Place) → statement_level (layer (Statement-F.For head condition update body place))
@@ -208,10 +189,8 @@ pub does_for : (head : ForFirst Expression) (condition update : Option Expressio
     ≡ list_for (for_first_of head) (option_map form condition) (option_map form update) (does body)
     place a b l
 does_for head condition update body place =
-    listed (s.For head condition update body place)
-    (Statement-F.For head condition update body place) (rolls-For head condition update body place)
-    (list_for (for_first_of head) (option_map form condition) (option_map form update) (does body)
-    place) (for_layer head condition update body place)
+    listed _ (rolls-For head condition update body place)
+    (for_layer head condition update body place)
 
 variable_layer : (n : Name) (i : Option (Initialiser Expression)) (object : Expression)
     (body : Statement) (place : Place) → statement_level
@@ -233,10 +212,7 @@ pub does_for_in_variable : (d : Declaration Expression) (object : Expression) (b
     → does (s.ForIn (target.Variable d) object body place) a b l
     ≡ list_for_in (target.Variable (declaration_of d)) (form object) (does body) place a b l
 does_for_in_variable d object body place =
-    listed (s.ForIn (target.Variable d) object body place)
-    (Statement-F.ForIn (target.Variable d) object body place)
-    (rolls-ForIn (target.Variable d) object body place)
-    (list_for_in (target_of (target.Variable d)) (form object) (does body) place)
+    listed _ (rolls-ForIn (target.Variable d) object body place)
     (for_in_layer (target.Variable d) object body place)
 
 pub does_for_in : (goal : ForTarget Expression) (object : Expression) (body : Statement)
@@ -244,25 +220,17 @@ pub does_for_in : (goal : ForTarget Expression) (object : Expression) (body : St
     → does (s.ForIn goal object body place) a b l
     ≡ list_for_in (target_of goal) (form object) (does body) place a b l
 does_for_in goal object body place =
-    listed (s.ForIn goal object body place) (Statement-F.ForIn goal object body place)
-    (rolls-ForIn goal object body place) (list_for_in (target_of goal) (form object) (does body)
-    place) (for_in_layer goal object body place)
+    listed _ (rolls-ForIn goal object body place) (for_in_layer goal object body place)
 
 pub does_continue : (label : Option Name) (place : Place) (a : Around) (b : ℕ) (l : Listing)
     → does (s.Continue label place) a b l ≡ (λ (around : Around) (base : ℕ) (m : Listing).
     jump_to around.scene place (continue_target (label_text label)) around.ways (leaving m)) a b l
-does_continue label place =
-    listed (s.Continue label place) (Statement-F.Continue label place) (rolls-Continue label place)
-    ((λ (around : Around) (base : ℕ) (m : Listing).
-    jump_to around.scene place (continue_target (label_text label)) around.ways (leaving m))) (refl)
+does_continue label place = listed _ (rolls-Continue label place) refl
 
 pub does_break : (label : Option Name) (place : Place) (a : Around) (b : ℕ) (l : Listing)
     → does (s.Break label place) a b l ≡ (λ (around : Around) (base : ℕ) (m : Listing).
     jump_to around.scene place (break_target (label_text label)) around.ways (leaving m)) a b l
-does_break label place =
-    listed (s.Break label place) (Statement-F.Break label place) (rolls-Break label place)
-    ((λ (around : Around) (base : ℕ) (m : Listing).
-    jump_to around.scene place (break_target (label_text label)) around.ways (leaving m))) (refl)
+does_break label place = listed _ (rolls-Break label place) refl
 
 return_layer : (value : Option Expression) (place : Place)
     → statement_level (layer (Statement-F.Return value place))
@@ -272,31 +240,23 @@ return_layer (Some value) place = refl
 
 pub does_return : (value : Option Expression) (place : Place) (a : Around) (b : ℕ) (l : Listing)
     → does (s.Return value place) a b l ≡ list_return (option_map form value) place a b l
-does_return value place =
-    listed (s.Return value place) (Statement-F.Return value place) (rolls-Return value place)
-    (list_return (option_map form value) place) (return_layer value place)
+does_return value place = listed _ (rolls-Return value place) (return_layer value place)
 
 pub does_labelled : (label : Name) (body : Statement) (a : Around) (b : ℕ) (l : Listing)
     → does (s.Labelled label body) a b l ≡ list_labelled label (does body) a b l
-does_labelled label body =
-    listed (s.Labelled label body) (Statement-F.Labelled label body) (rolls-Labelled label body)
-    (list_labelled label (does body)) (refl)
+does_labelled label body = listed _ (rolls-Labelled label body) refl
 
 pub does_switch : (value : Expression) (cases : List Case) (place : Place) (a : Around) (b : ℕ)
     (l : Listing) → does (s.Switch value cases place) a b l
     ≡ list_switch (form value) (map clause_of cases) place a b l
 does_switch value cases place =
-    listed (s.Switch value cases place) (Statement-F.Switch value cases place)
-    (rolls-Switch value cases place) (list_switch (form value) (map clause_of cases) place)
+    listed _ (rolls-Switch value cases place)
     (ap (λ (cs : List Clause). list_switch (form value) cs place) (clauses_are cases))
 
 pub does_throw : (value : Expression) (place : Place) (a : Around) (b : ℕ) (l : Listing)
     → does (s.Throw value place) a b l ≡ (λ (around : Around) (base : ℕ) (m : Listing).
     list_throw (form value) place around.scene base m) a b l
-does_throw value place =
-    listed (s.Throw value place) (Statement-F.Throw value place) (rolls-Throw value place)
-    ((λ (around : Around) (base : ℕ) (m : Listing).
-    list_throw (form value) place around.scene base m)) (refl)
+does_throw value place = listed _ (rolls-Throw value place) refl
 
 try_layer : (block : List Statement) (caught : Option (CatchOf Statement))
     (finally : Option (List Statement)) (place : Place)
@@ -339,12 +299,8 @@ pub does_try : (block : List Statement) (caught : Option (CatchOf Statement))
     ≡ list_try (map does block) (option_map catch_of caught) (option_map (map does) finally) place a
     b l
 does_try block caught finally place =
-    listed (s.Try block caught finally place) (Statement-F.Try block caught finally place)
-    (rolls-Try block caught finally place) (list_try (map does block) (option_map catch_of caught)
-    (option_map (map does) finally) place) (try_layer block caught finally place)
+    listed _ (rolls-Try block caught finally place) (try_layer block caught finally place)
 
 pub does_function : (function : FunctionOf Statement) (a : Around) (b : ℕ) (l : Listing)
     → does (s.Function function) a b l ≡ (λ (around : Around) (base : ℕ) (m : Listing). m) a b l
-does_function function =
-    listed (s.Function function) (Statement-F.Statement::Function function)
-    (rolls-Function function) ((λ (around : Around) (base : ℕ) (m : Listing). m)) (refl)
+does_function function = listed _ (rolls-Function function) refl

@@ -10,7 +10,7 @@ use Rattle.ja_syntax.specs.declared.tree.FunctionOf.{FunctionOf}
 use Rattle.ja_syntax.specs.declared.tree.CatchOf.{CatchOf}
 use Rattle.ja_syntax.specs.declared.tree.Name.{Name}
 use Rattle.ja_syntax.specs.declared.tree.Case.{Case, out-Case}
-use Rattle.ja_syntax.specs.declared.tree.Statement.{Statement}
+use Rattle.ja_syntax.specs.declared.tree.Statement.{Statement, roll-Statement}
 use Rattle.ja_syntax.specs.declared.tree.Statement.TheVariants as s
 use Rattle.ja_syntax.specs.declared.tree.Statement.TheVariants.{rolls-Block, rolls-Variables, rolls-Empty, rolls-Expression, rolls-If, rolls-Do, rolls-While, rolls-For, rolls-ForIn, rolls-Continue, rolls-Break, rolls-Return, rolls-Labelled, rolls-Throw, rolls-Function, rolls-Switch, rolls-Try}
 use Rattle.ja_syntax.specs.declared.tree.Expression.{Expression}
@@ -22,141 +22,90 @@ all_map : (xs : List Statement) (f : Statement → Judged) (around : Around)
 all_map [] f around = refl
 all_map (x ∷ xs) f around = ap (λ b. f x around && b) (all_map xs f around)
 
-at : {a b : Judged} → a ≡ b → (around : Around) → a around ≡ b around
-at e around = ap (λ judged. judged around) e
+-- a level of a statement, with how the jumps of each part are in its place
+abbrev layer : Statement-F Expression Statement Case → Statement-F (Unit {0}) Judged Judged
+layer =
+    map-Statement Expression Statement Case (Unit {0}) Judged Judged (λ expression. tt) jumps_well
+    (fold-Case (Unit {0}) Judged Judged (λ expression. tt) jumps_step jumps_in_case)
+
+jumps_as : {x : Statement} (y : Statement-F Expression Statement Case) → roll-Statement y ≡ x
+    → (around : Around) → jumps_well x around ≡ jumps_step (layer y) around
+unfolding jumps_well
+jumps_as y rolled around =
+    ap (λ (j : Judged). j around) (ap jumps_well (sym rolled)
+    ∙ fold-roll-Statement (Unit {0}) Judged Judged (λ expression. tt) jumps_step jumps_in_case y)
 
 pub jumps_block : (body : List Statement) (place : Place) (around : Around)
     → jumps_well (s.Block body place) around
     ≡ list_all (λ statement. jumps_well statement (within around)) body
-unfolding jumps_well
 jumps_block body place around =
-    at (ap jumps_well (sym (rolls-Block body place))
-    ∙ fold-roll-Statement (Unit {0}) Judged Judged (λ expression. tt) jumps_step jumps_in_case
-    (Statement-F.Block body place)) around ∙ all_map body jumps_well (within around)
+    jumps_as _ (rolls-Block body place) around ∙ all_map body jumps_well (within around)
 
 pub jumps_variables : (declarations : List (Declaration Expression)) (place : Place)
     (around : Around) → jumps_well (s.Variables declarations place) around ≡ true
-unfolding jumps_well
-jumps_variables declarations place around =
-    at (ap jumps_well (sym (rolls-Variables declarations place))
-    ∙ fold-roll-Statement (Unit {0}) Judged Judged (λ expression. tt) jumps_step jumps_in_case
-    (Statement-F.Variables declarations place)) around
+jumps_variables declarations place around = jumps_as _ (rolls-Variables declarations place) around
 
 pub jumps_empty : (place : Place) (around : Around) → jumps_well (s.Empty place) around ≡ true
-unfolding jumps_well
-jumps_empty place around =
-    at (ap jumps_well (sym (rolls-Empty place))
-    ∙ fold-roll-Statement (Unit {0}) Judged Judged (λ expression. tt) jumps_step jumps_in_case
-    (Statement-F.Empty place)) around
+jumps_empty place around = jumps_as _ (rolls-Empty place) around
 
 pub jumps_expression : (value : Expression) (place : Place) (around : Around)
     → jumps_well (s.Expression value place) around ≡ true
-unfolding jumps_well
-jumps_expression value place around =
-    at (ap jumps_well (sym (rolls-Expression value place))
-    ∙ fold-roll-Statement (Unit {0}) Judged Judged (λ expression. tt) jumps_step jumps_in_case
-    (Statement-F.Expression value place)) around
+jumps_expression value place around = jumps_as _ (rolls-Expression value place) around
 
 pub jumps_do : (body : Statement) (condition : Expression) (place : Place) (around : Around)
     → jumps_well (s.Do body condition place) around ≡ jumps_well body (within_loop around)
-unfolding jumps_well
-jumps_do body condition place around =
-    at (ap jumps_well (sym (rolls-Do body condition place))
-    ∙ fold-roll-Statement (Unit {0}) Judged Judged (λ expression. tt) jumps_step jumps_in_case
-    (Statement-F.Do body condition place)) around
+jumps_do body condition place around = jumps_as _ (rolls-Do body condition place) around
 
 pub jumps_while : (condition : Expression) (body : Statement) (place : Place) (around : Around)
     → jumps_well (s.While condition body place) around ≡ jumps_well body (within_loop around)
-unfolding jumps_well
-jumps_while condition body place around =
-    at (ap jumps_well (sym (rolls-While condition body place))
-    ∙ fold-roll-Statement (Unit {0}) Judged Judged (λ expression. tt) jumps_step jumps_in_case
-    (Statement-F.While condition body place)) around
+jumps_while condition body place around = jumps_as _ (rolls-While condition body place) around
 
 pub jumps_for : (before : ForFirst Expression) (condition update : Option Expression)
     (body : Statement) (place : Place) (around : Around)
     → jumps_well (s.For before condition update body place) around
     ≡ jumps_well body (within_loop around)
-unfolding jumps_well
 jumps_for before condition update body place around =
-    at (ap jumps_well (sym (rolls-For before condition update body place))
-    ∙ fold-roll-Statement (Unit {0}) Judged Judged (λ expression. tt) jumps_step jumps_in_case
-    (Statement-F.For before condition update body place)) around
+    jumps_as _ (rolls-For before condition update body place) around
 
 pub jumps_for_in : (goal : ForTarget Expression) (object : Expression) (body : Statement)
     (place : Place) (around : Around) → jumps_well (s.ForIn goal object body place) around
     ≡ jumps_well body (within_loop around)
-unfolding jumps_well
-jumps_for_in goal object body place around =
-    at (ap jumps_well (sym (rolls-ForIn goal object body place))
-    ∙ fold-roll-Statement (Unit {0}) Judged Judged (λ expression. tt) jumps_step jumps_in_case
-    (Statement-F.ForIn goal object body place)) around
+jumps_for_in goal object body place around = jumps_as _ (rolls-ForIn goal object body place) around
 
 pub jumps_continue : (label : Option Name) (place : Place) (around : Around)
     → jumps_well (s.Continue label place) around ≡ may_continue label around
-unfolding jumps_well
-jumps_continue label place around =
-    at (ap jumps_well (sym (rolls-Continue label place))
-    ∙ fold-roll-Statement (Unit {0}) Judged Judged (λ expression. tt) jumps_step jumps_in_case
-    (Statement-F.Continue label place)) around
+jumps_continue label place around = jumps_as _ (rolls-Continue label place) around
 
 pub jumps_break : (label : Option Name) (place : Place) (around : Around)
     → jumps_well (s.Break label place) around ≡ may_break label around
-unfolding jumps_well
-jumps_break label place around =
-    at (ap jumps_well (sym (rolls-Break label place))
-    ∙ fold-roll-Statement (Unit {0}) Judged Judged (λ expression. tt) jumps_step jumps_in_case
-    (Statement-F.Break label place)) around
+jumps_break label place around = jumps_as _ (rolls-Break label place) around
 
 pub jumps_return : (value : Option Expression) (place : Place) (around : Around)
     → jumps_well (s.Return value place) around ≡ around.in_function
-unfolding jumps_well
-jumps_return value place around =
-    at (ap jumps_well (sym (rolls-Return value place))
-    ∙ fold-roll-Statement (Unit {0}) Judged Judged (λ expression. tt) jumps_step jumps_in_case
-    (Statement-F.Return value place)) around
+jumps_return value place around = jumps_as _ (rolls-Return value place) around
 
 pub jumps_labelled : (label : Name) (body : Statement) (around : Around)
     → jumps_well (s.Labelled label body) around
     ≡ (not (is_among label.text around.labels) && jumps_well body (labelled label.text around))
-unfolding jumps_well
-jumps_labelled label body around =
-    at (ap jumps_well (sym (rolls-Labelled label body))
-    ∙ fold-roll-Statement (Unit {0}) Judged Judged (λ expression. tt) jumps_step jumps_in_case
-    (Statement-F.Labelled label body)) around
+jumps_labelled label body around = jumps_as _ (rolls-Labelled label body) around
 
 pub jumps_throw : (value : Expression) (place : Place) (around : Around)
     → jumps_well (s.Throw value place) around ≡ true
-unfolding jumps_well
-jumps_throw value place around =
-    at (ap jumps_well (sym (rolls-Throw value place))
-    ∙ fold-roll-Statement (Unit {0}) Judged Judged (λ expression. tt) jumps_step jumps_in_case
-    (Statement-F.Throw value place)) around
+jumps_throw value place around = jumps_as _ (rolls-Throw value place) around
 
 pub jumps_function : (function : FunctionOf Statement) (around : Around)
     → jumps_well (s.Function function) around ≡ around.at_top
-unfolding jumps_well
-jumps_function function around =
-    at (ap jumps_well (sym (rolls-Function function))
-    ∙ fold-roll-Statement (Unit {0}) Judged Judged (λ expression. tt) jumps_step jumps_in_case
-    (Statement-F.Statement::Function function)) around
+jumps_function function around = jumps_as _ (rolls-Function function) around
 
 pub jumps_if : (condition : Expression) (then : Statement) (place : Place) (around : Around)
     → jumps_well (s.If condition then None place) around ≡ (jumps_well then (within around) && true)
-unfolding jumps_well
-jumps_if condition then place around =
-    at (ap jumps_well (sym (rolls-If condition then None place))
-    ∙ fold-roll-Statement (Unit {0}) Judged Judged (λ expression. tt) jumps_step jumps_in_case
-    (Statement-F.If condition then None place)) around
+jumps_if condition then place around = jumps_as _ (rolls-If condition then None place) around
 
 pub jumps_if_else : (condition : Expression) (then otherwise : Statement) (place : Place)
     (around : Around) → jumps_well (s.If condition then (Some otherwise) place) around
     ≡ (jumps_well then (within around) && jumps_well otherwise (within around))
-unfolding jumps_well
 jumps_if_else condition then otherwise place around =
-    at (ap jumps_well (sym (rolls-If condition then (Some otherwise) place))
-    ∙ fold-roll-Statement (Unit {0}) Judged Judged (λ expression. tt) jumps_step jumps_in_case
-    (Statement-F.If condition then (Some otherwise) place)) around
+    jumps_as _ (rolls-If condition then (Some otherwise) place) around
 
 -- the statements of a clause, by what is around the clause
 abbrev pub case_jumps : Around → Case → Bool
@@ -173,12 +122,11 @@ pub jumps_switch : (value : Expression) (cases : List Case) (place : Place) (aro
     ≡ list_all (case_jumps (within_switch around)) cases
 unfolding jumps_well
 jumps_switch value cases place around =
-    at (ap jumps_well (sym (rolls-Switch value cases place))
-    ∙ fold-roll-Statement (Unit {0}) Judged Judged (λ expression. tt) jumps_step jumps_in_case
-    (Statement-F.Switch value cases place)) around
+    jumps_as _ (rolls-Switch value cases place) around
     ∙ all_cases _ (within_switch around) (λ c.
-    at (fold_out-Case (Unit {0}) Judged Judged (λ expression. tt) jumps_step jumps_in_case c)
-    (within_switch around) ∙ all_map (out-Case c).body jumps_well (within_switch around)) cases
+    ap (λ (j : Judged). j (within_switch around))
+    (fold_out-Case (Unit {0}) Judged Judged (λ expression. tt) jumps_step jumps_in_case c)
+    ∙ all_map (out-Case c).body jumps_well (within_switch around)) cases
 
 abbrev pub catch_jumps : Around → Option (CatchOf Statement) → Bool
 catch_jumps around None = true
@@ -190,9 +138,7 @@ finally_jumps around (Some body) = list_all (λ statement. jumps_well statement 
 
 try_parts : (block : List Statement) (catch : Option (CatchOf Statement))
     (finally : Option (List Statement)) (place : Place) (around : Around)
-    → jumps_step (map-Statement Expression Statement Case (Unit {0}) Judged Judged
-    (λ expression. tt) jumps_well (fold-Case (Unit {0}) Judged Judged (λ expression. tt)
-    jumps_step jumps_in_case) (Statement-F.Try block catch finally place)) around
+    → jumps_step (layer (Statement-F.Try block catch finally place)) around
     ≡ (list_all (λ statement. jumps_well statement (within around)) block
     && catch_jumps (within around) catch && finally_jumps (within around) finally)
 try_parts block None None place around = rw (all_map block jumps_well (within around)) refl
@@ -213,8 +159,6 @@ pub jumps_try : (block : List Statement) (catch : Option (CatchOf Statement))
     → jumps_well (s.Try block catch finally place) around
     ≡ (list_all (λ statement. jumps_well statement (within around)) block
     && catch_jumps (within around) catch && finally_jumps (within around) finally)
-unfolding jumps_well
 jumps_try block catch finally place around =
-    at (ap jumps_well (sym (rolls-Try block catch finally place))
-    ∙ fold-roll-Statement (Unit {0}) Judged Judged (λ expression. tt) jumps_step jumps_in_case
-    (Statement-F.Try block catch finally place)) around ∙ try_parts block catch finally place around
+    jumps_as _ (rolls-Try block catch finally place) around
+    ∙ try_parts block catch finally place around
