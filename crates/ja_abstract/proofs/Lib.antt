@@ -10,6 +10,7 @@ pub mod Keys
 pub mod Labels
 pub mod Least
 pub mod Lists
+pub mod Numbers
 pub mod Order
 pub mod Parts
 pub mod Rounds

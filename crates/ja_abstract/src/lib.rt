@@ -9,7 +9,8 @@
 //! state read through a later one (`Composed`); the contents of the opening heap (`Contents`).
 //!
 //! Laws: values, properties and states are ordered by what they have, and their joins are the least
-//! upper bounds (`order_laws.rt`).
+//! upper bounds (`order_laws.rt`); registers, labels and keys have the numbers that they are named
+//! by (`number_laws.rt`).
 //!
 //! Proved, as lemmas: a join is above what it joins and has each part that one of the two has;
 //! operators on abstract primitives cover those on primitives; the keys and the labels of a program
@@ -17,7 +18,9 @@
 #![tactic(auto)]
 
 mod abstraction;
+mod number_laws;
 mod order_laws;
 
 pub use abstraction::{AAttrs, Flags, Key, Mask, May, NumberPart, Slot, TextPart};
+pub use number_laws::{labels_and_keys_are_told_apart, labels_are_in_order, registers_are_named};
 pub use order_laws::{classes_are_ordered, joins_are_least, order_is_by_parts, parts_are_ordered};
