@@ -9,7 +9,7 @@ use Rattle.ja_machine.specs.Nodes.{name_text}
 use Rattle.ja_abstract.specs.declared.abstraction.Key.{Key}
 use Rattle.ja_abstract.specs.declared.abstraction.Key.TheVariants as key
 use Rattle.ja_abstract.specs.declared.abstraction.TextPart.TheVariants as text_part
-use Rattle.ja_abstract.specs.AbstractValue.{Labels, AbstractValue, AbstractProperty, join, join_properties, present_part, is_present, no_value, null_value, no_property, absent_property, of_labels}
+use Rattle.ja_abstract.specs.AbstractValue.{Labels, AbstractValue, AbstractProperty, same_label, join, join_properties, present_part, is_present, no_value, null_value, no_property, absent_property, of_labels}
 use Rattle.ja_abstract.specs.AbstractState.{AbstractState, labels_of}
 use Rattle.ja_abstract.specs.Resolved.{Entries, Demands, resolved, demands_of, reached, join_all, join_values, prototype, outer}
 use Rattle.ja_abstract.specs.Keys.{text_keys}
@@ -118,7 +118,7 @@ may_accept q = q.attrs.read_only.unset || q.value.flags.absent
 -- ---- scope chains
 
 abbrev pub one_label : Label → Labels
-one_label = Rattle.ja_abstract.specs.AbstractValue.same_label
+one_label = same_label
 
 -- the object of a scope that may lack a name leads to the next
 abbrev pub next_scope : View → List Key → Label → Labels
