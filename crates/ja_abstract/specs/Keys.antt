@@ -128,8 +128,3 @@ text_keys p = filter is_text_key (keys_of p)
 
 abbrev pub is_among_keys : List Key → Key → Bool
 is_among_keys keys k = list_any (λ (j : Key). same_key j k) keys
-
--- just one name: where a write may be strong
-abbrev pub is_one_name : List Key → Bool
-is_one_name (key.Name n ∷ []) = true
-is_one_name keys = false

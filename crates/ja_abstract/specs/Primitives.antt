@@ -299,10 +299,6 @@ abbrev pub is_nothing_atom : Atom → Bool
 is_nothing_atom (exactly q) = is_nothing q
 is_nothing_atom a = false
 
-abbrev pub operand_atom : Operand → Atom
-operand_atom (Some n) = exactly (primitive.Number n)
-operand_atom None = whole
-
 -- the atoms of a converted atom
 abbrev pub on_converted : (Atom → Atom → Abstracted) → Atom → Atom → Abstracted
 on_converted f a b =
