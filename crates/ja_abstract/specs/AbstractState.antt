@@ -9,6 +9,7 @@ use Rattle.ja_prim.specs.declared.primitive.Num.TheVariants.{Whole}
 use Rattle.ja_prim.specs.declared.primitive.Primitive.TheVariants.{Number}
 use Rattle.ja_graph.specs.declared.program.Program.{Program}
 use Rattle.ja_graph.specs.Program.{global}
+use Rattle.ja_graph.specs.declared.registers.TheConstants.{COUNT, SCOPE, THIS}
 use Rattle.ja_abstract.specs.declared.abstraction.Mask.{Mask}
 use Rattle.ja_abstract.specs.declared.abstraction.Slot.{Slot}
 use Rattle.ja_abstract.specs.declared.abstraction.Slot.TheVariants as slot
@@ -95,8 +96,8 @@ join_masks a b = record { none = a.none || b.none; some = a.some || b.some }
 -- at a function's entry each property is as it was, and nothing was made
 abbrev pub entry_registers : ℕ → AbstractValue
 entry_registers r =
-    if r == 1 then of_label (new global) else if r == 2 then of_label (new global) else if r == 4
-    then of_primitive (Number (Whole (pos 0))) else undefined_value
+    if r == THIS.0 then of_label (new global) else if r == SCOPE.0 then of_label (new global)
+    else if r == COUNT.0 then of_primitive (Number (Whole (pos 0))) else undefined_value
 
 abbrev pub entry_state : AbstractState
 entry_state =

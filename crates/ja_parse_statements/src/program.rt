@@ -3,6 +3,7 @@
 ghost use Rattle.ja_grammar.specs.code.Contexts.{context_of};
 ghost use Rattle.ja_grammar.specs.Input.{strict};
 ghost use Rattle.ja_grammar.specs.code.Input.{Follows};
+ghost use Rattle.ja_grammar.specs.Language.{max_levels};
 ghost use Rattle.ja_grammar.specs.ReadStatement as spec;
 ghost use Rattle.ja_grammar.specs.ReadStatement.{below};
 
@@ -41,7 +42,7 @@ fn statement_at(
 /// before it. `Memory` comes only where memory was refused.
 #[tactic(auto, unfolding(ja_grammar::specs::ReadStatement::program))]
 pub fn read_program(alloc: Global, cursor: &mut Cursor<'_>) -> Result<Items<Statement>, Stop>
-    ensures { Follows (spec.program strict 200 cursor.old) result cursor.new }
+    ensures { Follows (spec.program strict max_levels cursor.old) result cursor.new }
 {
     let context = program_context(alloc);
     Grammar {
