@@ -6,7 +6,8 @@ ghost use Rattle.ja_abstract.specs.Reading.{View};
 ghost use Rattle.ja_meaning.specs.OperatorLaws.{UnaryIsCovered, BinaryIsCovered};
 ghost use Rattle.ja_meaning.specs.OperatorLaws.{UnaryMayStop, BinaryMayStop};
 ghost use Rattle.ja_meaning.specs.OperatorLaws.{UnaryIsExact, BinaryIsExact};
-ghost use Rattle.ja_meaning.specs.OperatorLaws.{IsLabelOf, AreEqualByLabels, IsToldByLabel};
+ghost use Rattle.ja_meaning.specs.OperatorLaws.{IsUnsigned, IsLabelOf};
+ghost use Rattle.ja_meaning.specs.OperatorLaws.{AreEqualByLabels, IsToldByLabel};
 
 /// Of values that abstract values have, primitives or objects, the result of the machine's operator
 /// is in what the abstract operator gives of these; or the machine stops, and the abstract operator
@@ -22,6 +23,12 @@ pub fn operators_cover()
 pub fn operators_are_exact()
     ensures unary { UnaryIsExact }
     ensures binary { BinaryIsExact }
+{}
+
+/// The unsigned number of 32 bits of each number that a value has is in what is given of the value,
+/// and of one number just that is given.
+pub fn unsigned_numbers_are_told()
+    ensures { IsUnsigned }
 {}
 
 /// What the operators give of objects is told by their labels.
