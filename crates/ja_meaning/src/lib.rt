@@ -25,6 +25,7 @@ pub use operation_laws::{
     sites_are_told,
 };
 pub use operator_laws::{
-    labels_are_told, operators_are_exact, operators_cover, unsigned_numbers_are_told,
+    inequality_is_turned, labels_are_told, operators_are_exact, operators_cover,
+    unsigned_numbers_are_told,
 };
 pub use renaming_laws::renaming_is_by_origins;
