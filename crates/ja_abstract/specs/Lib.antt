@@ -9,7 +9,6 @@ pub mod Order
 pub mod OrderLaws
 pub mod Parts
 pub mod Primitives
-pub mod Profile
 pub mod Reading
 pub mod Resolved
 pub mod Values

@@ -1,17 +1,12 @@
 -- The abstract operations of the built-in functions: what each gives of abstract values, and what
 -- it demands (ES3 15.2.4, 15.3.4.3, 15.7.4.2, and the internal properties of 8.6.2).
-use Rattle.std.specs.Prelude.{ℕ, pos, Bool, false, not, ◌&&◌, ◌||◌, if◌then◌else◌, ◌==◌, nat_le, List, [], ◌∷◌, map, slice_get, Some}
-use Rattle.std.specs.List.{list_any}
+use Rattle.std.specs.Prelude.{ℕ, pos, Bool, not, ◌&&◌, ◌||◌, if◌then◌else◌, nat_le, List, [], ◌∷◌, map, slice_get, Some}
 use Rattle.std.specs.Option.{option_map_or}
 use Rattle.ja_base.specs.declared.ids.Label.{Label}
-use Rattle.ja_base.specs.declared.ids.Site.{Site}
 use Rattle.ja_prim.specs.declared.primitive.Num.TheVariants.{Whole}
 use Rattle.ja_prim.specs.declared.primitive.Primitive.TheVariants as primitive
-use Rattle.ja_graph.specs.declared.node.Node.{Node}
-use Rattle.ja_graph.specs.declared.node.Node.TheVariants as node
-use Rattle.ja_graph.specs.declared.node.NodeInfo.{NodeInfo}
-use Rattle.ja_graph.specs.declared.program.Function.{Function}
 use Rattle.ja_graph.specs.declared.program.Program.{Program}
+use Rattle.ja_graph.specs.Program.{is_arguments_site}
 use Rattle.ja_machine.specs.Intrinsics.{class_name, radix_text}
 use Rattle.ja_machine.specs.Machine.{class_of_site}
 use Rattle.ja_abstract.specs.declared.abstraction.Key.{Key}
@@ -101,16 +96,6 @@ inherits w v o = record {
 }
 
 -- ---- arrays and arguments objects
-
-abbrev pub makes_arguments : Site → Node → Bool
-makes_arguments s (node.Enter site (Some list)) = list.0 == s.0
-makes_arguments s n = false
-
--- the site is that of a function's arguments objects
-abbrev pub is_arguments_site : Program → Site → Bool
-is_arguments_site p s =
-    list_any (λ (f : Function). list_any (λ (i : NodeInfo). makes_arguments s i.node) f.nodes)
-    p.functions
 
 abbrev pub is_list_label : Program → Labels
 is_list_label p l = is_array_label p l || is_arguments_site p l.site

@@ -4,45 +4,49 @@
 use crate::out::Out;
 use ja_base::{FnId, NodeId, Reg, Seq, Site};
 use ja_graph::{
-    Function, Hint, MATH, Node, Program, all_registers_below, is_function_well_formed, well_formed,
+    Function, Hint, IS_NAN, MATH, Node, Program, all_registers_below, is_function_well_formed, well_formed,
 };
 use ja_prim::Text16;
 use std::alloc::Global;
 use std::mem;
 
-/// Tells of the site of `Math` that it has these functions.
-fn tell_of_math(
+/// Tells of a site that it has these functions.
+fn tell_of(
     alloc: Global,
     program: &mut Program,
+    site: Site,
     owner: Option<FnId>,
     calls: Option<FnId>,
     constructs: Option<FnId>,
 ) {
     let mut sites = mem::replace(&mut program.sites, Seq::new(alloc)).into_vec();
-    if let Some(math) = sites.get_mut(MATH.0 as usize) {
-        math.owner = owner;
-        math.calls = calls;
-        math.constructs = constructs;
+    if let Some(told) = sites.get_mut(site.0 as usize) {
+        told.owner = owner;
+        told.calls = calls;
+        told.constructs = constructs;
     }
     program.sites = Seq::from_vec(sites);
 }
 
-/// Functions of sites are those of the program, and a site without a node has no owner. Nothing is
-/// told of `Math` behind these.
+/// Functions of sites are those of the program, a site without a node has no owner, and what runs a
+/// function has a scope, as `isNaN` has and `Math` doesn't. Nothing is told of both behind these.
 fn sites(out: &mut Out, program: &mut Program) {
     let (here, none) = (Some(FnId(0)), Some(FnId(99)));
     for (label, owner, calls, constructs) in [
-        ("Math is as it was", None, None, None),
-        ("Math calls and constructs by function 0", None, here, here),
-        ("Math calls by function 99", None, none, None),
-        ("Math constructs by function 99", None, None, none),
-        ("Math is made by function 0", here, None, None),
-        ("Math is made by function 99", none, None, None),
+        ("isNaN runs nothing", None, None, None),
+        ("isNaN calls and constructs by function 0", None, here, here),
+        ("isNaN calls by function 99", None, none, None),
+        ("isNaN constructs by function 99", None, None, none),
+        ("isNaN is made by function 0", here, None, None),
+        ("isNaN is made by function 99", none, None, None),
     ] {
-        tell_of_math(out.alloc, program, owner, calls, constructs);
+        tell_of(out.alloc, program, IS_NAN, owner, calls, constructs);
         out.line_of_bool(label, well_formed(program));
     }
-    tell_of_math(out.alloc, program, None, None, None);
+    tell_of(out.alloc, program, IS_NAN, None, None, None);
+    tell_of(out.alloc, program, MATH, None, here, None);
+    out.line_of_bool("Math calls without a scope", well_formed(program));
+    tell_of(out.alloc, program, MATH, None, None, None);
 }
 
 /// The first functions come from the text.

@@ -1,5 +1,5 @@
 -- What a node names: registers, names, functions, and the sites where it makes objects.
-use Rattle.std.specs.Prelude.{ℕ, Bool, true, false, ◌+◌, max, List, [], ◌∷◌, ◌++◌, map, Option, Some, None}
+use Rattle.std.specs.Prelude.{ℕ, Bool, true, false, ◌+◌, ◌==◌, max, List, [], ◌∷◌, ◌++◌, map, Option, Some, None}
 use Rattle.std.specs.List.{fold}
 use Rattle.std.specs.Option.{option_to_list}
 use Rattle.ja_base.specs.declared.ids.FnId.{FnId}
@@ -153,3 +153,8 @@ makings (node.Call dst callee receiver args error) = making error class.Error �
 makings (node.New dst callee args site error) =
     making site class.Object ∷ making error class.Error ∷ []
 makings _ = []
+
+-- whether a node makes arguments objects at a site (10.1.8)
+abbrev pub makes_arguments : Site → Node → Bool
+makes_arguments s (node.Enter site (Some arguments)) = arguments.0 == s.0
+makes_arguments s node = false

@@ -1,5 +1,5 @@
 -- What makes a program well formed.
-use Rattle.std.specs.Prelude.{◌≡◌, ◌<◌, ◌≤◌, ◌⊎◌, ◌+◌, ◌-◌, ℕ, suc, List, [], ◌∷◌, ◌++◌, map, Option, Some, None, IsSome, slice_get, length, take}
+use Rattle.std.specs.Prelude.{◌≡◌, ◌<◌, ◌≤◌, ◌⊎◌, ◌+◌, ◌-◌, ℕ, suc, List, [], ◌∷◌, ◌++◌, map, Option, Some, None, IsSome, IsTrue, slice_get, length, take}
 use Rattle.std.specs.Option.{option_map, option_to_list}
 use Rattle.std.specs.List.{AllByRecursion, flat_map, range_with_len}
 use Rattle.ja_base.specs.declared.ids.FnId.{FnId}
@@ -13,6 +13,7 @@ use Rattle.ja_graph.specs.declared.node.Node.{Node}
 use Rattle.ja_graph.specs.declared.node.Node.TheVariants.{Call, Escape, Intrinsic, Device}
 use Rattle.ja_graph.specs.declared.node.NodeInfo.{NodeInfo}
 use Rattle.ja_graph.specs.declared.program.Class.{Class}
+use Rattle.ja_graph.specs.declared.program.Class.TheVariants as classes
 use Rattle.ja_graph.specs.declared.program.Function.{Function}
 use Rattle.ja_graph.specs.declared.program.ObjectSpec.{ObjectSpec}
 use Rattle.ja_graph.specs.declared.program.PropertySpec.{PropertySpec}
@@ -21,7 +22,7 @@ use Rattle.ja_graph.specs.declared.program.SpecContent.TheVariants.{Object}
 use Rattle.ja_graph.specs.declared.program.SiteInfo.{SiteInfo}
 use Rattle.ja_graph.specs.declared.program.Program.{Program}
 use Rattle.ja_graph.specs.Node.{Making, register_set, registers_named, name_in, function_in, makings}
-use Rattle.ja_graph.specs.Program.{object_spec}
+use Rattle.ja_graph.specs.Program.{object_spec, runs_function}
 
 -- ---- the greatest numbers: of registers of a function, and of nodes, sites and names of a program
 
@@ -126,12 +127,14 @@ abbrev pub makings_from : ℕ → List Function → List OwnedMaking
 makings_from f [] = []
 makings_from f (fn ∷ fns) = makings_of f fn.nodes ++ makings_from (suc f) fns
 
--- the program tells the class and the owner of the site
+-- The program tells the class and the owner of the site. Of the objects that nodes make those that
+-- run a function are function objects (13.2).
 pub record IsSiteTold (p : Program) (m : OwnedMaking) : Type 0 where
   pub info : SiteInfo
   pub info_is : slice_get p.sites m.making.site.0 ≡ Some info
   pub class : info.class ≡ m.making.class
   pub owner : info.owner ≡ Some (record { 0 = m.owner })
+  pub runs : IsTrue (runs_function info) → m.making.class ≡ classes.Function
 
 -- the functions that are told of a site are those of the program: the one whose node has it, and
 -- those that are run where one of its objects is called and where it constructs
@@ -153,11 +156,14 @@ IsContent p (Object s) = s.0 < length p.opening
 IsContent p content = Unit {0}
 
 -- an object of the opening heap has a site without a node, its prototype and its scope stand before
--- it, and its properties have names of the program, each once
+-- it, one that runs a function has a scope (13.2), and its properties have names of the program,
+-- each once
 pub record IsObjectWellFormed (p : Program) (i : ℕ) (o : ObjectSpec) : Type 0 where
   pub site : o.site.0 < length p.opening
   pub prototype : (s : Site) → o.prototype ≡ Some s → StandsBefore p i s
   pub scope : (s : Site) → o.scope ≡ Some s → StandsBefore p i s
+  pub scoped : (info : SiteInfo) → slice_get p.sites o.site.0 ≡ Some info
+      → IsTrue (runs_function info) → IsSome o.scope
   pub names : (j : ℕ) (q : PropertySpec) → slice_get o.properties j ≡ Some q → IsName p q.name
   pub contents : (j : ℕ) (q : PropertySpec) → slice_get o.properties j ≡ Some q
       → IsContent p q.content

@@ -5,6 +5,7 @@ ghost use Rattle.ja_graph.specs.code.Parts as spec;
 ghost use Rattle.ja_graph.specs.Program.{object_spec};
 ghost use Rattle.ja_graph.specs.WellFormed as graph;
 
+use crate::well_formed_sites::runs_function;
 use crate::{ObjectSpec, Program, PropertySpec, SpecContent};
 use ja_base::{NameId, Site};
 
@@ -29,6 +30,16 @@ fn stands_before_if_any(program: &Program, i: usize, site: Option<Site>) -> bool
 {
     match site {
         Some(site) => stands_before(program, i, site),
+        None => true,
+    }
+}
+
+/// Whether an object has a scope, if it runs a function.
+fn has_scope(program: &Program, object: &ObjectSpec) -> bool
+    ensures { IsTrue result ↔ spec.HasScope program.now object.now }
+{
+    match program.sites.as_slice().get(object.site.0 as usize) {
+        Some(info) => object.scope.is_some() || !runs_function(info),
         None => true,
     }
 }
@@ -102,6 +113,7 @@ fn is_object_well_formed(program: &Program, i: usize, object: &ObjectSpec) -> bo
     (object.site.0 as usize) < program.opening.len()
         && stands_before_if_any(program, i, object.prototype)
         && stands_before_if_any(program, i, object.scope)
+        && has_scope(program, object)
         && have_names(program, properties)
         && have_contents(program, properties)
         && are_once(properties)

@@ -1,15 +1,24 @@
 //! Whether the sites of nodes are numbered in order, and told as what they are.
 
-ghost use Rattle.std.specs.Prelude.{◌↔◌, ◌<◌, ◌∷◌, [], IsTrue, length, map};
+ghost use Rattle.std.specs.Prelude.{◌≡◌, ◌↔◌, ◌<◌, ◌∷◌, [], IsTrue, length, map};
 ghost use Rattle.std.specs.List.{AllByRecursion};
 ghost use Rattle.ja_graph.specs.Node.{makings};
+ghost use Rattle.ja_graph.specs.Program.{runs_function};
 ghost use Rattle.ja_graph.specs.code.Parts as spec;
 ghost use Rattle.ja_graph.specs.WellFormed as graph;
 
 use crate::well_formed_nodes::is_function_if_any;
 use crate::{BUILTIN_CLASSES, Class, Making, Node, NodeInfo, Program, SiteInfo, makings};
 
-/// Whether the program tells that the function makes objects of the class at the site.
+/// Whether the objects of a site run a function, where they are called or where they construct.
+pub(crate) fn runs_function(info: &SiteInfo) -> bool
+    ensures { result ≡ runs_function info.now }
+{
+    info.calls.is_some() || info.constructs.is_some()
+}
+
+/// Whether the program tells that the function makes objects of the class at the site, and that
+/// they run a function only where they are function objects.
 fn is_site_told(program: &Program, owner: usize, making: &Making) -> bool
     ensures { IsTrue result ↔ graph.IsSiteTold program.now (graph.owned owner making.now) }
 {
@@ -20,6 +29,7 @@ fn is_site_told(program: &Program, owner: usize, making: &Making) -> bool
                     Some(function) => function.0 as usize == owner,
                     None => false,
                 }
+                && (making.class == Class::Function || !runs_function(info))
         }
         None => false,
     }

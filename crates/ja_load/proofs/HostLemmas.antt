@@ -1,7 +1,7 @@
 -- What a program has that begins with the built-in objects and those of devices: its objects are
 -- well formed, and its sites are told.
 use Rattle.std.proofs.Common.{◌≡◌, ℕ, zero, suc, ◌+◌, ◌-◌, ◌<◌, ◌≤◌, ◌==◌, Bool, true, false, cond, not, if◌then◌else◌, List, [], ◌∷◌, ◌++◌, length, map, filter, Some, None, refl, sym, ap, ◌∙◌, subst, ◌⊎◌, inl, inr, append_assoc, length-append, arith}
-use Rattle.std.specs.Prelude.{IsSome}
+use Rattle.std.specs.Prelude.{IsSome, Option}
 use Rattle.std.specs.List.{AllByRecursion, enumerate_from, find, slice_get}
 use Rattle.std.proofs.lemmas.Bool.{cases_lt}
 use Rattle.std.proofs.lemmas.List.{length-map}
@@ -346,7 +346,10 @@ builtin-well_formed : (p : Program) (own : ℕ) (signatures : List Signature) (o
     → IsBuiltIn p.names signatures i o → IsObjectWellFormed p i o
 builtin-well_formed p own signatures others has i o builtin =
     let b = builtin.object in
-    let is = objects_are_well_formed (plain_of p) i b refl has.many builtin.object_is in
+    let is = objects_are_well_formed (own + length signatures) (plain_of p)
+    (device_sites own signatures ++ others)
+    (has.sites ∙ append_assoc (builtin_sites (own + length signatures))
+    (device_sites own signatures) others) refl has.many i b builtin.object_is in
     let kept : IsKept p.names signatures b o = subst (IsKept p.names signatures b) builtin.same
     (builtin-kept p.names signatures b) in
     let may = may-hold p own signatures others has in
@@ -362,6 +365,9 @@ builtin-well_formed p own signatures others has i o builtin =
           λ s e. stands-before p signatures i s has.opening
           (is.prototype s (sym kept.prototype ∙ e));
       scope = λ s e. stands-before p signatures i s has.opening (is.scope s (sym kept.scope ∙ e));
+      scoped =
+          λ info told runs. subst (λ (x : Option Site). IsSome x) (sym kept.scope) (is.scoped info
+          (ap (λ (t : Site). slice_get p.sites t.0) (sym kept.site) ∙ told) runs);
       names = fit.names;
       contents = fit.contents;
       once = fit.once;
@@ -430,6 +436,7 @@ device-well_formed p own signatures others has i o device =
       scope =
           λ s e. subst (StandsBefore p i) (same_Some GLOBAL s e)
           (builtin-stands p signatures i GLOBAL has.opening (omega arith) behind);
+      scoped = λ info told runs. refl;
       names = λ j q is. let only = single j q is in
           subst (λ (r : PropertySpec). IsName p r.name) only.1 length_named;
       contents = λ j q is. let only = single j q is in

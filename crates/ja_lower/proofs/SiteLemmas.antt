@@ -1,10 +1,12 @@
 -- What a program tells of the sites of nodes, and how many sites and nodes there are.
 use Rattle.std.proofs.Common.{◌≡◌, ℕ, suc, ◌+◌, ◌*◌, ◌<◌, ◌≤◌, List, [], ◌∷◌, ◌++◌, length, map, Some, refl, sym, ap, ◌∙◌, subst, append_assoc, arith, length-append}
+use Rattle.std.specs.Prelude.{◌||◌, IsTrue, is_some}
 use Rattle.std.specs.List.{AllByRecursion, slice_get, range_with_len, sum_by}
 use Rattle.std.specs.Option.{option_to_list}
 use Rattle.std.proofs.lemmas.List.{length-map}
 use Rattle.std.proofs.lemmas.List.Sums.{sum_by-cons}
 use Rattle.ja_base.proofs.Lists.{all_append}
+use Rattle.ja_graph.specs.declared.node.Node.{Node}
 use Rattle.ja_graph.specs.declared.node.NodeInfo.{NodeInfo}
 use Rattle.ja_graph.specs.declared.program.Class.{Class}
 use Rattle.ja_graph.specs.declared.program.Class.TheVariants as class
@@ -27,6 +29,12 @@ get-middle (x ∷ xs) ys y n count =
     let here : n ≡ suc (length xs) = omega arith in
     rw here (get-middle xs ys y (length xs) refl)
 
+-- a site has functions only where a function object is made
+run_by_functions : (n : Node) (c : Class) → IsTrue (is_some (run_by n c) || is_some (run_by n c))
+    → c ≡ class.Function
+run_by_functions n class.Function runs = refl
+run_by_functions n other runs = absurd (cc)
+
 -- makings of a node, whose sites are numbered from k on and stand behind as many others as first
 -- and k say
 told_makings : (p : Program) (f first k : ℕ) (info : NodeInfo) (front back : List SiteInfo)
@@ -45,7 +53,13 @@ told_makings p f first k info front back (m ∷ ms) sites count sited =
     ∙ get-middle front rest one (first + m.site.0) place in
     let more : p.sites ≡ (front ++ one ∷ []) ++ rest = sites
     ∙ sym (append_assoc front (one ∷ []) rest) in (
-      record { info = one; info_is = here; class = refl; owner = refl },
+      record {
+        info = one;
+        info_is = here;
+        class = refl;
+        owner = refl;
+        runs = run_by_functions info.node m.class;
+      },
       told_makings p f first (k + 1) info (front ++ one ∷ []) back ms more
           (omega (arith, length-append front (one ∷ []))) others,
     )

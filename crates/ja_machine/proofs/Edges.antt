@@ -51,7 +51,7 @@ use Rattle.ja_machine.specs.Enumeration.{names}
 use Rattle.ja_machine.specs.Frames.{register_of, thrown, scope, undefined, with_result, with_register, moved_to, with_remaining, entered}
 use Rattle.ja_machine.specs.Objects.{dont_delete, first_of, error_object, empty_object, wrapper, text_length, scope_object}
 use Rattle.ja_machine.specs.Events.{Standing, next_state, goes_on, sets, sets_in, left_scope, throws, throws_value, sets_content, sets_outcome, unbound_message, nothing_message, not_an_object_message, array_length_message, no_function_message, no_prototype_message, not_a_function_message, not_a_constructor_message}
-use Rattle.ja_machine.specs.Calls.{ArgumentsRead, given, chain_of, receiver_of, object_in, function_called, function_constructing, enters, calls_with, calls, constructs, stays, default_function, convert_step, constructed, returns, return_step, escape_step}
+use Rattle.ja_machine.specs.Calls.{ArgumentsRead, given, chain_of, receiver_of, object_in, function_called, function_constructing, enters, calls_with, calls, register_values, constructs_with, constructs, stays, default_function, convert_step, constructed, returns, return_step, escape_step}
 use Rattle.ja_machine.specs.Intrinsics.{Computation, rows}
 use Rattle.ja_machine.specs.Nodes
 use Rattle.ja_machine.specs.Machine.{fits, wants, frames_step, step}
@@ -291,8 +291,10 @@ module _ (p : Program) (s : Standing) (frames_are : s.conf.frames ≡ s.top ∷ 
       makes_along dst sites.number (wrapper class.Number builtins.NUMBER_PROTOTYPE
       (primitive.Number n) [])
   to_object_along may dst sites error (value.Primitive (primitive.Text units)) =
-      makes_along dst sites.text (wrapper class.String builtins.STRING_PROTOTYPE
-      (primitive.Text units) (text_length units))
+      let o : Object = wrapper class.String builtins.STRING_PROTOTYPE (primitive.Text units)
+      (text_length units) in
+      either_way Taken (is_short units) (Nodes.makes s dst sites.text o)
+      (left_scope s scope_kind.TextLength) (λ e. makes_along dst sites.text o) (λ e. refl)
 
   need_object_along : IsTrue (may_throw s.info.node) → (error : Site) (x : Value)
       → Taken (Nodes.need_object_step s error x)
@@ -485,14 +487,20 @@ module _ (p : Program) (s : Standing) (frames_are : s.conf.frames ≡ s.top ∷ 
     calls_along may callee receiver arguments error (Some f) =
         calls_with_along f callee receiver (given s.conf.heap s.top arguments)
 
+    constructs_with_along : (f : FnId) (callee : Value) (site : Site) (arguments : ArgumentsRead)
+        → Taken (constructs_with p s f callee site arguments)
+    constructs_with_along f callee site (Err kind) = refl
+    constructs_with_along f callee site (Ok arguments) =
+        enters_along is _ f (new_address s.conf.heap site) (object_in callee) arguments
+        (stay-with_new s.conf.heap site _)
+
     constructs_along : IsTrue (may_throw s.info.node)
         → (callee : Value) (arguments : List Reg) (site error : Site) (f : Option FnId)
         → Taken (constructs p s callee arguments site error f)
     constructs_along may callee arguments site error None =
         throws_along may error builtins.TYPE_ERROR_PROTOTYPE not_a_constructor_message
     constructs_along may callee arguments site error (Some f) =
-        enters_along is _ f (new_address s.conf.heap site) (object_in callee)
-        (map (register_of s.top) arguments) (stay-with_new s.conf.heap site _)
+        constructs_with_along f callee site (register_values s.top arguments)
 
     convert_along : (dst : Reg) (hint : Hint) (other : Option Value) (x : Value)
         → Taken (convert_step p s dst hint other x)

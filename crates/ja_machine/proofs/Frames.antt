@@ -21,6 +21,7 @@ use Rattle.ja_machine.specs.declared.machine.Heap.{Heap}
 use Rattle.ja_machine.specs.declared.machine.Remaining.{Remaining}
 use Rattle.ja_machine.specs.declared.machine.Frame.{Frame}
 use Rattle.ja_machine.specs.Frames.{undefined, register_of, parameters_of, registers_of, object_or_undefined, argument, entry_registers, entered}
+use Rattle.ja_machine.specs.Calls.{max_arguments}
 use Rattle.ja_machine.specs.State.{IsObjectOf, IsValueOf, IsFrame, AreFrames}
 use Rattle.ja_machine.proofs.Lists.{slice_get-set_same, slice_get-set_other, slice_get-append_left, slice_get-append_replicate, slice_get-map_range, is_some_from, all_at, all_append, all_map, all_of, all_replicate}
 use Rattle.ja_machine.proofs.Heaps.{Grows, value_grows}
@@ -73,6 +74,7 @@ module _ (p : Program) (h now : Heap) (grows : Grows h now) (f : Frame) (k : IsF
     callee = λ a e. grows a (k.callee a e);
     scope = grows f.scope k.scope;
     arguments = λ i v e. value_grows h now grows v (k.arguments i v e);
+    few_arguments = k.few_arguments;
     this_is = k.this_is;
     callee_is = k.callee_is;
     count_is = k.count_is;
@@ -102,6 +104,7 @@ module _ (p : Program) (h now : Heap) (grows : Grows h now) (f : Frame) (k : IsF
     callee = λ a e. grows a (k.callee a e);
     scope = grows f.scope k.scope;
     arguments = λ i u e. value_grows h now grows u (k.arguments i u e);
+    few_arguments = k.few_arguments;
     this_is = stays 1 (omega arith) (λ e. omega arith) (λ e. omega arith) ∙ k.this_is;
     callee_is = stays 3 (omega arith) (λ e. omega arith) (λ e. omega arith) ∙ k.callee_is;
     count_is = stays 4 (omega arith) (λ e. omega arith) (λ e. omega arith) ∙ k.count_is;
@@ -161,7 +164,8 @@ module _ (p : Program) (good : IsWellFormed p) (h : Heap) (steps : ℕ) (f : FnI
     (callee : Option Addr) (chain : Addr) (arguments : List Value) (fits : IsFunction p f)
     (receiver_there : IsObjectOf h receiver)
     (callee_there : (a : Addr) → callee ≡ Some a → IsObjectOf h a)
-    (chain_there : IsObjectOf h chain) (values : AllByRecursion (IsValueOf h) arguments) where
+    (chain_there : IsObjectOf h chain) (values : AllByRecursion (IsValueOf h) arguments)
+    (few : length arguments ≤ max_arguments) where
   function_at : (fn : Function) × (slice_get p.functions f.0 ≡ Some fn)
   function_at = element_within p.functions f.0 fits
 
@@ -263,6 +267,7 @@ module _ (p : Program) (good : IsWellFormed p) (h : Heap) (steps : ℕ) (f : FnI
       callee = callee_there;
       scope = chain_there;
       arguments = all_at (IsValueOf h) arguments values;
+      few_arguments = few;
       this_is = refl;
       callee_is = refl;
       count_is = refl;

@@ -1,12 +1,13 @@
 -- A heap that is as it should be stays so: with objects more, and with an object changed.
 use Rattle.std.proofs.Common.{◌≡◌, ◌+◌, ◌<◌, ◌≤◌, ℕ, suc, cond, List, [], ◌∷◌, ◌++◌, length, Some, Option, inl, inr, refl, sym, ap, ◌∙◌, subst, arith, length-set}
-use Rattle.std.specs.Prelude.{◌&&◌, ◌==◌}
+use Rattle.std.specs.Prelude.{◌&&◌, ◌==◌, IsSome}
 use Rattle.std.proofs.lemmas.Option.{same_Some}
 use Rattle.std.proofs.lemmas.Bool.{and_from, and_left, and_right, cases_eq, eq-eqb, ne_eqb, cond-true, cond-false}
 use Rattle.ja_base.specs.declared.ids.Site.{Site}
 use Rattle.ja_base.proofs.Lists.{all_weaker}
 use Rattle.ja_graph.specs.declared.attrs.Attrs.{Attrs}
 use Rattle.ja_graph.specs.declared.program.Program.{Program}
+use Rattle.ja_graph.specs.Program.{is_arguments_site}
 use Rattle.ja_machine.specs.declared.machine.Addr.{Addr}
 use Rattle.ja_machine.specs.declared.machine.Value.{Value}
 use Rattle.ja_machine.specs.declared.machine.Content.{Content}
@@ -17,7 +18,7 @@ use Rattle.ja_machine.specs.declared.machine.Heap.{Heap}
 use Rattle.ja_machine.specs.Heap.{objects_of, count, size, object_at, with_new, new_address, with_object, prototype_of, outer_of}
 use Rattle.ja_machine.specs.Writes.{put, define, delete}
 use Rattle.ja_machine.specs.Machine.{class_of_site}
-use Rattle.ja_machine.specs.State.{IsObjectOf, IsValueOf, IsContentOf, IsHeap, HaveDistinctNames}
+use Rattle.ja_machine.specs.State.{IsObjectOf, IsValueOf, IsContentOf, IsHeap, HaveDistinctNames, IsScoped}
 use Rattle.ja_machine.proofs.Lists.{all_from, all_at, is_some_from}
 use Rattle.ja_machine.proofs.Heaps
 use Rattle.ja_machine.proofs.Heaps.{Grows, content_grows}
@@ -39,9 +40,12 @@ IsNamed a o = HaveDistinctNames o.properties
 pub record IsLinked (p : Program) (h : Heap) : Type 0 where
   pub rows : length h.objects ≡ length p.sites
   pub class : (a : Addr) (o : Object) → object_at h a ≡ Some o → o.class ≡ class_of_site p a.site.0
+  pub arguments : (a : Addr) (o : Object) → object_at h a ≡ Some o
+      → o.slots.arguments ≡ is_arguments_site p a.site
   pub names : (a : Addr) (o : Object) → object_at h a ≡ Some o → HaveDistinctNames o.properties
   pub scope : (a b : Addr) (o : Object) → object_at h a ≡ Some o → o.slots.scope ≡ Some b
       → IsObjectOf h b
+  pub scoped : (a : Addr) (o : Object) → object_at h a ≡ Some o → IsScoped p a.site o
   pub rank : Addr → ℕ
   pub ranked : (a : Addr) → IsObjectOf h a → rank a < size h
   pub prototype_before : (a b : Addr) (o : Object) → object_at h a ≡ Some o
@@ -60,8 +64,10 @@ pub linked_of : (p : Program) (h : Heap) → IsHeap p h → IsLinked p h
 linked_of p h known = record {
   rows = known.rows;
   class = known.class;
+  arguments = known.arguments;
   names = known.names;
   scope = known.scope;
+  scoped = known.scoped;
   rank = known.rank;
   ranked = known.ranked;
   prototype_before = known.prototype_before;
@@ -79,11 +85,13 @@ pub heap_of : (p : Program) (h : Heap) → IsLinked p h → AreHeld h h → IsHe
 heap_of p h known held = record {
   rows = known.rows;
   class = known.class;
+  arguments = known.arguments;
   names = known.names;
   properties =
       λ a o i q is e. all_at (λ (r : Property). IsContentOf h r.content) o.properties (held a o is)
       i q e;
   scope = known.scope;
+  scoped = known.scoped;
   rank = known.rank;
   ranked = known.ranked;
   prototype_before = known.prototype_before;
@@ -117,13 +125,16 @@ kept_same p h known = record { heap = known; grows = λ a there. there; counts =
 abbrev pub IsNodeSite : Program → Site → Type 0
 IsNodeSite p s = (length p.opening ≤ s.0) × (s.0 < length p.sites)
 
--- an object of its site's class, whose links lead to objects of the heap; it has one property of a
--- name at most
+-- an object of its site's class, an arguments object where its site is one of them, whose links
+-- lead to objects of the heap, and which has a scope chain if it runs a function; it has one
+-- property of a name at most
 pub record IsFitting (p : Program) (h : Heap) (s : Site) (o : Object) : Type 0 where
   pub site : IsNodeSite p s
   pub class : o.class ≡ class_of_site p s.0
+  pub arguments : o.slots.arguments ≡ is_arguments_site p s
   pub names : HaveDistinctNames o.properties
   pub scope : (b : Addr) → o.slots.scope ≡ Some b → IsObjectOf h b
+  pub scoped : IsScoped p s o
   pub prototype : (b : Addr) → prototype_of o ≡ Some b → IsObjectOf h b
   pub outer : (b : Addr) → outer_of o ≡ Some b → IsObjectOf h b
 
@@ -203,11 +214,15 @@ module _ (p : Program) (h : Heap) (s : Site) (o : Object) (known : IsLinked p h)
     class =
         by_object (λ (a : Addr) (q : Object). q.class ≡ class_of_site p a.site.0) known.class
         fits.class;
+    arguments =
+        by_object (λ (a : Addr) (q : Object). q.slots.arguments ≡ is_arguments_site p a.site)
+        known.arguments fits.arguments;
     names = by_object IsNamed known.names fits.names;
     scope =
         λ a b q is e. by_object (λ (c : Addr) (r : Object). r.slots.scope ≡ Some b
         → IsObjectOf (with_new h s o) b) (λ c r at f. grown b (known.scope c b r at f))
         (λ f. grown b (fits.scope b f)) a q is e;
+    scoped = by_object (λ (a : Addr). IsScoped p a.site) known.scoped fits.scoped;
     rank = new_rank;
     ranked = ranked_now;
     prototype_before = linked_now prototype_of known.prototype_before fits.prototype;
@@ -346,12 +361,20 @@ module _ (p : Program) (h : Heap) (a : Addr) (known : IsHeap p h) where
         class =
             by_object (λ (b : Addr) (q : Object). q.class ≡ class_of_site p b.site.0) known.class
             (k.class ∙ known.class a o is);
+        arguments =
+            by_object (λ (b : Addr) (q : Object). q.slots.arguments ≡ is_arguments_site p b.site)
+            known.arguments
+            (ap (λ (x : Slots). x.arguments) k.slots ∙ known.arguments a o is);
         names = by_object IsNamed known.names (k.names (known.names a o is));
         scope =
             λ b c q at e. by_object (λ (d : Addr) (r : Object). r.slots.scope ≡ Some c
             → IsObjectOf (with_object h a new) c) (λ d r f g. grows c (known.scope d c r f g))
             (λ g. grows c (known.scope a c o is (sym (ap (λ (x : Slots). x.scope) k.slots) ∙ g))) b
             q at e;
+        scoped =
+            by_object (λ (b : Addr). IsScoped p b.site) known.scoped
+            (λ info told runs. subst (λ (x : Slots). IsSome x.scope) (sym k.slots)
+            (known.scoped a o is info told runs));
         rank = known.rank;
         ranked =
             λ b there. let l : known.rank b < size h = known.ranked b

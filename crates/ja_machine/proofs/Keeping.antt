@@ -3,6 +3,7 @@ use Rattle.std.proofs.Common.{◌≡◌, ◌<◌, ℕ, suc, Bool, true, false, L
 use Rattle.std.specs.Prelude.{Result, Ok, Err, is_some, slice_get, ◌&&◌}
 use Rattle.std.specs.List.{AllByRecursion}
 use Rattle.std.specs.Option.{option_map, option_to_list}
+use Rattle.std.proofs.lemmas.Bool.{eq-eqb, ne_eqb}
 use Rattle.std.proofs.lemmas.Option.{option_and_then_some}
 use lib.Chars.{codes}
 use Rattle.ja_base.specs.declared.ids.FnId.{FnId}
@@ -14,6 +15,7 @@ use Rattle.ja_base.specs.declared.ids.Site.{Site}
 use Rattle.ja_base.proofs.Lists.{all_weaker}
 use Rattle.ja_prim.specs.declared.primitive.Primitive.{Primitive}
 use Rattle.ja_prim.specs.declared.primitive.Primitive.TheVariants as primitive
+use Rattle.ja_prim.specs.Texts.{is_short}
 use Rattle.ja_graph.specs.declared.builtins.TheConstants as builtins
 use Rattle.ja_graph.specs.declared.node.Args.{Args}
 use Rattle.ja_graph.specs.declared.node.ErrorKind.TheVariants as error_kind
@@ -27,7 +29,7 @@ use Rattle.ja_graph.specs.declared.node.Node.TheVariants as node
 use Rattle.ja_graph.specs.declared.program.Class.TheVariants as class
 use Rattle.ja_graph.specs.declared.program.Program.{Program}
 use Rattle.ja_graph.specs.declared.program.SiteInfo.{SiteInfo}
-use Rattle.ja_graph.specs.Node.{Making, making, making_if_any, makings, class_of, register_set, registers_named, argument_registers}
+use Rattle.ja_graph.specs.Node.{Making, making, making_if_any, makings, makes_arguments, class_of, register_set, registers_named, argument_registers}
 use Rattle.ja_graph.specs.Program.{global}
 use Rattle.ja_graph.specs.WellFormed.{IsWellFormed, IsFunction, IsRegister, IsDestination, NamesFunctions}
 use Rattle.ja_machine.specs.declared.machine.Addr.{Addr}
@@ -53,7 +55,7 @@ use Rattle.ja_machine.specs.Objects.{scope_object, function_object, prototype_ob
 use Rattle.ja_machine.specs.Objects.{constructed_object, sharing, with_parameters, with_property}
 use Rattle.ja_machine.specs.Objects.{property_with, empty_arguments, arguments_object, activation}
 use Rattle.ja_machine.specs.Events.{Standing, sets, sets_in, left_scope, goes_on, throws, sets_content, sets_outcome, unbound_message, nothing_message, not_an_object_message, array_length_message, no_function_message, no_prototype_message, not_a_function_message, not_a_constructor_message}
-use Rattle.ja_machine.specs.Calls.{site_of, function_called, function_constructing, object_in, receiver_of, ArgumentsRead, given, enters, calls_with, calls, prototype_of_callee, constructs, stays, default_function, convert_step}
+use Rattle.ja_machine.specs.Calls.{site_of, function_called, function_constructing, object_in, receiver_of, ArgumentsRead, given, enters, calls_with, calls, prototype_of_callee, register_values, constructs_with, constructs, stays, default_function, convert_step}
 use Rattle.ja_machine.specs.Intrinsics.{Computation, rows}
 use Rattle.ja_machine.specs.Nodes
 use Rattle.ja_machine.specs.State.{IsObjectOf, IsValueOf, IsContentOf, IsState, enters_functions, HaveDistinctNames}
@@ -64,11 +66,11 @@ use Rattle.ja_machine.proofs.Heaps.{Grows, value_grows}
 use Rattle.ja_machine.proofs.Writing.{Hold}
 use Rattle.ja_machine.proofs.Growing.{IsKept, IsFitting, linked_of, linked-with_new, row, kept-with_new, kept-with_two, kept-define, kept-delete, kept-put}
 use Rattle.ja_machine.proofs.Nodes as program_nodes
-use Rattle.ja_machine.proofs.Nodes.{IsMade, AreMade, InOrder}
+use Rattle.ja_machine.proofs.Nodes.{IsMade, IsMadeAs, AreMade, InOrder}
 use Rattle.ja_machine.proofs.Made.{fitting, hold-with_property, hold-with_parameters}
 use Rattle.ja_machine.proofs.Made.{hold-with_elements}
 use Rattle.ja_machine.proofs.Frames.{callee_value}
-use Rattle.ja_machine.proofs.Reading.{read_content, base_value, AreGiven, registers_given, arguments_given, object_in_there, receiver_there, callee_prototype_there}
+use Rattle.ja_machine.proofs.Reading.{read_content, base_value, AreGiven, AreFew, registers_given, registers_few, arguments_given, arguments_few, object_in_there, receiver_there, callee_prototype_there}
 use Rattle.ja_machine.proofs.Standing as standing
 use Rattle.ja_machine.proofs.Standing.{OnNext, OnStep, IsAt}
 
@@ -274,14 +276,14 @@ module _ (p : Program) (good : IsWellFormed p) (s : Standing) (here : IsAt p s) 
       let o : Object = wrapper class.Boolean builtins.BOOLEAN_PROTOTYPE (primitive.Bool b) [] in
       let m : Making = making sites.boolean class.Boolean in
       let there = program_nodes.boolean_prototype_there p good s.conf.heap here.heap in
-      let fits = fitting p s.conf.heap m o boolean refl tt there tt distinct-none in
+      let fits = fitting p s.conf.heap m o boolean refl refl tt tt there tt distinct-none in
       makes_kept dst m o to fits tt
   to_object_kept dst sites error (value.Primitive (primitive.Number n)) to there boolean number text
       made =
       let o : Object = wrapper class.Number builtins.NUMBER_PROTOTYPE (primitive.Number n) [] in
       let m : Making = making sites.number class.Number in
       let there = program_nodes.number_prototype_there p good s.conf.heap here.heap in
-      let fits = fitting p s.conf.heap m o number refl tt there tt distinct-none in
+      let fits = fitting p s.conf.heap m o number refl refl tt tt there tt distinct-none in
       makes_kept dst m o to fits tt
   to_object_kept dst sites error (value.Primitive (primitive.Text units)) to there boolean number
       text made =
@@ -289,8 +291,9 @@ module _ (p : Program) (good : IsWellFormed p) (s : Standing) (here : IsAt p s) 
       (text_length units) in
       let m : Making = making sites.text class.String in
       let there = program_nodes.string_prototype_there p good s.conf.heap here.heap in
-      let fits = fitting p s.conf.heap m o text refl tt there tt (distinct-one _) in
-      makes_kept dst m o to fits (tt, tt)
+       let fits = fitting p s.conf.heap m o text refl refl tt tt there tt (distinct-one _) in
+       either_way Kept (is_short units) (Nodes.makes s dst sites.text o)
+       (left_scope s scope_kind.TextLength) (λ e. makes_kept dst m o to fits (tt, tt)) (λ e. tt)
 
   need_object_kept : (error : Site) (x : Value) → IsMade p (making error class.Error)
       → Kept (Nodes.need_object_step s error x)
@@ -335,19 +338,21 @@ module _ (p : Program) (good : IsWellFormed p) (s : Standing) (here : IsAt p s) 
   new_object_kept dst site made.Object to is_made =
       let m : Making = making site class.Object in
       let o : Object = empty_object made.Object in
-      let fits = fitting p s.conf.heap m o is_made refl tt object_prototype tt distinct-none in
+      let there = object_prototype in
+      let fits = fitting p s.conf.heap m o is_made refl refl tt tt there tt distinct-none in
       makes_kept dst m o to fits tt
   new_object_kept dst site made.Array to is_made =
       let m : Making = making site class.Array in
       let o : Object = empty_object made.Array in
       let there = program_nodes.array_prototype_there p good s.conf.heap here.heap in
-      let fits = fitting p s.conf.heap m o is_made refl tt there tt (distinct-one _) in
+      let fits = fitting p s.conf.heap m o is_made refl refl tt tt there tt (distinct-one _) in
       makes_kept dst m o to fits (tt, tt)
   new_object_kept dst site (made.Error kind) to is_made =
       let m : Making = making site class.Error in
       let o : Object = empty_object (made.Error kind) in
       let there = program_nodes.error_prototype_there p good s.conf.heap here.heap kind in
-      makes_kept dst m o to (fitting p s.conf.heap m o is_made refl tt there tt distinct-none) tt
+      let fits = fitting p s.conf.heap m o is_made refl refl tt tt there tt distinct-none in
+      makes_kept dst m o to fits tt
 
   -- ---- two objects
 
@@ -397,7 +402,8 @@ module _ (p : Program) (good : IsWellFormed p) (s : Standing) (here : IsAt p s) 
         kept-with_two p s.conf.heap a.site b.site o q apart here.heap fits_o fits_q new_o new_q
 
   make_function_kept : (dst : Reg) (function : FnId) (site proto_site : Site) (x : Value) → Sets dst
-      → Held x → AreMade p (making site class.Function ∷ making proto_site class.Object ∷ [])
+      → Held x → AreMade p (λ t. false)
+      (making site class.Function ∷ making proto_site class.Object ∷ [])
       → Kept (Nodes.make_function_step p s dst function site proto_site x)
   make_function_kept dst function site proto_site (value.Primitive q) to there made = tt
   make_function_kept dst function site proto_site (value.Object chain) to there made =
@@ -411,12 +417,12 @@ module _ (p : Program) (good : IsWellFormed p) (s : Standing) (here : IsAt p s) 
       let now : Heap = with_new mid proto_site q in
       let names_o = distinct-two _ _ refl in
       let fits_o : IsFitting p s.conf.heap site o =
-      fitting p s.conf.heap a o made.each.0 refl there function_prototype tt names_o in
+      fitting p s.conf.heap a o made.each.0 refl refl refl there function_prototype tt names_o in
       let grown : Grows s.conf.heap mid = Heaps.grows-with_new s.conf.heap site o
       (row p s.conf.heap site o (linked_of p s.conf.heap here.heap) fits_o) in
       let prototype = grown (first_of builtins.OBJECT_PROTOTYPE) object_prototype in
       let fits_q : IsFitting p mid proto_site q =
-      fitting p mid b q made.each.1.0 refl tt prototype tt (distinct-one _) in
+      fitting p mid b q made.each.1.0 refl refl tt tt prototype tt (distinct-one _) in
       let f_there : IsObjectOf now f = first_there a b made.first made.in_order o q fits_o fits_q in
       let g_there : IsObjectOf now g = second_there a b made.first made.in_order o q fits_o
       fits_q in
@@ -432,6 +438,7 @@ module _ (p : Program) (good : IsWellFormed p) (s : Standing) (here : IsAt p s) 
   -- the activation, and the arguments object
   enter_kept : (site : Site) (outer : Addr) (names : List (List ℕ)) (arguments : Option Site)
       → IsObjectOf s.conf.heap outer → AreMade p
+      (λ t. makes_arguments t (node.Enter site arguments))
       (making site class.Activation ∷ making_if_any arguments class.Object)
       → Kept (Nodes.enter s site outer names arguments)
   enter_kept site outer names None there made =
@@ -440,7 +447,7 @@ module _ (p : Program) (good : IsWellFormed p) (s : Standing) (here : IsAt p s) 
       let now : Heap = with_new s.conf.heap site o in
       let names_o = distinct-with_parameters names [] s.top.arguments [] distinct-none in
       let fits : IsFitting p s.conf.heap site o =
-      fitting p s.conf.heap m o made.each.0 refl tt tt there names_o in
+      fitting p s.conf.heap m o made.each.0 refl refl tt tt tt there names_o in
       let grown : Grows s.conf.heap now = Heaps.grows-with_new s.conf.heap site o
       (row p s.conf.heap site o (linked_of p s.conf.heap here.heap) fits) in
       let values : AllByRecursion (IsValueOf now) s.top.arguments = all_weaker
@@ -462,17 +469,22 @@ module _ (p : Program) (good : IsWellFormed p) (s : Standing) (here : IsAt p s) 
       let q : Object = arguments_object (object_or_undefined s.top.callee) s.top.arguments flags in
       let mid : Heap = with_new s.conf.heap site o in
       let now : Heap = with_new mid list q in
+      let activation_made : IsMade p a = subst (λ t. IsMadeAs p t a)
+      (ne_eqb list.0 site.0 (λ e. omega (arith, e, made.in_order.0, made.in_order.1.0)))
+      made.each.0 in
+      let list_made : IsMadeAs p true b = subst (λ t. IsMadeAs p t b)
+      (eq-eqb list.0 list.0 refl) made.each.1.0 in
       let names_bound = distinct-with_parameters names [] s.top.arguments flags distinct-none in
       let names_o = distinct-with_property bound own_arguments names_bound in
       let fits_o : IsFitting p s.conf.heap site o =
-      fitting p s.conf.heap a o made.each.0 refl tt tt there names_o in
+      fitting p s.conf.heap a o activation_made refl refl tt tt tt there names_o in
       let grown : Grows s.conf.heap mid = Heaps.grows-with_new s.conf.heap site o
       (row p s.conf.heap site o (linked_of p s.conf.heap here.heap) fits_o) in
       let prototype = grown (first_of builtins.OBJECT_PROTOTYPE) object_prototype in
       let two : HaveDistinctNames before = distinct-two _ _ refl in
       let names_q = distinct-with_elements before 0 s.top.arguments flags two in
       let fits_q : IsFitting p mid list q =
-      fitting p mid b q made.each.1.0 refl tt prototype tt names_q in
+      fitting p mid b q list_made refl refl tt tt prototype tt names_q in
       let grows : Grows s.conf.heap now = both_grow a b made.first made.in_order o q fits_o
       fits_q in
       let values : AllByRecursion (IsValueOf now) s.top.arguments = all_weaker
@@ -493,7 +505,8 @@ module _ (p : Program) (good : IsWellFormed p) (s : Standing) (here : IsAt p s) 
       (new_address s.conf.heap site) site_there
 
   enter_step_kept : (site : Site) (arguments : Option Site) (x : Value) → Held x
-      → AreMade p (making site class.Activation ∷ making_if_any arguments class.Object)
+      → AreMade p (λ t. makes_arguments t (node.Enter site arguments))
+      (making site class.Activation ∷ making_if_any arguments class.Object)
       → Kept (Nodes.enter_step p s site arguments x)
   enter_step_kept site arguments (value.Object outer) there made =
       enter_kept site outer (Nodes.parameter_names p s.top.function) arguments there made
@@ -527,7 +540,7 @@ module _ (p : Program) (good : IsWellFormed p) (s : Standing) (here : IsAt p s) 
       let m : Making = making site class.Object in
       let o : Object = scope_object outer in
       let fits : IsFitting p s.conf.heap site o =
-      fitting p s.conf.heap m o made refl tt object_prototype there distinct-none in
+      fitting p s.conf.heap m o made refl refl tt tt object_prototype there distinct-none in
       standing.enters_scope_kept p good s here (with_new s.conf.heap site o) (made_kept m o fits tt)
       (new_address s.conf.heap site) (made_there m o fits)
 
@@ -569,14 +582,14 @@ module _ (p : Program) (good : IsWellFormed p) (s : Standing) (here : IsAt p s) 
     calls_with_kept : (f : FnId) (callee : Value) (receiver : Option Addr)
         (arguments : ArgumentsRead) → IsFunction p f → Held callee
         → ((a : Addr) → receiver ≡ Some a → IsObjectOf s.conf.heap a)
-        → AreGiven p s.conf.heap here.heap arguments
+        → AreGiven p s.conf.heap here.heap arguments → AreFew arguments
         → Kept (calls_with p s f callee receiver arguments)
-    calls_with_kept f callee None arguments fits callee_held there values = tt
-    calls_with_kept f callee (Some receiver) (Err kind) fits callee_held there values = tt
-    calls_with_kept f callee (Some receiver) (Ok arguments) fits callee_held there values =
+    calls_with_kept f callee None arguments fits callee_held there values few = tt
+    calls_with_kept f callee (Some receiver) (Err kind) fits callee_held there values few = tt
+    calls_with_kept f callee (Some receiver) (Ok arguments) fits callee_held there values few =
         standing.enters_kept p good s here s.conf.heap (standing.same p good s here) is f receiver
         (object_in callee) arguments fits (there receiver refl)
-        (object_in_there p s.conf.heap here.heap callee callee_held) values
+        (object_in_there p s.conf.heap here.heap callee callee_held) values few
 
     calls_kept : (callee receiver : Value) (arguments : Args) (error : Site) (r : Option FnId)
         → function_called p callee ≡ r → Held callee → Held receiver
@@ -591,6 +604,29 @@ module _ (p : Program) (good : IsWellFormed p) (s : Standing) (here : IsAt p s) 
         (given s.conf.heap s.top arguments) (called_fits p good callee f called) callee_held
         (receiver_there p s.conf.heap here.heap good receiver receiver_held)
         (arguments_given p s.conf.heap here.heap s.top here.top arguments registers)
+        (arguments_few p s.conf.heap s.top here.top arguments)
+
+    constructs_with_kept : (f : FnId) (callee : Value) (site : Site) (arguments : ArgumentsRead)
+        → IsFunction p f → Held callee → AreGiven p s.conf.heap here.heap arguments
+        → AreFew arguments → IsMade p (making site class.Object)
+        → Kept (constructs_with p s f callee site arguments)
+    constructs_with_kept f callee site (Err kind) fits_f callee_held values few made_object = tt
+    constructs_with_kept f callee site (Ok arguments) fits_f callee_held values few made_object =
+        let m : Making = making site class.Object in
+        let prototype : Addr = prototype_of_callee s.conf.heap (object_in callee) in
+        let o : Object = constructed_object prototype in
+        let now : Heap = with_new s.conf.heap site o in
+        let there = callee_prototype_there p s.conf.heap here.heap good (object_in callee) in
+        let fits : IsFitting p s.conf.heap site o =
+        fitting p s.conf.heap m o made_object refl refl tt tt there tt distinct-none in
+        let k : IsKept p s.conf.heap now = made_kept m o fits tt in
+        let now_values : AllByRecursion (IsValueOf now) arguments = all_weaker
+        (IsValueOf s.conf.heap) (IsValueOf now)
+        (λ v of_heap. value_grows s.conf.heap now k.grows v of_heap) arguments values in
+        standing.enters_kept p good s here now k is f (new_address s.conf.heap site)
+        (object_in callee) arguments fits_f (made_there m o fits)
+        (λ a e. k.grows a (object_in_there p s.conf.heap here.heap callee callee_held a e))
+        now_values few
 
     constructs_kept : (callee : Value) (arguments : List Reg) (site error : Site) (r : Option FnId)
         → function_constructing p callee ≡ r → Held callee
@@ -601,24 +637,10 @@ module _ (p : Program) (good : IsWellFormed p) (s : Standing) (here : IsAt p s) 
         made = type_error error not_a_constructor_message made
     constructs_kept callee arguments site error (Some f) constructing callee_held registers
         made_object made =
-        let m : Making = making site class.Object in
-        let prototype : Addr = prototype_of_callee s.conf.heap (object_in callee) in
-        let o : Object = constructed_object prototype in
-        let now : Heap = with_new s.conf.heap site o in
-        let there = callee_prototype_there p s.conf.heap here.heap good (object_in callee) in
-        let fits : IsFitting p s.conf.heap site o =
-        fitting p s.conf.heap m o made_object refl tt there tt distinct-none in
-        let k : IsKept p s.conf.heap now = made_kept m o fits tt in
-        let values : AllByRecursion (IsValueOf now) (map (register_of s.top) arguments) = all_weaker
-        (IsValueOf s.conf.heap) (IsValueOf now)
-        (λ v of_heap. value_grows s.conf.heap now k.grows v of_heap)
-        (map (register_of s.top) arguments) (registers_given p s.conf.heap here.heap s.top
-        here.top arguments registers) in
-        standing.enters_kept p good s here now k is f (new_address s.conf.heap site)
-        (object_in callee) (map (register_of s.top) arguments)
-        (constructing_fits p good callee f constructing) (made_there m o fits)
-        (λ a e. k.grows a (object_in_there p s.conf.heap here.heap callee callee_held a e))
-        values
+        constructs_with_kept f callee site (register_values s.top arguments)
+        (constructing_fits p good callee f constructing) callee_held
+        (registers_given p s.conf.heap here.heap s.top here.top arguments registers)
+        (registers_few s.top arguments) made_object
 
     convert_kept : (dst : Reg) (to_kind : Hint) (other : Option Value) (x : Value) → Sets dst
         → Held x → Kept (convert_step p s dst to_kind other x)
@@ -629,7 +651,7 @@ module _ (p : Program) (good : IsWellFormed p) (s : Standing) (here : IsAt p s) 
         either_way Kept (stays other) (sets s dst (value.Object a))
         (enters p s s.conf.heap f a None []) (λ e. sets_kept dst (value.Object a) to there)
         (λ e. standing.enters_kept p good s here s.conf.heap (standing.same p good s here) is f
-        a None [] (default_fits p good to_kind) there (λ b e. absurd (cc)) tt)
+        a None [] (default_fits p good to_kind) there (λ b e. absurd (cc)) tt (omega arith))
 
   -- ---- the other kinds
 
@@ -673,7 +695,8 @@ module _ (p : Program) (good : IsWellFormed p) (s : Standing) (here : IsAt p s) 
 
   node_kept : (answer : Answer) (n : Node) → s.info.node ≡ n
       → AllByRecursion (IsDestination here.top.function) (option_to_list (register_set n))
-      → AllByRecursion (IsRegister here.top.function) (registers_named n) → AreMade p (makings n)
+      → AllByRecursion (IsRegister here.top.function) (registers_named n)
+      → AreMade p (λ t. makes_arguments t n) (makings n)
       → KeptIf (Nodes.node_step p s answer n)
   unfolding register_set registers_named makings
   node_kept answer (node.Const dst q) is to named made = sets_kept dst (value.Primitive q) to.0 tt

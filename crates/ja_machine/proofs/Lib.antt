@@ -7,6 +7,7 @@ pub mod Edges
 pub mod Growing
 pub mod Chains
 pub mod Opening
+pub mod ArgumentSites
 pub mod Nodes
 pub mod Frames
 pub mod Reading

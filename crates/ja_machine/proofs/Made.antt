@@ -1,11 +1,13 @@
 -- The objects that nodes make fit: their links lead to objects of the heap, and their properties
 -- hold values of it.
 use Rattle.std.proofs.Common.{◌≡◌, ℕ, ◌+◌, List, [], ◌∷◌, Some, None, Option, ap, sym, ◌∙◌, subst}
-use Rattle.std.specs.Prelude.{Bool, drop}
+use Rattle.std.specs.Prelude.{Bool, IsSome, drop}
 use Rattle.std.specs.List.{AllByRecursion}
 use Rattle.std.specs.Option.{is_some}
 use Rattle.std.proofs.lemmas.Bool.{false≢true}
 use Rattle.std.proofs.lemmas.Option.{same_Some}
+use Rattle.ja_graph.specs.declared.program.Class.{Class}
+use Rattle.ja_graph.specs.declared.program.Class.TheVariants as class
 use Rattle.ja_graph.specs.declared.program.Program.{Program}
 use Rattle.ja_graph.specs.Node.{Making}
 use Rattle.ja_prim.specs.Texts.{same_text}
@@ -22,7 +24,7 @@ use Rattle.ja_machine.specs.State.{IsObjectOf, IsValueOf, IsContentOf, HaveDisti
 use Rattle.ja_machine.proofs.Lists.{either_way, all_drop}
 use Rattle.ja_machine.proofs.Writing.{Hold}
 use Rattle.ja_machine.proofs.Growing.{IsFitting}
-use Rattle.ja_machine.proofs.Nodes.{IsMade}
+use Rattle.ja_machine.proofs.Nodes.{IsMadeAs}
 use Rattle.ja_machine.proofs.Frames.{argument_value}
 
 -- a link leads to an object of the heap, if it leads to one
@@ -36,20 +38,30 @@ pub there_if : (h : Heap) (link : Option Addr) → IsThereIf h link → (b : Add
 there_if h None there b e = absurd (false≢true (ap is_some e))
 there_if h (Some a) there b e = subst (IsObjectOf h) (same_Some a b e) there
 
+-- a function object has a scope chain
+abbrev pub HasScopeIf : Class → Option Addr → Type 0
+HasScopeIf class.Function scope = IsSome scope
+HasScopeIf other scope = Unit {0}
+
 -- an object fits at a site of a node
-pub fitting : (p : Program) (h : Heap) (m : Making) (o : Object) →
-    IsMade p m →
+pub fitting : {arguments : Bool} (p : Program) (h : Heap) (m : Making) (o : Object) →
+    IsMadeAs p arguments m →
     o.class ≡ m.class →
+    o.slots.arguments ≡ arguments →
+    HasScopeIf m.class o.slots.scope →
     IsThereIf h o.slots.scope →
     IsThereIf h o.slots.prototype →
     IsThereIf h o.slots.outer →
     HaveDistinctNames o.properties →
     IsFitting p h m.site o
-fitting p h m o made class scope prototype outer names = record {
-  site = made.site;
-  class = class ∙ sym made.class;
+fitting p h m o made class arguments scoped scope prototype outer names = record {
+  site = made.told.site;
+  class = class ∙ sym made.told.class;
+  arguments = arguments ∙ sym made.arguments_are;
   names = names;
   scope = there_if h o.slots.scope scope;
+  scoped = λ info info_is runs. subst (λ c. HasScopeIf c o.slots.scope)
+      (made.told.runs info info_is runs) scoped;
   prototype = there_if h o.slots.prototype prototype;
   outer = there_if h o.slots.outer outer;
 }

@@ -1,12 +1,13 @@
 -- The built-in objects of a program are there, and the sites of its nodes stand in order, each with
 -- its class.
-use Rattle.std.proofs.Common.{◌≡◌, ℕ, zero, suc, ◌+◌, ◌-◌, ◌<◌, ◌≤◌, List, [], ◌∷◌, ◌++◌, length, map, Some, refl, sym, ap, ◌∙◌, subst, arith}
-use Rattle.std.specs.Prelude.{slice_get}
+use Rattle.std.proofs.Common.{◌≡◌, ℕ, zero, suc, ◌+◌, ◌-◌, ◌<◌, ◌≤◌, Bool, false, List, [], ◌∷◌, ◌++◌, length, map, Some, refl, sym, ap, ◌∙◌, subst, arith}
+use Rattle.std.specs.Prelude.{slice_get, IsTrue}
 use Rattle.std.specs.Option.{is_some, option_map_or}
 use Rattle.std.specs.List.{AllByRecursion, range_with_len}
 use Rattle.std.proofs.lemmas.Bool.{false≢true}
 use Rattle.std.proofs.lemmas.Option.{same_Some}
 use Rattle.ja_base.specs.declared.ids.Site.{Site}
+use Rattle.ja_base.proofs.Lists.{all_weaker}
 use Rattle.ja_graph.specs.declared.builtins.TheConstants as builtins
 use Rattle.ja_graph.specs.declared.node.ErrorKind.{ErrorKind}
 use Rattle.ja_graph.specs.declared.node.ErrorKind.TheVariants as error_kind
@@ -16,8 +17,8 @@ use Rattle.ja_graph.specs.declared.program.Class.TheVariants as class
 use Rattle.ja_graph.specs.declared.program.Function.{Function}
 use Rattle.ja_graph.specs.declared.program.Program.{Program}
 use Rattle.ja_graph.specs.declared.program.SiteInfo.{SiteInfo}
-use Rattle.ja_graph.specs.Node.{Making, makings}
-use Rattle.ja_graph.specs.Program.{global}
+use Rattle.ja_graph.specs.Node.{Making, makings, makes_arguments}
+use Rattle.ja_graph.specs.Program.{global, is_arguments_site, runs_function}
 use Rattle.ja_graph.specs.WellFormed.{IsWellFormed, OwnedMaking, IsSiteTold, owned, makings_of, makings_from}
 use Rattle.ja_machine.specs.declared.machine.Heap.{Heap}
 use Rattle.ja_machine.specs.Heap.{count}
@@ -27,6 +28,7 @@ use Rattle.ja_machine.specs.State.{IsObjectOf, IsHeap}
 use Rattle.ja_machine.proofs.Lists.{all_left, all_right, all_unmap, all_both, range_within}
 use Rattle.ja_machine.proofs.Heaps.{object_from_ordinal}
 use Rattle.ja_machine.proofs.Growing.{IsNodeSite}
+use Rattle.ja_machine.proofs.ArgumentSites.{node_arguments}
 
 -- ---- the built-in objects
 
@@ -84,21 +86,32 @@ module _ (p : Program) (good : IsWellFormed p) (h : Heap) (known : IsHeap p h) w
 
 -- ---- the sites of nodes
 
--- a site of a node, and its class
-pub record IsMade (p : Program) (m : Making) : Type 0 where
+-- a site of a node, whose objects run a function only where they are function objects, and its
+-- class
+pub record IsTold (p : Program) (m : Making) : Type 0 where
   pub site : IsNodeSite p m.site
+  pub runs : (info : SiteInfo) → slice_get p.sites m.site.0 ≡ Some info
+      → IsTrue (runs_function info) → m.class ≡ class.Function
   pub class : class_of_site p m.site.0 ≡ m.class
+
+-- .. which is one of arguments objects or not
+pub record IsMadeAs (p : Program) (arguments : Bool) (m : Making) : Type 0 where
+  pub told : IsTold p m
+  pub arguments_are : is_arguments_site p m.site ≡ arguments
+
+abbrev pub IsMade : Program → Making → Type 0
+IsMade p m = IsMadeAs p false m
 
 -- sites that are numbered in order, from a number on
 abbrev pub InOrder : ℕ → List Making → Type 0
 InOrder n [] = Unit {0}
 InOrder n (m ∷ ms) = (m.site.0 ≡ n) × InOrder (suc n) ms
 
--- a node's sites are numbered in order, each with its class
-pub record AreMade (p : Program) (ms : List Making) : Type 0 where
+-- a node's sites are numbered in order, each with its class, and some are of arguments objects
+pub record AreMade (p : Program) (arguments : Site → Bool) (ms : List Making) : Type 0 where
   pub first : ℕ
   pub in_order : InOrder first ms
-  pub each : AllByRecursion (IsMade p) ms
+  pub each : AllByRecursion (λ (m : Making). IsMadeAs p (arguments m.site) m) ms
 
 -- .. and those of functions
 abbrev AreInOrder : ℕ → List OwnedMaking → Type 0
@@ -108,7 +121,7 @@ AreInOrder n (m ∷ ms) = (m.making.site.0 ≡ n) × AreInOrder (suc n) ms
 record AreOwned (p : Program) (ms : List OwnedMaking) : Type 0 where
   first : ℕ
   in_order : AreInOrder first ms
-  each : AllByRecursion (λ (m : OwnedMaking). IsMade p m.making) ms
+  each : AllByRecursion (λ (m : OwnedMaking). IsTold p m.making) ms
 
 order_left : (xs ys : List OwnedMaking) (n : ℕ) → AreInOrder n (xs ++ ys) → AreInOrder n xs
 order_left [] ys n all = tt
@@ -136,7 +149,7 @@ order_of_owned f n (m ∷ ms) all = (all.0, order_of_owned f (suc n) ms all.1)
 
 module _ (p : Program) where
   abbrev Made : OwnedMaking → Type 0
-  Made m = IsMade p m.making
+  Made m = IsTold p m.making
 
   owned_left : (xs ys : List OwnedMaking) → AreOwned p (xs ++ ys) → AreOwned p xs
   owned_left xs ys k =
@@ -179,6 +192,13 @@ module _ (p : Program) where
   class_told m told =
       ap (λ r. option_map_or (λ (i : SiteInfo). i.class) r class.Object) told.info_is ∙ told.class
 
+  runs_told : (m : OwnedMaking) → IsSiteTold p m → (info : SiteInfo)
+      → slice_get p.sites m.making.site.0 ≡ Some info → IsTrue (runs_function info)
+      → m.making.class ≡ class.Function
+  runs_told m told info info_is runs =
+      let same : info ≡ told.info = same_Some info told.info (sym info_is ∙ told.info_is) in
+      told.runs (subst (λ (i : SiteInfo). IsTrue (runs_function i)) same runs)
+
   all_owned : IsWellFormed p → AreOwned p (makings_from 0 p.functions)
   all_owned good =
       let all : List OwnedMaking = makings_from 0 p.functions in
@@ -198,13 +218,17 @@ module _ (p : Program) where
             (λ m k told. let low : length p.opening ≤ m.making.site.0 = k.0 in
             let high : m.making.site.0 < length p.opening
             + (length p.sites - length p.opening) = k.1 in
-            record { site = (low, omega arith); class = class_told m told }) all within good.told;
+            record {
+              site = (low, omega arith);
+              class = class_told m told;
+              runs = runs_told m told;
+            }) all within good.told;
       }
 
   -- the sites of a node of the program
   pub node_makings : IsWellFormed p → (f : ℕ) (fn : Function) (n : ℕ) (info : NodeInfo)
       → slice_get p.functions f ≡ Some fn → slice_get fn.nodes n ≡ Some info
-      → AreMade p (makings info.node)
+      → AreMade p (λ s. makes_arguments s info.node) (makings info.node)
   node_makings good f fn n info fn_is info_is =
       let (g, of_function) = owned_of_function 0 p.functions f fn fn_is (all_owned good) in
       let k : AreOwned p (map (owned g) (makings info.node)) = owned_of_node g fn.nodes n info
@@ -212,5 +236,19 @@ module _ (p : Program) where
       record {
         first = k.first;
         in_order = order_of_owned g k.first (makings info.node) k.in_order;
-        each = all_unmap Made (owned g) (makings info.node) k.each;
+        each =
+            all_both (IsTold p) (λ (m : Making). is_arguments_site p m.site
+            ≡ makes_arguments m.site info.node)
+            (λ (m : Making). IsMadeAs p (makes_arguments m.site info.node) m)
+            (λ m told is. record { told = told; arguments_are = is }) (makings info.node)
+            (all_unmap Made (owned g) (makings info.node) k.each)
+            (node_arguments p good f fn n info fn_is info_is);
       }
+
+  -- .. each with its class
+  pub node_told : IsWellFormed p → (f : ℕ) (fn : Function) (n : ℕ) (info : NodeInfo)
+      → slice_get p.functions f ≡ Some fn → slice_get fn.nodes n ≡ Some info
+      → AllByRecursion (IsTold p) (makings info.node)
+  node_told good f fn n info fn_is info_is =
+      all_weaker (λ (m : Making). IsMadeAs p (makes_arguments m.site info.node) m) (IsTold p)
+      (λ m made. made.told) (makings info.node) (node_makings good f fn n info fn_is info_is).each

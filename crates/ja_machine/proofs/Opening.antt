@@ -15,7 +15,7 @@ use Rattle.ja_graph.specs.declared.program.PropertySpec.{PropertySpec}
 use Rattle.ja_graph.specs.declared.program.SpecContent.{SpecContent}
 use Rattle.ja_graph.specs.declared.program.SpecContent.TheVariants as spec_content
 use Rattle.ja_graph.specs.declared.program.Program.{Program}
-use Rattle.ja_graph.specs.Program.{object_spec}
+use Rattle.ja_graph.specs.Program.{object_spec, is_arguments_site}
 use Rattle.ja_graph.specs.WellFormed.{IsWellFormed, IsContent, IsName, StandsBefore}
 use Rattle.ja_machine.specs.declared.machine.Addr.{Addr}
 use Rattle.ja_machine.specs.declared.machine.Property.{Property}
@@ -24,13 +24,14 @@ use Rattle.ja_machine.specs.Heap.{objects_of, count, size, object_at, prototype_
 use Rattle.ja_machine.specs.Nodes.{name_text}
 use Rattle.ja_machine.specs.Objects.{first_of}
 use Rattle.ja_machine.specs.Machine.{class_of_site, opening_content, opening_property, opening_object, opening_objects_at, opening_heap}
-use Rattle.ja_machine.specs.State.{IsObjectOf, IsContentOf, IsHeap, HaveDistinctNames}
+use Rattle.ja_machine.specs.State.{IsObjectOf, IsContentOf, IsHeap, HaveDistinctNames, IsScoped}
 use Rattle.ja_machine.proofs.Lists.{is_some_from, slice_get-map_range, all_from, all_map}
 use Rattle.ja_machine.proofs.Distinct.{distinct_from}
 use Rattle.ja_machine.proofs.Heaps
 use Rattle.ja_machine.proofs.Heaps.{ordinal-below, object_from_ordinal}
 use Rattle.ja_machine.proofs.Writing.{Hold}
 use Rattle.ja_machine.proofs.Growing.{heap_of}
+use Rattle.ja_machine.proofs.ArgumentSites.{no_arguments}
 
 -- ---- the first place of a list at which a test passes
 
@@ -247,6 +248,26 @@ module _ (p : Program) (good : IsWellFormed p) where
       let (k, same) = spec_of a o is in
       sym (ap (λ (q : Object). q.class) same) ∙ ap (class_of_site p) k.site_is
 
+  arguments-opening : (a : Addr) (o : Object) → object_at (opening_heap p) a ≡ Some o
+      → o.slots.arguments ≡ is_arguments_site p a.site
+  arguments-opening a o is =
+      let (k, same) = spec_of a o is in
+      sym (ap (λ (q : Object). q.slots.arguments) same)
+      ∙ sym (no_arguments p good a.site k.site_fits)
+
+  scoped-opening : (a : Addr) (o : Object) → object_at (opening_heap p) a ≡ Some o
+      → IsScoped p a.site o
+  scoped-opening a o is info told runs =
+      let (k, same) = spec_of a o is in
+      let there : slice_get p.sites k.spec.site.0 ≡ Some info = ap (slice_get p.sites) k.site_is
+      ∙ told in
+      subst (λ (q : Object). IsSome q.slots.scope) same
+      (first_some k.spec.scope ((good.objects _ k.spec k.spec_is).scoped info there runs))
+    where
+      first_some : (scope : Option Site) → IsSome scope → IsSome (option_map first_of scope)
+      first_some None some = some
+      first_some (Some s) some = refl
+
   -- ---- properties
 
   -- the text of a name is that of no other one
@@ -294,8 +315,10 @@ module _ (p : Program) (good : IsWellFormed p) where
   heap-opening = heap_of p (opening_heap p) (record {
     rows = length-map-range_with_len (opening_objects_at p) 0 (length p.sites);
     class = class-opening;
+    arguments = arguments-opening;
     names = names-opening;
     scope = scope-opening;
+    scoped = scoped-opening;
     rank = place_of p;
     ranked = ranked-opening;
     prototype_before = prototype-opening;

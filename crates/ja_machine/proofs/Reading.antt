@@ -1,15 +1,21 @@
 -- What is read of a heap that is as it should be is of the heap.
-use Rattle.std.proofs.Common.{◌≡◌, ℕ, suc, List, [], ◌∷◌, map, Some, None, Option, refl, ap, ◌∙◌, subst}
-use Rattle.std.specs.Prelude.{Result, Ok, Err, Bool, false, find, slice_get, unwrap_or}
+use Rattle.std.proofs.Common.{◌≡◌, ◌≤◌, ℕ, suc, List, [], ◌∷◌, length, map, Some, None, Option, refl, ap, ◌∙◌, subst, arith}
+use Rattle.std.specs.Prelude.{Result, Ok, Err, Bool, false, nat_le, find, slice_get, unwrap_or}
 use Rattle.std.specs.List.{AllByRecursion, range_with_len}
 use Rattle.std.specs.Option.{is_some, option_and_then, option_map, option_map_or}
-use Rattle.std.proofs.lemmas.Bool.{false≢true}
+use Rattle.std.proofs.lemmas.Bool.{false≢true, leb-true}
+use Rattle.std.proofs.lemmas.List.{length-drop, length-map}
+use Rattle.std.proofs.lemmas.List.FromFn.{length-map-range_with_len}
 use Rattle.std.proofs.lemmas.Option.{same_Some, option_and_then_some}
 use lib.Chars.{codes}
 use Rattle.ja_base.specs.declared.ids.Reg.{Reg}
 use Rattle.ja_base.specs.declared.ids.ScopeKind.{ScopeKind}
 use Rattle.ja_base.specs.declared.ids.ScopeKind.TheVariants as scope_kind
+use Rattle.ja_prim.specs.declared.primitive.Num.{Num}
 use Rattle.ja_prim.specs.declared.primitive.Primitive.TheVariants as primitive
+use Rattle.ja_prim.specs.declared.stop.Stop.{Stop}
+use Rattle.ja_prim.specs.Conversions.{to_number}
+use Rattle.ja_prim.proofs.Bitwise.{uint32_below}
 use Rattle.ja_graph.specs.declared.node.Args.{Args}
 use Rattle.ja_graph.specs.declared.node.Args.TheVariants as args
 use Rattle.ja_graph.specs.declared.program.Program.{Program}
@@ -30,7 +36,7 @@ use Rattle.ja_machine.specs.Heap.{size, object_at, class_at, property_of, own, o
 use Rattle.ja_machine.specs.Writes.{length_name}
 use Rattle.ja_machine.specs.Frames.{undefined, register_of}
 use Rattle.ja_machine.specs.Objects.{first_of, index_text}
-use Rattle.ja_machine.specs.Calls.{object_in, chain_of, is_activation, receiver_of, ArgumentsRead, element, with_first, all_given, element_count, elements_up_to, has_elements, elements, given, prototype_for, prototype_of_callee}
+use Rattle.ja_machine.specs.Calls.{object_in, chain_of, is_activation, receiver_of, ArgumentsRead, max_arguments, register_values, unsigned_count, element, with_first, all_given, element_count, elements_up_to, has_elements, elements, given, prototype_for, prototype_of_callee}
 use Rattle.ja_machine.specs.Nodes.{object_or_null, find_name, read}
 use Rattle.ja_machine.specs.State.{IsObjectOf, IsValueOf, IsContentOf, IsHeap, IsFrame}
 use Rattle.ja_machine.proofs.Lists.{either_way, all_from, all_find, all_drop, all_map, all_of}
@@ -38,6 +44,79 @@ use Rattle.ja_machine.proofs.Chains.{scopes_chained}
 use Rattle.ja_machine.proofs.Growing.{held_of}
 use Rattle.ja_machine.proofs.Nodes.{global_there, object_prototype_there}
 use Rattle.ja_machine.proofs.Frames.{register_value}
+
+-- ---- how many arguments there are
+
+-- each that is given has an index
+abbrev pub AreFew : ArgumentsRead → Type 0
+AreFew (Ok vs) = length vs ≤ max_arguments
+AreFew (Err kind) = Unit {0}
+
+-- as many values as were read
+abbrev AreAsMany : ℕ → ArgumentsRead → Type 0
+AreAsMany n (Ok vs) = length vs ≡ n
+AreAsMany n (Err kind) = Unit {0}
+
+one_more : (v : Value) (n : ℕ) (vs : ArgumentsRead) → AreAsMany n vs
+    → AreAsMany (suc n) (with_first v vs)
+one_more v n (Ok vs) count = omega (arith, count)
+one_more v n (Err kind) count = tt
+
+all_counted : (rs : List (Result Value ScopeKind)) → AreAsMany (length rs) (all_given rs)
+all_counted [] = refl
+all_counted (Ok v ∷ rs) = one_more v (length rs) (all_given rs) (all_counted rs)
+all_counted (Err kind ∷ rs) = tt
+
+few_of_many : (n : ℕ) (vs : ArgumentsRead) → n ≤ max_arguments → AreAsMany n vs → AreFew vs
+few_of_many n (Ok vs) few count = omega (arith, few, count)
+few_of_many n (Err kind) few count = tt
+
+-- a number of elements
+abbrev IsFew : Result ℕ ScopeKind → Type 0
+IsFew (Ok n) = n ≤ max_arguments
+IsFew (Err kind) = Unit {0}
+
+unsigned_few : (n : Result Num Stop) → IsFew (unsigned_count n)
+unsigned_few (Ok n) = omega (arith, uint32_below n)
+unsigned_few (Err stop) = tt
+
+count_few : (c : Option Content) → IsFew (element_count c)
+count_few None = omega arith
+count_few (Some contents.Row) = tt
+count_few (Some (contents.Value (value.Object a))) = omega arith
+count_few (Some (contents.Value (value.Primitive q))) = unsigned_few (to_number q)
+
+elements_few : (h : Heap) (a : Addr) (n : Result ℕ ScopeKind) → IsFew n
+    → AreFew (elements_up_to h a n)
+elements_few h a (Ok n) few =
+    let rs = map (λ i. element (content_at h a (index_text i))) (range_with_len 0 n) in
+    let count : length rs ≡ n = length-map-range_with_len
+    (λ i. element (content_at h a (index_text i))) 0 n in
+    few_of_many (length rs) (all_given rs) (omega (arith, few, count)) (all_counted rs)
+elements_few h a (Err kind) few = tt
+
+value_few : (h : Heap) (v : Value) → AreFew (elements h v)
+value_few h (value.Object a) =
+    either_way AreFew (option_map_or has_elements (object_at h a) false)
+    (elements_up_to h a (element_count (content_at h a length_name))) (Err scope_kind.Register)
+    (λ e. elements_few h a (element_count (content_at h a length_name))
+    (count_few (content_at h a length_name))) (λ e. tt)
+value_few h (value.Primitive q) = tt
+
+-- the values of registers are few
+pub registers_few : (f : Frame) (rs : List Reg) → AreFew (register_values f rs)
+registers_few f rs =
+    either_way AreFew (nat_le (length rs) max_arguments) (Ok (map (register_of f) rs))
+    (Err scope_kind.Register)
+    (λ e. omega (arith, leb-true (length rs) max_arguments e, length-map rs (register_of f)))
+    (λ e. tt)
+
+-- .. and so are the arguments of each kind
+pub arguments_few : (p : Program) (h : Heap) (f : Frame) (k : IsFrame p h f) (arguments : Args)
+    → AreFew (given h f arguments)
+arguments_few p h f k (args.Registers list) = registers_few f list
+arguments_few p h f k (args.Elements array) = value_few h (register_of f array)
+arguments_few p h f k args.Tail = omega (arith, k.few_arguments, length-drop 1 f.arguments)
 
 -- the first that passes stands in the list
 found_in : {X : Type 0} (test : X → Bool) (xs : List X) (x : X) → find test xs ≡ Some x
@@ -147,11 +226,11 @@ module _ (p : Program) (h : Heap) (good : IsHeap p h) where
 
   -- the values of registers
   pub registers_given : (f : Frame) (k : IsFrame p h f) (rs : List Reg)
-      → AllByRecursion (IsRegister k.function) rs
-      → AllByRecursion (IsValueOf h) (map (register_of f) rs)
+      → AllByRecursion (IsRegister k.function) rs → AreGiven (register_values f rs)
   registers_given f k rs all =
-      all_map (IsRegister k.function) (IsValueOf h) (register_of f)
-      (λ r fits. register_value p h f k r fits) rs all
+      either_way AreGiven (nat_le (length rs) max_arguments) (Ok (map (register_of f) rs))
+      (Err scope_kind.Register) (λ e. all_map (IsRegister k.function) (IsValueOf h) (register_of f)
+      (λ r fits. register_value p h f k r fits) rs all) (λ e. tt)
 
   -- .. and of the arguments of each kind
   pub arguments_given : (f : Frame) (k : IsFrame p h f) (arguments : Args)

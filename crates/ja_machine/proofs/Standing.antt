@@ -16,7 +16,7 @@ use Rattle.ja_graph.specs.declared.node.NodeInfo.{NodeInfo}
 use Rattle.ja_graph.specs.declared.program.Class.TheVariants as class
 use Rattle.ja_graph.specs.declared.program.Function.{Function}
 use Rattle.ja_graph.specs.declared.program.Program.{Program}
-use Rattle.ja_graph.specs.Node.{making, makings, register_set}
+use Rattle.ja_graph.specs.Node.{making, makings, makes_arguments, register_set}
 use Rattle.ja_graph.specs.Program.{node_at}
 use Rattle.ja_graph.specs.WellFormed.{IsWellFormed, IsFunctionWellFormed, IsNodeWellFormed, IsFunction, IsRegister, IsDestination, fixed_registers}
 use Rattle.ja_prim.specs.Texts.{is_short}
@@ -33,7 +33,7 @@ use Rattle.ja_machine.specs.Heap.{count, with_new, new_address}
 use Rattle.ja_machine.specs.Frames.{register_of, thrown, scope, with_result, with_register}
 use Rattle.ja_machine.specs.Objects.{error_object, prototype_of_error}
 use Rattle.ja_machine.specs.Events.{Standing, next_state, goes_on, sets_in, sets, left_scope, throws_value, throws}
-use Rattle.ja_machine.specs.Calls.{chain_of, enters, constructed, returns, return_step, escape_step}
+use Rattle.ja_machine.specs.Calls.{max_arguments, chain_of, enters, constructed, returns, return_step, escape_step}
 use Rattle.ja_machine.specs.Nodes.{enters_scope}
 use Rattle.ja_machine.specs.State.{IsObjectOf, IsValueOf, IsHeap, IsFrame, AreFrames, enters_functions, AreWaiting, IsWaiting, IsLowest, IsState}
 use Rattle.ja_machine.proofs.Lists.{either_way}
@@ -75,7 +75,7 @@ module _ (p : Program) (good : IsWellFormed p) (h : Heap) (f : Frame) (k : IsFra
 
   -- .. with its sites
   pub node_made : (info : NodeInfo) → node_at p f.function f.node ≡ Some info
-      → AreMade p (makings info.node)
+      → AreMade p (λ t. makes_arguments t info.node) (makings info.node)
   node_made info e =
       node_makings p good f.function.0 k.function f.node.0 info k.function_is (node_of_frame info e)
 
@@ -195,13 +195,14 @@ module _ (p : Program) (good : IsWellFormed p) (s : Standing) (here : IsAt p s) 
         → (f : FnId) (receiver : Addr) (callee : Option Addr) (arguments : List Value)
         → IsFunction p f → IsObjectOf now receiver
         → ((a : Addr) → callee ≡ Some a → IsObjectOf now a)
-        → AllByRecursion (IsValueOf now) arguments
+        → AllByRecursion (IsValueOf now) arguments → length arguments ≤ max_arguments
         → Kept (enters p s now f receiver callee arguments)
-    enters_kept is f receiver callee arguments fits receiver_there callee_there values = record {
+    enters_kept is f receiver callee arguments fits there callee_there values few = record {
       heap = k.heap;
       frames = (
         frame_entered p good now (s.conf.steps + 1) f receiver callee (chain_of now callee)
-            arguments fits receiver_there callee_there (chain_there p now k.heap good callee) values,
+            arguments fits there callee_there (chain_there p now k.heap good callee) values
+            few,
         (
           frame_grows p s.conf.heap now k.grows s.top here.top,
           frames_grow p s.conf.heap now k.grows s.below here.below,
@@ -236,7 +237,7 @@ module _ (p : Program) (good : IsWellFormed p) (s : Standing) (here : IsAt p s) 
       let now : Heap = with_new h error o in
       let there = error_prototype_there p good h here.heap kind in
       let fits : IsFitting p h error o =
-      fitting p h (making error class.Error) o made refl tt there tt (distinct-one _) in
+      fitting p h (making error class.Error) o made refl refl tt tt there tt (distinct-one _) in
       let k : IsKept p h now = kept-with_new p h error o here.heap fits (tt, tt) in
       let v : Value = value.Object (new_address h error) in
       either_way Kept (is_short message) (throws_value s now v) (left_scope s scope_kind.TextLength)

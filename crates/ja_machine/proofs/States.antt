@@ -61,7 +61,8 @@ module _ (p : Program) (good : IsWellFormed p) where
         frames = (
           frame_entered p good (opening_heap p) 0 program_function (first_of global) None
               (first_of global) [] (within_from_some p.functions 0
-              (is_some_from _ good.text good.text_is)) there (λ a e. absurd (cc)) there tt,
+              (is_some_from _ good.text good.text_is)) there (λ a e. absurd (cc)) there tt
+              (omega arith),
           tt,
         );
         waiting = tt;

@@ -1,6 +1,6 @@
 -- Calls, constructions and conversions, and how a function is left (ES3 8.6.2.6, 10.2, 11.2.2,
 -- 11.2.3, 13.2.1, 13.2.2).
-use Rattle.std.specs.Prelude.{ℕ, ◌+◌, ◌||◌, Bool, true, false, if◌then◌else◌, List, [], ◌∷◌, map, drop, Option, Some, None, unwrap_or, Result, Ok, Err, slice_get}
+use Rattle.std.specs.Prelude.{ℕ, ◌+◌, ◌||◌, nat_le, Bool, true, false, if◌then◌else◌, List, [], ◌∷◌, map, length, drop, Option, Some, None, unwrap_or, Result, Ok, Err, slice_get}
 use Rattle.std.specs.Option.{option_and_then, option_map, option_map_or}
 use Rattle.std.specs.List.{range_with_len}
 use lib.Chars.{codes}
@@ -85,6 +85,15 @@ receiver_of h (value.Primitive q) = None
 abbrev pub ArgumentsRead : Type 0
 ArgumentsRead = Result (List Value) ScopeKind
 
+-- the greatest number of arguments: each is an element of `arguments`, at an index (10.1.8, 15.4)
+abbrev pub max_arguments : ℕ
+max_arguments = 4294967295
+
+-- the values of registers; more of them than there are indices leave the profile
+abbrev pub register_values : Frame → List Reg → ArgumentsRead
+register_values f list =
+    if nat_le (length list) max_arguments then Ok (map (register_of f) list) else Err Register
+
 -- the number of elements that a `length` says, by ToUint32; there is none where it is missing or an
 -- object
 abbrev pub unsigned_count : Result Num Stop → Result ℕ ScopeKind
@@ -131,7 +140,7 @@ elements h (value.Object a) =
 elements h (value.Primitive q) = Err Register
 
 abbrev pub given : Heap → Frame → Args → ArgumentsRead
-given h f (args.Registers list) = Ok (map (register_of f) list)
+given h f (args.Registers list) = register_values f list
 given h f (args.Elements array) = elements h (register_of f array)
 given h f args.Tail = Ok (drop 1 f.arguments)
 
@@ -170,10 +179,9 @@ abbrev pub prototype_of_callee : Heap → Option Addr → Addr
 prototype_of_callee h None = first_of builtins.OBJECT_PROTOTYPE
 prototype_of_callee h (Some a) = prototype_for (content_at h a (codes "prototype"))
 
-abbrev pub constructs : Program → Standing → Value → List Reg → Site → Site → Option FnId → Event
-constructs p s callee arguments site error None =
-    throws s error builtins.TYPE_ERROR_PROTOTYPE not_a_constructor_message
-constructs p s callee arguments site error (Some f) =
+abbrev pub constructs_with : Program → Standing → FnId → Value → Site → ArgumentsRead → Event
+constructs_with p s f callee site (Err kind) = left_scope s kind
+constructs_with p s f callee site (Ok arguments) =
     let h = s.conf.heap in
     enters
     p
@@ -182,7 +190,13 @@ constructs p s callee arguments site error (Some f) =
     f
     (new_address h site)
     (object_in callee)
-    (map (register_of s.top) arguments)
+    arguments
+
+abbrev pub constructs : Program → Standing → Value → List Reg → Site → Site → Option FnId → Event
+constructs p s callee arguments site error None =
+    throws s error builtins.TYPE_ERROR_PROTOTYPE not_a_constructor_message
+constructs p s callee arguments site error (Some f) =
+    constructs_with p s f callee site (register_values s.top arguments)
 
 abbrev pub new_step : Program → Standing → Value → List Reg → Site → Site → Event
 new_step p s callee arguments site error =

@@ -10,6 +10,7 @@ use Rattle.ja_base.specs.declared.ids.ScopeKind.{ScopeKind}
 use Rattle.ja_base.specs.declared.ids.ScopeKind.TheVariants as scope_kind
 use Rattle.ja_prim.specs.declared.primitive.Primitive.{Primitive}
 use Rattle.ja_prim.specs.declared.primitive.Primitive.TheVariants as primitive
+use Rattle.ja_prim.specs.Texts.{is_short}
 use Rattle.ja_graph.specs.declared.attrs.Attrs.{Attrs}
 use Rattle.ja_graph.specs.declared.builtins.TheConstants as builtins
 use Rattle.ja_graph.specs.declared.node.Wrappers.{Wrappers}
@@ -141,7 +142,7 @@ abbrev pub makes : Standing → Reg → Site → Object → Event
 makes s dst site o =
     sets_in s (with_new s.conf.heap site o) dst (value.Object (new_address s.conf.heap site))
 
--- ToObject (9.9)
+-- ToObject (9.9). A text that is too long leaves the profile.
 abbrev pub to_object_step : Standing → Reg → Wrappers → Site → Value → Event
 to_object_step s dst sites error (value.Object a) = sets s dst (value.Object a)
 to_object_step s dst sites error (value.Primitive primitive.Undefined) =
@@ -155,8 +156,8 @@ to_object_step s dst sites error (value.Primitive (primitive.Number n)) =
     makes s dst sites.number (wrapper class.Number builtins.NUMBER_PROTOTYPE (primitive.Number n)
     [])
 to_object_step s dst sites error (value.Primitive (primitive.Text units)) =
-    makes s dst sites.text (wrapper class.String builtins.STRING_PROTOTYPE (primitive.Text units)
-    (text_length units))
+    if is_short units then makes s dst sites.text (wrapper class.String builtins.STRING_PROTOTYPE
+    (primitive.Text units) (text_length units)) else left_scope s scope_kind.TextLength
 
 abbrev pub need_object_step : Standing → Site → Value → Event
 need_object_step s error (value.Object a) = goes_on s s.conf.heap

@@ -1,6 +1,6 @@
 -- What holds of each state of a run.
 use Rattle.std.specs.Prelude.{◌≡◌, ◌<◌, ◌≤◌, ℕ, ◌+◌, Bool, true, false, List, [], ◌∷◌, map, length}
-use Rattle.std.specs.Prelude.{slice_get, Some, IsSome}
+use Rattle.std.specs.Prelude.{slice_get, Some, IsSome, IsTrue}
 use Rattle.std.specs.List.{IsDistinct}
 use Rattle.ja_base.specs.declared.ids.Site.{Site}
 use Rattle.ja_prim.specs.Texts.{same_text}
@@ -10,7 +10,8 @@ use Rattle.ja_graph.specs.declared.node.NodeInfo.{NodeInfo}
 use Rattle.ja_graph.specs.declared.registers.TheConstants.{CALLEE_REGISTER, COUNT, REST, THIS}
 use Rattle.ja_graph.specs.declared.program.Function.{Function}
 use Rattle.ja_graph.specs.declared.program.Program.{Program}
-use Rattle.ja_graph.specs.Program.{node_at}
+use Rattle.ja_graph.specs.declared.program.SiteInfo.{SiteInfo}
+use Rattle.ja_graph.specs.Program.{node_at, is_arguments_site, runs_function}
 use Rattle.ja_machine.specs.declared.machine.Addr.{Addr}
 use Rattle.ja_machine.specs.declared.machine.Value.{Value}
 use Rattle.ja_machine.specs.declared.machine.Value.TheVariants as value
@@ -24,6 +25,7 @@ use Rattle.ja_machine.specs.declared.machine.Conf.{Conf}
 use Rattle.ja_machine.specs.Heap.{count, size, object_at, prototype_of, outer_of}
 use Rattle.ja_machine.specs.Writes.{whole_number}
 use Rattle.ja_machine.specs.Frames.{undefined, object_or_undefined, argument}
+use Rattle.ja_machine.specs.Calls.{max_arguments}
 use Rattle.ja_machine.specs.Machine.{class_of_site, program_function}
 
 -- ---- heaps
@@ -45,17 +47,28 @@ IsContentOf h contents.Row = Unit {0}
 abbrev pub HaveDistinctNames : List Property → Type 0
 HaveDistinctNames qs = IsDistinct same_text (map (λ (q : Property). q.name) qs)
 
+-- an object of a site that runs a function, where it is called or where it constructs, has a scope
+-- chain (13.2)
+abbrev pub IsScoped : Program → Site → Object → Type 0
+IsScoped p s o =
+    (info : SiteInfo) → slice_get p.sites s.0 ≡ Some info → IsTrue (runs_function info)
+    → IsSome o.slots.scope
+
+-- An object has the class of its site, and is an arguments object where its site is one of them.
 -- The links and the properties of an object lead to objects of the heap. Its prototype and its
 -- outer object were made before it; its rank is how many objects were. It has one property of a
 -- name at most.
 pub record IsHeap (p : Program) (h : Heap) : Type 0 where
   pub rows : length h.objects ≡ length p.sites
   pub class : (a : Addr) (o : Object) → object_at h a ≡ Some o → o.class ≡ class_of_site p a.site.0
+  pub arguments : (a : Addr) (o : Object) → object_at h a ≡ Some o
+      → o.slots.arguments ≡ is_arguments_site p a.site
   pub properties : (a : Addr) (o : Object) (i : ℕ) (q : Property) → object_at h a ≡ Some o
       → slice_get o.properties i ≡ Some q → IsContentOf h q.content
   pub names : (a : Addr) (o : Object) → object_at h a ≡ Some o → HaveDistinctNames o.properties
   pub scope : (a b : Addr) (o : Object) → object_at h a ≡ Some o → o.slots.scope ≡ Some b
       → IsObjectOf h b
+  pub scoped : (a : Addr) (o : Object) → object_at h a ≡ Some o → IsScoped p a.site o
   pub rank : Addr → ℕ
   pub ranked : (a : Addr) → IsObjectOf h a → rank a < size h
   pub prototype_before : (a b : Addr) (o : Object) → object_at h a ≡ Some o
@@ -68,7 +81,7 @@ pub record IsHeap (p : Program) (h : Heap) : Type 0 where
 
 -- A frame of a function of the program stands at one of its nodes and has its registers. `this`,
 -- `callee`, `count` and the parameters hold what it was entered with, and the rest of the arguments
--- is undefined.
+-- is undefined. There are no more arguments than indices (15.4).
 pub record IsFrame (p : Program) (h : Heap) (f : Frame) : Type 0 where
   pub function : Function
   pub function_is : slice_get p.functions f.function.0 ≡ Some function
@@ -79,6 +92,7 @@ pub record IsFrame (p : Program) (h : Heap) (f : Frame) : Type 0 where
   pub callee : (a : Addr) → f.callee ≡ Some a → IsObjectOf h a
   pub scope : IsObjectOf h f.scope
   pub arguments : (i : ℕ) (v : Value) → slice_get f.arguments i ≡ Some v → IsValueOf h v
+  pub few_arguments : length f.arguments ≤ max_arguments
   pub this_is : slice_get f.registers THIS.0 ≡ Some (value.Object f.receiver)
   pub callee_is : slice_get f.registers CALLEE_REGISTER.0 ≡ Some (object_or_undefined f.callee)
   pub count_is : slice_get f.registers COUNT.0 ≡ Some (whole_number (length f.arguments))

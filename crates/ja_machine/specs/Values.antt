@@ -1,6 +1,6 @@
 -- Operations on values (ES3 9, 11.4 to 11.10): those on primitives, and what they come to on
 -- objects.
-use Rattle.std.specs.Prelude.{ℕ, Bool, true, false, not, List, Option, Some, None, Result, Ok}
+use Rattle.std.specs.Prelude.{ℕ, Bool, true, false, not, if◌then◌else◌, nat_le, unsigned_abs, List, Option, Some, None, Result, Ok}
 use lib.Chars.{codes}
 use Rattle.ja_base.specs.declared.ids.ScopeKind.{ScopeKind}
 use Rattle.ja_base.specs.declared.ids.ScopeKind.TheVariants as scope_kind
@@ -11,6 +11,7 @@ use Rattle.ja_graph.specs.declared.node.UnaryOp.TheVariants as unary_op
 use Rattle.ja_graph.specs.declared.node.BinaryOp.{BinaryOp}
 use Rattle.ja_graph.specs.declared.node.BinaryOp.TheVariants as binary_op
 use Rattle.ja_prim.specs.declared.primitive.Num.{Num}
+use Rattle.ja_prim.specs.declared.primitive.Num.TheVariants.{NaN, Whole}
 use Rattle.ja_prim.specs.declared.primitive.Primitive.{Primitive}
 use Rattle.ja_prim.specs.declared.primitive.Primitive.TheVariants as primitive
 use Rattle.ja_prim.specs.declared.stop.Stop.{Stop}
@@ -19,6 +20,7 @@ use Rattle.ja_prim.specs.Arithmetic as arithmetic
 use Rattle.ja_prim.specs.Bits as bits
 use Rattle.ja_prim.specs.Comparison.{add, less, loose_equal, strict_equal, of_both, to_primitive}
 use Rattle.ja_prim.specs.Conversions.{to_bool, to_number, to_text}
+use Rattle.ja_prim.specs.Judged.{max_magnitude}
 use Rattle.ja_machine.specs.declared.machine.Value.{Value}
 use Rattle.ja_machine.specs.declared.machine.Value.TheVariants as value
 use Rattle.ja_machine.specs.declared.machine.Heap.{Heap}
@@ -147,8 +149,18 @@ binary binary_op.StrictNe a b = gives (truth (not (strict_equal_values a b)))
 
 -- ---- keys
 
+-- whether the profile has a number
+abbrev pub is_in_profile : Num → Bool
+is_in_profile NaN = true
+is_in_profile (Whole n) = nat_le (unsigned_abs n) max_magnitude
+
+-- The text of a number. One past the profile is no key: it never comes to be one, since operations
+-- that would give such a number leave the profile.
+abbrev pub key_of_number : Num → Option (List ℕ)
+key_of_number n = if is_in_profile n then Some (to_text (primitive.Number n)) else None
+
 -- the text that a key register has: a text itself, or the text of a number
 abbrev pub key_of : Value → Option (List ℕ)
 key_of (value.Primitive (primitive.Text units)) = Some units
-key_of (value.Primitive (primitive.Number n)) = Some (to_text (primitive.Number n))
+key_of (value.Primitive (primitive.Number n)) = key_of_number n
 key_of v = None

@@ -13,8 +13,9 @@ ghost use Rattle.ja_machine.specs.Runs.{AreSteps, ObjectsStay, NamesAreDistinct,
 ghost use Rattle.ja_machine.specs.State.{IsState};
 
 /// After each list of answers a state has a frame, its frames and its heap are as they should be,
-/// each object has the class of its site, each site without a node has one object, and no other
-/// site has more than steps were made.
+/// each object has the class of its site, is an arguments object where its site is one of them, and
+/// has a scope chain if it runs a function; each site without a node has one object, and no other
+/// site has more than steps were made. No frame has more than 4,294,967,295 arguments.
 pub fn states_are_kept()
     ensures { (p : Program) → IsWellFormed p → AreStates p }
 {}

@@ -18,13 +18,13 @@ use Rattle.ja_graph.specs.Program.{node_at}
 use Rattle.ja_graph.specs.WellFormed.{IsWellFormed, IsNodeWellFormed, IsDestination, IsRegister, IsName}
 use Rattle.ja_machine.specs.Machine.{program_function}
 use Rattle.ja_machine.proofs.Growing.{IsNodeSite}
-use Rattle.ja_machine.proofs.Nodes.{IsMade, node_makings}
+use Rattle.ja_machine.proofs.Nodes.{IsTold, node_told}
 
 -- ---- the sites of nodes
 
 -- the sites of a node stand behind those of the objects that are there when a run begins
 abbrev pub HasNodeSites : Program → Node → Type 0
-HasNodeSites p node = AllByRecursion (IsMade p) (makings node)
+HasNodeSites p node = AllByRecursion (IsTold p) (makings node)
 
 -- the site of the error that a read throws
 pub read_site : (p : Program) (dst base : Reg) (name : NameId) (error : Site)
@@ -88,4 +88,4 @@ module _ (p : Program) (good : IsWellFormed p) (n : NodeId) (info : NodeInfo)
 
   -- .. and its sites behind those of the objects that are there when a run begins
   pub sites_at : HasNodeSites p info.node
-  sites_at = (node_makings p good 0 good.text n.0 info good.text_is node_of_text).each
+  sites_at = node_told p good 0 good.text n.0 info good.text_is node_of_text

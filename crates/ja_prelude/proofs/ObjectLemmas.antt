@@ -10,6 +10,7 @@ use Rattle.ja_graph.specs.declared.program.PropertySpec.{PropertySpec}
 use Rattle.ja_graph.specs.declared.program.SpecContent.{SpecContent}
 use Rattle.ja_graph.specs.declared.program.SpecContent.TheVariants as content
 use Rattle.ja_graph.specs.WellFormed.{IsContent, IsObjectWellFormed}
+use Rattle.ja_graph.specs.code.Parts.{HasScope}
 use Rattle.ja_prelude.proofs.ListLemmas.{eq_of, lt_of, same_passes}
 use Rattle.ja_prelude.proofs.TableLemmas.{is_content, are_properties, is_among, is_object, are_objects, all_below}
 
@@ -135,8 +136,8 @@ stands (x ∷ os) (suc i) s h = at (stands os i s) (nat_eq x.site.0 s.0) refl h
 
 pub object-well_formed : (n m : ℕ) (p : Program) (i : ℕ) (o : ObjectSpec) → length p.opening ≡ n
     → m ≤ length p.names → are_objects n m [] p.opening ≡ true → slice_get p.opening i ≡ Some o
-    → IsObjectWellFormed p i o
-object-well_formed n m p i o count names all is =
+    → HasScope p o → IsObjectWellFormed p i o
+object-well_formed n m p i o count names all is scoped =
     let fits = object-at n m [] p.opening i o all is in
     let site = and_left_true (nat_lt o.site.0 n) _ fits in
     let behind = and_right_true (nat_lt o.site.0 n) _ fits in
@@ -149,6 +150,7 @@ object-well_formed n m p i o count names all is =
       prototype =
           λ s e. stands p.opening i s (ap (is_among (take i p.opening)) (sym e) ∙ prototype);
       scope = λ s e. stands p.opening i s (ap (is_among (take i p.opening)) (sym e) ∙ scope);
+      scoped = scoped;
       names =
           λ j q at. omega (
             arith,

@@ -1,6 +1,6 @@
 -- What the table gives of a program that begins with its objects, with their sites and their names.
 use Rattle.std.proofs.Common.{◌≡◌, ℕ, zero, suc, ◌+◌, ◌<◌, ◌≤◌, ◌==◌, Bool, true, false, not, ◌&&◌, ◌||◌, nat_lt, List, [], ◌∷◌, ◌++◌, length, map, take, Option, Some, None, refl, sym, ap, ◌∙◌, subst, ◌⊎◌, inl, inr, arith}
-use Rattle.std.specs.Prelude.{IsSome}
+use Rattle.std.specs.Prelude.{IsSome, IsTrue}
 use Rattle.std.specs.List.{AllByRecursion, enumerate_from, find, flat_map, list_all, range_with_len, slice_get}
 use Rattle.std.specs.Option.{is_none, is_some, option_map, option_to_list}
 use Rattle.std.proofs.lemmas.Option.{slice_get_within, slice_get-map, same_Some}
@@ -16,24 +16,17 @@ use Rattle.ja_graph.specs.declared.program.PropertySpec.{PropertySpec}
 use Rattle.ja_graph.specs.declared.program.SiteInfo.{SiteInfo}
 use Rattle.ja_graph.specs.declared.program.SpecContent.{SpecContent}
 use Rattle.ja_graph.specs.declared.program.SpecContent.TheVariants as content
-use Rattle.ja_graph.specs.Program.{object_spec}
+use Rattle.ja_graph.specs.Program.{object_spec, runs_function}
 use Rattle.ja_graph.specs.WellFormed.{IsBuiltin, IsFunction, IsObjectWellFormed, NamesFunctions, builtin_names}
 use Rattle.ja_graph.specs.Kinds.{IsPlain, IsPlainContent}
+use Rattle.ja_graph.specs.code.Parts.{HasScope}
 use Rattle.ja_prelude.specs.Opening.{IsGlobalName}
 use Rattle.ja_prelude.specs.Table.{TableRow, builtin_sites, call_of, construct_of, function_of, opening_objects, row_with, site_of, sites_with, table_rows}
 use Rattle.ja_prelude.proofs.ListLemmas.{all-found, all-get, get-first, get-front, get-range, lt_of, or-second}
 use Rattle.ja_prelude.proofs.ObjectLemmas.{below-at, object-well_formed}
-use Rattle.ja_prelude.proofs.TableLemmas.{are_objects, contents-plain, functions-below, is_below, is_global, is_plain, is_plain_content, is_plain_prototype, leads_to_plain, names_count, prototypes-plain, sites-classes, sites-plain, sites_count, table-count, table-inside, table-objects, table-sites}
+use Rattle.ja_prelude.proofs.TableLemmas.{are_objects, contents-plain, functions-below, functions-scoped, is_below, is_global, is_plain, is_plain_content, is_plain_prototype, leads_to_plain, names_count, prototypes-plain, sites-classes, sites-plain, sites_count, table-count, table-inside, table-objects, table-sites}
 
 -- ---- objects
-
--- the objects of the table are well formed
-pub objects_are_well_formed : (p : Program) (i : ℕ) (o : ObjectSpec) → p.opening ≡ opening_objects
-    → length builtin_names ≤ length p.names → slice_get p.opening i ≡ Some o
-    → IsObjectWellFormed p i o
-objects_are_well_formed p i o opening names is =
-    object-well_formed 43 104 p i o (ap length opening ∙ table-count)
-    (omega (arith, names, names_count)) (ap (are_objects 43 104 []) opening ∙ table-objects) is
 
 -- each site of theirs has its object
 pub sites_have_objects : (p : Program) (s : ℕ) → p.opening ≡ opening_objects → s < length p.opening
@@ -167,6 +160,15 @@ same-plain first s info before is =
     same_Some (has_none info) (is_plain s) (sym told ∙ ap (λ bs. slice_get bs s) (sites-plain first)
     ∙ row)
 
+-- what is no function runs none
+runs_none : (info : SiteInfo) → has_none info ≡ true → IsTrue (runs_function info) → ⊥
+runs_none info none runs =
+    let calls : info.calls ≡ None = none_by_test info.calls
+    (and_left_true (is_none info.calls) (is_none info.constructs) none) in
+    let constructs : info.constructs ≡ None = none_by_test info.constructs
+    (and_right_true (is_none info.calls) (is_none info.constructs) none) in
+    absurd (cc)
+
 pub plain_site : (first : ℕ) (p : Program) (others : List SiteInfo)
     → p.sites ≡ builtin_sites first ++ others → (s : Site) → s.0 < 43 → is_plain s.0 ≡ true
     → IsPlain p s
@@ -200,6 +202,31 @@ inside : (p : Program) (i : ℕ) (o : ObjectSpec) → p.opening ≡ opening_obje
 inside p i o opening is =
     lt_of o.site.0 43 (all-get (λ (o : ObjectSpec). nat_lt o.site.0 43) opening_objects i o
     table-inside (sym (ap (λ os. slice_get os i) opening) ∙ is))
+
+-- an object that runs a function has a scope
+functions_are_scoped : (first : ℕ) (p : Program) (others : List SiteInfo)
+    → p.sites ≡ builtin_sites first ++ others → p.opening ≡ opening_objects
+    → (i : ℕ) (o : ObjectSpec) → slice_get p.opening i ≡ Some o → HasScope p o
+functions_are_scoped first p others sites opening i o is info told runs =
+    at (is_plain o.site.0) refl (all-get (λ (o : ObjectSpec). is_plain o.site.0 || is_some o.scope)
+    opening_objects i o functions-scoped (sym (ap (λ os. slice_get os i) opening) ∙ is))
+  where
+    at : (b : Bool) → is_plain o.site.0 ≡ b → (b || is_some o.scope) ≡ true → IsSome o.scope
+    at true plain passes =
+        let before = inside p i o opening is in
+        absurd (runs_none info (same-plain first o.site.0 info before
+        (here first p others sites o.site.0 info before told) ∙ plain) runs)
+    at false e passes = passes
+
+-- the objects of the table are well formed
+pub objects_are_well_formed : (first : ℕ) (p : Program) (others : List SiteInfo)
+    → p.sites ≡ builtin_sites first ++ others → p.opening ≡ opening_objects
+    → length builtin_names ≤ length p.names → (i : ℕ) (o : ObjectSpec)
+    → slice_get p.opening i ≡ Some o → IsObjectWellFormed p i o
+objects_are_well_formed first p others sites opening names i o is =
+    object-well_formed 43 104 p i o (ap length opening ∙ table-count)
+    (omega (arith, names, names_count)) (ap (are_objects 43 104 []) opening ∙ table-objects) is
+    (functions_are_scoped first p others sites opening i o is)
 
 -- the prototype of an object that is no function is none either
 pub prototypes_are_plain : (first : ℕ) (p : Program) (others : List SiteInfo)

@@ -190,6 +190,11 @@ pub prototypes-plain : list_all (λ (o : ObjectSpec). not (is_plain o.site.0)
 unfolding opening_objects is_plain
 prototypes-plain = refl
 
+pub functions-scoped : list_all (λ (o : ObjectSpec). is_plain o.site.0 || is_some o.scope)
+    opening_objects ≡ true
+unfolding opening_objects is_plain
+functions-scoped = refl
+
 pub contents-plain : list_all (λ (o : ObjectSpec). not (is_plain o.site.0)
     || list_all leads_to_plain o.properties) opening_objects ≡ true
 unfolding opening_objects builtin_number is_global_name is_plain

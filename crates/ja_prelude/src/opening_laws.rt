@@ -32,11 +32,13 @@ pub fn names_come_first()
         (fold with_name (fold with_name [] builtin_names) us)) vs) }
 {}
 
-/// Each object of the table is well formed, and each site of the table has its object.
+/// Each object of the table is well formed, where the program tells their sites, and each site of
+/// the table has its object.
 pub fn objects_are_well_formed()
-    ensures objects { (p : Program) (i : ℕ) (o : ObjectSpec) → p.opening ≡ opening_objects
-        → length builtin_names ≤ length p.names → slice_get p.opening i ≡ Some o
-        → IsObjectWellFormed p i o }
+    ensures objects { (first : ℕ) (p : Program) (others : List SiteInfo)
+        → p.sites ≡ builtin_sites first ++ others → p.opening ≡ opening_objects
+        → length builtin_names ≤ length p.names → (i : ℕ) (o : ObjectSpec)
+        → slice_get p.opening i ≡ Some o → IsObjectWellFormed p i o }
     ensures all { (p : Program) (s : ℕ) → p.opening ≡ opening_objects → s < length p.opening
         → IsSome (object_spec p s) }
 {}

@@ -3,7 +3,7 @@ use Rattle.std.specs.Prelude.{◌≡◌, ℕ, suc, true, IsTrue, List, ◌∷◌
 use Rattle.std.specs.List.{AllByRecursion}
 use Rattle.std.specs.Option.{option_and_then, option_to_list}
 use Rattle.std.proofs.Common.{refl, sym, subst, ap, ◌∙◌, inl, inr, arith}
-use Rattle.std.proofs.lemmas.Bool.{cases_Bool, cond-true, cond-false}
+use Rattle.std.proofs.lemmas.Bool.{cases_Bool, cond-false}
 use Rattle.std.proofs.lemmas.Option.{none-some}
 use Rattle.ja_base.specs.declared.ids.Reg.{Reg}
 use Rattle.ja_base.specs.declared.ids.Site.{Site}
@@ -11,7 +11,7 @@ use Rattle.ja_graph.specs.declared.node.Node.{Node}
 use Rattle.ja_graph.specs.declared.node.Node.TheVariants as node
 use Rattle.ja_graph.specs.declared.node.NodeInfo.{NodeInfo}
 use Rattle.ja_graph.specs.declared.program.Program.{Program}
-use Rattle.ja_graph.specs.Node.{register_set, registers_named, name_in, makings}
+use Rattle.ja_graph.specs.Node.{register_set, registers_named, name_in, makings, makes_arguments}
 use Rattle.ja_graph.specs.WellFormed.{IsWellFormed, IsDestination, IsRegister, IsName}
 use Rattle.ja_machine.specs.declared.machine.Heap.{Heap}
 use Rattle.ja_machine.specs.declared.machine.Frame.{Frame}
@@ -42,6 +42,7 @@ use Rattle.ja_sound.proofs.ControlNodes.{Within, within, const_gives, move_gives
 use Rattle.ja_sound.proofs.ObjectNodes.{SitesOf, new_object_gives, push_scope_gives, to_object_gives, make_function_gives, bind_gives, declare_gives, enter_gives}
 use Rattle.ja_sound.proofs.PropertyNodes.{find_gives, read_ref_gives, read_soft_gives, write_ref_gives, delete_ref_gives, read_prop_gives, write_prop_gives, delete_prop_gives, has_prop_gives, has, of_heap}
 use Rattle.ja_sound.proofs.AtNode as rows
+use Rattle.ja_sound.proofs.Taken.{node_taken}
 
 -- ---- what the rows take
 
@@ -92,14 +93,15 @@ module _ (operations : RowsCover) (e : Heap) (c : Conf) (top : Frame) (below : L
   scope_is : IsRegister fr.function scope
   scope_is = rows.scope_is e c top below x w at good
 
-  enter_sites : (site : Site) (list : Option Site) → AreMade p (makings (node.Enter site list))
-      → SitesOf e c top below x w at good at.bounded.arguments site list
+  enter_sites : (site : Site) (list : Option Site) → AreMade p
+      (λ t. makes_arguments t (node.Enter site list)) (makings (node.Enter site list))
+      → SitesOf e c top below x w at good site list
   unfolding makings
-  enter_sites site None made = made.each.0.site
+  enter_sites site None made = made.each.0.told.site
   enter_sites site (Some list) made = (
-    made.each.0.site,
+    made.each.0.told.site,
     (
-      made.each.1.0.site,
+      made.each.1.0.told.site,
       λ same. let a = made.in_order.0 in let b : list.0
           ≡ suc made.first = made.in_order.1.0 in absurd (omega arith),
     ),
@@ -107,7 +109,8 @@ module _ (operations : RowsCover) (e : Heap) (c : Conf) (top : Frame) (below : L
 
   by_kind : (answer : Answer) (n : Node) → Sets (option_to_list (register_set n))
       → Named (registers_named n) → AllByRecursion (IsName p) (option_to_list (name_in n))
-      → AreMade p (makings n) → IsFilled w.entries (transfer_node w x i n).demands
+      → AreMade p (λ t. makes_arguments t n) (makings n)
+      → IsFilled w.entries (transfer_node w x i n).demands
       → fits p (node_wants c.heap top n) answer ≡ true
       → Inside (transfer_node w x i n).states (node_step p s answer n)
   unfolding register_set registers_named name_in makings
@@ -119,8 +122,8 @@ module _ (operations : RowsCover) (e : Heap) (c : Conf) (top : Frame) (below : L
       in_ _ _ (find_gives e c top below x w at good dst name d.0 n.0 f (register_of top scope)
       (there scope scope_is) (held scope scope_is))
   by_kind answer (node.ReadRef dst base name error) d r n m f fit =
-      in_ _ _ (read_ref_gives e c top below x w at good dst base name error d.0 n.0 m.each.0.site f
-      (register_of top base) (there base r.0) (held base r.0))
+      in_ _ _ (read_ref_gives e c top below x w at good dst base name error d.0 n.0
+      m.each.0.told.site f (register_of top base) (there base r.0) (held base r.0))
   by_kind answer (node.ReadSoft dst base name) d r n m f fit =
       in_ _ _ (read_soft_gives e c top below x w at good dst base name d.0 n.0 f
       (register_of top base) (there base r.0) (held base r.0))
@@ -131,11 +134,11 @@ module _ (operations : RowsCover) (e : Heap) (c : Conf) (top : Frame) (below : L
       in_ _ _ (delete_ref_gives e c top below x w at good dst base name d.0 n.0 f
       (register_of top base) (there base r.0) (held base r.0))
   by_kind answer (node.ToObject dst src sites error) d r n m f fit =
-      in_ _ _ (to_object_gives e c top below x w at good dst src sites error d.0 m.each.0.site
-      m.each.1.0.site m.each.1.1.0.site m.each.1.1.1.0.site (at.bounded.texts src)
-      (register_of top src) refl (there src r.0) (held src r.0))
+      in_ _ _ (to_object_gives e c top below x w at good dst src sites error d.0 m.each.0.told.site
+      m.each.1.0.told.site m.each.1.1.0.told.site m.each.1.1.1.0.told.site
+      (register_of top src) (there src r.0) (held src r.0))
   by_kind answer (node.NeedObject src error) d r n m f fit =
-      in_ _ _ (need_object_gives e c top below x w at good src error m.each.0.site
+      in_ _ _ (need_object_gives e c top below x w at good src error m.each.0.told.site
       (register_of top src) (there src r.0) (held src r.0))
   by_kind answer (node.ReadProp dst object key) d r n m f fit =
       in_ _ _ (read_prop_gives e c top below x w at good dst object key d.0 r.1.0 f
@@ -143,7 +146,7 @@ module _ (operations : RowsCover) (e : Heap) (c : Conf) (top : Frame) (below : L
       (key_text (register_of top key)) refl)
   by_kind answer (node.WriteProp object key src error) d r n m f fit =
       in_ _ _ (write_prop_gives e c top below x w at good object key src error r.1.0 r.1.1.0
-      m.each.0.site f (register_of top object) (there object r.0) (held object r.0)
+      m.each.0.told.site f (register_of top object) (there object r.0) (held object r.0)
       (key_text (register_of top key)) refl)
   by_kind answer (node.DeleteProp dst object key) d r n m f fit =
       in_ _ _ (delete_prop_gives e c top below x w at good dst object key d.0 r.1.0 f
@@ -155,17 +158,17 @@ module _ (operations : RowsCover) (e : Heap) (c : Conf) (top : Frame) (below : L
       (key_text (register_of top key)) refl)
   by_kind answer (node.InstanceOf dst left right not_function not_object) d r n m f fit =
       in_ _ _ (instance_gives e c top below x w at good dst left right not_function not_object d.0
-      m.each.0.site m.each.1.0.site f (register_of top left) (register_of top right)
+      m.each.0.told.site m.each.1.0.told.site f (register_of top left) (register_of top right)
       (there left r.0) (held left r.0) (there right r.1.0) (held right r.1.0))
   by_kind answer (node.NewObject dst site kind) d r n m f fit =
-      in_ _ _ (new_object_gives e c top below x w at good dst site kind d.0 m.each.0.site)
+      in_ _ _ (new_object_gives e c top below x w at good dst site kind d.0 m.each.0.told.site)
   by_kind answer (node.MakeFunction dst function site proto_site) d r n m f fit =
       in_ _ _ (make_function_gives e c top below x w at good dst function site proto_site d.0
-      m.each.0.site m.each.1.0.site (λ same. let a = m.in_order.0 in let b : proto_site.0
+      m.each.0.told.site m.each.1.0.told.site (λ same. let a = m.in_order.0 in let b : proto_site.0
       ≡ suc m.first = m.in_order.1.0 in absurd (omega arith)) (register_of top scope)
       (there scope scope_is) (held scope scope_is))
   by_kind answer (node.Enter site list) d r n m f fit =
-      in_ _ _ (enter_gives e c top below x w at good at.bounded.arguments site list
+      in_ _ _ (enter_gives e c top below x w at good site list
       (enter_sites site list m) (register_of top scope) (there scope scope_is)
       (held scope scope_is))
   by_kind answer (node.Declare name) d r n m f fit =
@@ -175,8 +178,8 @@ module _ (operations : RowsCover) (e : Heap) (c : Conf) (top : Frame) (below : L
       in_ _ _ (bind_gives e c top below x w at good name src read_only n.0 r.0
       (register_of top scope) (there scope scope_is) (held scope scope_is))
   by_kind answer (node.PushScope site) d r n m f fit =
-      in_ _ _ (push_scope_gives e c top below x w at good site m.each.0.site (register_of top scope)
-      (there scope scope_is) (held scope scope_is))
+      in_ _ _ (push_scope_gives e c top below x w at good site m.each.0.told.site
+      (register_of top scope) (there scope scope_is) (held scope scope_is))
   by_kind answer (node.Convert dst src kind other) d r n m f fit =
       convert_inside e c top below x w at good dst src kind other d.0 r.1 (register_of top src)
       (there src r.0) (held src r.0)
@@ -196,9 +199,9 @@ module _ (operations : RowsCover) (e : Heap) (c : Conf) (top : Frame) (below : L
   by_kind answer (node.Branch src) d r n m f fit =
       in_ _ _ (branch_gives e c top below x w at good src (register_of top src) (held src r.0))
   by_kind answer (node.Call dst callee receiver args error) d r n m f fit =
-      call_inside e c top below x w at good dst callee receiver args error r.0 m.each.0.site
+      call_inside e c top below x w at good dst callee receiver args error r.0 m.each.0.told.site
   by_kind answer (node.New dst callee args site error) d r n m f fit =
-      new_inside e c top below x w at good dst callee args site error r.0 m.each.1.0.site
+      new_inside e c top below x w at good dst callee args site error r.0 m.each.1.0.told.site
   by_kind answer (node.Names list object) d r n m f fit =
       in_ _ _ (names_gives e c top below x w at good list object (register_of top object)
       (there object r.1.0) (held object r.1.0))
@@ -226,12 +229,6 @@ module _ (operations : RowsCover) (e : Heap) (c : Conf) (top : Frame) (below : L
       (λ o. Rattle.std.specs.Option.option_map_or
       (λ (info : NodeInfo). node_wants c.heap top info.node) o wanted.Tick) at.info
 
-  step_is : (answer : Answer) → frames_step p c answer c.frames ≡ node_step p s answer i.node
-  step_is answer =
-      ap (frames_step p c answer) at.frames_are ∙ ap
-      (λ o. option_and_then (λ (info : NodeInfo). node_step p
-      (record { conf = c; top = top; below = below; info = info }) answer info.node) o) at.info
-
   pub sound_at : (d : Conf) (answer : Answer) (moved : Frame)
       → IsFilled w.entries (transfer w x).demands → step p c answer ≡ Some (event.Next d)
       → IsState p d → d.frames ≡ moved ∷ below → IsGiven p e below (transfer w x).states d
@@ -243,8 +240,8 @@ module _ (operations : RowsCover) (e : Heap) (c : Conf) (top : Frame) (below : L
             (rows.formed e c top below x w at good).name
             (rows.made e c top below x w at good) filled
             (subst (λ z. fits p z answer ≡ true) wants_is fit) d
-            (sym (step_is answer) ∙ (sym (cond-true (fits p (wants p c) answer)
-            (frames_step p c answer c.frames) None fit) ∙ taken)) known moved after
+            (node_taken p c top below i at.frames_are at.info answer (event.Next d) taken) known
+            moved after
         | inr never ↦
             absurd (none-some (event.Next d) (sym (cond-false (fits p (wants p c) answer)
             (frames_step p c answer c.frames) None never) ∙ taken))

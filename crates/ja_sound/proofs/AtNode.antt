@@ -1,18 +1,14 @@
 -- At a node of a run: its registers, names and sites, and the states that it may give.
-use Rattle.std.specs.Prelude.{◌≡◌, ◌⊎◌, ◌≢◌, ◌<◌, ◌≤◌, ◌+◌, ℕ, IsTrue, List, ◌∷◌, length, Some}
-use Rattle.std.specs.Option.{option_map_or}
-use Rattle.std.proofs.Common.{refl, sym, subst, ap, ◌∙◌, inl, inr, arith}
+use Rattle.std.specs.Prelude.{◌≡◌, ◌<◌, ℕ, IsTrue, List, ◌∷◌, length, Some}
+use Rattle.std.proofs.Common.{refl, sym, ap, arith}
 use Rattle.std.proofs.lemmas.Bool.{or_left}
 use Rattle.ja_base.specs.declared.ids.NameId.{NameId}
 use Rattle.ja_base.specs.declared.ids.NodeId.{NodeId}
 use Rattle.ja_base.specs.declared.ids.Reg.{Reg}
 use Rattle.ja_base.specs.declared.ids.Site.{Site}
-use Rattle.ja_prim.specs.declared.primitive.Primitive.{Primitive}
-use Rattle.ja_prim.specs.declared.primitive.Primitive.TheVariants as primitive
 use Rattle.ja_graph.specs.declared.node.NodeInfo.{NodeInfo}
-use Rattle.ja_graph.specs.declared.program.Function.{Function}
 use Rattle.ja_graph.specs.declared.program.Program.{Program}
-use Rattle.ja_graph.specs.Node.{makings}
+use Rattle.ja_graph.specs.Node.{makings, makes_arguments}
 use Rattle.ja_graph.specs.WellFormed.{IsWellFormed, IsNodeWellFormed, IsDestination, IsRegister, IsName}
 use Rattle.ja_machine.specs.declared.machine.Addr.{Addr}
 use Rattle.ja_machine.specs.declared.machine.Value.{Value}
@@ -24,7 +20,7 @@ use Rattle.ja_machine.specs.declared.machine.Conf.{Conf}
 use Rattle.ja_machine.specs.declared.machine.Event.{Event}
 use Rattle.ja_machine.specs.declared.machine.Event.TheVariants as event
 use Rattle.ja_machine.specs.Events.{Standing, next_state}
-use Rattle.ja_machine.specs.Frames.{register_of, scope, thrown, moved_to, with_result, parameters_of}
+use Rattle.ja_machine.specs.Frames.{register_of, scope, thrown, moved_to, with_result}
 use Rattle.ja_machine.specs.Heap.{count, with_new, new_address}
 use Rattle.ja_machine.specs.Objects.{first_of}
 use Rattle.ja_machine.specs.Nodes.{name_text}
@@ -40,7 +36,6 @@ use Rattle.ja_abstract.specs.Keys.{Spot, named, internal, key_of, is_among_keys,
 use Rattle.ja_abstract.specs.Contents.{label_of}
 use Rattle.ja_abstract.specs.Reading.{View, has_present}
 use Rattle.ja_abstract.specs.Made.{Own, with_object}
-use Rattle.ja_abstract.specs.Profile.{IsInProfile}
 use Rattle.ja_abstract.proofs.Labels
 use Rattle.ja_abstract.proofs.Keys.{same_key_from, key_of-name, text_of_key}
 use Rattle.ja_abstract.proofs.Labels.{same_label_from}
@@ -57,17 +52,6 @@ use Rattle.ja_rows.specs.Out.{Point, Given}
 use Rattle.ja_sound.specs.Statements.{IsAt, IsGiven}
 use Rattle.ja_sound.proofs.Registers.{IsDestinationOf, destination_of, frame_with_result}
 use Rattle.ja_sound.proofs.Steps as steps
-
--- ---- texts as keys
-
--- a text has no number that the profile could refuse
-abbrev IsValueInProfile : Value → Type 0
-IsValueInProfile (value.Primitive q) = IsInProfile q
-IsValueInProfile (value.Object a) = Unit {0}
-
-pub text_in_profile : (t : List ℕ) (q : Primitive)
-    → value.Primitive (primitive.Text t) ≡ value.Primitive q → IsInProfile q
-text_in_profile t q is = subst IsValueInProfile is tt
 
 -- ---- at a node
 
@@ -94,7 +78,7 @@ module _ (e : Heap) (c : Conf) (top : Frame) (below : List Frame) (x : Point) (w
   pub formed : IsNodeWellFormed p fr.function i
   formed = node_well_formed p good c.heap top fr i at.info
 
-  pub made : AreMadeAt p (makings i.node)
+  pub made : AreMadeAt p (λ t. makes_arguments t i.node) (makings i.node)
   made = node_made p good c.heap top fr i at.info
 
   -- ---- registers
@@ -118,17 +102,12 @@ module _ (e : Heap) (c : Conf) (top : Frame) (below : List Frame) (x : Point) (w
   pub of_heap : (r : Reg) → IsRegister fr.function r → IsValueOf c.heap (register_of top r)
   of_heap r l = register_of_heap p c.heap top r fr (fits r l)
 
-  -- what a register holds is of the profile
-  pub in_profile : (r : Reg) → IsRegister fr.function r → (q : Primitive)
-      → register_of top r ≡ value.Primitive q → IsInProfile q
-  in_profile r l q is = at.profile r.0 q (register_held top r (fits r l) ∙ ap Some is)
-
   -- the key of what a key register holds is among the keys of its value
   pub keys_among : (r : Reg) → IsRegister fr.function r → (t : List ℕ)
       → key_text (register_of top r) ≡ Some t → IsTrue
       (is_among_keys (keys_of_value p (abstract.at w r)) (key_of p (named t)))
   keys_among r l t is =
-      key-among p c.heap (abstract.at w r) (register_of top r) t (has r l) (in_profile r l) is
+      key-among p c.heap (abstract.at w r) (register_of top r) t (has r l) is
 
   pub scope_is : IsRegister fr.function scope
   scope_is = register_scope p good c.heap top fr

@@ -40,7 +40,7 @@ use Rattle.ja_machine.specs.Frames.{register_of, thrown, with_result}
 use Rattle.ja_machine.specs.State.{IsFrame, IsObjectOf, IsValueOf}
 use Rattle.ja_machine.specs.declared.machine.Answer.{Answer}
 use Rattle.ja_machine.specs.declared.machine.Answer.TheVariants as answers
-use Rattle.ja_machine.specs.Calls.{function_called, function_constructing, ArgumentsRead, receiver_of, calls, calls_with, call_step, constructs, new_step, stays, convert_step, enters, return_step, escape_step, returns, given as arguments_given, object_in, default_function}
+use Rattle.ja_machine.specs.Calls.{function_called, function_constructing, ArgumentsRead, receiver_of, calls, calls_with, call_step, constructs, constructs_with, register_values, new_step, stays, convert_step, enters, return_step, escape_step, returns, given as arguments_given, object_in, default_function}
 use Rattle.ja_machine.specs.Intrinsics.{rows as operation_rows, Computation, IntrinsicOutcome}
 use Rattle.ja_machine.specs.Machine.{is_of_kinds, fits, device_wants}
 use Rattle.ja_machine.specs.Nodes.{intrinsic_step, sets_given, device_step}
@@ -58,7 +58,6 @@ use Rattle.ja_abstract.specs.Reading.{View, some_label}
 use Rattle.ja_abstract.specs.Values.{value_if, has_atoms, has_labels, primitives_of, is_nothing}
 use Rattle.ja_abstract.specs.Operations.{operation}
 use Rattle.ja_abstract.proofs.Lists.{Member}
-use Rattle.ja_abstract.proofs.Atoms.{has_atoms-from}
 use Rattle.ja_meaning.specs.Meaning.{has_value}
 use Rattle.ja_meaning.proofs.Values.{has_value-join_left, has_value-join_right}
 use Rattle.ja_meaning.proofs.Gets.{some_label-object}
@@ -69,6 +68,7 @@ use Rattle.ja_rows.specs.Edges.{is_kept, has_other, calls_at, constructs_at}
 use Rattle.ja_rows.specs.BuiltIns.{device_value}
 use Rattle.ja_sound.specs.Statements.{IsAt}
 use Rattle.ja_sound.proofs.AtNode as rows
+use Rattle.ja_sound.proofs.Called.{called_other, constructing_other}
 use Rattle.ja_sound.proofs.PropertyNodes.{throws_gives, sets_gives, rd, has, of_heap}
 use Rattle.ja_sound.proofs.ControlNodes.{Within, within, primitives-have}
 
@@ -138,22 +138,6 @@ module _ (e : Heap) (c : Conf) (top : Frame) (below : List Frame) (x : Point) (w
         throws_gives e c top below x w at good given
         (has_other w entry v) error error_kind.TypeError text site other given_is
 
-  called_other : (v : AbstractValue) (u : Value) → IsValueOf c.heap u
-      → IsTrue (has_value c.heap v u) → function_called p u ≡ None
-      → IsTrue (has_other w (calls_at p) v)
-  called_other v (value.Primitive q) there told none = or_left _ _ (has_atoms-from v q told)
-  called_other v (value.Object a) there told none =
-      or_right (has_atoms v) _ (some-object (λ l. v.label l && not (is_some (calls_at p l))) a there
-      (and_from _ _ told (ap (λ o. not (is_some o)) none)))
-
-  constructing_other : (v : AbstractValue) (u : Value) → IsValueOf c.heap u
-      → IsTrue (has_value c.heap v u) → function_constructing p u ≡ None
-      → IsTrue (has_other w (constructs_at p) v)
-  constructing_other v (value.Primitive q) there told none = or_left _ _ (has_atoms-from v q told)
-  constructing_other v (value.Object a) there told none =
-      or_right (has_atoms v) _ (some-object (λ l. v.label l && not (is_some (constructs_at p l))) a
-      there (and_from _ _ told (ap (λ o. not (is_some o)) none)))
-
   calls_with_inside : (given : Given) (f : FnId) (u : Value) (r : Option Addr) (g : ArgumentsRead)
       → Inside given (Some (calls_with p s f u r g))
   calls_with_inside given f u None g =
@@ -161,6 +145,12 @@ module _ (e : Heap) (c : Conf) (top : Frame) (below : List Frame) (x : Point) (w
   calls_with_inside given f u (Some receiver) (Ok arguments) =
       enters_inside given c.heap f receiver (object_in u) arguments
   calls_with_inside given f u (Some receiver) (Err kind) = left_inside given kind
+
+  constructs_with_inside : (given : Given) (f : FnId) (u : Value) (site : Site) (g : ArgumentsRead)
+      → Inside given (Some (constructs_with p s f u site g))
+  constructs_with_inside given f u site (Ok arguments) =
+      enters_inside given _ f _ (object_in u) arguments
+  constructs_with_inside given f u site (Err kind) = left_inside given kind
 
   pub call_inside : (dst callee receiver : Reg) (args : Args) (error : Site) → IsReg callee
       → IsNodeSite p error → Inside (transfer_node w x i
@@ -179,7 +169,8 @@ module _ (e : Heap) (c : Conf) (top : Frame) (below : List Frame) (x : Point) (w
       by None none =
           by_gives _ _ (throws_gives e c top below x w at good _
           (has_other w (calls_at p) (abstract.at w callee)) error error_kind.TypeError
-          not_a_function_message site (called_other (abstract.at w callee) (register_of top callee)
+          not_a_function_message site (called_other w c.heap at.known.heap
+          (abstract.at w callee) (register_of top callee)
           (of_heap e c top below x w at good callee r)
           (has e c top below x w at good callee r) none) (λ y m. m))
       by (Some f) is =
@@ -199,11 +190,12 @@ module _ (e : Heap) (c : Conf) (top : Frame) (below : List Frame) (x : Point) (w
       by None none =
           by_gives _ _ (throws_gives e c top below x w at good _
           (has_other w (constructs_at p) (abstract.at w callee)) error error_kind.TypeError
-          not_a_constructor_message site_ok (constructing_other (abstract.at w callee)
-          (register_of top callee) (of_heap e c top below x w at good callee r)
+          not_a_constructor_message site_ok (constructing_other w c.heap at.known.heap
+          (abstract.at w callee) (register_of top callee)
+          (of_heap e c top below x w at good callee r)
           (has e c top below x w at good callee r) none) (λ y m. m))
       by (Some f) is =
-          enters_inside _ _ f _ (object_in (register_of top callee)) (map (register_of top) args)
+          constructs_with_inside _ f (register_of top callee) site (register_values top args)
 
   -- ---- Convert: what is kept
 

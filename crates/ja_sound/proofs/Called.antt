@@ -1,6 +1,6 @@
 -- A call: the edge is one of the node's, the entry state holds, and so do the values that are
 -- filled in.
-use Rattle.std.specs.Prelude.{◌≡◌, ◌<◌, ◌+◌, ◌&&◌, ◌==◌, not, ℕ, Bool, false, if◌then◌else◌, IsTrue, List, [], ◌∷◌, map, filter, length, Option, Some, None, IsSome}
+use Rattle.std.specs.Prelude.{◌≡◌, ◌<◌, ◌+◌, ◌&&◌, ◌==◌, not, ℕ, Bool, false, if◌then◌else◌, IsTrue, List, [], ◌∷◌, map, filter, length, is_some, Option, Some, None, IsSome}
 use Rattle.std.specs.List.{list_any, range_with_len}
 use Rattle.std.specs.Option.{option_map_or}
 use Rattle.std.proofs.Common.{refl, sym, subst, ap, ◌∙◌, inl, inr, arith}
@@ -18,7 +18,7 @@ use Rattle.ja_machine.specs.declared.machine.Value.{Value}
 use Rattle.ja_machine.specs.declared.machine.Value.TheVariants as value
 use Rattle.ja_machine.specs.declared.machine.Object.{Object}
 use Rattle.ja_machine.specs.declared.machine.Heap.{Heap}
-use Rattle.ja_machine.specs.Calls.{function_called, receiver_of, is_activation}
+use Rattle.ja_machine.specs.Calls.{function_called, function_constructing, receiver_of, is_activation}
 use Rattle.ja_machine.specs.Heap.{object_at, class_at}
 use Rattle.ja_machine.specs.Machine.{class_of_site}
 use Rattle.ja_machine.specs.Objects.{first_of}
@@ -27,13 +27,15 @@ use Rattle.ja_abstract.specs.AbstractValue.{Labels, AbstractValue, same_label}
 use Rattle.ja_abstract.specs.AbstractState.{labels_of, new}
 use Rattle.ja_abstract.specs.Contents.{label_of}
 use Rattle.ja_abstract.specs.Reading.{View, some_label}
+use Rattle.ja_abstract.specs.Values.{has_atoms}
+use Rattle.ja_abstract.proofs.Atoms.{has_atoms-from}
 use Rattle.ja_abstract.proofs.Labels.{IsAmong, same_label-true, same_label_from, some_among}
 use Rattle.ja_abstract.proofs.Lists.{Member, member-map, member-flat_map, member-range}
 use Rattle.ja_meaning.specs.Meaning.{has_value}
 use Rattle.ja_meaning.proofs.Parts.{label_of-among}
 use Rattle.ja_rows.specs.declared.table.Edge.{Edge}
 use Rattle.ja_rows.specs.Out.{Point}
-use Rattle.ja_rows.specs.Edges.{edge, edges_to, runs, calls_at, some_runs, receivers, is_activation_class, is_activation_label, counts_as_global}
+use Rattle.ja_rows.specs.Edges.{edge, edges_to, runs, calls_at, constructs_at, some_runs, has_other, receivers, is_activation_class, is_activation_label, counts_as_global}
 
 -- what of a list passes is among what is kept
 member-filter : (keep : Labels) (ls : List Label) (l : Label) → IsAmong l ls → IsTrue (keep l)
@@ -50,6 +52,22 @@ member-filter keep (m ∷ ms) l a k =
           cond_both (keep m) (m ∷ filter keep ms) (filter keep ms) (Member l) (λ _. inr more)
           (λ _. more)
     ]
+
+-- the label of an object that is called or constructed runs its function
+runs_by : (o : Option FnId) (f : FnId) → o ≡ Some f
+    → IsTrue (option_map_or (λ (g : FnId). g.0 == f.0) o false)
+runs_by o f is =
+    subst (λ r. IsTrue (option_map_or (λ (g : FnId). g.0 == f.0) r false)) (sym is)
+    (eq-eqb f.0 f.0 refl)
+
+pub runs-called : (p : Program) (h : Heap) (a : Addr) (f : FnId)
+    → function_called p (value.Object a) ≡ Some f → IsTrue (runs (calls_at p) f.0 (label_of h a))
+runs-called p h a f is = runs_by (function_called p (value.Object a)) f is
+
+pub runs-constructing : (p : Program) (h : Heap) (a : Addr) (f : FnId)
+    → function_constructing p (value.Object a) ≡ Some f
+    → IsTrue (runs (constructs_at p) f.0 (label_of h a))
+runs-constructing p h a f is = runs_by (function_constructing p (value.Object a)) f is
 
 module _ (w : View) (c : Heap) (known : IsHeap w.program c) where
   abbrev p : Program
@@ -87,8 +105,37 @@ module _ (w : View) (c : Heap) (known : IsHeap w.program c) where
       → IsTrue (some_runs w (calls_at p) v f.0)
   run-called v a f there has is =
       some-object (λ l. v.label l && runs (calls_at p) f.0 l) a there
-      (and_from _ _ has (subst (λ o. IsTrue (option_map_or (λ (g : FnId). g.0 == f.0) o false))
-      (sym is) (eq-eqb f.0 f.0 refl)))
+      (and_from _ _ has (runs-called p c a f is))
+
+  pub run-constructing : (v : AbstractValue) (a : Addr) (f : FnId) → IsObjectOf c a
+      → IsTrue (v.label (label_of c a)) → function_constructing p (value.Object a) ≡ Some f
+      → IsTrue (some_runs w (constructs_at p) v f.0)
+  run-constructing v a f there has is =
+      some-object (λ l. v.label l && runs (constructs_at p) f.0 l) a there
+      (and_from _ _ has (runs-constructing p c a f is))
+
+  -- a primitive, or an object that runs none
+  other_by : (entry : Label → Option FnId) (v : AbstractValue) (u : Value) → IsValueOf c u
+      → IsTrue (has_value c v u)
+      → ((a : Addr) → u ≡ value.Object a → entry (label_of c a) ≡ None)
+      → IsTrue (has_other w entry v)
+  other_by entry v (value.Primitive q) there told none = or_left _ _ (has_atoms-from v q told)
+  other_by entry v (value.Object a) there told none =
+      or_right (has_atoms v) _ (some-object (λ l. v.label l && not (is_some (entry l))) a there
+      (and_from _ _ told (ap (λ o. not (is_some o)) (none a refl))))
+
+  pub called_other : (v : AbstractValue) (u : Value) → IsValueOf c u → IsTrue (has_value c v u)
+      → function_called p u ≡ None → IsTrue (has_other w (calls_at p) v)
+  called_other v u there told none =
+      other_by (calls_at p) v u there told
+      (λ a is. subst (λ z. function_called p z ≡ None) is none)
+
+  pub constructing_other : (v : AbstractValue) (u : Value) → IsValueOf c u
+      → IsTrue (has_value c v u) → function_constructing p u ≡ None
+      → IsTrue (has_other w (constructs_at p) v)
+  constructing_other v u there told none =
+      other_by (constructs_at p) v u there told
+      (λ a is. subst (λ z. function_constructing p z ≡ None) is none)
 
   -- ---- receivers
 

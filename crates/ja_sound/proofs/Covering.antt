@@ -32,7 +32,7 @@ use Rattle.ja_abstract.proofs.Keys.{same_key-true}
 use Rattle.ja_abstract.proofs.Labels.{same_label-true, some_among}
 use Rattle.ja_abstract.proofs.Lists.{Member, member-append_left, member-append_right, member-map, member-flat_map, member-range}
 use Rattle.ja_abstract.proofs.Joins.{and_three_parts}
-use Rattle.ja_meaning.specs.Meaning.{EntriesHold, context_of, knows, Grows, Holds}
+use Rattle.ja_meaning.specs.Meaning.{EntriesHold, context_of, knows, Holds}
 use Rattle.ja_meaning.proofs.Parts.{label_of-among}
 use Rattle.ja_meaning.proofs.Values.{knows-join_left, knows-join_right}
 use Rattle.ja_meaning.proofs.Above.{holds-join_left, holds-join_right}
@@ -44,8 +44,8 @@ use Rattle.ja_rows.specs.Table.{Table, IsClosed, StateAt, ValuesOf, Effects, no_
 use Rattle.ja_rows.specs.Calls.{calling_state, demands_of_calling, demands_of_fill, entered_by, filled_with, given_back}
 use Rattle.ja_rows.proofs.Applied.{HasState, IfDemanded, settled-state, settled-demand, settled-edge, settled-value}
 use Rattle.ja_sound.specs.Sound.{IsCovered, CoversRuns}
-use Rattle.ja_sound.specs.Invariants.{AreBounded, AreListed, AreInProfile, AreScoped}
 use Rattle.ja_sound.specs.Statements.{IsAt, IsGiven, SoundWithin, edge_into, IsEntered, SoundInto, IsCalling, SoundOutOf}
+use Rattle.ja_sound.proofs.AtCovered.{GrowsAlong, at_covered}
 use Rattle.ja_sound.proofs.Stacked.{IsAbove, AreStacked}
 
 -- ---- lists of answers
@@ -195,12 +195,6 @@ pub record IsGood (p : Program) (t : Table) (answers : List Answer) (c : Conf) :
 abbrev pub Good : Program → Table → List Answer → Type 0
 Good p t answers = (c : Conf) → state_of p answers ≡ Some c → IsGood p t answers c
 
--- no object goes from an earlier moment on
-abbrev pub GrowsAlong : Program → Type 0
-GrowsAlong p =
-    (answers : List Answer) (n : ℕ) (c d : Conf) → earlier_state p answers n ≡ Some c
-    → state_of p answers ≡ Some d → Grows c.heap d.heap
-
 module _ (p : Program) (t : Table) (closed : IsClosed p t) where
   some-is : (o : Option AbstractState) (a : AbstractState) → o ≡ Some a → IsSome o
   some-is o a e = subst (λ r. IsSome r) (sym e) refl
@@ -244,8 +238,7 @@ module _ (p : Program) (t : Table) (closed : IsClosed p t) where
   state-there P (Some s) h = (s, refl, h)
 
   module _ (within : SoundWithin p) (into : SoundInto p) (out_of : SoundOutOf p)
-      (states : AreStates p) (steps : AreSteps p) (scoped : AreScoped p) (profile : AreInProfile p)
-      (bounded : AreBounded p) (listed : AreListed p) (grows : GrowsAlong p) where
+      (states : AreStates p) (steps : AreSteps p) (grows : GrowsAlong p) where
     -- ---- a moment of a run
 
     module _ (answers : List Answer) (c : Conf) (reached : state_of p answers ≡ Some c)
@@ -267,24 +260,7 @@ module _ (p : Program) (t : Table) (closed : IsClosed p t) where
       w = view_at p t ctx cov.state
 
       is_at : IsAt p e c cov.top cov.below x w
-      is_at = record {
-        program = refl;
-        entry_heap =
-            (states (drop (length answers - cov.top.born) answers) cov.at_entry
-            cov.at_entry_is).heap;
-        known = states answers c reached;
-        scopes = scoped answers c reached;
-        profile = profile answers c cov.top cov.below reached cov.frames_are;
-        bounded = bounded answers c cov.top cov.below reached cov.frames_are;
-        lists = listed answers c reached;
-        grows = grows answers cov.top.born cov.at_entry c cov.at_entry_is reached;
-        frames_are = cov.frames_are;
-        context = refl;
-        number = refl;
-        info = info_is;
-        holds = cov.holds;
-        entries = cov.entries;
-      }
+      is_at = at_covered p t states grows answers c reached cov i info_is
 
       stays : applied t (effects_step w x (transfer w x)) ≡ t
       stays = step_same ctx cov.top.node i cov.state info_is cov.state_is

@@ -1,6 +1,6 @@
 -- A function that is entered: the state at its entry holds, and the edge is one of the node's.
 use Rattle.std.specs.Prelude.{◌≡◌, ◌<◌, ◌≤◌, ◌+◌, ◌-◌, ◌++◌, ℕ, zero, suc, pos, IsTrue, List, [], ◌∷◌, map, drop, replicate, length, slice_get, unwrap_or, Option, Some}
-use Rattle.std.specs.List.{range_with_len}
+use Rattle.std.specs.List.{AllByRecursion, range_with_len}
 use Rattle.std.proofs.Common.{refl, sym, subst, inr, arith}
 use Rattle.std.proofs.lemmas.Option.{none-some, same_Some}
 use Rattle.std.proofs.lemmas.List.{length-map}
@@ -131,14 +131,17 @@ module _ (h : Heap) (p : Program) (steps : ℕ) (f : FnId) (receiver : Addr) (ca
 
 -- ---- registers as arguments
 
-module _ (h : Heap) (w : View) (top : Frame) (has : (r : Reg)
-    → IsTrue (has_value h (abstract.at w r) (register_of top r))) where
-  listed_has : (list : List Reg) (j : ℕ) → IsTrue
+module _ (h : Heap) (w : View) (top : Frame) where
+  -- the value of a register is in what the view has at it
+  abbrev pub Has : Reg → Type 0
+  Has r = IsTrue (has_value h (abstract.at w r) (register_of top r))
+
+  listed_has : (list : List Reg) (j : ℕ) → AllByRecursion Has list → IsTrue
       (has_value h (unwrap_or (slice_get (calls.values_of w list) j) undefined_value)
       (argument (map (register_of top) list) j))
-  listed_has [] j = refl
-  listed_has (r ∷ rs) zero = has r
-  listed_has (r ∷ rs) (suc j) = listed_has rs j
+  listed_has [] j has = refl
+  listed_has (r ∷ rs) zero has = has.0
+  listed_has (r ∷ rs) (suc j) has = listed_has rs j has.1
 
   join_has : (us : List AbstractValue) (vs : List Value) (i : ℕ) (v : Value)
       → ((j : ℕ) (u : Value) → slice_get vs j ≡ Some u
@@ -156,20 +159,20 @@ module _ (h : Heap) (w : View) (top : Frame) (has : (r : Reg)
       in_join (y ∷ ys) (suc n) x u at b =
           has_value-join_right h y (join_values ys) u (in_join ys n x u at b)
 
-  paired : (list : List Reg) (n j : ℕ) (u : Value)
+  paired : (list : List Reg) → AllByRecursion Has list → (n j : ℕ) (u : Value)
       → slice_get (drop n (map (register_of top) list)) j ≡ Some u
       → (x : AbstractValue) × (slice_get (drop n (calls.values_of w list)) j ≡ Some x)
       × IsTrue (has_value h x u)
-  paired [] zero j u e = absurd (none-some u e)
-  paired [] (suc n) j u e = absurd (none-some u e)
-  paired (r ∷ rs) zero zero u e = (
+  paired [] has zero j u e = absurd (none-some u e)
+  paired [] has (suc n) j u e = absurd (none-some u e)
+  paired (r ∷ rs) has zero zero u e = (
     abstract.at w r,
     refl,
     subst (λ z. IsTrue (has_value h (abstract.at w r) z))
-        (same_Some (register_of top r) u e) (has r),
+        (same_Some (register_of top r) u e) has.0,
   )
-  paired (r ∷ rs) zero (suc j) u e = paired rs zero j u e
-  paired (r ∷ rs) (suc n) j u e = paired rs n j u e
+  paired (r ∷ rs) has zero (suc j) u e = paired rs has.1 zero j u e
+  paired (r ∷ rs) has (suc n) j u e = paired rs has.1 n j u e
 
   -- a place in a list is one in what is left of it
   dropped : (vs : List Value) (n i : ℕ) (v : Value) → n ≤ i → slice_get vs i ≡ Some v
@@ -182,16 +185,16 @@ module _ (h : Heap) (w : View) (top : Frame) (has : (r : Reg)
       subst (λ k. slice_get (drop n xs) k ≡ Some v)
       (let z : i - n ≡ suc i - suc n = omega arith in z) (dropped xs n i v (omega arith) e)
 
-  pub listed_given : (parameters : ℕ) (list : List Reg)
+  pub listed_given : (parameters : ℕ) (list : List Reg) → AllByRecursion Has list
       → AreGiven h parameters (map (register_of top) list) (calls.listed w parameters list)
-  listed_given parameters list = record {
-    parameter = λ j l. listed_has list j;
+  listed_given parameters list has = record {
+    parameter = λ j l. listed_has list j has;
     rest =
         λ i v l e. has_value-join_right h undefined_value
         (join_values (drop parameters (calls.values_of w list))) v
         (join_has (drop parameters (calls.values_of w list))
-        (drop parameters (map (register_of top) list)) (i - parameters) v (paired list parameters)
-        (dropped (map (register_of top) list) parameters i v l e));
+        (drop parameters (map (register_of top) list)) (i - parameters) v
+        (paired list has parameters) (dropped (map (register_of top) list) parameters i v l e));
     no_rest =
         has_value-join_left h undefined_value (join_values
         (drop parameters (calls.values_of w list))) undefined refl;

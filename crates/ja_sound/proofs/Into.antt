@@ -1,14 +1,10 @@
 -- A step into a function: from what its node gives, all that is asked of an entry.
-use Rattle.std.specs.Prelude.{◌≡◌, ◌<◌, ◌&&◌, ◌==◌, ℕ, false, IsTrue, List, length, unwrap_or, Option, Some, None, IsSome}
-use Rattle.std.specs.Option.{option_map_or, option_and_then}
+use Rattle.std.specs.Prelude.{◌≡◌, ◌&&◌, ℕ, IsTrue, List, unwrap_or, Option, Some, None, IsSome}
+use Rattle.std.specs.Option.{option_and_then}
 use Rattle.std.proofs.Common.{refl, sym, subst, ap, ◌∙◌}
-use Rattle.std.proofs.lemmas.Bool.{false≢true, eq-eqb, or_left, or_right, and_from}
+use Rattle.std.proofs.lemmas.Bool.{false≢true, or_left, or_right, and_from}
 use Rattle.ja_base.specs.declared.ids.FnId.{FnId}
-use Rattle.ja_base.specs.declared.ids.Reg.{Reg}
-use Rattle.ja_base.specs.declared.ids.Site.{Site}
-use Rattle.ja_graph.specs.declared.node.Args.{Args}
 use Rattle.ja_graph.specs.declared.node.Node.{Node}
-use Rattle.ja_graph.specs.declared.node.Node.TheVariants as node
 use Rattle.ja_graph.specs.declared.program.Program.{Program}
 use Rattle.ja_graph.specs.Program.{global}
 use Rattle.ja_machine.specs.declared.machine.Addr.{Addr}
@@ -17,15 +13,14 @@ use Rattle.ja_machine.specs.declared.machine.Value.TheVariants as value
 use Rattle.ja_machine.specs.declared.machine.Object.{Object}
 use Rattle.ja_machine.specs.declared.machine.Heap.{Heap}
 use Rattle.ja_machine.specs.declared.machine.Frame.{Frame}
-use Rattle.ja_machine.specs.declared.machine.Conf.{Conf}
-use Rattle.ja_machine.specs.Calls.{function_called, receiver_of, chain_of}
+use Rattle.ja_machine.specs.Calls.{chain_of}
 use Rattle.ja_machine.specs.Heap.{object_at}
 use Rattle.ja_machine.specs.Objects.{first_of}
 use Rattle.ja_machine.specs.Frames.{entered, parameters_of, object_or_undefined}
-use Rattle.ja_machine.specs.State.{IsHeap, IsObjectOf, IsValueOf}
+use Rattle.ja_machine.specs.State.{IsHeap, IsObjectOf}
 use Rattle.ja_abstract.specs.declared.abstraction.Slot.TheVariants as slots
 use Rattle.ja_abstract.specs.AbstractValue.{Labels, AbstractValue, of_label, of_labels}
-use Rattle.ja_abstract.specs.AbstractState.{labels_of, new}
+use Rattle.ja_abstract.specs.AbstractState.{labels_of}
 use Rattle.ja_abstract.specs.Resolved.{resolved, demands_of, IsFilled}
 use Rattle.ja_abstract.specs.Keys.{internal, key_of}
 use Rattle.ja_abstract.specs.Contents.{content, held_address, label_of}
@@ -41,17 +36,14 @@ use Rattle.ja_meaning.proofs.Resolved.{own-knows}
 use Rattle.ja_meaning.proofs.Moments.{Reads}
 use Rattle.ja_rows.specs.Out.{Point, at}
 use Rattle.ja_rows.specs.Transfer.{transfer_node}
-use Rattle.ja_rows.specs.Edges.{calls_at, some_runs, receivers, runs}
 use Rattle.ja_rows.specs.Calls as calls
 use Rattle.ja_rows.specs.Calls.{calling, calling_state, callees, demands_of_calling, chain_value, callee_value, demands_of_chain}
-use Rattle.ja_sound.specs.Statements.{IsAt, edge_into, IsEntered}
-use Rattle.ja_sound.proofs.Called.{member-edges, run-called, receiver-is}
+use Rattle.ja_sound.specs.Statements.{edge_into, IsEntered}
 use Rattle.ja_sound.proofs.Entered.{AreGiven, entry_holds}
-use Rattle.ja_sound.proofs.Callables.{called_runs}
 
 -- ---- from an entry's parts
 
-module _ (e : Heap) (d : Conf) (top : Frame) (x : Point) (w : View) (f : FnId) (receiver : Addr)
+module _ (e h : Heap) (top : Frame) (x : Point) (w : View) (f : FnId) (receiver : Addr)
     (callee : Option Addr) (chain : Addr) (arguments : List Value) (steps : ℕ) where
   abbrev p : Program
   p = w.program
@@ -59,24 +51,23 @@ module _ (e : Heap) (d : Conf) (top : Frame) (x : Point) (w : View) (f : FnId) (
   abbrev frame : Frame
   frame = entered p steps f receiver callee chain arguments
 
-  -- what is known of a step that enters from a node
+  -- what is known of a step that enters from a node, with a heap
   pub record EntersFrom (n : Node) : Type 0 where
     pub entry_heap : IsHeap p e
-    pub heap : IsHeap p d.heap
-    pub grows : Grows e d.heap
+    pub heap : IsHeap p h
+    pub grows : Grows e h
     pub entries : EntriesHold p e w.entries
-    pub edge : Member (edge_into x d.heap frame) (transfer_node w x x.info n).edges
+    pub edge : Member (edge_into x h frame) (transfer_node w x x.info n).edges
     pub calling_holds : IsFilled w.entries (demands_of_calling w n f.0)
-        → Holds p e d.heap top (calling_state w n f.0)
+        → Holds p e h top (calling_state w n f.0)
     pub chain_has : IsFilled w.entries (demands_of_calling w n f.0)
         → IsFilled w.entries (demands_of_chain (calling w n f.0) n f.0)
-        → IsTrue (has_value d.heap (chain_value (calling w n f.0) n f.0) (value.Object chain))
+        → IsTrue (has_value h (chain_value (calling w n f.0) n f.0) (value.Object chain))
     pub callee_has : IsFilled w.entries (demands_of_calling w n f.0)
-        → IsTrue (has_value d.heap (callee_value (calling w n f.0) n f.0)
-        (object_or_undefined callee))
+        → IsTrue (has_value h (callee_value (calling w n f.0) n f.0) (object_or_undefined callee))
     pub given : IsFilled w.entries (demands_of_calling w n f.0)
         → IsFilled w.entries (calls.given (calling w n f.0) x.context.function
-        (parameters_of p f) n).demands → AreGiven d.heap (parameters_of p f) arguments
+        (parameters_of p f) n).demands → AreGiven h (parameters_of p f) arguments
         (calls.given (calling w n f.0) x.context.function (parameters_of p f) n)
 
   abbrev n : Node
@@ -86,35 +77,36 @@ module _ (e : Heap) (d : Conf) (top : Frame) (x : Point) (w : View) (f : FnId) (
   c = calling w n f.0
 
   module _ (enters : EntersFrom x.info.node) where
-    read_calling : IsFilled w.entries (demands_of_calling w n f.0) → Reads e d.heap c
-    read_calling filled = let h = enters.calling_holds filled in record {
+    read_calling : IsFilled w.entries (demands_of_calling w n f.0) → Reads e h c
+    read_calling filled = let holds = enters.calling_holds filled in record {
       heap_at_entry = enters.entry_heap;
       heap_now = enters.heap;
       grows = enters.grows;
-      holds = h.heap;
+      holds = holds.heap;
       entries = enters.entries;
     }
 
-    pub is_entered : IsEntered p e d top frame x w
-    is_entered = record {
+    pub is_entered : (frames : List Frame) (count : ℕ)
+        → IsEntered p e (record { heap = h; frames = frames; steps = count }) top frame x w
+    is_entered frames count = record {
       edge = enters.edge;
       state = λ filled.
           let first : IsFilled w.entries (demands_of_calling w n f.0) =
-          λ l k h. filled l k (or_left _ _ h) in
+          λ l k d. filled l k (or_left _ _ d) in
           let second : IsFilled w.entries (demands_of_chain c n f.0) =
-          λ l k h. filled l k (or_right (demands_of_calling w n f.0 l k) _ (or_left _ _ h)) in
+          λ l k d. filled l k (or_right (demands_of_calling w n f.0 l k) _ (or_left _ _ d)) in
           let third : IsFilled w.entries (calls.given c x.context.function
-          (parameters_of p f) n).demands = λ l k h. filled l k
+          (parameters_of p f) n).demands = λ l k d. filled l k
           (or_right (demands_of_calling w n f.0 l k) _
-          (or_right (demands_of_chain c n f.0 l k) _ h)) in
-          entry_holds d.heap p steps f receiver callee chain arguments
-          (of_label (label_of d.heap receiver)) (chain_value c n f.0) (callee_value c n f.0)
+          (or_right (demands_of_chain c n f.0 l k) _ d)) in
+          entry_holds h p steps f receiver callee chain arguments
+          (of_label (label_of h receiver)) (chain_value c n f.0) (callee_value c n f.0)
           (calls.given c x.context.function (parameters_of p f) n)
-          (same_label-self (label_of d.heap receiver)) (enters.chain_has first second)
+          (same_label-self (label_of h receiver)) (enters.chain_has first second)
           (enters.callee_has first) (enters.given first third);
       calling = enters.calling_holds;
       values =
-          λ a y there filled pair. own-knows e d.heap c (read_calling filled) a y (key_of p y)
+          λ a y there filled pair. own-knows e h c (read_calling filled) a y (key_of p y)
           (same_key-self (key_of p y)) there pair;
     }
 
@@ -166,56 +158,3 @@ module _ (e h : Heap) (c : View) (read : Reads e h c) (n : Node) (f : ℕ) where
       subst (λ r. IsTrue (has_value h chains (value.Object (unwrap_or r (first_of global)))))
       (sym (ap (λ r. option_and_then (λ (q : Object). q.slots.scope) r) at))
       (by_slot a o at has here o.slots.scope refl scoped)
-
--- ---- a call
-
-module _ (e : Heap) (c : Conf) (d : Conf) (same_heap : d.heap ≡ c.heap) (top : Frame)
-    (below : List Frame) (x : Point) (w : View) (here : IsAt w.program e c top below x w)
-    (global_there : IsObjectOf c.heap (first_of global))
-    (global_new : label_of c.heap (first_of global) ≡ new global) (dst callee receiver : Reg)
-    (list : Args) (error : Site) (a r : Addr) (o : Object) (object_is : object_at c.heap a ≡ Some o)
-    (called : IsTrue ((at w callee).label (label_of c.heap a))) (f : FnId)
-    (f_is : function_called w.program (value.Object a) ≡ Some f)
-    (in_range : f.0 < length w.program.functions) (u : Value) (u_there : IsValueOf c.heap u)
-    (u_has : IsTrue (has_value c.heap (at w receiver) u)) (r_is : receiver_of c.heap u ≡ Some r)
-    (arguments : List Value) (steps : ℕ) where
-  abbrev call : Node
-  call = node.Call dst callee receiver list error
-
-  pub call_enters : (IsFilled w.entries (calls.given w x.context.function
-      (parameters_of w.program f) call).demands → AreGiven c.heap
-      (parameters_of w.program f) arguments (calls.given w x.context.function
-      (parameters_of w.program f) call)) → EntersFrom e c top x w f r (Some a)
-      (chain_of c.heap (Some a)) arguments steps call
-  call_enters given =
-      let there : IsObjectOf c.heap a = subst (λ z. IsSome z) (sym object_is) refl in
-      let (r_there, r_has) =
-      receiver-is w c.heap here.known.heap global_there global_new
-      (at w receiver) u r u_there u_has r_is in
-      let run : IsTrue (runs (calls_at w.program) f.0 (label_of c.heap a)) =
-      subst (λ g. IsTrue (option_map_or (λ (k : FnId). k.0 == f.0) g false)) (sym f_is)
-      (eq-eqb f.0 f.0 refl) in
-      let read : Reads e c.heap w = record {
-        heap_at_entry = here.entry_heap;
-        heap_now = here.known.heap;
-        grows = here.grows;
-        holds = here.holds.heap;
-        entries = here.entries;
-      } in
-      record {
-        entry_heap = here.entry_heap;
-        heap = here.known.heap;
-        grows = here.grows;
-        entries = here.entries;
-        edge =
-            member-edges w c.heap here.known.heap x (some_runs w (calls_at w.program) (at w callee))
-            (receivers w (at w receiver)) f.0 r in_range
-            (run-called w c.heap here.known.heap (at w callee) a f there called f_is) r_there r_has;
-        calling_holds = λ filled. here.holds;
-        chain_has =
-            λ first filled. chain-has e c.heap w read call f.0 a o object_is
-            (here.scopes.scope a o object_is (called_runs w.program a f f_is))
-            (and_from _ _ called run) filled;
-        callee_has = λ filled. and_from _ _ called run;
-        given = λ filled third. given third;
-      }

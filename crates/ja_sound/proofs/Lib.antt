@@ -1,4 +1,5 @@
 pub mod Assembled
+pub mod AtCovered
 pub mod AtNode
 pub mod CallNodes
 pub mod Callables
@@ -7,8 +8,12 @@ pub mod Constructed
 pub mod ControlNodes
 pub mod Covering
 pub mod DigitRows
+pub mod Elements
 pub mod Entered
+pub mod EnteringNodes
+pub mod FaultKinds
 pub mod Into
+pub mod IntoSound
 pub mod Left
 pub mod ObjectNodes
 pub mod Opening
@@ -20,3 +25,6 @@ pub mod Returned
 pub mod SoundSteps
 pub mod Stacked
 pub mod Steps
+pub mod Taken
+pub mod Throwing
+pub mod Warned

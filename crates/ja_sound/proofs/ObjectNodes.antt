@@ -2,7 +2,7 @@
 use Rattle.std.specs.Prelude.{◌≡◌, ◌≢◌, ◌<◌, ◌&&◌, ℕ, Bool, true, false, if◌then◌else◌, IsTrue, List, [], ◌∷◌, map, length, slice_get, find, Option, Some, None, is_some, unwrap_or, suc, ◌≤◌, ◌+◌, pos, nat_lt}
 use Rattle.std.specs.Option.{option_map_or}
 use Rattle.std.proofs.Common.{refl, sym, subst, ap, ◌∙◌, inl, inr, arith, length-set}
-use Rattle.std.proofs.lemmas.Bool.{cond-true, or_left, or_right, and_from, cases_Bool, cond_both, ltb-true, ltb-false}
+use Rattle.std.proofs.lemmas.Bool.{cond-true, or_left, or_right, and_from, cases_Bool, cond_both, ltb-true, ltb-false, leb-true, lt-ltb}
 use Rattle.std.specs.List.{AllByRecursion, list_any}
 use lib.Chars.{codes}
 use Rattle.ja_base.specs.declared.ids.Label.{Label}
@@ -17,9 +17,10 @@ use Rattle.ja_base.proofs.Lists.{within_from_some}
 use Rattle.ja_prim.specs.declared.primitive.Primitive.{Primitive}
 use Rattle.ja_prim.specs.declared.primitive.Primitive.TheVariants as primitive
 use Rattle.ja_prim.specs.declared.primitive.Num.TheVariants.{NaN, Whole}
+use Rattle.ja_base.specs.declared.ids.ScopeKind.TheVariants.{TextLength}
 use Rattle.ja_prim.specs.Index.{is_index}
 use Rattle.ja_prim.specs.declared.primitive.Num.{Num}
-use Rattle.ja_prim.specs.Texts.{same_text}
+use Rattle.ja_prim.specs.Texts.{same_text, is_short, max_units}
 use Rattle.ja_graph.specs.declared.attrs.Attrs.{Attrs}
 use Rattle.ja_graph.specs.declared.builtins.TheConstants as builtins
 use Rattle.ja_graph.specs.declared.node.ErrorKind.TheVariants as error_kind
@@ -276,37 +277,44 @@ module _ (e : Heap) (c : Conf) (top : Frame) (below : List Frame) (x : Point) (w
     text_part_has text_part.OtherText t h = refl
     text_part_has text_part.Text t h = refl
 
-    pub to_object_gives : ((units : List ℕ) → register_of top src
-        ≡ value.Primitive (primitive.Text units) → IsTrue (is_index (pos (length units))))
-        → (u : Value) → register_of top src ≡ u → IsValueOf c.heap u → IsTrue (has_value c.heap v u)
+    -- the length of a text that isn't too long is an index
+    length_is_index : (units : List ℕ) → IsTrue (is_short units)
+        → IsTrue (is_index (pos (length units)))
+    length_is_index units short =
+        let few : length units ≤ max_units = leb-true (length units) max_units short in
+        lt-ltb (length units) 4294967295 (omega arith)
+
+    pub to_object_gives : (u : Value) → IsValueOf c.heap u → IsTrue (has_value c.heap v u)
         → Gives given (to_object_step s dst sites error u)
-    to_object_gives short (value.Object a) is there told =
+    to_object_gives (value.Object a) there told =
         sets_gives e c top below x w at good given dst (value.Object a)
         (of_labels v.label) d there told (λ y m. member-append_left y g_object _ m)
-    to_object_gives short (value.Primitive primitive.Undefined) is there told =
+    to_object_gives (value.Primitive primitive.Undefined) there told =
         nothing (or_left _ _ told)
-    to_object_gives short (value.Primitive primitive.Null) is there told =
+    to_object_gives (value.Primitive primitive.Null) there told =
         nothing (or_right _ _ told)
-    to_object_gives short (value.Primitive (primitive.Bool b)) is there told =
+    to_object_gives (value.Primitive (primitive.Bool b)) there told =
         wraps_gives class.Boolean builtins.BOOLEAN_PROTOTYPE 9 class.Boolean refl refl sites.boolean
         l_bool (primitive.Bool b) (bools_of v) (bool_has b told)
         (λ y m. member-append_right y g_object _ (member-append_left y g_bool _ m))
-    to_object_gives short (value.Primitive (primitive.Number n)) is there told =
+    to_object_gives (value.Primitive (primitive.Number n)) there told =
         wraps_gives class.Number builtins.NUMBER_PROTOTYPE 11 class.Number refl refl sites.number
         l_number (primitive.Number n) (numbers_of v) (number_has n told)
         (λ y m. member-append_right y g_object _ (member-append_right y g_bool _
         (member-append_left y g_number _ m)))
-    to_object_gives short (value.Primitive (primitive.Text units)) is there told =
+    to_object_gives (value.Primitive (primitive.Text units)) there told =
         let o : Object =
         wrapper class.String builtins.STRING_PROTOTYPE (primitive.Text units)
         (text_length units) in
-        rows.makes_to e c top below x w at good given dst i.next sites.text o
+        either_way (Gives given) (is_short units) (makes s dst sites.text o)
+        (machine.left_scope s TextLength)
+        (λ short. rows.makes_to e c top below x w at good given dst i.next sites.text o
         (λ a. text_own v.text) l_text (dest dst d)
         (λ known. text_made p good (with_new c.heap sites.text o) known units v.text told
-        (short units is))
+        (length_is_index units short))
         (member-append_right _ g_object _ (member-append_right _ g_bool _
         (member-append_right _ g_number _ (member-append_left _ g_text _
-        (member-goes (has_text v.text) i.next _ (text_part_has v.text units told))))))
+        (member-goes (has_text v.text) i.next _ (text_part_has v.text units told))))))) (λ long. tt)
 
   -- ---- two objects
 
@@ -600,193 +608,195 @@ module _ (e : Heap) (c : Conf) (top : Frame) (below : List Frame) (x : Point) (w
 
   -- ---- Enter
 
-  module _ (few : length top.arguments ≤ 4294967295) where
-    abbrev fn : Function
-    fn = fr.function
+  abbrev few : length top.arguments ≤ 4294967295
+  few = fr.few_arguments
 
-    ids_are : parameter_ids p top.function ≡ fn.parameters
-    ids_are = ap (λ o. option_map_or (λ (f : Function). f.parameters) o []) fr.function_is
+  abbrev fn : Function
+  fn = fr.function
 
-    texts_are : parameter_names p top.function ≡ map (name_text p) (parameter_ids p top.function)
-    texts_are =
-        ap (λ o. option_map_or (λ (f : Function). map (name_text p) f.parameters) o [])
-        fr.function_is ∙ ap (map (name_text p)) (sym ids_are)
+  ids_are : parameter_ids p top.function ≡ fn.parameters
+  ids_are = ap (λ o. option_map_or (λ (f : Function). f.parameters) o []) fr.function_is
 
-    parameters_count : parameters_of p top.function ≡ length fn.parameters
-    parameters_count =
-        ap (λ o. option_map_or (λ (f : Function). length f.parameters) o 0) fr.function_is
+  texts_are : parameter_names p top.function ≡ map (name_text p) (parameter_ids p top.function)
+  texts_are =
+      ap (λ o. option_map_or (λ (f : Function). map (name_text p) f.parameters) o [])
+      fr.function_is ∙ ap (map (name_text p)) (sym ids_are)
 
-    name_all : (now : Heap) (a : AbstractState) (t : List ℕ) (ns : List NameId)
-        → AllByRecursion (IsName p) ns → AreNames p good now a t ns
-    name_all now a t [] all = tt
-    name_all now a t (n ∷ ns) all = (all.0, name_all now a t ns all.1)
+  parameters_count : parameters_of p top.function ≡ length fn.parameters
+  parameters_count =
+      ap (λ o. option_map_or (λ (f : Function). length f.parameters) o 0) fr.function_is
 
-    names_ok : (now : Heap) (a : AbstractState) (t : List ℕ)
-        → AreNames p good now a t (parameter_ids p top.function)
-    names_ok now a t =
-        subst (AreNames p good now a t) (sym ids_are)
-        (name_all now a t fn.parameters (function_of_frame p good c.heap top fr).parameters)
+  name_all : (now : Heap) (a : AbstractState) (t : List ℕ) (ns : List NameId)
+      → AllByRecursion (IsName p) ns → AreNames p good now a t ns
+  name_all now a t [] all = tt
+  name_all now a t (n ∷ ns) all = (all.0, name_all now a t ns all.1)
 
-    -- what a register holds
-    at_register : (r : ℕ) (v : Value) → slice_get top.registers r ≡ Some v
-        → IsValueOf c.heap v × IsTrue (has_value c.heap (w.state.register r) v)
-    at_register r v is = (fr.values r v is, at.holds.frame.registers r v is)
+  names_ok : (now : Heap) (a : AbstractState) (t : List ℕ)
+      → AreNames p good now a t (parameter_ids p top.function)
+  names_ok now a t =
+      subst (AreNames p good now a t) (sym ids_are)
+      (name_all now a t fn.parameters (function_of_frame p good c.heap top fr).parameters)
 
-    scope_goes : (outer : Addr) → IsObjectOf c.heap outer
-        → IsTrue (has_value c.heap (abstract_out.at w scope) (value.Object outer))
-        → IsTrue (has_some_part w (w.state.register count_register))
-    scope_goes outer there told =
-        has_part-has_value p c.heap at.known.heap (w.state.register count_register)
-        (whole_number (length top.arguments)) tt (at.holds.frame.registers 4
-        (whole_number (length top.arguments)) fr.count_is)
+  -- what a register holds
+  at_register : (r : ℕ) (v : Value) → slice_get top.registers r ≡ Some v
+      → IsValueOf c.heap v × IsTrue (has_value c.heap (w.state.register r) v)
+  at_register r v is = (fr.values r v is, at.holds.frame.registers r v is)
 
-    -- in the context of the frame's function
-    abbrev made_with : FnId → Site → Option Site → AbstractState
-    made_with f site list =
-        option_map_or (λ (l : Site). with_objects w.program w.state site (activation_own p f list) l
-        (arguments_own p f)) list (Rattle.ja_abstract.specs.Made.with_object w.program w.state site
-        (activation_own p f list))
+  scope_goes : (outer : Addr) → IsObjectOf c.heap outer
+      → IsTrue (has_value c.heap (abstract_out.at w scope) (value.Object outer))
+      → IsTrue (has_some_part w (w.state.register count_register))
+  scope_goes outer there told =
+      has_part-has_value p c.heap at.known.heap (w.state.register count_register)
+      (whole_number (length top.arguments)) tt (at.holds.frame.registers 4
+      (whole_number (length top.arguments)) fr.count_is)
 
-    abbrev given_for : FnId → Site → Option Site → Given
-    given_for f site list =
-        goes (has_some_part w (w.state.register count_register)) i.next
-        (abstract_scopes.enters_scope (made_with f site list) site)
+  -- in the context of the frame's function
+  abbrev made_with : FnId → Site → Option Site → AbstractState
+  made_with f site list =
+      option_map_or (λ (l : Site). with_objects w.program w.state site (activation_own p f list) l
+      (arguments_own p f)) list (Rattle.ja_abstract.specs.Made.with_object w.program w.state site
+      (activation_own p f list))
 
-    plain_enter : (site : Site) → IsNodeSite p site → (outer : Addr) → IsObjectOf c.heap outer
-        → IsTrue (has_value c.heap (abstract_out.at w scope) (value.Object outer))
-        → Gives (given_for top.function site None)
-        (enter s site outer (map (name_text p) (parameter_ids p top.function)) None)
-    plain_enter site l outer there told =
-        let f : FnId = top.function in
-        let o : Object =
-        activation outer (with_parameters [] (map (name_text p) (parameter_ids p f))
-        top.arguments []) in
-        rows.makes_to e c top below x w at good (given_for f site None) scope i.next site o
-        (activation_own p f None) l (rows.dest_scope e c top below x w at good)
-        (λ known. activation_made p good (with_new c.heap site o)
-        (with_made w.state site) f outer top.arguments []
-        (aged_register site o l 2 (value.Object outer) there told)
-        (λ t. names_ok (with_new c.heap site o) (with_made w.state site) t)
-        (λ n below_. let k = at_register (5 + n) (argument top.arguments n)
-        (fr.parameters_are n (subst (λ ns. n < length ns) ids_are below_)) in
-        aged_register site o l (5 + n) (argument top.arguments n) k.0 k.1))
+  abbrev given_for : FnId → Site → Option Site → Given
+  given_for f site list =
+      goes (has_some_part w (w.state.register count_register)) i.next
+      (abstract_scopes.enters_scope (made_with f site list) site)
+
+  plain_enter : (site : Site) → IsNodeSite p site → (outer : Addr) → IsObjectOf c.heap outer
+      → IsTrue (has_value c.heap (abstract_out.at w scope) (value.Object outer))
+      → Gives (given_for top.function site None)
+      (enter s site outer (map (name_text p) (parameter_ids p top.function)) None)
+  plain_enter site l outer there told =
+      let f : FnId = top.function in
+      let o : Object =
+      activation outer (with_parameters [] (map (name_text p) (parameter_ids p f))
+      top.arguments []) in
+      rows.makes_to e c top below x w at good (given_for f site None) scope i.next site o
+      (activation_own p f None) l (rows.dest_scope e c top below x w at good)
+      (λ known. activation_made p good (with_new c.heap site o)
+      (with_made w.state site) f outer top.arguments []
+      (aged_register site o l 2 (value.Object outer) there told)
+      (λ t. names_ok (with_new c.heap site o) (with_made w.state site) t)
+      (λ n below_. let k = at_register (5 + n) (argument top.arguments n)
+      (fr.parameters_are n (subst (λ ns. n < length ns) ids_are below_)) in
+      aged_register site o l (5 + n) (argument top.arguments n) k.0 k.1))
+      (member-goes (has_some_part w (w.state.register count_register)) i.next
+      (abstract_scopes.enters_scope (made_with f site None) site) (scope_goes outer there told))
+
+  module _ (site list : Site) (l : IsNodeSite p site) (l_list : IsNodeSite p list)
+      (apart : site.0 ≢ list.0) (outer : Addr) (there : IsObjectOf c.heap outer)
+      (told : IsTrue (has_value c.heap (abstract_out.at w scope) (value.Object outer))) where
+    abbrev f : FnId
+    f = top.function
+
+    abbrev names_in : List (List ℕ)
+    names_in = map (name_text p) (parameter_ids p f)
+
+    abbrev flags : List Bool
+    flags = sharing names_in top.arguments
+
+    abbrev first_o : Object
+    first_o =
+        activation outer (with_property (with_parameters [] names_in top.arguments flags)
+        (property_with (codes "arguments") (value.Object (new_address c.heap list)) dont_delete))
+
+    abbrev list_o : Object
+    list_o = arguments_object (object_or_undefined top.callee) top.arguments flags
+
+    abbrev g : Given
+    g = given_for f site (Some list)
+
+    arguments_fits : builtins.ARGUMENTS.0 < length p.names
+    arguments_fits =
+        within_from_some p.names builtins.ARGUMENTS.0
+        (is_some_from (slice_get p.names builtins.ARGUMENTS.0) (codes "arguments")
+        (from_take (length builtin_names) p.names builtins.ARGUMENTS.0 (codes "arguments")
+        (ap (λ (xs : List (List ℕ)). slice_get xs builtins.ARGUMENTS.0) good.names ∙ refl)))
+
+    two_register : (r : ℕ) (v : Value) → IsValueOf c.heap v
+        × IsTrue (has_value c.heap (w.state.register r) v)
+        → IsTrue (has_value (with_new (with_new c.heap site first_o) list list_o)
+        ((with_made (with_made w.state site) list).register r) v)
+    two_register r v k =
+        both_register g scope i.next site list first_o list_o (activation_own p f (Some list))
+        (arguments_own p f) l l_list apart r v k.0 k.1
+
+    argument_is : (vs : List Value) (n : ℕ) (v : Value) → slice_get vs n ≡ Some v
+        → argument vs n ≡ v
+    argument_is vs n v is = ap (λ o. unwrap_or o undefined) is
+
+    parameter_has : (n : ℕ) → n < length (parameter_ids p f)
+        → IsValueOf c.heap (argument top.arguments n)
+        × IsTrue (has_value c.heap (w.state.register (5 + n)) (argument top.arguments n))
+    parameter_has n below_ =
+        at_register (5 + n) (argument top.arguments n)
+        (fr.parameters_are n (subst (λ ns. n < length ns) ids_are below_))
+
+    each_argument : (n : ℕ) (v : Value) → slice_get top.arguments n ≡ Some v
+        → IsTrue (has_value (with_new (with_new c.heap site first_o) list list_o)
+        (if nat_lt n (parameters_of p f) then (with_made (with_made w.state site) list).register
+        (parameter_register n) else (with_made (with_made w.state site) list).register
+        (rest_register (parameters_of p f))) v)
+    each_argument n v is =
+        cond_both (nat_lt n (parameters_of p f))
+        ((with_made (with_made w.state site) list).register (parameter_register n))
+        ((with_made (with_made w.state site) list).register (rest_register (parameters_of p f)))
+        (λ z. IsTrue (has_value (with_new (with_new c.heap site first_o) list list_o) z v))
+        (λ less. let k : n < parameters_of p f = ltb-true n (parameters_of p f) less in
+        let m : parameters_of p f ≡ length fn.parameters = parameters_count in
+        subst (λ y. IsTrue (has_value (with_new (with_new c.heap site first_o) list list_o)
+        ((with_made (with_made w.state site) list).register (parameter_register n)) y))
+        (argument_is top.arguments n v is) (two_register (5 + n) (argument top.arguments n)
+        (parameter_has n (subst (λ ns. n < length ns) (sym ids_are) (omega arith)))))
+        (λ more. two_register (rest_register (parameters_of p f)) v
+        (fr.arguments n v is, at.holds.frame.rest n v (ltb-false n (parameters_of p f) more) is))
+
+    listed_enter : Gives g (enter s site outer names_in (Some list))
+    listed_enter =
+        two_gives g scope i.next site list first_o list_o (activation_own p f (Some list))
+        (arguments_own p f) l l_list apart (rows.dest_scope e c top below x w at good)
+        (λ known. listed_activation_made p good (with_new
+        (with_new c.heap site first_o) list list_o)
+        (with_made (with_made w.state site) list) f outer top.arguments flags
+        (two_register 2 (value.Object outer) (there, told))
+        (λ t. names_ok (with_new (with_new c.heap site first_o) list list_o)
+        (with_made (with_made w.state site) list) t)
+        (λ n below_. two_register (5 + n) (argument top.arguments n) (parameter_has n below_))
+        list (new_address c.heap list) (same_label_from (new list)
+        (label_of (with_new (with_new c.heap site first_o) list list_o) (new_address c.heap list))
+        (sym (second_is g scope i.next site list first_o list_o (activation_own p f (Some list))
+        (arguments_own p f) l l_list apart))) arguments_fits)
+        (λ known. arguments_made p good (with_new (with_new c.heap site first_o) list list_o)
+        known (with_made (with_made w.state site) list) f top.arguments flags few
+        (object_or_undefined top.callee) (two_register 3 (object_or_undefined top.callee)
+        (at_register 3 (object_or_undefined top.callee) fr.callee_is))
+        (two_register 4 (whole_number (length top.arguments))
+        (at_register 4 (whole_number (length top.arguments)) fr.count_is)) each_argument)
         (member-goes (has_some_part w (w.state.register count_register)) i.next
-        (abstract_scopes.enters_scope (made_with f site None) site) (scope_goes outer there told))
+        (abstract_scopes.enters_scope (made_with f site (Some list)) site)
+        (scope_goes outer there told))
 
-    module _ (site list : Site) (l : IsNodeSite p site) (l_list : IsNodeSite p list)
-        (apart : site.0 ≢ list.0) (outer : Addr) (there : IsObjectOf c.heap outer)
-        (told : IsTrue (has_value c.heap (abstract_out.at w scope) (value.Object outer))) where
-      abbrev f : FnId
-      f = top.function
+  function_is : top.function ≡ x.context.function
+  function_is = sym (ap (λ (k : Context). k.function) at.context)
 
-      abbrev names_in : List (List ℕ)
-      names_in = map (name_text p) (parameter_ids p f)
+  abbrev pub SitesOf : Site → Option Site → Type 0
+  SitesOf site None = IsNodeSite p site
+  SitesOf site (Some list) = IsNodeSite p site × (IsNodeSite p list × (site.0 ≢ list.0))
 
-      abbrev flags : List Bool
-      flags = sharing names_in top.arguments
+  by_list : (site : Site) (list : Option Site) → SitesOf site list → (outer : Addr)
+      → IsObjectOf c.heap outer → IsTrue (has_value c.heap (abstract_out.at w scope)
+      (value.Object outer)) → Gives (given_for top.function site list)
+      (enter s site outer (map (name_text p) (parameter_ids p top.function)) list)
+  by_list site None l outer there told = plain_enter site l outer there told
+  by_list site (Some list) l outer there told =
+      listed_enter site list l.0 l.1.0 l.1.1 outer there told
 
-      abbrev first_o : Object
-      first_o =
-          activation outer (with_property (with_parameters [] names_in top.arguments flags)
-          (property_with (codes "arguments") (value.Object (new_address c.heap list)) dont_delete))
-
-      abbrev list_o : Object
-      list_o = arguments_object (object_or_undefined top.callee) top.arguments flags
-
-      abbrev g : Given
-      g = given_for f site (Some list)
-
-      arguments_fits : builtins.ARGUMENTS.0 < length p.names
-      arguments_fits =
-          within_from_some p.names builtins.ARGUMENTS.0
-          (is_some_from (slice_get p.names builtins.ARGUMENTS.0) (codes "arguments")
-          (from_take (length builtin_names) p.names builtins.ARGUMENTS.0 (codes "arguments")
-          (ap (λ (xs : List (List ℕ)). slice_get xs builtins.ARGUMENTS.0) good.names ∙ refl)))
-
-      two_register : (r : ℕ) (v : Value) → IsValueOf c.heap v
-          × IsTrue (has_value c.heap (w.state.register r) v)
-          → IsTrue (has_value (with_new (with_new c.heap site first_o) list list_o)
-          ((with_made (with_made w.state site) list).register r) v)
-      two_register r v k =
-          both_register g scope i.next site list first_o list_o (activation_own p f (Some list))
-          (arguments_own p f) l l_list apart r v k.0 k.1
-
-      argument_is : (vs : List Value) (n : ℕ) (v : Value) → slice_get vs n ≡ Some v
-          → argument vs n ≡ v
-      argument_is vs n v is = ap (λ o. unwrap_or o undefined) is
-
-      parameter_has : (n : ℕ) → n < length (parameter_ids p f)
-          → IsValueOf c.heap (argument top.arguments n)
-          × IsTrue (has_value c.heap (w.state.register (5 + n)) (argument top.arguments n))
-      parameter_has n below_ =
-          at_register (5 + n) (argument top.arguments n)
-          (fr.parameters_are n (subst (λ ns. n < length ns) ids_are below_))
-
-      each_argument : (n : ℕ) (v : Value) → slice_get top.arguments n ≡ Some v
-          → IsTrue (has_value (with_new (with_new c.heap site first_o) list list_o)
-          (if nat_lt n (parameters_of p f) then (with_made (with_made w.state site) list).register
-          (parameter_register n) else (with_made (with_made w.state site) list).register
-          (rest_register (parameters_of p f))) v)
-      each_argument n v is =
-          cond_both (nat_lt n (parameters_of p f))
-          ((with_made (with_made w.state site) list).register (parameter_register n))
-          ((with_made (with_made w.state site) list).register (rest_register (parameters_of p f)))
-          (λ z. IsTrue (has_value (with_new (with_new c.heap site first_o) list list_o) z v))
-          (λ less. let k : n < parameters_of p f = ltb-true n (parameters_of p f) less in
-          let m : parameters_of p f ≡ length fn.parameters = parameters_count in
-          subst (λ y. IsTrue (has_value (with_new (with_new c.heap site first_o) list list_o)
-          ((with_made (with_made w.state site) list).register (parameter_register n)) y))
-          (argument_is top.arguments n v is) (two_register (5 + n) (argument top.arguments n)
-          (parameter_has n (subst (λ ns. n < length ns) (sym ids_are) (omega arith)))))
-          (λ more. two_register (rest_register (parameters_of p f)) v
-          (fr.arguments n v is, at.holds.frame.rest n v (ltb-false n (parameters_of p f) more) is))
-
-      listed_enter : Gives g (enter s site outer names_in (Some list))
-      listed_enter =
-          two_gives g scope i.next site list first_o list_o (activation_own p f (Some list))
-          (arguments_own p f) l l_list apart (rows.dest_scope e c top below x w at good)
-          (λ known. listed_activation_made p good (with_new
-          (with_new c.heap site first_o) list list_o)
-          (with_made (with_made w.state site) list) f outer top.arguments flags
-          (two_register 2 (value.Object outer) (there, told))
-          (λ t. names_ok (with_new (with_new c.heap site first_o) list list_o)
-          (with_made (with_made w.state site) list) t)
-          (λ n below_. two_register (5 + n) (argument top.arguments n) (parameter_has n below_))
-          list (new_address c.heap list) (same_label_from (new list)
-          (label_of (with_new (with_new c.heap site first_o) list list_o) (new_address c.heap list))
-          (sym (second_is g scope i.next site list first_o list_o (activation_own p f (Some list))
-          (arguments_own p f) l l_list apart))) arguments_fits)
-          (λ known. arguments_made p good (with_new (with_new c.heap site first_o) list list_o)
-          known (with_made (with_made w.state site) list) f top.arguments flags few
-          (object_or_undefined top.callee) (two_register 3 (object_or_undefined top.callee)
-          (at_register 3 (object_or_undefined top.callee) fr.callee_is))
-          (two_register 4 (whole_number (length top.arguments))
-          (at_register 4 (whole_number (length top.arguments)) fr.count_is)) each_argument)
-          (member-goes (has_some_part w (w.state.register count_register)) i.next
-          (abstract_scopes.enters_scope (made_with f site (Some list)) site)
-          (scope_goes outer there told))
-
-    function_is : top.function ≡ x.context.function
-    function_is = sym (ap (λ (k : Context). k.function) at.context)
-
-    abbrev pub SitesOf : Site → Option Site → Type 0
-    SitesOf site None = IsNodeSite p site
-    SitesOf site (Some list) = IsNodeSite p site × (IsNodeSite p list × (site.0 ≢ list.0))
-
-    by_list : (site : Site) (list : Option Site) → SitesOf site list → (outer : Addr)
-        → IsObjectOf c.heap outer → IsTrue (has_value c.heap (abstract_out.at w scope)
-        (value.Object outer)) → Gives (given_for top.function site list)
-        (enter s site outer (map (name_text p) (parameter_ids p top.function)) list)
-    by_list site None l outer there told = plain_enter site l outer there told
-    by_list site (Some list) l outer there told =
-        listed_enter site list l.0 l.1.0 l.1.1 outer there told
-
-    pub enter_gives : (site : Site) (list : Option Site) → SitesOf site list → (v : Value)
-        → IsValueOf c.heap v → IsTrue (has_value c.heap (abstract_out.at w scope) v)
-        → Gives (transfer_node w x i (node.Enter site list)).states (enter_step p s site list v)
-    enter_gives site list l (value.Object outer) there told =
-        subst (λ h. Gives (given_for h site list)
-        (enter s site outer (parameter_names p top.function) list)) function_is
-        (subst (λ ns. Gives (given_for top.function site list) (enter s site outer ns list))
-        (sym texts_are) (by_list site list l outer there told))
-    enter_gives site list l (value.Primitive q) there told = tt
+  pub enter_gives : (site : Site) (list : Option Site) → SitesOf site list → (v : Value)
+      → IsValueOf c.heap v → IsTrue (has_value c.heap (abstract_out.at w scope) v)
+      → Gives (transfer_node w x i (node.Enter site list)).states (enter_step p s site list v)
+  enter_gives site list l (value.Object outer) there told =
+      subst (λ h. Gives (given_for h site list)
+      (enter s site outer (parameter_names p top.function) list)) function_is
+      (subst (λ ns. Gives (given_for top.function site list) (enter s site outer ns list))
+      (sym texts_are) (by_list site list l outer there told))
+  enter_gives site list l (value.Primitive q) there told = tt

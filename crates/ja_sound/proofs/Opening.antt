@@ -37,12 +37,13 @@ use Rattle.ja_meaning.proofs.Opened.{entries_hold}
 use Rattle.ja_meaning.proofs.Builtins.{global_fits}
 use Rattle.ja_rows.specs.declared.table.Item.TheVariants.{Open}
 use Rattle.ja_rows.specs.Table.{Table, root, no_arguments, opening_state, IsClosed}
-use Rattle.ja_sound.proofs.Covering.{GrowsAlong, IsGood, Good, before_is}
+use Rattle.ja_sound.proofs.AtCovered.{GrowsAlong}
+use Rattle.ja_sound.proofs.Covering.{IsGood, Good, before_is}
 use Rattle.ja_sound.proofs.Entered.{AreGiven, entry_holds}
 
 -- ---- no object goes
 
-counts_stay : (c d : Heap) → ((a : Addr) → IsObjectOf c a → IsObjectOf d a) → (s : Site) (n : ℕ)
+pub counts_stay : (c d : Heap) → ((a : Addr) → IsObjectOf c a → IsObjectOf d a) → (s : Site) (n : ℕ)
     → count c s ≡ n → n ≤ count d s
 counts_stay c d stay s zero e = omega arith
 counts_stay c d stay s (suc k) e =

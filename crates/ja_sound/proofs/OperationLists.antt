@@ -15,7 +15,6 @@ use Rattle.ja_abstract.specs.Parts.{has_primitive}
 use Rattle.ja_abstract.specs.Reading.{View}
 use Rattle.ja_abstract.specs.Resolved.{IsFilled}
 use Rattle.ja_meaning.specs.Moments.{Reads}
-use Rattle.ja_sound.specs.Invariants.{HaveListSites}
 use Rattle.ja_sound.specs.OperationLaws.{AreIn, OperationsCover}
 use Rattle.ja_sound.proofs.DigitRows.{digits_cover}
 use Rattle.ja_sound.proofs.OperationRows.{CoversOne, CoversTwo, is_object_covers, class_covers, value_covers, has_own_covers, is_enumerable_covers, inherits_covers, has_elements_covers}
@@ -57,36 +56,36 @@ module _ (e c : Heap) (w : View) (r : Reads e c w) (good : IsWellFormed w.progra
       → Covers f s → Covers f row
   of_number f s row is covers = subst (Covers f) (same_Some s row is) covers
 
-  covers_at : HaveListSites w.program c → (which : ℕ) (row : machine.Computation)
+  covers_at : (which : ℕ) (row : machine.Computation)
       → slice_get machine.rows which ≡ Some row
       → Covers (abstract.operation which) row
-  covers_at lists zero row is =
+  covers_at zero row is =
       of_number (abstract.operation 0) _ row is (one_covers abstract.is_object
       (λ h v. machine.tells (values.is_object v)) (is_object_covers e c w r good))
-  covers_at lists (suc zero) row is =
+  covers_at (suc zero) row is =
       of_number (abstract.operation 1) _ row is (one_covers abstract.class_of machine.class_of
       (class_covers e c w r good))
-  covers_at lists (suc (suc zero)) row is =
+  covers_at (suc (suc zero)) row is =
       of_number (abstract.operation 2) _ row is (one_covers abstract.value_of machine.value_of
       (value_covers e c w r good))
-  covers_at lists (suc (suc (suc zero))) row is =
+  covers_at (suc (suc (suc zero))) row is =
       of_number (abstract.operation 3) _ row is (two_cover abstract.has_own (machine.of_own is_some)
       (has_own_covers e c w r good))
-  covers_at lists (suc (suc (suc (suc zero)))) row is =
+  covers_at (suc (suc (suc (suc zero)))) row is =
       of_number (abstract.operation 4) _ row is (two_cover abstract.is_enumerable
       (machine.of_own machine.is_shown) (is_enumerable_covers e c w r good))
-  covers_at lists (suc (suc (suc (suc (suc zero))))) row is =
+  covers_at (suc (suc (suc (suc (suc zero))))) row is =
       of_number (abstract.operation 5) _ row is (two_cover abstract.inherits machine.inherits
       (inherits_covers e c w r good))
-  covers_at lists (suc (suc (suc (suc (suc (suc zero)))))) row is =
+  covers_at (suc (suc (suc (suc (suc (suc zero)))))) row is =
       of_number (abstract.operation 6) _ row is (one_covers abstract.has_elements
-      (λ h v. machine.tells (machine.is_list h v)) (has_elements_covers e c w r good lists))
-  covers_at lists (suc (suc (suc (suc (suc (suc (suc zero))))))) row is =
+      (λ h v. machine.tells (machine.is_list h v)) (has_elements_covers e c w r good))
+  covers_at (suc (suc (suc (suc (suc (suc (suc zero))))))) row is =
       of_number (abstract.operation 7) _ row is (two_cover abstract.digits_of machine.digits_of
       (λ v n x y x_there y_there told too filled q q_is. digits_cover c w v n x y told too q q_is))
-  covers_at lists (suc (suc (suc (suc (suc (suc (suc (suc n)))))))) row is =
+  covers_at (suc (suc (suc (suc (suc (suc (suc (suc n)))))))) row is =
       absurd (none-some row is)
 
 pub operations_cover : OperationsCover
-operations_cover e c w which row vs xs q good r lists ins filled row_is is =
-    covers_at e c w r good lists which row row_is vs xs q ins filled is
+operations_cover e c w which row vs xs q good r ins filled row_is is =
+    covers_at e c w r good which row row_is vs xs q ins filled is

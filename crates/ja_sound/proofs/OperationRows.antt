@@ -59,12 +59,10 @@ use Rattle.ja_meaning.proofs.Gets.{own_known, label-among, some_label-object}
 use Rattle.ja_meaning.proofs.KeyTexts.{key-among}
 use Rattle.ja_rows.specs.Out.{Point}
 use Rattle.ja_rows.specs.Out as transfer
-use Rattle.ja_sound.specs.Invariants.{HaveListSites}
 use Rattle.ja_sound.specs.Statements.{IsAt}
 use Rattle.ja_sound.proofs.CallNodes.{RowCovers}
 use Rattle.ja_sound.proofs.ControlNodes.{primitives-have}
 use Rattle.ja_sound.proofs.PropertyNodes.{rd, has, of_heap}
-use Rattle.ja_sound.proofs.AtNode.{text_in_profile}
 use Rattle.ja_sound.proofs.Assembled.{RowsCover}
 
 abbrev pub ok : Primitive → machine.IntrinsicOutcome
@@ -170,7 +168,7 @@ module _ (e c : Heap) (w : View) (r : Reads e c w) (good : IsWellFormed w.progra
     key_in : IsTrue (Rattle.ja_abstract.specs.Keys.is_among_keys (text_keys_of w n) k)
     key_in =
         key-among p c (of_text_part n.text) (value.Primitive (primitive.Text t)) t named_told
-        (text_in_profile t) refl
+        refl
 
     own_told : IsTrue (knows c u (property_content (own c a t)))
     own_told =
@@ -306,33 +304,32 @@ module _ (e c : Heap) (w : View) (r : Reads e c w) (good : IsWellFormed w.progra
 
   -- ---- arrays and arguments objects
 
-  module _ (lists : HaveListSites p c) where
-    list_is : (a : Addr) → IsObjectOf c a → machine.is_list c (value.Object a)
-        ≡ is_list_label p (label_of c a)
-    list_is a there =
-        let (o, o_is) = some_value (object_at c a) there in
-        ap (λ z. option_map_or Rattle.ja_machine.specs.Calls.has_elements z false) o_is
-        ∙ (ap (λ z. z || o.slots.arguments) (ap is_array (r.heap_now.class a o o_is))
-        ∙ ap (λ z. is_array (class_of_site p a.site.0) || z) (lists.by_site a o o_is))
+  list_is : (a : Addr) → IsObjectOf c a → machine.is_list c (value.Object a)
+      ≡ is_list_label p (label_of c a)
+  list_is a there =
+      let (o, o_is) = some_value (object_at c a) there in
+      ap (λ z. option_map_or Rattle.ja_machine.specs.Calls.has_elements z false) o_is
+      ∙ (ap (λ z. z || o.slots.arguments) (ap is_array (r.heap_now.class a o o_is))
+      ∙ ap (λ z. is_array (class_of_site p a.site.0) || z) (r.heap_now.arguments a o o_is))
 
-    list_by : (v : AbstractValue) (a : Addr) → IsObjectOf c a → IsTrue (v.label (label_of c a))
-        → (b : Bool) → is_list_label p (label_of c a) ≡ b
-        → IsTrue (has_primitive (abstract.has_elements w v).value (primitive.Bool b))
-    list_by v a there told true is =
-        some-object (λ l. v.label l && is_list_label p l) a there (and_from _ _ told is)
-    list_by v a there told false is =
-        or_right (has_atoms v) _ (some-object (λ l. v.label l && not (is_list_label p l)) a there
-        (and_from _ _ told (ap not is)))
+  list_by : (v : AbstractValue) (a : Addr) → IsObjectOf c a → IsTrue (v.label (label_of c a))
+      → (b : Bool) → is_list_label p (label_of c a) ≡ b
+      → IsTrue (has_primitive (abstract.has_elements w v).value (primitive.Bool b))
+  list_by v a there told true is =
+      some-object (λ l. v.label l && is_list_label p l) a there (and_from _ _ told is)
+  list_by v a there told false is =
+      or_right (has_atoms v) _ (some-object (λ l. v.label l && not (is_list_label p l)) a there
+      (and_from _ _ told (ap not is)))
 
-    pub has_elements_covers : CoversOne abstract.has_elements
-        (λ h v. machine.tells (machine.is_list h v))
-    has_elements_covers v (value.Object a) there told filled q is =
-        subst (λ z. IsTrue (has_primitive (abstract.has_elements w v).value z))
-        (same_Ok (primitive.Bool (machine.is_list c (value.Object a))) q is)
-        (list_by v a there told (machine.is_list c (value.Object a)) (sym (list_is a there)))
-    has_elements_covers v (value.Primitive z) there told filled q is =
-        subst (λ z. IsTrue (has_primitive (abstract.has_elements w v).value z))
-        (same_Ok (primitive.Bool false) q is) (or_left _ _ (has_atoms-from v z told))
+  pub has_elements_covers : CoversOne abstract.has_elements
+      (λ h v. machine.tells (machine.is_list h v))
+  has_elements_covers v (value.Object a) there told filled q is =
+      subst (λ z. IsTrue (has_primitive (abstract.has_elements w v).value z))
+      (same_Ok (primitive.Bool (machine.is_list c (value.Object a))) q is)
+      (list_by v a there told (machine.is_list c (value.Object a)) (sym (list_is a there)))
+  has_elements_covers v (value.Primitive z) there told filled q is =
+      subst (λ z. IsTrue (has_primitive (abstract.has_elements w v).value z))
+      (same_Ok (primitive.Bool false) q is) (or_left _ _ (has_atoms-from v z told))
 
 -- digits: its operands are primitives
 abbrev pub DigitsCover : Type 0
@@ -405,7 +402,7 @@ module _ (digits : DigitsCover) (e : Heap) (c : Conf) (top : Frame) (below : Lis
       filled (row_is _ row args q o_is is)
   row_covers (suc (suc (suc (suc (suc (suc zero)))))) args row q rs filled o_is is =
       one_by abstract.has_elements (λ h v. machine.tells (machine.is_list h v))
-      (has_elements_covers e c.heap w reads good at.lists) args q rs filled
+      (has_elements_covers e c.heap w reads good) args q rs filled
       (row_is _ row args q o_is is)
   row_covers (suc (suc (suc (suc (suc (suc (suc zero))))))) args row q rs filled o_is is =
       two_by abstract.digits_of machine.digits_of

@@ -41,7 +41,7 @@ frame_with_result p h f a dst v u next dest has holds = record {
 -- ---- the registers that a function's nodes may set
 
 module _ (p : Program) (h : Heap) (f : Frame) (known : IsFrame p h f) where
-  parameters_are : parameters_of p f.function ≡ length known.function.parameters
+  pub parameters_are : parameters_of p f.function ≡ length known.function.parameters
   parameters_are =
       ap (λ o. option_map_or (λ (fn : Function). length fn.parameters) o 0) known.function_is
 

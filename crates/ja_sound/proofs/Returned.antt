@@ -1,8 +1,8 @@
 -- A function that is left gives back a state that holds of its caller's frame.
-use Rattle.std.specs.Prelude.{◌≡◌, ◌<◌, ◌⊎◌, ◌≢◌, ◌==◌, ℕ, suc, IsTrue, List, [], ◌∷◌, length, Option, Some, None}
+use Rattle.std.specs.Prelude.{◌≡◌, ◌<◌, ◌⊎◌, ℕ, suc, IsTrue, List, [], ◌∷◌, length, Option, Some}
 use Rattle.std.specs.Option.{option_and_then, option_map}
 use Rattle.std.proofs.Common.{refl, sym, subst, ap, ◌∙◌, inl, inr, arith}
-use Rattle.std.proofs.lemmas.Bool.{cond-true, cond-false, ne_eqb, cases_Bool}
+use Rattle.std.proofs.lemmas.Bool.{cond-true}
 use Rattle.std.proofs.lemmas.Option.{none-some, same_Some}
 use Rattle.ja_base.specs.declared.ids.NodeId.{NodeId}
 use Rattle.ja_base.specs.declared.ids.Reg.{Reg}
@@ -22,7 +22,7 @@ use Rattle.ja_machine.specs.declared.machine.Event.TheVariants as event
 use Rattle.ja_machine.specs.Events.{Standing, next_state}
 use Rattle.ja_machine.specs.Frames.{parameters_of, register_of, thrown, with_result}
 use Rattle.ja_machine.specs.Calls.{constructed, returns, return_step, escape_step}
-use Rattle.ja_machine.specs.Machine.{step, fits, wants, frames_step}
+use Rattle.ja_machine.specs.Machine.{step}
 use Rattle.ja_machine.specs.State.{IsFrame, IsValueOf, AreFrames}
 use Rattle.ja_machine.specs.Runs.{AreSteps, ReturnsTo}
 use Rattle.ja_machine.specs.Nodes.{node_step}
@@ -36,10 +36,10 @@ use Rattle.ja_abstract.specs.Composed.{composed, renamed_value}
 use Rattle.ja_abstract.proofs.Labels.{same_label-self}
 use Rattle.ja_abstract.proofs.Lists.{Member}
 use Rattle.ja_abstract.proofs.Atoms.{has_atoms-from}
-use Rattle.ja_meaning.specs.Meaning.{has_value, HoldsOfHeap, HoldsOfFrame, Holds}
+use Rattle.ja_meaning.specs.Meaning.{has_value, HoldsOfHeap, Holds}
 use Rattle.ja_meaning.proofs.Parts.{is_present-has_value}
 use Rattle.ja_meaning.proofs.Values.{has_value-join_left, has_value-join_right}
-use Rattle.ja_meaning.proofs.Frames.{registers_with_result, register_of_heap, register_held}
+use Rattle.ja_meaning.proofs.Frames.{register_of_heap, register_held}
 use Rattle.ja_meaning.proofs.Resolved.{IsAged}
 use Rattle.ja_meaning.proofs.Composed.{has-renamed, composed_holds}
 use Rattle.ja_rows.specs.declared.table.Edge.{Edge}
@@ -47,6 +47,7 @@ use Rattle.ja_rows.specs.Out.{Point, Given, sets_in}
 use Rattle.ja_rows.specs.Calls as calls
 use Rattle.ja_rows.specs.Calls.{calling_state, given_back, returned}
 use Rattle.ja_sound.specs.Statements.{IsAt, IsGiven, edge_into, IsCalling}
+use Rattle.ja_sound.proofs.Taken.{node_taken}
 use Rattle.ja_sound.proofs.Registers.{IsDestinationOf, frame_with_result}
 
 -- a state that a register is set in is given, where the value has a part
@@ -275,22 +276,8 @@ module _ (p : Program) (fit : DestinationsFit p) (e m : Heap) (c d : Conf)
         (held thrown l) taken
     by_node n is taken = elim (left n is).2 [ ]
 
-    taken_is : step p c answer ≡ Some (event.Next d)
-        → node_step p s answer y.info.node ≡ Some (event.Next d)
-    taken_is k = elim (cases_Bool (fits p (wants p c) answer)) [
-      | inl fit_it ↦
-          let frames : frames_step p c answer c.frames ≡ node_step p s answer y.info.node =
-          ap (frames_step p c answer) at.frames_are
-          ∙ ap (λ o. option_and_then (λ (i : NodeInfo). node_step p
-          (record { conf = c; top = top; below = caller ∷ below; info = i }) answer i.node) o)
-          at.info in
-          sym frames ∙ (sym (cond-true (fits p (wants p c) answer)
-          (frames_step p c answer c.frames) None fit_it) ∙ k)
-      | inr never ↦
-          absurd (none-some (event.Next d) (sym (cond-false (fits p (wants p c) answer)
-          (frames_step p c answer c.frames) None never) ∙ k))
-    ]
-
     -- what is left gives back one of the states, which holds of the caller
     pub given_after : IsGiven p e below (given_back w edge x.info exit.state y.info.node) d
-    given_after = by_node y.info.node refl (taken_is next)
+    given_after =
+        by_node y.info.node refl (node_taken p c top (caller ∷ below) y.info at.frames_are at.info
+        answer (event.Next d) next)

@@ -1,5 +1,5 @@
 pub mod Faults
-pub mod Invariants
 pub mod OperationLaws
 pub mod Sound
 pub mod Statements
+pub mod Throws

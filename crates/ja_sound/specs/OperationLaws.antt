@@ -13,7 +13,6 @@ use Rattle.ja_abstract.specs.Reading.{View}
 use Rattle.ja_abstract.specs.Resolved.{IsFilled}
 use Rattle.ja_meaning.specs.Meaning.{has_value}
 use Rattle.ja_meaning.specs.Moments.{Reads}
-use Rattle.ja_sound.specs.Invariants.{HaveListSites}
 
 -- values of the heap, each of which is in the abstract value at its place
 abbrev pub AreIn : Heap → List AbstractValue → List Value → Type 0
@@ -28,6 +27,6 @@ abbrev pub OperationsCover : Type 0
 OperationsCover =
     (at_entry now : Heap) (w : View) (which : ℕ) (row : Computation) (vs : List AbstractValue)
     (xs : List Value) (q : Primitive) → IsWellFormed w.program → Reads at_entry now w
-    → HaveListSites w.program now → AreIn now vs xs
-    → IsFilled w.entries (operation which w vs).demands → slice_get rows which ≡ Some row
-    → row xs now ≡ Ok q → IsTrue (has_primitive (operation which w vs).value q)
+    → AreIn now vs xs → IsFilled w.entries (operation which w vs).demands
+    → slice_get rows which ≡ Some row → row xs now ≡ Ok q
+    → IsTrue (has_primitive (operation which w vs).value q)

@@ -22,7 +22,6 @@ use Rattle.ja_rows.specs.declared.table.Edge.{Edge}
 use Rattle.ja_rows.specs.Out.{Point, Given}
 use Rattle.ja_rows.specs.Transfer.{transfer}
 use Rattle.ja_rows.specs.Calls.{calling_state, demands_of_calling, entered_by, filled_with, given_back}
-use Rattle.ja_sound.specs.Invariants.{IsBounded, HaveListSites, HasProfile, HaveScopes}
 
 -- What is known before a step: the view's state holds of the heap at the top frame's entry and of
 -- the state now, and the values at entry hold of that heap.
@@ -31,10 +30,6 @@ pub record IsAt (p : Program) (e : Heap) (c : Conf) (top : Frame) (below : List 
   pub program : w.program ≡ p
   pub entry_heap : IsHeap p e
   pub known : IsState p c
-  pub scopes : HaveScopes p c.heap
-  pub profile : HasProfile top
-  pub bounded : IsBounded top
-  pub lists : HaveListSites p c.heap
   pub grows : Grows e c.heap
   pub frames_are : c.frames ≡ top ∷ below
   pub context : x.context ≡ context_of e top

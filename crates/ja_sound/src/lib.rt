@@ -2,16 +2,17 @@
 //! about one step from which it follows (`specs/Statements.antt`).
 //!
 //! Laws, of every well-formed program: a step within an activation is sound, of each kind of node
-//! (`steps_sound`), and so is a step out of a function (`returns_sound`); the abstract operations of
-//! the built-in functions cover the machine's (`operations_cover`); a closed table covers every run,
-//! where steps into functions are sound and four invariants hold of its runs (`closed_covers`). Not
-//! proved yet, and premises of that law: `SoundInto`, of which an entry from its parts, calls with
-//! arguments in registers and constructions are proved as lemmas; and the invariants of
-//! `specs/Invariants.antt`.
+//! (`steps_sound`), and so are a step into a function (`entries_sound`) and one out of it
+//! (`returns_sound`); so a closed table covers every run (`closed_covers`), and its warnings have
+//! each operation that goes wrong in some run (`warned_of_faults`). What goes wrong is what throws
+//! (`faults_throw`). The abstract operations of the built-in functions cover the machine's
+//! (`operations_cover`).
 #![tactic(auto)]
 
 mod laws;
 mod operation_laws;
 
-pub use laws::{closed_covers, returns_sound, steps_sound};
+pub use laws::{
+    closed_covers, entries_sound, faults_throw, returns_sound, steps_sound, warned_of_faults,
+};
 pub use operation_laws::operations_cover;

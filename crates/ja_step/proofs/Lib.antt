@@ -5,3 +5,4 @@ pub mod Puts
 pub mod Searches
 pub mod Stepped
 pub mod Elements
+pub mod Keys

@@ -79,8 +79,11 @@ impl Conf {
             return self.throws(alloc, info, error, TYPE_ERROR_PROTOTYPE, message);
         };
         let callee = object_in(self.frame.register(callee));
+        let arguments = match self.register_values(alloc, arguments)? {
+            Ok(arguments) => arguments,
+            Err(kind) => return Ok(self.left_scope(info, kind)),
+        };
         let prototype = self.prototype_of_callee(alloc, callee)?;
-        let arguments = self.values_of(alloc, arguments)?;
         let object = constructed_object(alloc, prototype);
         let receiver = self.heap.alloc(site, object)?;
         self.enters(alloc, program, function, receiver, callee, arguments)

@@ -24,6 +24,9 @@ use std::alloc::Global;
 /// most one element in each, so of more elements some were never put.
 const MOST_ELEMENTS: u32 = 16_777_216;
 
+/// The most arguments that a call lists: each is an element of `arguments`, at an index.
+const MOST_ARGUMENTS: usize = 4_294_967_295;
+
 /// The arguments that were read, or why the run leaves the profile.
 pub(crate) type Given = Result<Vec<Value>, ScopeKind>;
 
@@ -65,6 +68,23 @@ impl Conf {
             values.push(value)?;
         }
         Ok(values)
+    }
+
+    /// The values of the registers of arguments. More of them than there are indices leave the
+    /// profile.
+    pub(crate) fn register_values(
+        &self,
+        alloc: Global,
+        registers: &[Reg],
+    ) -> Result<Given, Memory>
+        ensures { IfOk result (λ given. given_of given
+            ≡ calls.register_values (frame_of self.now.frame) registers.now) }
+    {
+        if registers.len() > MOST_ARGUMENTS {
+            return Ok(Err(ScopeKind::Register));
+        }
+        let values = self.values_of(alloc, registers)?;
+        Ok(Ok(values))
     }
 
     /// An element, undefined where it is missing. A row leaves the profile.
@@ -144,10 +164,7 @@ impl Conf {
             ≡ calls.given self.now.heap (frame_of self.now.frame) arguments.now) }
     {
         match arguments {
-            Args::Registers(registers) => {
-                let values = self.values_of(alloc, registers.as_slice())?;
-                Ok(Ok(values))
-            }
+            Args::Registers(registers) => self.register_values(alloc, registers.as_slice()),
             Args::Elements(array) => self.elements(alloc, *array),
             Args::Tail => {
                 let values = self.tail(alloc)?;

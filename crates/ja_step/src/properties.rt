@@ -1,12 +1,12 @@
 //! The nodes that read, write, delete and ask for properties by a key (ES3 11.2.1).
 
-ghost use Rattle.std.specs.Prelude.{◌≡◌, IfOk};
+ghost use Rattle.std.specs.Prelude.{◌≡◌, IfOk, Some};
 ghost use Rattle.ja_machine.specs.Calls.{object_in};
 ghost use Rattle.ja_machine.specs.Events.{sets, sets_content};
 ghost use Rattle.ja_machine.specs.Heap.{has};
 ghost use Rattle.ja_machine.specs.Nodes as nodes;
 ghost use Rattle.ja_machine.specs.Nodes.{on_property, puts, deletes, wrong_length, bool_value};
-ghost use Rattle.ja_machine.specs.Values.{key_of};
+ghost use Rattle.ja_machine.specs.Values.{key_of, key_of_number};
 ghost use Rattle.ja_step.specs.code.Places.{place_of};
 ghost use Rattle.ja_step.specs.code.Steps.{held, or_undefined, standing, leads_to};
 
@@ -14,8 +14,22 @@ use crate::Conf;
 use ja_base::{Memory, Reg, ScopeKind, Site};
 use ja_graph::NodeInfo;
 use ja_machine::{Addr, End, Value};
-use ja_prim::{Primitive, Text16, to_text};
+use ja_prim::{Num, Primitive, Text16, to_text};
 use std::alloc::Global;
+
+/// The key that a number is: its text. A number is never past the profile.
+#[tactic(auto, using(crate::proofs::Keys::number_is_key))]
+fn key_of_number(alloc: Global, number: Num) -> Result<Text16, Memory>
+    ensures { IfOk result (λ key. key_of_number number ≡ Some key) }
+{
+    if let Num::Whole(whole) = number {
+        let _value = whole.get();
+    }
+    match to_text(alloc, &Primitive::Number(number)) {
+        Ok(text) => Ok(text),
+        Err(_) => Err(Memory),
+    }
+}
 
 /// The key that a value is: a text itself, or the text of a number. Other values are none.
 fn key_of(alloc: Global, value: Option<&Value>) -> Result<Option<Text16>, Memory>
@@ -27,10 +41,8 @@ fn key_of(alloc: Global, value: Option<&Value>) -> Result<Option<Text16>, Memory
             Ok(Some(text))
         }
         Some(Value::Primitive(Primitive::Number(number))) => {
-            match to_text(alloc, &Primitive::Number(*number)) {
-                Ok(text) => Ok(Some(text)),
-                Err(_) => Err(Memory),
-            }
+            let text = key_of_number(alloc, *number)?;
+            Ok(Some(text))
         }
         _ => Ok(None),
     }

@@ -1,5 +1,5 @@
 -- The parts of a program that is well formed, by name, and what a program's accessors give.
-use Rattle.std.specs.Prelude.{◌≡◌, ◌<◌, ◌≤◌, ◌+◌, ◌-◌, ℕ, List, [], ◌∷◌, Option, Some, None, IsSome, slice_get, length, map, take, ◌↔◌}
+use Rattle.std.specs.Prelude.{◌≡◌, ◌<◌, ◌≤◌, ◌+◌, ◌-◌, ℕ, List, [], ◌∷◌, Option, Some, None, IsSome, IsTrue, slice_get, length, map, take, ◌↔◌}
 use Rattle.std.specs.Option.{option_map}
 use Rattle.std.specs.List.{AllByRecursion, position_from, range_with_len}
 use Rattle.std.specs.Str.{bytes_eq}
@@ -16,7 +16,7 @@ use Rattle.ja_graph.specs.declared.program.ObjectSpec.{ObjectSpec}
 use Rattle.ja_graph.specs.declared.program.PropertySpec.{PropertySpec}
 use Rattle.ja_graph.specs.declared.program.Program.{Program}
 use Rattle.ja_graph.specs.declared.program.SiteInfo.{SiteInfo}
-use Rattle.ja_graph.specs.Program.{object_spec}
+use Rattle.ja_graph.specs.Program.{object_spec, runs_function}
 use Rattle.ja_graph.specs.WellFormed.{IsNodeWellFormed, IsFunctionWellFormed, IsObjectWellFormed, IsContent, IsName, IsBuiltin, IsSiteTold, NamesFunctions, OwnedMaking, StandsBefore, makings_from, node_count, builtin_names, max_nodes, max_sites, max_names}
 
 -- ---- accessors
@@ -72,6 +72,12 @@ AreBuiltins p = HaveClasses p BUILTIN_CLASSES
 -- a site, if there is one, has an object before the i-th
 abbrev pub StandsBeforeIfAny : Program → ℕ → Option Site → Type 0
 StandsBeforeIfAny p i o = (s : Site) → o ≡ Some s → StandsBefore p i s
+
+-- an object has a scope, if it runs a function
+abbrev pub HasScope : Program → ObjectSpec → Type 0
+HasScope p o =
+    (info : SiteInfo) → slice_get p.sites o.site.0 ≡ Some info → IsTrue (runs_function info)
+    → IsSome o.scope
 
 -- properties have names of the program
 abbrev pub HaveNames : Program → List PropertySpec → Type 0
