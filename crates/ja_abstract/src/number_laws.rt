@@ -1,7 +1,8 @@
 //! What the numbers of registers and labels stand for. The functions do nothing; their contracts
 //! are the laws.
 
-ghost use Rattle.std.specs.Prelude.{◌≡◌, ◌↔◌, ◌<◌, ◌+◌, ◌*◌, ℕ, pos, IsTrue, Some, length, slice_get};
+ghost use Rattle.std.specs.Prelude.{◌≡◌, ◌↔◌, ◌<◌, ◌+◌, ◌*◌, ℕ, pos, IsTrue, Some, length};
+ghost use Rattle.std.specs.List.{slice_get};
 ghost use Rattle.ja_base.specs.declared.ids.Label.{Label};
 ghost use Rattle.ja_prim.specs.declared.primitive.Num.TheVariants.{Whole};
 ghost use Rattle.ja_prim.specs.declared.primitive.Primitive.TheVariants.{Number};
@@ -9,7 +10,8 @@ ghost use Rattle.ja_graph.specs.declared.program.Program.{Program};
 ghost use Rattle.ja_graph.specs.declared.registers.TheConstants as registers;
 ghost use Rattle.ja_graph.specs.Program.{global};
 ghost use Rattle.ja_abstract.specs.declared.abstraction.Key.{Key};
-ghost use Rattle.ja_abstract.specs.AbstractValue.{of_label, of_primitive, same_label, undefined_value};
+ghost use Rattle.ja_abstract.specs.AbstractValue.{of_label, of_primitive, same_label};
+ghost use Rattle.ja_abstract.specs.AbstractValue.{undefined_value};
 ghost use Rattle.ja_abstract.specs.AbstractState.{entry_registers, label_number, labels_of};
 ghost use Rattle.ja_abstract.specs.AbstractState.{new, same_key};
 ghost use Rattle.ja_abstract.specs.Made.{callee_register, count_register};

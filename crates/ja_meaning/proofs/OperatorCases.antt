@@ -20,11 +20,12 @@ use Rattle.ja_machine.specs.declared.machine.Heap.{Heap}
 use Rattle.ja_machine.specs.Values.{is_true, is_false, of_number, on_primitive, OperatorOutcome}
 use Rattle.ja_machine.specs.Values as machine
 use Rattle.ja_abstract.specs.AbstractValue.{AbstractValue}
-use Rattle.ja_abstract.specs.Primitives.{abstract_binary, operator, to_num, compared}
+use Rattle.ja_abstract.specs.Primitives.{abstract_binary, operator, to_num, compared, index_or_whole}
 use Rattle.ja_abstract.proofs.Atoms.{Covers}
-use Rattle.ja_abstract.proofs.Converted.{to_num-all, OfWhole, InRange}
+use Rattle.ja_abstract.proofs.Converted.{to_num-all, to_uint32-all, OfWhole, InRange}
 use Rattle.ja_meaning.specs.Meaning.{has_value}
-use Rattle.ja_meaning.specs.OperatorLaws.{UnaryIsCovered, BinaryIsCovered, UnaryMayStop, BinaryMayStop, IsOfProfile}
+use Rattle.ja_meaning.specs.OperatorLaws.{UnaryIsCovered, BinaryIsCovered, UnaryMayStop, BinaryMayStop, IsOfProfile, IsUnsigned}
+use Rattle.ja_meaning.proofs.ExactOperators.{unary_one}
 use Rattle.ja_meaning.proofs.Operators.{raw, FitsIn, binary-all, unary-known, binary-known}
 
 pub unary_covered : UnaryIsCovered
@@ -129,3 +130,11 @@ binary_stops w h op v u (value.Primitive q) (value.Object b) stop f g has too is
     absurd (never_stops _ stop (goes_on_right op q b) is)
 binary_stops w h op v u (value.Object a) y stop f g has too is =
     absurd (never_stops _ stop (goes_on_left op a y) is)
+
+-- ---- unsigned numbers
+
+pub is_unsigned : IsUnsigned
+is_unsigned = record {
+  covered = to_uint32-all;
+  exact = λ n. unary_one index_or_whole (primitive.Number n);
+}

@@ -1,11 +1,13 @@
 -- What the operators on abstract values come to beside those of the machine (ES3 9, 11.4 to 11.10).
-use Rattle.std.specs.Prelude.{◌≡◌, ◌≢◌, ◌⊎◌, ◌≤◌, ◌&&◌, ℤ, unsigned_abs, Bool, true, false, IsTrue, Some, Result, Ok, Err}
+use Rattle.std.specs.Prelude.{◌≡◌, ◌≢◌, ◌⊎◌, ◌≤◌, ◌&&◌, ℤ, pos, unsigned_abs, Bool, true, false, IsTrue, Some, Result, Ok, Err}
 use Rattle.ja_base.specs.declared.ids.Label.{Label}
+use Rattle.ja_prim.specs.declared.primitive.Num.{Num}
 use Rattle.ja_prim.specs.declared.primitive.Num.TheVariants.{Whole}
 use Rattle.ja_prim.specs.declared.primitive.Primitive.{Primitive}
 use Rattle.ja_prim.specs.declared.stop.Stop.{Stop}
 use Rattle.ja_prim.specs.declared.primitive.Primitive.TheVariants as primitive
 use Rattle.ja_prim.specs.Conversions.{to_number}
+use Rattle.ja_prim.specs.Bits as bits
 use Rattle.ja_prim.specs.Judged.{max_magnitude}
 use Rattle.ja_graph.specs.declared.node.UnaryOp.{UnaryOp}
 use Rattle.ja_graph.specs.declared.node.UnaryOp.TheVariants as unary_op
@@ -20,7 +22,7 @@ use Rattle.ja_machine.specs.Values.{type_of_class}
 use Rattle.ja_machine.specs.Values as machine
 use Rattle.ja_abstract.specs.AbstractValue.{AbstractValue, same_label, of_primitive, of_label}
 use Rattle.ja_abstract.specs.Parts.{has_primitive}
-use Rattle.ja_abstract.specs.Primitives.{Abstracted, exact, abstract_binary, operator, to_num, of_bools}
+use Rattle.ja_abstract.specs.Primitives.{Abstracted, gives, exact, abstract_binary, operator, to_num, to_uint32, of_bools}
 use Rattle.ja_abstract.specs.Reading.{View, some_label}
 use Rattle.ja_abstract.specs.Values as abstract
 use Rattle.ja_meaning.specs.Meaning.{has_value}
@@ -95,6 +97,18 @@ BinaryIsExact =
     (w : View) (op : BinaryOp) (q r : Primitive) (x : Result Primitive Stop)
     → machine.binary op (value.Primitive q) (value.Primitive r) ≡ Some x
     → of_binary w op (of_primitive q) (of_primitive r) ≡ exact x
+
+-- ---- the unsigned numbers of 32 bits (9.6)
+
+abbrev pub unsigned : Num → Primitive
+unsigned n = primitive.Number (Whole (pos (bits.to_uint32 n)))
+
+-- that of a number is in what is given of a value that has it, and of just one it is just that one
+pub record IsUnsigned : Type 0 where
+  pub covered : (v : AbstractValue) (n : Num) → IsTrue (has_primitive v (primitive.Number n))
+      → IsTrue (has_primitive (to_uint32 v).value (unsigned n))
+  pub exact : (n : Num)
+      → to_uint32 (of_primitive (primitive.Number n)) ≡ gives (of_primitive (unsigned n))
 
 -- ---- of objects by their labels
 

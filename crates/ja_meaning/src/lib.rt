@@ -24,5 +24,8 @@ pub use operation_laws::{
     abstract_operations_are_listed, operations_are_exact, operations_keep_their_kinds,
     sites_are_told,
 };
-pub use operator_laws::{labels_are_told, operators_are_exact, operators_cover};
+pub use operator_laws::{
+    inequality_is_turned, labels_are_told, operators_are_exact, operators_cover,
+    unsigned_numbers_are_told,
+};
 pub use renaming_laws::renaming_is_by_origins;

@@ -28,4 +28,5 @@ OperationsCover =
     (at_entry now : Heap) (w : View) (which : ℕ) (row : Computation) (vs : List AbstractValue)
     (xs : List Value) (q : Primitive) → IsWellFormed w.program → Reads at_entry now w
     → AreIn now vs xs → IsFilled w.entries (operation which w vs).demands
-    → slice_get rows which ≡ Some row → row xs now ≡ Ok q → IsTrue (has_primitive (operation which w vs).value q)
+    → slice_get rows which ≡ Some row → row xs now ≡ Ok q
+    → IsTrue (has_primitive (operation which w vs).value q)
