@@ -4,7 +4,8 @@
 use crate::out::Out;
 use ja_base::{FnId, NodeId, Reg, Seq, Site};
 use ja_graph::{
-    Function, Hint, IS_NAN, MATH, Node, Program, all_registers_below, is_function_well_formed, well_formed,
+    Function, Hint, IS_NAN, MATH, Node, Program, all_registers_below, is_function_well_formed,
+    well_formed,
 };
 use ja_prim::Text16;
 use std::alloc::Global;

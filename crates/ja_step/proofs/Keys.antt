@@ -13,7 +13,8 @@ use Rattle.ja_machine.specs.Values.{is_in_profile, key_of_number}
 in_profile : (z : ℤ) → neg_ℤ (pos max_magnitude) ≤ℤ z → z ≤ℤ pos max_magnitude
     → is_in_profile (Whole z) ≡ true
 in_profile (pos n) low high = le-leb n max_magnitude (omega (arith, ints))
-in_profile (negsuc n) low high = le-leb (unsigned_abs (negsuc n)) max_magnitude (omega (arith, ints))
+in_profile (negsuc n) low high =
+    le-leb (unsigned_abs (negsuc n)) max_magnitude (omega (arith, ints))
 
 -- .. so it is a key
 pub number_is_key : (z : ℤ) → neg_ℤ (pos max_magnitude) ≤ℤ z → z ≤ℤ pos max_magnitude

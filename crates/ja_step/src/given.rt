@@ -72,11 +72,7 @@ impl Conf {
 
     /// The values of the registers of arguments. More of them than there are indices leave the
     /// profile.
-    pub(crate) fn register_values(
-        &self,
-        alloc: Global,
-        registers: &[Reg],
-    ) -> Result<Given, Memory>
+    pub(crate) fn register_values(&self, alloc: Global, registers: &[Reg]) -> Result<Given, Memory>
         ensures { IfOk result (λ given. given_of given
             ≡ calls.register_values (frame_of self.now.frame) registers.now) }
     {
