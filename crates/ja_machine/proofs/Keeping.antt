@@ -292,9 +292,9 @@ module _ (p : Program) (good : IsWellFormed p) (s : Standing) (here : IsAt p s) 
       (text_length units) in
       let m : Making = making sites.text class.String in
       let there = program_nodes.string_prototype_there p good s.conf.heap here.heap in
-       let fits = fitting p s.conf.heap m o text refl refl tt tt there tt (distinct-one _) in
-       either_way Kept (is_short units) (Nodes.makes s dst sites.text o)
-       (left_scope s scope_kind.TextLength) (λ e. makes_kept dst m o to fits (tt, tt)) (λ e. tt)
+      let fits = fitting p s.conf.heap m o text refl refl tt tt there tt (distinct-one _) in
+      either_way Kept (is_short units) (Nodes.makes s dst sites.text o)
+      (left_scope s scope_kind.TextLength) (λ e. makes_kept dst m o to fits (tt, tt)) (λ e. tt)
 
   need_object_kept : (error : Site) (x : Value) → IsMade p (making error class.Error)
       → Kept (Nodes.need_object_step s error x)
