@@ -15,7 +15,8 @@ use Rattle.ja_graph.specs.WellFormed.{IsFunctionWellFormed, OwnedMaking, makings
 use Rattle.ja_lower.specs.declared.lowered.Lowered.{Lowered}
 use Rattle.ja_lower.specs.Limits.{function_count, prelude_count, size_of, prelude_size_of, IsWithin}
 use Rattle.ja_lower.specs.Lowering as lowering
-use Rattle.ja_lower.specs.Lowering.{AreAllowed, behind_devices, first_names, names_of, followed_by, lowered, lowered_prelude, lowered_with_prelude}
+use Rattle.ja_lower.specs.Lowering.{AreAllowed, behind_devices, names_of, followed_by, lowered, lowered_prelude, lowered_with_prelude}
+use Rattle.ja_lower.specs.Setting as settings
 use Rattle.ja_prelude.specs.Prelude.{prelude_names, prelude_paths, prelude_statements}
 use Rattle.ja_prelude.specs.Table.{builtin_sites}
 use Rattle.ja_prelude.proofs.DistinctLemmas.{names_distinct}
@@ -31,54 +32,45 @@ use Rattle.ja_syntax.specs.declared.tree.Statement.{Statement}
 -- ---- the laws of lowering
 
 pub record LoweringLaws : Type 0 where
-  pub parts : (names paths : List (List ℕ)) (prelude : List Statement) (signatures : List Signature)
-      (first : ℕ) (statements : List Statement) (text : Lowered)
-      → text ≡ lowered (first_names names prelude signatures) first statements
-      → lowered_with_prelude names paths prelude signatures first statements
-      ≡ followed_by text (behind_devices signatures
-      (lowered_prelude names paths (first + length text.sites)
-      (length text.functions + length signatures) prelude))
-  pub well_formed : (names paths : List (List ℕ)) (prelude : List Statement)
-      (signatures : List Signature) (first : ℕ) (statements : List Statement) (p : Program) (f : ℕ)
-      (fn : Function) → length paths ≡ prelude_count prelude
-      → AreAllowed (lowering.prelude_bodies (lowering.prelude_names names prelude) prelude)
-      → p.functions ≡ (lowered_with_prelude names paths prelude signatures first
-      statements).functions → p.names ≡ (lowered_with_prelude names paths prelude signatures first
-      statements).names → p.signatures ≡ signatures → slice_get p.functions f ≡ Some fn
-      → fn.registers ≤ max_registers → IsFunctionWellFormed p fn
-  pub numbered : (names paths : List (List ℕ)) (prelude : List Statement)
-      (signatures : List Signature) (first : ℕ) (statements : List Statement)
-      → map (λ (m : OwnedMaking). m.making.site.0)
-      (makings_from 0 (lowered_with_prelude names paths prelude signatures first
-      statements).functions) ≡ range_with_len first
-      (length (lowered_with_prelude names paths prelude signatures first statements).sites)
-  pub told : (names paths : List (List ℕ)) (prelude : List Statement) (signatures : List Signature)
-      (front : List SiteInfo) (statements : List Statement) (p : Program)
-      → p.sites ≡ front ++ (lowered_with_prelude names paths prelude signatures (length front)
-      statements).sites → AllByRecursion (IsSiteTold p)
-      (makings_from 0 (lowered_with_prelude names paths prelude signatures (length front)
-      statements).functions)
-  pub name_functions : (names paths : List (List ℕ)) (prelude : List Statement)
-      (signatures : List Signature) (first : ℕ) (statements : List Statement) (p : Program)
-      → length paths ≡ prelude_count prelude
-      → p.functions ≡ (lowered_with_prelude names paths prelude signatures first
-      statements).functions → AllByRecursion (NamesFunctions p)
-      (lowered_with_prelude names paths prelude signatures first statements).sites
-  pub few_sites : (names paths : List (List ℕ)) (prelude : List Statement)
-      (signatures : List Signature) (first : ℕ) (statements : List Statement)
-      → length (lowered_with_prelude names paths prelude signatures first statements).sites
-      ≤ 4 * node_count (lowered_with_prelude names paths prelude signatures first
-      statements).functions
-  pub in_size : (names paths : List (List ℕ)) (prelude : List Statement)
-      (signatures : List Signature) (first : ℕ) (statements : List Statement)
-      → node_count (lowered_with_prelude names paths prelude signatures first statements).functions
-      ≤ size_of (first_names names prelude signatures) statements + 3 * length signatures
-      + prelude_size_of names prelude
-  pub counted : (names paths : List (List ℕ)) (prelude : List Statement)
-      (signatures : List Signature) (first : ℕ) (statements : List Statement)
-      → length paths ≡ prelude_count prelude
-      → length (lowered_with_prelude names paths prelude signatures first statements).functions
-      ≡ function_count statements + length signatures + length paths
+  pub parts : (s : settings.Setting) (text : Lowered) → text ≡ settings.text_of s
+      → settings.whole s ≡ settings.with_others s text
+  pub well_formed : (s : settings.Setting) (p : Program) (f : ℕ) (fn : Function)
+      → length s.paths ≡ prelude_count s.prelude
+      → AreAllowed (lowering.prelude_bodies (lowering.prelude_names s.names s.prelude) s.prelude)
+      → p.functions ≡ (settings.whole s).functions → p.names ≡ (settings.whole s).names
+      → p.signatures ≡ s.signatures → slice_get p.functions f ≡ Some fn → fn.registers ≤ max_registers
+      → IsFunctionWellFormed p fn
+  pub numbered : (s : settings.Setting) → map (λ (m : OwnedMaking). m.making.site.0)
+      (makings_from 0 (settings.whole s).functions)
+      ≡ range_with_len s.first_site (length (settings.whole s).sites)
+  pub told : (s : settings.Setting) (front : List SiteInfo) (p : Program)
+      → length front ≡ s.first_site
+      → p.sites ≡ front ++ (settings.whole s).sites
+      → AllByRecursion (IsSiteTold p) (makings_from 0 (settings.whole s).functions)
+  pub name_functions : (s : settings.Setting) (p : Program)
+      → length s.paths ≡ prelude_count s.prelude
+      → p.functions ≡ (settings.whole s).functions
+      → AllByRecursion (NamesFunctions p) (settings.whole s).sites
+  pub few_sites : (s : settings.Setting) → length (settings.whole s).sites
+      ≤ 4 * node_count (settings.whole s).functions
+  pub in_size : (s : settings.Setting) → node_count (settings.whole s).functions
+      ≤ size_of (settings.names_before s) s.statements + 3 * length s.signatures
+      + prelude_size_of s.names s.prelude
+  pub counted : (s : settings.Setting) → length s.paths ≡ prelude_count s.prelude
+      → length (settings.whole s).functions
+      ≡ function_count s.statements + length s.signatures + length s.paths
+
+-- a text, and what it is lowered with here
+abbrev pub setting : List Signature → List Statement → settings.Setting
+setting signatures statements =
+    record {
+      names = builtin_names;
+      paths = prelude_paths;
+      prelude = prelude_statements;
+      signatures = signatures;
+      first_site = sites_before signatures;
+      statements = statements;
+    }
 
 -- ---- what is known of the built-in functions
 
@@ -140,8 +132,7 @@ has_devices laws facts p signatures statements fit made =
           omega (
             arith,
             ap length made.functions,
-            laws.counted builtin_names prelude_paths prelude_statements signatures
-                (sites_before signatures) statements paths_each,
+            laws.counted (setting signatures statements) paths_each,
             facts.paths,
           );
       many = omega (arith, ap length begins, length-take (length builtin_names) p.names);
@@ -171,8 +162,7 @@ made_is_well_formed laws facts p signatures statements fit within registers few_
     + 43 = omega (
       arith,
       ap length made.functions,
-      laws.counted builtin_names prelude_paths prelude_statements signatures first statements
-          paths_each,
+      laws.counted (setting signatures statements) paths_each,
       facts.paths,
     ) in
     let text = first_element p.functions (omega (arith, count)) in
@@ -195,8 +185,7 @@ made_is_well_formed laws facts p signatures statements fit within registers few_
     ) in
     let nodes : node_count l.functions ≤ 66828 = omega (
       arith,
-      laws.in_size builtin_names prelude_paths prelude_statements signatures first
-          statements,
+      laws.in_size (setting signatures statements),
       within.nodes,
       fit.few,
       facts.few,
@@ -213,8 +202,8 @@ made_is_well_formed laws facts p signatures statements fit within registers few_
       value_first = omega (arith, made.value_first, count);
       text_first = omega (arith, made.text_first, count);
       each =
-          λ f fn is. laws.well_formed builtin_names prelude_paths prelude_statements signatures
-          first statements p f fn paths_each facts.allowed made.functions made.names made.devices is
+          λ f fn is. laws.well_formed (setting signatures statements) p f fn paths_each
+          facts.allowed made.functions made.names made.devices is
           (all_at (λ (fn : Function). fn.registers ≤ max_registers) l.functions f fn registers
           (sym (ap (λ fns. slice_get fns f) made.functions) ∙ is));
       few_nodes = omega (arith, nodes, ap node_count made.functions);
@@ -228,30 +217,23 @@ made_is_well_formed laws facts p signatures statements fit within registers few_
           subst (AllByRecursion (NamesFunctions p)) (sym made.sites)
           (all_append (NamesFunctions p) front_sites l.sites
           (functions_with_devices p own signatures l.sites has)
-          (laws.name_functions builtin_names prelude_paths prelude_statements signatures first
-          statements p paths_each made.functions));
+          (laws.name_functions (setting signatures statements) p paths_each made.functions));
       sites = omega (arith, all_sites, objects);
       numbered =
           ap (λ fns. map (λ (m : OwnedMaking). m.making.site.0) (makings_from 0 fns)) made.functions
-          ∙ laws.numbered builtin_names prelude_paths prelude_statements signatures first statements
+          ∙ laws.numbered (setting signatures statements)
           ∙ ap (λ a. range_with_len a (length l.sites)) from
           ∙ ap (range_with_len (length p.opening)) behind;
       told =
           subst (λ fns. AllByRecursion (IsSiteTold p) (makings_from 0 fns)) (sym made.functions)
-          (subst (λ n. p.sites ≡ front_sites ++ (lowered_with_prelude builtin_names prelude_paths
-          prelude_statements signatures n statements).sites
-          → AllByRecursion (IsSiteTold p) (makings_from 0
-          (lowered_with_prelude builtin_names prelude_paths prelude_statements signatures n
-          statements).functions)) front (laws.told builtin_names prelude_paths prelude_statements
-          signatures front_sites statements p) made.sites);
+          (laws.told (setting signatures statements) front_sites p front made.sites);
       few_sites =
           omega (
             arith,
             all_sites,
             nodes,
             fit.few,
-            laws.few_sites builtin_names prelude_paths prelude_statements signatures first
-                statements,
+            laws.few_sites (setting signatures statements),
           );
       names = ap (take (length builtin_names)) named ∙ builtin-names-first signatures statements;
       distinct =
@@ -291,8 +273,7 @@ pub whole_of_parts : LoweringLaws → (signatures : List Signature) (statements 
     (lowered_prelude builtin_names prelude_paths (sites_before signatures + length l.sites)
     (length l.functions + length signatures) prelude_statements)) ≡ whole signatures statements
 whole_of_parts laws signatures statements l is =
-    sym (laws.parts builtin_names prelude_paths prelude_statements signatures
-    (sites_before signatures) statements l is)
+    sym (laws.parts (setting signatures statements) l is)
 
 pub program_of_parts : (p : Program) (signatures : List Signature) (statements : List Statement)
     (own : ℕ) (l : Lowered) → p ≡ program_with p.text signatures own l

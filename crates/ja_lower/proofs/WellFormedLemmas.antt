@@ -4,7 +4,6 @@ use Rattle.std.proofs.Common.{◌≡◌, ℕ, ◌+◌, ◌*◌, ◌<◌, ◌≤�
 use Rattle.std.specs.List.{AllByRecursion, flat_map, slice_get, range_with_len}
 use Rattle.std.proofs.lemmas.List.{length-map}
 use Rattle.ja_base.proofs.Lists.{all_append, all_left, all_right}
-use Rattle.ja_prim.specs.declared.signature.Signature.{Signature}
 use Rattle.ja_graph.specs.declared.program.Function.{Function}
 use Rattle.ja_graph.specs.declared.program.Program.{Program}
 use Rattle.ja_graph.specs.declared.program.SiteInfo.{SiteInfo}
@@ -23,7 +22,8 @@ use Rattle.ja_syntax.specs.declared.tree.Statement.{Statement}
 use Rattle.ja_lower.specs.declared.body.Body.{Body}
 use Rattle.ja_lower.specs.declared.lowered.Lowered.{Lowered}
 use Rattle.ja_lower.specs.Limits.{function_count, prelude_count, size_of, prelude_size_of}
-use Rattle.ja_lower.specs.Lowering.{AreAllowed, names_of, scene_of, scene_with, function_body, bodies_of, functions_of, sites_of, prelude_names, prelude_bodies, at_paths, device_names, first_names, device_bodies, followed_by, behind_devices, lowered, lowered_prelude, lowered_with_prelude}
+use Rattle.ja_lower.specs.Lowering.{AreAllowed, names_of, scene_of, scene_with, function_body, bodies_of, functions_of, sites_of, prelude_names, prelude_bodies, at_paths, device_names, device_bodies, followed_by, lowered, lowered_prelude, lowered_with_prelude}
+use Rattle.ja_lower.specs.Setting.{Setting, names_before, text_of, with_others, whole}
 use Rattle.ja_lower.proofs.DeviceBodies.{devices_listed, devices_fit, length-devices, size-devices, devices_siteless, devices_alike}
 use Rattle.ja_lower.proofs.Joined.{functions_append, sites_append, size-append, length-at_paths, size-at_paths, first_names_stay}
 use Rattle.ja_lower.proofs.NumberingLemmas.{IsSited, AreSited, numbers_of_bodies}
@@ -126,132 +126,131 @@ module _ (names : List (List ℕ)) (statements : List Statement) where
 
 -- ---- a text with the functions of devices and the built-in ones behind its own
 
-module _ (names paths : List (List ℕ)) (prelude : List Statement) (signatures : List Signature)
-    (first : ℕ) (statements : List Statement) where
+module _ (s : Setting) where
   abbrev before : List (List ℕ)
-  before = first_names names prelude signatures
+  before = names_before s
 
   abbrev text : List Body
-  text = text_bodies before statements
+  text = text_bodies before s.statements
 
   abbrev built_in : List Body
-  built_in = at_paths paths (own_bodies names prelude)
+  built_in = at_paths s.paths (own_bodies s.names s.prelude)
 
   abbrev others : List Body
-  others = device_bodies signatures ++ built_in
+  others = device_bodies s.signatures ++ built_in
 
   abbrev bodies : List Body
   bodies = text ++ others
 
-  abbrev whole : Lowered
-  whole = lowered_with_prelude names paths prelude signatures first statements
-
   -- it has the functions and the sites of these bodies
-  whole_functions : whole.functions ≡ functions_of first bodies
+  whole_functions : (whole s).functions ≡ functions_of s.first_site bodies
   unfolding lowered_with_prelude lowered
-  whole_functions = sym (functions_append first 0 text others)
+  whole_functions = sym (functions_append s.first_site 0 text others)
 
-  whole_sites : whole.sites ≡ sites_of 0 bodies
+  whole_sites : (whole s).sites ≡ sites_of 0 bodies
   unfolding lowered_with_prelude lowered
   whole_sites =
-      let count : length (functions_of first text) ≡ 0
-      + length text = omega (arith, length-functions first text) in
+      let count : length (functions_of s.first_site text) ≡ 0
+      + length text = omega (arith, length-functions s.first_site text) in
       ap (λ n. sites_of 0 text ++ sites_of n others) count ∙ sym (sites_append 0 text others)
 
-  whole_names : whole.names ≡ names_of false before statements
+  whole_names : (whole s).names ≡ names_of false before s.statements
   unfolding lowered_with_prelude lowered
   whole_names = refl
 
   all_sited : AreSited bodies
   all_sited =
       let AreOwn : Body → Type 0 = λ body. AllByRecursion IsSited body.nodes in
-      let texts = text_scene before statements in
-      let own = prelude_scene names prelude in
+      let texts = text_scene before s.statements in
+      let own = prelude_scene s.names s.prelude in
       let of_text = all-from (IsListedIn texts) AreOwn text
       (listed_sited texts.specials (length texts.names) (length texts.functions))
-      (text_listed before statements) in
-      let of_devices = all-from (IsListed true 0 0) AreOwn (device_bodies signatures)
-      (listed_sited true 0 0) (devices_listed signatures) in
+      (text_listed before s.statements) in
+      let of_devices = all-from (IsListed true 0 0) AreOwn (device_bodies s.signatures)
+      (listed_sited true 0 0) (devices_listed s.signatures) in
       let of_prelude = all-from (IsListedIn own) AreOwn built_in
       (listed_sited own.specials (length own.names) (length own.functions))
-      (paths_listed own.specials (length own.names) (length own.functions) paths
-      (own_bodies names prelude) (own_listed names prelude)) in
-      all_append AreOwn text others of_text (all_append AreOwn (device_bodies signatures) built_in
+      (paths_listed own.specials (length own.names) (length own.functions) s.paths
+      (own_bodies s.names s.prelude) (own_listed s.names s.prelude)) in
+      all_append AreOwn text others of_text (all_append AreOwn (device_bodies s.signatures) built_in
       of_devices of_prelude)
 
-  count : length paths ≡ prelude_count prelude
-      → length bodies ≡ function_count statements + length signatures + prelude_count prelude
+  count : length s.paths ≡ prelude_count s.prelude
+      → length bodies ≡ function_count s.statements + length s.signatures + prelude_count s.prelude
   count path_each =
       omega (
         arith,
         length-append text others,
-        length-append (device_bodies signatures) built_in,
-        text_count before statements,
-        length-devices signatures,
-        length-at_paths paths (own_bodies names prelude)
-            (path_each ∙ sym (own_count names prelude)),
+        length-append (device_bodies s.signatures) built_in,
+        text_count before s.statements,
+        length-devices s.signatures,
+        length-at_paths s.paths (own_bodies s.names s.prelude)
+            (path_each ∙ sym (own_count s.names s.prelude)),
         path_each,
       )
 
-  module _ (p : Program) (path_each : length paths ≡ prelude_count prelude)
-      (functions : p.functions ≡ whole.functions) where
-    count_in : length p.functions ≡ function_count statements + length signatures
-        + prelude_count prelude
+  module _ (p : Program) (path_each : length s.paths ≡ prelude_count s.prelude)
+      (functions : p.functions ≡ (whole s).functions) where
+    count_in : length p.functions ≡ function_count s.statements + length s.signatures
+        + prelude_count s.prelude
     count_in =
-        ap length functions ∙ ap length whole_functions ∙ length-functions first bodies
+        ap length functions ∙ ap length whole_functions ∙ length-functions s.first_site bodies
         ∙ count path_each
 
-    many_for_text : length (text_scene before statements).functions < length p.functions
+    many_for_text : length (text_scene before s.statements).functions < length p.functions
     many_for_text =
-        omega (arith, count_in, text_count before statements, text_functions before statements)
+        omega (arith, count_in, text_count before s.statements, text_functions before s.statements)
 
-    many_for_prelude : length (prelude_scene names prelude).functions < length p.functions
-    many_for_prelude = omega (arith, count_in, own_functions names prelude)
+    many_for_prelude : length (prelude_scene s.names s.prelude).functions < length p.functions
+    many_for_prelude = omega (arith, count_in, own_functions s.names s.prelude)
 
-    are_well_formed : AreAllowed (own_bodies names prelude) → p.names ≡ whole.names
-        → p.signatures ≡ signatures → (f : ℕ) (fn : Function) → slice_get p.functions f ≡ Some fn
+    are_well_formed : AreAllowed (own_bodies s.names s.prelude) → p.names ≡ (whole s).names
+        → p.signatures ≡ s.signatures → (f : ℕ) (fn : Function) → slice_get p.functions f ≡ Some fn
         → fn.registers ≤ max_registers → IsFunctionWellFormed p fn
     are_well_formed allowed same asked f fn is few =
-        let in_names : p.names ≡ names_of false before statements = same ∙ whole_names in
-        let there : length (names_of false before statements)
+        let in_names : p.names ≡ names_of false before s.statements = same ∙ whole_names in
+        let there : length (names_of false before s.statements)
         ≤ length p.names = omega (arith, ap length in_names) in
-        let begins = first_names_stay names (device_names signatures) prelude statements in
-        let enough : length (prelude_names names prelude)
+        let begins = first_names_stay s.names (device_names s.signatures) s.prelude s.statements in
+        let enough : length (prelude_names s.names s.prelude)
         ≤ length p.names = omega (
           arith,
           ap length in_names,
           ap length begins.1,
-          length-append (prelude_names names prelude) begins.0,
+          length-append (prelude_names s.names s.prelude) begins.0,
         ) in
-        let texts = text_scene before statements in
+        let texts = text_scene before s.statements in
         let of_text = all-from (IsListedIn texts) (FitsIn p) text
         (λ body listed. text_fits p (length texts.names) (length texts.functions) body there
-        many_for_text listed) (text_listed before statements) in
-        let of_devices = devices_fit p signatures (omega (arith, many_for_prelude)) asked in
-        let own = prelude_scene names prelude in
-        let of_prelude = preludes_fit p (length own.names) (length own.functions) paths
-        (own_bodies names prelude) enough many_for_prelude (own_listed names prelude) allowed in
-        let of_others = all_append (FitsIn p) (device_bodies signatures) built_in of_devices
+        many_for_text listed) (text_listed before s.statements) in
+        let of_devices = devices_fit p s.signatures (omega (arith, many_for_prelude)) asked in
+        let own = prelude_scene s.names s.prelude in
+        let of_prelude = preludes_fit p (length own.names) (length own.functions) s.paths
+        (own_bodies s.names s.prelude) enough many_for_prelude (own_listed s.names s.prelude)
+        allowed in
+        let of_others = all_append (FitsIn p) (device_bodies s.signatures) built_in of_devices
         of_prelude in
-        functions_well_formed p first bodies (all_append (FitsIn p) text others of_text of_others)
+        functions_well_formed p s.first_site bodies
+        (all_append (FitsIn p) text others of_text of_others)
         (functions ∙ whole_functions) f fn is few
 
-    name_functions : AllByRecursion (NamesFunctions p) whole.sites
+    name_functions : AllByRecursion (NamesFunctions p) (whole s).sites
     name_functions =
         let Makes : Body → Type 0 = λ body. AllByRecursion (MakesFunctions p) body.nodes in
-        let texts = text_scene before statements in
-        let own = prelude_scene names prelude in
+        let texts = text_scene before s.statements in
+        let own = prelude_scene s.names s.prelude in
         let of_text = all-from (IsListedIn texts) Makes text
         (λ body listed. listed_named p texts.specials (length texts.names)
-        (length texts.functions) body many_for_text listed) (text_listed before statements) in
-        let of_devices = all-from (IsListed true 0 0) Makes (device_bodies signatures)
+        (length texts.functions) body many_for_text listed) (text_listed before s.statements) in
+        let of_devices = all-from (IsListed true 0 0) Makes (device_bodies s.signatures)
         (λ body listed. listed_named p true 0 0 body (omega (arith, many_for_prelude)) listed)
-        (devices_listed signatures) in
+        (devices_listed s.signatures) in
         let of_prelude = all-from (IsListedIn own) Makes built_in
         (λ body listed. listed_named p own.specials (length own.names) (length own.functions)
         body many_for_prelude listed) (paths_listed own.specials (length own.names)
-        (length own.functions) paths (own_bodies names prelude) (own_listed names prelude)) in
-        let of_others = all_append Makes (device_bodies signatures) built_in of_devices
+        (length own.functions) s.paths (own_bodies s.names s.prelude)
+        (own_listed s.names s.prelude)) in
+        let of_others = all_append Makes (device_bodies s.signatures) built_in of_devices
         of_prelude in
         subst (AllByRecursion (NamesFunctions p)) (sym whole_sites)
         (named_bodies p 0 bodies (omega (arith, count_in, count path_each))
@@ -259,134 +258,111 @@ module _ (names paths : List (List ℕ)) (prelude : List Statement) (signatures 
 
   -- the parts: devices have no sites, so they stand before the built-in functions wherever sites
   -- are numbered from
-  parts : (l : Lowered) → l ≡ lowered before first statements
-      → whole ≡ followed_by l (behind_devices signatures
-      (lowered_prelude names paths (first + length l.sites) (length l.functions + length signatures)
-      prelude))
+  parts : (l : Lowered) → l ≡ text_of s
+      → whole s ≡ with_others s l
   unfolding lowered_with_prelude lowered_prelude
   parts l is =
-      let devices = device_bodies signatures in
+      let devices = device_bodies s.signatures in
       let built : ℕ → ℕ → Lowered = λ site function.
       record {
         functions = functions_of site built_in;
         sites = sites_of function built_in;
-        names = prelude_names names prelude;
+        names = prelude_names s.names s.prelude;
       } in
-      let site = first + length l.sites in
+      let site = s.first_site + length l.sites in
       let function = length l.functions in
-      let none = devices_siteless function signatures in
+      let none = devices_siteless function s.signatures in
       let functions : functions_of site others ≡ functions_of 0 devices
       ++ functions_of site built_in =
       functions_append site function devices built_in
       ∙ ap (λ fns. fns ++ functions_of (site + length (sites_of function devices)) built_in)
-      (sym (devices_alike site signatures))
+      (sym (devices_alike site s.signatures))
       ∙ ap (λ n. functions_of 0 devices ++ functions_of n built_in)
       (omega (arith, ap length none)) in
-      let sites : sites_of function others ≡ sites_of (function + length signatures) built_in =
+      let sites : sites_of function others ≡ sites_of (function + length s.signatures) built_in =
       sites_append function devices built_in
       ∙ ap (λ ss. ss ++ sites_of (function + length devices) built_in) none
-      ∙ ap (λ n. sites_of (function + n) built_in) (length-devices signatures) in
+      ∙ ap (λ n. sites_of (function + n) built_in) (length-devices s.signatures) in
       ap (λ (t : Lowered). followed_by t (record {
-        functions = functions_of (first + length t.sites) others;
+        functions = functions_of (s.first_site + length t.sites) others;
         sites = sites_of (length t.functions) others;
-        names = prelude_names names prelude;
+        names = prelude_names s.names s.prelude;
       }))
       (sym is)
       ∙ ap (λ fns. followed_by l (record {
         functions = fns;
         sites = sites_of function others;
-        names = prelude_names names prelude;
+        names = prelude_names s.names s.prelude;
       })) functions
       ∙ ap (λ ss. followed_by l (record {
         functions = functions_of 0 devices
             ++ functions_of site built_in;
         sites = ss;
-        names = prelude_names names prelude;
+        names = prelude_names s.names s.prelude;
       })) sites
 
-pub functions_are_well_formed : (names paths : List (List ℕ)) (prelude : List Statement)
-    (signatures : List Signature) (first : ℕ) (statements : List Statement) (p : Program) (f : ℕ)
-    (fn : Function) → length paths ≡ prelude_count prelude
-    → AreAllowed (prelude_bodies (prelude_names names prelude) prelude)
-    → p.functions ≡ (lowered_with_prelude names paths prelude signatures first statements).functions
-    → p.names ≡ (lowered_with_prelude names paths prelude signatures first statements).names
-    → p.signatures ≡ signatures → slice_get p.functions f ≡ Some fn → fn.registers ≤ max_registers
+pub functions_are_well_formed : (s : Setting) (p : Program) (f : ℕ) (fn : Function)
+    → length s.paths ≡ prelude_count s.prelude
+    → AreAllowed (prelude_bodies (prelude_names s.names s.prelude) s.prelude)
+    → p.functions ≡ (whole s).functions → p.names ≡ (whole s).names
+    → p.signatures ≡ s.signatures → slice_get p.functions f ≡ Some fn → fn.registers ≤ max_registers
     → IsFunctionWellFormed p fn
-functions_are_well_formed names paths prelude signatures first statements p f fn path_each allowed
-    functions same asked is few =
-    are_well_formed names paths prelude signatures first statements p path_each functions allowed
+functions_are_well_formed s p f fn path_each allowed functions same asked is few =
+    are_well_formed s p path_each functions allowed
     same asked f fn is few
 
-pub sites_are_numbered : (names paths : List (List ℕ)) (prelude : List Statement)
-    (signatures : List Signature) (first : ℕ) (statements : List Statement)
-    → map (λ (m : OwnedMaking). m.making.site.0)
-    (makings_from 0 (lowered_with_prelude names paths prelude signatures first
-    statements).functions) ≡ range_with_len first
-    (length (lowered_with_prelude names paths prelude signatures first statements).sites)
-sites_are_numbered names paths prelude signatures first statements =
-    let all = bodies names paths prelude signatures first statements in
+pub sites_are_numbered : (s : Setting) → map (λ (m : OwnedMaking). m.making.site.0)
+    (makings_from 0 (whole s).functions)
+    ≡ range_with_len s.first_site (length (whole s).sites)
+sites_are_numbered s =
+    let all = bodies s in
     ap (λ fns. map (λ (m : OwnedMaking). m.making.site.0) (makings_from 0 fns))
-    (whole_functions names paths prelude signatures first statements)
-    ∙ numbers_of_bodies 0 first all (all_sited names paths prelude signatures first statements)
-    ∙ ap (λ (ss : List SiteInfo). range_with_len first (length ss))
-    (sym (whole_sites names paths prelude signatures first statements))
+    (whole_functions s)
+    ∙ numbers_of_bodies 0 s.first_site all (all_sited s)
+    ∙ ap (λ (ss : List SiteInfo). range_with_len s.first_site (length ss))
+    (sym (whole_sites s))
 
-pub sites_are_told : (names paths : List (List ℕ)) (prelude : List Statement)
-    (signatures : List Signature) (front : List SiteInfo) (statements : List Statement)
-    (p : Program) → p.sites ≡ front ++ (lowered_with_prelude names paths prelude signatures
-    (length front) statements).sites → AllByRecursion (IsSiteTold p)
-    (makings_from 0 (lowered_with_prelude names paths prelude signatures (length front)
-    statements).functions)
-sites_are_told names paths prelude signatures front statements p sites =
-    let first = length front in
-    let here = sites ∙ ap (λ ss. front ++ ss)
-    (whole_sites names paths prelude signatures first statements) in
-    subst (λ fns. AllByRecursion (IsSiteTold p) (makings_from 0 fns))
-    (sym (whole_functions names paths prelude signatures first statements))
-    (told_bodies p 0 first (bodies names paths prelude signatures first statements) front here
-    refl (all_sited names paths prelude signatures first statements))
+pub sites_are_told : (s : Setting) (front : List SiteInfo) (p : Program)
+    → length front ≡ s.first_site → p.sites ≡ front ++ (whole s).sites
+    → AllByRecursion (IsSiteTold p) (makings_from 0 (whole s).functions)
+sites_are_told s front p behind sites =
+    let here = sites ∙ ap (λ ss. front ++ ss) (whole_sites s) in
+    subst (λ fns. AllByRecursion (IsSiteTold p) (makings_from 0 fns)) (sym (whole_functions s))
+    (told_bodies p 0 s.first_site (bodies s) front here behind (all_sited s))
 
-pub sites_name_functions : (names paths : List (List ℕ)) (prelude : List Statement)
-    (signatures : List Signature) (first : ℕ) (statements : List Statement) (p : Program)
-    → length paths ≡ prelude_count prelude → p.functions
-    ≡ (lowered_with_prelude names paths prelude signatures first statements).functions
-    → AllByRecursion (NamesFunctions p) (lowered_with_prelude names paths prelude signatures first
-    statements).sites
-sites_name_functions names paths prelude signatures first statements p path_each functions =
-    name_functions names paths prelude signatures first statements p path_each functions
+pub sites_name_functions : (s : Setting) (p : Program) → length s.paths ≡ prelude_count s.prelude
+    → p.functions ≡ (whole s).functions
+    → AllByRecursion (NamesFunctions p) (whole s).sites
+sites_name_functions s p path_each functions =
+    name_functions s p path_each functions
 
-pub sites_are_few : (names paths : List (List ℕ)) (prelude : List Statement)
-    (signatures : List Signature) (first : ℕ) (statements : List Statement)
-    → length (lowered_with_prelude names paths prelude signatures first statements).sites
-    ≤ 4 * node_count (lowered_with_prelude names paths prelude signatures first
-    statements).functions
-sites_are_few names paths prelude signatures first statements =
+pub sites_are_few : (s : Setting) → length (whole s).sites
+    ≤ 4 * node_count (whole s).functions
+sites_are_few s =
     omega (
       arith,
-      ap length (whole_sites names paths prelude signatures first statements),
-      ap node_count (whole_functions names paths prelude signatures first statements),
-      few_sites 0 first (bodies names paths prelude signatures first statements),
+      ap length (whole_sites s),
+      ap node_count (whole_functions s),
+      few_sites 0 s.first_site (bodies s),
     )
 
-pub nodes_are_within_the_size : (names paths : List (List ℕ)) (prelude : List Statement)
-    (signatures : List Signature) (first : ℕ) (statements : List Statement)
-    → node_count (lowered_with_prelude names paths prelude signatures first statements).functions
-    ≤ size_of (first_names names prelude signatures) statements + 3 * length signatures
-    + prelude_size_of names prelude
+pub nodes_are_within_the_size : (s : Setting) → node_count (whole s).functions
+    ≤ size_of (names_before s) s.statements + 3 * length s.signatures
+    + prelude_size_of s.names s.prelude
 unfolding size_of prelude_size_of
-nodes_are_within_the_size names paths prelude signatures first statements =
-    let all = bodies names paths prelude signatures first statements in
-    let behind = others names paths prelude signatures first statements in
-    let built = built_in names paths prelude signatures first statements in
+nodes_are_within_the_size s =
+    let all = bodies s in
+    let behind = others s in
+    let built = built_in s in
     omega (
       arith,
-      ap node_count (whole_functions names paths prelude signatures first statements),
-      few_nodes first all,
-      size-append (text names paths prelude signatures first statements)
+      ap node_count (whole_functions s),
+      few_nodes s.first_site all,
+      size-append (text s)
           behind,
-      size-append (device_bodies signatures) built,
-      size-devices signatures,
-      size-at_paths paths (own_bodies names prelude),
+      size-append (device_bodies s.signatures) built,
+      size-devices s.signatures,
+      size-at_paths s.paths (own_bodies s.names s.prelude),
     )
 
 pub prelude_names_come_first : (names more : List (List ℕ)) (prelude : List Statement) (first : ℕ)
@@ -397,15 +373,9 @@ unfolding lowered
 prelude_names_come_first names more prelude first statements =
     first_names_stay names more prelude statements
 
-pub parts_follow : (names paths : List (List ℕ)) (prelude : List Statement)
-    (signatures : List Signature) (first : ℕ) (statements : List Statement) (text : Lowered)
-    → text ≡ lowered (first_names names prelude signatures) first statements
-    → lowered_with_prelude names paths prelude signatures first statements
-    ≡ followed_by text (behind_devices signatures
-    (lowered_prelude names paths (first + length text.sites)
-    (length text.functions + length signatures) prelude))
-parts_follow names paths prelude signatures first statements text is =
-    parts names paths prelude signatures first statements text is
+pub parts_follow : (s : Setting) (text : Lowered) → text ≡ text_of s
+    → whole s ≡ with_others s text
+parts_follow s text is = parts s text is
 
 -- ---- how many functions
 
@@ -415,17 +385,15 @@ unfolding lowered
 text_counted names first statements =
     length-functions first (text_bodies names statements) ∙ text_count names statements
 
-pub whole_counted : (names paths : List (List ℕ)) (prelude : List Statement)
-    (signatures : List Signature) (first : ℕ) (statements : List Statement)
-    → length paths ≡ prelude_count prelude → length
-    (lowered_with_prelude names paths prelude signatures first statements).functions
-    ≡ function_count statements + length signatures + length paths
-whole_counted names paths prelude signatures first statements path_each =
-    let all = bodies names paths prelude signatures first statements in
+pub whole_counted : (s : Setting) → length s.paths ≡ prelude_count s.prelude
+    → length (whole s).functions
+    ≡ function_count s.statements + length s.signatures + length s.paths
+whole_counted s path_each =
+    let all = bodies s in
     omega (
       arith,
-      ap length (whole_functions names paths prelude signatures first statements),
-      length-functions first all,
-      count names paths prelude signatures first statements path_each,
+      ap length (whole_functions s),
+      length-functions s.first_site all,
+      count s path_each,
       path_each,
     )

@@ -1,3 +1,4 @@
 pub mod Lowering
+pub mod Setting
 pub mod Limits
 pub mod code

@@ -8,9 +8,9 @@ ghost use Rattle.ja_graph.specs.declared.program.Program.{Program};
 ghost use Rattle.ja_graph.specs.declared.program.SiteInfo.{SiteInfo};
 ghost use Rattle.ja_graph.specs.WellFormed.{IsFunctionWellFormed, OwnedMaking, makings_from, IsSiteTold, NamesFunctions, max_registers, node_count};
 ghost use Rattle.ja_lower.specs.Limits.{function_count, prelude_count, size_of, prelude_size_of};
-ghost use Rattle.ja_lower.specs.Lowering.{AreAllowed, names_of, scene_with, prelude_names, prelude_bodies, first_names, followed_by, behind_devices, lowered, lowered_prelude, lowered_with_prelude};
+ghost use Rattle.ja_lower.specs.Lowering.{AreAllowed, names_of, scene_with, prelude_names, prelude_bodies, lowered};
+ghost use Rattle.ja_lower.specs.Setting.{Setting, names_before, text_of, with_others, whole};
 ghost use Rattle.ja_lower.specs.declared.lowered.Lowered.{Lowered};
-ghost use Rattle.ja_prim.specs.declared.signature.Signature.{Signature};
 ghost use Rattle.ja_lower_ranges.specs.Found.{HasText};
 ghost use Rattle.ja_syntax.specs.declared.tree.Statement.{Statement};
 
@@ -34,13 +34,7 @@ pub fn prelude_names_come_first()
 /// devices, which have no sites, then the built-in ones.
 #[tactic(auto, using(crate::proofs::WellFormedLemmas::parts_follow))]
 pub fn parts_follow_one_another()
-    ensures { (names paths : List (List ℕ)) (prelude : List Statement) (signatures : List Signature)
-        (first : ℕ) (statements : List Statement) (text : Lowered)
-        → text ≡ lowered (first_names names prelude signatures) first statements
-        → lowered_with_prelude names paths prelude signatures first statements
-        ≡ followed_by text (behind_devices signatures
-        (lowered_prelude names paths (first + length text.sites)
-        (length text.functions + length signatures) prelude)) }
+    ensures { (s : Setting) (text : Lowered) → text ≡ text_of s → whole s ≡ with_others s text }
 {}
 
 /// Each function is well formed in a program that has these functions, names and devices, and at
@@ -48,68 +42,50 @@ pub fn parts_follow_one_another()
 /// their nodes is allowed.
 #[tactic(auto, using(crate::proofs::WellFormedLemmas::functions_are_well_formed))]
 pub fn functions_are_well_formed()
-    ensures { (names paths : List (List ℕ)) (prelude : List Statement) (signatures : List Signature)
-        (first : ℕ) (statements : List Statement) (p : Program) (f : ℕ) (fn : Function)
-        → length paths ≡ prelude_count prelude
-        → AreAllowed (prelude_bodies (prelude_names names prelude) prelude)
-        → p.functions ≡ (lowered_with_prelude names paths prelude signatures first
-        statements).functions → p.names ≡ (lowered_with_prelude names paths prelude signatures first
-        statements).names → p.signatures ≡ signatures → slice_get p.functions f ≡ Some fn
+    ensures { (s : Setting) (p : Program) (f : ℕ) (fn : Function)
+        → length s.paths ≡ prelude_count s.prelude
+        → AreAllowed (prelude_bodies (prelude_names s.names s.prelude) s.prelude)
+        → p.functions ≡ (whole s).functions → p.names ≡ (whole s).names
+        → p.signatures ≡ s.signatures → slice_get p.functions f ≡ Some fn
         → fn.registers ≤ max_registers → IsFunctionWellFormed p fn }
 {}
 
 /// The sites of the nodes are numbered by function and node, without a gap.
 #[tactic(auto, using(crate::proofs::WellFormedLemmas::sites_are_numbered))]
 pub fn sites_are_numbered()
-    ensures { (names paths : List (List ℕ)) (prelude : List Statement) (signatures : List Signature)
-        (first : ℕ) (statements : List Statement)
-        → map (λ (m : OwnedMaking). m.making.site.0)
-        (makings_from 0 (lowered_with_prelude names paths prelude signatures first
-        statements).functions) ≡ range_with_len first
-        (length (lowered_with_prelude names paths prelude signatures first statements).sites) }
+    ensures { (s : Setting) → map (λ (m : OwnedMaking). m.making.site.0)
+        (makings_from 0 (whole s).functions)
+        ≡ range_with_len s.first_site (length (whole s).sites) }
 {}
 
 /// A program tells the class and the owner of each site of a node, where it has these sites behind
 /// as many others as the number of the first one says.
 pub fn sites_are_told()
-    ensures { (names paths : List (List ℕ)) (prelude : List Statement) (signatures : List Signature)
-        (front : List SiteInfo) (statements : List Statement) (p : Program)
-        → p.sites ≡ front ++ (lowered_with_prelude names paths prelude signatures (length front)
-        statements).sites → AllByRecursion (IsSiteTold p)
-        (makings_from 0 (lowered_with_prelude names paths prelude signatures (length front)
-        statements).functions) }
+    ensures { (s : Setting) (front : List SiteInfo) (p : Program) → length front ≡ s.first_site
+        → p.sites ≡ front ++ (whole s).sites
+        → AllByRecursion (IsSiteTold p) (makings_from 0 (whole s).functions) }
 {}
 
 /// The functions that are told of each site of a node are those of a program that has these
 /// functions, where there is a path for each built-in one.
 pub fn sites_name_functions()
-    ensures { (names paths : List (List ℕ)) (prelude : List Statement) (signatures : List Signature)
-        (first : ℕ) (statements : List Statement) (p : Program)
-        → length paths ≡ prelude_count prelude
-        → p.functions ≡ (lowered_with_prelude names paths prelude signatures first
-        statements).functions → AllByRecursion (NamesFunctions p)
-        (lowered_with_prelude names paths prelude signatures first statements).sites }
+    ensures { (s : Setting) (p : Program) → length s.paths ≡ prelude_count s.prelude
+        → p.functions ≡ (whole s).functions → AllByRecursion (NamesFunctions p) (whole s).sites }
 {}
 
 /// There are at most four sites for each node.
 #[tactic(auto, using(crate::proofs::WellFormedLemmas::sites_are_few))]
 pub fn sites_are_few()
-    ensures { (names paths : List (List ℕ)) (prelude : List Statement) (signatures : List Signature)
-        (first : ℕ) (statements : List Statement)
-        → length (lowered_with_prelude names paths prelude signatures first statements).sites
-        ≤ 4 * node_count (lowered_with_prelude names paths prelude signatures first
-        statements).functions }
+    ensures { (s : Setting) → length (whole s).sites ≤ 4 * node_count (whole s).functions }
 {}
 
 /// The functions have no more nodes than what is counted against the limit, of the text and of the
 /// built-in functions, and three for each device.
 #[tactic(auto, using(crate::proofs::WellFormedLemmas::nodes_are_within_the_size))]
 pub fn nodes_are_within_the_size()
-    ensures { (names paths : List (List ℕ)) (prelude : List Statement) (signatures : List Signature)
-        (first : ℕ) (statements : List Statement)
-        → node_count (lowered_with_prelude names paths prelude signatures first
-        statements).functions ≤ size_of (first_names names prelude signatures) statements
-        + 3 * length signatures + prelude_size_of names prelude }
+    ensures { (s : Setting) → node_count (whole s).functions
+        ≤ size_of (names_before s) s.statements + 3 * length s.signatures
+        + prelude_size_of s.names s.prelude }
 {}
 
 /// There are as many functions as the text has, and then one for each device and one for each path
@@ -118,9 +94,7 @@ pub fn nodes_are_within_the_size()
 pub fn functions_are_counted()
     ensures text { (names : List (List ℕ)) (first : ℕ) (statements : List Statement)
         → length (lowered names first statements).functions ≡ function_count statements }
-    ensures whole { (names paths : List (List ℕ)) (prelude : List Statement)
-        (signatures : List Signature) (first : ℕ) (statements : List Statement)
-        → length paths ≡ prelude_count prelude
-        → length (lowered_with_prelude names paths prelude signatures first statements).functions
-        ≡ function_count statements + length signatures + length paths }
+    ensures whole { (s : Setting) → length s.paths ≡ prelude_count s.prelude
+        → length (whole s).functions
+        ≡ function_count s.statements + length s.signatures + length s.paths }
 {}

@@ -4,7 +4,7 @@ use Rattle.ja_graph.specs.WellFormed.{IsWellFormed, max_registers, max_names}
 use Rattle.ja_graph.specs.declared.program.Function.{Function}
 use Rattle.ja_lower.specs.declared.lowered.Lowered.{Lowered}
 use Rattle.ja_load.specs.Loading.{names_before, sites_before}
-use Rattle.ja_load.proofs.WellFormedLemmas.{LoweringLaws, PreludeFacts, program_is_well_formed, program_of_parts, whole_of_parts}
+use Rattle.ja_load.proofs.WellFormedLemmas.{LoweringLaws, PreludeFacts, program_is_well_formed, program_of_parts, setting, whole_of_parts}
 use Rattle.ja_load.proofs.loading.program_of_tree.Goals as goal
 
 pub overflow_cast-own : goal.overflow_cast-own
@@ -29,8 +29,7 @@ returns-clause-program c =
     ∙ c.functions_are_counted.ensures.text (names_before signatures) (sites_before signatures)
     statements in
     let all = c.in_ok-whole.ensures.lowered
-    ∙ sym (c.parts_follow_one_another.ensures _ _ _ signatures (sites_before signatures)
-    statements _ text) in
+    ∙ sym (c.parts_follow_one_another.ensures (setting signatures statements) _ text) in
     program_of_parts _ signatures statements _ _ c.in_ok-program.ensures.program count all
 
 pub returns-clause-well_formed : goal.returns-clause-well_formed
