@@ -4,6 +4,7 @@ pub mod Atoms
 pub mod Compared
 pub mod Converted
 pub mod Examples
+pub mod SmallProgram
 pub mod IndexTexts
 pub mod Joins
 pub mod Keys
@@ -13,3 +14,4 @@ pub mod Order
 pub mod Parts
 pub mod Rounds
 pub mod Texts
+pub mod Writes
