@@ -9,6 +9,7 @@ pub mod IndexTexts
 pub mod Joins
 pub mod Keys
 pub mod Labels
+pub mod Least
 pub mod Lists
 pub mod Order
 pub mod Parts
