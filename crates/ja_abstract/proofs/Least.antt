@@ -1,11 +1,10 @@
 -- A join is below each value that is above both: so it is the least one, and the order of joins is
 -- nothing.
-use Rattle.std.specs.Prelude.{◌≡◌, ℕ, ℤ, pos, negsuc, Bool, true, false, not, nat_eq, ◌||◌, if◌then◌else◌, IsTrue, List, [], ◌∷◌}
+use Rattle.std.specs.Prelude.{◌≡◌, ℕ, ℤ, pos, negsuc, Bool, true, false, not, nat_eq, ◌||◌, IsTrue, List, [], ◌∷◌}
 use Rattle.std.specs.Ordering.{int_eq}
 use Rattle.std.proofs.Common.{refl, sym, ◌∙◌, ap, subst}
-use Rattle.std.proofs.lemmas.Bool.{or_right, or_cases, false≢true, cond_both, cond-true, cond-false}
+use Rattle.std.proofs.lemmas.Bool.{or_right, false≢true, cond_both, cond-true, cond-false}
 use lib.Pointwise.{pointwise}
-use Rattle.ja_base.specs.declared.ids.Label.{Label}
 use Rattle.ja_prim.specs.Index.{is_index, is_index_text}
 use Rattle.ja_abstract.specs.declared.abstraction.Flags.{Flags}
 use Rattle.ja_abstract.specs.declared.abstraction.Mask.{Mask}
@@ -15,12 +14,12 @@ use Rattle.ja_abstract.specs.declared.abstraction.NumberPart.{NumberPart}
 use Rattle.ja_abstract.specs.declared.abstraction.NumberPart.TheVariants as number_part
 use Rattle.ja_abstract.specs.declared.abstraction.TextPart.{TextPart}
 use Rattle.ja_abstract.specs.declared.abstraction.TextPart.TheVariants as text_part
-use Rattle.ja_abstract.specs.AbstractValue.{AbstractValue, AbstractProperty, join, join_properties, join_flags, join_may, join_attrs, join_numbers, join_classes, number_class, join_texts, join_text_classes, text_class, no_value, no_property}
+use Rattle.ja_abstract.specs.AbstractValue.{AbstractValue, AbstractProperty, join, join_properties, join_flags, join_may, join_attrs, join_numbers, join_classes, number_class, join_texts, join_text_classes, text_class, no_property}
 use Rattle.ja_abstract.specs.AbstractState.{AbstractState, join_states, join_masks}
 use Rattle.ja_abstract.specs.Order.{LeqValue, LeqProperty, LeqState}
 use Rattle.ja_abstract.specs.Parts.{number_has, text_has}
 use Rattle.ja_abstract.proofs.Joins.{number_has-join_right, text_has-join_right}
-use Rattle.ja_abstract.proofs.Order.{Below, HasNumbers, HasTexts, same_number, number_itself, same_text, text_itself, value-join, value_equal, value_same, property-join, property_same, property_equal, state-join, state_same, state_both, state_equal}
+use Rattle.ja_abstract.proofs.Order.{Below, HasNumbers, HasTexts, same_number, number_itself, same_text, text_itself, property-join, property_same, property_equal, state-join, state_same, state_both, state_equal}
 
 -- ---- tests
 
@@ -140,8 +139,10 @@ all_numbers number_part.OtherWhole x y e f h k z =
 all_numbers number_part.Whole x y e f h k z = refl
 
 -- two different members are in the join of their classes
-numbers_apart : (c : NumberPart) (m n : ℤ) → (m ≡ n → ⊥) → IsTrue (number_has c m) → IsTrue (number_has c n)
-    → HasNumbers (join_classes (number_class (number_part.One m)) (number_class (number_part.One n))) c
+numbers_apart : (c : NumberPart) (m n : ℤ) → (m ≡ n → ⊥) → IsTrue (number_has c m) → IsTrue
+    (number_has c n)
+    → HasNumbers (join_classes (number_class (number_part.One m)) (number_class (number_part.One
+    n))) c
 numbers_apart number_part.Nothing m n apart h k = absurd (false≢true h)
 numbers_apart (number_part.One x) m n apart h k =
     absurd (apart (sym (same_number x m h) ∙ same_number x n k))
@@ -151,60 +152,80 @@ numbers_apart number_part.Index m n apart h k =
     (subst (λ d. HasNumbers (join_classes number_part.Index d) number_part.Index)
     (sym (cond-true (is_index n) number_part.Index number_part.OtherWhole k)) (λ z e. e))
 numbers_apart number_part.OtherWhole m n apart h k =
-    subst (λ d. HasNumbers (join_classes d (number_class (number_part.One n))) number_part.OtherWhole)
-    (sym (cond-false (is_index m) number_part.Index number_part.OtherWhole (not_true (is_index m) h)))
+    subst (λ d. HasNumbers (join_classes d (number_class (number_part.One n)))
+    number_part.OtherWhole)
+    (sym (cond-false (is_index m) number_part.Index number_part.OtherWhole (not_true (is_index m)
+    h)))
     (subst (λ d. HasNumbers (join_classes number_part.OtherWhole d) number_part.OtherWhole)
-    (sym (cond-false (is_index n) number_part.Index number_part.OtherWhole (not_true (is_index n) k)))
+    (sym (cond-false (is_index n) number_part.Index number_part.OtherWhole (not_true (is_index n)
+    k)))
     (λ z e. e))
 numbers_apart number_part.Whole m n apart h k = λ z e. refl
 
 -- a constant beside a class
 module _ (c : NumberPart) (n : ℤ) (k : IsTrue (number_has c n)) where
-  numbers_index_left : HasNumbers number_part.Index c → HasNumbers (join_classes number_part.Index (number_class (number_part.One n))) c
+  numbers_index_left : HasNumbers number_part.Index c → HasNumbers (join_classes number_part.Index
+      (number_class (number_part.One n))) c
   numbers_index_left h =
-      cond_both (is_index n) number_part.Index number_part.OtherWhole (λ d. HasNumbers (join_classes number_part.Index d) c)
+      cond_both (is_index n) number_part.Index number_part.OtherWhole (λ d. HasNumbers (join_classes
+      number_part.Index d) c)
       (λ e. h) (λ e z _. all_numbers c (pos 0) n refl e (h (pos 0) refl) k z)
 
-  numbers_index_right : HasNumbers number_part.Index c → HasNumbers (join_classes (number_class (number_part.One n)) number_part.Index) c
+  numbers_index_right : HasNumbers number_part.Index c → HasNumbers (join_classes (number_class
+      (number_part.One n)) number_part.Index) c
   numbers_index_right h =
-      cond_both (is_index n) number_part.Index number_part.OtherWhole (λ d. HasNumbers (join_classes d number_part.Index) c)
+      cond_both (is_index n) number_part.Index number_part.OtherWhole (λ d. HasNumbers (join_classes
+      d number_part.Index) c)
       (λ e. h) (λ e z _. all_numbers c (pos 0) n refl e (h (pos 0) refl) k z)
 
-  numbers_other_left : HasNumbers number_part.OtherWhole c → HasNumbers (join_classes number_part.OtherWhole (number_class (number_part.One n))) c
+  numbers_other_left : HasNumbers number_part.OtherWhole c → HasNumbers (join_classes
+      number_part.OtherWhole (number_class (number_part.One n))) c
   numbers_other_left h =
-      cond_both (is_index n) number_part.Index number_part.OtherWhole (λ d. HasNumbers (join_classes number_part.OtherWhole d) c)
+      cond_both (is_index n) number_part.Index number_part.OtherWhole (λ d. HasNumbers (join_classes
+      number_part.OtherWhole d) c)
       (λ e z _. all_numbers c n (negsuc 0) e refl k (h (negsuc 0) refl) z) (λ e. h)
 
-  numbers_other_right : HasNumbers number_part.OtherWhole c → HasNumbers (join_classes (number_class (number_part.One n)) number_part.OtherWhole) c
+  numbers_other_right : HasNumbers number_part.OtherWhole c → HasNumbers (join_classes (number_class
+      (number_part.One n)) number_part.OtherWhole) c
   numbers_other_right h =
-      cond_both (is_index n) number_part.Index number_part.OtherWhole (λ d. HasNumbers (join_classes d number_part.OtherWhole) c)
+      cond_both (is_index n) number_part.Index number_part.OtherWhole (λ d. HasNumbers (join_classes
+      d number_part.OtherWhole) c)
       (λ e z _. all_numbers c n (negsuc 0) e refl k (h (negsuc 0) refl) z) (λ e. h)
 
-  numbers_all_right : HasNumbers number_part.Whole c → HasNumbers (join_classes (number_class (number_part.One n)) number_part.Whole) c
+  numbers_all_right : HasNumbers number_part.Whole c → HasNumbers (join_classes (number_class
+      (number_part.One n)) number_part.Whole) c
   numbers_all_right h =
-      cond_both (is_index n) number_part.Index number_part.OtherWhole (λ d. HasNumbers (join_classes d number_part.Whole) c)
+      cond_both (is_index n) number_part.Index number_part.OtherWhole (λ d. HasNumbers (join_classes
+      d number_part.Whole) c)
       (λ e z _. h z refl) (λ e z _. h z refl)
 
-numbers_least : (a b c : NumberPart) → HasNumbers a c → HasNumbers b c → HasNumbers (join_numbers a b) c
+numbers_least : (a b c : NumberPart) → HasNumbers a c → HasNumbers b c → HasNumbers (join_numbers a
+    b) c
 numbers_least number_part.Nothing b c h k = k
 numbers_least (number_part.One m) number_part.Nothing c h k = h
 numbers_least (number_part.One m) (number_part.One n) c h k =
     cond_both (int_eq m n) (number_part.One m)
     (join_classes (number_class (number_part.One m)) (number_class (number_part.One n)))
     (λ d. HasNumbers d c) (λ e. h)
-    (λ e. numbers_apart c m n (λ is. absurd (false≢true (sym e ∙ subst (λ x. IsTrue (number_has (number_part.One m) x))
+    (λ e. numbers_apart c m n (λ is. absurd (false≢true (sym e ∙ subst (λ x. IsTrue (number_has
+    (number_part.One m) x))
     is (number_itself m)))) (h m (number_itself m)) (k n (number_itself n)))
-numbers_least (number_part.One m) number_part.Index c h k = numbers_index_right c m (h m (number_itself m)) k
-numbers_least (number_part.One m) number_part.OtherWhole c h k = numbers_other_right c m (h m (number_itself m)) k
-numbers_least (number_part.One m) number_part.Whole c h k = numbers_all_right c m (h m (number_itself m)) k
+numbers_least (number_part.One m) number_part.Index c h k = numbers_index_right c m (h m
+    (number_itself m)) k
+numbers_least (number_part.One m) number_part.OtherWhole c h k = numbers_other_right c m (h m
+    (number_itself m)) k
+numbers_least (number_part.One m) number_part.Whole c h k = numbers_all_right c m (h m
+    (number_itself m)) k
 numbers_least number_part.Index number_part.Nothing c h k = h
-numbers_least number_part.Index (number_part.One n) c h k = numbers_index_left c n (k n (number_itself n)) h
+numbers_least number_part.Index (number_part.One n) c h k = numbers_index_left c n (k n
+    (number_itself n)) h
 numbers_least number_part.Index number_part.Index c h k = h
 numbers_least number_part.Index number_part.OtherWhole c h k =
     λ z _. all_numbers c (pos 0) (negsuc 0) refl refl (h (pos 0) refl) (k (negsuc 0) refl) z
 numbers_least number_part.Index number_part.Whole c h k = λ z _. k z refl
 numbers_least number_part.OtherWhole number_part.Nothing c h k = h
-numbers_least number_part.OtherWhole (number_part.One n) c h k = numbers_other_left c n (k n (number_itself n)) h
+numbers_least number_part.OtherWhole (number_part.One n) c h k = numbers_other_left c n (k n
+    (number_itself n)) h
 numbers_least number_part.OtherWhole number_part.Index c h k =
     λ z _. all_numbers c (pos 0) (negsuc 0) refl refl (k (pos 0) refl) (h (negsuc 0) refl) z
 numbers_least number_part.OtherWhole number_part.OtherWhole c h k = h
@@ -230,7 +251,8 @@ all_texts text_part.OtherText x y e f h k z =
 all_texts text_part.Text x y e f h k z = refl
 
 -- two different members are in the join of their classes
-texts_apart : (c : TextPart) (m n : List ℕ) → (m ≡ n → ⊥) → IsTrue (text_has c m) → IsTrue (text_has c n)
+texts_apart : (c : TextPart) (m n : List ℕ) → (m ≡ n → ⊥) → IsTrue (text_has c m) → IsTrue (text_has
+    c n)
     → HasTexts (join_text_classes (text_class (text_part.One m)) (text_class (text_part.One n))) c
 texts_apart text_part.Nothing m n apart h k = absurd (false≢true h)
 texts_apart (text_part.One x) m n apart h k =
@@ -242,37 +264,49 @@ texts_apart text_part.IndexText m n apart h k =
     (sym (cond-true (is_index_text n) text_part.IndexText text_part.OtherText k)) (λ z e. e))
 texts_apart text_part.OtherText m n apart h k =
     subst (λ d. HasTexts (join_text_classes d (text_class (text_part.One n))) text_part.OtherText)
-    (sym (cond-false (is_index_text m) text_part.IndexText text_part.OtherText (not_true (is_index_text m) h)))
+    (sym (cond-false (is_index_text m) text_part.IndexText text_part.OtherText (not_true
+    (is_index_text m) h)))
     (subst (λ d. HasTexts (join_text_classes text_part.OtherText d) text_part.OtherText)
-    (sym (cond-false (is_index_text n) text_part.IndexText text_part.OtherText (not_true (is_index_text n) k)))
+    (sym (cond-false (is_index_text n) text_part.IndexText text_part.OtherText (not_true
+    (is_index_text n) k)))
     (λ z e. e))
 texts_apart text_part.Text m n apart h k = λ z e. refl
 
 -- a constant beside a class
 module _ (c : TextPart) (n : List ℕ) (k : IsTrue (text_has c n)) where
-  texts_index_left : HasTexts text_part.IndexText c → HasTexts (join_text_classes text_part.IndexText (text_class (text_part.One n))) c
+  texts_index_left : HasTexts text_part.IndexText c → HasTexts (join_text_classes
+      text_part.IndexText (text_class (text_part.One n))) c
   texts_index_left h =
-      cond_both (is_index_text n) text_part.IndexText text_part.OtherText (λ d. HasTexts (join_text_classes text_part.IndexText d) c)
+      cond_both (is_index_text n) text_part.IndexText text_part.OtherText (λ d. HasTexts
+      (join_text_classes text_part.IndexText d) c)
       (λ e. h) (λ e z _. all_texts c (48 ∷ []) n refl e (h (48 ∷ []) refl) k z)
 
-  texts_index_right : HasTexts text_part.IndexText c → HasTexts (join_text_classes (text_class (text_part.One n)) text_part.IndexText) c
+  texts_index_right : HasTexts text_part.IndexText c → HasTexts (join_text_classes (text_class
+      (text_part.One n)) text_part.IndexText) c
   texts_index_right h =
-      cond_both (is_index_text n) text_part.IndexText text_part.OtherText (λ d. HasTexts (join_text_classes d text_part.IndexText) c)
+      cond_both (is_index_text n) text_part.IndexText text_part.OtherText (λ d. HasTexts
+      (join_text_classes d text_part.IndexText) c)
       (λ e. h) (λ e z _. all_texts c (48 ∷ []) n refl e (h (48 ∷ []) refl) k z)
 
-  texts_other_left : HasTexts text_part.OtherText c → HasTexts (join_text_classes text_part.OtherText (text_class (text_part.One n))) c
+  texts_other_left : HasTexts text_part.OtherText c → HasTexts (join_text_classes
+      text_part.OtherText (text_class (text_part.One n))) c
   texts_other_left h =
-      cond_both (is_index_text n) text_part.IndexText text_part.OtherText (λ d. HasTexts (join_text_classes text_part.OtherText d) c)
+      cond_both (is_index_text n) text_part.IndexText text_part.OtherText (λ d. HasTexts
+      (join_text_classes text_part.OtherText d) c)
       (λ e z _. all_texts c n ([]) e refl k (h ([]) refl) z) (λ e. h)
 
-  texts_other_right : HasTexts text_part.OtherText c → HasTexts (join_text_classes (text_class (text_part.One n)) text_part.OtherText) c
+  texts_other_right : HasTexts text_part.OtherText c → HasTexts (join_text_classes (text_class
+      (text_part.One n)) text_part.OtherText) c
   texts_other_right h =
-      cond_both (is_index_text n) text_part.IndexText text_part.OtherText (λ d. HasTexts (join_text_classes d text_part.OtherText) c)
+      cond_both (is_index_text n) text_part.IndexText text_part.OtherText (λ d. HasTexts
+      (join_text_classes d text_part.OtherText) c)
       (λ e z _. all_texts c n ([]) e refl k (h ([]) refl) z) (λ e. h)
 
-  texts_all_right : HasTexts text_part.Text c → HasTexts (join_text_classes (text_class (text_part.One n)) text_part.Text) c
+  texts_all_right : HasTexts text_part.Text c → HasTexts (join_text_classes (text_class
+      (text_part.One n)) text_part.Text) c
   texts_all_right h =
-      cond_both (is_index_text n) text_part.IndexText text_part.OtherText (λ d. HasTexts (join_text_classes d text_part.Text) c)
+      cond_both (is_index_text n) text_part.IndexText text_part.OtherText (λ d. HasTexts
+      (join_text_classes d text_part.Text) c)
       (λ e z _. h z refl) (λ e z _. h z refl)
 
 texts_least : (a b c : TextPart) → HasTexts a c → HasTexts b c → HasTexts (join_texts a b) c
@@ -282,19 +316,24 @@ texts_least (text_part.One m) (text_part.One n) c h k =
     cond_both (pointwise nat_eq m n) (text_part.One m)
     (join_text_classes (text_class (text_part.One m)) (text_class (text_part.One n)))
     (λ d. HasTexts d c) (λ e. h)
-    (λ e. texts_apart c m n (λ is. absurd (false≢true (sym e ∙ subst (λ x. IsTrue (text_has (text_part.One m) x))
+    (λ e. texts_apart c m n (λ is. absurd (false≢true (sym e ∙ subst (λ x. IsTrue (text_has
+    (text_part.One m) x))
     is (text_itself m)))) (h m (text_itself m)) (k n (text_itself n)))
-texts_least (text_part.One m) text_part.IndexText c h k = texts_index_right c m (h m (text_itself m)) k
-texts_least (text_part.One m) text_part.OtherText c h k = texts_other_right c m (h m (text_itself m)) k
+texts_least (text_part.One m) text_part.IndexText c h k = texts_index_right c m (h m (text_itself
+    m)) k
+texts_least (text_part.One m) text_part.OtherText c h k = texts_other_right c m (h m (text_itself
+    m)) k
 texts_least (text_part.One m) text_part.Text c h k = texts_all_right c m (h m (text_itself m)) k
 texts_least text_part.IndexText text_part.Nothing c h k = h
-texts_least text_part.IndexText (text_part.One n) c h k = texts_index_left c n (k n (text_itself n)) h
+texts_least text_part.IndexText (text_part.One n) c h k = texts_index_left c n (k n (text_itself n))
+    h
 texts_least text_part.IndexText text_part.IndexText c h k = h
 texts_least text_part.IndexText text_part.OtherText c h k =
     λ z _. all_texts c (48 ∷ []) ([]) refl refl (h (48 ∷ []) refl) (k ([]) refl) z
 texts_least text_part.IndexText text_part.Text c h k = λ z _. k z refl
 texts_least text_part.OtherText text_part.Nothing c h k = h
-texts_least text_part.OtherText (text_part.One n) c h k = texts_other_left c n (k n (text_itself n)) h
+texts_least text_part.OtherText (text_part.One n) c h k = texts_other_left c n (k n (text_itself n))
+    h
 texts_least text_part.OtherText text_part.IndexText c h k =
     λ z _. all_texts c (48 ∷ []) ([]) refl refl (k (48 ∷ []) refl) (h ([]) refl) z
 texts_least text_part.OtherText text_part.OtherText c h k = h
@@ -376,7 +415,8 @@ states_grouped a b c =
     let in_right : LeqState (join_states b c) right = state-join_right a (join_states b c) in
     state_equal left right
     (state_least (join_states a b) c right (state_least a b right
-    (state-join a (join_states b c)) (state_both b (join_states b c) right (state-join b c) in_right))
+    (state-join a (join_states b c)) (state_both b (join_states b c) right (state-join b c)
+    in_right))
     (state_both c (join_states b c) right (state-join_right b c) in_right))
     (state_least a (join_states b c) left
     (state_both a (join_states a b) left (state-join a b) in_left)
@@ -392,7 +432,8 @@ state_twice a =
 
 pub property_twice : (q : AbstractProperty) → join_properties q q ≡ q
 property_twice q =
-    property_equal (join_properties q q) q (property_least q q q (property_same q) (property_same q))
+    property_equal (join_properties q q) q (property_least q q q (property_same q) (property_same
+    q))
     (property-join q q)
 
 no_property-least : (q : AbstractProperty) → LeqProperty no_property q

@@ -13,6 +13,7 @@ pub mod Least
 pub mod Lists
 pub mod Order
 pub mod Parts
+pub mod Pinned
 pub mod Rounds
 pub mod Texts
 pub mod Writes

@@ -1,6 +1,6 @@
 -- A small program and small states, for what is computed: the built-in sites and those of two
 -- functions, few names of its own, and states in which nothing is known but what is said.
-use Rattle.std.specs.Prelude.{ℕ, pos, true, false, List, [], ◌∷◌, ◌++◌, filter, map, replicate, Option, Some, None, String}
+use Rattle.std.specs.Prelude.{ℕ, pos, true, false, List, [], ◌∷◌, ◌++◌, filter, map, replicate, Some, None, String}
 use Rattle.std.specs.Global.{Global}
 use lib.Chars.{codes}
 use Rattle.ja_base.specs.declared.ids.FnId.{FnId}

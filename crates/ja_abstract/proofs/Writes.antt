@@ -1,16 +1,14 @@
 -- What puts and deletions leave, computed.
-use Rattle.std.specs.Prelude.{◌≡◌, ℕ, pos, true, false, Bool, List, [], ◌∷◌, map, String}
+use Rattle.std.specs.Prelude.{◌≡◌, true, false, Bool, List, [], ◌∷◌, map, String}
 use Rattle.std.specs.Global.{Global}
-use Rattle.std.specs.Fmt.{digits as decimal_digits}
 use Rattle.std.proofs.Common.{refl}
 use Rattle.ja_base.specs.declared.ids.Label.{Label}
-use Rattle.ja_machine.specs.Heap.{no_attrs}
 use Rattle.ja_machine.specs.Objects.{dont_enum, dont_delete, kept_hidden, all_attrs}
 use Rattle.ja_abstract.specs.declared.abstraction.Key.{Key}
 use Rattle.ja_abstract.specs.declared.abstraction.Key.TheVariants as key
 use Rattle.ja_abstract.specs.declared.abstraction.NumberPart.TheVariants as number_part
-use Rattle.ja_abstract.specs.AbstractValue.{Labels, AbstractValue, AbstractProperty, join, join_properties, no_property, null_value, bare, absent_property, entry_property, of_label}
-use Rattle.ja_abstract.specs.AbstractState.{AbstractState, new, old, site_of, with_property}
+use Rattle.ja_abstract.specs.AbstractValue.{Labels, AbstractValue, AbstractProperty, join, join_properties, no_property, null_value, bare, absent_property, of_label}
+use Rattle.ja_abstract.specs.AbstractState.{AbstractState, old, site_of, with_property}
 use Rattle.ja_abstract.specs.Primitives.{of_bools, of_number_part, whole_value, nan_value}
 use Rattle.ja_abstract.specs.Reading.{one_label}
 use Rattle.ja_abstract.specs.Resolved.{prototype}
@@ -20,7 +18,8 @@ use Rattle.ja_abstract.proofs.SmallProgram.{blank, number, true_value, false_val
 module _ (text : String Global) where
   -- ---- [[Put]]
 
-  abbrev put_at : Labels → List Key → AbstractValue → AbstractState → Label → Key → List SeenProperty
+  abbrev put_at : Labels → List Key → AbstractValue → AbstractState → Label → Key → List
+      SeenProperty
   put_at = λ target keys v a l k. map (seen_at l k) (put_states (view text a) target keys v)
 
   abbrev of_p : AbstractProperty → AbstractState
@@ -44,8 +43,11 @@ module _ (text : String Global) where
   put_replaces = refl
 
   put_maybe_adds : put_at (one_label object) p (number 2) (of_p (join_properties (with_attrs
-      null_value dont_enum) absent_property)) object p_name ≡ seen_property (record { value = number
-      2; attrs = (join_properties (with_attrs null_value dont_enum) (plain null_value)).attrs }) ∷
+      null_value dont_enum) absent_property)) object p_name ≡ seen_property (record {
+        value = number
+            2;
+        attrs = (join_properties (with_attrs null_value dont_enum) (plain null_value)).attrs;
+      }) ∷
       []
   put_maybe_adds = refl
 
@@ -225,8 +227,11 @@ module _ (text : String Global) where
   maybe_there = join_properties (plain null_value) absent_property
 
   deletes_maybe : delete (one_label object) (of_p maybe_there) object
-      ≡ (seen true_value, seen_property maybe_there) ∷ (seen true_value, seen_property
-      absent_property) ∷ []
+      ≡ (seen true_value, seen_property maybe_there) ∷ (
+        seen true_value,
+        seen_property
+            absent_property,
+      ) ∷ []
   deletes_maybe = refl
 
   deletes_weakly : delete both (of_p (plain null_value)) object

@@ -8,11 +8,20 @@
 //! `Reading`); the objects that nodes make (`Made`); puts, definitions and deletions (`Writes`); a
 //! state read through a later one (`Composed`); the contents of the opening heap (`Contents`).
 //!
+//! Laws (`Laws`): joins are least, and in any order; a strong write replaces, and a weak one keeps;
+//! a known property of one object is what is read; an object just made has its own properties
+//! alone; two moments add up; what the keys of texts are.
+//!
 //! Proved, as lemmas: a join is above what it joins and has each part that one of the two has;
 //! operators on abstract primitives cover those on primitives; the keys and the labels of a program
 //! are all there are.
 #![tactic(auto)]
 
 mod abstraction;
+mod laws;
 
 pub use abstraction::{AAttrs, Flags, Key, Mask, May, NumberPart, Slot, TextPart};
+pub use laws::{
+    joins_are_least, joins_have_no_order, known_reads, moments_add_up, nothing_is_renamed,
+    objects_are_made, strong_writes_replace, texts_have_keys, weak_writes_keep,
+};
