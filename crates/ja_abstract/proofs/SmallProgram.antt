@@ -8,6 +8,7 @@ use Rattle.ja_base.specs.declared.ids.Label.{Label}
 use Rattle.ja_base.specs.declared.ids.NameId.{NameId}
 use Rattle.ja_base.specs.declared.ids.Place.{Place}
 use Rattle.ja_base.specs.declared.ids.Reg.{Reg}
+use Rattle.ja_base.specs.declared.ids.Site.{Site}
 use Rattle.ja_prim.specs.declared.primitive.Num.TheVariants.{Whole}
 use Rattle.ja_prim.specs.declared.primitive.Primitive.TheVariants as primitive
 use Rattle.ja_prim.specs.declared.signature.Signature.{Signature}
@@ -66,6 +67,46 @@ info n = record {
   place = place;
 }
 
+-- The sites: those of an object, an array, a function, its prototype, an activation, its arguments
+-- object, an error, and a function that constructs nothing have the numbers of built-in
+-- constructors, of which no row speaks; so few labels are enough.
+abbrev pub object_site : Site
+object_site = site_of 3
+
+abbrev pub array_site : Site
+array_site = site_of 4
+
+abbrev pub function_site : Site
+function_site = site_of 6
+
+abbrev pub proto_site : Site
+proto_site = site_of 8
+
+abbrev pub activation_site : Site
+activation_site = site_of 10
+
+abbrev pub arguments_site : Site
+arguments_site = site_of 12
+
+abbrev pub error_site : Site
+error_site = site_of 14
+
+abbrev pub plain_site : Site
+plain_site = site_of 15
+
+abbrev sites : List SiteInfo
+sites =
+    replicate 4 (site class.Object)
+    ++ (site class.Array ∷ site class.Object
+    ∷ record (site class.Function) {
+      calls = Some (function_id 1);
+      constructs = Some (function_id 1);
+    }
+    ∷ replicate 3 (site class.Object)
+    ++ (site class.Activation ∷ replicate 3 (site class.Object)
+    ++ (site class.Error
+    ∷ record (site class.Function) { calls = Some (function_id 2) } ∷ [])))
+
 abbrev function : List NameId → List NodeInfo → Function
 function parameters nodes =
     record { name = []; parameters = parameters; registers = 12; nodes = nodes }
@@ -77,26 +118,9 @@ exits = info (node.Return (reg 5)) ∷ info node.Escape ∷ []
 abbrev functions : List Function
 functions =
     function [] exits
-    ∷ function (name 106 ∷ name 107 ∷ []) (info (node.Enter (site_of 28) (Some (site_of 29)))
+    ∷ function (name 106 ∷ name 107 ∷ []) (info (node.Enter activation_site (Some arguments_site))
     ∷ exits)
     ∷ function [] exits ∷ function [] exits ∷ []
-
--- the sites of the built-in objects, and from 24 on those of an object, an array, a function, its
--- prototype, an activation, its arguments object, an error, and a function that constructs nothing
-abbrev sites : List SiteInfo
-sites =
-    replicate 24 (site class.Object)
-    ++ (site class.Object
-    ∷ site class.Array
-    ∷ record (site class.Function) {
-      calls = Some (function_id 1);
-      constructs = Some (function_id 1);
-    }
-    ∷ site class.Object
-    ∷ site class.Activation
-    ∷ site class.Object
-    ∷ site class.Error
-    ∷ record (site class.Function) { calls = Some (function_id 2) } ∷ [])
 
 -- the names that have numbers of their own, and from 104 on those of the program
 abbrev names : List (List ℕ)
@@ -131,38 +155,39 @@ small text = record {
 
 -- ---- its labels and keys
 
+-- those of the program, and of all built-in prototypes
 abbrev pub labels : List Label
-labels = labels_below 32
+labels = labels_below 24
 
 abbrev pub global_object : Label
 global_object = new (site_of 0)
 
 abbrev pub object : Label
-object = new (site_of 24)
+object = new object_site
 
 abbrev pub old_objects : Label
-old_objects = old (site_of 24)
+old_objects = old object_site
 
 abbrev pub array : Label
-array = new (site_of 25)
+array = new array_site
 
 abbrev pub function_object : Label
-function_object = new (site_of 26)
+function_object = new function_site
 
 abbrev pub proto : Label
-proto = new (site_of 27)
+proto = new proto_site
 
 abbrev pub activation : Label
-activation = new (site_of 28)
+activation = new activation_site
 
 abbrev pub arguments_object : Label
-arguments_object = new (site_of 29)
+arguments_object = new arguments_site
 
 abbrev pub error : Label
-error = new (site_of 30)
+error = new error_site
 
 abbrev pub plain_function : Label
-plain_function = new (site_of 31)
+plain_function = new plain_site
 
 abbrev pub message_name : Key
 message_name = name_key 74

@@ -1,25 +1,26 @@
 -- What puts and deletions leave, computed.
-use Rattle.std.specs.Prelude.{◌≡◌, true, false, Bool, List, [], ◌∷◌, map, String}
+use Rattle.std.specs.Prelude.{◌≡◌, ℕ, pos, true, false, Bool, List, [], ◌∷◌, map, String}
 use Rattle.std.specs.Global.{Global}
+use Rattle.std.specs.Fmt.{digits as decimal_digits}
 use Rattle.std.proofs.Common.{refl}
 use Rattle.ja_base.specs.declared.ids.Label.{Label}
+use Rattle.ja_machine.specs.Heap.{no_attrs}
 use Rattle.ja_machine.specs.Objects.{dont_enum, dont_delete, kept_hidden, all_attrs}
 use Rattle.ja_abstract.specs.declared.abstraction.Key.{Key}
 use Rattle.ja_abstract.specs.declared.abstraction.Key.TheVariants as key
 use Rattle.ja_abstract.specs.declared.abstraction.NumberPart.TheVariants as number_part
-use Rattle.ja_abstract.specs.AbstractValue.{Labels, AbstractValue, AbstractProperty, join, join_properties, no_property, null_value, bare, absent_property, of_label}
-use Rattle.ja_abstract.specs.AbstractState.{AbstractState, old, site_of, with_property}
+use Rattle.ja_abstract.specs.AbstractValue.{Labels, AbstractValue, AbstractProperty, join, join_properties, no_property, null_value, bare, absent_property, entry_property, of_label}
+use Rattle.ja_abstract.specs.AbstractState.{AbstractState, new, old, site_of, with_property}
 use Rattle.ja_abstract.specs.Primitives.{of_bools, of_number_part, whole_value, nan_value}
 use Rattle.ja_abstract.specs.Reading.{one_label}
 use Rattle.ja_abstract.specs.Resolved.{prototype}
 use Rattle.ja_abstract.specs.Writes.{Result, put_states, put_may_throw, delete_states}
-use Rattle.ja_abstract.proofs.SmallProgram.{blank, number, true_value, false_value, with_attrs, plain, object, old_objects, array, proto, length_name, p_name, q_name, zero_name, five_name, view, seen, seen_at, SeenValue, SeenProperty, seen_property}
+use Rattle.ja_abstract.proofs.SmallProgram.{array_site, blank, number, true_value, false_value, with_attrs, plain, object, old_objects, array, proto, length_name, p_name, q_name, zero_name, five_name, view, seen, seen_at, SeenValue, SeenProperty, seen_property}
 
 module _ (text : String Global) where
   -- ---- [[Put]]
 
-  abbrev put_at : Labels → List Key → AbstractValue → AbstractState → Label → Key → List
-      SeenProperty
+  abbrev put_at : Labels → List Key → AbstractValue → AbstractState → Label → Key → List SeenProperty
   put_at = λ target keys v a l k. map (seen_at l k) (put_states (view text a) target keys v)
 
   abbrev of_p : AbstractProperty → AbstractState
@@ -43,11 +44,8 @@ module _ (text : String Global) where
   put_replaces = refl
 
   put_maybe_adds : put_at (one_label object) p (number 2) (of_p (join_properties (with_attrs
-      null_value dont_enum) absent_property)) object p_name ≡ seen_property (record {
-        value = number
-            2;
-        attrs = (join_properties (with_attrs null_value dont_enum) (plain null_value)).attrs;
-      }) ∷
+      null_value dont_enum) absent_property)) object p_name ≡ seen_property (record { value = number
+      2; attrs = (join_properties (with_attrs null_value dont_enum) (plain null_value)).attrs }) ∷
       []
   put_maybe_adds = refl
 
@@ -140,8 +138,8 @@ module _ (text : String Global) where
       (number 3)) object length_name ≡ seen_property (with_attrs (number 3) kept_hidden) ∷ []
   object_has_no_elements = refl
 
-  length_of_old_array : put_at (one_label (old (site_of 25))) (five_name ∷ []) null_value (of_length
-      (old (site_of 25)) (number 3)) (old (site_of 25)) length_name ≡ seen_property (with_attrs
+  length_of_old_array : put_at (one_label (old array_site)) (five_name ∷ []) null_value (of_length
+      (old array_site) (number 3)) (old array_site) length_name ≡ seen_property (with_attrs
       (of_number_part number_part.Index) kept_hidden) ∷ []
   length_of_old_array = refl
 
@@ -227,11 +225,8 @@ module _ (text : String Global) where
   maybe_there = join_properties (plain null_value) absent_property
 
   deletes_maybe : delete (one_label object) (of_p maybe_there) object
-      ≡ (seen true_value, seen_property maybe_there) ∷ (
-        seen true_value,
-        seen_property
-            absent_property,
-      ) ∷ []
+      ≡ (seen true_value, seen_property maybe_there) ∷ (seen true_value, seen_property
+      absent_property) ∷ []
   deletes_maybe = refl
 
   deletes_weakly : delete both (of_p (plain null_value)) object

@@ -1,5 +1,6 @@
 pub mod Applied
 pub mod BuiltIns
+pub mod Calls
 pub mod Edges
 pub mod Enumeration
 pub mod Names

@@ -1,5 +1,5 @@
 -- What the rows of the nodes of names give, computed.
-use Rattle.std.specs.Prelude.{◌≡◌, Bool, Option, ℕ, pos, negsuc, true, false, List, [], ◌∷◌, Some, None, map, String}
+use Rattle.std.specs.Prelude.{◌≡◌, Bool, Option, ℕ, pos, negsuc, true, false, if◌then◌else◌, ◌==◌, List, [], ◌∷◌, Some, None, map, String}
 use Rattle.std.specs.Global.{Global}
 use Rattle.std.proofs.Common.{refl}
 use lib.Chars.{codes}
@@ -29,13 +29,15 @@ use Rattle.ja_abstract.specs.declared.abstraction.Slot.TheVariants as slot
 use Rattle.ja_abstract.specs.declared.abstraction.NumberPart.TheVariants as number_part
 use Rattle.ja_abstract.specs.declared.abstraction.TextPart.TheVariants as text_part
 use Rattle.ja_abstract.specs.AbstractValue.{AbstractValue, AbstractProperty, join, join_properties, no_value, null_value, undefined_value, row_value, absent_value, bare, no_property, absent_property, entry_property, of_label, of_primitive, of_attrs}
-use Rattle.ja_abstract.specs.AbstractState.{AbstractState, new, old, site_of, name_key, exactly_none, exactly_some, with_property}
+use Rattle.ja_abstract.specs.AbstractState.{AbstractState, new, old, site_of, name_key, exactly_none, exactly_some, join_masks, with_property}
 use Rattle.ja_abstract.specs.Resolved.{prototype, outer}
 use Rattle.ja_abstract.specs.Made.{scope_key, value_key}
 use Rattle.ja_abstract.specs.Primitives.{of_bools, of_number_part, of_text_part, whole_value, nan_value}
-use Rattle.ja_abstract.proofs.SmallProgram.{reg, name, function_id, blank, holding, number, one_text, true_value, false_value, with_attrs, plain, global_object, object, old_objects, array, function_object, proto, activation, arguments_object, error, plain_function, labels, SeenValue, SeenProperty, message_name, length_name, prototype_name, p_name, q_name, zero_name, five_name, seen, seen_property}
-use Rattle.ja_rows.specs.Out.{nowhere}
-use Rattle.ja_rows.proofs.SmallSteps.{seen_in, gives, sets, leaves, goes_to, demands, edges, enters}
+use Rattle.ja_abstract.proofs.SmallProgram.{object_site, array_site, function_site, proto_site, activation_site, arguments_site, error_site, plain_site, reg, name, function_id, blank, holding, number, one_text, true_value, false_value, with_attrs, plain, global_object, object, old_objects, array, function_object, proto, activation, arguments_object, error, plain_function, labels, SeenValue, SeenProperty, message_name, length_name, prototype_name, p_name, q_name, zero_name, five_name, info, view, seen, seen_at, seen_property}
+use Rattle.ja_rows.specs.Out.{nowhere, Given}
+use Rattle.ja_rows.specs.Calls.{filled_with, given_back}
+use Rattle.ja_abstract.specs.declared.abstraction.Mask.{Mask}
+use Rattle.ja_rows.proofs.SmallSteps.{edge, enter_demands, register, seen_in, gives, sets, leaves, goes_to, demands, edges, enters}
 
 module _ (text : String Global) where
   -- in front of the global object is an activation, which has these at p, and the global object
@@ -90,7 +92,7 @@ module _ (text : String Global) where
   -- ---- ReadRef, ReadSoft
 
   abbrev read : Node
-  read = node.ReadRef (reg 6) (reg 7) (name 106) (site_of 30)
+  read = node.ReadRef (reg 6) (reg 7) (name 106) error_site
 
   abbrev of_base : AbstractValue → AbstractProperty → AbstractState
   of_base = λ v q. with_property (holding 7 v blank) object p_name q

@@ -1,5 +1,5 @@
 -- What the rows of the nodes that make objects, or want them, give, computed.
-use Rattle.std.specs.Prelude.{◌≡◌, Bool, Option, ℕ, pos, negsuc, true, false, List, [], ◌∷◌, Some, None, map, String}
+use Rattle.std.specs.Prelude.{◌≡◌, Bool, Option, ℕ, pos, negsuc, true, false, if◌then◌else◌, ◌==◌, List, [], ◌∷◌, Some, None, map, String}
 use Rattle.std.specs.Global.{Global}
 use Rattle.std.proofs.Common.{refl}
 use lib.Chars.{codes}
@@ -29,20 +29,22 @@ use Rattle.ja_abstract.specs.declared.abstraction.Slot.TheVariants as slot
 use Rattle.ja_abstract.specs.declared.abstraction.NumberPart.TheVariants as number_part
 use Rattle.ja_abstract.specs.declared.abstraction.TextPart.TheVariants as text_part
 use Rattle.ja_abstract.specs.AbstractValue.{AbstractValue, AbstractProperty, join, join_properties, no_value, null_value, undefined_value, row_value, absent_value, bare, no_property, absent_property, entry_property, of_label, of_primitive, of_attrs}
-use Rattle.ja_abstract.specs.AbstractState.{AbstractState, new, old, site_of, name_key, exactly_none, exactly_some, with_property}
+use Rattle.ja_abstract.specs.AbstractState.{AbstractState, new, old, site_of, name_key, exactly_none, exactly_some, join_masks, with_property}
 use Rattle.ja_abstract.specs.Resolved.{prototype, outer}
 use Rattle.ja_abstract.specs.Made.{scope_key, value_key}
 use Rattle.ja_abstract.specs.Primitives.{of_bools, of_number_part, of_text_part, whole_value, nan_value}
-use Rattle.ja_abstract.proofs.SmallProgram.{reg, name, function_id, blank, holding, number, one_text, true_value, false_value, with_attrs, plain, global_object, object, old_objects, array, function_object, proto, activation, arguments_object, error, plain_function, labels, SeenValue, SeenProperty, message_name, length_name, prototype_name, p_name, q_name, zero_name, five_name, seen, seen_property}
-use Rattle.ja_rows.specs.Out.{nowhere}
-use Rattle.ja_rows.proofs.SmallSteps.{seen_in, gives, sets, leaves, goes_to, demands, edges, enters}
+use Rattle.ja_abstract.proofs.SmallProgram.{object_site, array_site, function_site, proto_site, activation_site, arguments_site, error_site, plain_site, reg, name, function_id, blank, holding, number, one_text, true_value, false_value, with_attrs, plain, global_object, object, old_objects, array, function_object, proto, activation, arguments_object, error, plain_function, labels, SeenValue, SeenProperty, message_name, length_name, prototype_name, p_name, q_name, zero_name, five_name, info, view, seen, seen_at, seen_property}
+use Rattle.ja_rows.specs.Out.{nowhere, Given}
+use Rattle.ja_rows.specs.Calls.{filled_with, given_back}
+use Rattle.ja_abstract.specs.declared.abstraction.Mask.{Mask}
+use Rattle.ja_rows.proofs.SmallSteps.{edge, enter_demands, register, seen_in, gives, sets, leaves, goes_to, demands, edges, enters}
 
 module _ (text : String Global) where
   -- ---- ToObject
 
   abbrev to_object : Node
-  to_object = node.ToObject (reg 6) (reg 7) (record { boolean = site_of 24; number = site_of 27;
-      text = site_of 29 }) (site_of 30)
+  to_object = node.ToObject (reg 6) (reg 7) (record { boolean = object_site; number = proto_site;
+      text = arguments_site }) error_site
 
   abbrev of : AbstractValue → AbstractState
   of = λ v. holding 7 v blank
@@ -93,7 +95,7 @@ module _ (text : String Global) where
   -- ---- NeedObject
 
   abbrev need : Node
-  need = node.NeedObject (reg 7) (site_of 30)
+  need = node.NeedObject (reg 7) error_site
 
   object_goes_on : goes_to text need (of (of_label old_objects)) ≡ 1 ∷ []
   object_goes_on = refl
@@ -107,7 +109,7 @@ module _ (text : String Global) where
   -- ---- NewObject
 
   abbrev make : Made → Node
-  make = λ kind. node.NewObject (reg 6) (site_of 24) kind
+  make = λ kind. node.NewObject (reg 6) object_site kind
 
   made_is_new : sets text (make made.Object) blank 6 ≡ (1, seen (of_label object)) ∷ []
   made_is_new = refl
@@ -142,8 +144,8 @@ module _ (text : String Global) where
       ≡ (1, seen_property (with_attrs (number 0) kept_hidden)) ∷ []
   made_array_length = refl
 
-  made_is_counted : seen_in (λ a. a.mask 24 ∷ a.mask 25 ∷ []) (gives text (make made.Object) blank)
-      ≡ (1, exactly_some ∷ exactly_none ∷ []) ∷ []
+  made_is_counted : seen_in (λ a. a.mask object_site.0 ∷ a.mask array_site.0 ∷ []) (gives text (make
+      made.Object) blank) ≡ (1, exactly_some ∷ exactly_none ∷ []) ∷ []
   made_is_counted = refl
 
   -- absent at the keys of the program alone
@@ -154,7 +156,7 @@ module _ (text : String Global) where
   -- ---- MakeFunction
 
   abbrev function : Node
-  function = node.MakeFunction (reg 6) (function_id 1) (site_of 26) (site_of 27)
+  function = node.MakeFunction (reg 6) (function_id 1) function_site proto_site
 
   abbrev in_scope : AbstractState
   in_scope = holding 2 (of_label activation) blank
@@ -183,6 +185,6 @@ module _ (text : String Global) where
   prototype_constructor = refl
 
   function_is_renamed : sets text function (holding 7 (join (of_label function_object) (of_label
-      proto)) blank) 7 ≡ (1, seen (join (of_label (old (site_of 26))) (of_label (old (site_of
-      27))))) ∷ []
+      proto)) blank) 7 ≡ (1, seen (join (of_label (old function_site)) (of_label (old proto_site))))
+      ∷ []
   function_is_renamed = refl

@@ -1,5 +1,5 @@
 -- What the rows of the nodes of properties give, computed.
-use Rattle.std.specs.Prelude.{◌≡◌, Bool, Option, ℕ, pos, negsuc, true, false, List, [], ◌∷◌, Some, None, map, String}
+use Rattle.std.specs.Prelude.{◌≡◌, Bool, Option, ℕ, pos, negsuc, true, false, if◌then◌else◌, ◌==◌, List, [], ◌∷◌, Some, None, map, String}
 use Rattle.std.specs.Global.{Global}
 use Rattle.std.proofs.Common.{refl}
 use lib.Chars.{codes}
@@ -29,13 +29,15 @@ use Rattle.ja_abstract.specs.declared.abstraction.Slot.TheVariants as slot
 use Rattle.ja_abstract.specs.declared.abstraction.NumberPart.TheVariants as number_part
 use Rattle.ja_abstract.specs.declared.abstraction.TextPart.TheVariants as text_part
 use Rattle.ja_abstract.specs.AbstractValue.{AbstractValue, AbstractProperty, join, join_properties, no_value, null_value, undefined_value, row_value, absent_value, bare, no_property, absent_property, entry_property, of_label, of_primitive, of_attrs}
-use Rattle.ja_abstract.specs.AbstractState.{AbstractState, new, old, site_of, name_key, exactly_none, exactly_some, with_property}
+use Rattle.ja_abstract.specs.AbstractState.{AbstractState, new, old, site_of, name_key, exactly_none, exactly_some, join_masks, with_property}
 use Rattle.ja_abstract.specs.Resolved.{prototype, outer}
 use Rattle.ja_abstract.specs.Made.{scope_key, value_key}
 use Rattle.ja_abstract.specs.Primitives.{of_bools, of_number_part, of_text_part, whole_value, nan_value}
-use Rattle.ja_abstract.proofs.SmallProgram.{reg, name, function_id, blank, holding, number, one_text, true_value, false_value, with_attrs, plain, global_object, object, old_objects, array, function_object, proto, activation, arguments_object, error, plain_function, labels, SeenValue, SeenProperty, message_name, length_name, prototype_name, p_name, q_name, zero_name, five_name, seen, seen_property}
-use Rattle.ja_rows.specs.Out.{nowhere}
-use Rattle.ja_rows.proofs.SmallSteps.{seen_in, gives, sets, leaves, goes_to, demands, edges, enters}
+use Rattle.ja_abstract.proofs.SmallProgram.{object_site, array_site, function_site, proto_site, activation_site, arguments_site, error_site, plain_site, reg, name, function_id, blank, holding, number, one_text, true_value, false_value, with_attrs, plain, global_object, object, old_objects, array, function_object, proto, activation, arguments_object, error, plain_function, labels, SeenValue, SeenProperty, message_name, length_name, prototype_name, p_name, q_name, zero_name, five_name, info, view, seen, seen_at, seen_property}
+use Rattle.ja_rows.specs.Out.{nowhere, Given}
+use Rattle.ja_rows.specs.Calls.{filled_with, given_back}
+use Rattle.ja_abstract.specs.declared.abstraction.Mask.{Mask}
+use Rattle.ja_rows.proofs.SmallSteps.{edge, enter_demands, register, seen_in, gives, sets, leaves, goes_to, demands, edges, enters}
 
 module _ (text : String Global) where
   -- an object in register 7, a key in register 8
@@ -79,12 +81,6 @@ module _ (text : String Global) where
   unfolding decimal_digits
   reads_number_as_text = refl
 
-  -- an index that is no name of the program
-  reads_rest : sets text read (keyed (of_label object) (number 7) (with_property blank object
-      key.OtherIndex (plain null_value))) 6 ≡ (1, seen null_value) ∷ []
-  unfolding decimal_digits
-  reads_rest = refl
-
   reads_no_primitive : goes_to text read (keyed null_value p blank) ≡ []
   reads_no_primitive = refl
 
@@ -96,7 +92,7 @@ module _ (text : String Global) where
   -- ---- WriteProp
 
   abbrev write : Node
-  write = node.WriteProp (reg 7) (reg 8) (reg 9) (site_of 30)
+  write = node.WriteProp (reg 7) (reg 8) (reg 9) error_site
 
   abbrev writes : AbstractValue → AbstractValue → AbstractValue → AbstractState → Label → Key → List (ℕ × SeenProperty)
   writes = λ o k v a l j. leaves text write (holding 9 v (keyed o k a)) l j
@@ -113,12 +109,6 @@ module _ (text : String Global) where
       (with_property blank object zero_name (plain (number 1))) object zero_name ≡ (1, seen_property
       (plain (of_number_part number_part.Index))) ∷ []
   write_to_a_class_is_weak = refl
-
-  write_to_a_rest_is_weak : writes (of_label object) (number 7) (number 2) (with_property blank
-      object key.OtherIndex (plain (number 1))) object key.OtherIndex ≡ (1, seen_property (plain
-      (of_number_part number_part.Index))) ∷ []
-  unfolding decimal_digits
-  write_to_a_rest_is_weak = refl
 
   abbrev length : AbstractValue
   length = one_text (codes "length")
@@ -205,7 +195,7 @@ module _ (text : String Global) where
   -- ---- InstanceOf
 
   abbrev instance : Node
-  instance = node.InstanceOf (reg 6) (reg 7) (reg 8) (site_of 30) (site_of 28)
+  instance = node.InstanceOf (reg 6) (reg 7) (reg 8) error_site activation_site
 
   -- the `prototype` of the function, and what the object inherits from
 

@@ -1,5 +1,5 @@
 -- What the rows of the nodes of activations and scopes give, computed.
-use Rattle.std.specs.Prelude.{◌≡◌, Bool, Option, ℕ, pos, negsuc, true, false, List, [], ◌∷◌, Some, None, map, String}
+use Rattle.std.specs.Prelude.{◌≡◌, Bool, Option, ℕ, pos, negsuc, true, false, if◌then◌else◌, ◌==◌, List, [], ◌∷◌, Some, None, map, String}
 use Rattle.std.specs.Global.{Global}
 use Rattle.std.proofs.Common.{refl}
 use lib.Chars.{codes}
@@ -29,19 +29,21 @@ use Rattle.ja_abstract.specs.declared.abstraction.Slot.TheVariants as slot
 use Rattle.ja_abstract.specs.declared.abstraction.NumberPart.TheVariants as number_part
 use Rattle.ja_abstract.specs.declared.abstraction.TextPart.TheVariants as text_part
 use Rattle.ja_abstract.specs.AbstractValue.{AbstractValue, AbstractProperty, join, join_properties, no_value, null_value, undefined_value, row_value, absent_value, bare, no_property, absent_property, entry_property, of_label, of_primitive, of_attrs}
-use Rattle.ja_abstract.specs.AbstractState.{AbstractState, new, old, site_of, name_key, exactly_none, exactly_some, with_property}
+use Rattle.ja_abstract.specs.AbstractState.{AbstractState, new, old, site_of, name_key, exactly_none, exactly_some, join_masks, with_property}
 use Rattle.ja_abstract.specs.Resolved.{prototype, outer}
 use Rattle.ja_abstract.specs.Made.{scope_key, value_key}
 use Rattle.ja_abstract.specs.Primitives.{of_bools, of_number_part, of_text_part, whole_value, nan_value}
-use Rattle.ja_abstract.proofs.SmallProgram.{reg, name, function_id, blank, holding, number, one_text, true_value, false_value, with_attrs, plain, global_object, object, old_objects, array, function_object, proto, activation, arguments_object, error, plain_function, labels, SeenValue, SeenProperty, message_name, length_name, prototype_name, p_name, q_name, zero_name, five_name, seen, seen_property}
-use Rattle.ja_rows.specs.Out.{nowhere}
-use Rattle.ja_rows.proofs.SmallSteps.{seen_in, gives, sets, leaves, goes_to, demands, edges, enters}
+use Rattle.ja_abstract.proofs.SmallProgram.{object_site, array_site, function_site, proto_site, activation_site, arguments_site, error_site, plain_site, reg, name, function_id, blank, holding, number, one_text, true_value, false_value, with_attrs, plain, global_object, object, old_objects, array, function_object, proto, activation, arguments_object, error, plain_function, labels, SeenValue, SeenProperty, message_name, length_name, prototype_name, p_name, q_name, zero_name, five_name, info, view, seen, seen_at, seen_property}
+use Rattle.ja_rows.specs.Out.{nowhere, Given}
+use Rattle.ja_rows.specs.Calls.{filled_with, given_back}
+use Rattle.ja_abstract.specs.declared.abstraction.Mask.{Mask}
+use Rattle.ja_rows.proofs.SmallSteps.{edge, enter_demands, register, seen_in, gives, sets, leaves, goes_to, demands, edges, enters}
 
 module _ (text : String Global) where
   -- ---- Enter
 
   abbrev enter : Node
-  enter = node.Enter (site_of 28) (Some (site_of 29))
+  enter = node.Enter activation_site (Some arguments_site)
 
   -- the parameters p and q are 5 and null, the rest of the arguments is true
 
@@ -109,12 +111,12 @@ module _ (text : String Global) where
   no_count : goes_to text enter (entered no_value) ≡ []
   no_count = refl
 
-  without_arguments : leaves text (node.Enter (site_of 28) None) (entered (number 1)) activation
+  without_arguments : leaves text (node.Enter activation_site None) (entered (number 1)) activation
       (name_key 103) ≡ (1, seen_property absent_property) ∷ []
   without_arguments = refl
 
-  enter_is_counted : seen_in (λ a. a.mask 28 ∷ a.mask 29 ∷ []) (gives text enter (entered (number
-      1))) ≡ (1, exactly_some ∷ exactly_some ∷ []) ∷ []
+  enter_is_counted : seen_in (λ a. a.mask activation_site.0 ∷ a.mask arguments_site.0 ∷ []) (gives
+      text enter (entered (number 1))) ≡ (1, exactly_some ∷ exactly_some ∷ []) ∷ []
   enter_is_counted = refl
 
   -- ---- Declare
@@ -172,7 +174,7 @@ module _ (text : String Global) where
   -- ---- PushScope
 
   abbrev push : Node
-  push = node.PushScope (site_of 28)
+  push = node.PushScope activation_site
 
   push_scope : sets text push (scoped (of_label global_object) absent_property) 2
       ≡ (1, seen (of_label activation)) ∷ []
@@ -180,7 +182,7 @@ module _ (text : String Global) where
 
   -- the scope before is renamed
   push_outer : leaves text push (scoped (of_label activation) absent_property) activation outer
-      ≡ (1, seen_property (bare (of_label (old (site_of 28))))) ∷ []
+      ≡ (1, seen_property (bare (of_label (old activation_site)))) ∷ []
   push_outer = refl
 
   push_inherits : leaves text push (scoped (of_label activation) absent_property) activation

@@ -62,3 +62,9 @@ edge f receiver = record {
 -- the state with which an edge enters its callee
 abbrev pub enters : String Global → Node → AbstractState → ℕ → Label → AbstractState
 enters text n a f receiver = (entered_by (view text a) (edge f receiver) n).state
+
+-- the pairs that entering demands at some keys
+abbrev pub enter_demands :
+    String Global → Node → AbstractState → ℕ → List Key → List (Key × List Label)
+enter_demands text n a f keys =
+    demanded keys (entered_by (view text a) (edge f global_object) n).demands
