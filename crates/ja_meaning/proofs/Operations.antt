@@ -29,7 +29,7 @@ use Rattle.ja_abstract.specs.Made.{value_key}
 use Rattle.ja_abstract.specs.Reading.{View, some_label, slot, may_have, may_lack, may_be_enumerable, may_be_hidden}
 use Rattle.ja_abstract.specs.Values.{has_atoms, has_labels, value_if, primitives_of}
 use Rattle.ja_abstract.proofs.Labels.{IsAmong, same_label-true}
-use Rattle.ja_abstract.proofs.Least.{value_joins}
+use Rattle.ja_abstract.proofs.Least.{value_least}
 use Rattle.ja_abstract.proofs.Order.{value-join, value_same, value_equal}
 use Rattle.ja_abstract.proofs.Parts.{of_primitive_has}
 use Rattle.ja_meaning.specs.OperatorLaws.{IsLabelOf}
@@ -378,7 +378,7 @@ are_exact (suc (suc (suc (suc (suc (suc (suc (suc n)))))))) row is = absurd (non
 -- two of one value are that value
 joined_twice : (v : AbstractValue) → join v v ≡ v
 joined_twice v =
-    value_equal (join v v) v (value_joins.least v v v (value_same v) (value_same v))
+    value_equal (join v v) v (value_least v v v (value_same v) (value_same v))
     (value-join v v)
 
 -- the join over labels of what one of them gives is that
