@@ -55,7 +55,7 @@ among-filter keep (j ∷ js) k a h =
           ])
     ]
 
-among-append_left : (xs ys : List Key) (k : Key) → IsTrue (is_among_keys xs k)
+pub among-append_left : (xs ys : List Key) (k : Key) → IsTrue (is_among_keys xs k)
     → IsTrue (is_among_keys (xs ++ ys) k)
 among-append_left [] ys k a = absurd (false≢true a)
 among-append_left (j ∷ js) ys k a =
@@ -65,12 +65,12 @@ among-append_left (j ∷ js) ys k a =
           or_right (same_key j k) _ (among-append_left js ys k r)
     ]
 
-among-append_right : (xs ys : List Key) (k : Key) → IsTrue (is_among_keys ys k)
+pub among-append_right : (xs ys : List Key) (k : Key) → IsTrue (is_among_keys ys k)
     → IsTrue (is_among_keys (xs ++ ys) k)
 among-append_right [] ys k a = a
 among-append_right (j ∷ js) ys k a = or_right (same_key j k) _ (among-append_right js ys k a)
 
-among-names : (a n i : ℕ) → a ≤ i → i < a + n
+pub among-names : (a n i : ℕ) → a ≤ i → i < a + n
     → IsTrue (is_among_keys (map name_key (range_with_len a n)) (name_key i))
 among-names a zero i l m = absurd (omega arith)
 among-names a (suc n) i l m = elim (cases_eq a i) [

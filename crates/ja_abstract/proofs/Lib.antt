@@ -4,6 +4,7 @@ pub mod Atoms
 pub mod Compared
 pub mod Converted
 pub mod Examples
+pub mod SmallProgram
 pub mod IndexTexts
 pub mod Joins
 pub mod Keys
@@ -12,6 +13,9 @@ pub mod Least
 pub mod Lists
 pub mod Numbers
 pub mod Order
+pub mod Ordered
 pub mod Parts
+pub mod Pinned
 pub mod Rounds
 pub mod Texts
+pub mod Writes

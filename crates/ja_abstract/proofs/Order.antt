@@ -49,7 +49,7 @@ below_equal false true h k = sym k
 below_equal false false h k = refl
 
 -- a set of labels as tests
-below_label : (x y : Bool) → (IsTrue x → IsTrue y) → (IsTrue y → IsTrue x) → x ≡ y
+pub below_label : (x y : Bool) → (IsTrue x → IsTrue y) → (IsTrue y → IsTrue x) → x ≡ y
 below_label true true h k = refl
 below_label true false h k = sym (h refl)
 below_label false true h k = k refl
@@ -175,7 +175,7 @@ attrs_both a b c h k = λ i. record {
       (ap (λ (m : AAttrs). m.dont_delete) k) i;
 }
 
-attrs_equal : (a b : AAttrs) → join_attrs a b ≡ b → join_attrs b a ≡ a → a ≡ b
+pub attrs_equal : (a b : AAttrs) → join_attrs a b ≡ b → join_attrs b a ≡ a → a ≡ b
 attrs_equal a b h k = λ i. record {
   read_only =
       may_equal a.read_only b.read_only (ap (λ (m : AAttrs). m.read_only) h)
@@ -188,7 +188,7 @@ attrs_equal a b h k = λ i. record {
       (ap (λ (m : AAttrs). m.dont_delete) k) i;
 }
 
-masks-join : (a b : Mask) → join_masks a (join_masks a b) ≡ join_masks a b
+pub masks-join : (a b : Mask) → join_masks a (join_masks a b) ≡ join_masks a b
 masks-join a b = λ i. record { none = below-or a.none b.none i; some = below-or a.some b.some i }
 
 masks_same : (a : Mask) → join_masks a a ≡ a
@@ -202,7 +202,7 @@ masks_both a b c h k = λ i. record {
       below_both a.some b.some c.some (ap (λ (m : Mask). m.some) h) (ap (λ (m : Mask). m.some) k) i;
 }
 
-masks_equal : (a b : Mask) → join_masks a b ≡ b → join_masks b a ≡ a → a ≡ b
+pub masks_equal : (a b : Mask) → join_masks a b ≡ b → join_masks b a ≡ a → a ≡ b
 masks_equal a b h k = λ i. record {
   none = below_equal a.none b.none (ap (λ (m : Mask). m.none) h) (ap (λ (m : Mask). m.none) k) i;
   some = below_equal a.some b.some (ap (λ (m : Mask). m.some) h) (ap (λ (m : Mask). m.some) k) i;
@@ -210,7 +210,7 @@ masks_equal a b h k = λ i. record {
 
 -- ---- numbers and texts: parts that have the same are equal
 
-abbrev HasNumbers : NumberPart → NumberPart → Type 0
+abbrev pub HasNumbers : NumberPart → NumberPart → Type 0
 HasNumbers a b = (n : ℤ) → IsTrue (number_has a n) → IsTrue (number_has b n)
 
 pub same_number : (m n : ℤ) → IsTrue (int_eq m n) → m ≡ n
@@ -269,7 +269,7 @@ numbers_equal number_part.Whole number_part.Index h k = absurd (false≢true (h 
 numbers_equal number_part.Whole number_part.OtherWhole h k = absurd (false≢true (h (pos 0) refl))
 numbers_equal number_part.Whole number_part.Whole h k = refl
 
-abbrev HasTexts : TextPart → TextPart → Type 0
+abbrev pub HasTexts : TextPart → TextPart → Type 0
 HasTexts a b = (t : List ℕ) → IsTrue (text_has a t) → IsTrue (text_has b t)
 
 pub same_text : (s t : List ℕ) → IsTrue (text_has (text_part.One s) t) → s ≡ t

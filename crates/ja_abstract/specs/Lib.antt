@@ -3,6 +3,7 @@ pub mod AbstractValue
 pub mod Composed
 pub mod Contents
 pub mod Keys
+pub mod Laws
 pub mod Made
 pub mod Operations
 pub mod Order

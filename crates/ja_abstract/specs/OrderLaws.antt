@@ -1,5 +1,4 @@
--- What the order of abstract values, properties and states comes to, and what their joins are in
--- it.
+-- What the order of abstract values, properties and states comes to.
 use Rattle.std.specs.Prelude.{◌≡◌, ◌⊎◌, ℕ, ℤ, IsTrue, List}
 use Rattle.ja_base.specs.declared.ids.Label.{Label}
 use Rattle.ja_prim.specs.declared.primitive.Primitive.{Primitive}
@@ -16,12 +15,6 @@ pub record IsOrder {A : Type 0} (Below : A → A → Type 0) : Type 0 where
   pub reflexive : (a : A) → Below a a
   pub transitive : (a b c : A) → Below a b → Below b c → Below a c
   pub antisymmetric : (a b : A) → Below a b → Below b a → a ≡ b
-
--- the join of two is above both, and below whatever is above both
-pub record IsLeastUpperBound {A : Type 0} (Below : A → A → Type 0) (join : A → A → A) : Type 0 where
-  pub above_left : (a b : A) → Below a (join a b)
-  pub above_right : (a b : A) → Below b (join a b)
-  pub least : (a b c : A) → Below a c → Below b c → Below (join a b) c
 
 -- ---- parts
 

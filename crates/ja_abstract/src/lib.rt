@@ -8,8 +8,10 @@
 //! `Reading`); the objects that nodes make (`Made`); puts, definitions and deletions (`Writes`); a
 //! state read through a later one (`Composed`); the contents of the opening heap (`Contents`).
 //!
-//! Laws: values, properties and states are ordered by what they have, and their joins are the least
-//! upper bounds (`order_laws.rt`); registers, labels and keys have the numbers that they are named
+//! Laws (`Laws`): joins are least, and in any order; a strong write replaces, and a weak one keeps;
+//! a known property of one object is what is read; an object just made has its own properties
+//! alone; two moments add up; what the keys of texts are. Values, properties and states are ordered
+//! by what they have (`OrderLaws`); registers, labels and keys have the numbers that they are named
 //! by (`number_laws.rt`).
 //!
 //! Proved, as lemmas: a join is above what it joins and has each part that one of the two has;
@@ -18,9 +20,14 @@
 #![tactic(auto)]
 
 mod abstraction;
+mod laws;
 mod number_laws;
 mod order_laws;
 
 pub use abstraction::{AAttrs, Flags, Key, Mask, May, NumberPart, Slot, TextPart};
+pub use laws::{
+    joins_are_least, joins_have_no_order, known_reads, moments_add_up, nothing_is_renamed,
+    objects_are_made, strong_writes_replace, texts_have_keys, weak_writes_keep,
+};
 pub use number_laws::{labels_and_keys_are_told_apart, labels_are_in_order, registers_are_named};
-pub use order_laws::{classes_are_ordered, joins_are_least, order_is_by_parts, parts_are_ordered};
+pub use order_laws::{classes_are_ordered, order_is_by_parts, parts_are_ordered};

@@ -1,13 +1,11 @@
-//! What the order of abstract values, properties and states comes to, and what their joins are in
-//! it. The functions do nothing; their contracts are the laws.
+//! What the order of abstract values, properties and states comes to. The functions do nothing;
+//! their contracts are the laws.
 
 ghost use Rattle.ja_abstract.specs.declared.abstraction.NumberPart.{NumberPart};
 ghost use Rattle.ja_abstract.specs.declared.abstraction.TextPart.{TextPart};
-ghost use Rattle.ja_abstract.specs.AbstractValue.{AbstractValue, join, join_properties};
-ghost use Rattle.ja_abstract.specs.AbstractState.{join_states};
+ghost use Rattle.ja_abstract.specs.AbstractValue.{AbstractValue};
 ghost use Rattle.ja_abstract.specs.Order.{LeqValue, LeqProperty, LeqState};
-ghost use Rattle.ja_abstract.specs.OrderLaws.{IsOrder, IsLeastUpperBound};
-ghost use Rattle.ja_abstract.specs.OrderLaws.{HasNumbersOf, HasTextsOf, HasAllOf};
+ghost use Rattle.ja_abstract.specs.OrderLaws.{IsOrder, HasNumbersOf, HasTextsOf, HasAllOf};
 ghost use Rattle.ja_abstract.specs.OrderLaws.{IsNumberBelow, IsTextBelow};
 
 /// Abstract values, properties and states are ordered.
@@ -15,13 +13,6 @@ pub fn parts_are_ordered()
     ensures values { IsOrder LeqValue }
     ensures properties { IsOrder LeqProperty }
     ensures states { IsOrder LeqState }
-{}
-
-/// A join is the least upper bound of the two that it joins.
-pub fn joins_are_least()
-    ensures values { IsLeastUpperBound LeqValue join }
-    ensures properties { IsLeastUpperBound LeqProperty join_properties }
-    ensures states { IsLeastUpperBound LeqState join_states }
 {}
 
 /// A value is below another exactly where the other has each primitive, each label, and `absent`,

@@ -19,20 +19,21 @@ use Rattle.ja_machine.specs.Heap.{class_at}
 use Rattle.ja_machine.specs.Intrinsics.{IntrinsicOutcome, Computation}
 use Rattle.ja_machine.specs.Intrinsics as machine
 use Rattle.ja_machine.specs.Machine.{class_of_site}
-use Rattle.ja_abstract.specs.AbstractValue.{Labels, AbstractValue, no_value, join, same_label, of_primitive}
+use Rattle.ja_abstract.specs.AbstractValue.{Labels, AbstractValue, AbstractProperty, no_value, join, same_label, of_primitive}
 use Rattle.ja_abstract.specs.AbstractState.{labels_of}
 use Rattle.ja_abstract.specs.Resolved.{join_values}
 use Rattle.ja_abstract.specs.Operations.{Looked, AbstractOperation, looked, operation, is_radix, digits_of_operands, digits_atoms, is_list_label}
 use Rattle.ja_abstract.specs.Operations as abstract
 use Rattle.ja_abstract.specs.Primitives.{Atom, exactly, atoms, Abstracted, gives, no_result, over, over_pairs, of_bools, Operand, operand}
-use Rattle.ja_abstract.specs.Reading.{View, some_label}
-use Rattle.ja_abstract.specs.Values.{has_atoms, has_labels, value_if}
+use Rattle.ja_abstract.specs.Made.{value_key}
+use Rattle.ja_abstract.specs.Reading.{View, some_label, slot, may_have, may_lack, may_be_enumerable, may_be_hidden}
+use Rattle.ja_abstract.specs.Values.{has_atoms, has_labels, value_if, primitives_of}
 use Rattle.ja_abstract.proofs.Labels.{IsAmong, same_label-true}
-use Rattle.ja_abstract.proofs.Least.{value_joins}
+use Rattle.ja_abstract.proofs.Least.{value_least}
 use Rattle.ja_abstract.proofs.Order.{value-join, value_same, value_equal}
 use Rattle.ja_abstract.proofs.Parts.{of_primitive_has}
 use Rattle.ja_meaning.specs.OperatorLaws.{IsLabelOf}
-use Rattle.ja_meaning.specs.OperationLaws.{TakeTheirValues, ResultKind, booleans, texts, primitives, is_of_kind, part_of_kind, ResultsAreOfKinds, GiveNoOtherKind, AreExact, exactly_given, IsToldBySite}
+use Rattle.ja_meaning.specs.OperationLaws.{TakeTheirValues, ResultKind, booleans, texts, primitives, is_of_kind, part_of_kind, ResultsAreOfKinds, GiveNoOtherKind, AreExact, exactly_given, IsToldBySite, own_named, IsToldByReadings}
 use Rattle.ja_meaning.proofs.ExactOperators.{join_none, pair_one, atoms_one, label_none, no_label, no_labels}
 use Rattle.ja_meaning.proofs.LabelledOperators.{test_label}
 use Rattle.ja_meaning.proofs.Operators.{has_atoms-of}
@@ -377,7 +378,7 @@ are_exact (suc (suc (suc (suc (suc (suc (suc (suc n)))))))) row is = absurd (non
 -- two of one value are that value
 joined_twice : (v : AbstractValue) → join v v ≡ v
 joined_twice v =
-    value_equal (join v v) v (value_joins.least v v v (value_same v) (value_same v))
+    value_equal (join v v) v (value_least v v v (value_same v) (value_same v))
     (value-join v v)
 
 -- the join over labels of what one of them gives is that
@@ -439,3 +440,22 @@ told_by_site w l is = record {
       ∙ ap (of_bools list) (test_label w l is (λ m. not (is_list_label w.program m)) (not list)
       refl) ∙ one_or_other list;
 }
+
+pub told_by_readings : (w : View) (l : Label) → IsLabelOf w l → IsToldByReadings w l
+told_by_readings w l is = record {
+  value = at_label_is l (λ m. primitives_of (slot w m value_key)) (labels_of w.program) is;
+  has_own =
+      λ name. told name (may_have w) may_lack;
+  is_enumerable =
+      λ name. told name (may_be_enumerable w) (λ q. may_lack q || may_be_hidden w q);
+}
+  where
+    told : (name : AbstractValue) (holds fails : AbstractProperty → Bool)
+        → of_bools (some_label w (λ m. same_label l m && holds (own_named w m name)))
+        (some_label w (λ m. same_label l m && fails (own_named w m name)))
+        ≡ of_bools (holds (own_named w l name)) (fails (own_named w l name))
+    told name holds fails =
+        ap (λ b. of_bools b (some_label w (λ m. same_label l m && fails (own_named w m name))))
+        (test_label w l is (λ m. holds (own_named w m name)) _ refl)
+        ∙ ap (of_bools (holds (own_named w l name)))
+        (test_label w l is (λ m. fails (own_named w m name)) _ refl)

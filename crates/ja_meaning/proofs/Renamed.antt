@@ -27,3 +27,11 @@ at_site mask set s false = one_there set (new s) (mask s.0).none
 pub by_origins : (mask : ℕ → Mask) (set : Labels) (l : Label)
     → renamed_labels mask set l ≡ list_any set (origins mask l)
 by_origins mask set l = at_site mask set l.site l.old
+
+-- where no object was made an old one was old, and where some was made the new one wasn't there
+pub old_alone : (mask : ℕ → Mask) (s : Site) → (mask s.0).some ≡ false
+    → origins mask (old s) ≡ old s ∷ []
+old_alone mask s none = ap (λ b. old s ∷ (if b then new s ∷ [] else [])) none
+
+pub none_new : (mask : ℕ → Mask) (s : Site) → (mask s.0).none ≡ false → origins mask (new s) ≡ []
+none_new mask s made = ap (λ b. if b then new s ∷ [] else []) made

@@ -1,7 +1,7 @@
 -- What the abstract operations of the built-in functions come to beside those of the machine (ES3
 -- 15.2.4, 15.3.4.3, 15.7.4.2, and the internal properties of 8.6.2): how many values they take, of
 -- which kind their results are, and what they give of constants and of one object.
-use Rattle.std.specs.Prelude.{◌≡◌, ◌⊎◌, ℕ, Bool, true, false, List, [], ◌∷◌, map, length, Some, Ok, Err, IsTrue, slice_get}
+use Rattle.std.specs.Prelude.{◌≡◌, ◌⊎◌, ◌||◌, ℕ, Bool, true, false, List, [], ◌∷◌, map, length, Some, Ok, Err, IsTrue, slice_get}
 use Rattle.ja_base.specs.declared.ids.Label.{Label}
 use Rattle.ja_prim.specs.declared.primitive.Primitive.{Primitive}
 use Rattle.ja_prim.specs.declared.primitive.Primitive.TheVariants as primitive
@@ -11,10 +11,11 @@ use Rattle.ja_machine.specs.declared.machine.Heap.{Heap}
 use Rattle.ja_machine.specs.Intrinsics.{IntrinsicOutcome, Computation, class_name, rows}
 use Rattle.ja_machine.specs.Intrinsics as machine
 use Rattle.ja_machine.specs.Machine.{class_of_site}
-use Rattle.ja_abstract.specs.AbstractValue.{AbstractValue, no_value, of_primitive, of_label}
+use Rattle.ja_abstract.specs.AbstractValue.{AbstractValue, AbstractProperty, no_value, of_primitive, of_label}
 use Rattle.ja_abstract.specs.Primitives.{of_bools, of_text_part}
-use Rattle.ja_abstract.specs.Operations.{operation, looked, is_list_label}
-use Rattle.ja_abstract.specs.Reading.{View}
+use Rattle.ja_abstract.specs.Operations.{operation, looked, is_list_label, text_keys_of}
+use Rattle.ja_abstract.specs.Made.{value_key}
+use Rattle.ja_abstract.specs.Reading.{View, own, slot, may_have, may_lack, may_be_enumerable, may_be_hidden}
 use Rattle.ja_abstract.specs.Values.{primitives_of}
 
 -- ---- how many values they take
@@ -88,3 +89,16 @@ pub record IsToldBySite (w : View) (l : Label) : Type 0 where
       ≡ of_primitive (primitive.Text (class_name (class_of_site w.program l.site.0)))
   pub has_elements : (operation 6 w (of_label l ∷ [])).value
       ≡ of_primitive (primitive.Bool (is_list_label w.program l))
+
+-- its resolved readings tell its [[Value]], whether it has an own property of a name, and whether
+-- it shows it
+abbrev pub own_named : View → Label → AbstractValue → AbstractProperty
+own_named w l name = own w l (text_keys_of w name)
+
+pub record IsToldByReadings (w : View) (l : Label) : Type 0 where
+  pub value : (operation 2 w (of_label l ∷ [])).value ≡ primitives_of (slot w l value_key)
+  pub has_own : (name : AbstractValue) → (operation 3 w (of_label l ∷ name ∷ [])).value
+      ≡ of_bools (may_have w (own_named w l name)) (may_lack (own_named w l name))
+  pub is_enumerable : (name : AbstractValue) → (operation 4 w (of_label l ∷ name ∷ [])).value
+      ≡ of_bools (may_be_enumerable w (own_named w l name))
+      (may_lack (own_named w l name) || may_be_hidden w (own_named w l name))

@@ -21,8 +21,8 @@ mod renaming_laws;
 
 pub use laws::moments_compose;
 pub use operation_laws::{
-    abstract_operations_are_listed, operations_are_exact, operations_keep_their_kinds,
-    sites_are_told,
+    abstract_operations_are_listed, objects_are_told, operations_are_exact,
+    operations_keep_their_kinds,
 };
 pub use operator_laws::{
     inequality_is_turned, labels_are_told, operators_are_exact, operators_cover,

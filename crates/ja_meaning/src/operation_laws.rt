@@ -8,7 +8,8 @@ ghost use Rattle.ja_abstract.specs.Operations as abstract;
 ghost use Rattle.ja_abstract.specs.Reading.{View};
 ghost use Rattle.ja_meaning.specs.OperatorLaws.{IsLabelOf};
 ghost use Rattle.ja_meaning.specs.OperationLaws.{TakeTheirValues, ResultsAreOfKinds};
-ghost use Rattle.ja_meaning.specs.OperationLaws.{GiveNoOtherKind, AreExact, IsToldBySite};
+ghost use Rattle.ja_meaning.specs.OperationLaws.{GiveNoOtherKind, AreExact};
+ghost use Rattle.ja_meaning.specs.OperationLaws.{IsToldBySite, IsToldByReadings};
 
 /// There are as many abstract operations as the machine has, and they take as many values.
 pub fn abstract_operations_are_listed()
@@ -29,7 +30,8 @@ pub fn operations_are_exact()
     ensures { AreExact }
 {}
 
-/// Of one object the abstract operations give what its site says.
-pub fn sites_are_told()
-    ensures { (w : View) (l : Label) → IsLabelOf w l → IsToldBySite w l }
+/// Of one object the abstract operations give what its site and its resolved readings say.
+pub fn objects_are_told()
+    ensures by_site { (w : View) (l : Label) → IsLabelOf w l → IsToldBySite w l }
+    ensures by_readings { (w : View) (l : Label) → IsLabelOf w l → IsToldByReadings w l }
 {}

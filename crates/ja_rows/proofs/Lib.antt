@@ -1,2 +1,12 @@
 pub mod Applied
+pub mod BuiltIns
+pub mod Calls
+pub mod Edges
+pub mod Enumeration
+pub mod Names
+pub mod Objects
+pub mod Operators
 pub mod Outside
+pub mod Properties
+pub mod Scopes
+pub mod SmallSteps

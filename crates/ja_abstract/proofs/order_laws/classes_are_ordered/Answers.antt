@@ -1,6 +1,6 @@
 -- By the parts: a constant has one number, and each class has two that the others don't have.
 use Rattle.ja_abstract.proofs.order_laws.classes_are_ordered.Goals as goal
-use Rattle.ja_abstract.proofs.Least.{numbers_from, numbers_to, texts_from, texts_to}
+use Rattle.ja_abstract.proofs.Ordered.{numbers_from, numbers_to, texts_from, texts_to}
 
 pub returns-clause-below_numbers : goal.returns-clause-below_numbers
 returns-clause-below_numbers c = numbers_from

@@ -1,6 +1,6 @@
 -- By parts, as proved in Order.
 use Rattle.ja_abstract.proofs.order_laws.parts_are_ordered.Goals as goal
-use Rattle.ja_abstract.proofs.Least.{value_order, property_order, state_order}
+use Rattle.ja_abstract.proofs.Ordered.{value_order, property_order, state_order}
 
 pub returns-clause-values : goal.returns-clause-values
 returns-clause-values c = value_order

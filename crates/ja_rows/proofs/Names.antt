@@ -1,0 +1,221 @@
+-- What the rows of the nodes of names give, computed.
+use Rattle.std.specs.Prelude.{◌≡◌, Bool, Option, ℕ, pos, negsuc, true, false, if◌then◌else◌, ◌==◌, List, [], ◌∷◌, Some, None, map, String}
+use Rattle.std.specs.Global.{Global}
+use Rattle.std.proofs.Common.{refl}
+use lib.Chars.{codes}
+use Rattle.ja_base.specs.declared.ids.ScopeKind.TheVariants as scope_kind
+use Rattle.ja_base.specs.declared.ids.Label.{Label}
+use Rattle.ja_base.specs.declared.ids.Reg.{Reg}
+use Rattle.ja_abstract.specs.declared.abstraction.Key.{Key}
+use Rattle.ja_graph.specs.declared.node.Made.{Made}
+use Rattle.std.specs.Fmt.{digits as decimal_digits}
+use Rattle.ja_prim.specs.declared.primitive.Num.TheVariants.{Whole}
+use Rattle.ja_prim.specs.declared.primitive.Primitive.TheVariants as primitive
+use Rattle.ja_graph.specs.declared.builtins.TheConstants as builtins
+use Rattle.ja_graph.specs.declared.node.Node.{Node}
+use Rattle.ja_graph.specs.declared.node.Node.TheVariants as node
+use Rattle.ja_graph.specs.declared.node.Args.TheVariants as args
+use Rattle.ja_graph.specs.declared.node.Hint.TheVariants as hint
+use Rattle.ja_graph.specs.declared.node.Made.TheVariants as made
+use Rattle.ja_graph.specs.declared.node.ErrorKind.TheVariants as error_kind
+use Rattle.ja_graph.specs.declared.node.UnaryOp.{UnaryOp}
+use Rattle.ja_graph.specs.declared.node.UnaryOp.TheVariants as unary_op
+use Rattle.ja_graph.specs.declared.node.BinaryOp.{BinaryOp}
+use Rattle.ja_graph.specs.declared.node.BinaryOp.TheVariants as binary_op
+use Rattle.ja_machine.specs.Heap.{no_attrs}
+use Rattle.ja_machine.specs.Objects.{dont_enum, dont_delete, kept_hidden, all_attrs}
+use Rattle.ja_abstract.specs.declared.abstraction.Key.TheVariants as key
+use Rattle.ja_abstract.specs.declared.abstraction.Slot.TheVariants as slot
+use Rattle.ja_abstract.specs.declared.abstraction.NumberPart.TheVariants as number_part
+use Rattle.ja_abstract.specs.declared.abstraction.TextPart.TheVariants as text_part
+use Rattle.ja_abstract.specs.AbstractValue.{AbstractValue, AbstractProperty, join, join_properties, no_value, null_value, undefined_value, row_value, absent_value, bare, no_property, absent_property, entry_property, of_label, of_primitive, of_attrs}
+use Rattle.ja_abstract.specs.AbstractState.{AbstractState, new, old, site_of, name_key, exactly_none, exactly_some, join_masks, with_property}
+use Rattle.ja_abstract.specs.Resolved.{prototype, outer}
+use Rattle.ja_abstract.specs.Made.{scope_key, value_key}
+use Rattle.ja_abstract.specs.Primitives.{of_bools, of_number_part, of_text_part, whole_value, nan_value}
+use Rattle.ja_abstract.proofs.SmallProgram.{object_site, array_site, function_site, proto_site, activation_site, arguments_site, error_site, plain_site, reg, name, function_id, blank, holding, number, one_text, true_value, false_value, with_attrs, plain, global_object, object, old_objects, array, function_object, proto, activation, arguments_object, error, plain_function, labels, SeenValue, SeenProperty, message_name, length_name, prototype_name, p_name, q_name, zero_name, five_name, info, view, seen, seen_at, seen_property}
+use Rattle.ja_rows.specs.Out.{nowhere, Given}
+use Rattle.ja_rows.specs.Calls.{filled_with, given_back}
+use Rattle.ja_abstract.specs.declared.abstraction.Mask.{Mask}
+use Rattle.ja_rows.proofs.SmallSteps.{edge, enter_demands, register, seen_in, gives, sets, leaves, goes_to, demands, edges, enters}
+
+module _ (text : String Global) where
+  -- in front of the global object is an activation, which has these at p, and the global object
+  -- those
+
+  abbrev scoped : AbstractProperty → AbstractProperty → AbstractState
+  scoped = λ inner q. with_property (with_property (with_property (holding 2 (of_label activation)
+      blank) activation outer (bare (of_label global_object))) activation p_name inner)
+      global_object p_name q
+
+  -- ---- FindName
+
+  abbrev find : Node
+  find = node.FindName (reg 6) (name 106)
+
+  found_behind : sets text find (scoped absent_property (plain (number 1))) 6
+      ≡ (1, seen (of_label global_object)) ∷ []
+  found_behind = refl
+
+  -- the first object that has it hides the others
+  found_first : sets text find (scoped (plain (number 1)) (plain (number 1))) 6
+      ≡ (1, seen (of_label activation)) ∷ []
+  found_first = refl
+
+  found_in_either : sets text find (scoped (join_properties (plain (number 1)) absent_property)
+      (plain (number 1))) 6 ≡ (1, seen (join (of_label activation) (of_label global_object))) ∷ []
+  found_in_either = refl
+
+  found_in_none : sets text find (scoped absent_property absent_property) 6
+      ≡ (1, seen null_value) ∷ []
+  found_in_none = refl
+
+  -- an object of the chain has what its prototypes have
+  found_in_prototype : sets text find (with_property (with_property (scoped absent_property
+      absent_property) global_object prototype (bare (of_label proto))) proto p_name (plain (number
+      1))) 6 ≡ (1, seen (of_label global_object)) ∷ []
+  found_in_prototype = refl
+
+  found_without_scope : goes_to text find (holding 2 undefined_value blank) ≡ []
+  found_without_scope = refl
+
+  -- behind a property that is not known yet nothing is demanded
+  find_demands : demands text find (scoped entry_property absent_property) (p_name ∷ prototype ∷
+      outer ∷ []) ≡ (p_name, activation ∷ []) ∷ (prototype, []) ∷ (outer, []) ∷ []
+  find_demands = refl
+
+  find_demands_outer : demands text find (with_property (scoped absent_property absent_property)
+      activation outer entry_property) (p_name ∷ prototype ∷ outer ∷ []) ≡ (p_name, []) ∷
+      (prototype, []) ∷ (outer, activation ∷ []) ∷ []
+  find_demands_outer = refl
+
+  -- ---- ReadRef, ReadSoft
+
+  abbrev read : Node
+  read = node.ReadRef (reg 6) (reg 7) (name 106) error_site
+
+  abbrev of_base : AbstractValue → AbstractProperty → AbstractState
+  of_base = λ v q. with_property (holding 7 v blank) object p_name q
+
+  unbound_throws : sets text read (of_base null_value absent_property) 0
+      ≡ (3, seen (of_label error)) ∷ []
+  unbound_throws = refl
+
+  unbound_message : leaves text read (of_base null_value absent_property) error message_name
+      ≡ (3, seen_property (plain (one_text (codes "p is not bound")))) ∷ []
+  unbound_message = refl
+
+  unbound_is_reference_error : leaves text read (of_base null_value absent_property) error prototype
+      ≡ (3, seen_property (bare (of_label (new builtins.REFERENCE_ERROR_PROTOTYPE)))) ∷ []
+  unbound_is_reference_error = refl
+
+  -- both alternatives are there
+  read_or_unbound : sets text read (of_base (join null_value (of_label object)) (plain (number 1)))
+      6 ≡ (3, seen undefined_value) ∷ (1, seen (number 1)) ∷ []
+  read_or_unbound = refl
+
+  read_absent : sets text read (of_base (of_label object) absent_property) 6
+      ≡ (1, seen undefined_value) ∷ []
+  read_absent = refl
+
+  read_leaves_row_out : sets text read (of_base (of_label object) (plain (join row_value (number
+      1)))) 6 ≡ (1, seen (number 1)) ∷ []
+  read_leaves_row_out = refl
+
+  read_row_alone : goes_to text read (of_base (of_label object) (plain row_value)) ≡ []
+  read_row_alone = refl
+
+  read_demands : demands text read (of_base (of_label object) entry_property) (p_name ∷ prototype ∷
+      []) ≡ (p_name, object ∷ []) ∷ (prototype, []) ∷ []
+  read_demands = refl
+
+  abbrev soft : Node
+  soft = node.ReadSoft (reg 6) (reg 7) (name 106)
+
+  soft_unbound : sets text soft (of_base null_value absent_property) 6
+      ≡ (1, seen undefined_value) ∷ []
+  soft_unbound = refl
+
+  soft_or_unbound : sets text soft (of_base (join null_value (of_label object)) (plain (number 1)))
+      6 ≡ (1, seen (join undefined_value (number 1))) ∷ []
+  soft_or_unbound = refl
+
+  soft_demands : demands text soft (of_base (of_label object) entry_property) (p_name ∷ prototype ∷
+      []) ≡ (p_name, object ∷ []) ∷ (prototype, []) ∷ []
+  soft_demands = refl
+
+  -- ---- WriteRef
+
+  abbrev write : Node
+  write = node.WriteRef (reg 7) (name 106) (reg 8)
+
+  abbrev writes : AbstractValue → Label → AbstractProperty → List (ℕ × SeenProperty)
+  writes = λ base l q. leaves text write (with_property (holding 8 (number 2) (holding 7 base
+      blank)) l p_name q) l p_name
+
+  null_writes_global : writes null_value global_object absent_property
+      ≡ (1, seen_property (plain (number 2))) ∷ []
+  null_writes_global = refl
+
+  -- a write replaces the value and keeps the attributes
+  write_is_strong : writes (of_label object) object (with_attrs (number 1) dont_enum)
+      ≡ (1, seen_property (with_attrs (number 2) dont_enum)) ∷ []
+  write_is_strong = refl
+
+  write_to_old_is_weak : writes (of_label old_objects) old_objects (plain (number 1))
+      ≡ (1, seen_property (plain (of_number_part number_part.Index))) ∷ []
+  write_to_old_is_weak = refl
+
+  write_to_two_is_weak : writes (join null_value (of_label object)) object (plain (number 1))
+      ≡ (1, seen_property (plain (of_number_part number_part.Index))) ∷ []
+  write_to_two_is_weak = refl
+
+  arrays_are_no_scopes : goes_to text write (holding 7 (of_label array) blank) ≡ []
+  arrays_are_no_scopes = refl
+
+  -- without the arrays one label is left
+  arrays_left_out : writes (join (of_label array) (of_label object)) object (plain (number 1))
+      ≡ (1, seen_property (plain (number 2))) ∷ []
+  arrays_left_out = refl
+
+  array_stays : leaves text write (holding 8 (number 2) (holding 7 (join (of_label array) (of_label
+      object)) blank)) array p_name ≡ (1, seen_property absent_property) ∷ []
+  array_stays = refl
+
+  read_only_stays : writes (of_label object) object (with_attrs (number 1) all_attrs)
+      ≡ (1, seen_property (with_attrs (number 1) all_attrs)) ∷ []
+  read_only_stays = refl
+
+  write_demands : demands text write (of_base (of_label object) entry_property) (p_name ∷ prototype
+      ∷ []) ≡ (p_name, object ∷ []) ∷ (prototype, []) ∷ []
+  write_demands = refl
+
+  -- ---- DeleteRef
+
+  abbrev delete : Node
+  delete = node.DeleteRef (reg 6) (reg 7) (name 106)
+
+  delete_unbound : sets text delete (of_base null_value absent_property) 6
+      ≡ (1, seen true_value) ∷ []
+  delete_unbound = refl
+
+  delete_gives_true : sets text delete (of_base (of_label object) (plain (number 1))) 6
+      ≡ (1, seen true_value) ∷ []
+  delete_gives_true = refl
+
+  delete_removes : leaves text delete (of_base (of_label object) (plain (number 1))) object p_name
+      ≡ (1, seen_property absent_property) ∷ []
+  delete_removes = refl
+
+  dont_delete_gives_false : sets text delete (of_base (of_label object) (with_attrs (number 1)
+      dont_delete)) 6 ≡ (1, seen false_value) ∷ []
+  dont_delete_gives_false = refl
+
+  dont_delete_stays : leaves text delete (of_base (of_label object) (with_attrs (number 1)
+      dont_delete)) object p_name ≡ (1, seen_property (with_attrs (number 1) dont_delete)) ∷ []
+  dont_delete_stays = refl
+
+  -- own readings alone
+  delete_demands : demands text delete (of_base (of_label object) entry_property) (p_name ∷
+      prototype ∷ []) ≡ (p_name, object ∷ []) ∷ (prototype, []) ∷ []
+  delete_demands = refl

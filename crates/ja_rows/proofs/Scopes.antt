@@ -1,0 +1,194 @@
+-- What the rows of the nodes of activations and scopes give, computed.
+use Rattle.std.specs.Prelude.{◌≡◌, Bool, Option, ℕ, pos, negsuc, true, false, if◌then◌else◌, ◌==◌, List, [], ◌∷◌, Some, None, map, String}
+use Rattle.std.specs.Global.{Global}
+use Rattle.std.proofs.Common.{refl}
+use lib.Chars.{codes}
+use Rattle.ja_base.specs.declared.ids.ScopeKind.TheVariants as scope_kind
+use Rattle.ja_base.specs.declared.ids.Label.{Label}
+use Rattle.ja_base.specs.declared.ids.Reg.{Reg}
+use Rattle.ja_abstract.specs.declared.abstraction.Key.{Key}
+use Rattle.ja_graph.specs.declared.node.Made.{Made}
+use Rattle.std.specs.Fmt.{digits as decimal_digits}
+use Rattle.ja_prim.specs.declared.primitive.Num.TheVariants.{Whole}
+use Rattle.ja_prim.specs.declared.primitive.Primitive.TheVariants as primitive
+use Rattle.ja_graph.specs.declared.builtins.TheConstants as builtins
+use Rattle.ja_graph.specs.declared.node.Node.{Node}
+use Rattle.ja_graph.specs.declared.node.Node.TheVariants as node
+use Rattle.ja_graph.specs.declared.node.Args.TheVariants as args
+use Rattle.ja_graph.specs.declared.node.Hint.TheVariants as hint
+use Rattle.ja_graph.specs.declared.node.Made.TheVariants as made
+use Rattle.ja_graph.specs.declared.node.ErrorKind.TheVariants as error_kind
+use Rattle.ja_graph.specs.declared.node.UnaryOp.{UnaryOp}
+use Rattle.ja_graph.specs.declared.node.UnaryOp.TheVariants as unary_op
+use Rattle.ja_graph.specs.declared.node.BinaryOp.{BinaryOp}
+use Rattle.ja_graph.specs.declared.node.BinaryOp.TheVariants as binary_op
+use Rattle.ja_machine.specs.Heap.{no_attrs}
+use Rattle.ja_machine.specs.Objects.{dont_enum, dont_delete, kept_hidden, all_attrs}
+use Rattle.ja_abstract.specs.declared.abstraction.Key.TheVariants as key
+use Rattle.ja_abstract.specs.declared.abstraction.Slot.TheVariants as slot
+use Rattle.ja_abstract.specs.declared.abstraction.NumberPart.TheVariants as number_part
+use Rattle.ja_abstract.specs.declared.abstraction.TextPart.TheVariants as text_part
+use Rattle.ja_abstract.specs.AbstractValue.{AbstractValue, AbstractProperty, join, join_properties, no_value, null_value, undefined_value, row_value, absent_value, bare, no_property, absent_property, entry_property, of_label, of_primitive, of_attrs}
+use Rattle.ja_abstract.specs.AbstractState.{AbstractState, new, old, site_of, name_key, exactly_none, exactly_some, join_masks, with_property}
+use Rattle.ja_abstract.specs.Resolved.{prototype, outer}
+use Rattle.ja_abstract.specs.Made.{scope_key, value_key}
+use Rattle.ja_abstract.specs.Primitives.{of_bools, of_number_part, of_text_part, whole_value, nan_value}
+use Rattle.ja_abstract.proofs.SmallProgram.{object_site, array_site, function_site, proto_site, activation_site, arguments_site, error_site, plain_site, reg, name, function_id, blank, holding, number, one_text, true_value, false_value, with_attrs, plain, global_object, object, old_objects, array, function_object, proto, activation, arguments_object, error, plain_function, labels, SeenValue, SeenProperty, message_name, length_name, prototype_name, p_name, q_name, zero_name, five_name, info, view, seen, seen_at, seen_property}
+use Rattle.ja_rows.specs.Out.{nowhere, Given}
+use Rattle.ja_rows.specs.Calls.{filled_with, given_back}
+use Rattle.ja_abstract.specs.declared.abstraction.Mask.{Mask}
+use Rattle.ja_rows.proofs.SmallSteps.{edge, enter_demands, register, seen_in, gives, sets, leaves, goes_to, demands, edges, enters}
+
+module _ (text : String Global) where
+  -- ---- Enter
+
+  abbrev enter : Node
+  enter = node.Enter activation_site (Some arguments_site)
+
+  -- the parameters p and q are 5 and null, the rest of the arguments is true
+
+  abbrev entered : AbstractValue → AbstractState
+  entered = λ count. holding 4 count (holding 2 (of_label global_object) (holding 3 (of_label
+      function_object) (holding 5 (number 5) (holding 6 null_value (holding 7 true_value blank)))))
+
+  enter_scope : sets text enter (entered (number 1)) 2 ≡ (1, seen (of_label activation)) ∷ []
+  enter_scope = refl
+
+  enter_outer : leaves text enter (entered (number 1)) activation outer
+      ≡ (1, seen_property (bare (of_label global_object))) ∷ []
+  enter_outer = refl
+
+  no_prototype : leaves text enter (entered (number 1)) activation prototype
+      ≡ (1, seen_property absent_property) ∷ []
+  no_prototype = refl
+
+  first_parameter : leaves text enter (entered (number 1)) activation p_name
+      ≡ (1, seen_property (with_attrs (number 5) dont_delete)) ∷ []
+  first_parameter = refl
+
+  second_parameter : leaves text enter (entered (number 1)) activation q_name
+      ≡ (1, seen_property (with_attrs null_value dont_delete)) ∷ []
+  second_parameter = refl
+
+  arguments_bound : leaves text enter (entered (number 1)) activation (name_key 103)
+      ≡ (1, seen_property (with_attrs (of_label arguments_object) dont_delete)) ∷ []
+  arguments_bound = refl
+
+  arguments_callee : leaves text enter (entered (number 1)) arguments_object (name_key 102)
+      ≡ (1, seen_property (with_attrs (of_label function_object) dont_enum)) ∷ []
+  arguments_callee = refl
+
+  arguments_length : leaves text enter (entered (number 1)) arguments_object length_name
+      ≡ (1, seen_property (with_attrs (number 1) dont_enum)) ∷ []
+  arguments_length = refl
+
+  argument_there : leaves text enter (entered (number 1)) arguments_object zero_name
+      ≡ (1, seen_property (with_attrs (number 5) dont_enum)) ∷ []
+  argument_there = refl
+
+  argument_not_there : leaves text enter (entered (number 0)) arguments_object zero_name
+      ≡ (1, seen_property absent_property) ∷ []
+  argument_not_there = refl
+
+  -- index 5 is not among 5 arguments
+  argument_past_count : leaves text enter (entered (number 5)) arguments_object five_name
+      ≡ (1, seen_property absent_property) ∷ []
+  argument_past_count = refl
+
+  argument_of_rest : leaves text enter (entered (number 6)) arguments_object five_name
+      ≡ (1, seen_property (with_attrs true_value dont_enum)) ∷ []
+  argument_of_rest = refl
+
+  argument_of_class : leaves text enter (entered whole_value) arguments_object five_name
+      ≡ (1, seen_property (join_properties (with_attrs true_value dont_enum) absent_property)) ∷ []
+  argument_of_class = refl
+
+  other_arguments : leaves text enter (entered (number 6)) arguments_object key.OtherIndex
+      ≡ (1, seen_property (join_properties (with_attrs (join (number 5) (join null_value
+      true_value)) dont_enum) absent_property)) ∷ []
+  other_arguments = refl
+
+  no_count : goes_to text enter (entered no_value) ≡ []
+  no_count = refl
+
+  without_arguments : leaves text (node.Enter activation_site None) (entered (number 1)) activation
+      (name_key 103) ≡ (1, seen_property absent_property) ∷ []
+  without_arguments = refl
+
+  enter_is_counted : seen_in (λ a. a.mask activation_site.0 ∷ a.mask arguments_site.0 ∷ []) (gives
+      text enter (entered (number 1))) ≡ (1, exactly_some ∷ exactly_some ∷ []) ∷ []
+  enter_is_counted = refl
+
+  -- ---- Declare
+
+  abbrev declare : Node
+  declare = node.Declare (name 106)
+
+  abbrev scoped : AbstractValue → AbstractProperty → AbstractState
+  scoped = λ v q. with_property (holding 2 v blank) activation p_name q
+
+  declares : leaves text declare (scoped (of_label activation) absent_property) activation p_name
+      ≡ (1, seen_property (with_attrs undefined_value dont_delete)) ∷ []
+  declares = refl
+
+  declared_before : leaves text declare (scoped (of_label activation) (plain (number 1))) activation
+      p_name ≡ (1, seen_property (plain (number 1))) ∷ []
+  declared_before = refl
+
+  declared_maybe : leaves text declare (scoped (of_label activation) (join_properties (plain (number
+      1)) absent_property)) activation p_name ≡ (1, seen_property (join_properties (plain (number
+      1)) absent_property)) ∷ (1, seen_property (with_attrs undefined_value dont_delete)) ∷ []
+  declared_maybe = refl
+
+  declared_nowhere : goes_to text declare (scoped (of_label activation) no_property) ≡ []
+  declared_nowhere = refl
+
+  declare_demands : demands text declare (scoped (of_label activation) entry_property) (p_name ∷
+      prototype ∷ []) ≡ (p_name, activation ∷ []) ∷ (prototype, []) ∷ []
+  declare_demands = refl
+
+  -- ---- Bind
+
+  abbrev bind : Bool → Node
+  bind = λ read_only. node.Bind (name 106) (reg 7) read_only
+
+  abbrev bound : AbstractValue → AbstractState
+  bound = λ v. holding 7 (number 2) (scoped v (plain (number 1)))
+
+  binds : leaves text (bind false) (bound (of_label activation)) activation p_name
+      ≡ (1, seen_property (with_attrs (number 2) dont_delete)) ∷ []
+  binds = refl
+
+  binds_read_only : leaves text (bind true) (bound (of_label activation)) activation p_name
+      ≡ (1, seen_property (with_attrs (number 2) (record dont_delete { read_only = true }))) ∷ []
+  binds_read_only = refl
+
+  binds_weakly : leaves text (bind false) (bound (join (of_label activation) (of_label object)))
+      activation p_name ≡ (1, seen_property (join_properties (plain (number 1)) (with_attrs (number
+      2) dont_delete))) ∷ []
+  binds_weakly = refl
+
+  binds_nowhere : goes_to text (bind false) (bound undefined_value) ≡ []
+  binds_nowhere = refl
+
+  -- ---- PushScope
+
+  abbrev push : Node
+  push = node.PushScope activation_site
+
+  push_scope : sets text push (scoped (of_label global_object) absent_property) 2
+      ≡ (1, seen (of_label activation)) ∷ []
+  push_scope = refl
+
+  -- the scope before is renamed
+  push_outer : leaves text push (scoped (of_label activation) absent_property) activation outer
+      ≡ (1, seen_property (bare (of_label (old activation_site)))) ∷ []
+  push_outer = refl
+
+  push_inherits : leaves text push (scoped (of_label activation) absent_property) activation
+      prototype ≡ (1, seen_property (bare (of_label (new builtins.OBJECT_PROTOTYPE)))) ∷ []
+  push_inherits = refl
+
+  push_without_scope : leaves text push (scoped no_value absent_property) activation outer
+      ≡ (1, seen_property (bare no_value)) ∷ []
+  push_without_scope = refl
