@@ -236,7 +236,7 @@ is_empty p a s list k of_program none =
 -- ---- reads
 
 -- a set in which no label of a list is
-no_label_of : (test : Labels) (ls : List Label) → ((l : Label) → test l ≡ false)
+pub no_label_of : (test : Labels) (ls : List Label) → ((l : Label) → test l ≡ false)
     → list_any test ls ≡ false
 no_label_of test [] none = refl
 no_label_of test (l ∷ ls) none =

@@ -20,7 +20,8 @@ use Rattle.ja_abstract.proofs.SmallProgram.{array_site, blank, number, true_valu
 module _ (text : String Global) where
   -- ---- [[Put]]
 
-  abbrev put_at : Labels → List Key → AbstractValue → AbstractState → Label → Key → List SeenProperty
+  abbrev put_at : Labels → List Key → AbstractValue → AbstractState → Label → Key → List
+      SeenProperty
   put_at = λ target keys v a l k. map (seen_at l k) (put_states (view text a) target keys v)
 
   abbrev of_p : AbstractProperty → AbstractState
@@ -44,8 +45,11 @@ module _ (text : String Global) where
   put_replaces = refl
 
   put_maybe_adds : put_at (one_label object) p (number 2) (of_p (join_properties (with_attrs
-      null_value dont_enum) absent_property)) object p_name ≡ seen_property (record { value = number
-      2; attrs = (join_properties (with_attrs null_value dont_enum) (plain null_value)).attrs }) ∷
+      null_value dont_enum) absent_property)) object p_name ≡ seen_property (record {
+        value = number
+            2;
+        attrs = (join_properties (with_attrs null_value dont_enum) (plain null_value)).attrs;
+      }) ∷
       []
   put_maybe_adds = refl
 
@@ -225,8 +229,11 @@ module _ (text : String Global) where
   maybe_there = join_properties (plain null_value) absent_property
 
   deletes_maybe : delete (one_label object) (of_p maybe_there) object
-      ≡ (seen true_value, seen_property maybe_there) ∷ (seen true_value, seen_property
-      absent_property) ∷ []
+      ≡ (seen true_value, seen_property maybe_there) ∷ (
+        seen true_value,
+        seen_property
+            absent_property,
+      ) ∷ []
   deletes_maybe = refl
 
   deletes_weakly : delete both (of_p (plain null_value)) object

@@ -88,7 +88,7 @@ module _ (P : AbstractProperty → Type 0) (left : (a b : AbstractProperty) → 
         (option_map (λ (q : AbstractProperty). join_properties q (v.value l k)) o) o (IfDemanded P)
         (λ _. map-keeps o (v.value l k) h) (λ _. h))
 
-    value-within : (vs : List ValuesOf) (v : ValuesOf) (l : Label) (k : Key) → Member v vs
+    pub value-within : (vs : List ValuesOf) (v : ValuesOf) (l : Label) (k : Key) → Member v vs
         → P (v.value l k) → (o : Option AbstractProperty)
         → IfDemanded P (with_value o v.context l k vs)
     value-within [] v l k m h o = elim m [ ]
@@ -109,7 +109,8 @@ module _ (P : AbstractProperty → Type 0) (left : (a b : AbstractProperty) → 
     with_demand-has (Some q) before false e h s = subst (IfDemanded P) e h
 
 -- a value that there was is still one
-values-some : (x : Context) (l : Label) (k : Key) (vs : List ValuesOf) (o : Option AbstractProperty)
+pub values-some : (x : Context) (l : Label) (k : Key) (vs : List ValuesOf) (o : Option
+    AbstractProperty)
     → IsSome o → IsSome (with_value o x l k vs)
 values-some x l k [] o s = s
 values-some x l k (v ∷ vs) o s =
@@ -126,7 +127,7 @@ values-some x l k (v ∷ vs) o s =
 
 -- ---- a table that stays
 
-demand-there : (ds : List DemandsOf) (d : DemandsOf) (l : Label) (k : Key) → Member d ds
+pub demand-there : (ds : List DemandsOf) (d : DemandsOf) (l : Label) (k : Key) → Member d ds
     → IsTrue (d.demands l k) → IsTrue (is_demanded d.context l k ds)
 demand-there [] d l k m h = elim m [ ]
 demand-there (f ∷ fs) d l k (inl is) h =
@@ -136,14 +137,14 @@ demand-there (f ∷ fs) d l k (inl is) h =
 demand-there (f ∷ fs) d l k (inr m) h =
     or_right (same_context f.context d.context && f.demands l k) _ (demand-there fs d l k m h)
 
-context-there : (xs : List Context) (x : Context) → Member x xs
+pub context-there : (xs : List Context) (x : Context) → Member x xs
     → IsTrue (list_any (λ (y : Context). same_context y x) xs)
 context-there [] x m = elim m [ ]
 context-there (y ∷ ys) x (inl is) =
     or_left _ _ (subst (λ (z : Context). IsTrue (same_context z x)) (sym is) (same_context-self x))
 context-there (y ∷ ys) x (inr m) = or_right (same_context y x) _ (context-there ys x m)
 
-edge-there : (es : List Edge) (e : Edge) → Member e es
+pub edge-there : (es : List Edge) (e : Edge) → Member e es
     → IsTrue (list_any (λ (d : Edge). same_edge d e) es)
 edge-there [] e m = elim m [ ]
 edge-there (f ∷ fs) e (inl is) =

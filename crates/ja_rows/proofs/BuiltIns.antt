@@ -1,43 +1,20 @@
 -- What the rows of the operations of the built-in functions and of devices give, computed.
-use Rattle.std.specs.Prelude.{◌≡◌, Bool, Option, ℕ, pos, negsuc, true, false, if◌then◌else◌, ◌==◌, List, [], ◌∷◌, Some, None, map, String}
+use Rattle.std.specs.Prelude.{◌≡◌, ℕ, true, List, [], ◌∷◌, String}
 use Rattle.std.specs.Global.{Global}
 use Rattle.std.proofs.Common.{refl}
 use lib.Chars.{codes}
-use Rattle.ja_base.specs.declared.ids.ScopeKind.TheVariants as scope_kind
-use Rattle.ja_base.specs.declared.ids.Label.{Label}
 use Rattle.ja_base.specs.declared.ids.Reg.{Reg}
-use Rattle.ja_abstract.specs.declared.abstraction.Key.{Key}
-use Rattle.ja_graph.specs.declared.node.Made.{Made}
-use Rattle.std.specs.Fmt.{digits as decimal_digits}
-use Rattle.ja_prim.specs.declared.primitive.Num.TheVariants.{Whole}
-use Rattle.ja_prim.specs.declared.primitive.Primitive.TheVariants as primitive
-use Rattle.ja_graph.specs.declared.builtins.TheConstants as builtins
 use Rattle.ja_graph.specs.declared.node.Node.{Node}
 use Rattle.ja_graph.specs.declared.node.Node.TheVariants as node
-use Rattle.ja_graph.specs.declared.node.Args.TheVariants as args
-use Rattle.ja_graph.specs.declared.node.Hint.TheVariants as hint
-use Rattle.ja_graph.specs.declared.node.Made.TheVariants as made
-use Rattle.ja_graph.specs.declared.node.ErrorKind.TheVariants as error_kind
-use Rattle.ja_graph.specs.declared.node.UnaryOp.{UnaryOp}
-use Rattle.ja_graph.specs.declared.node.UnaryOp.TheVariants as unary_op
-use Rattle.ja_graph.specs.declared.node.BinaryOp.{BinaryOp}
-use Rattle.ja_graph.specs.declared.node.BinaryOp.TheVariants as binary_op
-use Rattle.ja_machine.specs.Heap.{no_attrs}
-use Rattle.ja_machine.specs.Objects.{dont_enum, dont_delete, kept_hidden, all_attrs}
-use Rattle.ja_abstract.specs.declared.abstraction.Key.TheVariants as key
-use Rattle.ja_abstract.specs.declared.abstraction.Slot.TheVariants as slot
-use Rattle.ja_abstract.specs.declared.abstraction.NumberPart.TheVariants as number_part
+use Rattle.ja_machine.specs.Objects.{dont_enum}
 use Rattle.ja_abstract.specs.declared.abstraction.TextPart.TheVariants as text_part
-use Rattle.ja_abstract.specs.AbstractValue.{AbstractValue, AbstractProperty, join, join_properties, no_value, null_value, undefined_value, row_value, absent_value, bare, no_property, absent_property, entry_property, of_label, of_primitive, of_attrs}
-use Rattle.ja_abstract.specs.AbstractState.{AbstractState, new, old, site_of, name_key, exactly_none, exactly_some, join_masks, with_property}
-use Rattle.ja_abstract.specs.Resolved.{prototype, outer}
-use Rattle.ja_abstract.specs.Made.{scope_key, value_key}
-use Rattle.ja_abstract.specs.Primitives.{of_bools, of_number_part, of_text_part, whole_value, nan_value}
-use Rattle.ja_abstract.proofs.SmallProgram.{object_site, array_site, function_site, proto_site, activation_site, arguments_site, error_site, plain_site, reg, name, function_id, blank, holding, number, one_text, true_value, false_value, with_attrs, plain, global_object, object, old_objects, array, function_object, proto, activation, arguments_object, error, plain_function, labels, SeenValue, SeenProperty, message_name, length_name, prototype_name, p_name, q_name, zero_name, five_name, info, view, seen, seen_at, seen_property}
-use Rattle.ja_rows.specs.Out.{nowhere, Given}
-use Rattle.ja_rows.specs.Calls.{filled_with, given_back}
-use Rattle.ja_abstract.specs.declared.abstraction.Mask.{Mask}
-use Rattle.ja_rows.proofs.SmallSteps.{edge, enter_demands, register, seen_in, gives, sets, leaves, goes_to, demands, edges, enters}
+use Rattle.ja_abstract.specs.AbstractValue.{AbstractValue, join, no_value, null_value, absent_value, bare, entry_property, of_label}
+use Rattle.ja_abstract.specs.AbstractState.{AbstractState, with_property}
+use Rattle.ja_abstract.specs.Resolved.{prototype}
+use Rattle.ja_abstract.specs.Made.{value_key}
+use Rattle.ja_abstract.specs.Primitives.{of_bools, of_text_part, whole_value, nan_value}
+use Rattle.ja_abstract.proofs.SmallProgram.{reg, blank, holding, number, one_text, true_value, false_value, with_attrs, plain, object, array, proto, arguments_object, SeenValue, p_name, seen}
+use Rattle.ja_rows.proofs.SmallSteps.{sets, goes_to, demands}
 
 module _ (text : String Global) where
   -- ---- Device
@@ -55,7 +32,8 @@ module _ (text : String Global) where
 
   -- ---- Intrinsic
 
-  abbrev intrinsic : ℕ → List Reg → AbstractValue → AbstractValue → AbstractState → List (ℕ × SeenValue)
+  abbrev intrinsic : ℕ → List Reg → AbstractValue → AbstractValue → AbstractState → List (ℕ ×
+      SeenValue)
   intrinsic = λ which list v u a. sets text (node.Intrinsic (reg 6) which list) (holding 7 v
       (holding 8 u a)) 6
 

@@ -1,43 +1,27 @@
 -- What enters a function, fills its entry and is given back from it, computed.
-use Rattle.std.specs.Prelude.{◌≡◌, Bool, Option, ℕ, pos, negsuc, true, false, if◌then◌else◌, ◌==◌, List, [], ◌∷◌, Some, None, map, String}
+use Rattle.std.specs.Prelude.{◌≡◌, ℕ, if◌then◌else◌, ◌==◌, List, [], ◌∷◌, None, map, String}
 use Rattle.std.specs.Global.{Global}
 use Rattle.std.proofs.Common.{refl}
-use lib.Chars.{codes}
-use Rattle.ja_base.specs.declared.ids.ScopeKind.TheVariants as scope_kind
 use Rattle.ja_base.specs.declared.ids.Label.{Label}
 use Rattle.ja_base.specs.declared.ids.Reg.{Reg}
 use Rattle.ja_abstract.specs.declared.abstraction.Key.{Key}
-use Rattle.ja_graph.specs.declared.node.Made.{Made}
-use Rattle.std.specs.Fmt.{digits as decimal_digits}
-use Rattle.ja_prim.specs.declared.primitive.Num.TheVariants.{Whole}
-use Rattle.ja_prim.specs.declared.primitive.Primitive.TheVariants as primitive
 use Rattle.ja_graph.specs.declared.builtins.TheConstants as builtins
 use Rattle.ja_graph.specs.declared.node.Node.{Node}
 use Rattle.ja_graph.specs.declared.node.Node.TheVariants as node
 use Rattle.ja_graph.specs.declared.node.Args.TheVariants as args
 use Rattle.ja_graph.specs.declared.node.Hint.TheVariants as hint
-use Rattle.ja_graph.specs.declared.node.Made.TheVariants as made
-use Rattle.ja_graph.specs.declared.node.ErrorKind.TheVariants as error_kind
-use Rattle.ja_graph.specs.declared.node.UnaryOp.{UnaryOp}
-use Rattle.ja_graph.specs.declared.node.UnaryOp.TheVariants as unary_op
-use Rattle.ja_graph.specs.declared.node.BinaryOp.{BinaryOp}
-use Rattle.ja_graph.specs.declared.node.BinaryOp.TheVariants as binary_op
-use Rattle.ja_machine.specs.Heap.{no_attrs}
-use Rattle.ja_machine.specs.Objects.{dont_enum, dont_delete, kept_hidden, all_attrs}
-use Rattle.ja_abstract.specs.declared.abstraction.Key.TheVariants as key
-use Rattle.ja_abstract.specs.declared.abstraction.Slot.TheVariants as slot
+use Rattle.ja_machine.specs.Objects.{dont_enum, kept_hidden}
 use Rattle.ja_abstract.specs.declared.abstraction.NumberPart.TheVariants as number_part
-use Rattle.ja_abstract.specs.declared.abstraction.TextPart.TheVariants as text_part
-use Rattle.ja_abstract.specs.AbstractValue.{AbstractValue, AbstractProperty, join, join_properties, no_value, null_value, undefined_value, row_value, absent_value, bare, no_property, absent_property, entry_property, of_label, of_primitive, of_attrs}
-use Rattle.ja_abstract.specs.AbstractState.{AbstractState, new, old, site_of, name_key, exactly_none, exactly_some, join_masks, with_property}
-use Rattle.ja_abstract.specs.Resolved.{prototype, outer}
-use Rattle.ja_abstract.specs.Made.{scope_key, value_key}
-use Rattle.ja_abstract.specs.Primitives.{of_bools, of_number_part, of_text_part, whole_value, nan_value}
-use Rattle.ja_abstract.proofs.SmallProgram.{object_site, array_site, function_site, proto_site, activation_site, arguments_site, error_site, plain_site, reg, name, function_id, blank, holding, number, one_text, true_value, false_value, with_attrs, plain, global_object, object, old_objects, array, function_object, proto, activation, arguments_object, error, plain_function, labels, SeenValue, SeenProperty, message_name, length_name, prototype_name, p_name, q_name, zero_name, five_name, info, view, seen, seen_at, seen_property}
-use Rattle.ja_rows.specs.Out.{nowhere, Given}
+use Rattle.ja_abstract.specs.AbstractValue.{AbstractValue, AbstractProperty, join, join_properties, no_value, null_value, undefined_value, absent_value, bare, absent_property, entry_property, of_label}
+use Rattle.ja_abstract.specs.AbstractState.{AbstractState, new, exactly_none, exactly_some, join_masks, with_property}
+use Rattle.ja_abstract.specs.Resolved.{prototype}
+use Rattle.ja_abstract.specs.Made.{scope_key}
+use Rattle.ja_abstract.specs.Primitives.{of_number_part, whole_value}
+use Rattle.ja_abstract.proofs.SmallProgram.{object_site, error_site, reg, blank, holding, number, true_value, with_attrs, plain, global_object, object, old_objects, array, function_object, proto, plain_function, SeenValue, SeenProperty, length_name, prototype_name, p_name, q_name, zero_name, info, view, seen, seen_at, seen_property}
+use Rattle.ja_rows.specs.Out.{Given}
 use Rattle.ja_rows.specs.Calls.{filled_with, given_back}
 use Rattle.ja_abstract.specs.declared.abstraction.Mask.{Mask}
-use Rattle.ja_rows.proofs.SmallSteps.{edge, enter_demands, register, seen_in, gives, sets, leaves, goes_to, demands, edges, enters}
+use Rattle.ja_rows.proofs.SmallSteps.{edge, enter_demands, register, enters}
 
 module _ (text : String Global) where
   -- ---- Enter
@@ -86,8 +70,10 @@ module _ (text : String Global) where
       (of_label global_object))) 1 object) ≡ seen_property entry_property
   enters_as_at_entry = refl
 
-  enters_with_nothing_made : (enters text (call one) (record (calling absent_property) { mask = λ s.
-      exactly_some }) 1 object).mask object_site.0 ≡ exactly_none
+  enters_with_nothing_made : (enters text (call one) (record (calling absent_property) {
+    mask = λ s.
+        exactly_some;
+  }) 1 object).mask object_site.0 ≡ exactly_none
   enters_with_nothing_made = refl
 
   scope_is_demanded : enter_demands text (call one) (calling entry_property) 1 (scope_key ∷
@@ -140,8 +126,11 @@ module _ (text : String Global) where
   element_count_of_absent = refl
 
   element_demands : enter_demands text spread (holding 9 (of_label array) (with_property (calling
-      absent_property) array length_name entry_property)) 1 (length_name ∷ []) ≡ (length_name, array
-      ∷ []) ∷ []
+      absent_property) array length_name entry_property)) 1 (length_name ∷ []) ≡ (
+        length_name,
+        array
+            ∷ [],
+      ) ∷ []
   element_demands = refl
 
   -- ---- .. with the arguments from the second on
@@ -225,9 +214,13 @@ module _ (text : String Global) where
   -- entry
 
   abbrev exit : AbstractValue → Mask → AbstractProperty → AbstractState
-  exit = λ v m q. record (with_property (record (holding 0 v (holding 5 v blank)) { property = λ l
-      k. entry_property }) array p_name q) { mask = λ s. if s == object_site.0 then m else
-      exactly_none }
+  exit = λ v m q. record (with_property (record (holding 0 v (holding 5 v blank)) {
+    property = λ l
+        k. entry_property;
+  }) array p_name q) {
+    mask = λ s. if s == object_site.0 then m else
+        exactly_none;
+  }
 
   abbrev caller : AbstractState
   caller = with_property (with_property (holding 11 (of_label object) (calling absent_property))
@@ -263,8 +256,11 @@ module _ (text : String Global) where
   caller_is_renamed = refl
 
   caller_maybe_renamed : of (register 11) (back (call one) returns (join_masks exactly_none
-      exactly_some) (number 2) entry_property) ≡ (1, seen (join (of_label object) (of_label
-      old_objects))) ∷ []
+      exactly_some) (number 2) entry_property) ≡ (
+        1,
+        seen (join (of_label object) (of_label
+            old_objects)),
+      ) ∷ []
   caller_maybe_renamed = refl
 
   callers_property_stays : of (seen_at array q_name) (back (call one) returns exactly_none (number
@@ -276,8 +272,11 @@ module _ (text : String Global) where
   callees_property_is_known = refl
 
   either_property : of (seen_at array p_name) (back (call one) returns exactly_none (number 2)
-      (join_properties entry_property (plain true_value))) ≡ (1, seen_property (plain (join
-      true_value (number 1)))) ∷ []
+      (join_properties entry_property (plain true_value))) ≡ (
+        1,
+        seen_property (plain (join
+            true_value (number 1))),
+      ) ∷ []
   either_property = refl
 
   masks_of_callee : of (λ a. a.mask object_site.0) (back (call one) returns exactly_some (number 2)
@@ -285,8 +284,10 @@ module _ (text : String Global) where
   masks_of_callee = refl
 
   -- what the caller made before stays made
-  masks_of_caller : of (λ a. a.mask object_site.0) (given_back (view text (record caller { mask = λ
-      s. exactly_some })) (edge 1 object) (info (call one)) (exit null_value exactly_none
+  masks_of_caller : of (λ a. a.mask object_site.0) (given_back (view text (record caller {
+    mask = λ
+        s. exactly_some;
+  })) (edge 1 object) (info (call one)) (exit null_value exactly_none
       entry_property) returns) ≡ (1, exactly_some) ∷ []
   masks_of_caller = refl
 

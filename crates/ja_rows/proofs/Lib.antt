@@ -7,6 +7,7 @@ pub mod Names
 pub mod Objects
 pub mod Operators
 pub mod Outside
+pub mod Pinned
 pub mod Properties
 pub mod Scopes
 pub mod SmallSteps

@@ -1,43 +1,24 @@
 -- What the rows of the nodes of properties give, computed.
-use Rattle.std.specs.Prelude.{◌≡◌, Bool, Option, ℕ, pos, negsuc, true, false, if◌then◌else◌, ◌==◌, List, [], ◌∷◌, Some, None, map, String}
+use Rattle.std.specs.Prelude.{◌≡◌, ℕ, true, List, [], ◌∷◌, String}
 use Rattle.std.specs.Global.{Global}
 use Rattle.std.proofs.Common.{refl}
 use lib.Chars.{codes}
-use Rattle.ja_base.specs.declared.ids.ScopeKind.TheVariants as scope_kind
 use Rattle.ja_base.specs.declared.ids.Label.{Label}
-use Rattle.ja_base.specs.declared.ids.Reg.{Reg}
 use Rattle.ja_abstract.specs.declared.abstraction.Key.{Key}
-use Rattle.ja_graph.specs.declared.node.Made.{Made}
 use Rattle.std.specs.Fmt.{digits as decimal_digits}
-use Rattle.ja_prim.specs.declared.primitive.Num.TheVariants.{Whole}
-use Rattle.ja_prim.specs.declared.primitive.Primitive.TheVariants as primitive
 use Rattle.ja_graph.specs.declared.builtins.TheConstants as builtins
 use Rattle.ja_graph.specs.declared.node.Node.{Node}
 use Rattle.ja_graph.specs.declared.node.Node.TheVariants as node
-use Rattle.ja_graph.specs.declared.node.Args.TheVariants as args
-use Rattle.ja_graph.specs.declared.node.Hint.TheVariants as hint
-use Rattle.ja_graph.specs.declared.node.Made.TheVariants as made
-use Rattle.ja_graph.specs.declared.node.ErrorKind.TheVariants as error_kind
-use Rattle.ja_graph.specs.declared.node.UnaryOp.{UnaryOp}
-use Rattle.ja_graph.specs.declared.node.UnaryOp.TheVariants as unary_op
-use Rattle.ja_graph.specs.declared.node.BinaryOp.{BinaryOp}
-use Rattle.ja_graph.specs.declared.node.BinaryOp.TheVariants as binary_op
 use Rattle.ja_machine.specs.Heap.{no_attrs}
-use Rattle.ja_machine.specs.Objects.{dont_enum, dont_delete, kept_hidden, all_attrs}
-use Rattle.ja_abstract.specs.declared.abstraction.Key.TheVariants as key
-use Rattle.ja_abstract.specs.declared.abstraction.Slot.TheVariants as slot
+use Rattle.ja_machine.specs.Objects.{dont_enum, dont_delete, kept_hidden}
 use Rattle.ja_abstract.specs.declared.abstraction.NumberPart.TheVariants as number_part
 use Rattle.ja_abstract.specs.declared.abstraction.TextPart.TheVariants as text_part
-use Rattle.ja_abstract.specs.AbstractValue.{AbstractValue, AbstractProperty, join, join_properties, no_value, null_value, undefined_value, row_value, absent_value, bare, no_property, absent_property, entry_property, of_label, of_primitive, of_attrs}
-use Rattle.ja_abstract.specs.AbstractState.{AbstractState, new, old, site_of, name_key, exactly_none, exactly_some, join_masks, with_property}
-use Rattle.ja_abstract.specs.Resolved.{prototype, outer}
-use Rattle.ja_abstract.specs.Made.{scope_key, value_key}
+use Rattle.ja_abstract.specs.AbstractValue.{AbstractValue, AbstractProperty, join, null_value, undefined_value, row_value, absent_value, bare, no_property, absent_property, entry_property, of_label, of_attrs}
+use Rattle.ja_abstract.specs.AbstractState.{AbstractState, new, with_property}
+use Rattle.ja_abstract.specs.Resolved.{prototype}
 use Rattle.ja_abstract.specs.Primitives.{of_bools, of_number_part, of_text_part, whole_value, nan_value}
-use Rattle.ja_abstract.proofs.SmallProgram.{object_site, array_site, function_site, proto_site, activation_site, arguments_site, error_site, plain_site, reg, name, function_id, blank, holding, number, one_text, true_value, false_value, with_attrs, plain, global_object, object, old_objects, array, function_object, proto, activation, arguments_object, error, plain_function, labels, SeenValue, SeenProperty, message_name, length_name, prototype_name, p_name, q_name, zero_name, five_name, info, view, seen, seen_at, seen_property}
-use Rattle.ja_rows.specs.Out.{nowhere, Given}
-use Rattle.ja_rows.specs.Calls.{filled_with, given_back}
-use Rattle.ja_abstract.specs.declared.abstraction.Mask.{Mask}
-use Rattle.ja_rows.proofs.SmallSteps.{edge, enter_demands, register, seen_in, gives, sets, leaves, goes_to, demands, edges, enters}
+use Rattle.ja_abstract.proofs.SmallProgram.{activation_site, error_site, reg, blank, holding, number, one_text, true_value, false_value, with_attrs, plain, object, old_objects, array, function_object, proto, activation, error, SeenProperty, length_name, prototype_name, p_name, q_name, zero_name, five_name, seen, seen_property}
+use Rattle.ja_rows.proofs.SmallSteps.{sets, leaves, goes_to, demands}
 
 module _ (text : String Global) where
   -- an object in register 7, a key in register 8
@@ -61,8 +42,11 @@ module _ (text : String Global) where
   reads_property = refl
 
   reads_prototype : sets text read (keyed (of_label object) p (with_property (with_property blank
-      object prototype (bare (of_label proto))) proto p_name (plain (number 1)))) 6 ≡ (1, seen
-      (number 1)) ∷ []
+      object prototype (bare (of_label proto))) proto p_name (plain (number 1)))) 6 ≡ (
+        1,
+        seen
+            (number 1),
+      ) ∷ []
   reads_prototype = refl
 
   prototype_is_hidden : sets text read (keyed (of_label object) p (with_property (with_property
@@ -72,8 +56,11 @@ module _ (text : String Global) where
 
   -- the names that are indices, and no others
   reads_index_keys : sets text read (keyed (of_label object) (of_text_part text_part.IndexText)
-      (with_property (of_p (plain (number 1))) object zero_name (plain null_value))) 6 ≡ (1, seen
-      (join undefined_value null_value)) ∷ []
+      (with_property (of_p (plain (number 1))) object zero_name (plain null_value))) 6 ≡ (
+        1,
+        seen
+            (join undefined_value null_value),
+      ) ∷ []
   reads_index_keys = refl
 
   reads_number_as_text : sets text read (keyed (of_label object) (number 5) (with_property blank
@@ -85,8 +72,10 @@ module _ (text : String Global) where
   reads_no_primitive = refl
 
   read_demands : demands text read (keyed (of_label object) p (with_property (of_p absent_property)
-      object prototype entry_property)) (p_name ∷ prototype ∷ []) ≡ (p_name, []) ∷ (prototype,
-      object ∷ []) ∷ []
+      object prototype entry_property)) (p_name ∷ prototype ∷ []) ≡ (p_name, []) ∷ (
+        prototype,
+        object ∷ [],
+      ) ∷ []
   read_demands = refl
 
   -- ---- WriteProp
@@ -94,7 +83,8 @@ module _ (text : String Global) where
   abbrev write : Node
   write = node.WriteProp (reg 7) (reg 8) (reg 9) error_site
 
-  abbrev writes : AbstractValue → AbstractValue → AbstractValue → AbstractState → Label → Key → List (ℕ × SeenProperty)
+  abbrev writes : AbstractValue → AbstractValue → AbstractValue → AbstractState → Label → Key → List
+      (ℕ × SeenProperty)
   writes = λ o k v a l j. leaves text write (holding 9 v (keyed o k a)) l j
 
   write_is_strong : writes (of_label object) p (number 2) (of_p (with_attrs (number 1) dont_enum))
@@ -106,8 +96,11 @@ module _ (text : String Global) where
   write_leaves_others = refl
 
   write_to_a_class_is_weak : writes (of_label object) (of_text_part text_part.IndexText) (number 2)
-      (with_property blank object zero_name (plain (number 1))) object zero_name ≡ (1, seen_property
-      (plain (of_number_part number_part.Index))) ∷ []
+      (with_property blank object zero_name (plain (number 1))) object zero_name ≡ (
+        1,
+        seen_property
+            (plain (of_number_part number_part.Index)),
+      ) ∷ []
   write_to_a_class_is_weak = refl
 
   abbrev length : AbstractValue
@@ -121,8 +114,11 @@ module _ (text : String Global) where
   wrong_length_throws = refl
 
   wrong_length_is_range_error : leaves text write (holding 9 nan_value (keyed (of_label array)
-      length (of_length (number 0)))) error prototype ≡ (3, seen_property (bare (of_label (new
-      builtins.RANGE_ERROR_PROTOTYPE)))) ∷ []
+      length (of_length (number 0)))) error prototype ≡ (
+        3,
+        seen_property (bare (of_label (new
+            builtins.RANGE_ERROR_PROTOTYPE))),
+      ) ∷ []
   wrong_length_is_range_error = refl
 
   -- a number that may be a length, and may be none
@@ -156,8 +152,14 @@ module _ (text : String Global) where
   delete_removes = refl
 
   weak_delete_joins : leaves text delete (keyed (of_label old_objects) p (with_property blank
-      old_objects p_name (plain (number 1)))) old_objects p_name ≡ (1, seen_property (record { value
-      = join absent_value (number 1); attrs = of_attrs no_attrs })) ∷ []
+      old_objects p_name (plain (number 1)))) old_objects p_name ≡ (
+        1,
+        seen_property (record {
+          value
+              = join absent_value (number 1);
+          attrs = of_attrs no_attrs;
+        }),
+      ) ∷ []
   weak_delete_joins = refl
 
   -- one may be kept, the other is missing
