@@ -15,7 +15,7 @@ use Rattle.ja_prim.specs.Texts.{limited_text, max_units}
 use Rattle.ja_prim.specs.Arithmetic as numbers
 use Rattle.ja_abstract.specs.declared.abstraction.NumberPart.TheVariants as number_part
 use Rattle.ja_abstract.specs.declared.abstraction.TextPart.TheVariants as text_part
-use Rattle.ja_abstract.specs.Primitives.{Atom, exactly, index, other_whole, whole, index_text, other_text, any_text, atoms, of_text_part, Abstracted, gives, gives_or_stops, exact, whole_value, of_bools, both_bools, to_num_atom, Operand, operands, on_operands, arithmetic, both_exact, exactly_text, add_atoms, compared, compare_operands, compare_atoms, kind_of, kind_of_primitive, same_kind, strict_atoms, is_nothing_atom, on_converted, loose_inexact, loose_atoms}
+use Rattle.ja_abstract.specs.Primitives.{Atom, exactly, index, other_whole, whole, index_text, other_text, any_text, atoms, of_text_part, Abstracted, gives, gives_or_stops, exact, whole_value, of_bools, both_bools, to_num_atom, Operand, operands, on_operands, arithmetic, both_exact, is_text_atom, add_atoms, compared, compare_operands, compare_atoms, kind_of, kind_of_primitive, same_kind, strict_atoms, is_nothing_atom, on_converted, loose_inexact, loose_atoms}
 use Rattle.ja_abstract.proofs.Atoms.{Covers, covers-exact, Has, only, strict-covers, is_exact, both_exact-by, by_whole, by_text, Takes, any_bool}
 use Rattle.ja_abstract.proofs.Converted.{covers-is, operands-take, converted-has, numbers-cover, to_primitive-of_both, Any, any, arithmetic-covers, whole-is, just_false}
 
@@ -58,9 +58,9 @@ of_each f g e i o w it ot t other_text q h =
 of_each f g e i o w it ot t any_text q h =
     by_text text_part.Text (λ r. f any_text ≡ g r) (λ u _. t u) q h
 
-text_is : (a : Atom) (q : Primitive) → Has q a → exactly_text a ≡ is_text q
+text_is : (a : Atom) (q : Primitive) → Has q a → is_text_atom a ≡ is_text q
 text_is =
-    of_each exactly_text is_text (λ q. refl) (λ z. refl) (λ z. refl) (λ z. refl) (λ t. refl)
+    of_each is_text_atom is_text (λ q. refl) (λ z. refl) (λ z. refl) (λ z. refl) (λ t. refl)
     (λ t. refl) (λ t. refl)
 
 kind_is : (a : Atom) (q : Primitive) → Has q a → kind_of a ≡ kind_of_primitive q
@@ -86,13 +86,13 @@ limited-covers t =
 pub add-covers : (a b : Atom) (q r : Primitive) → Has q a → Has r b
     → Covers (add_atoms a b) (add q r)
 add-covers a b q r h i =
-    let texts = exactly_text a || exactly_text b in
+    let texts = is_text_atom a || is_text_atom b in
     let joined : Result Primitive Stop =
     to_primitive primitive.Text (limited_text (to_text q ++ to_text r)) in
     let summed : Result Primitive Stop =
     to_primitive primitive.Number (sum_of (to_number q) (to_number r)) in
     let same : texts ≡ (is_text q || is_text r) =
-    ap (λ x. x || exactly_text b) (text_is a q h) ∙ ap (λ x. is_text q || x) (text_is b r i) in
+    ap (λ x. x || is_text_atom b) (text_is a q h) ∙ ap (λ x. is_text q || x) (text_is b r i) in
     exact-covers add (if texts then gives_or_stops
     (of_text_part text_part.Text) else arithmetic numbers.add (gives_or_stops whole_value) a b) a b
     q r h i (λ _.
@@ -151,9 +151,9 @@ operands_compare None None (Whole y) NaN h i = elim i [ ]
 pub compare-covers : (a b : Atom) (q r : Primitive) → Has q a → Has r b
     → Covers (compare_atoms a b) (compared (less q r))
 compare-covers a b q r h i =
-    let texts = exactly_text a && exactly_text b in
+    let texts = is_text_atom a && is_text_atom b in
     let same : texts ≡ (is_text q && is_text r) =
-    ap (λ x. x && exactly_text b) (text_is a q h) ∙ ap (λ x. is_text q && x) (text_is b r i) in
+    ap (λ x. x && is_text_atom b) (text_is a q h) ∙ ap (λ x. is_text q && x) (text_is b r i) in
     exact-covers (λ s t. compared (less s t)) (if texts then both_bools else on_operands
     compare_operands a b) a b q r h i (λ _.
     cond_both texts both_bools (on_operands compare_operands a b)

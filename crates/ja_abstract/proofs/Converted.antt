@@ -1,7 +1,6 @@
 -- Abstract primitives cover the machine's, continued: conversions, bits, arithmetic with its stops,
 -- sums, comparison and loose equality, an atom or two at a time.
-use Rattle.std.specs.Prelude.{◌≡◌, ◌≤◌, ◌||◌, not, ℕ, ℤ, pos, negsuc, Bool, true, false, ◌/◌, ◌%◌, ◌*◌, ◌^◌, ◌==◌, nat_lt, unsigned_abs, if◌then◌else◌, IsTrue, List, [], ◌∷◌, length, Some, None, Result, Ok, Err}
-use Rattle.std.specs.List.{flat_map}
+use Rattle.std.specs.Prelude.{◌≡◌, ◌≤◌, ◌||◌, not, ℕ, ℤ, pos, negsuc, Bool, true, false, ◌%◌, ◌^◌, ◌==◌, unsigned_abs, IsTrue, List, [], ◌∷◌, length, Some, None, Result, Ok, Err}
 use Rattle.std.specs.Int.{is_negative}
 use Rattle.std.specs.Ordering.{int_eq}
 use Rattle.std.proofs.Common.{refl, sym, subst, ap, inl, inr, arith, lit<, le_trans}
@@ -9,7 +8,6 @@ use Rattle.std.proofs.lemmas.Bool.{or_left, or_right, false≢true, cond_both, f
 use Rattle.std.proofs.lemmas.Bool.Decides.{Decides-int_eq}
 use Rattle.std.proofs.Math.Nat.{mod-le}
 use Rattle.ja_prim.specs.declared.stop.Stop.{Stop}
-use Rattle.ja_prim.specs.declared.stop.Stop.TheVariants as stops_
 use Rattle.ja_prim.specs.declared.primitive.Num.{Num}
 use Rattle.ja_prim.specs.declared.primitive.Num.TheVariants.{NaN, Whole}
 use Rattle.ja_prim.specs.declared.primitive.Primitive.{Primitive}
@@ -17,20 +15,18 @@ use Rattle.ja_prim.specs.declared.primitive.Primitive.TheVariants as primitive
 use Rattle.ja_prim.specs.Index.{is_index, is_index_text}
 use Rattle.ja_prim.specs.Conversions.{to_bool, to_number}
 use Rattle.ja_prim.specs.Comparison.{to_primitive, of_both}
-use Rattle.ja_prim.specs.Judged.{judged, signed, max_magnitude}
+use Rattle.ja_prim.specs.Judged.{judged, max_magnitude}
 use Rattle.ja_prim.specs.Arithmetic as numbers
 use Rattle.ja_prim.specs.Bits as bits
 use Rattle.ja_prim.proofs.Exact.{judged_found}
-use Rattle.ja_abstract.specs.declared.abstraction.NumberPart.{NumberPart}
 use Rattle.ja_abstract.specs.declared.abstraction.NumberPart.TheVariants as number_part
-use Rattle.ja_abstract.specs.declared.abstraction.TextPart.{TextPart}
 use Rattle.ja_abstract.specs.declared.abstraction.TextPart.TheVariants as text_part
 use Rattle.ja_abstract.specs.AbstractValue.{AbstractValue, join}
-use Rattle.ja_abstract.specs.Parts.{number_has, text_has, has_primitive}
-use Rattle.ja_abstract.specs.Primitives.{Atom, exactly, index, other_whole, whole, index_text, other_text, any_text, atoms, of_number_part, of_text_part, Abstracted, gives, gives_or_stops, stops_if, either, over, over_pairs, exact, nan_value, whole_value, of_bools, both_bools, to_bool_atom, to_num_atom, Operand, operand, operands, combine, arithmetic, combine_bits, bit_op, of_operand, on_operand, index_or_whole, to_num, to_uint32}
+use Rattle.ja_abstract.specs.Parts.{has_primitive}
+use Rattle.ja_abstract.specs.Primitives.{Atom, exactly, index, other_whole, whole, index_text, other_text, any_text, atoms, Abstracted, gives, gives_or_stops, stops_if, either, over, over_pairs, exact, nan_value, whole_value, of_bools, to_bool_atom, to_num_atom, Operand, operand, operands, combine, arithmetic, combine_bits, bit_op, of_operand, on_operand, index_or_whole, to_num, to_uint32}
 use Rattle.ja_abstract.proofs.Parts.{of_primitive_has}
 use Rattle.ja_abstract.proofs.Joins.{has_primitive-join_left, has_primitive-join_right}
-use Rattle.ja_abstract.proofs.Atoms.{Covers, covers-left, covers-right, covers-exact, Some_, some-left, some-right, Has, atoms-have, only, whole_of, text_of, to_num-covers, unary-covers, by_whole, by_text, any_number, Takes, operand-takes, some-flat_map, may_stop, judged-covers, nan_right, any_bool}
+use Rattle.ja_abstract.proofs.Atoms.{Covers, covers-left, covers-right, covers-exact, Some_, Has, atoms-have, only, to_num-covers, unary-covers, by_whole, by_text, any_number, Takes, operand-takes, some-flat_map, may_stop, judged-covers, nan_right, any_bool}
 
 -- ---- what is covered, with stops and without
 

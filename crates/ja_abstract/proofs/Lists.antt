@@ -1,13 +1,9 @@
--- What an entry of a list is, and tests of lists.
-use Rattle.std.proofs.Common.{◌≡◌, ◌⊎◌, Bool, true, false, cond, List, [], ◌∷◌, ◌++◌, inl, inr, sym, subst, ap, arith}
+-- Entries of lists, and tests of lists.
+use Rattle.std.proofs.Common.{◌≡◌, Bool, true, false, cond, List, [], ◌∷◌, ◌++◌, inl, inr, sym, subst, ap, arith}
 use Rattle.std.specs.Prelude.{IsTrue, filter, ◌&&◌, ◌||◌, ◌<◌, ◌+◌, ℕ, zero, suc, map, flat_map}
 use Rattle.std.specs.List.{list_any, range_with_len}
 use Rattle.std.proofs.lemmas.Bool.{or_cases, or_left, or_right}
-
--- an entry of a list
-abbrev pub Member : {X : Type 0} → X → List X → Type 0
-Member x [] = ⊥
-Member x (y ∷ ys) = (y ≡ x) ⊎ Member x ys
+pub use Rattle.ja_abstract.specs.Lists.{Member}
 
 -- an entry of the left list is one of both
 pub member-append_left : {X : Type 0} (x : X) (xs ys : List X) → Member x xs → Member x (xs ++ ys)

@@ -13,6 +13,7 @@ use Rattle.ja_prim.specs.declared.primitive.Num.TheVariants.{Whole}
 use Rattle.ja_prim.specs.declared.primitive.Primitive.TheVariants as primitive
 use Rattle.ja_prim.specs.declared.signature.Signature.{Signature}
 use Rattle.ja_graph.specs.declared.attrs.Attrs.{Attrs}
+use Rattle.ja_graph.specs.declared.attrs.TheConstants.{NO_ATTRS}
 use Rattle.ja_graph.specs.declared.node.Node.{Node}
 use Rattle.ja_graph.specs.declared.node.Node.TheVariants as node
 use Rattle.ja_graph.specs.declared.node.NodeInfo.{NodeInfo}
@@ -21,7 +22,6 @@ use Rattle.ja_graph.specs.declared.program.Class.TheVariants as class
 use Rattle.ja_graph.specs.declared.program.Function.{Function}
 use Rattle.ja_graph.specs.declared.program.Program.{Program}
 use Rattle.ja_graph.specs.declared.program.SiteInfo.{SiteInfo}
-use Rattle.ja_machine.specs.Heap.{no_attrs}
 use Rattle.ja_abstract.specs.declared.abstraction.AAttrs.{AAttrs}
 use Rattle.ja_abstract.specs.declared.abstraction.Flags.{Flags}
 use Rattle.ja_abstract.specs.declared.abstraction.Key.{Key}
@@ -229,7 +229,7 @@ with_attrs v a = record { value = v; attrs = of_attrs a }
 
 -- a property without attributes
 abbrev pub plain : AbstractValue → AbstractProperty
-plain v = with_attrs v no_attrs
+plain v = with_attrs v NO_ATTRS
 
 -- ---- states
 

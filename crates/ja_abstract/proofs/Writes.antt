@@ -1,20 +1,18 @@
 -- What puts and deletions leave, computed.
-use Rattle.std.specs.Prelude.{◌≡◌, ℕ, pos, true, false, Bool, List, [], ◌∷◌, map, String}
+use Rattle.std.specs.Prelude.{◌≡◌, true, false, Bool, List, [], ◌∷◌, map, String}
 use Rattle.std.specs.Global.{Global}
-use Rattle.std.specs.Fmt.{digits as decimal_digits}
 use Rattle.std.proofs.Common.{refl}
+use Rattle.ja_graph.specs.declared.attrs.TheConstants.{ALL_ATTRS, DONT_DELETE, DONT_ENUM, KEPT_HIDDEN}
 use Rattle.ja_base.specs.declared.ids.Label.{Label}
-use Rattle.ja_machine.specs.Heap.{no_attrs}
-use Rattle.ja_machine.specs.Objects.{dont_enum, dont_delete, kept_hidden, all_attrs}
 use Rattle.ja_abstract.specs.declared.abstraction.Key.{Key}
 use Rattle.ja_abstract.specs.declared.abstraction.Key.TheVariants as key
 use Rattle.ja_abstract.specs.declared.abstraction.NumberPart.TheVariants as number_part
-use Rattle.ja_abstract.specs.AbstractValue.{Labels, AbstractValue, AbstractProperty, join, join_properties, no_property, null_value, bare, absent_property, entry_property, of_label}
-use Rattle.ja_abstract.specs.AbstractState.{AbstractState, new, old, site_of, with_property}
+use Rattle.ja_abstract.specs.AbstractValue.{Labels, AbstractValue, AbstractProperty, join, join_properties, no_property, null_value, bare, absent_property, of_label}
+use Rattle.ja_abstract.specs.AbstractState.{AbstractState, old, with_property}
 use Rattle.ja_abstract.specs.Primitives.{of_bools, of_number_part, whole_value, nan_value}
 use Rattle.ja_abstract.specs.Reading.{one_label}
 use Rattle.ja_abstract.specs.Resolved.{prototype}
-use Rattle.ja_abstract.specs.Writes.{Result, put_states, put_may_throw, delete_states}
+use Rattle.ja_abstract.specs.Writes.{Deletion, put_states, put_may_throw, delete_states}
 use Rattle.ja_abstract.proofs.SmallProgram.{array_site, blank, number, true_value, false_value, with_attrs, plain, object, old_objects, array, proto, length_name, p_name, q_name, zero_name, five_name, view, seen, seen_at, SeenValue, SeenProperty, seen_property}
 
 module _ (text : String Global) where
@@ -40,15 +38,15 @@ module _ (text : String Global) where
       ≡ seen_property (plain (number 2)) ∷ []
   put_adds = refl
 
-  put_replaces : put_at (one_label object) p (number 2) (of_p (with_attrs null_value dont_delete))
-      object p_name ≡ seen_property (with_attrs (number 2) dont_delete) ∷ []
+  put_replaces : put_at (one_label object) p (number 2) (of_p (with_attrs null_value DONT_DELETE))
+      object p_name ≡ seen_property (with_attrs (number 2) DONT_DELETE) ∷ []
   put_replaces = refl
 
   put_maybe_adds : put_at (one_label object) p (number 2) (of_p (join_properties (with_attrs
-      null_value dont_enum) absent_property)) object p_name ≡ seen_property (record {
+      null_value DONT_ENUM) absent_property)) object p_name ≡ seen_property (record {
         value = number
             2;
-        attrs = (join_properties (with_attrs null_value dont_enum) (plain null_value)).attrs;
+        attrs = (join_properties (with_attrs null_value DONT_ENUM) (plain null_value)).attrs;
       }) ∷
       []
   put_maybe_adds = refl
@@ -57,20 +55,20 @@ module _ (text : String Global) where
       (plain (number 1))) array p_name ≡ seen_property (plain (number 1)) ∷ []
   put_leaves_others = refl
 
-  put_is_refused : put_at (one_label object) p (number 2) (of_p (with_attrs (number 1) all_attrs))
-      object p_name ≡ seen_property (with_attrs (number 1) all_attrs) ∷ []
+  put_is_refused : put_at (one_label object) p (number 2) (of_p (with_attrs (number 1) ALL_ATTRS))
+      object p_name ≡ seen_property (with_attrs (number 1) ALL_ATTRS) ∷ []
   put_is_refused = refl
 
   put_is_refused_by_prototype : put_at (one_label object) p (number 2) (with_property (with_property
       blank object prototype (bare (of_label proto))) proto p_name (with_attrs null_value
-      all_attrs)) object p_name ≡ seen_property absent_property ∷ []
+      ALL_ATTRS)) object p_name ≡ seen_property absent_property ∷ []
   put_is_refused_by_prototype = refl
 
   -- the state as it was, and the one with the value
   put_maybe_refused : put_at (one_label object) p (number 2) (of_p (join_properties (with_attrs
-      (number 1) all_attrs) (plain (number 1)))) object p_name ≡ seen_property (join_properties
-      (with_attrs (number 1) all_attrs) (plain (number 1))) ∷ seen_property (join_properties
-      (with_attrs (number 2) all_attrs) (plain (number 2))) ∷ []
+      (number 1) ALL_ATTRS) (plain (number 1)))) object p_name ≡ seen_property (join_properties
+      (with_attrs (number 1) ALL_ATTRS) (plain (number 1))) ∷ seen_property (join_properties
+      (with_attrs (number 2) ALL_ATTRS) (plain (number 2))) ∷ []
   put_maybe_refused = refl
 
   put_to_old_joins : put_at (one_label old_objects) p (number 2) (with_property blank old_objects
@@ -100,7 +98,7 @@ module _ (text : String Global) where
   -- ---- [[Put]] of an element
 
   abbrev of_length : Label → AbstractValue → AbstractState
-  of_length = λ l n. with_property blank l length_name (with_attrs n kept_hidden)
+  of_length = λ l n. with_property blank l length_name (with_attrs n KEPT_HIDDEN)
 
   abbrev element : Key → AbstractState → Key → List SeenProperty
   element = λ k a j. put_at (one_label array) (k ∷ []) null_value a array j
@@ -110,41 +108,41 @@ module _ (text : String Global) where
   element_is_put = refl
 
   length_grows : element five_name (of_length array (number 3)) length_name
-      ≡ seen_property (with_attrs (number 6) kept_hidden) ∷ []
+      ≡ seen_property (with_attrs (number 6) KEPT_HIDDEN) ∷ []
   length_grows = refl
 
   length_stays : element zero_name (of_length array (number 3)) length_name
-      ≡ seen_property (with_attrs (number 3) kept_hidden) ∷ []
+      ≡ seen_property (with_attrs (number 3) KEPT_HIDDEN) ∷ []
   length_stays = refl
 
   length_of_class : element five_name (of_length array (of_number_part number_part.Index))
-      length_name ≡ seen_property (with_attrs (of_number_part number_part.Index) kept_hidden) ∷ []
+      length_name ≡ seen_property (with_attrs (of_number_part number_part.Index) KEPT_HIDDEN) ∷ []
   length_of_class = refl
 
   -- a length that is no constant is joined with the index and one
   length_of_two : element five_name (of_length array (join null_value (number 3))) length_name
-      ≡ seen_property (with_attrs (join null_value (of_number_part number_part.Index)) kept_hidden)
+      ≡ seen_property (with_attrs (join null_value (of_number_part number_part.Index)) KEPT_HIDDEN)
       ∷ []
   length_of_two = refl
 
   length_by_unknown_index : element key.OtherIndex (of_length array (number 3)) length_name
-      ≡ seen_property (with_attrs whole_value kept_hidden) ∷ []
+      ≡ seen_property (with_attrs whole_value KEPT_HIDDEN) ∷ []
   length_by_unknown_index = refl
 
   no_length : element five_name (with_property blank array length_name no_property) five_name ≡ []
   no_length = refl
 
   name_is_no_element : element p_name (of_length array (number 3)) length_name
-      ≡ seen_property (with_attrs (number 3) kept_hidden) ∷ []
+      ≡ seen_property (with_attrs (number 3) KEPT_HIDDEN) ∷ []
   name_is_no_element = refl
 
   object_has_no_elements : put_at (one_label object) (five_name ∷ []) null_value (of_length object
-      (number 3)) object length_name ≡ seen_property (with_attrs (number 3) kept_hidden) ∷ []
+      (number 3)) object length_name ≡ seen_property (with_attrs (number 3) KEPT_HIDDEN) ∷ []
   object_has_no_elements = refl
 
   length_of_old_array : put_at (one_label (old array_site)) (five_name ∷ []) null_value (of_length
       (old array_site) (number 3)) (old array_site) length_name ≡ seen_property (with_attrs
-      (of_number_part number_part.Index) kept_hidden) ∷ []
+      (of_number_part number_part.Index) KEPT_HIDDEN) ∷ []
   length_of_old_array = refl
 
   -- ---- [[Put]] of a length
@@ -163,7 +161,7 @@ module _ (text : String Global) where
   maybe_null = seen_property (join_properties (plain null_value) absent_property)
 
   length_is_put : length (number 5) length_name
-      ≡ seen_property (with_attrs (number 5) kept_hidden) ∷ []
+      ≡ seen_property (with_attrs (number 5) KEPT_HIDDEN) ∷ []
   length_is_put = refl
 
   element_below_stays : length (number 5) zero_name ≡ seen_property (plain null_value) ∷ []
@@ -179,11 +177,11 @@ module _ (text : String Global) where
   all_are_cut = refl
 
   length_of_true : length true_value length_name
-      ≡ seen_property (with_attrs (number 1) kept_hidden) ∷ []
+      ≡ seen_property (with_attrs (number 1) KEPT_HIDDEN) ∷ []
   length_of_true = refl
 
   greatest_length : length (number 4294967295) length_name
-      ≡ seen_property (with_attrs (number 4294967295) kept_hidden) ∷ []
+      ≡ seen_property (with_attrs (number 4294967295) KEPT_HIDDEN) ∷ []
   greatest_length = refl
 
   no_such_length : length (number 4294967296) length_name ≡ []
@@ -210,7 +208,7 @@ module _ (text : String Global) where
   -- ---- [[Delete]]
 
   abbrev delete : Labels → AbstractState → Label → List (SeenValue × SeenProperty)
-  delete = λ target a l. map (λ (r : Result). (seen r.0, seen_at l p_name r.1)) (delete_states (view
+  delete = λ target a l. map (λ (r : Deletion). (seen r.0, seen_at l p_name r.1)) (delete_states (view
       text a) target p)
 
   missing_is_deleted : delete (one_label object) blank object
@@ -221,8 +219,8 @@ module _ (text : String Global) where
       ≡ (seen true_value, seen_property absent_property) ∷ []
   deletes = refl
 
-  keeps : delete (one_label object) (of_p (with_attrs null_value dont_delete)) object
-      ≡ (seen false_value, seen_property (with_attrs null_value dont_delete)) ∷ []
+  keeps : delete (one_label object) (of_p (with_attrs null_value DONT_DELETE)) object
+      ≡ (seen false_value, seen_property (with_attrs null_value DONT_DELETE)) ∷ []
   keeps = refl
 
   abbrev maybe_there : AbstractProperty
@@ -240,8 +238,8 @@ module _ (text : String Global) where
       ≡ (seen true_value, seen_property maybe_there) ∷ []
   deletes_weakly = refl
 
-  keeps_weakly : delete both (of_p (with_attrs null_value dont_delete)) object
-      ≡ (seen (of_bools true true), seen_property (with_attrs null_value dont_delete)) ∷ []
+  keeps_weakly : delete both (of_p (with_attrs null_value DONT_DELETE)) object
+      ≡ (seen (of_bools true true), seen_property (with_attrs null_value DONT_DELETE)) ∷ []
   keeps_weakly = refl
 
   deletes_nothing : delete (one_label object) (of_p no_property) object ≡ []

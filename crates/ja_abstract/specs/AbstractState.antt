@@ -93,7 +93,7 @@ join_masks a b = record { none = a.none || b.none; some = a.some || b.some }
 
 -- ---- states
 
--- at a function's entry each property is as it was, and nothing was made
+-- where the program begins each property is as it was, and nothing was made
 abbrev pub entry_registers : ℕ → AbstractValue
 entry_registers r =
     if r == THIS.0 then of_label (new global) else if r == SCOPE.0 then of_label (new global)

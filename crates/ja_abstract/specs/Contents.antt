@@ -79,8 +79,7 @@ of_content h (held v) = bare (of_value h v)
 of_content h (present v attrs) = record { value = of_value h v; attrs = of_attrs attrs }
 of_content h (present_row attrs) = record { value = row_value; attrs = of_attrs attrs }
 
--- what the objects of a label have at a key; a site has one object there at most, whose label is
--- new
+-- what an object of the opening heap has at a key
 abbrev pub key_content : Program → Addr → Key → SpotContent
 key_content p a (key.Name n) = content (opening_heap p) a (named (name_text p n))
 key_content p a key.OtherIndex = missing
@@ -92,5 +91,6 @@ opened_at p k a =
     option_map_or (λ (o : Object). of_content (opening_heap p) (key_content p a k))
     (object_at (opening_heap p) a) no_property
 
+-- what the objects of a label have there: a site has one at most, whose label is new
 abbrev pub opened : Program → Label → Key → AbstractProperty
 opened p l k = if l.old then no_property else opened_at p k (first_of l.site)

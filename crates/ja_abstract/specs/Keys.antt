@@ -1,6 +1,6 @@
 -- The keys of texts and numbers: a computed key is several of the keys of the program (ES3 11.2.1,
 -- 15.4; SAS 2009, properties of unknown names).
-use Rattle.std.specs.Prelude.{ℕ, if◌then◌else◌, nat_eq, List, Option, position, ℤ, Bool, true, false, not, ◌&&◌, ◌||◌, [], ◌∷◌, filter, None, is_some, Result, Ok}
+use Rattle.std.specs.Prelude.{ℕ, if◌then◌else◌, nat_eq, List, Option, position, ℤ, Bool, true, false, not, ◌&&◌, ◌||◌, filter, None, is_some, Result, Ok}
 use Rattle.std.specs.Option.{option_map_or}
 use Rattle.std.specs.List.{list_any}
 use lib.Pointwise.{pointwise}
@@ -126,5 +126,6 @@ is_text_key k = true
 abbrev pub text_keys : Program → List Key
 text_keys p = filter is_text_key (keys_of p)
 
+-- the key is one of the list
 abbrev pub is_among_keys : List Key → Key → Bool
 is_among_keys keys k = list_any (λ (j : Key). same_key j k) keys

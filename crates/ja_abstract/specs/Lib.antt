@@ -4,6 +4,7 @@ pub mod Composed
 pub mod Contents
 pub mod Keys
 pub mod Laws
+pub mod Lists
 pub mod Made
 pub mod Operations
 pub mod Order

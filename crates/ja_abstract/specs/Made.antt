@@ -55,9 +55,6 @@ inherits proto = slot_of prototype (of_label (new proto))
 abbrev pub whole_constant : ℕ → AbstractValue
 whole_constant n = of_primitive (primitive.Number (Whole (pos n)))
 
-abbrev pub named_key : Program → List ℕ → Key
-named_key p t = text_key p t
-
 abbrev pub length_key : Key
 length_key = key.Name builtins.LENGTH
 
@@ -103,12 +100,12 @@ function_own p function chain proto =
     own_of (inherits builtins.FUNCTION_PROTOTYPE
     ∷ slot_of scope_key (of_labels chain)
     ∷ property_of length_key (whole_constant (parameters_of p function)) ALL_ATTRS
-    ∷ property_of (named_key p (codes "prototype")) (of_label proto) DONT_DELETE ∷ [])
+    ∷ property_of (text_key p (codes "prototype")) (of_label proto) DONT_DELETE ∷ [])
 
 abbrev pub prototype_own : Program → Label → Own
 prototype_own p function =
     own_of (inherits builtins.OBJECT_PROTOTYPE
-    ∷ property_of (named_key p (codes "constructor")) (of_label function) DONT_ENUM ∷ [])
+    ∷ property_of (text_key p (codes "constructor")) (of_label function) DONT_ENUM ∷ [])
 
 abbrev pub constructed_own : AbstractValue → Own
 constructed_own proto = own_of (slot_of prototype proto ∷ [])
@@ -162,6 +159,8 @@ argument_property p f a j =
     if_reached (one_number p (a.register count_register)) j
     (record { value = v; attrs = of_attrs DONT_ENUM })
 
+-- what it has at the key of an index. The indices that no parameter has are alike, so the first of
+-- them stands for all where the key does.
 abbrev pub index_property : Program → FnId → AbstractState → Key → Option AbstractProperty
 index_property p f a key.OtherIndex =
     let indices = range_with_len 0 (parameters_of p f + 1) in

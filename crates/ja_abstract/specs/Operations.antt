@@ -7,7 +7,7 @@ use Rattle.ja_prim.specs.declared.primitive.Num.TheVariants.{Whole}
 use Rattle.ja_prim.specs.declared.primitive.Primitive.TheVariants as primitive
 use Rattle.ja_graph.specs.declared.program.Program.{Program}
 use Rattle.ja_graph.specs.Program.{is_arguments_site}
-use Rattle.ja_machine.specs.Intrinsics.{class_name, radix_text}
+use Rattle.ja_machine.specs.Intrinsics.{class_name, radix_text, min_radix, max_radix}
 use Rattle.ja_machine.specs.Machine.{class_of_site}
 use Rattle.ja_abstract.specs.declared.abstraction.Key.{Key}
 use Rattle.ja_abstract.specs.declared.abstraction.TextPart.TheVariants as text_part
@@ -77,16 +77,16 @@ of_own w v keys may_hold may_fail = record {
   demands = demands_at w v.label (λ l. demands_of_own w l keys);
 }
 
--- (15.2.4.5)
+-- whether an object has the property itself (15.2.4.5)
 abbrev pub has_own : View → AbstractValue → AbstractValue → Looked
 has_own w v name = of_own w v (text_keys_of w name) (may_have w) may_lack
 
--- not DontEnum (15.2.4.7)
+-- whether it has it, and not DontEnum (15.2.4.7)
 abbrev pub is_enumerable : View → AbstractValue → AbstractValue → Looked
 is_enumerable w v name =
     of_own w v (text_keys_of w name) (may_be_enumerable w) (λ q. may_lack q || may_be_hidden w q)
 
--- whether the first inherits from the second, which is an object
+-- whether the first inherits from the second, which is an object (15.2.4.6)
 abbrev pub inherits : View → AbstractValue → AbstractValue → Looked
 inherits w v o = record {
   value =
@@ -109,7 +109,7 @@ has_elements w v =
 -- ---- numbers
 
 abbrev pub is_radix : ℕ → Bool
-is_radix radix = nat_le 2 radix && nat_le radix 36
+is_radix radix = nat_le min_radix radix && nat_le radix max_radix
 
 -- the digits of a number by a radix (15.7.4.2): of two constants those of the machine, or nothing
 -- where it refuses them; of a class any text

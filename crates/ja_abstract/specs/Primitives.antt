@@ -59,10 +59,10 @@ flags_of v =
     ∷ (v.flags.is_false, primitive.Bool false)
     ∷ (v.flags.nan, primitive.Number NaN) ∷ []
 
--- the atoms of a value: its flags but absent, entry and row, its number part and its text part
 abbrev pub part_atoms : AbstractValue → List Atom
 part_atoms v = number_atoms v.number ++ text_atoms v.text
 
+-- the atoms of a value: its flags but absent, entry and row, its number part and its text part
 abbrev pub atoms : AbstractValue → List Atom
 atoms v = flag_atoms (flags_of v) ++ part_atoms v
 
@@ -196,12 +196,12 @@ on_operand f a = either (stops_if (to_num_atom a).may_stop) (over f (operands a)
 
 -- ---- sums, comparisons
 
-abbrev pub exactly_text : Atom → Bool
-exactly_text (exactly q) = is_text q
-exactly_text index_text = true
-exactly_text other_text = true
-exactly_text any_text = true
-exactly_text a = false
+abbrev pub is_text_atom : Atom → Bool
+is_text_atom (exactly q) = is_text q
+is_text_atom index_text = true
+is_text_atom other_text = true
+is_text_atom any_text = true
+is_text_atom a = false
 
 -- both atoms, where both are exact
 abbrev pub both_exact : {A : Type 0} → (Primitive → Primitive → A) → A → Atom → Atom → A
@@ -212,7 +212,7 @@ abbrev pub add_atoms : Atom → Atom → Abstracted
 add_atoms a b =
     let sum = arithmetic numbers.add (gives_or_stops whole_value) a b in
     let text = gives_or_stops (of_text_part text_part.Text) in
-    both_exact (λ q r. exact (add q r)) (if exactly_text a || exactly_text b then text else sum) a b
+    both_exact (λ q r. exact (add q r)) (if is_text_atom a || is_text_atom b then text else sum) a b
 
 -- undefined stands for a comparison with NaN
 abbrev pub compared : Result (Option Bool) Stop → Result Primitive Stop
@@ -228,7 +228,7 @@ compare_operands x y = if is_nan x || is_nan y then gives undefined_value else b
 abbrev pub compare_atoms : Atom → Atom → Abstracted
 compare_atoms a b =
     let numbers = on_operands compare_operands a b in
-    let otherwise = if exactly_text a && exactly_text b then both_bools else numbers in
+    let otherwise = if is_text_atom a && is_text_atom b then both_bools else numbers in
     both_exact (λ q r. exact (compared (less q r))) otherwise a b
 
 -- ---- equality
@@ -340,7 +340,8 @@ to_uint32 = abstract_unary index_or_whole
 abbrev pub bit_op : (Num → Num → Num) → Atom → Atom → Abstracted
 bit_op f = on_operands (combine_bits f)
 
--- an operator on two atoms that gives a number or a text
+-- what an operator gives of two atoms: a number, a text or a truth value, and undefined where a
+-- comparison meets NaN
 abbrev pub operator : BinaryOp → Atom → Atom → Abstracted
 operator binary_op.Add = add_atoms
 operator binary_op.Sub = arithmetic numbers.sub (gives_or_stops whole_value)

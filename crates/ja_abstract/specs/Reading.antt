@@ -15,7 +15,7 @@ use Rattle.ja_abstract.specs.Resolved.{Entries, Demands, resolved, demands_of, r
 use Rattle.ja_abstract.specs.Keys.{text_keys}
 use Rattle.ja_abstract.specs.Primitives.{of_text_part}
 
--- what is read: the states of a program, with the values at the entry of its context
+-- what is read: a state of a program, with the values at the entry of its context
 pub record View : Type 0 where
   pub program : Program
   pub state : AbstractState

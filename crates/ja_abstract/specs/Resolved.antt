@@ -1,4 +1,4 @@
--- What was as it is at the entry: labels renamed, the resolved reading and what it demands (SAS
+-- What is as it was at the entry: labels renamed, the resolved reading and what it demands (SAS
 -- 2010, lazy propagation); and the least sets of labels that are closed under a step.
 use Rattle.std.specs.Prelude.{ℕ, zero, suc, Bool, false, ◌&&◌, ◌||◌, if◌then◌else◌, List, [], ◌∷◌, map, length, Option, IsTrue, IsSome}
 use Rattle.std.specs.List.{list_any}
@@ -82,7 +82,6 @@ prototype = key.Slot slot.Prototype
 abbrev pub outer : Key
 outer = key.Slot slot.Outer
 
--- [[Get]]: the present parts of the objects that are asked, and absent where the walk may end
 abbrev pub join_values : List AbstractValue → AbstractValue
 join_values [] = no_value
 join_values (v ∷ vs) = join v (join_values vs)

@@ -114,7 +114,7 @@ binary w op a b =
     let of_objects = value_if (is_equality op) (of_bools (may_equal w a b) (may_differ w a b)) in
     finished op (join of_objects (abstract_binary (operator op) a b).value)
 
--- whether an object stays as it is beside another operand, and whether it is converted
+-- undefined or null is among it
 abbrev pub is_nothing : AbstractValue → Bool
 is_nothing v = v.flags.undefined || v.flags.null
 

@@ -244,13 +244,13 @@ abbrev pub is_missing : View → Label → Key → Bool
 is_missing w l k = (own_at w l k).value.flags.absent
 
 -- the states that a deletion may leave, each with what it gives
-abbrev pub Result : Type 0
-Result = AbstractValue × AbstractState
+abbrev pub Deletion : Type 0
+Deletion = AbstractValue × AbstractState
 
-abbrev pub if_given : Bool → AbstractValue → AbstractState → List Result
+abbrev pub if_given : Bool → AbstractValue → AbstractState → List Deletion
 if_given b v a = if b then (v, a) ∷ [] else []
 
-abbrev pub strong_delete : View → Label → Key → List Result
+abbrev pub strong_delete : View → Label → Key → List Deletion
 strong_delete w l k =
     let deleted = strong_update w.state l (sets_at k absent_property ∷ []) in
     if_given (is_missing w l k) (of_bools true false) w.state
@@ -260,13 +260,13 @@ strong_delete w l k =
 abbrev pub delete_list : View → List Key → Label → List Write
 delete_list w keys l = map (λ (k : Key). joins_at k absent_property) (filter (may_delete w l) keys)
 
-abbrev pub weak_delete : View → Labels → List Key → List Result
+abbrev pub weak_delete : View → Labels → List Key → List Deletion
 weak_delete w target keys =
     let is_deleted = some_at w target keys (λ l k. is_missing w l k || may_delete w l k) in
     let is_kept = some_at w target keys (may_keep w) in
     (of_bools is_deleted is_kept, weak_update w.state target (delete_list w keys)) ∷ []
 
-abbrev pub delete_states : View → Labels → List Key → List Result
+abbrev pub delete_states : View → Labels → List Key → List Deletion
 delete_states w target keys =
     let weak = weak_delete w target keys in
     option_map_or (λ (at : Label × Key). strong_delete w at.0 at.1) (strong_at w target keys) weak

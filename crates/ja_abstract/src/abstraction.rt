@@ -54,7 +54,7 @@ pub struct AAttrs {
     pub dont_delete: May,
 }
 
-/// How many objects a function has made at a site since its entry: maybe none, maybe some.
+/// How many objects were made at a site since the entry of a function: maybe none, maybe some.
 #[derive(Clone, Copy, Debug, PartialEq, Eq)]
 pub struct Mask {
     pub none: bool,

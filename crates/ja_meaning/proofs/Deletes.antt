@@ -32,7 +32,7 @@ use Rattle.ja_abstract.specs.Keys.{Spot, named, internal, key_of, is_among_keys}
 use Rattle.ja_abstract.specs.Parts.{allows}
 use Rattle.ja_abstract.specs.Primitives.{of_bools}
 use Rattle.ja_abstract.specs.Reading.{View, has_present}
-use Rattle.ja_abstract.specs.Writes.{sets_at, joins_at, joined_at, strong_update, weak_update, strong_at, some_at, own_at, may_keep, may_delete, is_missing, Result, if_given, strong_delete, delete_list, weak_delete, delete_states, demands_of_delete}
+use Rattle.ja_abstract.specs.Writes.{sets_at, joins_at, joined_at, strong_update, weak_update, strong_at, some_at, own_at, may_keep, may_delete, is_missing, Deletion, if_given, strong_delete, delete_list, weak_delete, delete_states, demands_of_delete}
 use Rattle.ja_abstract.proofs.Texts.{text_same}
 use Rattle.ja_abstract.proofs.Keys.{text_of_key, same_key-true, same_key-self}
 use Rattle.ja_abstract.proofs.Lists.{Member, member-append_left, member-append_right}
@@ -67,9 +67,9 @@ same_holds p e c now a wrote s holds same = record {
 }
 
 pub member-if_given : (b : Bool) (v : AbstractValue) (a : AbstractState) → IsTrue b
-    → Member {X = Result} (v, a) (if_given b v a)
+    → Member {X = Deletion} (v, a) (if_given b v a)
 member-if_given b v a e =
-    let x : Result = (v, a) in subst (Member x) (sym (cond-true b (x ∷ []) [] e)) (inl refl)
+    let x : Deletion = (v, a) in subst (Member x) (sym (cond-true b (x ∷ []) [] e)) (inl refl)
 
 -- ---- an object without a property
 
@@ -94,10 +94,10 @@ module _ (o : Object) (t : List ℕ) where
 
 -- one of the results holds, and has what the deletion gives
 pub record IsDeleted (e c : Heap) (w : View) (a : Addr) (now : Heap) (b : Bool)
-    (results : List Result) : Type 0 where
+    (results : List Deletion) : Type 0 where
   pub value : AbstractValue
   pub state : AbstractState
-  pub among : Member {X = Result} (value, state) results
+  pub among : Member {X = Deletion} (value, state) results
   pub has : IsTrue (has_value now value (bool_value b))
   pub registers : state.register ≡ w.state.register
   pub heap : HoldsOfHeap w.program e now state
@@ -156,7 +156,7 @@ module _ (e c : Heap) (w : View) (r : Reads e c w) (good : IsWellFormed w.progra
       (some_at w target keys (may_keep w))
 
   module _ (now : Heap) (b : Bool) (wrote : Wrote c now a) (v : AbstractValue) (x : AbstractState)
-      (x_among : Member {X = Result} (v, x) (strong_delete w l k))
+      (x_among : Member {X = Deletion} (v, x) (strong_delete w l k))
       (x_has : IsTrue (has_value now v (bool_value b)))
       (x_registers : x.register ≡ w.state.register)
       (x_holds : ((y : Spot) → IsTrue (same_key k (key_of p y)) → y ≡ named t) → l.old ≡ false
@@ -171,8 +171,8 @@ module _ (e c : Heap) (w : View) (r : Reads e c w) (good : IsWellFormed w.progra
           value = v;
           state = x;
           among =
-              subst (λ m. Member {X = Result} (v, x) (strong_delete w m s.1)) (sym k_is.label)
-              (subst (λ j. Member {X = Result} (v, x) (strong_delete w l j))
+              subst (λ m. Member {X = Deletion} (v, x) (strong_delete w m s.1)) (sym k_is.label)
+              (subst (λ j. Member {X = Deletion} (v, x) (strong_delete w l j))
               (sym k_is.key_same) x_among);
           has = x_has;
           registers = x_registers;

@@ -43,9 +43,9 @@ use Rattle.ja_abstract.specs.declared.abstraction.Slot.TheVariants as slot
 use Rattle.ja_abstract.specs.AbstractValue.{Labels, AbstractValue, AbstractProperty, of_label, of_labels, of_primitive, no_value}
 use Rattle.ja_abstract.specs.AbstractState.{new, same_key}
 use Rattle.ja_abstract.specs.Contents.{SpotContent, object_content, label_of}
-use Rattle.ja_abstract.specs.Keys.{named, internal, key_of}
+use Rattle.ja_abstract.specs.Keys.{named, internal, key_of, text_key}
 use Rattle.ja_abstract.specs.Parts.{has_primitive, text_has}
-use Rattle.ja_abstract.specs.Made.{own_of, slot_of, property_of, named_key, length_key, whole_constant, error_own, empty_own, wrapper_own, text_own, length_of_text, scope_own, function_own, prototype_own}
+use Rattle.ja_abstract.specs.Made.{own_of, slot_of, property_of, length_key, whole_constant, error_own, empty_own, wrapper_own, text_own, length_of_text, scope_own, function_own, prototype_own}
 use Rattle.ja_abstract.proofs.Labels
 use Rattle.ja_abstract.proofs.Texts
 use Rattle.ja_abstract.proofs.Parts.{of_primitive_has, of_attrs_allows}
@@ -87,9 +87,9 @@ module _ (p : Program) (good : IsWellFormed p) (now : Heap) where
   -- .. whose key is that of its text
   pub text_as : (n : NameId) (t : List ℕ) → slice_get builtin_names n.0 ≡ Some t
       → (v : Value) (u : AbstractValue) (attrs : Attrs) → IsTrue (has_value now u v)
-      → IsMadeAs p now (property_with t v attrs) (property_of (named_key p t) u attrs)
+      → IsMadeAs p now (property_with t v attrs) (property_of (text_key p t) u attrs)
   text_as n t is v u attrs has =
-      named_as n t (named_key p t) (builtin_key p good n t is)
+      named_as n t (text_key p t) (builtin_key p good n t is)
       (builtin_key p good n t is) v u attrs has
 
   -- ---- slots
@@ -119,7 +119,7 @@ module _ (p : Program) (good : IsWellFormed p) (now : Heap) where
   pub past_text : (s : Slot) (t : List ℕ) (q : AbstractProperty)
       (ks : List (Key × AbstractProperty)) (u : SpotContent)
       → IsTrue (knows now (own_of ks (key.Slot s)) u)
-      → IsTrue (knows now (own_of ((named_key p t, q) ∷ ks) (key.Slot s)) u)
+      → IsTrue (knows now (own_of ((text_key p t, q) ∷ ks) (key.Slot s)) u)
   past_text s t q ks u e =
       subst (λ z. IsTrue (knows now z u)) (sym (cond-false
       (same_key (key_of p (named t)) (key.Slot s)) q (own_of ks (key.Slot s)) (not_text t s))) e
@@ -287,7 +287,7 @@ module _ (p : Program) (good : IsWellFormed p) (now : Heap) where
         let n : ℕ = parameters_of p function in
         let ks : List (Key × AbstractProperty) =
         property_of length_key (whole_constant n) ALL_ATTRS ∷ property_of
-        (named_key p (codes "prototype")) (of_label l) DONT_DELETE ∷ [] in
+        (text_key p (codes "prototype")) (of_label l) DONT_DELETE ∷ [] in
         past_slot slot.Prototype _ (slot_of (key.Slot slot.Scope) (of_labels chains) ∷ ks) t
         (object_content o (named t)) (past_slot slot.Scope _ ks t (object_content o (named t))
         (named_made p now o.properties ks (
@@ -315,7 +315,7 @@ module _ (p : Program) (good : IsWellFormed p) (now : Heap) where
         (object_content (prototype_object function) (internal slot.Value)) refl
     prototype_made function l is (named t) =
         let ks : List (Key × AbstractProperty) =
-        property_of (named_key p (codes "constructor")) (of_label l) DONT_ENUM ∷ [] in
+        property_of (text_key p (codes "constructor")) (of_label l) DONT_ENUM ∷ [] in
         past_slot slot.Prototype _ ks t (object_content (prototype_object function) (named t))
         (named_made p now (prototype_object function).properties ks (
           text_as constructor_name (codes "constructor") refl (value.Object function)

@@ -4,9 +4,9 @@ use Rattle.std.specs.Global.{Global}
 use Rattle.std.proofs.Common.{refl}
 use lib.Chars.{codes}
 use Rattle.ja_base.specs.declared.ids.Reg.{Reg}
+use Rattle.ja_graph.specs.declared.attrs.TheConstants.{DONT_ENUM}
 use Rattle.ja_graph.specs.declared.node.Node.{Node}
 use Rattle.ja_graph.specs.declared.node.Node.TheVariants as node
-use Rattle.ja_machine.specs.Objects.{dont_enum}
 use Rattle.ja_abstract.specs.declared.abstraction.TextPart.TheVariants as text_part
 use Rattle.ja_abstract.specs.AbstractValue.{AbstractValue, join, no_value, null_value, absent_value, bare, entry_property, of_label}
 use Rattle.ja_abstract.specs.AbstractState.{AbstractState, with_property}
@@ -79,7 +79,7 @@ module _ (text : String Global) where
   is_enumerable = refl
 
   is_hidden : intrinsic 4 two (of_label object) (one_text (codes "p")) (with_property blank object
-      p_name (with_attrs null_value dont_enum)) ≡ (1, seen false_value) ∷ []
+      p_name (with_attrs null_value DONT_ENUM)) ≡ (1, seen false_value) ∷ []
   is_hidden = refl
 
   inherits : intrinsic 5 two (of_label object) (of_label proto) (with_property blank object

@@ -5,12 +5,12 @@ use Rattle.std.proofs.Common.{refl}
 use Rattle.ja_base.specs.declared.ids.Label.{Label}
 use Rattle.ja_base.specs.declared.ids.Reg.{Reg}
 use Rattle.ja_abstract.specs.declared.abstraction.Key.{Key}
+use Rattle.ja_graph.specs.declared.attrs.TheConstants.{DONT_ENUM, KEPT_HIDDEN}
 use Rattle.ja_graph.specs.declared.builtins.TheConstants as builtins
 use Rattle.ja_graph.specs.declared.node.Node.{Node}
 use Rattle.ja_graph.specs.declared.node.Node.TheVariants as node
 use Rattle.ja_graph.specs.declared.node.Args.TheVariants as args
 use Rattle.ja_graph.specs.declared.node.Hint.TheVariants as hint
-use Rattle.ja_machine.specs.Objects.{dont_enum, kept_hidden}
 use Rattle.ja_abstract.specs.declared.abstraction.NumberPart.TheVariants as number_part
 use Rattle.ja_abstract.specs.AbstractValue.{AbstractValue, AbstractProperty, join, join_properties, no_value, null_value, undefined_value, absent_value, bare, absent_property, entry_property, of_label}
 use Rattle.ja_abstract.specs.AbstractState.{AbstractState, new, exactly_none, exactly_some, join_masks, with_property}
@@ -106,7 +106,7 @@ module _ (text : String Global) where
   abbrev elements : AbstractValue → ℕ → SeenValue
   elements = λ n r. register r (enters text spread (holding 9 (of_label array) (with_property
       (with_property (calling absent_property) array zero_name (plain null_value)) array length_name
-      (with_attrs n kept_hidden))) 1 object)
+      (with_attrs n KEPT_HIDDEN))) 1 object)
 
   element_parameter : elements (number 1) 5 ≡ seen (join undefined_value null_value)
   element_parameter = refl
@@ -188,8 +188,8 @@ module _ (text : String Global) where
   filled = λ n a l k. seen_property (filled_with (view text a) (edge 1 object) n l k)
 
   fills_what_is_there : filled (call one) (with_property (calling absent_property) object p_name
-      (with_attrs null_value dont_enum)) object p_name ≡ seen_property (with_attrs null_value
-      dont_enum)
+      (with_attrs null_value DONT_ENUM)) object p_name ≡ seen_property (with_attrs null_value
+      DONT_ENUM)
   fills_what_is_there = refl
 
   fills_made_prototype : filled construct (constructing (of_label proto)) object prototype

@@ -5,9 +5,9 @@ use Rattle.std.proofs.Common.{refl}
 use lib.Chars.{codes}
 use Rattle.ja_base.specs.declared.ids.Label.{Label}
 use Rattle.ja_abstract.specs.declared.abstraction.Key.{Key}
+use Rattle.ja_graph.specs.declared.attrs.TheConstants.{DONT_ENUM}
 use Rattle.ja_graph.specs.declared.node.Node.{Node}
 use Rattle.ja_graph.specs.declared.node.Node.TheVariants as node
-use Rattle.ja_machine.specs.Objects.{dont_enum}
 use Rattle.ja_abstract.specs.declared.abstraction.Key.TheVariants as key
 use Rattle.ja_abstract.specs.declared.abstraction.TextPart.TheVariants as text_part
 use Rattle.ja_abstract.specs.AbstractValue.{AbstractValue, AbstractProperty, null_value, undefined_value, bare, entry_property, of_label}
@@ -49,7 +49,7 @@ module _ (text : String Global) where
   picks_none : goes_to text pick (of (of_label object) blank) ≡ 2 ∷ []
   picks_none = refl
 
-  hidden_is_not_picked : goes_to text pick (having object p_name (with_attrs null_value dont_enum))
+  hidden_is_not_picked : goes_to text pick (having object p_name (with_attrs null_value DONT_ENUM))
       ≡ 2 ∷ []
   hidden_is_not_picked = refl
 

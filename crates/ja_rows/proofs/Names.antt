@@ -4,10 +4,10 @@ use Rattle.std.specs.Global.{Global}
 use Rattle.std.proofs.Common.{refl}
 use lib.Chars.{codes}
 use Rattle.ja_base.specs.declared.ids.Label.{Label}
+use Rattle.ja_graph.specs.declared.attrs.TheConstants.{ALL_ATTRS, DONT_DELETE, DONT_ENUM}
 use Rattle.ja_graph.specs.declared.builtins.TheConstants as builtins
 use Rattle.ja_graph.specs.declared.node.Node.{Node}
 use Rattle.ja_graph.specs.declared.node.Node.TheVariants as node
-use Rattle.ja_machine.specs.Objects.{dont_enum, dont_delete, all_attrs}
 use Rattle.ja_abstract.specs.declared.abstraction.NumberPart.TheVariants as number_part
 use Rattle.ja_abstract.specs.AbstractValue.{AbstractValue, AbstractProperty, join, join_properties, null_value, undefined_value, row_value, bare, absent_property, entry_property, of_label}
 use Rattle.ja_abstract.specs.AbstractState.{AbstractState, new, with_property}
@@ -135,8 +135,8 @@ module _ (text : String Global) where
   null_writes_global = refl
 
   -- a write replaces the value and keeps the attributes
-  write_is_strong : writes (of_label object) object (with_attrs (number 1) dont_enum)
-      ≡ (1, seen_property (with_attrs (number 2) dont_enum)) ∷ []
+  write_is_strong : writes (of_label object) object (with_attrs (number 1) DONT_ENUM)
+      ≡ (1, seen_property (with_attrs (number 2) DONT_ENUM)) ∷ []
   write_is_strong = refl
 
   write_to_old_is_weak : writes (of_label old_objects) old_objects (plain (number 1))
@@ -159,8 +159,8 @@ module _ (text : String Global) where
       object)) blank)) array p_name ≡ (1, seen_property absent_property) ∷ []
   array_stays = refl
 
-  read_only_stays : writes (of_label object) object (with_attrs (number 1) all_attrs)
-      ≡ (1, seen_property (with_attrs (number 1) all_attrs)) ∷ []
+  read_only_stays : writes (of_label object) object (with_attrs (number 1) ALL_ATTRS)
+      ≡ (1, seen_property (with_attrs (number 1) ALL_ATTRS)) ∷ []
   read_only_stays = refl
 
   write_demands : demands text write (of_base (of_label object) entry_property) (p_name ∷ prototype
@@ -185,11 +185,11 @@ module _ (text : String Global) where
   delete_removes = refl
 
   dont_delete_gives_false : sets text delete (of_base (of_label object) (with_attrs (number 1)
-      dont_delete)) 6 ≡ (1, seen false_value) ∷ []
+      DONT_DELETE)) 6 ≡ (1, seen false_value) ∷ []
   dont_delete_gives_false = refl
 
   dont_delete_stays : leaves text delete (of_base (of_label object) (with_attrs (number 1)
-      dont_delete)) object p_name ≡ (1, seen_property (with_attrs (number 1) dont_delete)) ∷ []
+      DONT_DELETE)) object p_name ≡ (1, seen_property (with_attrs (number 1) DONT_DELETE)) ∷ []
   dont_delete_stays = refl
 
   -- own readings alone

@@ -3,13 +3,13 @@ use Rattle.std.specs.Prelude.{◌≡◌, [], ◌∷◌, String}
 use Rattle.std.specs.Global.{Global}
 use Rattle.std.proofs.Common.{refl}
 use lib.Chars.{codes}
+use Rattle.ja_graph.specs.declared.attrs.TheConstants.{ALL_ATTRS, DONT_DELETE, DONT_ENUM, KEPT_HIDDEN}
 use Rattle.ja_graph.specs.declared.node.Made.{Made}
 use Rattle.ja_graph.specs.declared.builtins.TheConstants as builtins
 use Rattle.ja_graph.specs.declared.node.Node.{Node}
 use Rattle.ja_graph.specs.declared.node.Node.TheVariants as node
 use Rattle.ja_graph.specs.declared.node.Made.TheVariants as made
 use Rattle.ja_graph.specs.declared.node.ErrorKind.TheVariants as error_kind
-use Rattle.ja_machine.specs.Objects.{dont_enum, dont_delete, kept_hidden, all_attrs}
 use Rattle.ja_abstract.specs.declared.abstraction.NumberPart.TheVariants as number_part
 use Rattle.ja_abstract.specs.declared.abstraction.TextPart.TheVariants as text_part
 use Rattle.ja_abstract.specs.AbstractValue.{AbstractValue, join, null_value, undefined_value, bare, absent_property, entry_property, of_label}
@@ -52,14 +52,14 @@ module _ (text : String Global) where
   wraps_text = refl
 
   length_of_text : leaves text to_object (of (one_text (codes "ab"))) arguments_object length_name
-      ≡ (1, seen_property (with_attrs (number 2) all_attrs)) ∷ []
+      ≡ (1, seen_property (with_attrs (number 2) ALL_ATTRS)) ∷ []
   length_of_text = refl
 
   length_of_text_class : leaves text to_object (of (of_text_part text_part.OtherText))
       arguments_object length_name ≡ (
         1,
         seen_property (with_attrs (of_number_part
-            number_part.Index) all_attrs),
+            number_part.Index) ALL_ATTRS),
       ) ∷ []
   length_of_text_class = refl
 
@@ -130,7 +130,7 @@ module _ (text : String Global) where
   made_error_inherits = refl
 
   made_array_length : leaves text (make made.Array) blank object length_name
-      ≡ (1, seen_property (with_attrs (number 0) kept_hidden)) ∷ []
+      ≡ (1, seen_property (with_attrs (number 0) KEPT_HIDDEN)) ∷ []
   made_array_length = refl
 
   made_is_counted : seen_in (λ a. a.mask object_site.0 ∷ a.mask array_site.0 ∷ []) (gives text (make
@@ -158,11 +158,11 @@ module _ (text : String Global) where
   function_scope = refl
 
   function_length : leaves text function in_scope function_object length_name
-      ≡ (1, seen_property (with_attrs (number 2) all_attrs)) ∷ []
+      ≡ (1, seen_property (with_attrs (number 2) ALL_ATTRS)) ∷ []
   function_length = refl
 
   function_prototype : leaves text function in_scope function_object prototype_name
-      ≡ (1, seen_property (with_attrs (of_label proto) dont_delete)) ∷ []
+      ≡ (1, seen_property (with_attrs (of_label proto) DONT_DELETE)) ∷ []
   function_prototype = refl
 
   function_inherits : leaves text function in_scope function_object prototype
@@ -170,7 +170,7 @@ module _ (text : String Global) where
   function_inherits = refl
 
   prototype_constructor : leaves text function in_scope proto (name_key 105)
-      ≡ (1, seen_property (with_attrs (of_label function_object) dont_enum)) ∷ []
+      ≡ (1, seen_property (with_attrs (of_label function_object) DONT_ENUM)) ∷ []
   prototype_constructor = refl
 
   function_is_renamed : sets text function (holding 7 (join (of_label function_object) (of_label

@@ -6,11 +6,10 @@ use lib.Chars.{codes}
 use Rattle.ja_base.specs.declared.ids.Label.{Label}
 use Rattle.ja_abstract.specs.declared.abstraction.Key.{Key}
 use Rattle.std.specs.Fmt.{digits as decimal_digits}
+use Rattle.ja_graph.specs.declared.attrs.TheConstants.{DONT_DELETE, DONT_ENUM, KEPT_HIDDEN, NO_ATTRS}
 use Rattle.ja_graph.specs.declared.builtins.TheConstants as builtins
 use Rattle.ja_graph.specs.declared.node.Node.{Node}
 use Rattle.ja_graph.specs.declared.node.Node.TheVariants as node
-use Rattle.ja_machine.specs.Heap.{no_attrs}
-use Rattle.ja_machine.specs.Objects.{dont_enum, dont_delete, kept_hidden}
 use Rattle.ja_abstract.specs.declared.abstraction.NumberPart.TheVariants as number_part
 use Rattle.ja_abstract.specs.declared.abstraction.TextPart.TheVariants as text_part
 use Rattle.ja_abstract.specs.AbstractValue.{AbstractValue, AbstractProperty, join, null_value, undefined_value, row_value, absent_value, bare, no_property, absent_property, entry_property, of_label, of_attrs}
@@ -87,8 +86,8 @@ module _ (text : String Global) where
       (ℕ × SeenProperty)
   writes = λ o k v a l j. leaves text write (holding 9 v (keyed o k a)) l j
 
-  write_is_strong : writes (of_label object) p (number 2) (of_p (with_attrs (number 1) dont_enum))
-      object p_name ≡ (1, seen_property (with_attrs (number 2) dont_enum)) ∷ []
+  write_is_strong : writes (of_label object) p (number 2) (of_p (with_attrs (number 1) DONT_ENUM))
+      object p_name ≡ (1, seen_property (with_attrs (number 2) DONT_ENUM)) ∷ []
   write_is_strong = refl
 
   write_leaves_others : writes (of_label object) p (number 2) (with_property blank object q_name
@@ -107,7 +106,7 @@ module _ (text : String Global) where
   length = one_text (codes "length")
 
   abbrev of_length : AbstractValue → AbstractState
-  of_length = λ v. with_property blank array length_name (with_attrs v kept_hidden)
+  of_length = λ v. with_property blank array length_name (with_attrs v KEPT_HIDDEN)
 
   wrong_length_throws : sets text write (holding 9 nan_value (keyed (of_label array) length
       (of_length (number 0)))) 0 ≡ (3, seen (of_label error)) ∷ []
@@ -157,14 +156,14 @@ module _ (text : String Global) where
         seen_property (record {
           value
               = join absent_value (number 1);
-          attrs = of_attrs no_attrs;
+          attrs = of_attrs NO_ATTRS;
         }),
       ) ∷ []
   weak_delete_joins = refl
 
   -- one may be kept, the other is missing
   weak_delete_gives : sets text delete (keyed (join (of_label object) (of_label array)) p (of_p
-      (with_attrs (number 1) dont_delete))) 6 ≡ (1, seen (of_bools true true)) ∷ []
+      (with_attrs (number 1) DONT_DELETE))) 6 ≡ (1, seen (of_bools true true)) ∷ []
   weak_delete_gives = refl
 
   delete_of_no_part : goes_to text delete (keyed (of_label object) p (of_p no_property)) ≡ []

@@ -2,10 +2,10 @@
 use Rattle.std.specs.Prelude.{◌≡◌, Bool, true, false, [], ◌∷◌, Some, None, String}
 use Rattle.std.specs.Global.{Global}
 use Rattle.std.proofs.Common.{refl}
+use Rattle.ja_graph.specs.declared.attrs.TheConstants.{DONT_DELETE, DONT_ENUM}
 use Rattle.ja_graph.specs.declared.builtins.TheConstants as builtins
 use Rattle.ja_graph.specs.declared.node.Node.{Node}
 use Rattle.ja_graph.specs.declared.node.Node.TheVariants as node
-use Rattle.ja_machine.specs.Objects.{dont_enum, dont_delete}
 use Rattle.ja_abstract.specs.declared.abstraction.Key.TheVariants as key
 use Rattle.ja_abstract.specs.AbstractValue.{AbstractValue, AbstractProperty, join, join_properties, no_value, null_value, undefined_value, bare, no_property, absent_property, entry_property, of_label}
 use Rattle.ja_abstract.specs.AbstractState.{AbstractState, new, old, name_key, exactly_some, with_property}
@@ -38,27 +38,27 @@ module _ (text : String Global) where
   no_prototype = refl
 
   first_parameter : leaves text enter (entered (number 1)) activation p_name
-      ≡ (1, seen_property (with_attrs (number 5) dont_delete)) ∷ []
+      ≡ (1, seen_property (with_attrs (number 5) DONT_DELETE)) ∷ []
   first_parameter = refl
 
   second_parameter : leaves text enter (entered (number 1)) activation q_name
-      ≡ (1, seen_property (with_attrs null_value dont_delete)) ∷ []
+      ≡ (1, seen_property (with_attrs null_value DONT_DELETE)) ∷ []
   second_parameter = refl
 
   arguments_bound : leaves text enter (entered (number 1)) activation (name_key 103)
-      ≡ (1, seen_property (with_attrs (of_label arguments_object) dont_delete)) ∷ []
+      ≡ (1, seen_property (with_attrs (of_label arguments_object) DONT_DELETE)) ∷ []
   arguments_bound = refl
 
   arguments_callee : leaves text enter (entered (number 1)) arguments_object (name_key 102)
-      ≡ (1, seen_property (with_attrs (of_label function_object) dont_enum)) ∷ []
+      ≡ (1, seen_property (with_attrs (of_label function_object) DONT_ENUM)) ∷ []
   arguments_callee = refl
 
   arguments_length : leaves text enter (entered (number 1)) arguments_object length_name
-      ≡ (1, seen_property (with_attrs (number 1) dont_enum)) ∷ []
+      ≡ (1, seen_property (with_attrs (number 1) DONT_ENUM)) ∷ []
   arguments_length = refl
 
   argument_there : leaves text enter (entered (number 1)) arguments_object zero_name
-      ≡ (1, seen_property (with_attrs (number 5) dont_enum)) ∷ []
+      ≡ (1, seen_property (with_attrs (number 5) DONT_ENUM)) ∷ []
   argument_there = refl
 
   argument_not_there : leaves text enter (entered (number 0)) arguments_object zero_name
@@ -71,18 +71,18 @@ module _ (text : String Global) where
   argument_past_count = refl
 
   argument_of_rest : leaves text enter (entered (number 6)) arguments_object five_name
-      ≡ (1, seen_property (with_attrs true_value dont_enum)) ∷ []
+      ≡ (1, seen_property (with_attrs true_value DONT_ENUM)) ∷ []
   argument_of_rest = refl
 
   argument_of_class : leaves text enter (entered whole_value) arguments_object five_name
-      ≡ (1, seen_property (join_properties (with_attrs true_value dont_enum) absent_property)) ∷ []
+      ≡ (1, seen_property (join_properties (with_attrs true_value DONT_ENUM) absent_property)) ∷ []
   argument_of_class = refl
 
   other_arguments : leaves text enter (entered (number 6)) arguments_object key.OtherIndex
       ≡ (
         1,
         seen_property (join_properties (with_attrs (join (number 5) (join null_value
-            true_value)) dont_enum) absent_property),
+            true_value)) DONT_ENUM) absent_property),
       ) ∷ []
   other_arguments = refl
 
@@ -106,7 +106,7 @@ module _ (text : String Global) where
   scoped = λ v q. with_property (holding 2 v blank) activation p_name q
 
   declares : leaves text declare (scoped (of_label activation) absent_property) activation p_name
-      ≡ (1, seen_property (with_attrs undefined_value dont_delete)) ∷ []
+      ≡ (1, seen_property (with_attrs undefined_value DONT_DELETE)) ∷ []
   declares = refl
 
   declared_before : leaves text declare (scoped (of_label activation) (plain (number 1))) activation
@@ -118,7 +118,7 @@ module _ (text : String Global) where
         1,
         seen_property (join_properties (plain (number
             1)) absent_property),
-      ) ∷ (1, seen_property (with_attrs undefined_value dont_delete)) ∷ []
+      ) ∷ (1, seen_property (with_attrs undefined_value DONT_DELETE)) ∷ []
   declared_maybe = refl
 
   declared_nowhere : goes_to text declare (scoped (of_label activation) no_property) ≡ []
@@ -137,18 +137,18 @@ module _ (text : String Global) where
   bound = λ v. holding 7 (number 2) (scoped v (plain (number 1)))
 
   binds : leaves text (bind false) (bound (of_label activation)) activation p_name
-      ≡ (1, seen_property (with_attrs (number 2) dont_delete)) ∷ []
+      ≡ (1, seen_property (with_attrs (number 2) DONT_DELETE)) ∷ []
   binds = refl
 
   binds_read_only : leaves text (bind true) (bound (of_label activation)) activation p_name
-      ≡ (1, seen_property (with_attrs (number 2) (record dont_delete { read_only = true }))) ∷ []
+      ≡ (1, seen_property (with_attrs (number 2) (record DONT_DELETE { read_only = true }))) ∷ []
   binds_read_only = refl
 
   binds_weakly : leaves text (bind false) (bound (join (of_label activation) (of_label object)))
       activation p_name ≡ (
         1,
         seen_property (join_properties (plain (number 1)) (with_attrs (number
-            2) dont_delete)),
+            2) DONT_DELETE)),
       ) ∷ []
   binds_weakly = refl
 

@@ -195,11 +195,14 @@ demands_of_fill w e n callee m j =
     demands_of_calling w n e.callee.function.0 m j
     || some_label w (λ l. is_some (callee l j) && demands_of c.state l j m j)
 
+-- ---- give back
+
 -- what a construction gives: an object of its function's value, and its receiver in the place of
 -- anything else
 abbrev pub constructed : AbstractValue → AbstractValue → AbstractValue
 constructed receiver v = join (value_if (has_atoms v) receiver) (of_labels v.label)
 
+-- where the caller goes on, with what was returned
 abbrev pub returned : View → AbstractState → NodeInfo → Node → AbstractValue → AbstractValue → Given
 returned w a i (node.Call dst callee receiver list error) this v = sets_in w a dst v i.next
 returned w a i (node.New dst callee list site error) this v =

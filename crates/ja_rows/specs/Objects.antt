@@ -13,7 +13,7 @@ use Rattle.ja_machine.specs.Frames.{scope}
 use Rattle.ja_abstract.specs.AbstractValue.{AbstractValue, no_value, no_flags, of_label, of_labels, has_text}
 use Rattle.ja_abstract.specs.AbstractState.{AbstractState, new, with_register}
 use Rattle.ja_abstract.specs.Primitives.{of_bools}
-use Rattle.ja_abstract.specs.Reading.{View, has_present, no_demands, own}
+use Rattle.ja_abstract.specs.Reading.{View, has_present, no_demands}
 use Rattle.ja_abstract.specs.Made.{empty_own, wrapper_own, text_own, function_own, prototype_own, with_objects}
 use Rattle.ja_abstract.specs.Values.{has_atoms, has_labels, is_nothing}
 use Rattle.ja_rows.specs.Out.{Out, Given, out, goes, sets, type_error, makes, makes_if, at}
@@ -49,7 +49,7 @@ transfer_need_object w i src error =
     let refused = type_error w (has_atoms v) i error not_an_object_message in
     out (goes (has_labels w v) i.next w.state ++ refused) no_demands
 
--- an empty object (11.1.4, 11.1.5)
+-- an empty object, array or error (11.1.4, 11.1.5, 15.11)
 abbrev pub transfer_new_object : View → NodeInfo → Reg → Site → Made → Out
 transfer_new_object w i dst site kind =
     out (goes true i.next (makes w dst site (λ a. empty_own kind))) no_demands

@@ -8,7 +8,6 @@ use Rattle.ja_base.specs.declared.ids.Reg.{Reg}
 use Rattle.ja_base.specs.declared.ids.Site.{Site}
 use Rattle.ja_prim.specs.Texts.{is_short}
 use Rattle.ja_graph.specs.declared.builtins.TheConstants as builtins
-use Rattle.ja_graph.specs.declared.node.Node.TheVariants as node
 use Rattle.ja_graph.specs.declared.node.NodeInfo.{NodeInfo}
 use Rattle.ja_machine.specs.Frames.{thrown}
 use Rattle.ja_abstract.specs.declared.abstraction.Key.{Key}
@@ -19,7 +18,7 @@ use Rattle.ja_abstract.specs.Resolved.{Demands}
 use Rattle.ja_abstract.specs.Keys.{keys_of_value}
 use Rattle.ja_abstract.specs.Reading.{View, has_present, no_demands, own, get}
 use Rattle.ja_abstract.specs.Made.{Own, error_own, with_object}
-use Rattle.ja_abstract.specs.Writes.{Result}
+use Rattle.ja_abstract.specs.Writes.{Deletion}
 use Rattle.ja_abstract.specs.Values.{as_read}
 use Rattle.ja_rows.specs.declared.table.Edge.{Edge}
 
@@ -60,7 +59,7 @@ sets_in w a dst v next = goes (has_present w v) next (with_register a dst v)
 abbrev pub sets : View → Reg → AbstractValue → NodeId → Given
 sets w dst v next = sets_in w w.state dst v next
 
-abbrev pub sets_results : View → Reg → NodeId → List Result → Given
+abbrev pub sets_results : View → Reg → NodeId → List Deletion → Given
 sets_results w dst next [] = []
 sets_results w dst next (r ∷ rs) = sets_in w r.1 dst r.0 next ++ sets_results w dst next rs
 

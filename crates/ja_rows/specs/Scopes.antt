@@ -11,7 +11,7 @@ use Rattle.ja_machine.specs.Nodes.{bound_attrs}
 use Rattle.ja_abstract.specs.declared.abstraction.Key.TheVariants as key
 use Rattle.ja_abstract.specs.AbstractValue.{AbstractProperty, of_label, undefined_value, of_attrs}
 use Rattle.ja_abstract.specs.AbstractState.{AbstractState, new, with_register}
-use Rattle.ja_abstract.specs.Reading.{View, some_label, has_present, no_demands, own}
+use Rattle.ja_abstract.specs.Reading.{View, some_label, has_present, no_demands}
 use Rattle.ja_abstract.specs.Made.{count_register, scope_own, activation_own, arguments_own, with_object, with_objects}
 use Rattle.ja_abstract.specs.Writes.{has_some_part, own_at, defined, declared, is_missing, demands_of_delete}
 use Rattle.ja_abstract.specs.Values.{has_labels}

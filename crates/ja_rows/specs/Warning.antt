@@ -37,6 +37,7 @@ pub record Test : Type 0 where
   pub fault : View → Bool
   pub more : View → Bool
 
+-- some object runs a function
 abbrev pub some_entry : View → (Label → Option FnId) → AbstractValue → Bool
 some_entry w entry v = some_label w (λ l. v.label l && is_some (entry l))
 

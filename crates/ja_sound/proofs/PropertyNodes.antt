@@ -56,7 +56,7 @@ use Rattle.ja_abstract.specs.Made.{error_own, rest_register}
 use Rattle.ja_abstract.specs.Primitives.{of_bools}
 use Rattle.ja_abstract.specs.Reading.{View, get, demands_of_get, found, has_present, may_have, may_lack}
 use Rattle.ja_abstract.specs.Values.{as_read, value_if}
-use Rattle.ja_abstract.specs.Writes.{put_states, put_may_throw, demands_of_puts, or_global, delete_states, demands_of_delete, Result}
+use Rattle.ja_abstract.specs.Writes.{put_states, put_may_throw, demands_of_puts, or_global, delete_states, demands_of_delete, Deletion}
 use Rattle.ja_abstract.proofs.Labels.{same_label_from}
 use Rattle.ja_abstract.proofs.Lists.{Member, member-append_left, member-append_right, member-map}
 use Rattle.ja_meaning.specs.Meaning.{has_value, knows, IsOfHeap, HoldsOfFrame, HoldsOfHeap}
@@ -84,11 +84,11 @@ use Rattle.ja_sound.proofs.Steps as steps
 use Rattle.ja_sound.proofs.Steps.{member-goes}
 
 member-results : (w : View) (dst : Reg) (n : NodeId) (v : AbstractValue) (a : AbstractState)
-    (rs : List Result) → Member {X = Result} (v, a) rs → IsTrue (has_present w v)
+    (rs : List Deletion) → Member {X = Deletion} (v, a) rs → IsTrue (has_present w v)
     → Member {X = ℕ × AbstractState} (n.0, with_register a dst v) (sets_results w dst n rs)
 member-results w dst n v a [] m e = elim m [ ]
 member-results w dst n v a (r ∷ rs) (inl is) e =
-    subst (λ (z : Result). Member {X = ℕ × AbstractState} (n.0, with_register a dst v)
+    subst (λ (z : Deletion). Member {X = ℕ × AbstractState} (n.0, with_register a dst v)
     (sets_in w z.1 dst z.0 n ++ sets_results w dst n rs)) (sym is)
     (member-append_left _ (sets_in w a dst v n) _ (member-sets w a dst v n e))
 member-results w dst n v a (r ∷ rs) (inr m) e =

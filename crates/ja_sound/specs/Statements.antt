@@ -16,7 +16,7 @@ use Rattle.ja_abstract.specs.Resolved.{demands_of, IsFilled}
 use Rattle.ja_abstract.specs.Keys.{Spot, key_of}
 use Rattle.ja_abstract.specs.Contents.{content, label_of}
 use Rattle.ja_abstract.specs.Reading.{View}
-use Rattle.ja_abstract.proofs.Lists.{Member}
+use Rattle.ja_abstract.specs.Lists.{Member}
 use Rattle.ja_meaning.specs.Meaning.{knows, EntriesHold, context_of, Grows, Holds}
 use Rattle.ja_rows.specs.declared.table.Edge.{Edge}
 use Rattle.ja_rows.specs.Out.{Point, Given}
