@@ -1,16 +1,14 @@
 -- What puts and deletions leave, computed.
-use Rattle.std.specs.Prelude.{◌≡◌, ℕ, pos, true, false, Bool, List, [], ◌∷◌, map, String}
+use Rattle.std.specs.Prelude.{◌≡◌, true, false, Bool, List, [], ◌∷◌, map, String}
 use Rattle.std.specs.Global.{Global}
-use Rattle.std.specs.Fmt.{digits as decimal_digits}
 use Rattle.std.proofs.Common.{refl}
 use Rattle.ja_base.specs.declared.ids.Label.{Label}
-use Rattle.ja_machine.specs.Heap.{no_attrs}
 use Rattle.ja_machine.specs.Objects.{dont_enum, dont_delete, kept_hidden, all_attrs}
 use Rattle.ja_abstract.specs.declared.abstraction.Key.{Key}
 use Rattle.ja_abstract.specs.declared.abstraction.Key.TheVariants as key
 use Rattle.ja_abstract.specs.declared.abstraction.NumberPart.TheVariants as number_part
-use Rattle.ja_abstract.specs.AbstractValue.{Labels, AbstractValue, AbstractProperty, join, join_properties, no_property, null_value, bare, absent_property, entry_property, of_label}
-use Rattle.ja_abstract.specs.AbstractState.{AbstractState, new, old, site_of, with_property}
+use Rattle.ja_abstract.specs.AbstractValue.{Labels, AbstractValue, AbstractProperty, join, join_properties, no_property, null_value, bare, absent_property, of_label}
+use Rattle.ja_abstract.specs.AbstractState.{AbstractState, old, with_property}
 use Rattle.ja_abstract.specs.Primitives.{of_bools, of_number_part, whole_value, nan_value}
 use Rattle.ja_abstract.specs.Reading.{one_label}
 use Rattle.ja_abstract.specs.Resolved.{prototype}
