@@ -1,6 +1,6 @@
 -- The laws of `specs/Laws.antt`: what writes, reads, objects that are made, keys and returns say in
 -- other words.
-use Rattle.std.specs.Prelude.{◌≡◌, ◌≢◌, ◌⊎◌, ◌↔◌, ◌<◌, ◌&&◌, ◌||◌, ◌==◌, ℕ, zero, suc, Bool, true, false, nat_eq, if◌then◌else◌, IsTrue, List, [], ◌∷◌, map, filter, length, Option, Some, None}
+use Rattle.std.specs.Prelude.{◌≡◌, ◌≢◌, ◌⊎◌, ◌↔◌, ◌<◌, ◌&&◌, ◌||◌, ◌==◌, ℕ, zero, suc, Bool, true, false, nat_eq, if◌then◌else◌, IsTrue, List, [], ◌∷◌, ◌++◌, map, filter, length, Option, Some, None}
 use Rattle.std.specs.List.{list_any, range_with_len}
 use Rattle.std.specs.Option.{option_map, option_map_or, option_and_then}
 use Rattle.std.proofs.Common.{refl, sym, subst, ap, ◌∙◌, arith, inl, inr}
@@ -22,13 +22,13 @@ use Rattle.ja_abstract.specs.Primitives.{of_text_part}
 use Rattle.ja_abstract.specs.AbstractValue.{Labels, AbstractValue, AbstractProperty, same_label, join_properties, no_property, absent_property, entry_property, of_primitive}
 use Rattle.ja_abstract.specs.AbstractState.{AbstractState, new, old, labels_of, keys_of, is_key, same_key, exactly_none, exactly_some, aged, aged_property, made_property, with_made, name_key}
 use Rattle.ja_abstract.specs.Composed.{composed, composed_mask, all_of}
-use Rattle.ja_abstract.specs.Keys.{has_key, is_among_keys, is_text_key, keys_of_value, text_key}
-use Rattle.ja_abstract.specs.Laws.{ChangesNothing, HasNone, IsAged, IsMade, IsOfOneObject, IsSameAtKeys, IsTarget, IsThere, Keep, Replaces}
-use Rattle.ja_abstract.specs.Made.{Own, at_keys_of, own_of, with_object}
+use Rattle.ja_abstract.specs.Keys.{is_index_key, has_key, is_among_keys, is_text_key, keys_of_value, text_key}
+use Rattle.ja_abstract.specs.Laws.{ChangesNothing, HasNone, IsAged, IsMade, IsOfOneObject, IsPlainPut, IsSameAtKeys, IsTarget, IsThere, Keep, PutInto, Replaces}
+use Rattle.ja_abstract.specs.Made.{length_key, Own, at_keys_of, own_of, with_object}
 use Rattle.ja_abstract.specs.Order.{LeqProperty, LeqState}
-use Rattle.ja_abstract.specs.Reading.{View, has_present, get, get_present, get_absent, own, one_label, present_property, prototype_walk, next_prototype, ends_at, may_be_absent}
+use Rattle.ja_abstract.specs.Reading.{View, may_accept, may_refuse, has_present, get, get_present, get_absent, own, one_label, present_property, prototype_walk, next_prototype, ends_at, may_be_absent}
 use Rattle.ja_abstract.specs.Resolved.{Entries, join_all, resolved, renamed_labels, renamed, known_part, from_entry, origins, rounds, one_more, reached}
-use Rattle.ja_abstract.specs.Writes.{Write, sets_at, joined_at, replaced_at, strong_update, weak_update, new_alone, one_target, one_name, strong_at, put_list, put_states, weak_put, defined}
+use Rattle.ja_abstract.specs.Writes.{Write, sets_at, joined_at, replaced_at, strong_update, weak_update, new_alone, one_target, one_name, strong_at, put_list, put_states, weak_put, defined, accepted_writes, asked_at, element_writes, if_there, length_writes, put_property, put_writes, strong_put}
 use Rattle.ja_abstract.proofs.Among.{among-filter, among-append_left, among-append_right, among-names, text_among}
 use Rattle.ja_abstract.proofs.Keys.{same_key-true, same_key-self, same_key_from, key_of-name, text_of_key, no_slot_of_text}
 use Rattle.ja_abstract.proofs.Labels.{same_label-true, same_label-self, other_site, some_among}
@@ -136,6 +136,27 @@ read_behind a entries l k q known =
     cond-false (b.property l k).value.flags.entry _ (b.property l k)
     (ap (λ (r : AbstractProperty). r.value.flags.entry) is ∙ known) ∙ is
 
+-- a put to what is no array is one write
+pub puts_replace : (w : View) (target : Labels) (keys : List Key) (v : AbstractValue) (l : Label)
+    (k : Key) → strong_at w target keys ≡ Some (l, k) → IsPlainPut w l k
+    → PutInto w l k v (put_states w target keys v)
+puts_replace w target keys v l k e put =
+    let q = put_property w l k v in
+    let write = sets_at k q ∷ [] in
+    let goes_in : put_writes w l k v ≡ Some write =
+    ap (λ b. if b && same_key k length_key then length_writes w l v else if b
+    && is_index_key w.program k then element_writes w l k v else Some write) put.no_array in
+    subst (λ o. PutInto w l k v (option_map_or
+    (λ (at : Label × Key). strong_put w at.0 at.1 v) o (weak_put w target keys v))) (sym e)
+    (subst (λ b. PutInto w l k v (if_there b w.state ++ option_map_or
+    (λ writes. strong_update w.state l writes ∷ []) (accepted_writes w l k v) []))
+    (sym put.not_refused)
+    (cond_both (may_accept (asked_at w l k)) (put_writes w l k v) None
+    (λ o. PutInto w l k v (option_map_or (λ writes. strong_update w.state l writes ∷ []) o []))
+    (λ _. subst (λ o. PutInto w l k v (option_map_or
+    (λ writes. strong_update w.state l writes ∷ []) o [])) (sym goes_in)
+    (replaces w.state l k q, tt)) (λ _. tt)))
+
 -- ---- weak writes
 
 joined_keeps : (xs : List Write) (q : AbstractProperty) (k : Key)
@@ -162,7 +183,7 @@ pub puts_keep : (w : View) (target : Labels) (keys : List Key) (v : AbstractValu
     → strong_at w target keys ≡ None → Keep w.state (put_states w target keys v)
 puts_keep w target keys v e =
     subst (λ o. Keep w.state (option_map_or
-    (λ (at : Label × Key). Rattle.ja_abstract.specs.Writes.strong_put w at.0 at.1 v) o
+    (λ (at : Label × Key). strong_put w at.0 at.1 v) o
     (weak_put w target keys v))) (sym e) (cond_both _
     (weak_update w.state target (put_list w keys v) ∷ []) [] (Keep w.state)
     (λ _. (weak_keeps w.state target (put_list w keys v), tt)) (λ _. tt))

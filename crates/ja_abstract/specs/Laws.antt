@@ -11,7 +11,8 @@ use Rattle.ja_abstract.specs.declared.abstraction.Key.TheVariants as key
 use Rattle.ja_abstract.specs.AbstractValue.{Labels, AbstractValue, AbstractProperty, same_label, entry_property}
 use Rattle.ja_abstract.specs.AbstractState.{AbstractState, new, old, labels_of, is_key, same_key, exactly_none, exactly_some}
 use Rattle.ja_abstract.specs.Order.{LeqValue, LeqProperty, LeqState}
-use Rattle.ja_abstract.specs.Reading.{View, has_present}
+use Rattle.ja_abstract.specs.Reading.{View, has_present, may_refuse}
+use Rattle.ja_abstract.specs.Writes.{asked_at, is_array_label, put_property}
 
 -- ---- joins: the least that is above two
 
@@ -54,6 +55,16 @@ pub record Replaces (before after : AbstractState) (l : Label) (k : Key) (q : Ab
       → after.property m j ≡ before.property m j
   pub registers : after.register ≡ before.register
   pub masks : after.mask ≡ before.mask
+
+-- a put that isn't refused, and whose property is no length or element of an array
+pub record IsPlainPut (w : View) (l : Label) (k : Key) : Type 0 where
+  pub no_array : is_array_label w.program l ≡ false
+  pub not_refused : may_refuse (asked_at w l k) ≡ false
+
+-- each of some states has the value there, and all else as it was
+abbrev pub PutInto : View → Label → Key → AbstractValue → List AbstractState → Type 0
+PutInto w l k v after =
+    AllByRecursion (λ b. Replaces w.state b l k (put_property w l k v)) after
 
 -- each of some states has all that was there
 abbrev pub Keep : AbstractState → List AbstractState → Type 0

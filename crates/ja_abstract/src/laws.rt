@@ -18,8 +18,8 @@ ghost use Rattle.ja_abstract.specs.AbstractValue.{of_primitive};
 ghost use Rattle.ja_abstract.specs.Composed.{composed, composed_mask};
 ghost use Rattle.ja_abstract.specs.Keys.{is_among_keys, is_text_key, keys_of_value, text_key};
 ghost use Rattle.ja_abstract.specs.Laws.{ChangesNothing, HasNone, IsLeastProperty, IsLeastState};
-ghost use Rattle.ja_abstract.specs.Laws.{IsLeastValue, IsMade, IsOfOneObject, IsSameAtKeys};
-ghost use Rattle.ja_abstract.specs.Laws.{IsTarget, IsThere, Keep, Replaces};
+ghost use Rattle.ja_abstract.specs.Laws.{IsLeastValue, IsMade, IsOfOneObject, IsSameAtKeys, Replaces};
+ghost use Rattle.ja_abstract.specs.Laws.{IsPlainPut, IsTarget, IsThere, Keep, PutInto};
 ghost use Rattle.ja_abstract.specs.Made.{Own, own_of, with_object};
 ghost use Rattle.ja_abstract.specs.Primitives.{of_text_part};
 ghost use Rattle.ja_abstract.specs.Reading.{View, get, one_label};
@@ -43,7 +43,8 @@ pub fn joins_have_no_order()
 {}
 
 /// A write is strong where its target is one object and its key one name. It replaces the property
-/// at that label and key, so that a reading behind it is what was written, and leaves all else.
+/// at that label and key, so that a reading behind it is what was written, and leaves all else; so
+/// does a strong put to what is no array, where it isn't refused.
 pub fn strong_writes_replace()
     ensures one_object { (w : View) (target : Labels) (keys : List Key) (l : Label) (k : Key)
         → strong_at w target keys ≡ Some (l, k) → IsOfOneObject w target keys l k }
@@ -52,6 +53,9 @@ pub fn strong_writes_replace()
     ensures read { (a : AbstractState) (entries : Entries) (l : Label) (k : Key)
         (q : AbstractProperty) → q.value.flags.entry ≡ false
         → resolved (strong_update a l (sets_at k q ∷ [])) entries l k ≡ q }
+    ensures puts { (w : View) (target : Labels) (keys : List Key) (v : AbstractValue) (l : Label)
+        (k : Key) → strong_at w target keys ≡ Some (l, k) → IsPlainPut w l k
+        → PutInto w l k v (put_states w target keys v) }
 {}
 
 /// A put that isn't strong keeps each part that was there, and so does a definition whose target
