@@ -5,6 +5,7 @@ use Rattle.std.proofs.Common.{refl}
 use lib.Chars.{codes}
 use Rattle.ja_base.specs.declared.ids.Label.{Label}
 use Rattle.ja_abstract.specs.declared.abstraction.Key.{Key}
+use Rattle.ja_abstract.specs.declared.abstraction.Key.TheVariants as key
 use Rattle.std.specs.Fmt.{digits as decimal_digits}
 use Rattle.ja_graph.specs.declared.builtins.TheConstants as builtins
 use Rattle.ja_graph.specs.declared.node.Node.{Node}
@@ -51,10 +52,11 @@ module _ (text : String Global) where
       (bare (of_label proto))) proto p_name (plain null_value))) 6 ≡ (1, seen (number 2)) ∷ []
   prototype_is_hidden = refl
 
-  -- the names that are indices, and no others
+  -- the names that are indices and the rest of them, and no others
   reads_index_keys : sets text read (keyed (of_label object) (of_text_part text_part.IndexText)
-      (with_property (of_p (plain (number 1))) object zero_name (plain null_value))) 6
-      ≡ (1, seen (join undefined_value null_value)) ∷ []
+      (with_property (with_property (of_p (plain (number 1))) object zero_name (plain null_value))
+      object key.OtherIndex (plain true_value))) 6
+      ≡ (1, seen (join undefined_value (join null_value true_value))) ∷ []
   reads_index_keys = refl
 
   reads_number_as_text : sets text read (keyed (of_label object) (number 5)
