@@ -462,6 +462,30 @@ module _ (p : Program) (a b : AbstractState) (none : ChangesNothing b) where
     mask = λ t. mask_is (a.mask t) (b.mask t) (none.mask t);
   }
 
+-- what is known of a property is in it
+known_below : (q : AbstractProperty) → LeqProperty (known_part q) q
+known_below q = record {
+  value =
+      record {
+        flags = λ i. record ((value_same q.value).flags i) { entry = q.value.flags.entry };
+        number = λ n h. h;
+        text = λ t h. h;
+        label = λ l h. h;
+      };
+  attrs = (property_same q).attrs;
+}
+
+pub known_stays : (p : Program) (a b : AbstractState) (l : Label) (k : Key) → IsTrue (is_key p k)
+    → LeqProperty (known_part (b.property l k)) ((composed p a b).property l k)
+known_stays p a b l k of_program =
+    let q = b.property l k in
+    let before = from_entry b (all_of a) l k in
+    subst (LeqProperty (known_part q))
+    (sym (cond-true (is_key p k) (resolved b (all_of a) l k) entry_property of_program))
+    (cond_both q.value.flags.entry (join_properties (known_part q) before) q
+    (LeqProperty (known_part q)) (λ _. property-join (known_part q) before)
+    (λ _. known_below q))
+
 pub none_is_new : (p : Program) (a b : AbstractState) (s : Site) (r : ℕ)
     → b.mask s.0 ≡ exactly_some → ((composed p a b).register r).label (new s) ≡ false
 none_is_new p a b s r e =

@@ -18,12 +18,12 @@ use Rattle.ja_abstract.proofs.SmallProgram.{array_site, blank, number, true_valu
 module _ (text : String Global) where
   -- ---- [[Put]]
 
-  abbrev put_at : Labels → List Key → AbstractValue → AbstractState → Label → Key → List
-      SeenProperty
-  put_at = λ target keys v a l k. map (seen_at l k) (put_states (view text a) target keys v)
+  abbrev put_at : Labels → List Key → AbstractValue → AbstractState → Label → Key
+      → List SeenProperty
+  put_at target keys v a l k = map (seen_at l k) (put_states (view text a) target keys v)
 
   abbrev of_p : AbstractProperty → AbstractState
-  of_p = λ q. with_property blank object p_name q
+  of_p q = with_property blank object p_name q
 
   abbrev p : List Key
   p = p_name ∷ []
@@ -42,37 +42,39 @@ module _ (text : String Global) where
       object p_name ≡ seen_property (with_attrs (number 2) DONT_DELETE) ∷ []
   put_replaces = refl
 
-  put_maybe_adds : put_at (one_label object) p (number 2) (of_p (join_properties (with_attrs
-      null_value DONT_ENUM) absent_property)) object p_name ≡ seen_property (record {
-        value = number
-            2;
-        attrs = (join_properties (with_attrs null_value DONT_ENUM) (plain null_value)).attrs;
-      }) ∷
-      []
+  put_maybe_adds : put_at (one_label object) p (number 2)
+      (of_p (join_properties (with_attrs null_value DONT_ENUM) absent_property)) object p_name
+      ≡ seen_property (record {
+        value = number 2;
+        attrs =
+            (join_properties (with_attrs null_value DONT_ENUM) (plain null_value)).attrs;
+      }) ∷ []
   put_maybe_adds = refl
 
-  put_leaves_others : put_at (one_label object) p (number 2) (with_property blank array p_name
-      (plain (number 1))) array p_name ≡ seen_property (plain (number 1)) ∷ []
+  put_leaves_others : put_at (one_label object) p (number 2)
+      (with_property blank array p_name (plain (number 1))) array p_name
+      ≡ seen_property (plain (number 1)) ∷ []
   put_leaves_others = refl
 
   put_is_refused : put_at (one_label object) p (number 2) (of_p (with_attrs (number 1) ALL_ATTRS))
       object p_name ≡ seen_property (with_attrs (number 1) ALL_ATTRS) ∷ []
   put_is_refused = refl
 
-  put_is_refused_by_prototype : put_at (one_label object) p (number 2) (with_property (with_property
-      blank object prototype (bare (of_label proto))) proto p_name (with_attrs null_value
-      ALL_ATTRS)) object p_name ≡ seen_property absent_property ∷ []
+  put_is_refused_by_prototype : put_at (one_label object) p (number 2)
+      (with_property (with_property blank object prototype (bare (of_label proto))) proto p_name
+      (with_attrs null_value ALL_ATTRS)) object p_name ≡ seen_property absent_property ∷ []
   put_is_refused_by_prototype = refl
 
   -- the state as it was, and the one with the value
-  put_maybe_refused : put_at (one_label object) p (number 2) (of_p (join_properties (with_attrs
-      (number 1) ALL_ATTRS) (plain (number 1)))) object p_name ≡ seen_property (join_properties
-      (with_attrs (number 1) ALL_ATTRS) (plain (number 1))) ∷ seen_property (join_properties
-      (with_attrs (number 2) ALL_ATTRS) (plain (number 2))) ∷ []
+  put_maybe_refused : put_at (one_label object) p (number 2)
+      (of_p (join_properties (with_attrs (number 1) ALL_ATTRS) (plain (number 1)))) object p_name
+      ≡ seen_property (join_properties (with_attrs (number 1) ALL_ATTRS) (plain (number 1)))
+      ∷ seen_property (join_properties (with_attrs (number 2) ALL_ATTRS) (plain (number 2))) ∷ []
   put_maybe_refused = refl
 
-  put_to_old_joins : put_at (one_label old_objects) p (number 2) (with_property blank old_objects
-      p_name (plain (number 1))) old_objects p_name ≡ seen_property index_value ∷ []
+  put_to_old_joins : put_at (one_label old_objects) p (number 2)
+      (with_property blank old_objects p_name (plain (number 1))) old_objects p_name
+      ≡ seen_property index_value ∷ []
   put_to_old_joins = refl
 
   put_to_two_joins : put_at both p (number 2) (of_p (plain (number 1))) object p_name
@@ -84,12 +86,13 @@ module _ (text : String Global) where
       ≡ seen_property (join_properties absent_property (plain (number 2))) ∷ []
   put_to_two_joins_at_each = refl
 
-  put_at_two_keys_joins : put_at (one_label object) (p_name ∷ q_name ∷ []) (number 2) (of_p (plain
-      (number 1))) object p_name ≡ seen_property index_value ∷ []
+  put_at_two_keys_joins : put_at (one_label object) (p_name ∷ q_name ∷ []) (number 2)
+      (of_p (plain (number 1))) object p_name ≡ seen_property index_value ∷ []
   put_at_two_keys_joins = refl
 
-  put_at_rest_joins : put_at (one_label object) (key.OtherName ∷ []) (number 2) (with_property blank
-      object key.OtherName (plain (number 1))) object key.OtherName ≡ seen_property index_value ∷ []
+  put_at_rest_joins : put_at (one_label object) (key.OtherName ∷ []) (number 2)
+      (with_property blank object key.OtherName (plain (number 1))) object key.OtherName
+      ≡ seen_property index_value ∷ []
   put_at_rest_joins = refl
 
   put_nowhere : put_at (one_label object) p (number 2) (of_p no_property) object p_name ≡ []
@@ -98,10 +101,10 @@ module _ (text : String Global) where
   -- ---- [[Put]] of an element
 
   abbrev of_length : Label → AbstractValue → AbstractState
-  of_length = λ l n. with_property blank l length_name (with_attrs n KEPT_HIDDEN)
+  of_length l n = with_property blank l length_name (with_attrs n KEPT_HIDDEN)
 
   abbrev element : Key → AbstractState → Key → List SeenProperty
-  element = λ k a j. put_at (one_label array) (k ∷ []) null_value a array j
+  element k a j = put_at (one_label array) (k ∷ []) null_value a array j
 
   element_is_put : element five_name (of_length array (number 3)) five_name
       ≡ seen_property (plain null_value) ∷ []
@@ -136,32 +139,33 @@ module _ (text : String Global) where
       ≡ seen_property (with_attrs (number 3) KEPT_HIDDEN) ∷ []
   name_is_no_element = refl
 
-  object_has_no_elements : put_at (one_label object) (five_name ∷ []) null_value (of_length object
-      (number 3)) object length_name ≡ seen_property (with_attrs (number 3) KEPT_HIDDEN) ∷ []
+  object_has_no_elements : put_at (one_label object) (five_name ∷ []) null_value
+      (of_length object (number 3)) object length_name
+      ≡ seen_property (with_attrs (number 3) KEPT_HIDDEN) ∷ []
   object_has_no_elements = refl
 
-  length_of_old_array : put_at (one_label (old array_site)) (five_name ∷ []) null_value (of_length
-      (old array_site) (number 3)) (old array_site) length_name ≡ seen_property (with_attrs
-      (of_number_part number_part.Index) KEPT_HIDDEN) ∷ []
+  length_of_old_array : put_at (one_label (old array_site)) (five_name ∷ []) null_value
+      (of_length (old array_site) (number 3)) (old array_site) length_name
+      ≡ seen_property (with_attrs (of_number_part number_part.Index) KEPT_HIDDEN) ∷ []
   length_of_old_array = refl
 
   -- ---- [[Put]] of a length
 
   abbrev elements : AbstractState
-  elements = with_property (with_property (of_length array (number 6)) array zero_name (plain
-      null_value)) array five_name (plain null_value)
+  elements = with_property (with_property (of_length array (number 6)) array zero_name
+      (plain null_value)) array five_name (plain null_value)
 
   abbrev length : AbstractValue → Key → List SeenProperty
-  length = λ v k. put_at (one_label array) (length_name ∷ []) v elements array k
+  length v k = put_at (one_label array) (length_name ∷ []) v elements array k
 
   abbrev may_throw : AbstractValue → Bool
-  may_throw = λ v. put_may_throw (view text elements) (one_label array) (length_name ∷ []) v
+  may_throw v = put_may_throw (view text elements) (one_label array) (length_name ∷ []) v
 
   abbrev maybe_null : SeenProperty
   maybe_null = seen_property (join_properties (plain null_value) absent_property)
 
-  length_is_put : length (number 5) length_name
-      ≡ seen_property (with_attrs (number 5) KEPT_HIDDEN) ∷ []
+  length_is_put : length (number 5) length_name ≡ seen_property (with_attrs (number 5) KEPT_HIDDEN)
+      ∷ []
   length_is_put = refl
 
   element_below_stays : length (number 5) zero_name ≡ seen_property (plain null_value) ∷ []
@@ -176,8 +180,8 @@ module _ (text : String Global) where
   all_are_cut : length (of_number_part number_part.Index) zero_name ≡ maybe_null ∷ []
   all_are_cut = refl
 
-  length_of_true : length true_value length_name
-      ≡ seen_property (with_attrs (number 1) KEPT_HIDDEN) ∷ []
+  length_of_true : length true_value length_name ≡ seen_property (with_attrs (number 1) KEPT_HIDDEN)
+      ∷ []
   length_of_true = refl
 
   greatest_length : length (number 4294967295) length_name
@@ -208,8 +212,8 @@ module _ (text : String Global) where
   -- ---- [[Delete]]
 
   abbrev delete : Labels → AbstractState → Label → List (SeenValue × SeenProperty)
-  delete = λ target a l. map (λ (r : Deletion). (seen r.0, seen_at l p_name r.1)) (delete_states (view
-      text a) target p)
+  delete target a l = map (λ (r : Deletion). (seen r.0, seen_at l p_name r.1))
+      (delete_states (view text a) target p)
 
   missing_is_deleted : delete (one_label object) blank object
       ≡ (seen true_value, seen_property absent_property) ∷ []
@@ -227,11 +231,8 @@ module _ (text : String Global) where
   maybe_there = join_properties (plain null_value) absent_property
 
   deletes_maybe : delete (one_label object) (of_p maybe_there) object
-      ≡ (seen true_value, seen_property maybe_there) ∷ (
-        seen true_value,
-        seen_property
-            absent_property,
-      ) ∷ []
+      ≡ (seen true_value, seen_property maybe_there) ∷
+      (seen true_value, seen_property absent_property) ∷ []
   deletes_maybe = refl
 
   deletes_weakly : delete both (of_p (plain null_value)) object

@@ -23,7 +23,8 @@ ghost use Rattle.ja_abstract.specs.Laws.{IsPlainPut, IsTarget, IsThere, Keep, Pu
 ghost use Rattle.ja_abstract.specs.Made.{Own, own_of, with_object};
 ghost use Rattle.ja_abstract.specs.Primitives.{of_text_part};
 ghost use Rattle.ja_abstract.specs.Reading.{View, get, one_label};
-ghost use Rattle.ja_abstract.specs.Resolved.{Entries, renamed, resolved};
+ghost use Rattle.ja_abstract.specs.Resolved.{Entries, known_part, renamed, resolved};
+ghost use Rattle.ja_abstract.specs.Order.{LeqProperty};
 ghost use Rattle.ja_abstract.specs.Writes.{defined, one_target, put_states, sets_at, strong_at};
 ghost use Rattle.ja_abstract.specs.Writes.{strong_update};
 
@@ -86,9 +87,9 @@ pub fn objects_are_made()
 {}
 
 /// What two moments say together: nothing may be made at a site exactly where nothing may be made
-/// in both, and something where the second makes it, or the first does and the second may not. A
-/// second moment that changes nothing leaves the state of the first, and one that makes an object
-/// leaves no register with its site's new label.
+/// in both, and something where the second makes it, or the first does and the second may not. What
+/// the second knows of a property stays known. A second moment that changes nothing leaves the
+/// state of the first, and one that makes an object leaves no register with its site's new label.
 pub fn moments_add_up()
     ensures none { (first second : Mask) → (composed_mask first second).none ≡ true
         ↔ (first.none ≡ true) × (second.none ≡ true) }
@@ -96,6 +97,8 @@ pub fn moments_add_up()
         → (composed_mask first second).some ≡ true }
     ensures made_before { (first second : Mask) → second.some ≡ false
         → (composed_mask first second).some ≡ true ↔ (first.some ≡ true) × (second.none ≡ true) }
+    ensures known { (p : Program) (a b : AbstractState) (l : Label) (k : Key) → IsTrue (is_key p k)
+        → LeqProperty (known_part (b.property l k)) ((composed p a b).property l k) }
     ensures unchanged { (p : Program) (a b : AbstractState) → ChangesNothing b
         → IsSameAtKeys p (composed p a b) a }
     ensures renames { (p : Program) (a b : AbstractState) (s : Site) (r : ℕ)

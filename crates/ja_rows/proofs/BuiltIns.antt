@@ -32,10 +32,10 @@ module _ (text : String Global) where
 
   -- ---- Intrinsic
 
-  abbrev intrinsic : ℕ → List Reg → AbstractValue → AbstractValue → AbstractState → List (ℕ ×
-      SeenValue)
-  intrinsic = λ which list v u a. sets text (node.Intrinsic (reg 6) which list) (holding 7 v
-      (holding 8 u a)) 6
+  abbrev intrinsic : ℕ → List Reg → AbstractValue → AbstractValue → AbstractState
+      → List (ℕ × SeenValue)
+  intrinsic which list v u a = sets text (node.Intrinsic (reg 6) which list)
+      (holding 7 v (holding 8 u a)) 6
 
   abbrev one : List Reg
   one = reg 7 ∷ []
@@ -57,41 +57,44 @@ module _ (text : String Global) where
   class_of_primitive : intrinsic 1 one null_value no_value blank ≡ []
   class_of_primitive = refl
 
-  value_of : intrinsic 2 one (of_label object) no_value (with_property blank object value_key (bare
-      (join absent_value (number 1)))) ≡ (1, seen (number 1)) ∷ []
+  value_of : intrinsic 2 one (of_label object) no_value
+      (with_property blank object value_key (bare (join absent_value (number 1))))
+      ≡ (1, seen (number 1)) ∷ []
   value_of = refl
 
   value_of_nothing : intrinsic 2 one (of_label object) no_value blank ≡ []
   value_of_nothing = refl
 
-  has_own : intrinsic 3 two (of_label object) (one_text (codes "p")) (with_property blank object
-      p_name (plain null_value)) ≡ (1, seen true_value) ∷ []
+  has_own : intrinsic 3 two (of_label object) (one_text (codes "p"))
+      (with_property blank object p_name (plain null_value)) ≡ (1, seen true_value) ∷ []
   has_own = refl
 
   -- prototypes are not asked
-  has_not_own : intrinsic 3 two (of_label object) (one_text (codes "p")) (with_property
-      (with_property blank object prototype (bare (of_label proto))) proto p_name (plain
-      null_value)) ≡ (1, seen false_value) ∷ []
+  has_not_own : intrinsic 3 two (of_label object) (one_text (codes "p"))
+      (with_property (with_property blank object prototype (bare (of_label proto))) proto p_name
+      (plain null_value)) ≡ (1, seen false_value) ∷ []
   has_not_own = refl
 
-  is_enumerable : intrinsic 4 two (of_label object) (one_text (codes "p")) (with_property blank
-      object p_name (plain null_value)) ≡ (1, seen true_value) ∷ []
+  is_enumerable : intrinsic 4 two (of_label object) (one_text (codes "p"))
+      (with_property blank object p_name (plain null_value)) ≡ (1, seen true_value) ∷ []
   is_enumerable = refl
 
-  is_hidden : intrinsic 4 two (of_label object) (one_text (codes "p")) (with_property blank object
-      p_name (with_attrs null_value DONT_ENUM)) ≡ (1, seen false_value) ∷ []
+  is_hidden : intrinsic 4 two (of_label object) (one_text (codes "p"))
+      (with_property blank object p_name (with_attrs null_value DONT_ENUM)) ≡ (1, seen false_value)
+      ∷ []
   is_hidden = refl
 
-  inherits : intrinsic 5 two (of_label object) (of_label proto) (with_property blank object
-      prototype (bare (of_label proto))) ≡ (1, seen (of_bools true true)) ∷ []
+  inherits : intrinsic 5 two (of_label object) (of_label proto)
+      (with_property blank object prototype (bare (of_label proto)))
+      ≡ (1, seen (of_bools true true)) ∷ []
   inherits = refl
 
   inherits_not_itself : intrinsic 5 two (of_label object) (of_label object) blank
       ≡ (1, seen false_value) ∷ []
   inherits_not_itself = refl
 
-  primitive_inherits_not : intrinsic 5 two (number 1) (of_label proto) blank
-      ≡ (1, seen false_value) ∷ []
+  primitive_inherits_not : intrinsic 5 two (number 1) (of_label proto) blank ≡ (1, seen false_value)
+      ∷ []
   primitive_inherits_not = refl
 
   has_elements : intrinsic 6 one (join (of_label array) (of_label arguments_object)) no_value blank
@@ -106,7 +109,8 @@ module _ (text : String Global) where
       ≡ (1, seen (of_text_part text_part.Text)) ∷ []
   digits_of_class = refl
 
-  own_demands : demands text (node.Intrinsic (reg 6) 3 two) (holding 7 (of_label object) (holding 8
-      (one_text (codes "p")) (with_property blank object p_name entry_property))) (p_name ∷
-      prototype ∷ []) ≡ (p_name, object ∷ []) ∷ (prototype, []) ∷ []
+  own_demands : demands text (node.Intrinsic (reg 6) 3 two)
+      (holding 7 (of_label object) (holding 8 (one_text (codes "p"))
+      (with_property blank object p_name entry_property))) (p_name ∷ prototype ∷ [])
+      ≡ (p_name, object ∷ []) ∷ (prototype, []) ∷ []
   own_demands = refl

@@ -27,16 +27,16 @@ module _ (text : String Global) where
   -- ---- Enter
 
   abbrev call : List Reg → Node
-  call = λ list. node.Call (reg 6) (reg 7) (reg 8) (args.Registers list) error_site
+  call list = node.Call (reg 6) (reg 7) (reg 8) (args.Registers list) error_site
 
   abbrev calling : AbstractProperty → AbstractState
-  calling = λ chain. holding 7 (join (of_label function_object) (of_label plain_function)) (holding
-      8 (of_label object) (holding 9 (number 5) (holding 10 null_value (with_property blank
-      function_object scope_key chain))))
+  calling chain = holding 7 (join (of_label function_object) (of_label plain_function))
+      (holding 8 (of_label object) (holding 9 (number 5)
+      (holding 10 null_value (with_property blank function_object scope_key chain))))
 
   abbrev entered : List Reg → ℕ → SeenValue
-  entered = λ list r. register r (enters text (call list) (calling (bare (of_label global_object)))
-      1 object)
+  entered list r = register r (enters text (call list) (calling (bare (of_label global_object))) 1
+      object)
 
   abbrev one : List Reg
   one = reg 9 ∷ []
@@ -66,25 +66,26 @@ module _ (text : String Global) where
   enters_no_rest : entered (reg 9 ∷ reg 10 ∷ []) 7 ≡ seen undefined_value
   enters_no_rest = refl
 
-  enters_as_at_entry : seen_at function_object scope_key (enters text (call one) (calling (bare
-      (of_label global_object))) 1 object) ≡ seen_property entry_property
+  enters_as_at_entry : seen_at function_object scope_key
+      (enters text (call one) (calling (bare (of_label global_object))) 1 object)
+      ≡ seen_property entry_property
   enters_as_at_entry = refl
 
-  enters_with_nothing_made : (enters text (call one) (record (calling absent_property) {
-    mask = λ s.
-        exactly_some;
-  }) 1 object).mask object_site.0 ≡ exactly_none
+  enters_with_nothing_made : (enters text (call one)
+      (record (calling absent_property) { mask = λ s. exactly_some }) 1 object).mask object_site.0
+      ≡ exactly_none
   enters_with_nothing_made = refl
 
-  scope_is_demanded : enter_demands text (call one) (calling entry_property) 1 (scope_key ∷
-      prototype_name ∷ []) ≡ (scope_key, function_object ∷ []) ∷ (prototype_name, []) ∷ []
+  scope_is_demanded : enter_demands text (call one) (calling entry_property) 1
+      (scope_key ∷ prototype_name ∷ []) ≡ (scope_key, function_object ∷ []) ∷ (prototype_name, [])
+      ∷ []
   scope_is_demanded = refl
 
   -- ---- .. by a conversion
 
   abbrev converted : ℕ → SeenValue
-  converted = λ r. register r (enters text (node.Convert (reg 6) (reg 8) hint.Number None) (calling
-      absent_property) 2 object)
+  converted r = register r (enters text (node.Convert (reg 6) (reg 8) hint.Number None)
+      (calling absent_property) 2 object)
 
   converts_this : converted 1 ≡ seen (of_label object)
   converts_this = refl
@@ -104,9 +105,9 @@ module _ (text : String Global) where
   spread = node.Call (reg 6) (reg 7) (reg 8) (args.Elements (reg 9)) error_site
 
   abbrev elements : AbstractValue → ℕ → SeenValue
-  elements = λ n r. register r (enters text spread (holding 9 (of_label array) (with_property
-      (with_property (calling absent_property) array zero_name (plain null_value)) array length_name
-      (with_attrs n KEPT_HIDDEN))) 1 object)
+  elements n r = register r (enters text spread (holding 9 (of_label array)
+      (with_property (with_property (calling absent_property) array zero_name (plain null_value))
+      array length_name (with_attrs n KEPT_HIDDEN))) 1 object)
 
   element_parameter : elements (number 1) 5 ≡ seen (join undefined_value null_value)
   element_parameter = refl
@@ -125,12 +126,9 @@ module _ (text : String Global) where
   element_count_of_absent : elements absent_value 4 ≡ seen (number 0)
   element_count_of_absent = refl
 
-  element_demands : enter_demands text spread (holding 9 (of_label array) (with_property (calling
-      absent_property) array length_name entry_property)) 1 (length_name ∷ []) ≡ (
-        length_name,
-        array
-            ∷ [],
-      ) ∷ []
+  element_demands : enter_demands text spread (holding 9 (of_label array)
+      (with_property (calling absent_property) array length_name entry_property)) 1
+      (length_name ∷ []) ≡ (length_name, array ∷ []) ∷ []
   element_demands = refl
 
   -- ---- .. with the arguments from the second on
@@ -141,8 +139,8 @@ module _ (text : String Global) where
   -- the node stands in function 1, whose register 7 has the rest of its arguments
 
   abbrev tailed : AbstractValue → ℕ → SeenValue
-  tailed = λ n r. register r (enters text tail (holding 4 n (holding 7 (join true_value (of_label
-      function_object)) (calling absent_property))) 1 object)
+  tailed n r = register r (enters text tail (holding 4 n
+      (holding 7 (join true_value (of_label function_object)) (calling absent_property))) 1 object)
 
   tail_parameter : tailed (number 3) 5 ≡ seen (join true_value (of_label function_object))
   tail_parameter = refl
@@ -165,8 +163,7 @@ module _ (text : String Global) where
   construct = node.New (reg 6) (reg 7) (reg 8 ∷ []) object_site error_site
 
   abbrev constructing : AbstractValue → AbstractState
-  constructing = λ v. with_property (calling absent_property) function_object prototype_name (plain
-      v)
+  constructing v = with_property (calling absent_property) function_object prototype_name (plain v)
 
   constructs_this : register 1 (enters text construct (constructing (of_label proto)) 1 object)
       ≡ seen (of_label object)
@@ -178,18 +175,18 @@ module _ (text : String Global) where
   argument_is_renamed = refl
 
   construct_demands : enter_demands text construct (with_property (calling absent_property)
-      function_object prototype_name entry_property) 1 (prototype_name ∷ scope_key ∷ []) ≡
-      (prototype_name, function_object ∷ []) ∷ (scope_key, []) ∷ []
+      function_object prototype_name entry_property) 1 (prototype_name ∷ scope_key ∷ [])
+      ≡ (prototype_name, function_object ∷ []) ∷ (scope_key, []) ∷ []
   construct_demands = refl
 
   -- ---- Fill
 
   abbrev filled : Node → AbstractState → Label → Key → SeenProperty
-  filled = λ n a l k. seen_property (filled_with (view text a) (edge 1 object) n l k)
+  filled n a l k = seen_property (filled_with (view text a) (edge 1 object) n l k)
 
   fills_what_is_there : filled (call one) (with_property (calling absent_property) object p_name
-      (with_attrs null_value DONT_ENUM)) object p_name ≡ seen_property (with_attrs null_value
-      DONT_ENUM)
+      (with_attrs null_value DONT_ENUM)) object p_name
+      ≡ seen_property (with_attrs null_value DONT_ENUM)
   fills_what_is_there = refl
 
   fills_made_prototype : filled construct (constructing (of_label proto)) object prototype
@@ -214,20 +211,16 @@ module _ (text : String Global) where
   -- entry
 
   abbrev exit : AbstractValue → Mask → AbstractProperty → AbstractState
-  exit = λ v m q. record (with_property (record (holding 0 v (holding 5 v blank)) {
-    property = λ l
-        k. entry_property;
-  }) array p_name q) {
-    mask = λ s. if s == object_site.0 then m else
-        exactly_none;
-  }
+  exit v m q = record (with_property (record (holding 0 v (holding 5 v blank))
+      { property = λ l k. entry_property }) array p_name q)
+      { mask = λ s. if s == object_site.0 then m else exactly_none }
 
   abbrev caller : AbstractState
   caller = with_property (with_property (holding 11 (of_label object) (calling absent_property))
       array q_name (plain null_value)) array p_name (plain (number 1))
 
   abbrev back : Node → Node → Mask → AbstractValue → AbstractProperty → Given
-  back = λ n at m v q. given_back (view text caller) (edge 1 object) (info n) (exit v m q) at
+  back n at m v q = given_back (view text caller) (edge 1 object) (info n) (exit v m q) at
 
   abbrev returns : Node
   returns = node.Return (reg 5)
@@ -255,28 +248,24 @@ module _ (text : String Global) where
       entry_property) ≡ (1, seen (of_label old_objects)) ∷ []
   caller_is_renamed = refl
 
-  caller_maybe_renamed : of (register 11) (back (call one) returns (join_masks exactly_none
-      exactly_some) (number 2) entry_property) ≡ (
-        1,
-        seen (join (of_label object) (of_label
-            old_objects)),
-      ) ∷ []
+  caller_maybe_renamed : of (register 11) (back (call one) returns
+      (join_masks exactly_none exactly_some) (number 2) entry_property)
+      ≡ (1, seen (join (of_label object) (of_label old_objects))) ∷ []
   caller_maybe_renamed = refl
 
-  callers_property_stays : of (seen_at array q_name) (back (call one) returns exactly_none (number
-      2) entry_property) ≡ (1, seen_property (plain null_value)) ∷ []
+  callers_property_stays : of (seen_at array q_name)
+      (back (call one) returns exactly_none (number 2) entry_property)
+      ≡ (1, seen_property (plain null_value)) ∷ []
   callers_property_stays = refl
 
-  callees_property_is_known : of (seen_at array p_name) (back (call one) returns exactly_none
-      (number 2) (plain true_value)) ≡ (1, seen_property (plain true_value)) ∷ []
+  callees_property_is_known : of (seen_at array p_name)
+      (back (call one) returns exactly_none (number 2) (plain true_value))
+      ≡ (1, seen_property (plain true_value)) ∷ []
   callees_property_is_known = refl
 
   either_property : of (seen_at array p_name) (back (call one) returns exactly_none (number 2)
-      (join_properties entry_property (plain true_value))) ≡ (
-        1,
-        seen_property (plain (join
-            true_value (number 1))),
-      ) ∷ []
+      (join_properties entry_property (plain true_value)))
+      ≡ (1, seen_property (plain (join true_value (number 1)))) ∷ []
   either_property = refl
 
   masks_of_callee : of (λ a. a.mask object_site.0) (back (call one) returns exactly_some (number 2)
@@ -284,15 +273,13 @@ module _ (text : String Global) where
   masks_of_callee = refl
 
   -- what the caller made before stays made
-  masks_of_caller : of (λ a. a.mask object_site.0) (given_back (view text (record caller {
-    mask = λ
-        s. exactly_some;
-  })) (edge 1 object) (info (call one)) (exit null_value exactly_none
-      entry_property) returns) ≡ (1, exactly_some) ∷ []
+  masks_of_caller : of (λ a. a.mask object_site.0) (given_back
+      (view text (record caller { mask = λ s. exactly_some })) (edge 1 object) (info (call one))
+      (exit null_value exactly_none entry_property) returns) ≡ (1, exactly_some) ∷ []
   masks_of_caller = refl
 
-  masks_of_neither : of (λ a. a.mask object_site.0) (back (call one) returns exactly_none (number 2)
-      entry_property) ≡ (1, exactly_none) ∷ []
+  masks_of_neither : of (λ a. a.mask object_site.0)
+      (back (call one) returns exactly_none (number 2) entry_property) ≡ (1, exactly_none) ∷ []
   masks_of_neither = refl
 
   construction_gives_receiver : of (register 6) (back construct returns exactly_none (number 2)
@@ -307,8 +294,8 @@ module _ (text : String Global) where
       entry_property) ≡ (1, seen (of_label old_objects)) ∷ []
   receiver_is_renamed = refl
 
-  construction_is_counted : of (λ a. a.mask object_site.0) (back construct returns exactly_none
-      undefined_value entry_property) ≡ (1, exactly_some) ∷ []
+  construction_is_counted : of (λ a. a.mask object_site.0)
+      (back construct returns exactly_none undefined_value entry_property) ≡ (1, exactly_some) ∷ []
   construction_is_counted = refl
 
   conversion_returns : of (register 6) (back (node.Convert (reg 6) (reg 8) hint.Number None) returns

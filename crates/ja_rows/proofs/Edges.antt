@@ -17,10 +17,10 @@ module _ (text : String Global) where
   -- ---- Convert
 
   abbrev convert : Option Reg → Node
-  convert = λ other. node.Convert (reg 6) (reg 7) hint.Number other
+  convert other = node.Convert (reg 6) (reg 7) hint.Number other
 
   abbrev beside : AbstractValue → AbstractValue → AbstractState
-  beside = λ v u. holding 7 v (holding 8 u blank)
+  beside v u = holding 7 v (holding 8 u blank)
 
   primitive_is_itself : sets text (convert None) (beside (join null_value (of_label object))
       no_value) 6 ≡ (1, seen null_value) ∷ []
@@ -31,28 +31,28 @@ module _ (text : String Global) where
   object_is_converted = refl
 
   -- the other hint has the other function
-  by_text : edges text (node.Convert (reg 6) (reg 7) hint.Text None) (beside (join (of_label array)
-      (of_label object)) no_value) ≡ (3, object) ∷ (3, array) ∷ []
+  by_text : edges text (node.Convert (reg 6) (reg 7) hint.Text None)
+      (beside (join (of_label array) (of_label object)) no_value) ≡ (3, object) ∷ (3, array) ∷ []
   by_text = refl
 
-  kept_beside_nothing : sets text (convert (Some (reg 8))) (beside (of_label object)
-      undefined_value) 6 ≡ (1, seen (of_label object)) ∷ []
+  kept_beside_nothing : sets text (convert (Some (reg 8)))
+      (beside (of_label object) undefined_value) 6 ≡ (1, seen (of_label object)) ∷ []
   kept_beside_nothing = refl
 
-  no_edge_beside_nothing : edges text (convert (Some (reg 8))) (beside (of_label object) (join
-      null_value (of_label array))) ≡ []
+  no_edge_beside_nothing : edges text (convert (Some (reg 8)))
+      (beside (of_label object) (join null_value (of_label array))) ≡ []
   no_edge_beside_nothing = refl
 
-  converted_beside_number : edges text (convert (Some (reg 8))) (beside (of_label object) (number
-      1)) ≡ (2, object) ∷ []
+  converted_beside_number : edges text (convert (Some (reg 8)))
+      (beside (of_label object) (number 1)) ≡ (2, object) ∷ []
   converted_beside_number = refl
 
-  not_kept_beside_number : goes_to text (convert (Some (reg 8))) (beside (of_label object) (number
-      1)) ≡ []
+  not_kept_beside_number : goes_to text (convert (Some (reg 8)))
+      (beside (of_label object) (number 1)) ≡ []
   not_kept_beside_number = refl
 
-  both_beside_either : edges text (convert (Some (reg 8))) (beside (of_label object) (join
-      null_value (number 1))) ≡ (2, object) ∷ []
+  both_beside_either : edges text (convert (Some (reg 8)))
+      (beside (of_label object) (join null_value (number 1))) ≡ (2, object) ∷ []
   both_beside_either = refl
 
   -- ---- Call
@@ -67,25 +67,23 @@ module _ (text : String Global) where
   call_gives_nothing = refl
 
   calls_each : edges text call (beside (join (of_label plain_function) (of_label function_object))
-      (join (of_label old_objects) (of_label object))) ≡ (1, object) ∷ (1, old_objects) ∷ (
-        2,
-        object,
-      ) ∷ (2, old_objects) ∷ []
+      (join (of_label old_objects) (of_label object))) ≡ (1, object) ∷ (1, old_objects)
+      ∷ (2, object) ∷ (2, old_objects) ∷ []
   calls_each = refl
 
-  nothing_counts_as_global : edges text call (beside (of_label function_object) (join null_value
-      (of_label object))) ≡ (1, global_object) ∷ (1, object) ∷ []
+  nothing_counts_as_global : edges text call (beside (of_label function_object)
+      (join null_value (of_label object))) ≡ (1, global_object) ∷ (1, object) ∷ []
   nothing_counts_as_global = refl
 
-  activation_counts_as_global : edges text call (beside (of_label function_object) (of_label
-      activation)) ≡ (1, global_object) ∷ []
+  activation_counts_as_global : edges text call (beside (of_label function_object)
+      (of_label activation)) ≡ (1, global_object) ∷ []
   activation_counts_as_global = refl
 
   no_receiver : edges text call (beside (of_label function_object) no_value) ≡ []
   no_receiver = refl
 
-  call_throws : sets text call (beside (number 1) (of_label object)) 0
-      ≡ (3, seen (of_label error)) ∷ []
+  call_throws : sets text call (beside (number 1) (of_label object)) 0 ≡ (3, seen (of_label error))
+      ∷ []
   call_throws = refl
 
   no_edge_to_object : edges text call (beside (of_label object) (of_label object)) ≡ []
@@ -94,17 +92,17 @@ module _ (text : String Global) where
   object_is_not_called : leaves text call (beside (of_label object) (of_label object)) error
       message_name ≡ (
         3,
-        seen_property (plain (one_text (codes
-            "call of a value that is not a function"))),
+        seen_property
+            (plain (one_text (codes "call of a value that is not a function"))),
       ) ∷ []
   object_is_not_called = refl
 
-  calls_or_throws : goes_to text call (beside (join null_value (of_label function_object)) (of_label
-      object)) ≡ 3 ∷ []
+  calls_or_throws : goes_to text call (beside (join null_value (of_label function_object))
+      (of_label object)) ≡ 3 ∷ []
   calls_or_throws = refl
 
-  still_calls : edges text call (beside (join null_value (of_label function_object)) (of_label
-      object)) ≡ (1, object) ∷ []
+  still_calls : edges text call (beside (join null_value (of_label function_object))
+      (of_label object)) ≡ (1, object) ∷ []
   still_calls = refl
 
   -- ---- New
@@ -127,6 +125,6 @@ module _ (text : String Global) where
   no_constructor_has_no_edge = refl
 
   new_message : leaves text construct (beside null_value no_value) error message_name
-      ≡ (3, seen_property (plain (one_text (codes "new of a value that is not a constructor")))) ∷
-      []
+      ≡ (3, seen_property (plain (one_text (codes "new of a value that is not a constructor"))))
+      ∷ []
   new_message = refl

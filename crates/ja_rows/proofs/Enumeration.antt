@@ -19,15 +19,15 @@ use Rattle.ja_rows.proofs.SmallSteps.{sets, goes_to, demands}
 
 module _ (text : String Global) where
   abbrev of : AbstractValue → AbstractState → AbstractState
-  of = λ v a. holding 7 v a
+  of v a = holding 7 v a
 
   -- ---- Names
 
   abbrev names : Node
   names = node.Names (reg 8) (reg 7)
 
-  names_of_object : sets text names (of (of_label object) blank) 7
-      ≡ (1, seen (of_label object)) ∷ []
+  names_of_object : sets text names (of (of_label object) blank) 7 ≡ (1, seen (of_label object))
+      ∷ []
   names_of_object = refl
 
   names_of_primitive : goes_to text names (of null_value blank) ≡ []
@@ -39,8 +39,8 @@ module _ (text : String Global) where
   pick = node.Pick (reg 8) (reg 6) (reg 7)
 
   abbrev having : Label → Key → AbstractProperty → AbstractState
-  having = λ l k q. of (of_label object) (with_property (with_property blank object prototype (bare
-      (of_label proto))) l k q)
+  having l k q = of (of_label object) (with_property
+      (with_property blank object prototype (bare (of_label proto))) l k q)
 
   picks_of_prototype : sets text pick (having proto p_name (plain null_value)) 6
       ≡ (1, seen (one_text (codes "p"))) ∷ (2, seen undefined_value) ∷ []
@@ -68,6 +68,7 @@ module _ (text : String Global) where
       ≡ (p_name, proto ∷ []) ∷ (prototype, []) ∷ []
   pick_demands = refl
 
-  pick_demands_chain : demands text pick (of (of_label object) (with_property blank object prototype
-      entry_property)) (p_name ∷ prototype ∷ []) ≡ (p_name, []) ∷ (prototype, object ∷ []) ∷ []
+  pick_demands_chain : demands text pick (of (of_label object)
+      (with_property blank object prototype entry_property)) (p_name ∷ prototype ∷ [])
+      ≡ (p_name, []) ∷ (prototype, object ∷ []) ∷ []
   pick_demands_chain = refl

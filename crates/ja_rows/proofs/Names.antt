@@ -21,9 +21,9 @@ module _ (text : String Global) where
   -- those
 
   abbrev scoped : AbstractProperty → AbstractProperty → AbstractState
-  scoped = λ inner q. with_property (with_property (with_property (holding 2 (of_label activation)
-      blank) activation outer (bare (of_label global_object))) activation p_name inner)
-      global_object p_name q
+  scoped inner q = with_property
+      (with_property (with_property (holding 2 (of_label activation) blank) activation outer
+      (bare (of_label global_object))) activation p_name inner) global_object p_name q
 
   -- ---- FindName
 
@@ -43,27 +43,29 @@ module _ (text : String Global) where
       (plain (number 1))) 6 ≡ (1, seen (join (of_label activation) (of_label global_object))) ∷ []
   found_in_either = refl
 
-  found_in_none : sets text find (scoped absent_property absent_property) 6
-      ≡ (1, seen null_value) ∷ []
+  found_in_none : sets text find (scoped absent_property absent_property) 6 ≡ (1, seen null_value)
+      ∷ []
   found_in_none = refl
 
   -- an object of the chain has what its prototypes have
-  found_in_prototype : sets text find (with_property (with_property (scoped absent_property
-      absent_property) global_object prototype (bare (of_label proto))) proto p_name (plain (number
-      1))) 6 ≡ (1, seen (of_label global_object)) ∷ []
+  found_in_prototype : sets text find (with_property
+      (with_property (scoped absent_property absent_property) global_object prototype
+      (bare (of_label proto))) proto p_name (plain (number 1))) 6
+      ≡ (1, seen (of_label global_object)) ∷ []
   found_in_prototype = refl
 
   found_without_scope : goes_to text find (holding 2 undefined_value blank) ≡ []
   found_without_scope = refl
 
   -- behind a property that is not known yet nothing is demanded
-  find_demands : demands text find (scoped entry_property absent_property) (p_name ∷ prototype ∷
-      outer ∷ []) ≡ (p_name, activation ∷ []) ∷ (prototype, []) ∷ (outer, []) ∷ []
+  find_demands : demands text find (scoped entry_property absent_property)
+      (p_name ∷ prototype ∷ outer ∷ []) ≡ (p_name, activation ∷ []) ∷ (prototype, []) ∷ (outer, [])
+      ∷ []
   find_demands = refl
 
   find_demands_outer : demands text find (with_property (scoped absent_property absent_property)
-      activation outer entry_property) (p_name ∷ prototype ∷ outer ∷ []) ≡ (p_name, []) ∷
-      (prototype, []) ∷ (outer, activation ∷ []) ∷ []
+      activation outer entry_property) (p_name ∷ prototype ∷ outer ∷ []) ≡ (p_name, [])
+      ∷ (prototype, []) ∷ (outer, activation ∷ []) ∷ []
   find_demands_outer = refl
 
   -- ---- ReadRef, ReadSoft
@@ -72,7 +74,7 @@ module _ (text : String Global) where
   read = node.ReadRef (reg 6) (reg 7) (name 106) error_site
 
   abbrev of_base : AbstractValue → AbstractProperty → AbstractState
-  of_base = λ v q. with_property (holding 7 v blank) object p_name q
+  of_base v q = with_property (holding 7 v blank) object p_name q
 
   unbound_throws : sets text read (of_base null_value absent_property) 0
       ≡ (3, seen (of_label error)) ∷ []
@@ -95,30 +97,30 @@ module _ (text : String Global) where
       ≡ (1, seen undefined_value) ∷ []
   read_absent = refl
 
-  read_leaves_row_out : sets text read (of_base (of_label object) (plain (join row_value (number
-      1)))) 6 ≡ (1, seen (number 1)) ∷ []
+  read_leaves_row_out : sets text read (of_base (of_label object)
+      (plain (join row_value (number 1)))) 6 ≡ (1, seen (number 1)) ∷ []
   read_leaves_row_out = refl
 
   read_row_alone : goes_to text read (of_base (of_label object) (plain row_value)) ≡ []
   read_row_alone = refl
 
-  read_demands : demands text read (of_base (of_label object) entry_property) (p_name ∷ prototype ∷
-      []) ≡ (p_name, object ∷ []) ∷ (prototype, []) ∷ []
+  read_demands : demands text read (of_base (of_label object) entry_property)
+      (p_name ∷ prototype ∷ []) ≡ (p_name, object ∷ []) ∷ (prototype, []) ∷ []
   read_demands = refl
 
   abbrev soft : Node
   soft = node.ReadSoft (reg 6) (reg 7) (name 106)
 
-  soft_unbound : sets text soft (of_base null_value absent_property) 6
-      ≡ (1, seen undefined_value) ∷ []
+  soft_unbound : sets text soft (of_base null_value absent_property) 6 ≡ (1, seen undefined_value)
+      ∷ []
   soft_unbound = refl
 
   soft_or_unbound : sets text soft (of_base (join null_value (of_label object)) (plain (number 1)))
       6 ≡ (1, seen (join undefined_value (number 1))) ∷ []
   soft_or_unbound = refl
 
-  soft_demands : demands text soft (of_base (of_label object) entry_property) (p_name ∷ prototype ∷
-      []) ≡ (p_name, object ∷ []) ∷ (prototype, []) ∷ []
+  soft_demands : demands text soft (of_base (of_label object) entry_property)
+      (p_name ∷ prototype ∷ []) ≡ (p_name, object ∷ []) ∷ (prototype, []) ∷ []
   soft_demands = refl
 
   -- ---- WriteRef
@@ -127,8 +129,8 @@ module _ (text : String Global) where
   write = node.WriteRef (reg 7) (name 106) (reg 8)
 
   abbrev writes : AbstractValue → Label → AbstractProperty → List (ℕ × SeenProperty)
-  writes = λ base l q. leaves text write (with_property (holding 8 (number 2) (holding 7 base
-      blank)) l p_name q) l p_name
+  writes base l q = leaves text write (with_property (holding 8 (number 2) (holding 7 base blank)) l
+      p_name q) l p_name
 
   null_writes_global : writes null_value global_object absent_property
       ≡ (1, seen_property (plain (number 2))) ∷ []
@@ -155,16 +157,17 @@ module _ (text : String Global) where
       ≡ (1, seen_property (plain (number 2))) ∷ []
   arrays_left_out = refl
 
-  array_stays : leaves text write (holding 8 (number 2) (holding 7 (join (of_label array) (of_label
-      object)) blank)) array p_name ≡ (1, seen_property absent_property) ∷ []
+  array_stays : leaves text write (holding 8 (number 2)
+      (holding 7 (join (of_label array) (of_label object)) blank)) array p_name
+      ≡ (1, seen_property absent_property) ∷ []
   array_stays = refl
 
   read_only_stays : writes (of_label object) object (with_attrs (number 1) ALL_ATTRS)
       ≡ (1, seen_property (with_attrs (number 1) ALL_ATTRS)) ∷ []
   read_only_stays = refl
 
-  write_demands : demands text write (of_base (of_label object) entry_property) (p_name ∷ prototype
-      ∷ []) ≡ (p_name, object ∷ []) ∷ (prototype, []) ∷ []
+  write_demands : demands text write (of_base (of_label object) entry_property)
+      (p_name ∷ prototype ∷ []) ≡ (p_name, object ∷ []) ∷ (prototype, []) ∷ []
   write_demands = refl
 
   -- ---- DeleteRef
@@ -172,8 +175,8 @@ module _ (text : String Global) where
   abbrev delete : Node
   delete = node.DeleteRef (reg 6) (reg 7) (name 106)
 
-  delete_unbound : sets text delete (of_base null_value absent_property) 6
-      ≡ (1, seen true_value) ∷ []
+  delete_unbound : sets text delete (of_base null_value absent_property) 6 ≡ (1, seen true_value)
+      ∷ []
   delete_unbound = refl
 
   delete_gives_true : sets text delete (of_base (of_label object) (plain (number 1))) 6
@@ -184,15 +187,16 @@ module _ (text : String Global) where
       ≡ (1, seen_property absent_property) ∷ []
   delete_removes = refl
 
-  dont_delete_gives_false : sets text delete (of_base (of_label object) (with_attrs (number 1)
-      DONT_DELETE)) 6 ≡ (1, seen false_value) ∷ []
+  dont_delete_gives_false : sets text delete (of_base (of_label object)
+      (with_attrs (number 1) DONT_DELETE)) 6 ≡ (1, seen false_value) ∷ []
   dont_delete_gives_false = refl
 
-  dont_delete_stays : leaves text delete (of_base (of_label object) (with_attrs (number 1)
-      DONT_DELETE)) object p_name ≡ (1, seen_property (with_attrs (number 1) DONT_DELETE)) ∷ []
+  dont_delete_stays : leaves text delete (of_base (of_label object)
+      (with_attrs (number 1) DONT_DELETE)) object p_name
+      ≡ (1, seen_property (with_attrs (number 1) DONT_DELETE)) ∷ []
   dont_delete_stays = refl
 
   -- own readings alone
-  delete_demands : demands text delete (of_base (of_label object) entry_property) (p_name ∷
-      prototype ∷ []) ≡ (p_name, object ∷ []) ∷ (prototype, []) ∷ []
+  delete_demands : demands text delete (of_base (of_label object) entry_property)
+      (p_name ∷ prototype ∷ []) ≡ (p_name, object ∷ []) ∷ (prototype, []) ∷ []
   delete_demands = refl

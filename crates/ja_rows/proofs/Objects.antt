@@ -24,14 +24,11 @@ module _ (text : String Global) where
   -- ---- ToObject
 
   abbrev to_object : Node
-  to_object = node.ToObject (reg 6) (reg 7) (record {
-    boolean = object_site;
-    number = proto_site;
-    text = arguments_site;
-  }) error_site
+  to_object = node.ToObject (reg 6) (reg 7) (record
+      { boolean = object_site; number = proto_site; text = arguments_site }) error_site
 
   abbrev of : AbstractValue → AbstractState
-  of = λ v. holding 7 v blank
+  of v = holding 7 v blank
 
   object_is_itself : sets text to_object (of (of_label array)) 6 ≡ (1, seen (of_label array)) ∷ []
   object_is_itself = refl
@@ -58,8 +55,8 @@ module _ (text : String Global) where
   length_of_text_class : leaves text to_object (of (of_text_part text_part.OtherText))
       arguments_object length_name ≡ (
         1,
-        seen_property (with_attrs (of_number_part
-            number_part.Index) ALL_ATTRS),
+        seen_property
+            (with_attrs (of_number_part number_part.Index) ALL_ATTRS),
       ) ∷ []
   length_of_text_class = refl
 
@@ -96,7 +93,7 @@ module _ (text : String Global) where
   -- ---- NewObject
 
   abbrev make : Made → Node
-  make = λ kind. node.NewObject (reg 6) object_site kind
+  make kind = node.NewObject (reg 6) object_site kind
 
   made_is_new : sets text (make made.Object) blank 6 ≡ (1, seen (of_label object)) ∷ []
   made_is_new = refl
@@ -106,19 +103,19 @@ module _ (text : String Global) where
       ≡ (1, seen (of_label old_objects)) ∷ []
   registers_are_renamed = refl
 
-  properties_are_renamed : leaves text (make made.Object) (with_property blank array p_name (plain
-      (of_label object))) array p_name ≡ (1, seen_property (plain (of_label old_objects))) ∷ []
+  properties_are_renamed : leaves text (make made.Object)
+      (with_property blank array p_name (plain (of_label object))) array p_name
+      ≡ (1, seen_property (plain (of_label old_objects))) ∷ []
   properties_are_renamed = refl
 
-  old_ones_have_either : leaves text (make made.Object) (with_property (with_property blank object
-      p_name (plain (number 1))) old_objects p_name (plain (number 2))) old_objects p_name ≡ (
-        1,
-        seen_property (plain (of_number_part number_part.Index)),
-      ) ∷ []
+  old_ones_have_either : leaves text (make made.Object)
+      (with_property (with_property blank object p_name (plain (number 1))) old_objects p_name
+      (plain (number 2))) old_objects p_name
+      ≡ (1, seen_property (plain (of_number_part number_part.Index))) ∷ []
   old_ones_have_either = refl
 
-  made_is_empty : leaves text (make made.Object) (with_property blank object p_name (plain (number
-      1))) object p_name ≡ (1, seen_property absent_property) ∷ []
+  made_is_empty : leaves text (make made.Object) (with_property blank object p_name
+      (plain (number 1))) object p_name ≡ (1, seen_property absent_property) ∷ []
   made_is_empty = refl
 
   made_inherits : leaves text (make made.Object) blank object prototype
@@ -133,8 +130,8 @@ module _ (text : String Global) where
       ≡ (1, seen_property (with_attrs (number 0) KEPT_HIDDEN)) ∷ []
   made_array_length = refl
 
-  made_is_counted : seen_in (λ a. a.mask object_site.0 ∷ a.mask array_site.0 ∷ []) (gives text (make
-      made.Object) blank) ≡ (1, exactly_some ∷ exactly_none ∷ []) ∷ []
+  made_is_counted : seen_in (λ a. a.mask object_site.0 ∷ a.mask array_site.0 ∷ [])
+      (gives text (make made.Object) blank) ≡ (1, exactly_some ∷ exactly_none ∷ []) ∷ []
   made_is_counted = refl
 
   -- absent at the keys of the program alone
@@ -173,7 +170,7 @@ module _ (text : String Global) where
       ≡ (1, seen_property (with_attrs (of_label function_object) DONT_ENUM)) ∷ []
   prototype_constructor = refl
 
-  function_is_renamed : sets text function (holding 7 (join (of_label function_object) (of_label
-      proto)) blank) 7 ≡ (1, seen (join (of_label (old function_site)) (of_label (old proto_site))))
-      ∷ []
+  function_is_renamed : sets text function (holding 7
+      (join (of_label function_object) (of_label proto)) blank) 7
+      ≡ (1, seen (join (of_label (old function_site)) (of_label (old proto_site)))) ∷ []
   function_is_renamed = refl

@@ -46,7 +46,7 @@ module _ (text : String Global) where
   -- ---- Unary
 
   abbrev unary : UnaryOp → AbstractValue → List (ℕ × SeenValue)
-  unary = λ op v. sets text (node.Unary (reg 6) op (reg 7)) (holding 7 v blank) 6
+  unary op v = sets text (node.Unary (reg 6) op (reg 7)) (holding 7 v blank) 6
 
   number_of_undefined : unary unary_op.ToNum undefined_value ≡ (1, seen nan_value) ∷ []
   number_of_undefined = refl
@@ -66,8 +66,8 @@ module _ (text : String Global) where
       ≡ (1, seen (of_primitive (primitive.Number (Whole (negsuc 4))))) ∷ []
   negative = refl
 
-  negative_class : unary unary_op.Neg (of_number_part number_part.Index)
-      ≡ (1, seen whole_value) ∷ []
+  negative_class : unary unary_op.Neg (of_number_part number_part.Index) ≡ (1, seen whole_value)
+      ∷ []
   negative_class = refl
 
   complement : unary unary_op.BitNot (number 0)
@@ -103,8 +103,8 @@ module _ (text : String Global) where
   -- ---- Binary
 
   abbrev binary : BinaryOp → AbstractValue → AbstractValue → List (ℕ × SeenValue)
-  binary = λ op v u. sets text (node.Binary (reg 6) op (reg 7) (reg 8)) (holding 7 v (holding 8 u
-      blank)) 6
+  binary op v u = sets text (node.Binary (reg 6) op (reg 7) (reg 8))
+      (holding 7 v (holding 8 u blank)) 6
 
   sum : binary binary_op.Add (number 2) (number 3) ≡ (1, seen (number 5)) ∷ []
   sum = refl
@@ -150,8 +150,8 @@ module _ (text : String Global) where
       ≡ (1, seen true_value) ∷ []
   object_is_no_primitive = refl
 
-  nothings_are_equal : binary binary_op.LooseEq undefined_value null_value
-      ≡ (1, seen true_value) ∷ []
+  nothings_are_equal : binary binary_op.LooseEq undefined_value null_value ≡ (1, seen true_value)
+      ∷ []
   nothings_are_equal = refl
 
   nothings_differ : binary binary_op.StrictNe undefined_value null_value ≡ (1, seen true_value) ∷ []
@@ -163,7 +163,7 @@ module _ (text : String Global) where
   -- ---- Branch
 
   abbrev branch : AbstractValue → List (ℕ × SeenValue)
-  branch = λ v. sets text (node.Branch (reg 6)) (holding 6 v blank) 6
+  branch v = sets text (node.Branch (reg 6)) (holding 6 v blank) 6
 
   on_true : branch true_value ≡ (1, seen true_value) ∷ []
   on_true = refl
@@ -171,8 +171,8 @@ module _ (text : String Global) where
   on_false : branch false_value ≡ (2, seen false_value) ∷ []
   on_false = refl
 
-  on_either : branch (of_bools true true)
-      ≡ (1, seen (of_bools true true)) ∷ (2, seen (of_bools true true)) ∷ []
+  on_either : branch (of_bools true true) ≡ (1, seen (of_bools true true))
+      ∷ (2, seen (of_bools true true)) ∷ []
   on_either = refl
 
   on_no_truth : branch (number 1) ≡ []
@@ -181,7 +181,7 @@ module _ (text : String Global) where
   -- ---- Throw
 
   abbrev throw : AbstractValue → List (ℕ × SeenValue)
-  throw = λ v. sets text (node.Throw (reg 6)) (holding 6 v blank) 0
+  throw v = sets text (node.Throw (reg 6)) (holding 6 v blank) 0
 
   throws_to_handler : throw (number 5) ≡ (3, seen (number 5)) ∷ []
   throws_to_handler = refl

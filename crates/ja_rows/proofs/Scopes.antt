@@ -23,8 +23,9 @@ module _ (text : String Global) where
   -- the parameters p and q are 5 and null, the rest of the arguments is true
 
   abbrev entered : AbstractValue → AbstractState
-  entered = λ count. holding 4 count (holding 2 (of_label global_object) (holding 3 (of_label
-      function_object) (holding 5 (number 5) (holding 6 null_value (holding 7 true_value blank)))))
+  entered count = holding 4 count (holding 2 (of_label global_object)
+      (holding 3 (of_label function_object) (holding 5 (number 5)
+      (holding 6 null_value (holding 7 true_value blank)))))
 
   enter_scope : sets text enter (entered (number 1)) 2 ≡ (1, seen (of_label activation)) ∷ []
   enter_scope = refl
@@ -81,8 +82,8 @@ module _ (text : String Global) where
   other_arguments : leaves text enter (entered (number 6)) arguments_object key.OtherIndex
       ≡ (
         1,
-        seen_property (join_properties (with_attrs (join (number 5) (join null_value
-            true_value)) DONT_ENUM) absent_property),
+        seen_property (join_properties (with_attrs
+            (join (number 5) (join null_value true_value)) DONT_ENUM) absent_property),
       ) ∷ []
   other_arguments = refl
 
@@ -93,8 +94,8 @@ module _ (text : String Global) where
       (name_key 103) ≡ (1, seen_property absent_property) ∷ []
   without_arguments = refl
 
-  enter_is_counted : seen_in (λ a. a.mask activation_site.0 ∷ a.mask arguments_site.0 ∷ []) (gives
-      text enter (entered (number 1))) ≡ (1, exactly_some ∷ exactly_some ∷ []) ∷ []
+  enter_is_counted : seen_in (λ a. a.mask activation_site.0 ∷ a.mask arguments_site.0 ∷ [])
+      (gives text enter (entered (number 1))) ≡ (1, exactly_some ∷ exactly_some ∷ []) ∷ []
   enter_is_counted = refl
 
   -- ---- Declare
@@ -103,7 +104,7 @@ module _ (text : String Global) where
   declare = node.Declare (name 106)
 
   abbrev scoped : AbstractValue → AbstractProperty → AbstractState
-  scoped = λ v q. with_property (holding 2 v blank) activation p_name q
+  scoped v q = with_property (holding 2 v blank) activation p_name q
 
   declares : leaves text declare (scoped (of_label activation) absent_property) activation p_name
       ≡ (1, seen_property (with_attrs undefined_value DONT_DELETE)) ∷ []
@@ -113,28 +114,26 @@ module _ (text : String Global) where
       p_name ≡ (1, seen_property (plain (number 1))) ∷ []
   declared_before = refl
 
-  declared_maybe : leaves text declare (scoped (of_label activation) (join_properties (plain (number
-      1)) absent_property)) activation p_name ≡ (
-        1,
-        seen_property (join_properties (plain (number
-            1)) absent_property),
-      ) ∷ (1, seen_property (with_attrs undefined_value DONT_DELETE)) ∷ []
+  declared_maybe : leaves text declare (scoped (of_label activation)
+      (join_properties (plain (number 1)) absent_property)) activation p_name
+      ≡ (1, seen_property (join_properties (plain (number 1)) absent_property))
+      ∷ (1, seen_property (with_attrs undefined_value DONT_DELETE)) ∷ []
   declared_maybe = refl
 
   declared_nowhere : goes_to text declare (scoped (of_label activation) no_property) ≡ []
   declared_nowhere = refl
 
-  declare_demands : demands text declare (scoped (of_label activation) entry_property) (p_name ∷
-      prototype ∷ []) ≡ (p_name, activation ∷ []) ∷ (prototype, []) ∷ []
+  declare_demands : demands text declare (scoped (of_label activation) entry_property)
+      (p_name ∷ prototype ∷ []) ≡ (p_name, activation ∷ []) ∷ (prototype, []) ∷ []
   declare_demands = refl
 
   -- ---- Bind
 
   abbrev bind : Bool → Node
-  bind = λ read_only. node.Bind (name 106) (reg 7) read_only
+  bind read_only = node.Bind (name 106) (reg 7) read_only
 
   abbrev bound : AbstractValue → AbstractState
-  bound = λ v. holding 7 (number 2) (scoped v (plain (number 1)))
+  bound v = holding 7 (number 2) (scoped v (plain (number 1)))
 
   binds : leaves text (bind false) (bound (of_label activation)) activation p_name
       ≡ (1, seen_property (with_attrs (number 2) DONT_DELETE)) ∷ []
@@ -147,8 +146,8 @@ module _ (text : String Global) where
   binds_weakly : leaves text (bind false) (bound (join (of_label activation) (of_label object)))
       activation p_name ≡ (
         1,
-        seen_property (join_properties (plain (number 1)) (with_attrs (number
-            2) DONT_DELETE)),
+        seen_property (join_properties (plain (number 1))
+            (with_attrs (number 2) DONT_DELETE)),
       ) ∷ []
   binds_weakly = refl
 
