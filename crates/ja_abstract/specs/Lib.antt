@@ -3,12 +3,10 @@ pub mod AbstractValue
 pub mod Composed
 pub mod Contents
 pub mod Keys
-pub mod Laws
 pub mod Lists
 pub mod Made
 pub mod Operations
 pub mod Order
-pub mod OrderLaws
 pub mod Parts
 pub mod Primitives
 pub mod Reading

@@ -1,5 +1,5 @@
-//! What an abstract state says of the states of a run: definitions alone, over these types, and the
-//! laws.
+//! The rows that the code of the analysis goes through today, over the abstract states of
+//! `ja_abstract`: readings along one label, five kinds of node, tables of one context.
 //!
 //! Laws, of programs that are built (`AreBuilt`): a closed table covers every run
 //! (`closed_covers`); an operation without a warning never goes wrong (`warned_of_faults`); and

@@ -1,13 +1,2 @@
 pub mod Applied
-pub mod BuiltIns
-pub mod Calls
-pub mod Edges
-pub mod Enumeration
-pub mod Names
-pub mod Objects
-pub mod Operators
 pub mod Outside
-pub mod Pinned
-pub mod Properties
-pub mod Scopes
-pub mod SmallSteps

@@ -2,7 +2,6 @@ pub mod BuiltIns
 pub mod Calls
 pub mod Edges
 pub mod Enumeration
-pub mod Laws
 pub mod Names
 pub mod Objects
 pub mod Operators

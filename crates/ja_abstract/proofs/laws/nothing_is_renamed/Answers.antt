@@ -1,6 +1,0 @@
--- Each label is what it was.
-use Rattle.ja_abstract.proofs.laws.nothing_is_renamed.Goals as goal
-use Rattle.ja_abstract.proofs.Pinned.{nothing_renamed}
-
-pub returns : goal.returns
-returns c = λ q. nothing_renamed q

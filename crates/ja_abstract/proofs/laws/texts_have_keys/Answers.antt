@@ -1,9 +1,0 @@
--- By the kind of the key.
-use Rattle.ja_abstract.proofs.laws.texts_have_keys.Goals as goal
-use Rattle.ja_abstract.proofs.Pinned.{key_of_text, keys_of_all}
-
-pub returns : goal.returns
-returns c = record {
-  one = λ p t k good of_program. key_of_text p t k good of_program;
-  all = λ p k of_program is_text. keys_of_all p k of_program is_text;
-}

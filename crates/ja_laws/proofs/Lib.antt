@@ -1,0 +1,17 @@
+pub mod BuiltIns
+pub mod Calls
+pub mod Edges
+pub mod Enumeration
+pub mod Names
+pub mod Numbers
+pub mod Objects
+pub mod Operators
+pub mod Ordered
+pub mod PinnedRows
+pub mod PinnedStates
+pub mod Primitives
+pub mod Properties
+pub mod Scopes
+pub mod SmallProgram
+pub mod SmallSteps
+pub mod Writes

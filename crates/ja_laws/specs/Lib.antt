@@ -1,0 +1,3 @@
+pub mod AbstractLaws
+pub mod OrderLaws
+pub mod RowLaws
