@@ -2,6 +2,7 @@ pub mod BuiltIns
 pub mod Calls
 pub mod Edges
 pub mod Enumeration
+pub mod Largest
 pub mod Names
 pub mod Numbers
 pub mod Objects

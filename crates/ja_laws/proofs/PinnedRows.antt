@@ -1,4 +1,4 @@
--- The laws of `specs/Laws.antt`: that calls enter functions, and visits reach callees.
+-- The laws of `specs/RowLaws.antt`: that calls enter functions, and visits reach callees.
 use Rattle.std.specs.Prelude.{◌≡◌, ◌&&◌, ◌||◌, ◌==◌, ◌++◌, ℕ, Bool, true, false, not, IsTrue, List, [], ◌∷◌, map, Option, Some, None, IsSome, is_some}
 use Rattle.std.specs.List.{AllByRecursion, flat_map, list_any}
 use Rattle.std.specs.Option.{option_map_or}

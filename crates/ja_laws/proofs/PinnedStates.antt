@@ -1,5 +1,5 @@
--- The laws of `specs/Laws.antt`: what writes, reads, objects that are made, keys and returns say in
--- other words.
+-- The laws of `specs/AbstractLaws.antt`: what writes, reads, objects that are made, keys and
+-- returns say in other words.
 use Rattle.std.specs.Prelude.{◌≡◌, ◌≢◌, ◌⊎◌, ◌↔◌, ◌<◌, ◌&&◌, ◌||◌, ◌==◌, ℕ, zero, suc, Bool, true, false, nat_eq, if◌then◌else◌, IsTrue, List, [], ◌∷◌, ◌++◌, map, filter, length, Option, Some, None}
 use Rattle.std.specs.List.{list_any, range_with_len}
 use Rattle.std.specs.Option.{option_map, option_map_or, option_and_then}

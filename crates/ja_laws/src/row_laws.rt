@@ -9,6 +9,7 @@ ghost use Rattle.ja_base.specs.declared.ids.Site.{Site};
 ghost use Rattle.ja_graph.specs.declared.node.Args.{Args};
 ghost use Rattle.ja_graph.specs.declared.node.Node.TheVariants as node;
 ghost use Rattle.ja_graph.specs.declared.node.NodeInfo.{NodeInfo};
+ghost use Rattle.ja_graph.specs.declared.program.Program.{Program};
 ghost use Rattle.ja_machine.specs.Frames.{thrown};
 ghost use Rattle.ja_abstract.specs.declared.abstraction.Key.{Key};
 ghost use Rattle.ja_abstract.specs.AbstractState.{AbstractState, with_register};
@@ -19,7 +20,7 @@ ghost use Rattle.ja_rows.specs.Calls.{filled_with, given_back};
 ghost use Rattle.ja_rows.specs.Edges.{calls_at, constructs_at};
 ghost use Rattle.ja_laws.specs.RowLaws.{AllRun, AreThere, GoTo, HasOne, IsEntered, IsJoined, NoneRun};
 ghost use Rattle.ja_rows.specs.Out.{Out, Point, at, nowhere, throws};
-ghost use Rattle.ja_rows.specs.Table.{Table, applied, effects_fill, effects_step};
+ghost use Rattle.ja_rows.specs.Table.{Table, IsClosed, applied, effects_fill, effects_step};
 ghost use Rattle.ja_rows.specs.Transfer.{transfer_node};
 
 /// A Branch on `true` alone goes on to `next` and gives no state to `other`, and one on `false`
@@ -85,4 +86,10 @@ pub fn visits_reach_callees()
     ensures fills { (t : Table) (e : Edge) (w : View) (i : NodeInfo) (l : Label) (k : Key)
         → IsSome (t.entry e.callee l k) → HasOne (LeqProperty (filled_with w e i.node l k))
         ((applied t (effects_fill t e w i)).entry e.callee l k) }
+{}
+
+/// Each program has a closed table, so what is proved of these isn't of none: the one that says
+/// everything is closed, since no visit has more to say.
+pub fn closed_tables_exist()
+    ensures { (p : Program) → (t : Table) × IsClosed p t }
 {}
