@@ -1,0 +1,4 @@
+pub mod JoinLaws
+pub mod Joins
+pub mod Levels
+pub mod Sharing

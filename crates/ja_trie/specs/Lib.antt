@@ -1,0 +1,3 @@
+pub mod Join
+pub mod Nodes
+pub mod code

@@ -1,0 +1,24 @@
+//! Lists of chosen length that share what they have in common, for the heaps of the analyser.
+//! No other crate uses them yet: the next heaps of the analyser stand on this one.
+//!
+//! Contracts see a `Shared` as the list of its values. A fork is equal to its list, and after a
+//! change of one of the two the other reads as before. A write changes one place; a join has at
+//! each place what the join of its two values answered there, or what stood there (`Joined`). After
+//! want of memory the list is as it was.
+//!
+//! The nodes that are made are counted (`Steps`, `ArePaths`). Where d is the least number with
+//! 8^(d + 1) at least the length, `new` and `set` make at most d + 1, `fork` none, and `join_with`
+//! at most d + 1 for each place that it put. No contract says that nodes are shared: those that are
+//! made are counted, and no more.
+#![tactic(auto)]
+
+mod laws;
+mod node;
+mod shared;
+mod steps;
+#[cfg(test)]
+mod tests;
+
+pub use laws::nodes_by_length;
+pub use shared::Shared;
+pub use steps::Steps;

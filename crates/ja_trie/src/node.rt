@@ -1,0 +1,292 @@
+ghost use Rattle.std.specs.Prelude.{◌≡◌, ℕ, ◌+◌, ◌*◌, ◌^◌, ◌<◌, ◌≤◌, ◌-◌, ◌/◌, IfOk, OnErr};
+ghost use Rattle.std.specs.Prelude.{if◌then◌else◌, is_ok, is_some, nat_lt, length, map, flat_map};
+ghost use Rattle.std.specs.Prelude.{replicate, slice_index_or, slice_set};
+ghost use Rattle.ja_trie.specs.code.Node.{places, places_after, IsNode};
+ghost use Rattle.ja_trie.specs.Join.{MayAnswer};
+ghost use Rattle.ja_trie.specs.code.Join.{JoinedTo};
+
+use crate::steps::Steps;
+use ja_base::Memory;
+use std::alloc::Global;
+use std::marker::Model;
+use std::rc::Rc;
+use std::sync::ledger::Ledger;
+
+/// How many kids a node has.
+pub const FAN_OUT: u32 = 8;
+
+/// A node of a shared list. Contracts see the values at its places.
+///
+/// Each node is full: a list has as many places as its root, of which it shows the first ones, and
+/// the places behind them share what the list was made with. So a node has 8 to the power of its
+/// height in places, and its kids are equally high. The height is kept nowhere: a call is told the
+/// `width`, how many places stand below each kid.
+#[cycle(node)]
+#[derive(Drop)]
+pub struct Node<T> {
+    kids: Kids<T>,
+}
+
+/// What hangs at a node: eight values, or eight nodes of one height.
+#[cycle(node)]
+#[derive(Drop)]
+pub enum Kids<T> {
+    Values([Rc<T>; 8]),
+    Nodes([Rc<Node<T>>; 8]),
+}
+
+impl<T> Model for Node<T> {
+    ghost use Rattle.std.specs.Prelude.{List, length};
+
+    ghost Value = { List T };
+
+    ghost use Rattle.ja_trie.specs.code.Node.{places, IsNode};
+
+    ghost view = { λ n. places n.kids };
+
+    ghost invariant = { λ n. IsNode n.kids };
+
+    ghost size = { length };
+
+    ghost use Rattle.ja_trie.specs.code.NodeFalls.{depth_within_places};
+
+    ghost size_decreases = { λ n h. depth_within_places n.kids h };
+}
+
+impl<T: Drop> Node<T> {
+    /// The one way to make a node. It is one step. There is none where memory is refused, and then
+    /// no step is counted.
+    pub fn new<L: Ledger>(
+        alloc: Global,
+        kids: Kids<T>,
+        steps: &mut Steps<L>,
+    ) -> Result<Rc<Node<T>>, Memory>
+        requires { IsNode kids }
+        ensures ok { IfOk result (λ node. node.value ≡ places kids) }
+        ensures ticked { steps.new ≡ steps.old + (if is_ok result then 1 else 0) }
+    {
+        let node = Rc::new(alloc, Node { kids })?;
+        steps.tick();
+        Ok(node)
+    }
+
+    /// A node with one value at each of its eight places, all of them shared.
+    pub fn of_value<L: Ledger>(
+        alloc: Global,
+        value: &Rc<T>,
+        steps: &mut Steps<L>,
+    ) -> Result<Rc<Node<T>>, Memory>
+        ensures ok { IfOk result (λ node. node.value ≡ replicate 8 value.now.value) }
+        ensures nodes { steps.new ≤ steps.old + 1 }
+    {
+        let kids = [
+            value.clone()?,
+            value.clone()?,
+            value.clone()?,
+            value.clone()?,
+            value.clone()?,
+            value.clone()?,
+            value.clone()?,
+            value.clone()?,
+        ];
+        Node::new(alloc, Kids::Values(kids), steps)
+    }
+
+    /// A node with one node as each of its eight kids, all of them shared.
+    pub fn of_node<L: Ledger>(
+        alloc: Global,
+        node: &Rc<Node<T>>,
+        steps: &mut Steps<L>,
+    ) -> Result<Rc<Node<T>>, Memory>
+        requires { (w : ℕ) × (0 < w) × (length node.now.value ≡ 8 * w) }
+        ensures ok { IfOk result (λ above.
+            above.value ≡ flat_map (λ n. n.value) (replicate 8 node.now)) }
+        ensures nodes { steps.new ≤ steps.old + 1 }
+    {
+        let kids = [
+            node.clone()?,
+            node.clone()?,
+            node.clone()?,
+            node.clone()?,
+            node.clone()?,
+            node.clone()?,
+            node.clone()?,
+            node.clone()?,
+        ];
+        Node::new(alloc, Kids::Nodes(kids), steps)
+    }
+
+    /// The value at a place.
+    pub fn get(&self, index: u32, width: u32) -> &T
+        requires within { index < length self.now }
+        requires level { length self.now ≡ 8 * width }
+        ensures { result.now ≡ slice_index_or self.now index result.now }
+    {
+        match &self.kids {
+            Kids::Values(values) => &values[index as usize],
+            Kids::Nodes(nodes) => {
+                let at = (index / width) as usize;
+                nodes[at].get(index % width, width / FAN_OUT)
+            }
+        }
+    }
+
+    /// The same node with another value at a place, by one new node a level; all other nodes are
+    /// shared with this one.
+    pub fn set<L: Ledger>(
+        &self,
+        alloc: Global,
+        index: u32,
+        width: u32,
+        value: Rc<T>,
+        steps: &mut Steps<L>,
+    ) -> Result<Rc<Node<T>>, Memory>
+        requires within { index < length self.now }
+        requires level { length self.now ≡ 8 * width }
+        ensures ok { IfOk result (λ node. node.value ≡ slice_set self.now index value.value) }
+        ensures grows { steps.old ≤ steps.new }
+        ensures nodes { (h : ℕ) → length self.now ≡ 8 ^ (h + 1)
+            → steps.new ≤ steps.old + h + 1 }
+    {
+        match &self.kids {
+            Kids::Values(values) => {
+                let mut values = values.clone()?;
+                values[index as usize] = value;
+                Node::new(alloc, Kids::Values(values), steps)
+            }
+            Kids::Nodes(nodes) => {
+                let at = (index / width) as usize;
+                let below = nodes[at].set(alloc, index % width, width / FAN_OUT, value, steps)?;
+                let mut nodes = nodes.clone()?;
+                nodes[at] = below;
+                Node::new(alloc, Kids::Nodes(nodes), steps)
+            }
+        }
+    }
+
+    /// Puts a value at a place: where no copy shares the node, in the node itself, and else by new
+    /// nodes, one a level at most.
+    pub fn put<L: Ledger>(
+        node: &mut Rc<Node<T>>,
+        alloc: Global,
+        index: u32,
+        width: u32,
+        value: Rc<T>,
+        steps: &mut Steps<L>,
+    ) -> Result<(), Memory>
+        requires within { index < length node.old.value }
+        requires level { length node.old.value ≡ 8 * width }
+        ensures ok { IfOk result (λ _.
+            node.new.value ≡ slice_set node.old.value index value.value) }
+        ensures err { OnErr result (node.new.value ≡ node.old.value) }
+        ensures nodes { (h : ℕ) → length node.old.value ≡ 8 ^ (h + 1)
+            → steps.new ≤ steps.old + h + 1 }
+    {
+        match Rc::get_mut(node) {
+            Some(own) => match &mut own.kids {
+                Kids::Values(values) => {
+                    values[index as usize] = value;
+                    Ok(())
+                }
+                Kids::Nodes(nodes) => {
+                    let at = (index / width) as usize;
+                    Node::put(
+                        &mut nodes[at],
+                        alloc,
+                        index % width,
+                        width / FAN_OUT,
+                        value,
+                        steps,
+                    )
+                }
+            },
+            None => {
+                *node = node.set(alloc, index, width, value, steps)?;
+                Ok(())
+            }
+        }
+    }
+
+    /// The same node joined with another one at its first `count` places, or none where no place is
+    /// put. It makes at most one node a level for each place that it put.
+    pub fn join<L: Ledger, F: Fn(&T, &T) -> Result<Option<T>, Memory>>(
+        &self,
+        other: &Node<T>,
+        alloc: Global,
+        count: u32,
+        width: u32,
+        join: &F,
+        steps: &mut Steps<L>,
+    ) -> Result<Option<Rc<Node<T>>>, Memory>
+        requires level { length self.now ≡ 8 * width }
+        requires same { length other.now ≡ length self.now }
+        requires may { F.IsAlwaysCallable join.now }
+        ensures { IfOk result (λ node. (puts : ℕ) × (is_some node ≡ nat_lt 0 puts)
+            × JoinedTo (MayAnswer F.Fn join.now) count self.now other.now
+            (places_after self.now node) puts
+            × ((h : ℕ) → length self.now ≡ 8 ^ (h + 1)
+            → steps.new ≤ steps.old + (h + 1) * puts)) }
+    {
+        if count == 0 {
+            return Ok(None);
+        }
+        match (&self.kids, &other.kids) {
+            (Kids::Values(values), Kids::Values(others)) => {
+                let (kids, changed) = join_values(alloc, values, others, count, join)?;
+                if !changed {
+                    return Ok(None);
+                }
+                Ok(Some(Node::new(alloc, Kids::Values(kids), steps)?))
+            }
+            (Kids::Nodes(nodes), Kids::Nodes(others)) => {
+                let mut kids = nodes.clone()?;
+                let mut changed = false;
+                let mut left = count;
+                for i in 0..FAN_OUT as usize {
+                    if let Some(kid) = nodes[i].join(
+                        &others[i],
+                        alloc,
+                        left,
+                        width / FAN_OUT,
+                        join,
+                        steps,
+                    )? {
+                        kids[i] = kid;
+                        changed = true;
+                    }
+                    left = left.saturating_sub(width);
+                }
+                if !changed {
+                    return Ok(None);
+                }
+                Ok(Some(Node::new(alloc, Kids::Nodes(kids), steps)?))
+            }
+            _ => unreachable!(),
+        }
+    }
+}
+
+/// The values of a node joined with those of another at the first `count` places, and whether one
+/// was put.
+fn join_values<T: Drop, F: Fn(&T, &T) -> Result<Option<T>, Memory>>(
+    alloc: Global,
+    values: &[Rc<T>; 8],
+    others: &[Rc<T>; 8],
+    count: u32,
+    join: &F,
+) -> Result<([Rc<T>; 8], bool), Memory>
+    requires { F.IsAlwaysCallable join.now }
+    ensures { IfOk result (λ kids. (length kids.0 ≡ 8) × ((puts : ℕ) × (kids.1 ≡ nat_lt 0 puts)
+        × JoinedTo (MayAnswer F.Fn join.now) count (map (λ x. x.value) values.now)
+        (map (λ x. x.value) others.now) (map (λ x. x.value) kids.0) puts)) }
+{
+    let mut kids = values.clone()?;
+    let mut changed = false;
+    for i in 0..count.min(FAN_OUT) as usize {
+        if let Some(value) = join(&values[i], &others[i])? {
+            kids[i] = Rc::new(alloc, value)?;
+            changed = true;
+        }
+    }
+    Ok((kids, changed))
+}
