@@ -75,6 +75,10 @@ keys_below n =
 abbrev pub keys_of : Program → List Key
 keys_of p = keys_below (length p.names)
 
+-- a label is one of a program if its site is
+abbrev pub is_label : Program → Label → Bool
+is_label p l = nat_lt l.site.0 (length p.sites)
+
 -- a key is one of a program if it is none of a name that the program doesn't have
 abbrev pub is_key : Program → Key → Bool
 is_key p (key.Name n) = nat_lt n.0 (length p.names)

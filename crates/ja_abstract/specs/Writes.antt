@@ -18,7 +18,7 @@ use Rattle.ja_abstract.specs.declared.abstraction.NumberPart.TheVariants as numb
 use Rattle.ja_abstract.specs.declared.abstraction.Key.{Key}
 use Rattle.ja_abstract.specs.declared.abstraction.Key.TheVariants as key
 use Rattle.ja_abstract.specs.AbstractValue.{Labels, AbstractValue, AbstractProperty, same_label, join, join_properties, join_attrs, unknown_attrs, of_attrs, of_primitive, has_part, absent_property}
-use Rattle.ja_abstract.specs.AbstractState.{AbstractState, new, labels_of, same_key}
+use Rattle.ja_abstract.specs.AbstractState.{AbstractState, new, labels_of, is_label, same_key}
 use Rattle.ja_abstract.specs.Resolved.{Demands, resolved, demands_of}
 use Rattle.ja_abstract.specs.Keys.{index_of_key, is_index_key, index_keys}
 use Rattle.ja_abstract.specs.Primitives.{to_num, of_number_part, whole_value, of_bools}
@@ -53,7 +53,7 @@ replaced_at (x ∷ xs) q k =
     if same_key x.key k then (if x.joins then join_properties before x.property else x.property)
     else before
 
--- at the one object of a label, and at all objects of some labels
+-- at the one object of a label, and at all objects of some labels, those of a program alone
 abbrev pub strong_update : AbstractState → Label → List Write → AbstractState
 strong_update a l writes =
     record a {
@@ -61,10 +61,10 @@ strong_update a l writes =
           (a.property m j) j else a.property m j;
     }
 
-abbrev pub weak_update : AbstractState → Labels → (Label → List Write) → AbstractState
-weak_update a target writes =
+abbrev pub weak_update : Program → AbstractState → Labels → (Label → List Write) → AbstractState
+weak_update p a target writes =
     record a {
-      property = λ m j. if target m then joined_at (writes m)
+      property = λ m j. if is_label p m && target m then joined_at (writes m)
           (a.property m j) j else a.property m j;
     }
 
@@ -199,7 +199,7 @@ some_at w target keys holds = some_label w (λ l. target l && list_any (holds l)
 abbrev pub weak_put : View → Labels → List Key → AbstractValue → List AbstractState
 weak_put w target keys v =
     if_there (some_at w target keys (λ l k. puts_something w l k v))
-    (weak_update w.state target (put_list w keys v))
+    (weak_update w.program w.state target (put_list w keys v))
 
 abbrev pub put_states : View → Labels → List Key → AbstractValue → List AbstractState
 put_states w target keys v =
@@ -221,15 +221,15 @@ or_global base l = base.label l || (base.flags.null && same_label (new global) l
 
 abbrev pub defined : View → Labels → Key → AbstractProperty → AbstractState
 defined w target k q =
-    let weak = weak_update w.state target (λ l. sets_at k q ∷ []) in
+    let weak = weak_update w.program w.state target (λ l. sets_at k q ∷ []) in
     option_map_or (λ l. strong_update w.state l (sets_at k q ∷ [])) (one_target w target) weak
 
 -- .. where it isn't there
 abbrev pub declared : View → Labels → Key → AbstractProperty → AbstractState
 declared w target k q =
-    let weak =
-    weak_update w.state target (λ l. if (own_at w l k).value.flags.absent then sets_at k q ∷ []
-    else []) in
+    let at_missing =
+    λ (l : Label). if (own_at w l k).value.flags.absent then sets_at k q ∷ [] else [] in
+    let weak = weak_update w.program w.state target at_missing in
     option_map_or (λ l. strong_update w.state l (sets_at k q ∷ [])) (one_target w target) weak
 
 -- ---- [[Delete]] (8.6.2.5)
@@ -264,7 +264,7 @@ abbrev pub weak_delete : View → Labels → List Key → List Deletion
 weak_delete w target keys =
     let is_deleted = some_at w target keys (λ l k. is_missing w l k || may_delete w l k) in
     let is_kept = some_at w target keys (may_keep w) in
-    (of_bools is_deleted is_kept, weak_update w.state target (delete_list w keys)) ∷ []
+    (of_bools is_deleted is_kept, weak_update w.program w.state target (delete_list w keys)) ∷ []
 
 abbrev pub delete_states : View → Labels → List Key → List Deletion
 delete_states w target keys =

@@ -20,7 +20,7 @@ use Rattle.ja_abstract.specs.declared.abstraction.Mask.{Mask}
 use Rattle.ja_abstract.specs.declared.abstraction.TextPart.TheVariants as text_part
 use Rattle.ja_abstract.specs.Primitives.{of_text_part}
 use Rattle.ja_abstract.specs.AbstractValue.{Labels, AbstractValue, AbstractProperty, same_label, join_properties, no_property, absent_property, entry_property, of_primitive}
-use Rattle.ja_abstract.specs.AbstractState.{AbstractState, new, old, labels_of, keys_of, is_key, same_key, exactly_none, exactly_some, aged, aged_property, made_property, with_made, name_key}
+use Rattle.ja_abstract.specs.AbstractState.{AbstractState, new, old, labels_of, keys_of, is_label, is_key, same_key, exactly_none, exactly_some, aged, aged_property, made_property, with_made, name_key}
 use Rattle.ja_abstract.specs.Composed.{composed, composed_mask, all_of}
 use Rattle.ja_abstract.specs.Keys.{is_index_key, has_key, is_among_keys, is_text_key, keys_of_value, text_key}
 use Rattle.ja_laws.specs.AbstractLaws.{ChangesNothing, HasNone, IsAged, IsMade, IsOfOneObject, IsPlainPut, IsSameAtKeys, IsTarget, IsThere, Keep, PutInto, Replaces}
@@ -168,14 +168,14 @@ joined_keeps (x ∷ xs) q k =
     (λ _. property_both q (joined_at xs q k) _ (joined_keeps xs q k)
     (property-join (joined_at xs q k) x.property)) (λ _. joined_keeps xs q k)
 
-weak_keeps : (a : AbstractState) (target : Labels) (writes : Label → List Write)
-    → LeqState a (weak_update a target writes)
-weak_keeps a target writes = record {
+weak_keeps : (p : Program) (a : AbstractState) (target : Labels) (writes : Label → List Write)
+    → LeqState a (weak_update p a target writes)
+weak_keeps p a target writes = record {
   register = λ r. value_same (a.register r);
   property =
-      λ l k. cond_both (target l) (joined_at (writes l) (a.property l k) k) (a.property l k)
-      (λ q. LeqProperty (a.property l k) q) (λ _. joined_keeps (writes l) (a.property l k) k)
-      (λ _. property_same (a.property l k));
+      λ l k. cond_both (is_label p l && target l) (joined_at (writes l) (a.property l k) k)
+      (a.property l k) (λ q. LeqProperty (a.property l k) q)
+      (λ _. joined_keeps (writes l) (a.property l k) k) (λ _. property_same (a.property l k));
   mask = (state_same a).mask;
 }
 
@@ -185,16 +185,16 @@ puts_keep w target keys v e =
     subst (λ o. Keep w.state (option_map_or
     (λ (at : Label × Key). strong_put w at.0 at.1 v) o
     (weak_put w target keys v))) (sym e) (cond_both _
-    (weak_update w.state target (put_list w keys v) ∷ []) [] (Keep w.state)
-    (λ _. (weak_keeps w.state target (put_list w keys v), tt)) (λ _. tt))
+    (weak_update w.program w.state target (put_list w keys v) ∷ []) [] (Keep w.state)
+    (λ _. (weak_keeps w.program w.state target (put_list w keys v), tt)) (λ _. tt))
 
 pub definitions_keep : (w : View) (target : Labels) (k : Key) (q : AbstractProperty)
     → one_target w target ≡ None → Keep w.state (defined w target k q ∷ [])
 definitions_keep w target k q e =
     subst (λ o. Keep w.state (option_map_or
     (λ l. strong_update w.state l (sets_at k q ∷ [])) o
-    (weak_update w.state target (λ l. sets_at k q ∷ [])) ∷ [])) (sym e)
-    (weak_keeps w.state target (λ l. sets_at k q ∷ []), tt)
+    (weak_update w.program w.state target (λ l. sets_at k q ∷ [])) ∷ [])) (sym e)
+    (weak_keeps w.program w.state target (λ l. sets_at k q ∷ []), tt)
 
 -- ---- an object more
 

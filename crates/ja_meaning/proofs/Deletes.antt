@@ -25,7 +25,7 @@ use Rattle.ja_abstract.specs.declared.abstraction.Key.{Key}
 use Rattle.ja_abstract.specs.declared.abstraction.Key.TheVariants as key
 use Rattle.ja_abstract.specs.declared.abstraction.Slot.TheVariants as slot
 use Rattle.ja_abstract.specs.AbstractValue.{Labels, AbstractValue, absent_property}
-use Rattle.ja_abstract.specs.AbstractState.{AbstractState, same_key}
+use Rattle.ja_abstract.specs.AbstractState.{AbstractState, is_label, same_key}
 use Rattle.ja_abstract.specs.Resolved.{demands_of, IsFilled}
 use Rattle.ja_abstract.specs.Contents.{missing, content, content_of, object_content, property_content, label_of}
 use Rattle.ja_abstract.specs.Keys.{Spot, named, internal, key_of, is_among_keys}
@@ -45,7 +45,7 @@ use Rattle.ja_meaning.proofs.Inside.{inside}
 use Rattle.ja_meaning.proofs.Parts.{allows_attrs-known, is_present-known}
 use Rattle.ja_meaning.proofs.Arrays.{find-kept, find-cut}
 use Rattle.ja_meaning.proofs.Moments.{Reads}
-use Rattle.ja_meaning.proofs.Gets.{some_label-object}
+use Rattle.ja_meaning.proofs.Gets.{some_label-object, label-of_program}
 use Rattle.ja_meaning.proofs.Puts.{wrote_object, wrote_nothing, content_now, member-joins, own_at_known, one_suits, Suits}
 use Rattle.ja_meaning.proofs.Targets.{strong-is}
 use Rattle.ja_meaning.proofs.Written.{Wrote, tells-now, written-knows, weak_update_holds, strong_update_holds}
@@ -120,6 +120,9 @@ module _ (e c : Heap) (w : View) (r : Reads e c w) (good : IsWellFormed w.progra
   is_object : IsObjectOf c a
   is_object = is_some_from (object_at c a) o there
 
+  of_program : IsTrue (is_label p l)
+  of_program = label-of_program e c w r a is_object
+
   holds : HoldsOfHeap p e c w.state
   holds = r.holds
 
@@ -161,7 +164,7 @@ module _ (e c : Heap) (w : View) (r : Reads e c w) (good : IsWellFormed w.progra
       (x_registers : x.register ≡ w.state.register)
       (x_holds : ((y : Spot) → IsTrue (same_key k (key_of p y)) → y ≡ named t) → l.old ≡ false
       → HoldsOfHeap p e now x) (weak_has : IsTrue (has_value now weak_value (bool_value b)))
-      (weak : HoldsOfHeap p e now (weak_update w.state target (delete_list w keys))) where
+      (weak : HoldsOfHeap p e now (weak_update p w.state target (delete_list w keys))) where
     deleted_by : (s : Option (Label × Key)) → strong_at w target keys ≡ s
         → IsDeleted e c w a now b (option_map_or (λ (s : Label × Key). strong_delete w s.0 s.1) s
         (weak_delete w target keys))
@@ -182,7 +185,7 @@ module _ (e c : Heap) (w : View) (r : Reads e c w) (good : IsWellFormed w.progra
     deleted_by None is =
         record {
           value = weak_value;
-          state = weak_update w.state target
+          state = weak_update p w.state target
               (delete_list w keys);
           among = inl refl;
           has = weak_has;
@@ -225,8 +228,8 @@ module _ (e c : Heap) (w : View) (r : Reads e c w) (good : IsWellFormed w.progra
         (member-if_given (is_missing w l k) (of_bools true false) w.state absent)) refl refl
         (λ only new. same_holds p e c now a wrote_less w.state holds same)
         (some-at (λ l k. is_missing w l k || may_delete w l k) (or_left _ _ absent))
-        (weak_update_holds p e c now a wrote_less w.state holds target (delete_list w keys) among
-        (λ y. inl (same y)))
+        (weak_update_holds p e c now a wrote_less w.state holds target (delete_list w keys)
+        of_program among (λ y. inl (same y)))
 
   module _ (q : Property) (some : property_of o t ≡ Some q) where
     known_some : IsTrue (knows c (own_at w l k) (content_of q.content q.attrs))
@@ -257,7 +260,8 @@ module _ (e c : Heap) (w : View) (r : Reads e c w) (good : IsWellFormed w.progra
         (member-if_given (may_keep w l k) (of_bools false true) w.state keep))) refl refl
         (λ only new. holds)
         (some-at (may_keep w) keep) (weak_update_holds p e c c a
-        (wrote_nothing c a) w.state holds target (delete_list w keys) among (λ y. inl refl))
+        (wrote_nothing c a) w.state holds target (delete_list w keys) of_program among
+        (λ y. inl refl))
 
     -- it goes
     module _ (is : q.attrs.dont_delete ≡ false) where
@@ -282,8 +286,8 @@ module _ (e c : Heap) (w : View) (r : Reads e c w) (good : IsWellFormed w.progra
           (sets_at k absent_property ∷ []) (λ y. suits.strong only y
           (w.state.property l (key_of p y)) (r.holds.objects a y is_object)))
           (some-at (λ l k. is_missing w l k || may_delete w l k) (or_right (is_missing w l k) _ go))
-          (weak_update_holds p e c now a wrote_less w.state holds target (delete_list w keys) among
-          (λ y. elim (named_cases y t) [
+          (weak_update_holds p e c now a wrote_less w.state holds target (delete_list w keys)
+          of_program among (λ y. elim (named_cases y t) [
             | inl y_is ↦
                 inr (λ z. subst (λ y. IsTrue (knows now
                 (joined_at (delete_list w keys l) z (key_of p y)) (content now a y))) (sym y_is)

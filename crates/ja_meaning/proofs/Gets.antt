@@ -17,7 +17,7 @@ use Rattle.ja_machine.specs.State.{IsObjectOf}
 use Rattle.ja_abstract.specs.declared.abstraction.Slot.TheVariants as slots
 use Rattle.ja_abstract.specs.declared.abstraction.Key.{Key}
 use Rattle.ja_abstract.specs.AbstractValue.{Labels, AbstractProperty, present_part, no_property, absent_property}
-use Rattle.ja_abstract.specs.AbstractState.{labels_of, same_key}
+use Rattle.ja_abstract.specs.AbstractState.{labels_of, is_label, same_key}
 use Rattle.ja_abstract.specs.Resolved.{resolved, demands_of, join_all, prototype, IsFilled}
 use Rattle.ja_abstract.specs.Contents.{label_of, SpotContent, missing, content, content_of, property_content, held_address}
 use Rattle.ja_abstract.specs.Keys.{Spot, named, internal, key_of, is_among_keys}
@@ -28,7 +28,7 @@ use Rattle.ja_abstract.proofs.Rounds.{reached-start, reached-next}
 use Rattle.ja_abstract.proofs.Among.{some_key}
 use Rattle.ja_meaning.specs.Meaning.{knows}
 use Rattle.ja_meaning.proofs.Moments.{Reads}
-use Rattle.ja_meaning.proofs.Parts.{label_of-among, is_present-known, has_value-flags, knows-join_all}
+use Rattle.ja_meaning.proofs.Parts.{label_of-among, label_of-is_label, is_present-known, has_value-flags, knows-join_all}
 use Rattle.ja_meaning.proofs.Values.{knows-join_left, knows-join_right}
 use Rattle.ja_meaning.proofs.Resolved.{own-knows}
 use Rattle.ja_meaning.proofs.Walks.{LeadsOn, Walked, IsHolder, IsLast, get_walked, link_of, prototype_before, content-named, content-prototype, own-content}
@@ -62,6 +62,9 @@ module _ (e c : Heap) (w : View) (r : Reads e c w) where
 
   pub label-among : (a : Addr) → IsObjectOf c a → IsAmong (label_of c a) (labels_of p)
   label-among a o = label_of-among p c r.heap_now a o
+
+  pub label-of_program : (a : Addr) → IsObjectOf c a → IsTrue (is_label p (label_of c a))
+  label-of_program a o = label_of-is_label p c r.heap_now a o
 
   -- where some object passes a test by its label, some label does
   pub some_label-object : (test : Labels) (a : Addr) → IsObjectOf c a → IsTrue (test (label_of c a))

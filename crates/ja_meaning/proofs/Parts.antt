@@ -1,8 +1,8 @@
 -- What the changed values of readings keep of a heap, and that what has a value has a part.
-use Rattle.std.specs.Prelude.{Bool, false, IsTrue, List, [], ◌∷◌, map, ◌≡◌, true}
+use Rattle.std.specs.Prelude.{Bool, false, IsTrue, List, [], ◌∷◌, map, length, ◌≡◌, true}
 use Rattle.std.specs.List.{list_any}
 use Rattle.std.proofs.Common.{subst, arith, inl, inr}
-use Rattle.std.proofs.lemmas.Bool.{or_left, or_right, or_cases, and_parts, and_from, false≢true}
+use Rattle.std.proofs.lemmas.Bool.{or_left, or_right, or_cases, and_parts, and_from, false≢true, lt-ltb}
 use Rattle.ja_base.specs.declared.ids.Label.{Label}
 use Rattle.ja_prim.specs.declared.primitive.Primitive.{Primitive}
 use Rattle.ja_prim.specs.declared.primitive.Primitive.TheVariants as primitive
@@ -17,7 +17,7 @@ use Rattle.ja_machine.specs.declared.machine.Content.TheVariants as contents
 use Rattle.ja_machine.specs.declared.machine.Heap.{Heap}
 use Rattle.ja_machine.specs.State.{IsObjectOf, IsValueOf, IsHeap}
 use Rattle.ja_abstract.specs.AbstractValue.{Labels, AbstractValue, AbstractProperty, same_label, is_present, has_part, present_part}
-use Rattle.ja_abstract.specs.AbstractState.{labels_of}
+use Rattle.ja_abstract.specs.AbstractState.{labels_of, is_label}
 use Rattle.ja_abstract.specs.Contents.{label_of, SpotContent, missing, held, present, present_row, content_of}
 use Rattle.ja_abstract.specs.Parts.{allows_attrs, has_primitive}
 use Rattle.ja_abstract.specs.Resolved.{known_part, join_all, join_values}
@@ -81,6 +81,11 @@ knows-join_all h f (m ∷ ms) l c a e =
 pub label_of-among : (p : Program) (h : Heap) → IsHeap p h → (a : Addr) → IsObjectOf h a
     → IsAmong (label_of h a) (labels_of p)
 label_of-among p h heap a o = labels_of-has p (label_of h a) (site_in_range p h heap a o)
+
+pub label_of-is_label : (p : Program) (h : Heap) → IsHeap p h → (a : Addr) → IsObjectOf h a
+    → IsTrue (is_label p (label_of h a))
+label_of-is_label p h heap a o =
+    lt-ltb a.site.0 (length p.sites) (site_in_range p h heap a o)
 
 -- a set of labels that has the label of an object of the heap has one of the program
 pub list_any-label_of : (p : Program) (h : Heap) → IsHeap p h → (a : Addr) → IsObjectOf h a

@@ -23,7 +23,7 @@ use Rattle.ja_machine.proofs.Lists.{either_way, is_some_from}
 use Rattle.ja_abstract.specs.declared.abstraction.Key.{Key}
 use Rattle.ja_abstract.specs.declared.abstraction.Key.TheVariants as key
 use Rattle.ja_abstract.specs.AbstractValue.{Labels, AbstractValue, AbstractProperty}
-use Rattle.ja_abstract.specs.AbstractState.{AbstractState, labels_of, same_key}
+use Rattle.ja_abstract.specs.AbstractState.{AbstractState, labels_of, is_label, same_key}
 use Rattle.ja_abstract.specs.Resolved.{demands_of, IsFilled, prototype}
 use Rattle.ja_abstract.specs.Contents.{SpotContent, content, property_content, label_of}
 use Rattle.ja_abstract.specs.Keys.{Spot, named, internal, key_of, is_among_keys, is_index_key}
@@ -39,7 +39,7 @@ use Rattle.ja_abstract.proofs.Among.{some_key}
 use Rattle.ja_meaning.specs.Meaning.{has_value, knows, HoldsOfHeap}
 use Rattle.ja_meaning.proofs.Parts.{allows_attrs-known}
 use Rattle.ja_meaning.proofs.Moments.{Reads}
-use Rattle.ja_meaning.proofs.Gets.{some_label-object, get_known}
+use Rattle.ja_meaning.proofs.Gets.{some_label-object, label-of_program, get_known}
 use Rattle.ja_meaning.proofs.Puts.{joined-kept, IsWritten, IsWrong, Leaves, LeavesBy, own_leaves, wrote_nothing}
 use Rattle.ja_meaning.proofs.Targets.{strong-is}
 use Rattle.ja_meaning.proofs.Written.{Wrote, weak_update_holds, strong_update_holds}
@@ -135,6 +135,9 @@ module _ (e c : Heap) (w : View) (r : Reads e c w) (good : IsWellFormed w.progra
   is_object : IsObjectOf c a
   is_object = is_some_from (object_at c a) o there
 
+  of_program : IsTrue (is_label p l)
+  of_program = label-of_program e c w r a is_object
+
   holds : HoldsOfHeap p e c w.state
   holds = r.holds
 
@@ -173,7 +176,7 @@ module _ (e c : Heap) (w : View) (r : Reads e c w) (good : IsWellFormed w.progra
       (x_among : Member x (strong_put w l k u)) (x_registers : x.register ≡ w.state.register)
       (x_holds : ((y : Spot) → IsTrue (same_key k (key_of p y)) → y ≡ named t) → l.old ≡ false
       → HoldsOfHeap p e now x) (something : IsTrue (puts_something w l k u))
-      (weak : HoldsOfHeap p e now (weak_update w.state target (put_list w keys u))) where
+      (weak : HoldsOfHeap p e now (weak_update p w.state target (put_list w keys u))) where
     left_by : (s : Option (Label × Key)) → strong_at w target keys ≡ s
         → IsLeft e c w a now (option_map_or (λ (s : Label × Key). strong_put w s.0 s.1 u) s
         (weak_put w target keys u))
@@ -189,9 +192,9 @@ module _ (e c : Heap) (w : View) (r : Reads e c w) (good : IsWellFormed w.progra
           wrote = wrote;
         }
     left_by None is = record {
-      state = weak_update w.state target (put_list w keys u);
+      state = weak_update p w.state target (put_list w keys u);
       among =
-          member-if_there _ (weak_update w.state target (put_list w keys u))
+          member-if_there _ (weak_update p w.state target (put_list w keys u))
           (some_label-object e c w r (λ m. target m
           && list_any (λ (j : Key). puts_something w m j u) keys) a is_object
           (and_from _ _ among (some_key (λ (j : Key). puts_something w l j u) keys k key_in
@@ -214,7 +217,7 @@ module _ (e c : Heap) (w : View) (r : Reads e c w) (good : IsWellFormed w.progra
       (member-if_there (may_refuse (asked_at w l k)) w.state refuse)) refl (λ only new. holds)
       (or_left _ _ refuse)
       (weak_update_holds p e c c a (wrote_nothing c a) w.state holds target
-      (put_list w keys u) among (λ y. inl refl))
+      (put_list w keys u) of_program among (λ y. inl refl))
 
   -- what is put by some writes
   module _ (accept : IsTrue (may_accept (asked_at w l k))) where
@@ -241,8 +244,8 @@ module _ (e c : Heap) (w : View) (r : Reads e c w) (good : IsWellFormed w.progra
         (λ y. h.suits.strong only y (w.state.property l (key_of p y))
         (r.holds.objects a y is_object)))
         (or_right (may_refuse (asked_at w l k)) _ some)
-        (weak_update_holds p e c now a h.suits.wrote w.state holds target (put_list w keys u) among
-        (λ y. elim (h.suits.weak y) [
+        (weak_update_holds p e c now a h.suits.wrote w.state holds target (put_list w keys u)
+        of_program among (λ y. elim (h.suits.weak y) [
           | inl same ↦ inl same
           | inr known ↦
               inr (joined-keys now (content now a y)

@@ -1,5 +1,5 @@
 -- Writes to one object: strong at the one object of a label, weak at the objects of some labels.
-use Rattle.std.specs.Prelude.{◌≡◌, ◌⊎◌, ◌<◌, ℕ, false, IsTrue, List, [], ◌∷◌, Some, IsSome}
+use Rattle.std.specs.Prelude.{◌≡◌, ◌⊎◌, ◌<◌, ◌&&◌, ℕ, false, IsTrue, List, [], ◌∷◌, Some, IsSome}
 use Rattle.std.proofs.Common.{refl, sym, subst, ap, ◌∙◌, inl, inr, arith}
 use Rattle.std.proofs.lemmas.Bool.{and_parts, and_from, false≢true, cond_both, cond-true}
 use Rattle.ja_base.specs.declared.ids.Label.{Label}
@@ -16,7 +16,7 @@ use Rattle.ja_machine.specs.State.{IsObjectOf}
 use Rattle.ja_machine.proofs.Heaps
 use Rattle.ja_abstract.specs.declared.abstraction.Key.{Key}
 use Rattle.ja_abstract.specs.AbstractValue.{Labels, AbstractValue, AbstractProperty, same_label, join_properties}
-use Rattle.ja_abstract.specs.AbstractState.{AbstractState, same_key}
+use Rattle.ja_abstract.specs.AbstractState.{AbstractState, is_label, same_key}
 use Rattle.ja_abstract.specs.Contents.{SpotContent, missing, held, present, present_row, content, label_of}
 use Rattle.ja_abstract.specs.Keys.{Spot, named, key_of}
 use Rattle.ja_abstract.specs.Writes.{Write, sets_at, joined_at, replaced_at, strong_update, weak_update}
@@ -109,7 +109,8 @@ module _ (p : Program) (e c now : Heap) (a : Addr) (wrote : Wrote c now a) (s : 
       ⊎ ((q : AbstractProperty) → IsTrue (knows now (joined_at writes q (key_of p x))
       (content now a x)))
 
-  module _ (target : Labels) (writes : Label → List Write) (among : IsTrue (target (label_of c a)))
+  module _ (target : Labels) (writes : Label → List Write)
+      (of_program : IsTrue (is_label p (label_of c a))) (among : IsTrue (target (label_of c a)))
       (written : Weakens (writes (label_of c a))) where
     weak_by : (b : Addr) (x : Spot) → IsObjectOf now b → (b ≡ a) ⊎ (b ≡ a → ⊥)
         → Tells e now b x (joined_at (writes (label_of now b))
@@ -140,26 +141,27 @@ module _ (p : Program) (e c now : Heap) (a : Addr) (wrote : Wrote c now a) (s : 
         )
 
     weak_tells : (b : Addr) (x : Spot) → IsObjectOf now b
-        → Tells e now b x ((weak_update s target writes).property (label_of now b) (key_of p x))
+        → Tells e now b x ((weak_update p s target writes).property (label_of now b) (key_of p x))
     weak_tells b x there =
         let l = label_of now b in
         let by = weak_by b x there (Heaps.address_cases b a) in
-        cond_both (target l) (joined_at (writes l) (s.property l (key_of p x)) (key_of p x))
+        cond_both (is_label p l && target l)
+        (joined_at (writes l) (s.property l (key_of p x)) (key_of p x))
         (s.property l (key_of p x)) (Tells e now b x) (λ _. by.0)
-        (λ out. by.1 (λ is. false≢true (sym out ∙ (ap target (ap (label_of now) is ∙ wrote.labels a)
-        ∙ among))))
+        (λ out. by.1 (λ is. false≢true (sym out ∙ (ap (λ m. is_label p m && target m)
+        (ap (label_of now) is ∙ wrote.labels a) ∙ and_from _ _ of_program among))))
 
-    pub weak_update_holds : HoldsOfHeap p e now (weak_update s target writes)
+    pub weak_update_holds : HoldsOfHeap p e now (weak_update p s target writes)
     weak_update_holds = record { objects = weak_tells; some = masks_some; none = masks_none }
 
   -- at the one object of a new label each spot is told of by what replaces the property there
-  module _ (l : Label) (is_label : label_of c a ≡ l) (is_new : l.old ≡ false) (writes : List Write)
+  module _ (l : Label) (label_is : label_of c a ≡ l) (is_new : l.old ≡ false) (writes : List Write)
       (replaced : (x : Spot) → Tells e now a x (replaced_at writes (s.property l (key_of p x))
       (key_of p x))) where
     alone : (b : Addr) → label_of now b ≡ l → b ≡ a
     alone b is =
-        label_of-new c a b (ap (λ (k : Label). k.old) is_label ∙ is_new)
-        (sym (wrote.labels b) ∙ (is ∙ sym is_label))
+        label_of-new c a b (ap (λ (k : Label). k.old) label_is ∙ is_new)
+        (sym (wrote.labels b) ∙ (is ∙ sym label_is))
 
     strong_tells : (b : Addr) (x : Spot) → IsObjectOf now b
         → Tells e now b x ((strong_update s l writes).property (label_of now b) (key_of p x))
@@ -175,7 +177,7 @@ module _ (p : Program) (e c now : Heap) (a : Addr) (wrote : Wrote c now a) (s : 
         (λ differs. tells-now c now a wrote e b x (s.property m k)
         (wrote.others b x (λ is. false≢true (sym differs
         ∙ subst (λ r. IsTrue (same_label l r)) (sym
-        (ap (label_of now) is ∙ (wrote.labels a ∙ is_label))) (same_label-self l))))
+        (ap (label_of now) is ∙ (wrote.labels a ∙ label_is))) (same_label-self l))))
         (old_tells b x there))
 
     pub strong_update_holds : HoldsOfHeap p e now (strong_update s l writes)

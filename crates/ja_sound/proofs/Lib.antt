@@ -7,6 +7,7 @@ pub mod Called
 pub mod Constructed
 pub mod ControlNodes
 pub mod Covering
+pub mod Defining
 pub mod DigitRows
 pub mod Elements
 pub mod Entered

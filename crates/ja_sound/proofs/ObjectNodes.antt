@@ -1,8 +1,8 @@
 -- Rows of nodes: objects that are made, scopes, declarations.
-use Rattle.std.specs.Prelude.{◌≡◌, ◌≢◌, ◌<◌, ◌&&◌, ℕ, Bool, true, false, if◌then◌else◌, IsTrue, List, [], ◌∷◌, map, length, slice_get, find, Option, Some, None, is_some, unwrap_or, suc, ◌≤◌, ◌+◌, pos, nat_lt}
+use Rattle.std.specs.Prelude.{◌≡◌, ◌≢◌, ◌<◌, ◌&&◌, ℕ, Bool, true, false, if◌then◌else◌, IsTrue, List, [], ◌∷◌, map, length, slice_get, Option, Some, None, is_some, unwrap_or, suc, ◌≤◌, ◌+◌, pos, nat_lt}
 use Rattle.std.specs.Option.{option_map_or}
 use Rattle.std.proofs.Common.{refl, sym, subst, ap, ◌∙◌, inl, inr, arith, length-set}
-use Rattle.std.proofs.lemmas.Bool.{cond-true, or_left, or_right, and_from, cases_Bool, cond_both, ltb-true, ltb-false, leb-true, lt-ltb}
+use Rattle.std.proofs.lemmas.Bool.{cond-true, or_left, or_right, and_from, cond_both, ltb-true, ltb-false, leb-true, lt-ltb}
 use Rattle.std.specs.List.{AllByRecursion, list_any}
 use lib.Chars.{codes}
 use Rattle.ja_base.specs.declared.ids.Label.{Label}
@@ -20,7 +20,7 @@ use Rattle.ja_prim.specs.declared.primitive.Num.TheVariants.{NaN, Whole}
 use Rattle.ja_base.specs.declared.ids.ScopeKind.TheVariants.{TextLength}
 use Rattle.ja_prim.specs.Index.{is_index}
 use Rattle.ja_prim.specs.declared.primitive.Num.{Num}
-use Rattle.ja_prim.specs.Texts.{same_text, is_short, max_units}
+use Rattle.ja_prim.specs.Texts.{is_short, max_units}
 use Rattle.ja_graph.specs.declared.attrs.Attrs.{Attrs}
 use Rattle.ja_graph.specs.declared.attrs.TheConstants.{DONT_DELETE}
 use Rattle.ja_graph.specs.declared.builtins.TheConstants as builtins
@@ -52,7 +52,7 @@ use Rattle.ja_machine.specs.Heap.{object_at, with_new, count, new_address, own, 
 use Rattle.ja_machine.specs.Nodes.{name_text, to_object_step, push_scope_step, makes, make_function_step, enter, enter_step, parameter_names, declare_step, bind_step, bound_attrs}
 use Rattle.ja_machine.specs.State.{IsHeap, IsFrame, IsObjectOf, IsValueOf}
 use Rattle.ja_machine.specs.Objects.{empty_object, wrapper, text_length, scope_object, function_object, prototype_object, activation, arguments_object, with_parameters, with_property, property_with, sharing}
-use Rattle.ja_machine.specs.Writes.{define, with_definition, whole_number}
+use Rattle.ja_machine.specs.Writes.{define, whole_number}
 use Rattle.ja_machine.proofs.Growing.{IsNodeSite}
 use Rattle.ja_machine.proofs.Lists.{either_way, is_some_from}
 use Rattle.ja_machine.proofs.Heaps
@@ -60,7 +60,7 @@ use Rattle.ja_machine.proofs.Standing.{function_of_frame}
 use Rattle.ja_abstract.specs.declared.abstraction.Key.{Key}
 use Rattle.ja_abstract.specs.AbstractValue.{Labels, AbstractValue, AbstractProperty, undefined_value, of_labels, of_label, of_attrs, has_text}
 use Rattle.ja_abstract.specs.AbstractState.{AbstractState, new, with_register, with_made}
-use Rattle.ja_abstract.specs.Contents.{label_of, property_content, content_of, content, object_content}
+use Rattle.ja_abstract.specs.Contents.{label_of, property_content, content_of, content}
 use Rattle.ja_abstract.specs.Keys.{named, Spot, internal}
 use Rattle.ja_abstract.specs.Parts.{has_primitive}
 use Rattle.ja_abstract.specs.Parts as meaning
@@ -70,20 +70,18 @@ use Rattle.ja_abstract.specs.Made.{rest_register, empty_own, wrapper_own, text_o
 use Rattle.ja_abstract.specs.Reading.{View, has_present, some_label}
 use Rattle.ja_abstract.specs.Values.{has_labels, is_nothing}
 use Rattle.ja_abstract.specs.declared.abstraction.Key.TheVariants as key
-use Rattle.ja_abstract.specs.declared.abstraction.Slot.TheVariants as slot
 use Rattle.ja_abstract.specs.declared.abstraction.TextPart.{TextPart}
 use Rattle.ja_abstract.specs.declared.abstraction.TextPart.TheVariants as text_part
 use Rattle.ja_abstract.specs.Writes.{Write, has_some_part, sets_at, joined_at, replaced_at, strong_update, weak_update, one_target, own_at, is_missing, defined, declared}
 use Rattle.ja_abstract.proofs.Labels.{same_label_from}
 use Rattle.ja_abstract.proofs.Lists.{Member, member-append_left, member-append_right}
 use Rattle.ja_abstract.proofs.Labels
-use Rattle.ja_abstract.proofs.Texts.{text_same, same_text_refl}
 use Rattle.ja_abstract.proofs.Parts.{of_attrs_allows}
 use Rattle.ja_abstract.proofs.Keys.{same_key-true, key_of-name}
 use Rattle.ja_meaning.specs.Meaning.{has_value, knows, Tells, HoldsOfFrame, HoldsOfHeap}
 use Rattle.ja_meaning.proofs.Parts.{has_part-has_value, is_present-has_value, is_present-known}
 use Rattle.ja_meaning.proofs.Aged.{aged_has}
-use Rattle.ja_meaning.proofs.Gets.{some_label-object}
+use Rattle.ja_meaning.proofs.Gets.{some_label-object, label-of_program}
 use Rattle.ja_meaning.proofs.MadeObjects.{empty_made, wrapper_made, text_made, scope_made, function_made, prototype_made}
 use Rattle.ja_meaning.proofs.Contents
 use Rattle.ja_meaning.proofs.Inside.{inside}
@@ -101,58 +99,11 @@ use Rattle.ja_rows.specs.Out.{Point, Given, goes, sets, name_keys}
 use Rattle.ja_rows.specs.Transfer.{transfer_node}
 use Rattle.ja_rows.specs.Objects.{bools_of, numbers_of}
 use Rattle.ja_sound.specs.Statements.{IsAt}
+use Rattle.ja_sound.proofs.Defining.{definition_same, defining, defining_other}
 use Rattle.ja_sound.proofs.Registers.{IsDestinationOf, frame_with_result}
 use Rattle.ja_sound.proofs.AtNode as rows
 use Rattle.ja_sound.proofs.PropertyNodes.{throws_gives, sets_gives, rd, has, written_gives}
 use Rattle.ja_sound.proofs.Steps.{member-goes}
-
--- ---- a property is defined
-
-definition_same : (qs : List Property) (t : List ℕ) (x : Content) (attrs : Attrs)
-    → property_content (find (λ (q : Property). same_text q.name t) (with_definition qs t x attrs))
-    ≡ content_of x attrs
-definition_same [] t x attrs = simp (same_text_refl t)
-definition_same (q ∷ qs) t x attrs =
-    elim (cases_Bool (same_text q.name t)) [
-      | inl e ↦ simp e
-      | inr e ↦
-          simp (e, definition_same qs t x attrs)
-    ]
-
-definition_other : (qs : List Property) (t u : List ℕ) (x : Content) (attrs : Attrs)
-    → same_text t u ≡ false → property_content (find (λ (q : Property). same_text q.name u)
-    (with_definition qs t x attrs)) ≡ property_content
-    (find (λ (q : Property). same_text q.name u) qs)
-definition_other [] t u x attrs ne = simp ne
-definition_other (q ∷ qs) t u x attrs ne =
-    elim (cases_Bool (same_text q.name t)) [
-      | inl e ↦
-          let f : same_text q.name u ≡ false = subst (λ n. same_text n u ≡ false)
-          (sym (text_same q.name t e)) ne in simp (e, f)
-      | inr e ↦
-          elim (cases_Bool (same_text q.name u)) [
-            | inl f ↦ simp (e, f)
-            | inr f ↦
-                simp (e, f, definition_other qs t u x attrs ne)
-          ]
-    ]
-
-abbrev pub defining : Object → List ℕ → Content → Attrs → Object
-defining o t x attrs = record o { properties = with_definition o.properties t x attrs }
-
-defining_other : (o : Object) (t : List ℕ) (x : Content) (attrs : Attrs) (y : Spot)
-    → (y ≡ named t → ⊥) → object_content (defining o t x attrs) y ≡ object_content o y
-defining_other o t x attrs (named u) ne =
-    elim (cases_Bool (same_text t u)) [
-      | inl e ↦
-          absurd (ne (ap named (sym (text_same t u e))))
-      | inr e ↦
-          definition_other o.properties t u x attrs e
-    ]
-defining_other o t x attrs (internal slot.Prototype) ne = refl
-defining_other o t x attrs (internal slot.Outer) ne = refl
-defining_other o t x attrs (internal slot.Scope) ne = refl
-defining_other o t x attrs (internal slot.Value) ne = refl
 
 module _ (e : Heap) (c : Conf) (top : Frame) (below : List Frame) (x : Point) (w : View)
     (at : IsAt w.program e c top below x w) (good : IsWellFormed w.program) where
@@ -457,14 +408,14 @@ module _ (e : Heap) (c : Conf) (top : Frame) (below : List Frame) (x : Point) (w
       abbrev defined_state : AbstractState
       defined_state =
           option_map_or (λ (l : Label). strong_update w.state l sets_it) (one_target w target)
-          (weak_update w.state target writes)
+          (weak_update p w.state target writes)
 
       abbrev Fits : AbstractState → Type 0
       Fits state = HoldsOfHeap p e defined_heap state × (state.register ≡ w.state.register)
 
       by_target : (g : Option Label) → one_target w target ≡ g
           → Fits (option_map_or (λ (l : Label). strong_update w.state l sets_it) g
-          (weak_update w.state target writes))
+          (weak_update p w.state target writes))
       by_target (Some l) is =
           let (l_is, l_new) =
           target-is e c.heap w (rd e c top below x w at good) target a there in_ l is in (
@@ -482,7 +433,8 @@ module _ (e : Heap) (c : Conf) (top : Frame) (below : List Frame) (x : Point) (w
           )
       by_target None is = (
         weak_update_holds p e c.heap defined_heap a suits.wrote w.state at.holds.heap target writes
-            in_ (λ y. elim (suits.weak y) [
+            (label-of_program e c.heap w (rd e c top below x w at good) a there) in_
+            (λ y. elim (suits.weak y) [
               | inl same ↦ inl same
               | inr told ↦
                   inr (λ z. subst (λ ws. IsTrue (knows defined_heap
