@@ -1,5 +1,5 @@
 -- The warnings of a table: what may go wrong at the operations of a program.
-use Rattle.std.specs.Prelude.{◌≡◌, ◌⊎◌, ◌<◌, ◌↔◌, ℕ, Bool, false, not, ◌&&◌, ◌||◌, ◌+◌, if◌then◌else◌, nat_lt, IsTrue, List, [], ◌∷◌, Option, Some, None, is_some, Any, Contains}
+use Rattle.std.specs.Prelude.{◌≡◌, ◌⊎◌, ◌<◌, ◌↔◌, ℕ, Bool, true, false, not, ◌&&◌, ◌||◌, ◌+◌, if◌then◌else◌, nat_lt, IsTrue, List, [], ◌∷◌, Option, Some, None, is_some, Any, Contains}
 use Rattle.std.specs.List.{AllByRecursion}
 use Rattle.std.specs.Option.{option_map}
 use Rattle.ja_base.specs.declared.ids.Context.{Context}
@@ -179,6 +179,15 @@ AreOrdered [] = Unit {0}
 AreOrdered (w ∷ ws) =
     AllByRecursion (λ (v : Warning). IsBelow (numbers_of w) (numbers_of v)) ws × AreOrdered ws
 
+-- ---- the warnings of a table
+
+-- the kinds that are told: that of rows that are read isn't yet
+abbrev pub is_told : WarningKind → Bool
+is_told NotAFunction = true
+is_told NoObject = true
+is_told UnboundName = true
+is_told ScopeRow = false
+
 -- some state at the operation allows it to go wrong; the warning is certain where none allows
 -- anything else
 pub record IsWarned (p : Program) (t : Table) (w : Warning) : Type 0 where
@@ -189,9 +198,12 @@ pub record IsWarned (p : Program) (t : Table) (w : Warning) : Type 0 where
   pub certain : IsTrue w.certain ↔ ((s : Test) (v : View) → IsReached p t (operation_of w) s v
       → s.more v ≡ false)
 
+-- the warnings are in order, each operation of a kind that is told is warned that may go wrong, and
+-- no other
 pub record AreWarnings (p : Program) (t : Table) (ws : List Warning) : Type 0 where
   pub ordered : AreOrdered ws
   pub warned : AllByRecursion (IsWarned p t) ws
+  pub told : AllByRecursion (λ (w : Warning). IsTrue (is_told w.kind)) ws
   pub complete : (o : Operation) (test : Test) (v : View) → IsReached p t o test v
-      → IsTrue (test.fault v)
+      → IsTrue (is_told o.kind) → IsTrue (test.fault v)
       → Any (λ (w : Warning). operation_of w ≡ o) ws

@@ -3,7 +3,7 @@
 use Rattle.std.specs.Prelude.{◌≡◌, not, IsTrue, List, Option, Some, None, is_some, Any, Contains}
 use Rattle.std.specs.List.{AllByRecursion}
 use Rattle.std.specs.Option.{option_map}
-use Rattle.std.proofs.Common.{refl, sym, ap, ◌∙◌, arith}
+use Rattle.std.proofs.Common.{refl, sym, subst, ap, ◌∙◌, arith}
 use Rattle.std.proofs.lemmas.Bool.{false≢true, or_left, or_right}
 use Rattle.std.proofs.lemmas.Option.{none-some, same_Some, option_and_then_some}
 use Rattle.ja_base.specs.declared.ids.Reg.{Reg}
@@ -37,14 +37,14 @@ use Rattle.ja_rows.specs.Edges.{calls_at, constructs_at}
 use Rattle.ja_rows.specs.Out.{Point, name_keys}
 use Rattle.ja_rows.specs.Out as abstract
 use Rattle.ja_rows.specs.Table.{Table, view_at, point}
-use Rattle.ja_rows.specs.Warning.{Test, Operation, operation_at, operation_of, tests, no_function, no_object, unbound, AreWarnings}
+use Rattle.ja_rows.specs.Warning.{Test, Operation, operation_at, operation_of, tests, no_function, no_object, unbound, is_told, AreWarnings}
 use Rattle.ja_sound.specs.Faults.{is_nothing_value, is_null, fault_at, fault_of_frames}
 use Rattle.ja_sound.specs.Sound.{IsCovered, CoversRuns, WarnsOfFaults}
 use Rattle.ja_sound.specs.Statements.{IsAt}
 use Rattle.ja_sound.proofs.AtCovered.{GrowsAlong, at_covered}
 use Rattle.ja_sound.proofs.AtNode as nodes
 use Rattle.ja_sound.proofs.Called.{called_other, constructing_other}
-use Rattle.ja_sound.proofs.FaultKinds.{so_parts, no_value}
+use Rattle.ja_sound.proofs.FaultKinds.{so_parts, no_value, faults_are_told}
 
 -- a test of the node that says the kind, and that the view passes
 pub record IsTold (w : View) (n : Node) (kind : WarningKind) : Type 0 where
@@ -165,6 +165,8 @@ module _ (p : Program) (good : IsWellFormed p) (t : Table) (ws : List Warning)
             told_at cov.at_entry.heap c cov.top cov.below
             (point (context_of cov.at_entry.heap cov.top) cov.top.node i) w
             (at_covered p t states grows answers c reached cov i info_is) good kind fault_is in
+            let o_is : operation_at p cov.top.function i kind ≡ o =
+            same_Some (operation_at p cov.top.function i kind) o k in
             warnings.complete o told.test w (record {
               context = context_of cov.at_entry.heap cov.top;
               number = cov.top.node;
@@ -172,12 +174,12 @@ module _ (p : Program) (good : IsWellFormed p) (t : Table) (ws : List Warning)
               info_is = info_is;
               test_is = told.test_is;
               operation_is =
-                  ap (operation_at p cov.top.function i) told.kind_is
-                  ∙ same_Some (operation_at p cov.top.function i kind) o k;
+                  ap (operation_at p cov.top.function i) told.kind_is ∙ o_is;
               state = cov.state;
               state_is = cov.state_is;
               view_is = refl;
-            }) told.fault
+            }) (subst (λ (z : Operation). IsTrue (is_told z.kind)) o_is
+            (faults_are_told p cov.top i.node kind fault_is)) told.fault
 
   pub warns_of_faults : WarnsOfFaults p ws
   warns_of_faults answers c o reached is =
