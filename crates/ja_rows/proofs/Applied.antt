@@ -18,7 +18,7 @@ same_context-self : (x : Context) → IsTrue (same_context x x)
 same_context-self x =
     and_from _ _ (eq-eqb x.function.0 x.function.0 refl) (same_label-self x.receiver)
 
-same_edge-self : (e : Edge) → IsTrue (same_edge e e)
+pub same_edge-self : (e : Edge) → IsTrue (same_edge e e)
 same_edge-self e =
     and_from _ _ (same_context-self e.caller) (and_from _ _ (eq-eqb e.node.0 e.node.0 refl)
     (same_context-self e.callee))

@@ -10,4 +10,5 @@ pub mod Properties
 pub mod Scopes
 pub mod Table
 pub mod Transfer
+pub mod Unfollowed
 pub mod Warning
