@@ -3,6 +3,7 @@ pub mod AtKeys
 pub mod Atoms
 pub mod Compared
 pub mod Converted
+pub mod InProgram
 pub mod IndexTexts
 pub mod Joins
 pub mod Keys
@@ -13,3 +14,4 @@ pub mod Order
 pub mod Parts
 pub mod Rounds
 pub mod Texts
+pub mod WritesInProgram

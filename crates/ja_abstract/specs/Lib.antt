@@ -2,6 +2,7 @@ pub mod AbstractState
 pub mod AbstractValue
 pub mod Composed
 pub mod Contents
+pub mod InProgram
 pub mod Keys
 pub mod Lists
 pub mod Made

@@ -1,7 +1,8 @@
 //! What the rows say, in other words. The functions do nothing; their contracts are the laws.
 
-ghost use Rattle.std.specs.Prelude.{◌≡◌, ℕ, true, false, IsTrue, IsSome, List, [], ◌∷◌};
+ghost use Rattle.std.specs.Prelude.{◌≡◌, ℕ, true, false, IfSome, IsTrue, IsSome, List, [], ◌∷◌};
 ghost use Rattle.std.specs.List.{AllByRecursion};
+ghost use Rattle.ja_base.specs.declared.ids.Context.{Context};
 ghost use Rattle.ja_base.specs.declared.ids.Label.{Label};
 ghost use Rattle.ja_base.specs.declared.ids.Reg.{Reg};
 ghost use Rattle.ja_base.specs.declared.ids.ScopeKind.{ScopeKind};
@@ -10,17 +11,20 @@ ghost use Rattle.ja_graph.specs.declared.node.Args.{Args};
 ghost use Rattle.ja_graph.specs.declared.node.Node.TheVariants as node;
 ghost use Rattle.ja_graph.specs.declared.node.NodeInfo.{NodeInfo};
 ghost use Rattle.ja_graph.specs.declared.program.Program.{Program};
+ghost use Rattle.ja_graph.specs.WellFormed.{IsWellFormed};
 ghost use Rattle.ja_machine.specs.Frames.{thrown};
 ghost use Rattle.ja_abstract.specs.declared.abstraction.Key.{Key};
 ghost use Rattle.ja_abstract.specs.AbstractState.{AbstractState, with_register};
+ghost use Rattle.ja_abstract.specs.InProgram.{IsInProgram};
 ghost use Rattle.ja_abstract.specs.Order.{LeqProperty};
 ghost use Rattle.ja_abstract.specs.Reading.{View, has_present};
 ghost use Rattle.ja_rows.specs.declared.table.Edge.{Edge};
+ghost use Rattle.ja_rows.specs.declared.table.Item.{Item};
 ghost use Rattle.ja_rows.specs.Calls.{filled_with, given_back};
 ghost use Rattle.ja_rows.specs.Edges.{calls_at, constructs_at};
 ghost use Rattle.ja_laws.specs.RowLaws.{AllRun, AreThere, GoTo, HasOne, IsEntered, IsJoined, NoneRun};
 ghost use Rattle.ja_rows.specs.Out.{Out, Point, at, nowhere, throws};
-ghost use Rattle.ja_rows.specs.Table.{Table, IsClosed, applied, effects_fill, effects_step};
+ghost use Rattle.ja_rows.specs.Table.{Table, IsBuilt, IsClosed, applied, effects_fill, effects_step};
 ghost use Rattle.ja_rows.specs.Transfer.{transfer_node};
 
 /// A Branch on `true` alone goes on to `next` and gives no state to `other`, and one on `false`
@@ -86,6 +90,14 @@ pub fn visits_reach_callees()
     ensures fills { (t : Table) (e : Edge) (w : View) (i : NodeInfo) (l : Label) (k : Key)
         → IsSome (t.entry e.callee l k) → HasOne (LeqProperty (filled_with w e i.node l k))
         ((applied t (effects_fill t e w i)).entry e.callee l k) }
+{}
+
+/// Each state of a table that visits build speaks of the program alone: at any other label and any
+/// other key it is as at entry, and at any other site nothing was made. So it can be kept as an
+/// object for each label of the program, with a property for each key of the program.
+pub fn states_keep_to_programs()
+    ensures { (p : Program) (items : List Item) (t : Table) → IsWellFormed p → IsBuilt p items t
+        → (x : Context) (n : ℕ) → IfSome (t.state x n) (IsInProgram p) }
 {}
 
 /// Each program has a closed table, so what is proved of these isn't of none: the one that says

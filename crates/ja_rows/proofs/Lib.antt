@@ -1,3 +1,4 @@
 pub mod Applied
-pub mod Outside
+pub mod StepsInProgram
+pub mod TablesInProgram
 pub mod Unfollowed

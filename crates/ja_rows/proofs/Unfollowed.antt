@@ -68,7 +68,7 @@ module _ (w : View) (x : Point) where
 
 module _ (p : Program) (t : Table) (x : Context) (n : NodeId) (f : View → NodeInfo → Effects) where
   -- what there is nothing of, and what the node gives of its state, have it
-  with_view_by : (P : Effects → Type 0) → P no_effects
+  pub with_view_by : (P : Effects → Type 0) → P no_effects
       → ((i : NodeInfo) (a : AbstractState) → node_at p x.function n ≡ Some i
       → t.state x n.0 ≡ Some a → P (f (view_at p t x a) i)) → P (with_view p t x n f)
   with_view_by P nothing there = at_node_by (node_at p x.function n) refl
@@ -85,7 +85,7 @@ module _ (p : Program) (t : Table) (x : Context) (n : NodeId) (f : View → Node
       at_node_by None e = nothing
       at_node_by (Some i) e = by_state i e (t.state x n.0) refl
 
-  with_view_at : (i : NodeInfo) (a : AbstractState) → node_at p x.function n ≡ Some i
+  pub with_view_at : (i : NodeInfo) (a : AbstractState) → node_at p x.function n ≡ Some i
       → t.state x n.0 ≡ Some a → with_view p t x n f ≡ f (view_at p t x a) i
   with_view_at i a i_is a_is =
       ap (λ o. option_map_or (λ (i : NodeInfo). option_map_or

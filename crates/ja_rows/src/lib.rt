@@ -6,7 +6,8 @@
 //!
 //! Proved, as lemmas: what a visit that changes nothing says of a table; that each edge leads from
 //! the node whose step gives it, and that until one is given a table has the program's own context
-//! alone. `ja_laws` says in other words what the rows come to.
+//! alone; that the states of a table speak of its program alone. `ja_laws` says in other words what
+//! the rows come to.
 #![tactic(auto)]
 
 mod table;
