@@ -1,5 +1,5 @@
 -- Lists joined place by place: one place more, and lists one after another.
-use Rattle.std.proofs.Common.{◌≡◌, ℕ, zero, suc, ◌+◌, ◌-◌, ◌*◌, ◌<◌, ◌≤◌, min, Option, None, Some, List, [], ◌∷◌, ◌++◌, length, get_or, set, map, refl, sym, ap, ◌∙◌, subst, arith, add-one, drop, ⊎_elim, ◌/◌, ◌^◌, nat_lt, take, true, false, Bool}
+use Rattle.std.proofs.Common.{◌≡◌, ℕ, zero, suc, ◌+◌, ◌-◌, ◌*◌, ◌<◌, ◌≤◌, min, Option, None, Some, List, [], ◌∷◌, ◌++◌, length, get_or, set, map, refl, sym, ap, ◌∙◌, subst, arith, add-one, drop, ⊎_elim, ◌/◌, ◌^◌, nat_lt, take, true, false, Bool, mul-le-mul_left}
 use Rattle.std.specs.List.{flat_map}
 use Rattle.std.proofs.lemmas.Bool.{cases_lt, lt-ltb}
 use Rattle.std.proofs.lemmas.Bool.Decides.{nat_tests}
@@ -240,6 +240,20 @@ module _ {T : Type 0} (R : T → T → Option T → Type 0) where
   joined_long (suc n) (x ∷ xs) (y ∷ ys) (z ∷ zs) puts h = let e =
       joined_long n xs ys zs h.1 h.5 in omega arith
 
+  -- no more are put than there are
+  pub joined_few : (n : ℕ) (xs ys zs : List T) (puts : ℕ) → JoinedTo R n xs ys zs puts
+      → (puts ≤ n) × (puts ≤ length xs)
+  joined_few n [] ys zs puts h = (omega (arith, h.1), omega (arith, h.1))
+  joined_few zero (x ∷ xs) ys zs puts h = (omega (arith, h.1), omega (arith, h.1))
+  joined_few (suc n) (x ∷ xs) [] zs puts h = absurd h
+  joined_few (suc n) (x ∷ xs) (y ∷ ys) [] puts h = absurd h
+  joined_few (suc n) (x ∷ xs) (y ∷ ys) (z ∷ zs) puts (None, rest, r, same, count, more) =
+      let most = joined_few n xs ys zs rest more in
+      (omega (arith, count, most.0), omega (arith, count, most.1))
+  joined_few (suc n) (x ∷ xs) (y ∷ ys) (z ∷ zs) puts (Some v, rest, r, same, count, more) =
+      let most = joined_few n xs ys zs rest more in
+      (omega (arith, count, most.0), omega (arith, count, most.1))
+
   -- where nothing was put, nothing changed
   pub joined_nothing : (n : ℕ) (xs ys zs : List T) (puts : ℕ) → puts ≡ 0
       → JoinedTo R n xs ys zs puts → zs ≡ xs
@@ -299,6 +313,7 @@ module _ {T X : Type 0} (R : T → T → Option T → Type 0) (f : X → List T)
     pub rest : left ≡ n - i * w
     pub puts : ℕ
     pub told : changed ≡ nat_lt 0 puts
+    pub few : puts + left ≤ n
     pub parts : PartsJoined R f w n i ns ms ks puts
     pub made : (h : ℕ) → w ≡ 8 ^ (h + 1) → to ≤ from + (h + 1) * puts
 
@@ -324,6 +339,7 @@ module _ {T X : Type 0} (R : T → T → Option T → Type 0) (f : X → List T)
         rest = omega (arith, j.rest);
         puts = j.puts;
         told = j.told;
+        few = omega (arith, j.few);
         parts = subst (PartsJoined R f w n (i + 1) ns ms ks) same
             (parts_kept R f w i n ns ms ks j.puts more d j.parts (omega (arith, j.eight))
             (omega (arith, j.eight_others))
@@ -355,6 +371,9 @@ module _ {T X : Type 0} (R : T → T → Option T → Type 0) (f : X → List T)
         rest = omega (arith, j.rest);
         puts = j.puts + more;
         told = told_put (j.puts + more) (omega (arith, some_put more some));
+        few =
+            let most = joined_few R left _ _ _ more joined in
+            omega (arith, j.few, most.0, most.1, here);
         parts = parts_put R f w i n ns ms ks j.puts more d z j.parts (omega (arith, j.eight))
             (omega (arith, j.eight_others))
             (subst (λ k. JoinedTo R k (f (get_or ns i d)) (f (get_or ms i d)) (f z) more) j.rest
@@ -394,4 +413,13 @@ pub one_more : (h k puts from to : ℕ) → h ≡ k + 1 → to ≤ from + (k + 1
 one_more h k puts from to e le =
     let product : (h + 1) * puts ≡ (k + 1) * puts + puts = ap (λ m. (m + 1) * puts) e
     ∙ omega arith in
+    omega arith
+
+-- nodes for each of the places that were put and for those that are left are no more than for all
+pub room_for : (h k puts left n from mid to : ℕ) → h ≡ k + 1 → puts + left ≤ n
+    → mid ≤ from + (k + 1) * puts → to ≤ mid + (k + 1) * left → to ≤ from + (h + 1) * n
+room_for h k puts left n from mid to e few made more =
+    let both : (k + 1) * (puts + left) ≡ (k + 1) * puts + (k + 1) * left = omega arith in
+    let all : (k + 1) * (puts + left) ≤ (k + 1) * n = mul-le-mul_left (k + 1) few in
+    let higher : (h + 1) * n ≡ (k + 1) * n + n = ap (λ m. (m + 1) * n) e ∙ omega arith in
     omega arith

@@ -114,6 +114,11 @@ pub ticked_le : (b : Bool) → (if b then 1 else 0) ≤ 1
 ticked_le true = omega arith
 ticked_le false = omega arith
 
+-- .. and none where it wasn't made
+pub not_ticked : (made : Bool) → made ≡ false → (if made then 1 else 0) ≤ 0
+not_ticked false none = omega arith
+not_ticked true none = absurd (cc)
+
 -- the same values
 pub same_values : {X A : Type 0} (f : X → A) (xs ys : List X) → AllZip (λ x y. f y ≡ f x) xs ys
     → map f ys ≡ map f xs

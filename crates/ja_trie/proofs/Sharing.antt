@@ -3,7 +3,7 @@ use Rattle.std.proofs.Common.{◌≡◌, ℕ, zero, suc, ◌+◌, ◌-◌, ◌*�
 use Rattle.std.specs.List.{flat_map}
 use Rattle.std.proofs.lemmas.Bool.{cases_lt}
 use Rattle.std.proofs.lemmas.List.{replicate-append-replicate, length-take, length-replicate}
-use Rattle.std.proofs.Math.Nat.{pow-le-pow_right, one-le-pow}
+use Rattle.std.proofs.Math.Nat.{pow-le-pow_right, one-le-pow, mul-le-mul_left}
 use Rattle.ja_trie.specs.Join.{Joined}
 use Rattle.ja_trie.specs.Nodes.{ArePaths}
 use Rattle.ja_trie.specs.code.Join.{JoinedTo}
@@ -83,6 +83,13 @@ root_paths long w places s self root puts from to long_self is made d room =
     let high = ap length is ∙ root_length long w places s in
     let depth = depth_least long w places s d (omega (arith, long_self, room)) in
     omega (arith, made s.depth high, more_room s.depth d puts depth)
+
+-- what is counted for some places is no more than for all
+pub few_paths : (h puts n from to : ℕ) → puts ≤ n → to ≤ from + (h + 1) * puts
+    → to ≤ from + (h + 1) * n
+few_paths h puts n from to few made =
+    let all : (h + 1) * puts ≤ (h + 1) * n = mul-le-mul_left (h + 1) few in
+    omega arith
 
 -- where roots are joined as far as the first list goes, the lists are
 pub root_joined : {T : Type 0} (R : T → T → Option T → Type 0) (long long' w w' : ℕ)

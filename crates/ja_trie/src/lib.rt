@@ -8,8 +8,8 @@
 //!
 //! The nodes that are made are counted (`Steps`, `ArePaths`). Where d is the least number with
 //! 8^(d + 1) at least the length, `new` and `set` make at most d + 1, `fork` none, and `join_with`
-//! at most d + 1 for each place that it put. No contract says that nodes are shared: those that are
-//! made are counted, and no more.
+//! at most d + 1 for each place that it put, or after want of memory for each place of the list. No
+//! contract says that nodes are shared: those that are made are counted, and no more.
 #![tactic(auto)]
 
 mod laws;

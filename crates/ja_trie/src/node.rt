@@ -1,4 +1,4 @@
-ghost use Rattle.std.specs.Prelude.{◌≡◌, ℕ, ◌+◌, ◌*◌, ◌^◌, ◌<◌, ◌≤◌, ◌-◌, ◌/◌, IfOk, OnErr};
+ghost use Rattle.std.specs.Prelude.{◌≡◌, ℕ, ◌+◌, ◌*◌, ◌^◌, ◌<◌, ◌≤◌, ◌-◌, ◌/◌, IfOk, OnErr, MatchResult};
 ghost use Rattle.std.specs.Prelude.{if◌then◌else◌, is_ok, is_some, nat_lt, length, map, flat_map};
 ghost use Rattle.std.specs.Prelude.{replicate, slice_index_or, slice_set};
 ghost use Rattle.ja_trie.specs.code.Node.{places, places_after, IsNode};
@@ -208,7 +208,8 @@ impl<T: Drop> Node<T> {
     }
 
     /// The same node joined with another one at its first `count` places, or none where no place is
-    /// put. It makes at most one node a level for each place that it put.
+    /// put. It makes at most one node a level for each place that it put, and where memory is
+    /// refused for each of the first `count` places.
     pub fn join<L: Ledger, F: Fn(&T, &T) -> Result<Option<T>, Memory>>(
         &self,
         other: &Node<T>,
@@ -221,11 +222,14 @@ impl<T: Drop> Node<T> {
         requires level { length self.now ≡ 8 * width }
         requires same { length other.now ≡ length self.now }
         requires may { F.IsAlwaysCallable join.now }
-        ensures { IfOk result (λ node. (puts : ℕ) × (is_some node ≡ nat_lt 0 puts)
+        ensures { MatchResult result
+            (λ node. (puts : ℕ) × (is_some node ≡ nat_lt 0 puts)
             × JoinedTo (MayAnswer F.Fn join.now) count self.now other.now
             (places_after self.now node) puts
             × ((h : ℕ) → length self.now ≡ 8 ^ (h + 1)
-            → steps.new ≤ steps.old + (h + 1) * puts)) }
+            → steps.new ≤ steps.old + (h + 1) * puts))
+            (λ e. (h : ℕ) → length self.now ≡ 8 ^ (h + 1)
+            → steps.new ≤ steps.old + (h + 1) * count) }
     {
         if count == 0 {
             return Ok(None);

@@ -107,7 +107,8 @@ impl<T: Drop> Shared<T> {
     /// `join` answers none, and has the value that it answers else. `join` is asked once at each
     /// place, whatever both lists share. Answers whether a place was put; where none was, no node
     /// was made, and else at most one a level for each place that was put. Where memory is refused,
-    /// by `join` or else, the list is as it was, and nodes may have been made and thrown away.
+    /// by `join` or else, the list is as it was, and nodes may have been made and thrown away, at
+    /// most one a level for each place.
     pub fn join_with<L: Ledger, F: Fn(&T, &T) -> Result<Option<T>, Memory>>(
         &mut self,
         other: &Shared<T>,
@@ -121,6 +122,7 @@ impl<T: Drop> Shared<T> {
             × ArePaths (length self.old) puts steps.old steps.new) }
         ensures err { OnErr result (self.new ≡ self.old) }
         ensures long { length self.new ≡ length self.old }
+        ensures most { ArePaths (length self.old) (length self.old) steps.old steps.new }
     {
         let joined = self.root.join(
             &other.root,

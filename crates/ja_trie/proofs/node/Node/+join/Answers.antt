@@ -1,10 +1,11 @@
 use Rattle.std.proofs.Common.{rules, arith, ◌≡◌, ◌/◌, ◌<◌, true, false, is_ok, is_some, nat_lt, length, refl, sym, ap, ◌∙◌, subst}
 use Rattle.std.proofs.lemmas.List.{get_or_default}
+use Rattle.std.proofs.lemmas.Result.{MatchResult-from_err}
 use Rattle.ja_trie.specs.code.Node.{places, places_after, AreLong}
 use Rattle.ja_trie.specs.code.Join.{JoinedTo}
 use Rattle.ja_trie.specs.Join.{MayAnswer}
-use Rattle.ja_trie.proofs.Levels.{below, deeper, ticked_le, long_level, same_values, mixed}
-use Rattle.ja_trie.proofs.Joins.{joined_none, joined_nothing, joined_at, nothing_put, some_put, parts_none, joining_kept, joining_put, joining_at, joining_all, one_more}
+use Rattle.ja_trie.proofs.Levels.{below, deeper, ticked_le, not_ticked, long_level, same_values, mixed}
+use Rattle.ja_trie.proofs.Joins.{joined_none, joined_nothing, joined_at, nothing_put, some_put, parts_none, joining_kept, joining_put, joining_at, joining_all, one_more, room_for}
 use Rattle.ja_trie.proofs.node.Node.+join.Goals.{in-Some, in_default-2, in_default-via-in-Values+in_default, in_default-via-in-Nodes+in_default}
 use Rattle.ja_trie.proofs.node.Node.+join.Goals as goal
 
@@ -52,6 +53,7 @@ loop-i-init g t c =
       rest = omega arith;
       puts = 0;
       told = refl;
+      few = omega arith;
       parts = parts_none (MayAnswer g.F.Fn c.args.join.now)
           (λ n. n.value) c.args.width c.args.count _ _ _ (same_values (λ n. n.value) _ _ copied);
       made = λ h high. omega arith;
@@ -101,6 +103,31 @@ loop-i-preserved g t c =
           ∙ c.deref.ensures) e.2)
           (λ h high. e.3 h (ap length c.deref.ensures ∙ high)) c.saturating_sub-left.ensures)
     ]
+
+pub returns-in_err-kid-in-Nodes-Nodes : goal.returns-in_err-kid-in-Nodes-Nodes
+returns-in_err-kid-in-Nodes-Nodes g t c =
+    let j = c.loop-i.invariant in
+    let kid : length c.deref.result.now ≡ c.args.width = ap length c.deref.ensures
+    ∙ j.long c.loop-i.i _ (omega (arith, j.eight, c.loop-i-test.true)) in
+    MatchResult-from_err c.from_residual-in_err-kid-in-Nodes-Nodes.result _ _
+    c.from_residual-in_err-kid-in-Nodes-Nodes.ensures.0 (λ y h high.
+    let d = deeper c.args.width h j.next j.wide (sym c.requires.level ∙ high) in
+    room_for h d.0 j.puts c.loop-i.left c.args.count c.args.steps.now c.loop-i.steps _ d.1 j.few
+    (j.made d.0 d.2) (c.in_err-kid-in-Nodes-Nodes.ensures d.0 (kid ∙ d.2)))
+
+pub returns-in_err-new-in-Nodes-Nodes : goal.returns-in_err-new-in-Nodes-Nodes
+returns-in_err-new-in-Nodes-Nodes g t c =
+    let j = c.loop-i.invariant in
+    MatchResult-from_err c.from_residual-in_err-new-in-Nodes-Nodes.result _ _
+    c.from_residual-in_err-new-in-Nodes-Nodes.ensures.0 (λ y h high.
+    let d = deeper c.args.width h j.next j.wide (sym c.requires.level ∙ high) in
+    room_for h d.0 j.puts c.loop-i.left c.args.count c.args.steps.now c.loop-i.steps _ d.1 j.few
+    (j.made d.0 d.2)
+    (omega (
+      arith,
+      c.new-in-Nodes-Nodes.ensures.ticked,
+      not_ticked (is_ok c.new-in-Nodes-Nodes.result) (ap is_ok c.in_err-new-in-Nodes-Nodes.was),
+    )))
 
 pub returns-then-not-changed-2 : goal.returns-then-not-changed-2
 returns-then-not-changed-2 g t c =

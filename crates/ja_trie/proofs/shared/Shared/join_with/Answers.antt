@@ -1,9 +1,9 @@
-use Rattle.std.proofs.Common.{rules, arith, ◌≡◌, ◌*◌, is_some, length, refl, sym, ap, ◌∙◌}
+use Rattle.std.proofs.Common.{rules, arith, ◌≡◌, ◌≤◌, ◌+◌, ◌*◌, subst, is_some, length, refl, sym, ap, ◌∙◌}
 use Rattle.std.proofs.lemmas.List.{length-take}
 use Rattle.ja_trie.specs.code.Node.{places_after}
 use Rattle.ja_trie.specs.Join.{MayAnswer}
-use Rattle.ja_trie.proofs.Joins.{joined_at, joined_long}
-use Rattle.ja_trie.proofs.Sharing.{long_is, width_same, root_paths, root_joined}
+use Rattle.ja_trie.proofs.Joins.{joined_at, joined_long, joined_few}
+use Rattle.ja_trie.proofs.Sharing.{long_is, width_same, root_paths, few_paths, root_joined}
 use Rattle.ja_trie.proofs.shared.Shared.join_with.Goals as goal
 
 pub join-requires : goal.join-requires
@@ -73,3 +73,30 @@ returns-in-Some-clause-long g c =
     ∙ ap length c.deref.ensures ∙ s.whole in
     length-take c.self.inside.length c.in-Some.root.value
     ∙ omega (arith, root, s.enough, long_is _ _ _ _ s c.self.view_is)
+
+-- one for each place at most, since no more are put than there are
+pub returns-in_err-joined-clause-most : goal.returns-in_err-joined-clause-most
+returns-in_err-joined-clause-most g c =
+    let s = c.self.invariant in
+    let long = long_is _ _ _ _ s c.self.view_is in
+    root_paths _ _ _ s c.args.self.now c.deref.result.now (length c.args.self.now) _ _ long
+    c.deref.ensures (λ h high. subst (λ n. c.join.new.steps ≤ c.args.steps.now + (h + 1) * n)
+    (sym long) (c.in_err-joined.ensures h high))
+
+pub returns-in-Some-clause-most : goal.returns-in-Some-clause-most
+returns-in-Some-clause-most g c =
+    let s = c.self.invariant in
+    let long = long_is _ _ _ _ s c.self.view_is in
+    let e = c.in_ok-joined.ensures in
+    root_paths _ _ _ s c.args.self.now c.deref.result.now (length c.args.self.now) _ _ long
+    c.deref.ensures (λ h high. few_paths h _ (length c.args.self.now) _ _
+    (omega (arith, long, (joined_few (MayAnswer g.F.Fn c.args.join) _ _ _ _ _ e.2).0)) (e.3 h high))
+
+pub returns-clause-most : goal.returns-clause-most
+returns-clause-most g c =
+    let s = c.self.invariant in
+    let long = long_is _ _ _ _ s c.self.view_is in
+    let e = c.in_ok-joined.ensures in
+    root_paths _ _ _ s c.args.self.now c.deref.result.now (length c.args.self.now) _ _ long
+    c.deref.ensures (λ h high. few_paths h _ (length c.args.self.now) _ _
+    (omega (arith, long, (joined_few (MayAnswer g.F.Fn c.args.join) _ _ _ _ _ e.2).0)) (e.3 h high))
