@@ -14,7 +14,7 @@ use Rattle.ja_abstract.proofs.Lists.{Member}
 use Rattle.ja_rows.specs.declared.table.Edge.{Edge}
 use Rattle.ja_rows.specs.Table.{Table, same_context, same_edge, StateAt, DemandsOf, ValuesOf, Effects, joined_state, with_state, with_states, with_value, is_demanded, with_demand, applied}
 
-same_context-self : (x : Context) → IsTrue (same_context x x)
+pub same_context-self : (x : Context) → IsTrue (same_context x x)
 same_context-self x =
     and_from _ _ (eq-eqb x.function.0 x.function.0 refl) (same_label-self x.receiver)
 

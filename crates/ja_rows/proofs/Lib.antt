@@ -2,3 +2,5 @@ pub mod Applied
 pub mod StepsInProgram
 pub mod TablesInProgram
 pub mod Unfollowed
+pub mod Rising
+pub mod KeysInProgram

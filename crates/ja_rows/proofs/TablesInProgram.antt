@@ -35,7 +35,7 @@ use Rattle.ja_rows.proofs.Unfollowed.{with_view_by}
 -- ---- the facts of a node of the program
 
 module _ (p : Program) (good : IsWellFormed p) where
-  has_length : IsTrue (is_key p length_key)
+  pub has_length : IsTrue (is_key p length_key)
   has_length =
       let is : slice_get p.names builtins.LENGTH.0 ≡ Some (codes "length") = element_taken
       (length builtin_names) p.names builtins.LENGTH.0 (codes "length")
@@ -44,11 +44,11 @@ module _ (p : Program) (good : IsWellFormed p) where
       (within_from_some p.names builtins.LENGTH.0 (is_some_from _ (codes "length") is))
 
   -- its names and its sites
-  record IsNodeOf (i : NodeInfo) : Type 0 where
-    names : AllByRecursion (IsName p) (option_to_list (name_in i.node))
-    sites : AreMade p (λ s. makes_arguments s i.node) (makings i.node)
+  pub record IsNodeOf (i : NodeInfo) : Type 0 where
+    pub names : AllByRecursion (IsName p) (option_to_list (name_in i.node))
+    pub sites : AreMade p (λ s. makes_arguments s i.node) (makings i.node)
 
-  node_of : (f : FnId) (n : NodeId) (i : NodeInfo) → node_at p f n ≡ Some i → IsNodeOf i
+  pub node_of : (f : FnId) (n : NodeId) (i : NodeInfo) → node_at p f n ≡ Some i → IsNodeOf i
   node_of f n i is = by (slice_get p.functions f.0) refl is
     where
       by : (o : Option Function) → slice_get p.functions f.0 ≡ o
