@@ -97,7 +97,7 @@ tail_among s rest l a =
     (or_right (same_label l (old (site_of s))) (list_any (same_label l) rest) a)
 
 -- a label whose site is in a range of sites is among their labels
-among_range : (a n : ℕ) (l : Label) → a ≤ l.site.0 → l.site.0 < a + n
+pub among_range : (a n : ℕ) (l : Label) → a ≤ l.site.0 → l.site.0 < a + n
     → IsAmong l (flat_map site_labels (range_with_len a n))
 among_range a zero l low high = absurd (omega arith)
 among_range a (suc n) l low high =

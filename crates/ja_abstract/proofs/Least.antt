@@ -1,6 +1,6 @@
 -- A join is below each value that is above both: so it is the least one, and the order of joins is
 -- nothing.
-use Rattle.std.specs.Prelude.{◌≡◌, ℕ, ℤ, pos, negsuc, Bool, true, false, not, nat_eq, ◌||◌, IsTrue, List, [], ◌∷◌}
+use Rattle.std.specs.Prelude.{◌≡◌, ℕ, ℤ, pos, negsuc, Bool, true, false, not, nat_eq, ◌||◌, ◌↔◌, IsTrue, List, [], ◌∷◌}
 use Rattle.std.specs.Ordering.{int_eq}
 use Rattle.std.proofs.Common.{refl, sym, ◌∙◌, ap, subst}
 use Rattle.std.proofs.lemmas.Bool.{or_right, false≢true, cond_both, cond-true, cond-false}
@@ -19,7 +19,7 @@ use Rattle.ja_abstract.specs.AbstractState.{AbstractState, join_states, join_mas
 use Rattle.ja_abstract.specs.Order.{LeqValue, LeqProperty, LeqState}
 use Rattle.ja_abstract.specs.Parts.{number_has, text_has}
 use Rattle.ja_abstract.proofs.Joins.{number_has-join_right, text_has-join_right}
-use Rattle.ja_abstract.proofs.Order.{Below, HasNumbers, HasTexts, same_number, number_itself, same_text, text_itself, property-join, property_same, property_equal, state-join, state_same, state_both, state_equal}
+use Rattle.ja_abstract.proofs.Order.{Below, HasNumbers, HasTexts, same_number, number_itself, same_text, text_itself, value-join, value_same, value_equal, property-join, property_same, property_both, property_equal, state-join, state_same, state_both, state_equal}
 
 -- ---- tests
 
@@ -398,6 +398,23 @@ state_least a b c h k = record {
   mask = λ t. masks_least (a.mask t) (b.mask t) (c.mask t) (h.mask t) (k.mask t);
 }
 
+-- ---- the order by joins
+
+-- what is below another is what a join into it doesn't change
+pub value_by_join : (a b : AbstractValue) → LeqValue a b ↔ (join b a ≡ b)
+value_by_join a b = (
+  (λ h. value_equal (join b a) b (value_least b a b (value_same b) h)
+      (value-join b a)),
+  (λ e. subst (LeqValue a) e (value-join_right b a)),
+)
+
+pub property_by_join : (a b : AbstractProperty) → LeqProperty a b ↔ (join_properties b a ≡ b)
+property_by_join a b = (
+  (λ h. property_equal (join_properties b a) b
+      (property_least b a b (property_same b) h) (property-join b a)),
+  (λ e. subst (LeqProperty a) e (property-join_right b a)),
+)
+
 -- ---- in any order
 
 pub states_turned : (a b : AbstractState) → join_states a b ≡ join_states b a
@@ -428,7 +445,26 @@ state_twice a =
     state_equal (join_states a a) a (state_least a a a (state_same a) (state_same a))
     (state-join a a)
 
--- ---- properties: twice, and with nothing
+-- ---- properties: in any groups, twice, and with nothing
+
+pub properties_grouped : (a b c : AbstractProperty)
+    → join_properties (join_properties a b) c ≡ join_properties a (join_properties b c)
+properties_grouped a b c =
+    let left = join_properties (join_properties a b) c in
+    let right = join_properties a (join_properties b c) in
+    let in_left : LeqProperty (join_properties a b) left = property-join (join_properties a b) c in
+    let in_right : LeqProperty (join_properties b c) right =
+    property-join_right a (join_properties b c) in
+    property_equal left right
+    (property_least (join_properties a b) c right (property_least a b right
+    (property-join a (join_properties b c))
+    (property_both b (join_properties b c) right (property-join b c) in_right))
+    (property_both c (join_properties b c) right (property-join_right b c) in_right))
+    (property_least a (join_properties b c) left
+    (property_both a (join_properties a b) left (property-join a b) in_left)
+    (property_least b c left
+    (property_both b (join_properties a b) left (property-join_right a b) in_left)
+    (property-join_right (join_properties a b) c)))
 
 pub property_twice : (q : AbstractProperty) → join_properties q q ≡ q
 property_twice q =
@@ -436,7 +472,7 @@ property_twice q =
     q))
     (property-join q q)
 
-no_property-least : (q : AbstractProperty) → LeqProperty no_property q
+pub no_property-least : (q : AbstractProperty) → LeqProperty no_property q
 no_property-least q = record {
   value =
       record {

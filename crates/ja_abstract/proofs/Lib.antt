@@ -12,6 +12,7 @@ pub mod Least
 pub mod Lists
 pub mod Order
 pub mod Parts
+pub mod Ranks
 pub mod Rounds
 pub mod Texts
 pub mod WritesInProgram

@@ -69,7 +69,7 @@ flags-join a b = λ i. record {
   nan = below-or a.nan b.nan i;
 }
 
-flags_same : (a : Flags) → join_flags a a ≡ a
+pub flags_same : (a : Flags) → join_flags a a ≡ a
 flags_same a = λ i. record {
   absent = below_same a.absent i;
   entry = below_same a.entry i;
@@ -279,13 +279,13 @@ pub text_itself : (t : List ℕ) → IsTrue (text_has (text_part.One t) t)
 text_itself t = (bytes_decides t t).1 refl
 
 -- the texts 0 and 1 are those of indices, the empty one and "a" aren't
-one_text_alone : (s : List ℕ) → IsTrue (text_has (text_part.One s) (48 ∷ []))
+pub one_text_alone : (s : List ℕ) → IsTrue (text_has (text_part.One s) (48 ∷ []))
     → IsTrue (text_has (text_part.One s) (49 ∷ [])) → ⊥
 one_text_alone s h k =
     absurd (false≢true (subst (λ u. IsTrue (text_has (text_part.One u) (49 ∷ [])))
     (same_text s (48 ∷ []) h) k))
 
-one_text_alone_other : (s : List ℕ) → IsTrue (text_has (text_part.One s) [])
+pub one_text_alone_other : (s : List ℕ) → IsTrue (text_has (text_part.One s) [])
     → IsTrue (text_has (text_part.One s) (97 ∷ [])) → ⊥
 one_text_alone_other s h k =
     absurd (false≢true (subst (λ u. IsTrue (text_has (text_part.One u) (97 ∷ [])))

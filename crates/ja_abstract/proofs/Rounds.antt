@@ -11,12 +11,12 @@ use Rattle.ja_abstract.proofs.Labels.{IsAmong, same_label-true, some_among, amon
 -- ---- how many of a list are in a set
 
 -- one for each that is in
-abbrev bit : Bool → ℕ
+abbrev pub bit : Bool → ℕ
 bit true = 1
 bit false = 0
 
 -- how many of the list are in the set
-abbrev among : Labels → List Label → ℕ
+abbrev pub among : Labels → List Label → ℕ
 among set [] = 0
 among set (l ∷ ls) = bit (set l) + among set ls
 
@@ -39,7 +39,7 @@ bit_false : (b : Bool) → b ≡ false → bit b ≡ 0
 bit_false b e = subst (λ c. bit c ≡ 0) (sym e) refl
 
 -- at most as many are in the set as there are
-among-le : (set : Labels) (ls : List Label) → among set ls ≤ length ls
+pub among-le : (set : Labels) (ls : List Label) → among set ls ≤ length ls
 among-le set [] = omega arith
 among-le set (l ∷ ls) = omega (arith, bit-le (set l), among-le set ls)
 
@@ -64,7 +64,7 @@ among_more-le s t f [] = omega arith
 among_more-le s t f (l ∷ ls) = omega (arith, bit_more (s l) (t l) (f l), among_more-le s t f ls)
 
 -- what of the list is in the first set is in the second
-abbrev IsIn : Labels → Labels → List Label → Type 0
+abbrev pub IsIn : Labels → Labels → List Label → Type 0
 IsIn t s ls = (l : Label) → IsAmong l ls → IsTrue (t l) → IsTrue (s l)
 
 -- one label more on what is in the set as the rest is
@@ -78,7 +78,7 @@ in_more s t m ms f g l a e =
     ]
 
 -- a greater set has more of the list, or no other ones
-grows_or_stays : (s t : Labels) → ((l : Label) → IsTrue (s l) → IsTrue (t l)) → (ls : List Label)
+pub grows_or_stays : (s t : Labels) → ((l : Label) → IsTrue (s l) → IsTrue (t l)) → (ls : List Label)
     → (among s ls < among t ls) ⊎ IsIn t s ls
 grows_or_stays s t f [] = inr (λ l a e. absurd (false≢true a))
 grows_or_stays s t f (l ∷ ls) =

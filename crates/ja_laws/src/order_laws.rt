@@ -1,10 +1,13 @@
 //! What the order of abstract values, properties and states comes to. The functions do nothing;
 //! their contracts are the laws.
 
+ghost use Rattle.std.specs.Prelude.{◌<◌, List};
+ghost use Rattle.ja_base.specs.declared.ids.Label.{Label};
 ghost use Rattle.ja_abstract.specs.declared.abstraction.NumberPart.{NumberPart};
 ghost use Rattle.ja_abstract.specs.declared.abstraction.TextPart.{TextPart};
 ghost use Rattle.ja_abstract.specs.AbstractValue.{AbstractValue};
 ghost use Rattle.ja_abstract.specs.Order.{LeqValue, LeqProperty, LeqState};
+ghost use Rattle.ja_abstract.specs.Rank.{among, rank};
 ghost use Rattle.ja_laws.specs.OrderLaws.{IsOrder, HasNumbersOf, HasTextsOf, HasAllOf};
 ghost use Rattle.ja_laws.specs.OrderLaws.{IsNumberBelow, IsTextBelow};
 
@@ -29,4 +32,11 @@ pub fn classes_are_ordered()
     ensures numbers_below { (a b : NumberPart) → HasNumbersOf b a → IsNumberBelow a b }
     ensures below_texts { (a b : TextPart) → IsTextBelow a b → HasTextsOf b a }
     ensures texts_below { (a b : TextPart) → HasTextsOf b a → IsTextBelow a b }
+{}
+
+/// A value that is above another, and isn't below it as far as the labels of a list go, has a higher
+/// rank.
+pub fn ranks_rise()
+    ensures { (labels : List Label) (a b : AbstractValue) → LeqValue a b
+        → (LeqValue (among labels b) a → ⊥) → rank labels a < rank labels b }
 {}

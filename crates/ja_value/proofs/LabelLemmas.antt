@@ -1,25 +1,24 @@
 -- Labels and their numbers, and sets of labels by sets of numbers.
-use Rattle.std.proofs.Common.{◌≡◌, ◌≢◌, ℕ, ◌+◌, ◌*◌, ◌<◌, ◌≤◌, ◌/◌, ◌%◌, Bool, true, false, ◌||◌, cond, nat_lt, List, [], ◌∷◌, ◌++◌, map, filter, refl, ap, sym, ◌∙◌, subst, arith, length, ⊎_elim, append-nil, ◌↔◌, suc, zero}
-use Rattle.std.specs.Prelude.{IsTrue}
+use Rattle.std.proofs.Common.{◌≡◌, ℕ, ◌+◌, ◌*◌, ◌<◌, ◌≤◌, ◌/◌, ◌%◌, Bool, true, false, ◌||◌, ◌&&◌, cond, nat_lt, List, [], ◌∷◌, ◌++◌, map, filter, refl, ap, sym, ◌∙◌, subst, arith, length, get_or, drop, drop_of_length-le, ⊎_elim, append-nil, ◌↔◌, suc, zero}
+use Rattle.std.specs.Prelude.{IsTrue, ◌==◌, Some, None, slice_get}
 use Rattle.std.specs.List.{list_any, range_with_len, flat_map, AllByRecursion}
 use Rattle.std.specs.List.Sorted.{IsStrictlySortedBy}
 use Rattle.std.specs.Ordering.{nat_cmp}
 use Rattle.std.specs.declared.cmp.Ordering.TheVariants.{Less}
-use Rattle.std.specs.BTreeMap.{is_at}
-use Rattle.std.proofs.lemmas.Bool.{le-ltb, lt-ltb, cases_order, cases_lt, true≢false}
+use Rattle.std.proofs.lemmas.Bool.{le-ltb, lt-ltb, cases_order, cases_lt, true≢false, and_from}
+use Rattle.std.proofs.Math.Bool.{or-false}
 use Rattle.std.proofs.lemmas.Bool.Decides.{nat_tests}
 use Rattle.std.proofs.lemmas.Cmp.{ranked}
-use Rattle.std.proofs.lemmas.List.{map-append}
-use Rattle.std.proofs.lemmas.List.FromFn.{filter_of_map_range_with_len_more}
+use Rattle.std.proofs.lemmas.List.{map-append, length-map}
+use Rattle.std.proofs.lemmas.List.Folds.{list_any_at}
+use Rattle.std.proofs.lemmas.List.FromFn.{filter_of_map_range_with_len_more, length-map-range_with_len}
+use Rattle.std.proofs.lemmas.List.Sums.{count_by-le-length, length-filter}
 use Rattle.std.proofs.lemmas.Map.Keys.{sorted_head, sorted_tail}
 use Rattle.ja_base.specs.declared.ids.Label.{Label}
 use Rattle.ja_abstract.specs.AbstractValue.{Labels, no_labels}
 use Rattle.ja_abstract.specs.AbstractState.{label_number, labels_below, site_of, new, old}
-use Rattle.ja_value.specs.Labels.{label_at}
-
--- a list of numbers as a test
-abbrev pub has : List ℕ → ℕ → Bool
-has ks q = list_any (is_at (nat_cmp q)) ks
+use Rattle.ja_value.specs.Labels.{label_at, has}
+use Rattle.ja_value.proofs.AscendingLemmas.{equal, apart}
 
 abbrev pub below : ℕ → ℕ → Bool
 below n k = nat_lt k n
@@ -33,12 +32,6 @@ number_label n = grind (arith, nat_tests)
 
 less : (x y : ℕ) → nat_cmp x y ≡ Less → x < y
 less x y h = ranked x y Less (sym h)
-
-equal : (n k : ℕ) → k ≡ n → is_at (nat_cmp n) k ≡ true
-equal n k e = grind (arith, nat_tests)
-
-apart : (n k : ℕ) → n ≢ k → is_at (nat_cmp n) k ≡ false
-apart n k ne = grind (arith, nat_tests)
 
 -- none of the numbers above x is below m
 below_none : (m x : ℕ) (ks : List ℕ) → AllByRecursion (λ y. nat_cmp x y ≡ Less) ks → m ≤ x + 1
@@ -167,6 +160,10 @@ labels_list ks s sites end e =
     ap (λ (n : ℕ). map label_at (filter (below n) ks)) e ∙ numbers_list ks s (2 * sites)
     ∙ ap (filter (in_numbers ks)) (sym (labels_range sites))
 
+-- nothing is to come behind the last
+pub none_left : (xs seen : List ℕ) (i : ℕ) → seen ≡ xs → length seen ≤ i → drop i xs ≡ []
+none_left xs seen i same past = drop_of_length-le xs (omega (arith, ap length same))
+
 -- all is listed once nothing is to come
 pub listed : (items : List Label) (ks rest : List ℕ) (sites end : ℕ) → end ≡ 2 * sites → rest ≡ []
     → IsStrictlySortedBy nat_cmp ks → items ++ map label_at (filter (below end) rest)
@@ -205,18 +202,94 @@ any_is ks s sites =
     ∙ sym (any_there (in_numbers ks) (labels_below sites))
 
 -- the first number of the list tells whether one is below
-pub any_by_first : (all ks : List ℕ) (k sites : ℕ) → IsStrictlySortedBy nat_cmp all → all ≡ k ∷ ks
+pub any_by_first : (all seen : List ℕ) (k sites : ℕ) → IsStrictlySortedBy nat_cmp all
+    → seen ≡ all → Some k ≡ slice_get seen 0
     → nat_lt k (2 * sites) ≡ list_any (in_numbers all) (labels_below sites)
-any_by_first all ks k sites s e =
-    let P : List ℕ → Type 0 = λ ns. IsStrictlySortedBy nat_cmp ns in
-    first_there (2 * sites) k ks (subst P e s)
-    ∙ ap (λ (ns : List ℕ). is_there (filter (below (2 * sites)) ns)) (sym e)
-    ∙ any_is all s sites
+any_by_first [] seen k sites s same e =
+    let none : Some k ≡ None = e ∙ ap (λ (xs : List ℕ). slice_get xs 0) same in absurd (cc)
+any_by_first (x ∷ xs) seen k sites s same e =
+    let some : Some k ≡ Some x = e ∙ ap (λ (ns : List ℕ). slice_get ns 0) same in
+    let first : k ≡ x = cc in
+    ap (λ (n : ℕ). nat_lt n (2 * sites)) first ∙ first_there (2 * sites) x xs s
+    ∙ any_is (x ∷ xs) s sites
 
-pub any_of_none : (all : List ℕ) (sites : ℕ) → IsStrictlySortedBy nat_cmp all → all ≡ []
-    → false ≡ list_any (in_numbers all) (labels_below sites)
-any_of_none all sites s e =
-    ap (λ (ns : List ℕ). is_there (filter (below (2 * sites)) ns)) (sym e) ∙ any_is all s sites
+pub any_of_none : (all seen : List ℕ) (sites : ℕ) → IsStrictlySortedBy nat_cmp all → seen ≡ all
+    → None ≡ slice_get seen 0 → false ≡ list_any (in_numbers all) (labels_below sites)
+any_of_none [] seen sites s same e = any_is [] s sites
+any_of_none (x ∷ xs) seen sites s same e =
+    let some : None ≡ Some x = e ∙ ap (λ (ns : List ℕ). slice_get ns 0) same in absurd (cc)
+
+-- ---- those that are in another set too, and how many there are
+
+any_both : {X : Type 0} (p q : X → Bool) (xs : List X)
+    → list_any (λ x. p x && q x) xs ≡ list_any q (filter p xs)
+any_both p q [] = refl
+any_both p q (x ∷ xs) =
+    elim (p x) as (λ v. ((v && q x) || list_any (λ y. p y && q y) xs)
+    ≡ list_any q (cond v (x ∷ filter p xs) (filter p xs)))
+    [ true ↦ ap (λ (b : Bool). q x || b) (any_both p q xs) | false ↦ any_both p q xs ]
+
+any_numbers : (ms ks : List ℕ)
+    → list_any (in_numbers ms) (map label_at ks) ≡ list_any (has ms) ks
+any_numbers ms [] = refl
+any_numbers ms (k ∷ ks) =
+    ap (λ (n : ℕ). has ms n || list_any (in_numbers ms) (map label_at ks)) (number_label k)
+    ∙ ap (λ (b : Bool). has ms k || b) (any_numbers ms ks)
+
+pub any_shared : (ks ms : List ℕ) → IsStrictlySortedBy nat_cmp ks → (sites end : ℕ)
+    → end ≡ 2 * sites → list_any (λ n. nat_lt n end && has ms n) ks
+    ≡ list_any (λ l. in_numbers ks l && in_numbers ms l) (labels_below sites)
+any_shared ks ms s sites end e =
+    any_both (below end) (has ms) ks ∙ sym (any_numbers ms (filter (below end) ks))
+    ∙ ap (list_any (in_numbers ms)) (labels_list ks s sites end e)
+    ∙ sym (any_both (in_numbers ks) (in_numbers ms) (labels_below sites))
+
+pub count_is : (ks : List ℕ) → IsStrictlySortedBy nat_cmp ks → (sites end : ℕ) → end ≡ 2 * sites
+    → length (filter (below end) ks) ≡ length (filter (in_numbers ks) (labels_below sites))
+count_is ks s sites end e =
+    sym (length-map (filter (below end) ks) label_at)
+    ∙ ap length (labels_list ks s sites end e)
+
+pub few_labels : (p : Labels) (sites : ℕ) → length (filter p (labels_below sites)) ≤ 2 * sites
+few_labels p sites =
+    omega (
+      arith,
+      length-filter p (labels_below sites),
+      count_by-le-length p (labels_below sites),
+      ap length (labels_range sites),
+      length-map-range_with_len label_at 0 (2 * sites),
+    )
+
+-- a number of both that is below the end
+pub shared_at : (ks ms seen : List ℕ) (i end : ℕ) → seen ≡ ks → i < length seen
+    → get_or seen i 0 < end → has ms (get_or seen i 0) ≡ true
+    → list_any (λ n. nat_lt n end && has ms n) ks ≡ true
+shared_at ks ms seen i end same lower less there =
+    ap (list_any (λ n. nat_lt n end && has ms n)) (sym same)
+    ∙ list_any_at (λ n. nat_lt n end && has ms n) seen i 0 lower
+    (and_from (nat_lt (get_or seen i 0) end) (has ms (get_or seen i 0))
+    (lt-ltb (get_or seen i 0) end less) there)
+
+-- none, where no number is left
+pub none_shared : (ks ms rest : List ℕ) (sites end : ℕ) → rest ≡ [] → IsStrictlySortedBy nat_cmp ks
+    → end ≡ 2 * sites → list_any (λ n. nat_lt n end && has ms n) rest
+    ≡ list_any (λ n. nat_lt n end && has ms n) ks
+    → false ≡ list_any (λ l. in_numbers ks l && in_numbers ms l) (labels_below sites)
+none_shared ks ms rest sites end none s e all =
+    sym (ap (list_any (λ n. nat_lt n end && has ms n)) none) ∙ all ∙ any_shared ks ms s sites end e
+
+-- all are counted, where no number is left
+pub counted_all : (ks rest : List ℕ) (count sites end : ℕ) → rest ≡ []
+    → IsStrictlySortedBy nat_cmp ks → end ≡ 2 * sites
+    → count + length (filter (below end) rest) ≡ length (filter (below end) ks)
+    → count ≡ length (filter (in_numbers ks) (labels_below sites))
+counted_all ks rest count sites end none s e all =
+    omega (
+      arith,
+      all,
+      ap (λ (ns : List ℕ). length (filter (below end) ns)) none,
+      count_is ks s sites end e,
+    )
 
 -- ---- sets that differ
 
@@ -228,12 +301,16 @@ labels_apart first now q out inside e =
     ∙ ap (λ (f : Labels). f (label_at q)) e ∙ ap (has first) (number_label q) in
     true≢false (sym inside ∙ there ∙ out)
 
-pub no_labels_is : (ks : List ℕ) → (length ks ≡ 0) ↔ (in_numbers ks ≡ no_labels)
-no_labels_is [] = ((λ _. refl), (λ _. refl))
-no_labels_is (k ∷ ks) = (
-  (λ e. absurd (omega arith)),
-  (λ e. absurd
-      (labels_apart [] (k ∷ ks) k refl (rw (equal k k refl) refl) e)),
+pub no_labels_is : (ks seen : List ℕ) (r : Bool) → seen ≡ ks → r ≡ (length seen == 0)
+    → IsTrue r ↔ (in_numbers ks ≡ no_labels)
+no_labels_is [] seen r same e =
+    ((λ _. refl), (λ _. e ∙ ap (λ (xs : List ℕ). length xs == 0) same))
+no_labels_is (k ∷ ks) seen r same e = (
+  (λ t. absurd
+      (true≢false (sym t ∙ e ∙ ap (λ (xs : List ℕ). length xs == 0) same
+      ∙ apart (length (k ∷ ks)) 0 (omega arith)))),
+  (λ f. absurd
+      (labels_apart [] (k ∷ ks) k refl (rw (equal k k refl) refl) f)),
 )
 
 -- ---- sets within others
@@ -249,8 +326,25 @@ pub union_within : (mine other : List ℕ) → ((q : ℕ) → IsTrue (has other 
 union_within mine other h =
     λ i l. (within (has mine (label_number l)) (has other (label_number l)) (h (label_number l))) i
 
+-- a set is within another as numbers, and as labels
+pub within_labels : (mine other : List ℕ) (r : Bool)
+    → (IsTrue r ↔ ((q : ℕ) → IsTrue (has mine q) → IsTrue (has other q)))
+    → IsTrue r ↔ ((l : Label) → IsTrue (in_numbers mine l) → IsTrue (in_numbers other l))
+within_labels mine other r h =
+    let P : ℕ → Type 0 = λ n. IsTrue (has mine n) → IsTrue (has other n) in
+    ((λ t l. h.0 t (label_number l)), (λ f. h.1 (λ q. subst P (number_label q) (f (label_at q)))))
+
 -- numbers `more` are still to be added to `now`, which began as `first`
 pub record Joining (first other now more : List ℕ) (changed : Bool) : Type 0 where
   pub joined : (q : ℕ) → (has now q || has more q) ≡ (has first q || has other q)
   pub one_more : changed ≡ true → (q : ℕ) × ((has first q ≡ false) × (has now q ≡ true))
   pub no_more : changed ≡ false → (q : ℕ) → has now q ≡ has first q
+
+-- all are added once nothing is to come
+pub joined_all : (first other now rest : List ℕ) (changed : Bool)
+    → Joining first other now rest changed → rest ≡ []
+    → in_numbers now ≡ (λ l. in_numbers first l || in_numbers other l)
+joined_all first other now rest changed h none =
+    λ i l. (sym (or-false (has now (label_number l)))
+    ∙ ap (λ (ns : List ℕ). has now (label_number l) || has ns (label_number l)) (sym none)
+    ∙ h.joined (label_number l)) i

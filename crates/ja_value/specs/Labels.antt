@@ -1,7 +1,8 @@
 -- The labels as numbers, and sets of them as tests.
-use Rattle.std.specs.Prelude.{ℕ, ◌+◌, ◌/◌, ◌%◌, Bool, ◌&&◌, ◌||◌, ◌==◌, if◌then◌else◌, unwrap_or}
+use Rattle.std.specs.Prelude.{ℕ, ◌+◌, ◌/◌, ◌%◌, Bool, ◌&&◌, ◌||◌, ◌==◌, if◌then◌else◌, List, unwrap_or}
+use Rattle.std.specs.List.{list_any}
 use Rattle.std.specs.Ordering.{nat_cmp}
-use Rattle.std.specs.BTreeMap.{BTreeMap, get, is_at}
+use Rattle.std.specs.BTreeMap.{BTreeMap, get}
 use Rattle.ja_base.specs.declared.ids.Label.{Label}
 use Rattle.ja_base.specs.declared.ids.Site.{Site}
 use Rattle.ja_abstract.specs.declared.abstraction.Mask.{Mask}
@@ -11,6 +12,10 @@ use Rattle.ja_abstract.specs.AbstractState.{site_of, new, old, exactly_none}
 -- the label whose number is n
 abbrev pub label_at : ℕ → Label
 label_at n = record { site = site_of (n / 2); old = n % 2 == 1 }
+
+-- a list of numbers as a test
+abbrev pub has : List ℕ → ℕ → Bool
+has ks q = list_any (λ k. q == k) ks
 
 -- a set of labels after an object more was made at a site
 abbrev pub aged_labels : Site → Labels → Labels
@@ -27,5 +32,5 @@ number_mask mask n = if n % 2 == 1 then exactly_none else mask (n / 2)
 -- whether objects whose label at the entry has the number n may now have the label of the number q
 abbrev pub leads : (ℕ → Mask) → ℕ → ℕ → Bool
 leads mask n q =
-    ((number_mask mask n).none && is_at (nat_cmp q) n)
-    || ((number_mask mask n).some && is_at (nat_cmp q) (n + 1))
+    ((number_mask mask n).none && q == n)
+    || ((number_mask mask n).some && q == n + 1)

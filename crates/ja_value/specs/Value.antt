@@ -1,14 +1,13 @@
 -- What the analyser's sets of labels, values and properties stand for.
-use Rattle.std.specs.Ordering.{nat_cmp}
-use Rattle.std.specs.BTreeSet.{contains}
 use Rattle.ja_value.specs.declared.label_set.LabelSet.{LabelSet}
 use Rattle.ja_value.specs.declared.value.AValue.{AValue}
 use Rattle.ja_value.specs.declared.property.AProp.{AProp}
+use Rattle.ja_value.specs.Labels.{has}
 use Rattle.ja_abstract.specs.AbstractValue.{Labels, AbstractValue, AbstractProperty}
 use Rattle.ja_abstract.specs.AbstractState.{label_number}
 
 abbrev pub labels_in : LabelSet → Labels
-labels_in set l = contains nat_cmp set.numbers (label_number l)
+labels_in set l = has set.numbers (label_number l)
 
 abbrev pub value_of : AValue → AbstractValue
 value_of v =

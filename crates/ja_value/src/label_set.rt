@@ -1,21 +1,21 @@
-ghost use Rattle.std.specs.Prelude.{◌≡◌, ◌≢◌, ◌||◌, ◌<◌, ◌↔◌, ◌==◌, ◌^◌, ◌/◌, ◌%◌, ℕ, filter, IfOk, OnErr, IsTrue, true, false};
+ghost use Rattle.std.specs.Prelude.{◌≡◌, ◌≢◌, ◌||◌, ◌&&◌, ◌<◌, ◌≤◌, ◌*◌, ◌↔◌, ◌==◌, ◌^◌, ◌/◌, ◌%◌, ℕ, filter, length, not, IfOk, OnErr, IsTrue, true, false};
 ghost use Rattle.std.specs.List.{list_any};
-ghost use Rattle.std.specs.Ordering.{nat_cmp};
-ghost use Rattle.std.specs.BTreeSet.{contains};
+ghost use Rattle.ja_base.specs.declared.ids.Label.{Label};
 ghost use Rattle.ja_abstract.specs.AbstractValue.{same_label, no_labels};
 ghost use Rattle.ja_abstract.specs.AbstractState.{labels_below, label_number, new, old};
 ghost use Rattle.ja_abstract.specs.Resolved.{renamed_labels};
-ghost use Rattle.ja_value.specs.Labels.{label_at, aged_labels, mask_in, number_mask, leads};
+ghost use Rattle.ja_value.specs.Labels.{has, label_at, aged_labels, mask_in, number_mask, leads};
 
+use crate::ascending::Ascending;
 use ja_abstract::Mask;
 use ja_base::{Label, Memory, Site};
 use std::alloc::Global;
-use std::collections::{BTreeMap, BTreeSet};
+use std::collections::BTreeMap;
 
-/// A set of labels.
+/// A set of labels. Sets of one or two are kept without an allocation.
 #[derive(Drop)]
 pub struct LabelSet {
-    numbers: BTreeSet<u64>,
+    numbers: Ascending,
 }
 
 /// The number of a label: twice its site, and one more where it is old.
@@ -65,12 +65,12 @@ fn number_mask(masks: &BTreeMap<u64, Mask>, number: u64) -> Mask
 
 /// Adds the labels that the objects of a label may have now, by number.
 fn insert_renamed(
-    numbers: &mut BTreeSet<u64>,
+    numbers: &mut Ascending,
     masks: &BTreeMap<u64, Mask>,
     number: u64,
 ) -> Result<(), Memory>
-    ensures { IfOk result (λ _. (q : ℕ) → contains nat_cmp numbers.new q
-        ≡ (contains nat_cmp numbers.old q || leads (mask_in masks.now) number q)) }
+    ensures { IfOk result (λ _. (q : ℕ) → has numbers.new q
+        ≡ (has numbers.old q || leads (mask_in masks.now) number q)) }
 {
     let mask = number_mask(masks, number);
     if mask.none {
@@ -90,16 +90,17 @@ impl LabelSet {
         ensures { labels_in result ≡ no_labels }
     {
         LabelSet {
-            numbers: BTreeSet::new(alloc),
+            numbers: Ascending::new(alloc),
         }
     }
 
-    /// The same set once more.
+    /// The same set once more. Up to two labels take no memory.
     pub fn copy(&self) -> Result<LabelSet, Memory>
         ensures { IfOk result (λ s. labels_in s ≡ labels_in self.now) }
     {
-        let numbers = self.numbers.clone()?;
-        Ok(LabelSet { numbers })
+        Ok(LabelSet {
+            numbers: self.numbers.copy()?,
+        })
     }
 
     /// Adds a label. After `Memory` the set is as it was.
@@ -108,8 +109,7 @@ impl LabelSet {
             ≡ (λ l. labels_in self.old l || same_label label l)) }
         ensures kept { OnErr result (labels_in self.new ≡ labels_in self.old) }
     {
-        let number = label_number(label);
-        self.numbers.insert(number)?;
+        self.numbers.insert(label_number(label))?;
         Ok(())
     }
 
@@ -117,22 +117,21 @@ impl LabelSet {
     pub fn contains(&self, label: Label) -> bool
         ensures { result ≡ labels_in self.now label }
     {
-        let number = label_number(label);
-        self.numbers.contains(&number)
+        self.numbers.contains(label_number(label))
     }
 
     /// Whether no label is in the set.
     pub fn is_empty(&self) -> bool
         ensures { IsTrue result ↔ (labels_in self.now ≡ no_labels) }
     {
-        self.numbers.is_empty()
+        self.numbers.as_slice().is_empty()
     }
 
     /// Whether a label of the first `sites` sites is in the set.
     pub fn has_below(&self, sites: u32) -> bool
         ensures { result ≡ list_any (labels_in self.now) (labels_below sites) }
     {
-        match self.numbers.iter().next() {
+        match self.numbers.as_slice().first() {
             Some(number) => *number < 2 * u64::from(sites),
             None => false,
         }
@@ -144,7 +143,7 @@ impl LabelSet {
     {
         let end = 2 * u64::from(sites);
         let mut labels = Vec::new(alloc);
-        for number in &self.numbers {
+        for number in self.numbers.as_slice() {
             if *number < end {
                 labels.push(label_at(*number))?;
             }
@@ -160,6 +159,50 @@ impl LabelSet {
         other.numbers.is_subset(&self.numbers)
     }
 
+    /// Whether each label of this set is in another.
+    pub fn is_subset(&self, other: &LabelSet) -> bool
+        ensures { IsTrue result ↔ ((l : Label) → IsTrue (labels_in self.now l)
+            → IsTrue (labels_in other.now l)) }
+    {
+        self.numbers.is_subset(&other.numbers)
+    }
+
+    /// Whether a label of the first `sites` sites is in this set and in another.
+    pub fn intersects(&self, other: &LabelSet, sites: u32) -> bool
+        ensures { result ≡ list_any (λ l. labels_in self.now l && labels_in other.now l)
+            (labels_below sites) }
+    {
+        let end = 2 * u64::from(sites);
+        for number in self.numbers.as_slice() {
+            if *number < end && other.numbers.contains(*number) {
+                return true;
+            }
+        }
+        false
+    }
+
+    /// How many labels of the first `sites` sites are in the set.
+    pub fn count_below(&self, sites: u32) -> u64
+        ensures counted { result ≡ length (filter (labels_in self.now) (labels_below sites)) }
+        ensures within { result ≤ 2 * sites }
+    {
+        let end = 2 * u64::from(sites);
+        let mut count = 0;
+        for number in self.numbers.as_slice() {
+            if *number < end {
+                count += 1;
+            }
+        }
+        count
+    }
+
+    /// Drops a label.
+    pub fn remove(&mut self, label: Label)
+        ensures { labels_in self.new ≡ (λ l. labels_in self.old l && not (same_label label l)) }
+    {
+        self.numbers.remove(label_number(label));
+    }
+
     /// Adds the labels of another set one by one, and tells whether one of them is new. After
     /// `Memory` some of them may have been added.
     fn add_all(&mut self, other: &LabelSet) -> Result<bool, Memory>
@@ -169,7 +212,7 @@ impl LabelSet {
         ensures same { IfOk result (λ c. c ≡ false → labels_in self.new ≡ labels_in self.old) }
     {
         let mut changed = false;
-        for number in &other.numbers {
+        for number in other.numbers.as_slice() {
             let added = self.numbers.insert(*number)?;
             changed = changed | added;
         }
@@ -201,10 +244,10 @@ impl LabelSet {
         ensures kept { OnErr result (labels_in self.new ≡ labels_in self.old) }
     {
         let new = label_number(Label { site, old: false });
-        if self.numbers.contains(&new) {
+        if self.numbers.contains(new) {
             let old = label_number(Label { site, old: true });
             self.numbers.insert(old)?;
-            self.numbers.remove(&new);
+            self.numbers.remove(new);
         }
         Ok(())
     }
@@ -215,8 +258,8 @@ impl LabelSet {
         ensures { IfOk result (λ s. labels_in s
             ≡ renamed_labels (mask_in masks.now) (labels_in self.now)) }
     {
-        let mut numbers = BTreeSet::new(alloc);
-        for number in &self.numbers {
+        let mut numbers = Ascending::new(alloc);
+        for number in self.numbers.as_slice() {
             insert_renamed(&mut numbers, masks, *number)?;
         }
         Ok(LabelSet { numbers })

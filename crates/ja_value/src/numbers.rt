@@ -1,6 +1,9 @@
-ghost use Rattle.std.specs.Prelude.{◌≡◌, ◌≢◌, ◌↔◌, IsTrue, true, false};
+ghost use Rattle.std.specs.Prelude.{◌≡◌, ◌≢◌, ◌≤◌, ◌↔◌, IsTrue, true, false};
 ghost use Rattle.ja_prim.specs.Index.{is_index};
-ghost use Rattle.ja_abstract.specs.AbstractValue.{number_class, join_classes, join_numbers};
+ghost use Rattle.ja_abstract.specs.AbstractValue.{has_number, number_class, join_classes, join_numbers};
+ghost use Rattle.ja_abstract.specs.Made.{number_alone};
+ghost use Rattle.ja_abstract.specs.Parts.{number_has};
+ghost use Rattle.ja_abstract.specs.Rank.{number_rank};
 ghost use Rattle.ja_abstract.specs.declared.abstraction.NumberPart.TheVariants as number_part;
 
 use ja_abstract::NumberPart;
@@ -87,6 +90,56 @@ pub fn same_numbers(a: &NumberPart, b: &NumberPart) -> bool
     ensures { IsTrue result ↔ (a.now ≡ b.now) }
 {
     *a == *b
+}
+
+/// Whether a number is there.
+pub fn has_number(part: &NumberPart) -> bool
+    ensures { result ≡ has_number part.now }
+{
+    !matches!(part, NumberPart::Nothing)
+}
+
+/// Whether another number part has each number of a first.
+pub fn leq_numbers(part: NumberPart, other: NumberPart) -> bool
+    ensures { IsTrue result ↔ (join_numbers other part ≡ other) }
+{
+    same_numbers(&join_numbers(other, part), &other)
+}
+
+/// Whether a number is among a number part.
+pub fn number_has(part: NumberPart, number: Int) -> bool
+    ensures { result ≡ number_has part number }
+{
+    match part {
+        NumberPart::Nothing => false,
+        NumberPart::One(one) => one == number,
+        NumberPart::Index => is_index(number),
+        NumberPart::OtherWhole => !is_index(number),
+        NumberPart::Whole => true,
+    }
+}
+
+/// The one number that a number part is.
+pub fn number_alone(part: NumberPart) -> Option<Int>
+    ensures { result ≡ number_alone part }
+{
+    match part {
+        NumberPart::One(number) => Some(number),
+        _ => None,
+    }
+}
+
+/// How much of a number part is known: 0 for none, 1 for one number, 2 for a class, 3 for all.
+pub fn number_rank(part: NumberPart) -> u64
+    ensures value { result ≡ number_rank part }
+    ensures small { result ≤ 3 }
+{
+    match part {
+        NumberPart::Nothing => 0,
+        NumberPart::One(_) => 1,
+        NumberPart::Index | NumberPart::OtherWhole => 2,
+        NumberPart::Whole => 3,
+    }
 }
 
 /// Joins a number part in, and tells whether the part changed.

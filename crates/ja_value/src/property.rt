@@ -1,12 +1,16 @@
 ghost use Rattle.std.specs.Prelude.{◌≡◌, ◌≢◌, ◌↔◌, IfOk, OnErr, IsTrue, true, false};
-ghost use Rattle.ja_abstract.specs.AbstractValue.{join_properties, join_attrs, of_attrs, unknown_attrs, absent_property, entry_property};
+ghost use Rattle.ja_abstract.specs.AbstractValue.{join_properties, join_attrs, of_attrs, unknown_attrs, bare, no_property, absent_property, entry_property};
 ghost use Rattle.ja_abstract.specs.AbstractState.{aged_property};
+ghost use Rattle.ja_abstract.specs.Order.{LeqProperty};
+ghost use Rattle.ja_abstract.specs.Resolved.{renamed};
+ghost use Rattle.ja_value.specs.Labels.{mask_in};
 
 use crate::AValue;
-use ja_abstract::{AAttrs, May};
+use ja_abstract::{AAttrs, Mask, May};
 use ja_base::{Memory, Site};
 use ja_graph::Attrs;
 use std::alloc::Global;
+use std::collections::BTreeMap;
 
 /// An abstract property: its value, and what is known of its attributes.
 #[derive(Drop)]
@@ -64,6 +68,13 @@ pub fn same_attrs(a: AAttrs, b: AAttrs) -> bool
     a == b
 }
 
+/// Whether another side knows what a first does.
+fn leq_attrs(attrs: AAttrs, other: AAttrs) -> bool
+    ensures { IsTrue result ↔ (join_attrs other attrs ≡ other) }
+{
+    same_attrs(join_attrs(other, attrs), other)
+}
+
 /// Adds what another side knows, and tells whether that is new.
 pub fn widen_attrs(attrs: &mut AAttrs, other: AAttrs) -> bool
     ensures joined { attrs.new ≡ join_attrs attrs.old other }
@@ -77,7 +88,35 @@ pub fn widen_attrs(attrs: &mut AAttrs, other: AAttrs) -> bool
 }
 
 impl AProp {
-    ghost use Rattle.ja_value.specs.Value.{property_of};
+    ghost use Rattle.ja_value.specs.Value.{property_of, value_of};
+
+    /// A value of which no attribute is known.
+    pub fn bare(value: AValue) -> AProp
+        ensures { property_of result ≡ bare (value_of value) }
+    {
+        AProp {
+            value,
+            attrs: unknown_attrs(),
+        }
+    }
+
+    /// The property without a part.
+    pub fn nothing(alloc: Global) -> AProp
+        ensures { property_of result ≡ no_property }
+    {
+        AProp::bare(AValue::empty(alloc))
+    }
+
+    /// A value with exactly these attributes.
+    pub fn with_attrs(value: AValue, attrs: Attrs) -> AProp
+        ensures { property_of result
+            ≡ record { value = value_of value; attrs = of_attrs attrs } }
+    {
+        AProp {
+            value,
+            attrs: exact_attrs(attrs),
+        }
+    }
 
     /// Exactly absent.
     pub fn absent(alloc: Global) -> AProp
@@ -85,10 +124,7 @@ impl AProp {
     {
         let mut value = AValue::empty(alloc);
         value.flags.absent = true;
-        AProp {
-            value,
-            attrs: unknown_attrs(),
-        }
+        AProp::bare(value)
     }
 
     /// Exactly as at entry.
@@ -97,10 +133,7 @@ impl AProp {
     {
         let mut value = AValue::empty(alloc);
         value.flags.entry = true;
-        AProp {
-            value,
-            attrs: unknown_attrs(),
-        }
+        AProp::bare(value)
     }
 
     /// The same property once more.
@@ -113,13 +146,22 @@ impl AProp {
         })
     }
 
+    /// Whether another property has each part of this one, so that a join of this one changes
+    /// nothing.
+    pub fn leq(&self, other: &AProp) -> bool
+        ensures order { IsTrue result ↔ LeqProperty (property_of self.now) (property_of other.now) }
+        ensures joined { IsTrue result ↔ (join_properties (property_of other.now)
+            (property_of self.now) ≡ property_of other.now) }
+    {
+        self.value.leq(&other.value) & leq_attrs(self.attrs, other.attrs)
+    }
+
     /// Whether this property holds another, so that a join changes nothing.
     pub fn covers(&self, other: &AProp) -> bool
         ensures { result ≡ true → join_properties (property_of self.now) (property_of other.now)
             ≡ property_of self.now }
     {
-        self.value.covers(&other.value)
-            && same_attrs(join_attrs(self.attrs, other.attrs), self.attrs)
+        other.leq(self)
     }
 
     /// Joins another property in, and tells whether the property changed. After `Memory` it is as
@@ -142,6 +184,18 @@ impl AProp {
     {
         Ok(AProp {
             value: self.value.aged(alloc, site)?,
+            attrs: self.attrs,
+        })
+    }
+
+    /// The property at the entry with the labels that its objects have now, by the masks of their
+    /// sites.
+    pub fn renamed(&self, alloc: Global, masks: &BTreeMap<u64, Mask>) -> Result<AProp, Memory>
+        ensures { IfOk result (λ q. property_of q
+            ≡ renamed (mask_in masks.now) (property_of self.now)) }
+    {
+        Ok(AProp {
+            value: self.value.renamed(alloc, masks)?,
             attrs: self.attrs,
         })
     }

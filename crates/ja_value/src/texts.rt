@@ -1,6 +1,8 @@
-ghost use Rattle.std.specs.Prelude.{◌≡◌, ◌≢◌, ◌↔◌, IsTrue, IfOk, IfSome, is_some, unwrap_or, true, false};
+ghost use Rattle.std.specs.Prelude.{◌≡◌, ◌≢◌, ◌≤◌, ◌↔◌, IsTrue, IfOk, IfSome, is_some, unwrap_or, true, false};
 ghost use Rattle.ja_prim.specs.Index.{is_index_text};
-ghost use Rattle.ja_abstract.specs.AbstractValue.{text_class, join_text_classes, join_texts};
+ghost use Rattle.ja_abstract.specs.AbstractValue.{has_text, text_class, join_text_classes, join_texts};
+ghost use Rattle.ja_abstract.specs.Parts.{text_has};
+ghost use Rattle.ja_abstract.specs.Rank.{text_rank};
 ghost use Rattle.ja_abstract.specs.declared.abstraction.TextPart.TheVariants as text_part;
 
 use ja_abstract::TextPart;
@@ -22,7 +24,7 @@ pub fn same_text(a: &Text16, b: &Text16) -> bool
     a.units() == b.units()
 }
 
-/// The same text part once more.
+/// The same text part once more. The text is shared, so that it takes no memory.
 pub fn copy_text_part(alloc: Global, part: &TextPart) -> Result<TextPart, Memory>
     ensures { IfOk result (λ p. p ≡ part.now) }
 {
@@ -132,16 +134,50 @@ pub fn same_texts(a: &TextPart, b: &TextPart) -> bool
     }
 }
 
-/// Whether a text part holds another.
-pub fn covers_text(part: &TextPart, other: &TextPart) -> bool
-    ensures { result ≡ true → join_texts part.now other.now ≡ part.now }
+/// Whether a text is there.
+pub fn has_text(part: &TextPart) -> bool
+    ensures { result ≡ has_text part.now }
 {
-    if same_texts(part, other) || matches!(other, TextPart::Nothing) {
+    !matches!(part, TextPart::Nothing)
+}
+
+/// Whether another text part has each text of a first.
+pub fn leq_texts(part: &TextPart, other: &TextPart) -> bool
+    ensures { IsTrue result ↔ (join_texts other.now part.now ≡ other.now) }
+{
+    if !has_text(part) {
         return true;
     }
+    match other {
+        TextPart::Nothing => false,
+        TextPart::One(_) => same_texts(part, other),
+        _ => same_texts(&join_text_classes(other, &text_class(part)), other),
+    }
+}
+
+/// Whether a text is among a text part.
+pub fn text_has(part: &TextPart, text: &Text16) -> bool
+    ensures { result ≡ text_has part.now text.now }
+{
     match part {
-        TextPart::Nothing | TextPart::One(_) => false,
-        _ => same_texts(&join_text_classes(part, &text_class(other)), part),
+        TextPart::Nothing => false,
+        TextPart::One(one) => one.units() == text.units(),
+        TextPart::IndexText => is_index_text(text),
+        TextPart::OtherText => !is_index_text(text),
+        TextPart::Text => true,
+    }
+}
+
+/// How much of a text part is known: 0 for none, 1 for one text, 2 for a class, 3 for all.
+pub fn text_rank(part: &TextPart) -> u64
+    ensures value { result ≡ text_rank part.now }
+    ensures small { result ≤ 3 }
+{
+    match part {
+        TextPart::Nothing => 0,
+        TextPart::One(_) => 1,
+        TextPart::IndexText | TextPart::OtherText => 2,
+        TextPart::Text => 3,
     }
 }
 
@@ -154,13 +190,10 @@ pub fn changed_text(
     ensures joined { IfOk result (λ o. unwrap_or o part.now ≡ join_texts part.now other.now) }
     ensures changed { IfOk result (λ o. IfSome o (λ t. t ≢ part.now)) }
 {
-    if covers_text(part, other) {
+    if leq_texts(other, part) {
         return Ok(None);
     }
     let joined = join_texts(alloc, part, other)?;
-    if same_texts(&joined, part) {
-        return Ok(None);
-    }
     Ok(Some(joined))
 }
 

@@ -1,18 +1,21 @@
 ghost use Rattle.std.specs.Prelude.{◌≡◌, ◌≢◌, ◌↔◌, IfOk, OnErr, IsTrue, true, false};
-ghost use Rattle.ja_prim.specs.declared.primitive.Num.TheVariants as num;
-ghost use Rattle.ja_prim.specs.declared.primitive.Primitive.TheVariants as primitive;
-ghost use Rattle.ja_abstract.specs.AbstractValue.{no_value, join, join_flags, has_present_flag, has_number, has_text, of_flags, row_value, of_primitive, of_label, is_present, has_part};
-ghost use Rattle.ja_abstract.specs.AbstractState.{labels_below, aged};
+ghost use Rattle.ja_abstract.specs.AbstractValue.{join, join_flags, present_part};
+ghost use Rattle.ja_abstract.specs.AbstractState.{aged};
+ghost use Rattle.ja_abstract.specs.Order.{LeqValue};
+ghost use Rattle.ja_abstract.specs.Resolved.{renamed_labels};
+ghost use Rattle.ja_abstract.specs.Values.{primitives_of, as_read};
+ghost use Rattle.ja_value.specs.Labels.{mask_in};
 
 use crate::LabelSet;
-use crate::numbers::{join_numbers, same_numbers, widen_number};
-use crate::texts::{changed_text, copy_text_part, covers_text, replace_text};
-use ja_abstract::{Flags, NumberPart, TextPart};
-use ja_base::{Label, Memory, Site};
-use ja_prim::{Int, Num, Primitive, Text16};
+use crate::numbers::{leq_numbers, widen_number};
+use crate::texts::{changed_text, copy_text_part, leq_texts, replace_text};
+use ja_abstract::{Flags, Mask, NumberPart, TextPart};
+use ja_base::{Memory, Site};
 use std::alloc::Global;
+use std::collections::BTreeMap;
 
-/// An abstract value (Jensen, Møller and Thiemann, SAS 2009).
+/// An abstract value (Jensen, Møller and Thiemann, SAS 2009). Its text shares its units with the
+/// other values that have it.
 pub struct AValue {
     pub flags: Flags,
     pub number: NumberPart,
@@ -32,7 +35,7 @@ impl Drop for AValue {
 }
 
 /// No flag.
-const NO_FLAGS: Flags = Flags {
+pub(crate) const NO_FLAGS: Flags = Flags {
     absent: false,
     entry: false,
     row: false,
@@ -66,6 +69,13 @@ pub fn same_flags(a: Flags, b: Flags) -> bool
     a == b
 }
 
+/// Whether other flags have each of some flags.
+fn leq_flags(flags: Flags, other: Flags) -> bool
+    ensures { IsTrue result ↔ (join_flags other flags ≡ other) }
+{
+    same_flags(join_flags(other, flags), other)
+}
+
 /// Adds flags, and tells whether one of them is new.
 pub fn widen_flags(flags: &mut Flags, other: Flags) -> bool
     ensures joined { flags.new ≡ join_flags flags.old other }
@@ -78,151 +88,10 @@ pub fn widen_flags(flags: &mut Flags, other: Flags) -> bool
     !same
 }
 
-/// Whether a flag besides `absent` and `entry` is set.
-fn has_present_flag(flags: Flags) -> bool
-    ensures { result ≡ has_present_flag flags }
-{
-    flags.row | flags.undefined | flags.null | flags.is_true | flags.is_false | flags.nan
-}
-
-/// Whether a number is there.
-fn has_number(part: &NumberPart) -> bool
-    ensures { result ≡ has_number part.now }
-{
-    !matches!(part, NumberPart::Nothing)
-}
-
-/// Whether a text is there.
-fn has_text(part: &TextPart) -> bool
-    ensures { result ≡ has_text part.now }
-{
-    !matches!(part, TextPart::Nothing)
-}
-
 impl AValue {
     ghost use Rattle.ja_value.specs.Value.{value_of};
 
-    /// The value without a part.
-    pub fn empty(alloc: Global) -> AValue
-        ensures { value_of result ≡ no_value }
-    {
-        AValue {
-            flags: NO_FLAGS,
-            number: NumberPart::Nothing,
-            text: TextPart::Nothing,
-            labels: LabelSet::new(alloc),
-        }
-    }
-
-    /// The value with these flags alone.
-    pub fn of_flags(alloc: Global, flags: Flags) -> AValue
-        ensures { value_of result ≡ of_flags flags }
-    {
-        AValue {
-            flags,
-            number: NumberPart::Nothing,
-            text: TextPart::Nothing,
-            labels: LabelSet::new(alloc),
-        }
-    }
-
-    /// Exactly a number.
-    pub fn of_number(alloc: Global, number: Int) -> AValue
-        ensures { value_of result ≡ of_primitive (primitive.Number (num.Whole number)) }
-    {
-        AValue {
-            flags: NO_FLAGS,
-            number: NumberPart::One(number),
-            text: TextPart::Nothing,
-            labels: LabelSet::new(alloc),
-        }
-    }
-
-    /// Exactly a text.
-    pub fn of_text(alloc: Global, text: Text16) -> AValue
-        ensures { value_of result ≡ of_primitive (primitive.Text text) }
-    {
-        AValue {
-            flags: NO_FLAGS,
-            number: NumberPart::Nothing,
-            text: TextPart::One(text),
-            labels: LabelSet::new(alloc),
-        }
-    }
-
-    /// Exactly a Boolean.
-    pub fn of_bool(alloc: Global, boolean: bool) -> AValue
-        ensures { value_of result ≡ of_primitive (primitive.Bool boolean) }
-    {
-        let flags = Flags {
-            is_true: boolean,
-            is_false: !boolean,
-            ..NO_FLAGS
-        };
-        AValue::of_flags(alloc, flags)
-    }
-
-    /// Exactly a primitive.
-    pub fn of_primitive(alloc: Global, primitive: &Primitive) -> Result<AValue, Memory>
-        ensures { IfOk result (λ v. value_of v ≡ of_primitive primitive.now) }
-    {
-        match primitive {
-            Primitive::Undefined => {
-                let flags = Flags {
-                    undefined: true,
-                    ..NO_FLAGS
-                };
-                Ok(AValue::of_flags(alloc, flags))
-            }
-            Primitive::Null => {
-                let flags = Flags {
-                    null: true,
-                    ..NO_FLAGS
-                };
-                Ok(AValue::of_flags(alloc, flags))
-            }
-            Primitive::Bool(boolean) => Ok(AValue::of_bool(alloc, *boolean)),
-            Primitive::Number(Num::NaN) => {
-                let flags = Flags {
-                    nan: true,
-                    ..NO_FLAGS
-                };
-                Ok(AValue::of_flags(alloc, flags))
-            }
-            Primitive::Number(Num::Whole(number)) => Ok(AValue::of_number(alloc, *number)),
-            Primitive::Text(text) => {
-                let text = text.copy()?;
-                Ok(AValue::of_text(alloc, text))
-            }
-        }
-    }
-
-    /// Exactly a row.
-    pub fn row(alloc: Global) -> AValue
-        ensures { value_of result ≡ row_value }
-    {
-        let flags = Flags {
-            row: true,
-            ..NO_FLAGS
-        };
-        AValue::of_flags(alloc, flags)
-    }
-
-    /// Exactly the objects of a label.
-    pub fn of_label(alloc: Global, label: Label) -> Result<AValue, Memory>
-        ensures { IfOk result (λ v. value_of v ≡ of_label label) }
-    {
-        let mut labels = LabelSet::new(alloc);
-        labels.insert(label)?;
-        Ok(AValue {
-            flags: NO_FLAGS,
-            number: NumberPart::Nothing,
-            text: TextPart::Nothing,
-            labels,
-        })
-    }
-
-    /// The same value once more.
+    /// The same value once more. The text is shared, and up to two labels take no memory.
     pub fn copy(&self, alloc: Global) -> Result<AValue, Memory>
         ensures { IfOk result (λ v. value_of v ≡ value_of self.now) }
     {
@@ -236,20 +105,24 @@ impl AValue {
         })
     }
 
+    /// Whether another value has each part of this one, so that a join of this one changes nothing.
+    pub fn leq(&self, other: &AValue) -> bool
+        ensures order { IsTrue result ↔ LeqValue (value_of self.now) (value_of other.now) }
+        ensures joined { IsTrue result ↔ (join (value_of other.now) (value_of self.now)
+            ≡ value_of other.now) }
+    {
+        leq_flags(self.flags, other.flags)
+            & leq_numbers(self.number, other.number)
+            & leq_texts(&self.text, &other.text)
+            & self.labels.is_subset(&other.labels)
+    }
+
     /// Whether this value holds another, so that a join changes nothing.
     pub fn covers(&self, other: &AValue) -> bool
         ensures { result ≡ true → join (value_of self.now) (value_of other.now)
             ≡ value_of self.now }
     {
-        let flags = join_flags(self.flags, other.flags);
-        if !same_flags(flags, self.flags) {
-            return false;
-        }
-        let number = join_numbers(self.number, other.number);
-        if !same_numbers(&number, &self.number) {
-            return false;
-        }
-        covers_text(&self.text, &other.text) && self.labels.covers(&other.labels)
+        other.leq(self)
     }
 
     /// Joins another value in, and tells whether the value changed. After `Memory` it is as it was.
@@ -268,24 +141,6 @@ impl AValue {
         Ok(flags | number | text | labels)
     }
 
-    /// Whether some part is there besides `absent` and `entry`; of labels, those of the first
-    /// `sites` sites.
-    pub fn is_present(&self, sites: u32) -> bool
-        ensures { result ≡ is_present (labels_below sites) (value_of self.now) }
-    {
-        has_present_flag(self.flags)
-            | has_number(&self.number)
-            | has_text(&self.text)
-            | self.labels.has_below(sites)
-    }
-
-    /// Whether some part is there; of labels, those of the first `sites` sites.
-    pub fn has_part(&self, sites: u32) -> bool
-        ensures { result ≡ has_part (labels_below sites) (value_of self.now) }
-    {
-        self.flags.absent | self.flags.entry | self.is_present(sites)
-    }
-
     /// The value after an object more was made at a site: the label that was new is old.
     pub fn aged(&self, alloc: Global, site: Site) -> Result<AValue, Memory>
         ensures { IfOk result (λ v. value_of v ≡ aged site (value_of self.now)) }
@@ -293,5 +148,63 @@ impl AValue {
         let mut value = self.copy(alloc)?;
         value.labels.age(site)?;
         Ok(value)
+    }
+
+    /// The value at the entry with the labels that its objects have now, by the masks of their
+    /// sites.
+    pub fn renamed(&self, alloc: Global, masks: &BTreeMap<u64, Mask>) -> Result<AValue, Memory>
+        ensures { IfOk result (λ v. value_of v ≡ record (value_of self.now) {
+          label = renamed_labels (mask_in masks.now) (value_of self.now).label;
+        }) }
+    {
+        let text = copy_text_part(alloc, &self.text)?;
+        let labels = self.labels.renamed(alloc, masks)?;
+        Ok(AValue {
+            flags: self.flags,
+            number: self.number,
+            text,
+            labels,
+        })
+    }
+
+    /// The value without `absent` and `entry`. It takes no memory.
+    pub fn present_part(self) -> AValue
+        ensures { value_of result ≡ present_part (value_of self) }
+    {
+        let mut value = self;
+        value.flags.absent = false;
+        value.flags.entry = false;
+        value
+    }
+
+    /// What is absent reads as undefined, and a row leaves the profile. It takes no memory.
+    pub fn as_read(self) -> AValue
+        ensures { value_of result ≡ as_read (value_of self) }
+    {
+        let mut value = self;
+        value.flags.undefined = value.flags.undefined | value.flags.absent;
+        value.flags.absent = false;
+        value.flags.entry = false;
+        value.flags.row = false;
+        value
+    }
+
+    /// The value without its objects, and without what is absent, as at entry or a row.
+    pub fn primitives_of(&self, alloc: Global) -> Result<AValue, Memory>
+        ensures { IfOk result (λ v. value_of v ≡ primitives_of (value_of self.now)) }
+    {
+        let flags = Flags {
+            absent: false,
+            entry: false,
+            row: false,
+            ..self.flags
+        };
+        let text = copy_text_part(alloc, &self.text)?;
+        Ok(AValue {
+            flags,
+            number: self.number,
+            text,
+            labels: LabelSet::new(alloc),
+        })
     }
 }
