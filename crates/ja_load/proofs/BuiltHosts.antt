@@ -1,18 +1,14 @@
--- What a program with devices begins with: its objects and their properties, its sites, and the
--- names of the devices.
-use Rattle.std.proofs.Common.{◌≡◌, ◌+◌, ◌==◌, ◌⊎◌, inl, inr, ℕ, zero, suc, Bool, true, false, not, if◌then◌else◌, List, [], ◌∷◌, ◌++◌, length, map, filter, take, Some, None, slice_get, refl, sym, ap, ◌∙◌, arith}
-use Rattle.std.specs.List.{AllByRecursion, enumerate_from, fold, list_any}
+-- What a program with devices begins with: its objects, and the names of the devices.
+use Rattle.std.proofs.Common.{◌≡◌, ◌+◌, ◌⊎◌, inl, inr, ℕ, zero, suc, Bool, true, false, if◌then◌else◌, List, [], ◌∷◌, ◌++◌, length, map, filter, take, Some, slice_get, refl, sym, ap, ◌∙◌, arith}
+use Rattle.std.specs.List.{enumerate_from, fold, list_any}
 use Rattle.std.specs.Str.{bytes_eq}
 use Rattle.std.proofs.lemmas.List.{length-map}
 use Rattle.std.proofs.lemmas.List.Sums.{fold-append}
 use Rattle.std.specs.Cmp.Lexicographic.{bytes_decides}
 use Rattle.ja_prim.specs.declared.signature.Signature.{Signature}
 use Rattle.ja_graph.specs.WellFormed.{builtin_names}
-use Rattle.ja_graph.specs.declared.builtins.TheConstants.{GLOBAL}
 use Rattle.ja_graph.specs.declared.program.ObjectSpec.{ObjectSpec}
-use Rattle.ja_graph.specs.declared.program.PropertySpec.{PropertySpec}
-use Rattle.ja_graph.specs.declared.program.SiteInfo.{SiteInfo}
-use Rattle.ja_lower_names.specs.Names.{number, with_name}
+use Rattle.ja_lower_names.specs.Names.{with_name}
 use Rattle.ja_lower_names.specs.TextOrder.{Named, names_in}
 use Rattle.ja_lower_expressions.specs.Specials.{is_name}
 use Rattle.ja_lower.specs.Lowering.{device_names, names_of}
@@ -21,9 +17,9 @@ use Rattle.ja_prelude.specs.Table.{opening_objects}
 use Rattle.ja_prelude.proofs.DistinctLemmas.{names_first, names_follow}
 use Rattle.ja_prelude.proofs.ListLemmas.{get-front}
 use Rattle.ja_prelude.proofs.TableLemmas.{table-count}
-use Rattle.ja_load.specs.Hosts.{device_info, device_object, device_property, device_sites, is_of_device, object_with_devices, opening_with, properties_with}
+use Rattle.ja_load.specs.Hosts.{device_object, object_with_devices, opening_with}
 use Rattle.ja_load.specs.Loading.{names_before}
-use Rattle.ja_load.proofs.Places.{append-cases, get-behind, kept-at, map-at, mapped-at, number-there, numbered-at, place-of}
+use Rattle.ja_load.proofs.Places.{append-cases, get-behind, mapped-at, numbered-at, place-of}
 use Rattle.ja_syntax.specs.declared.tree.Statement.{Statement}
 
 -- ---- names
@@ -84,29 +80,6 @@ builtin-names-first signatures xs =
     ∙ sym (fold-append with_name (fold with_name [] prelude_names) hosts texts) in
     ap (take (length builtin_names)) behind ∙ names_first built_in (hosts ++ texts)
 
--- ---- sites
-
--- a device's site tells its function
-pub device-told : (first : ℕ) (signatures : List Signature) (k : ℕ) (s : Signature)
-    → slice_get signatures k ≡ Some s → slice_get (device_sites first signatures) k
-    ≡ Some (device_info (first + k))
-unfolding device_sites
-device-told first signatures k s is =
-    let number : 0 + k ≡ k = omega arith in
-    map-at (λ (row : ℕ × Signature). device_info (first + row.0)) (enumerate_from 0 signatures) k
-    (k, s) (number-there signatures 0 k s is ∙ ap (λ n. Some (n, s)) number)
-
--- no function has it
-pub devices-unowned : (first : ℕ) (signatures : List Signature)
-    → AllByRecursion (λ (info : SiteInfo). info.owner ≡ None) (device_sites first signatures)
-unfolding device_sites
-devices-unowned first signatures = each (enumerate_from 0 signatures)
-  where
-    each : (rows : List (ℕ × Signature)) → AllByRecursion (λ (info : SiteInfo). info.owner ≡ None)
-        (map (λ (row : ℕ × Signature). device_info (first + row.0)) rows)
-    each [] = tt
-    each (row ∷ rows) = (refl, each rows)
-
 -- ---- objects
 
 module _ (names : List (List ℕ)) (signatures : List Signature) where
@@ -158,62 +131,3 @@ module _ (names : List (List ℕ)) (signatures : List Signature) where
             signature_is = row.1;
             same = ap device_object (sym number) ∙ found.2;
           })
-
-  -- a built-in object keeps its site and its prototype
-  pub same-site : (b : ObjectSpec) → (object_with_devices names signatures b).site ≡ b.site
-  same-site b = either (b.site.0 == GLOBAL.0)
-    where
-      either : (c : Bool) → (if c then record b
-          { properties = properties_with names signatures b.properties } else b).site ≡ b.site
-      either true = refl
-      either false = refl
-
-  pub same-prototype : (b : ObjectSpec) → (object_with_devices names signatures b).prototype
-      ≡ b.prototype
-  same-prototype b = either (b.site.0 == GLOBAL.0)
-    where
-      either : (c : Bool) → (if c then record b
-          { properties = properties_with names signatures b.properties } else b).prototype
-          ≡ b.prototype
-      either true = refl
-      either false = refl
-
-  -- a property is one that the object has without devices ..
-  abbrev pub IsOwn : ObjectSpec → PropertySpec → Type 0
-  IsOwn b q = (k : ℕ) × (slice_get b.properties k ≡ Some q)
-
-  -- .. or has the name of a device
-  abbrev pub IsOfDevice : PropertySpec → Type 0
-  IsOfDevice q =
-      (k : ℕ) × (s : Signature) × (slice_get signatures k ≡ Some s) × (number names s.name ≡ q.name)
-
-  pub property-cases : (b : ObjectSpec) (j : ℕ) (q : PropertySpec)
-      → slice_get (object_with_devices names signatures b).properties j ≡ Some q
-      → IsOwn b q ⊎ IsOfDevice q
-  property-cases b j q is = either (b.site.0 == GLOBAL.0) is
-    where
-      at : (slice_get (filter (λ (p : PropertySpec). not (is_of_device names signatures p.name))
-          b.properties) j ≡ Some q) ⊎ ((k : ℕ)
-          × (j ≡ length (filter (λ (p : PropertySpec). not (is_of_device names signatures p.name))
-          b.properties) + k) × (slice_get (map
-          (λ (row : ℕ × Signature). device_property names row.0 row.1)
-          (enumerate_from 0 signatures)) k ≡ Some q)) → IsOwn b q ⊎ IsOfDevice q
-      at (inl left) =
-          let found = kept-at (λ (p : PropertySpec). not (is_of_device names signatures p.name))
-          b.properties j q left in
-          inl (found.0, found.1)
-      at (inr behind) =
-          let found = mapped-at (λ (row : ℕ × Signature). device_property names row.0 row.1)
-          (enumerate_from 0 signatures) behind.0 q behind.2 in
-          let row = numbered-at signatures 0 behind.0 found.0 found.1 in
-          inr (behind.0, found.0.1, row.1, ap (λ (p : PropertySpec). p.name) found.2)
-
-      either : (c : Bool) → slice_get (if c then record b
-          { properties = properties_with names signatures b.properties } else b).properties j
-          ≡ Some q → IsOwn b q ⊎ IsOfDevice q
-      either true is =
-          at (append-cases (filter (λ (p : PropertySpec).
-          not (is_of_device names signatures p.name)) b.properties)
-          (map (λ (row : ℕ × Signature). device_property names row.0 row.1)
-          (enumerate_from 0 signatures)) j q is)
-      either false is = inl (j, is)

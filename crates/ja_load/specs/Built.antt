@@ -1,187 +1,194 @@
--- Which forms are built for the analysis, and where the first one stands that is not. A run goes
+-- Which forms are built for the analysis, and where the first one stands that isn't. A run goes
 -- through every form.
 --
--- Built are the empty statement, and the statement of an expression that is a number, a name, the
--- call of a name without arguments, or the assignment by `=` of such an expression to a name; no
--- name is an excluded one.
+-- Not built are literals of arrays, objects and functions, function declarations, the members of an
+-- object (`.` and `[`), the deletion of one, `in`, `instanceof`, `new`, `for`-`in` and `try`.
 --
--- Any other form has a place: an assignment, an operator between operands, `++` and `--` behind an
--- operand, and a suffix of a member or call have that of the operator or bracket; any other form,
--- `&&` and `||` among them, has that of its first token.
---
--- The first place of a text is found without a look at every form. What stands before the place of
--- a form is only the operand before its operator, or the head and the suffixes before a suffix; so
--- the places of the forms in there come first. All other parts of a form that is not built (right
--- operands, assigned values, arguments, keys, bodies) stand behind its place, and so do the places
--- of the forms in them. Statements stand one behind the other, and so do the two parts of a built
--- assignment.
-use Rattle.std.specs.Prelude.{ℕ, Bool, true, false, if◌then◌else◌, ◌&&◌, ◌||◌, List, [], ◌∷◌, Option, Some, None, Result, Ok, Err}
-use Rattle.std.specs.List.{list_any}
-use Rattle.std.specs.Str.{bytes_eq}
-use lib.Chars.{codes}
+-- A member stands at its `.` or `[`, `in` and `instanceof` at the operator, and any other of these
+-- forms at its first token. The first one is looked for in the whole tree: bodies of functions, and
+-- what is never reached, are part of it.
+use Rattle.std.specs.Prelude.{nat_lt, Bool, true, false, not, ◌==◌, ◌&&◌, ◌||◌, if◌then◌else◌, List, [], ◌∷◌, ◌++◌, Option, Some, None}
+use Rattle.std.specs.List.{flat_map, fold}
 use Rattle.ja_base.specs.declared.ids.Place.{Place}
-use Rattle.ja_prim.specs.declared.primitive.Num.TheVariants.{Whole}
-use Rattle.ja_prim.specs.declared.primitive.Primitive.{Primitive}
-use Rattle.ja_prim.specs.declared.primitive.Primitive.TheVariants as primitive
-use Rattle.ja_syntax.specs.declared.tree.Name.{Name}
+use Rattle.ja_syntax.specs.References.{Layer, ends_in_property}
 use Rattle.ja_syntax.specs.declared.tree.BinaryOperator.{BinaryOperator}
-use Rattle.ja_syntax.specs.declared.tree.BinaryOperator.TheVariants.{And, Or}
-use Rattle.ja_syntax.specs.declared.tree.UpdateOperator.{UpdateOperator}
-use Rattle.ja_syntax.specs.declared.tree.UpdateOperator.TheVariants.{IncrementBefore, DecrementBefore, IncrementBehind, DecrementBehind}
+use Rattle.ja_syntax.specs.declared.tree.BinaryOperator.TheVariants.{In, Instanceof}
+use Rattle.ja_syntax.specs.declared.tree.UnaryOperator.{UnaryOperator}
+use Rattle.ja_syntax.specs.declared.tree.UnaryOperator.TheVariants.{Delete}
+use Rattle.ja_syntax.specs.declared.tree.Property.{Property}
 use Rattle.ja_syntax.specs.declared.tree.Operation.{Operation}
 use Rattle.ja_syntax.specs.declared.tree.Suffix.{Suffix}
-use Rattle.ja_syntax.specs.declared.tree.Suffix.TheVariants.{Member, Index, Call}
+use Rattle.ja_syntax.specs.declared.tree.Suffix.TheVariants as suffix
+use Rattle.ja_syntax.specs.declared.tree.FunctionOf.{FunctionOf}
+use Rattle.ja_syntax.specs.declared.tree.Initialiser.{Initialiser}
+use Rattle.ja_syntax.specs.declared.tree.Declaration.{Declaration}
+use Rattle.ja_syntax.specs.declared.tree.ForFirst.{ForFirst}
+use Rattle.ja_syntax.specs.declared.tree.ForFirst.TheVariants as first
+use Rattle.ja_syntax.specs.declared.tree.ForTarget.{ForTarget}
+use Rattle.ja_syntax.specs.declared.tree.ForTarget.TheVariants as target
+use Rattle.ja_syntax.specs.declared.tree.CatchOf.{CatchOf}
 use Rattle.ja_syntax.specs.declared.tree.Case.{Case}
-use Rattle.ja_syntax.specs.declared.tree.Expression.{Expression}
-use Rattle.ja_syntax.specs.declared.tree.Expression.TheOpen.{Expression-F, Statement-F}
-use Rattle.ja_syntax.specs.declared.tree.Expression.TheFolds.{fold-Expression}
-use Rattle.ja_syntax.specs.declared.tree.Statement.{Statement, out-Statement}
-use Rattle.ja_prelude.specs.Table.{is_global_name}
+use Rattle.ja_syntax.specs.declared.tree.Statement.{Statement}
+use Rattle.ja_syntax.specs.declared.tree.Expression.{Expression, out-Expression}
+use Rattle.ja_syntax.specs.declared.tree.Expression.TheOpen.{Expression-F, Statement-F, Case-F}
+use Rattle.ja_syntax.specs.declared.tree.Expression.TheFolds.{para-Statement}
 
--- The names with a meaning that is not built: `arguments` (10.1.8), those of the properties of the
--- global object (15.1) and of its prototype (15.2.4), and those of the devices, which are the
--- `hosts` of what follows.
-unfoldable pub is_excluded : List (List ℕ) → List ℕ → Bool
-is_excluded hosts name =
-    bytes_eq (codes "arguments") name || is_global_name name || list_any (bytes_eq name) hosts
+-- the places of forms that aren't built
+abbrev pub Places : Type 0
+Places = List Place
 
--- What an expression is, where all its forms are built: whether it is a name alone; or else the
--- place of the first one that is not.
-abbrev pub Read : Type 0
-Read = Result Bool Place
+-- the place of a form, if it isn't built
+abbrev pub unless : Bool → Place → Places
+unless built place = if built then [] else place ∷ []
 
--- ---- expressions
+-- ---- operators
 
--- behind what was read stands a form, at this place, that is not built
-abbrev pub behind : Read → Place → Read
-behind (Ok is_name) place = Err place
-behind (Err first) place = Err first
+-- of those between operands all are built but `in` and `instanceof` (11.8.6, 11.8.7)
+abbrev pub is_built_between : BinaryOperator → Bool
+is_built_between In = false
+is_built_between Instanceof = false
+is_built_between operator = true
 
-abbrev pub read_name : List (List ℕ) → Name → Read
-read_name hosts name = if is_excluded hosts name.text then Err name.place else Ok true
+-- .. and an assignment by an operator is, where the operator is (11.13.2); no text assigns by these
+abbrev pub is_built_by : Option BinaryOperator → Bool
+is_built_by None = true
+is_built_by (Some operator) = is_built_between operator
 
--- a number is built, and no other literal
-abbrev pub read_literal : Primitive → Place → Read
-read_literal (primitive.Number (Whole value)) place = Ok false
-read_literal value place = Err place
+-- a reference that is no name: a member of an object (8.7)
+abbrev pub is_member_at : Layer → Bool
+is_member_at (Expression-F.Chain head suffixes) = ends_in_property suffixes
+is_member_at _ = false
 
--- the place of the `.`, the `[` or the `(`
-abbrev pub suffix_place : {E : Type 0} → Suffix E → Place
-suffix_place (Member name place) = place
-suffix_place (Index key place) = place
-suffix_place (Call arguments place) = place
+abbrev pub is_member : Expression → Bool
+is_member operand = is_member_at (out-Expression operand)
 
--- `()`
-abbrev pub is_plain_call : {E : Type 0} → Suffix E → Bool
-is_plain_call (Call [] place) = true
-is_plain_call suffix = false
+-- of those before an operand all are built but `delete` of a member (11.4.1)
+abbrev pub is_built_before : UnaryOperator → Expression → Bool
+is_built_before Delete operand = not (is_member operand)
+is_built_before operator operand = true
 
--- the first suffix behind what was read: `()` behind a name is built, and no other one
-abbrev pub read_suffix : {E : Type 0} → Bool → Suffix E → Read
-read_suffix is_name suffix =
-    if is_name && is_plain_call suffix then Ok false else Err (suffix_place suffix)
+-- ---- the parts of a form, with a function that gives the places in each form inside
 
--- a head and its suffixes: no suffix behind the first one is built
-abbrev pub read_chain : {E : Type 0} → Read → List (Suffix E) → Read
-read_chain (Err first) suffixes = Err first
-read_chain (Ok is_name) [] = Ok is_name
-read_chain (Ok is_name) (s ∷ []) = read_suffix is_name s
-read_chain (Ok is_name) (s ∷ t ∷ ts) = behind (read_suffix is_name s) (suffix_place t)
+abbrev pub if_any : {X : Type 0} → (X → Places) → Option X → Places
+if_any places None = []
+if_any places (Some x) = places x
 
--- `++` and `--` behind their operand
-abbrev pub is_behind : UpdateOperator → Bool
-is_behind IncrementBefore = false
-is_behind DecrementBefore = false
-is_behind IncrementBehind = true
-is_behind DecrementBehind = true
+module _ {X : Type 0} (places : X → Places) where
+  -- a suffix (11.2): no member is built
+  abbrev pub in_suffix : Suffix X → Places
+  in_suffix (suffix.Member name place) = place ∷ []
+  in_suffix (suffix.Index key place) = place ∷ places key
+  in_suffix (suffix.Call arguments place) = flat_map places arguments
 
--- `++` and `--`: none is built
-abbrev pub read_update : UpdateOperator → Read → Place → Read
-read_update operator value place = if is_behind operator then behind value place else Err place
+  -- a property of an object literal (11.1.5)
+  abbrev pub in_property : Property X → Places
+  in_property property = places property.value
 
--- `&&` and `||`
-abbrev pub is_logical : BinaryOperator → Bool
-is_logical And = true
-is_logical Or = true
-is_logical operator = false
+  -- an operator and its right operand (11.5 to 11.11)
+  abbrev pub in_operation : Operation X → Places
+  in_operation o = unless (is_built_between o.operator) o.place ++ places o.right
 
--- operations behind a first operand: none is built
-abbrev pub read_operations : {E : Type 0} → Read → List (Operation E) → Place → Read
-read_operations first [] place = first
-read_operations first (o ∷ os) place =
-    if is_logical o.operator then Err place else behind first o.place
+  abbrev pub in_initialiser : Initialiser X → Places
+  in_initialiser initialiser = places initialiser.value
 
--- a value that is assigned
-abbrev pub read_value : Read → Read
-read_value (Ok is_name) = Ok false
-read_value (Err first) = Err first
+  -- a variable of a `var` (12.2)
+  abbrev pub in_declaration : Declaration X → Places
+  in_declaration declaration = if_any in_initialiser declaration.initialiser
 
--- an assignment to what was read: by `=` to a name it is built
-abbrev pub read_assignment : Read → Option BinaryOperator → Read → Place → Read
-read_assignment (Err first) operator value assign = Err first
-read_assignment (Ok true) None value assign = read_value value
-read_assignment (Ok is_name) operator value assign = Err assign
+  -- the first part of a `for` (12.6.3)
+  abbrev pub in_first : ForFirst X → Places
+  in_first first.Nothing = []
+  in_first (first.Expression value) = places value
+  in_first (first.Variables declarations) = flat_map in_declaration declarations
 
--- an expression, with what each part of it is in the part's place
-abbrev pub read_expression : List (List ℕ) → Expression-F Read (Unit {0}) (Unit {0}) → Read
-read_expression hosts (Expression-F.This place) = Err place
-read_expression hosts (Expression-F.Name name) = read_name hosts name
-read_expression hosts (Expression-F.Literal value place) = read_literal value place
-read_expression hosts (Expression-F.Array elements place) = Err place
-read_expression hosts (Expression-F.Object properties place) = Err place
-read_expression hosts (Expression-F.Expression::Function function) = Err function.place
-read_expression hosts (Expression-F.Chain head suffixes) = read_chain head suffixes
-read_expression hosts (Expression-F.New callee arguments place) = Err place
-read_expression hosts (Expression-F.Unary operator operand place) = Err place
-read_expression hosts (Expression-F.Update operator operand place) =
-    read_update operator operand place
-read_expression hosts (Expression-F.Binary first operations place) =
-    read_operations first operations place
-read_expression hosts (Expression-F.Conditional condition consequent otherwise place) = Err place
-read_expression hosts (Expression-F.Assign target operator value place) =
-    read_assignment target operator value place
-read_expression hosts (Expression-F.Sequence first others place) = Err place
+  -- what a `for`-`in` writes (12.6.4)
+  abbrev pub in_target : ForTarget X → Places
+  in_target (target.Variable declaration) = in_declaration declaration
+  in_target (target.Reference value) = places value
 
-unfoldable pub read : List (List ℕ) → Expression → Read
-read hosts = fold-Expression Read (Unit {0}) (Unit {0}) (read_expression hosts) (λ _. tt) (λ _. tt)
+  -- a `catch` (12.14)
+  abbrev pub in_catch : CatchOf X → Places
+  in_catch caught = flat_map places caught.body
 
--- ---- statements: the place of the first form that is not built, if there is one
+  -- no function is built (13)
+  abbrev pub in_function : FunctionOf X → Places
+  in_function function = function.place ∷ flat_map places function.body
 
-abbrev pub fault_of : Read → Option Place
-fault_of (Ok is_name) = None
-fault_of (Err first) = Some first
+-- ---- one level of an expression, of a statement, and of a clause of a `switch`: each form inside
+-- stands beside its places; where the form itself isn't built, its own place comes first
 
--- one level of a statement
-abbrev pub Layer : Type 0
-Layer = Statement-F Expression Statement Case
+-- a form beside its places has these
+abbrev pub places : {A : Type 0} → A × Places → Places
+places part = part.1
 
-abbrev pub unbuilt_layer : List (List ℕ) → Layer → Option Place
-unbuilt_layer hosts (Statement-F.Block body place) = Some place
-unbuilt_layer hosts (Statement-F.Variables declarations place) = Some place
-unbuilt_layer hosts (Statement-F.Empty place) = None
-unbuilt_layer hosts (Statement-F.Expression value place) = fault_of (read hosts value)
-unbuilt_layer hosts (Statement-F.If condition consequent otherwise place) = Some place
-unbuilt_layer hosts (Statement-F.Do body condition place) = Some place
-unbuilt_layer hosts (Statement-F.While condition body place) = Some place
-unbuilt_layer hosts (Statement-F.For first condition update body place) = Some place
-unbuilt_layer hosts (Statement-F.ForIn target object body place) = Some place
-unbuilt_layer hosts (Statement-F.Continue label place) = Some place
-unbuilt_layer hosts (Statement-F.Break label place) = Some place
-unbuilt_layer hosts (Statement-F.Return value place) = Some place
-unbuilt_layer hosts (Statement-F.Labelled label body) = Some label.place
-unbuilt_layer hosts (Statement-F.Switch value cases place) = Some place
-unbuilt_layer hosts (Statement-F.Throw value place) = Some place
-unbuilt_layer hosts (Statement-F.Try block handler finally place) = Some place
-unbuilt_layer hosts (Statement-F.Statement::Function function) = Some function.place
+abbrev pub expression_step : Expression-F (Expression × Places) (Statement × Places) (Case × Places)
+    → Places
+expression_step (Expression-F.This place) = []
+expression_step (Expression-F.Name name) = []
+expression_step (Expression-F.Literal value place) = []
+expression_step (Expression-F.Array elements place) = place ∷ flat_map (if_any places) elements
+expression_step (Expression-F.Object properties place) =
+    place ∷ flat_map (in_property places) properties
+expression_step (Expression-F.Expression::Function function) = in_function places function
+expression_step (Expression-F.Chain head suffixes) =
+    places head ++ flat_map (in_suffix places) suffixes
+expression_step (Expression-F.New callee arguments place) =
+    place ∷ (places callee ++ flat_map places arguments)
+expression_step (Expression-F.Unary operator operand place) =
+    unless (is_built_before operator operand.0) place ++ places operand
+expression_step (Expression-F.Update operator operand place) = places operand
+expression_step (Expression-F.Binary left operations place) =
+    places left ++ flat_map (in_operation places) operations
+expression_step (Expression-F.Conditional condition consequent otherwise place) =
+    places condition ++ (places consequent ++ places otherwise)
+expression_step (Expression-F.Assign goal operator value place) =
+    unless (is_built_by operator) place ++ (places goal ++ places value)
+expression_step (Expression-F.Sequence left others place) = places left ++ flat_map places others
 
-abbrev pub unbuilt_statement : List (List ℕ) → Statement → Option Place
-unbuilt_statement hosts s = unbuilt_layer hosts (out-Statement s)
+abbrev pub statement_step : Statement-F (Expression × Places) (Statement × Places) (Case × Places)
+    → Places
+statement_step (Statement-F.Block body place) = flat_map places body
+statement_step (Statement-F.Variables declarations place) =
+    flat_map (in_declaration places) declarations
+statement_step (Statement-F.Empty place) = []
+statement_step (Statement-F.Expression value place) = places value
+statement_step (Statement-F.If condition consequent otherwise place) =
+    places condition ++ (places consequent ++ if_any places otherwise)
+statement_step (Statement-F.Do body condition place) = places body ++ places condition
+statement_step (Statement-F.While condition body place) = places condition ++ places body
+statement_step (Statement-F.For head condition update body place) =
+    in_first places head ++ (if_any places condition ++ (if_any places update ++ places body))
+statement_step (Statement-F.ForIn goal object body place) =
+    place ∷ (in_target places goal ++ (places object ++ places body))
+statement_step (Statement-F.Continue label place) = []
+statement_step (Statement-F.Break label place) = []
+statement_step (Statement-F.Return value place) = if_any places value
+statement_step (Statement-F.Labelled label body) = places body
+statement_step (Statement-F.Switch value cases place) = places value ++ flat_map places cases
+statement_step (Statement-F.Throw value place) = places value
+statement_step (Statement-F.Try block caught finally place) =
+    place ∷ (flat_map places block ++ (if_any (in_catch places) caught
+    ++ if_any (flat_map places) finally))
+statement_step (Statement-F.Statement::Function function) = in_function places function
 
--- the first of two places that is there
-abbrev pub first_place_of : Option Place → Option Place → Option Place
-first_place_of (Some place) later = Some place
-first_place_of None later = later
+abbrev pub case_step : Case-F (Expression × Places) (Statement × Places) (Case × Places) → Places
+case_step case = if_any places case.test ++ flat_map places case.body
 
-unfoldable pub unbuilt : List (List ℕ) → List Statement → Option Place
-unbuilt hosts [] = None
-unbuilt hosts (s ∷ ss) = first_place_of (unbuilt_statement hosts s) (unbuilt hosts ss)
+-- ---- the whole
+
+-- the places in a statement of the forms that aren't built
+unfoldable pub in_statement : Statement → Places
+in_statement = para-Statement Places Places Places expression_step statement_step case_step
+
+-- a place stands before another
+abbrev pub is_before : Place → Place → Bool
+is_before a b = nat_lt a.line b.line || ((a.line == b.line) && nat_lt a.column b.column)
+
+-- the first of some places, if there are any, and one more
+abbrev pub earlier : Option Place → Place → Option Place
+earlier None place = Some place
+earlier (Some first) place = Some (if is_before place first then place else first)
+
+-- the first place in a text of a form that isn't built, if there is one
+unfoldable pub unbuilt : List Statement → Option Place
+unbuilt statements = fold earlier None (flat_map in_statement statements)

@@ -14,7 +14,7 @@ use Rattle.ja_load.specs.Built.{unbuilt}
 use Rattle.ja_load.specs.Hosts.{device_sites, opening_with}
 use Rattle.ja_lower.specs.Limits.{max_functions, max_size, function_count, size_of, IsWithin}
 use Rattle.ja_lower.specs.declared.lowered.Lowered.{Lowered}
-use Rattle.ja_lower.specs.Lowering.{device_names, first_names, lowered_with_prelude}
+use Rattle.ja_lower.specs.Lowering.{first_names, lowered_with_prelude}
 use Rattle.ja_prelude.specs.Prelude.{prelude_paths, prelude_statements}
 use Rattle.ja_prelude.specs.Table.{builtin_sites}
 use Rattle.ja_prelude.specs.declared.texts.TheConstants.{TEXT_FIRST, VALUE_FIRST}
@@ -72,7 +72,7 @@ pub record IsProgramToRun (bytes : List ℕ) (signatures : List Signature) (p : 
 -- .. and it is analysed where all forms of the text are built
 pub record IsProgramOf (bytes : List ℕ) (signatures : List Signature) (p : Program) : Type 0 where
   pub loaded : IsProgramToRun bytes signatures p
-  pub built : unbuilt (device_names signatures) loaded.statements ≡ None
+  pub built : unbuilt loaded.statements ≡ None
 
 -- the text has too many functions
 abbrev pub HasManyFunctions : List ℕ → Type 0
@@ -94,7 +94,7 @@ abbrev pub IsUnbuiltAt : List ℕ → List Signature → Place → Type 0
 IsUnbuiltAt bytes signatures place =
     (statements : List Statement) × IsTextOf bytes statements
     × IsWithin (names_before signatures) statements
-    × (unbuilt (device_names signatures) statements ≡ Some place)
+    × (unbuilt statements ≡ Some place)
 
 -- the bytes are a text, and this is what its tokens are refused with, which is determined
 -- (`refused_once` in ja_grammar) and said of no text of the language (`refused_is_none`)

@@ -1,110 +1,132 @@
-//! The place of the first form of a tree that is not built.
+//! The place of the first form of a tree that isn't built.
 
-ghost use Rattle.std.specs.Prelude.{◌≡◌, Ok, Err};
+ghost use Rattle.std.specs.Prelude.{◌≡◌};
+ghost use Rattle.std.specs.List.{flat_map, fold};
 ghost use Rattle.ja_load.specs.Built as spec;
-ghost use Rattle.ja_lower.specs.Lowering.{device_names};
+ghost use Rattle.ja_load.specs.code.Built as code;
 
-use crate::excluded::is_excluded;
 use ja_base::Place;
-use ja_prim::{Num, Primitive, Signature};
-use ja_syntax::{BinaryOperator, Expression, Name, Statement, Suffix, Tree, UpdateOperator};
+use ja_syntax::{
+    BinaryOperator, Case, CatchOf, Declaration, Expression, ForFirst, ForTarget, FunctionTree,
+    Initialiser, Operation, Property, Statement, Suffix, Tree, UnaryOperator, is_reference,
+};
+use sqlite_items::{Boxed, Items};
 
-/// Reads a name.
-fn read_name(hosts: &[Signature], name: &Name) -> Result<bool, Place>
-    ensures { result ≡ spec.read_name (device_names hosts.now) name.now }
+/// Whether a place stands before another.
+fn is_before(a: Place, b: Place) -> bool
+    ensures { result ≡ spec.is_before a b }
 {
-    if is_excluded(hosts, name.text.units()) {
-        return Err(name.place);
-    }
-    Ok(true)
+    a.line < b.line || (a.line == b.line && a.column < b.column)
 }
 
-/// Reads a literal.
-fn read_literal(value: &Primitive, place: Place) -> Result<bool, Place>
-    ensures { result ≡ spec.read_literal value.now place }
+/// The first of some places, if there are any, and one more.
+fn earlier(first: Option<Place>, place: Place) -> Option<Place>
+    ensures { result ≡ spec.earlier first place }
 {
-    match value {
-        Primitive::Number(Num::Whole(_)) => Ok(false),
-        _ => Err(place),
-    }
-}
-
-/// The place of a suffix.
-fn suffix_place(suffix: &Suffix<Expression>) -> Place
-    ensures { result ≡ spec.suffix_place suffix.now }
-{
-    match suffix {
-        Suffix::Member { place, .. } => *place,
-        Suffix::Index { place, .. } => *place,
-        Suffix::Call { place, .. } => *place,
+    match first {
+        Some(first) if !is_before(place, first) => Some(first),
+        _ => Some(place),
     }
 }
 
-/// Whether a suffix is `()`.
-fn is_plain_call(suffix: &Suffix<Expression>) -> bool
-    ensures { result ≡ spec.is_plain_call suffix.now }
+/// The first of some places, and the one of a form, if it isn't built.
+fn unless(first: Option<Place>, built: bool, place: Place) -> Option<Place>
+    ensures { result ≡ fold spec.earlier first (spec.unless built place) }
 {
-    match suffix {
-        Suffix::Call { arguments, .. } => arguments.is_empty(),
-        _ => false,
-    }
+    if built { first } else { earlier(first, place) }
 }
 
-/// Reads the first suffix behind a head.
-fn read_suffix(is_name: bool, suffix: &Suffix<Expression>) -> Result<bool, Place>
-    ensures { result ≡ spec.read_suffix is_name suffix.now }
-{
-    if is_name && is_plain_call(suffix) {
-        return Ok(false);
-    }
-    Err(suffix_place(suffix))
-}
-
-/// Reads the suffixes behind a head.
-fn read_chain(is_name: bool, suffixes: &[Suffix<Expression>]) -> Result<bool, Place>
-    ensures { result ≡ spec.read_chain (Ok is_name) suffixes.now }
-{
-    match suffixes {
-        [] => Ok(is_name),
-        [suffix] => read_suffix(is_name, suffix),
-        [suffix, next, ..] => {
-            read_suffix(is_name, suffix)?;
-            Err(suffix_place(next))
-        }
-    }
-}
-
-/// Whether an operator is `&&` or `||`.
-fn is_logical(operator: BinaryOperator) -> bool
-    ensures { result ≡ spec.is_logical operator }
+/// Whether an operator between operands is built.
+fn is_built_between(operator: BinaryOperator) -> bool
+    ensures { result ≡ spec.is_built_between operator }
 {
     match operator {
-        BinaryOperator::And | BinaryOperator::Or => true,
-        _ => false,
+        BinaryOperator::In | BinaryOperator::Instanceof => false,
+        _ => true,
     }
 }
 
-/// Whether an operator stands behind its operand.
-fn is_behind(operator: UpdateOperator) -> bool
-    ensures { result ≡ spec.is_behind operator }
+/// Whether an assignment by this operator, if there is one, is built.
+fn is_built_by(operator: Option<BinaryOperator>) -> bool
+    ensures { result ≡ spec.is_built_by operator }
 {
     match operator {
-        UpdateOperator::IncrementBefore | UpdateOperator::DecrementBefore => false,
-        UpdateOperator::IncrementBehind | UpdateOperator::DecrementBehind => true,
+        None => true,
+        Some(operator) => is_built_between(operator),
     }
 }
 
-/// Whether an expression is a name alone, or the place of its first form that is not built.
-#[tactic(auto, unfolding(crate::specs::Built::read))]
-fn read(hosts: &[Signature], expression: &Expression) -> Result<bool, Place>
-    ensures { result ≡ spec.read (device_names hosts.now) expression.now }
+/// Whether an expression is a member of an object.
+#[tactic(auto, unfolding(ja_syntax::specs::References::is_reference))]
+fn is_member(expression: &Expression) -> bool
+    ensures { result ≡ spec.is_member expression.now }
 {
     match expression {
-        Expression::Name(name) => read_name(hosts, name),
-        Expression::Literal { value, place } => read_literal(value, *place),
+        Expression::Chain { .. } => is_reference(expression),
+        _ => false,
+    }
+}
+
+/// Whether an operator before this operand is built.
+fn is_built_before(operator: UnaryOperator, operand: &Expression) -> bool
+    ensures { result ≡ spec.is_built_before operator operand.now }
+{
+    match operator {
+        UnaryOperator::Delete => !is_member(operand),
+        _ => true,
+    }
+}
+
+// Each function below gives the first one of a place so far, if there is one, and those of the
+// forms in its argument that aren't built.
+
+#[cycle(forms)]
+#[tactic(auto, using(crate::proofs::Rulesets::for_in_expression))]
+fn in_expression(first: Option<Place>, expression: &Expression) -> Option<Place>
+    ensures { result ≡ fold spec.earlier first (code.in_expression expression.now) }
+{
+    match expression {
+        Expression::This { .. } | Expression::Name(_) | Expression::Literal { .. } => first,
+        Expression::Array { elements, place } => {
+            in_elements(earlier(first, *place), elements.as_slice())
+        }
+        Expression::Object { properties, place } => {
+            in_properties(earlier(first, *place), properties.as_slice())
+        }
+        Expression::Function(function) => in_function(first, function.get()),
         Expression::Chain { head, suffixes } => {
-            let is_name = read(hosts, head.get())?;
-            read_chain(is_name, suffixes.as_slice())
+            in_suffixes(in_expression(first, head.get()), suffixes.as_slice())
+        }
+        Expression::New {
+            callee,
+            arguments,
+            place,
+        } => {
+            let first = in_expression(earlier(first, *place), callee.get());
+            in_expressions(first, arguments.as_slice())
+        }
+        Expression::Unary {
+            operator,
+            operand,
+            place,
+        } => {
+            let built = is_built_before(*operator, operand.get());
+            in_expression(unless(first, built, *place), operand.get())
+        }
+        Expression::Update { operand, .. } => in_expression(first, operand.get()),
+        Expression::Binary {
+            first: left,
+            operations,
+            ..
+        } => in_operations(in_expression(first, left.get()), operations.as_slice()),
+        Expression::Conditional {
+            condition,
+            then,
+            otherwise,
+            ..
+        } => {
+            let first = in_expression(first, condition.get());
+            in_expression(in_expression(first, then.get()), otherwise.get())
         }
         Expression::Assign {
             target,
@@ -112,82 +134,305 @@ fn read(hosts: &[Signature], expression: &Expression) -> Result<bool, Place>
             value,
             place,
         } => {
-            let is_name = read(hosts, target.get())?;
-            if operator.is_some() || !is_name {
-                return Err(*place);
-            }
-            read(hosts, value.get())?;
-            Ok(false)
+            let first = unless(first, is_built_by(*operator), *place);
+            in_expression(in_expression(first, target.get()), value.get())
         }
-        Expression::Update {
-            operator,
-            operand,
+        Expression::Sequence {
+            first: left,
+            others,
+            ..
+        } => in_expressions(in_expression(first, left.get()), others.as_slice()),
+    }
+}
+
+#[cycle(forms)]
+fn in_expressions(first: Option<Place>, expressions: &[Expression]) -> Option<Place>
+    ensures { result ≡ fold spec.earlier first (flat_map code.in_expression expressions.now) }
+{
+    let mut first = first;
+    for expression in expressions {
+        first = in_expression(first, expression);
+    }
+    first
+}
+
+#[cycle(forms)]
+fn in_optional(first: Option<Place>, expression: &Option<Expression>) -> Option<Place>
+    ensures { result ≡ fold spec.earlier first (spec.if_any code.in_expression expression.now) }
+{
+    match expression {
+        None => first,
+        Some(expression) => in_expression(first, expression),
+    }
+}
+
+#[cycle(forms)]
+fn in_optional_boxed(first: Option<Place>, expression: &Option<Boxed<Expression>>) -> Option<Place>
+    ensures { result ≡ fold spec.earlier first (spec.if_any code.in_expression expression.now) }
+{
+    match expression {
+        None => first,
+        Some(expression) => in_expression(first, expression.get()),
+    }
+}
+
+#[cycle(forms)]
+fn in_elements(first: Option<Place>, elements: &[Option<Expression>]) -> Option<Place>
+    ensures { result ≡ fold spec.earlier first
+        (flat_map (spec.if_any code.in_expression) elements.now) }
+{
+    let mut first = first;
+    for element in elements {
+        first = in_optional(first, element);
+    }
+    first
+}
+
+#[cycle(forms)]
+fn in_properties(first: Option<Place>, properties: &[Property<Expression>]) -> Option<Place>
+    ensures { result ≡ fold spec.earlier first
+        (flat_map (spec.in_property code.in_expression) properties.now) }
+{
+    let mut first = first;
+    for property in properties {
+        first = in_expression(first, &property.value);
+    }
+    first
+}
+
+#[cycle(forms)]
+fn in_operation(first: Option<Place>, operation: &Operation<Expression>) -> Option<Place>
+    ensures { result ≡ fold spec.earlier first
+        (spec.in_operation code.in_expression operation.now) }
+{
+    let built = is_built_between(operation.operator);
+    in_expression(unless(first, built, operation.place), &operation.right)
+}
+
+#[cycle(forms)]
+fn in_operations(first: Option<Place>, operations: &[Operation<Expression>]) -> Option<Place>
+    ensures { result ≡ fold spec.earlier first
+        (flat_map (spec.in_operation code.in_expression) operations.now) }
+{
+    let mut first = first;
+    for operation in operations {
+        first = in_operation(first, operation);
+    }
+    first
+}
+
+#[cycle(forms)]
+fn in_suffix(first: Option<Place>, suffix: &Suffix<Expression>) -> Option<Place>
+    ensures { result ≡ fold spec.earlier first (spec.in_suffix code.in_expression suffix.now) }
+{
+    match suffix {
+        Suffix::Member { place, .. } => earlier(first, *place),
+        Suffix::Index { key, place } => in_expression(earlier(first, *place), key),
+        Suffix::Call { arguments, .. } => in_expressions(first, arguments.as_slice()),
+    }
+}
+
+#[cycle(forms)]
+fn in_suffixes(first: Option<Place>, suffixes: &[Suffix<Expression>]) -> Option<Place>
+    ensures { result ≡ fold spec.earlier first
+        (flat_map (spec.in_suffix code.in_expression) suffixes.now) }
+{
+    let mut first = first;
+    for suffix in suffixes {
+        first = in_suffix(first, suffix);
+    }
+    first
+}
+
+#[cycle(forms)]
+fn in_function(first: Option<Place>, function: &FunctionTree) -> Option<Place>
+    ensures { result ≡ fold spec.earlier first (spec.in_function spec.in_statement function.now) }
+{
+    in_statements(earlier(first, function.place), function.body.as_slice())
+}
+
+#[cycle(forms)]
+fn in_initialiser(
+    first: Option<Place>,
+    initialiser: &Option<Initialiser<Expression>>,
+) -> Option<Place>
+    ensures { result ≡ fold spec.earlier first
+        (spec.if_any (spec.in_initialiser code.in_expression) initialiser.now) }
+{
+    match initialiser {
+        None => first,
+        Some(initialiser) => in_expression(first, &initialiser.value),
+    }
+}
+
+#[cycle(forms)]
+fn in_declarations(first: Option<Place>, declarations: &[Declaration<Expression>]) -> Option<Place>
+    ensures { result ≡ fold spec.earlier first
+        (flat_map (spec.in_declaration code.in_expression) declarations.now) }
+{
+    let mut first = first;
+    for declaration in declarations {
+        first = in_initialiser(first, &declaration.initialiser);
+    }
+    first
+}
+
+#[cycle(forms)]
+fn in_first(first: Option<Place>, head: &ForFirst<Expression>) -> Option<Place>
+    ensures { result ≡ fold spec.earlier first (spec.in_first code.in_expression head.now) }
+{
+    match head {
+        ForFirst::Nothing => first,
+        ForFirst::Expression(value) => in_expression(first, value),
+        ForFirst::Variables(declarations) => in_declarations(first, declarations.as_slice()),
+    }
+}
+
+#[cycle(forms)]
+fn in_target(first: Option<Place>, target: &ForTarget<Expression>) -> Option<Place>
+    ensures { result ≡ fold spec.earlier first (spec.in_target code.in_expression target.now) }
+{
+    match target {
+        ForTarget::Variable(declaration) => in_initialiser(first, &declaration.initialiser),
+        ForTarget::Reference(value) => in_expression(first, value),
+    }
+}
+
+#[cycle(forms)]
+#[tactic(auto, using(crate::proofs::Rulesets::for_in_statement))]
+fn in_statement(first: Option<Place>, statement: &Statement) -> Option<Place>
+    ensures { result ≡ fold spec.earlier first (spec.in_statement statement.now) }
+{
+    match statement {
+        Statement::Block { body, .. } => in_statements(first, body.as_slice()),
+        Statement::Variables { declarations, .. } => {
+            in_declarations(first, declarations.as_slice())
+        }
+        Statement::Empty { .. } | Statement::Continue { .. } | Statement::Break { .. } => first,
+        Statement::Expression { value, .. } => in_expression(first, value),
+        Statement::If {
+            condition,
+            then,
+            otherwise,
+            ..
+        } => {
+            let first = in_expression(first, condition);
+            in_otherwise(in_statement(first, then.get()), otherwise)
+        }
+        Statement::Do {
+            body,
+            condition,
+            ..
+        } => in_expression(in_statement(first, body.get()), condition),
+        Statement::While {
+            condition,
+            body,
+            ..
+        } => in_statement(in_expression(first, condition), body.get()),
+        Statement::For {
+            first: head,
+            condition,
+            update,
+            body,
+            ..
+        } => {
+            let first = in_optional_boxed(in_first(first, head), condition);
+            in_statement(in_optional_boxed(first, update), body.get())
+        }
+        Statement::ForIn {
+            target,
+            object,
+            body,
             place,
         } => {
-            if is_behind(*operator) {
-                read(hosts, operand.get())?;
-            }
-            Err(*place)
+            let first = in_target(earlier(first, *place), target);
+            in_statement(in_expression(first, object.get()), body.get())
         }
-        Expression::Binary {
-            first,
-            operations,
+        Statement::Return { value, .. } => in_optional(first, value),
+        Statement::Labelled { body, .. } => in_statement(first, body.get()),
+        Statement::Switch { value, cases, .. } => {
+            in_cases(in_expression(first, value), cases.as_slice())
+        }
+        Statement::Throw { value, .. } => in_expression(first, value),
+        Statement::Try {
+            block,
+            catch,
+            finally,
             place,
-        } => match operations.as_slice() {
-            [] => read(hosts, first.get()),
-            [operation, ..] if is_logical(operation.operator) => Err(*place),
-            [operation, ..] => {
-                read(hosts, first.get())?;
-                Err(operation.place)
-            }
-        },
-        Expression::Function(function) => Err(function.get().place),
-        Expression::This { place }
-        | Expression::Array { place, .. }
-        | Expression::Object { place, .. }
-        | Expression::New { place, .. }
-        | Expression::Unary { place, .. }
-        | Expression::Conditional { place, .. }
-        | Expression::Sequence { place, .. } => Err(*place),
-    }
-}
-
-/// The place of the first form of a statement that is not built, if there is one.
-fn unbuilt_statement(hosts: &[Signature], statement: &Statement) -> Option<Place>
-    ensures { result ≡ spec.unbuilt_statement (device_names hosts.now) statement.now }
-{
-    let place = match statement {
-        Statement::Empty { .. } => return None,
-        Statement::Expression { value, .. } => return read(hosts, value).err(),
-        Statement::Function(function) => function.place,
-        Statement::Labelled { label, .. } => label.place,
-        Statement::Block { place, .. }
-        | Statement::Variables { place, .. }
-        | Statement::If { place, .. }
-        | Statement::Do { place, .. }
-        | Statement::While { place, .. }
-        | Statement::For { place, .. }
-        | Statement::ForIn { place, .. }
-        | Statement::Continue { place, .. }
-        | Statement::Break { place, .. }
-        | Statement::Return { place, .. }
-        | Statement::Switch { place, .. }
-        | Statement::Throw { place, .. }
-        | Statement::Try { place, .. } => *place,
-    };
-    Some(place)
-}
-
-/// The place of the first form of a tree that is not built, where a program has these devices, if
-/// there is one.
-#[tactic(auto, unfolding(crate::specs::Built::unbuilt))]
-pub fn unbuilt(hosts: &[Signature], tree: &Tree) -> Option<Place>
-    ensures { result ≡ spec.unbuilt (device_names hosts.now) tree.now.statements }
-{
-    for statement in tree.statements.as_slice() {
-        if let Some(place) = unbuilt_statement(hosts, statement) {
-            return Some(place);
+        } => {
+            let first = in_statements(earlier(first, *place), block.as_slice());
+            in_finally(in_catch(first, catch), finally)
         }
+        Statement::Function(function) => in_function(first, function),
     }
-    None
+}
+
+#[cycle(forms)]
+fn in_otherwise(first: Option<Place>, otherwise: &Option<Boxed<Statement>>) -> Option<Place>
+    ensures { result ≡ fold spec.earlier first (spec.if_any spec.in_statement otherwise.now) }
+{
+    match otherwise {
+        None => first,
+        Some(otherwise) => in_statement(first, otherwise.get()),
+    }
+}
+
+#[cycle(forms)]
+fn in_catch(first: Option<Place>, catch: &Option<CatchOf<Statement>>) -> Option<Place>
+    ensures { result ≡ fold spec.earlier first
+        (spec.if_any (spec.in_catch spec.in_statement) catch.now) }
+{
+    match catch {
+        None => first,
+        Some(catch) => in_statements(first, catch.body.as_slice()),
+    }
+}
+
+#[cycle(forms)]
+fn in_finally(first: Option<Place>, finally: &Option<Items<Statement>>) -> Option<Place>
+    ensures { result ≡ fold spec.earlier first
+        (spec.if_any (flat_map spec.in_statement) finally.now) }
+{
+    match finally {
+        None => first,
+        Some(body) => in_statements(first, body.as_slice()),
+    }
+}
+
+#[cycle(forms)]
+fn in_statements(first: Option<Place>, statements: &[Statement]) -> Option<Place>
+    ensures { result ≡ fold spec.earlier first (flat_map spec.in_statement statements.now) }
+{
+    let mut first = first;
+    for statement in statements {
+        first = in_statement(first, statement);
+    }
+    first
+}
+
+#[cycle(forms)]
+#[tactic(auto, using(crate::proofs::Rulesets::for_in_case))]
+fn in_case(first: Option<Place>, case: &Case) -> Option<Place>
+    ensures { result ≡ fold spec.earlier first (code.in_case case.now) }
+{
+    in_statements(in_optional(first, &case.test), case.body.as_slice())
+}
+
+#[cycle(forms)]
+fn in_cases(first: Option<Place>, cases: &[Case]) -> Option<Place>
+    ensures { result ≡ fold spec.earlier first (flat_map code.in_case cases.now) }
+{
+    let mut first = first;
+    for case in cases {
+        first = in_case(first, case);
+    }
+    first
+}
+
+/// The first place in a tree of a form that isn't built, if there is one.
+#[tactic(auto, unfolding(crate::specs::Built::unbuilt))]
+pub fn unbuilt(tree: &Tree) -> Option<Place>
+    ensures { result ≡ spec.unbuilt tree.now.statements }
+{
+    in_statements(None, tree.statements.as_slice())
 }

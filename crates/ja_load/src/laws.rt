@@ -12,19 +12,16 @@ ghost use Rattle.ja_lower.specs.Lowering.{lowered};
 ghost use Rattle.ja_prim.specs.declared.signature.Signature.{Signature};
 ghost use Rattle.ja_syntax.specs.declared.tree.Statement.{Statement};
 
-/// Where a program has devices of these names, each node of each function of a text all of whose
-/// forms are built is of a kind that is built.
+/// Each node of each function of a text all of whose forms are built is of a kind that is built.
 #[tactic(auto, using(crate::proofs::BuiltPrograms::lowered_built))]
 pub fn built_forms_have_built_nodes()
-    ensures { (hosts names : List (List ℕ)) (first : ℕ) (statements : List Statement) (f n : ℕ)
-        (fn : Function) (info : NodeInfo) → unbuilt hosts statements ≡ None
+    ensures { (names : List (List ℕ)) (first : ℕ) (statements : List Statement) (f n : ℕ)
+        (fn : Function) (info : NodeInfo) → unbuilt statements ≡ None
         → slice_get (lowered names first statements).functions f ≡ Some fn
         → slice_get fn.nodes n ≡ Some info → is_built info.node ≡ true }
 {}
 
-/// The program of some bytes, with any devices, is one that the theorem of the analysis is about:
-/// the nodes of its text are of kinds that are built, and it meets no object that can be called or
-/// constructs, and so no device.
+/// The program of some bytes, with any devices, has nodes of kinds that are built in its text.
 pub fn programs_are_built()
     ensures { (bytes : List ℕ) (signatures : List Signature) (p : Program)
         → IsProgramOf bytes signatures p → AreBuilt p }

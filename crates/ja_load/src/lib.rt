@@ -5,12 +5,10 @@
 //! and the built-in ones behind its own, which is well formed; or why it has none: it isn't in the
 //! language, or a limit is passed. `load` gives that program where all forms of the text are built
 //! for the analysis, else the place of the first one that isn't. Laws (`laws.rt`): a text that is
-//! analysed has nodes of kinds that are built alone, and meets no object that can be called
-//! (`programs_are_built`).
+//! analysed has nodes of kinds that are built alone (`programs_are_built`).
 #![tactic(auto)]
 
 mod built;
-mod excluded;
 mod fault;
 mod hosts;
 pub mod laws;

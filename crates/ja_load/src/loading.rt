@@ -264,14 +264,13 @@ fn built_program(
     ensures program { IfOk result (λ p. p ≡ program_of p.text signatures.now tree.now.statements) }
     ensures text { IfOk result (λ p. string_bytes p.text ≡ text.now) }
     ensures within { IfOk result (λ _. IsWithin (names_before signatures.now) tree.now.statements) }
-    ensures built { IfOk result (λ _. built.unbuilt (device_names signatures.now)
-        tree.now.statements ≡ None) }
+    ensures built { IfOk result (λ _. built.unbuilt tree.now.statements ≡ None) }
     ensures well_formed { IfOk result graph.IsWellFormed }
     ensures signatures { IfOk result (λ p. p.signatures ≡ signatures.now) }
     ensures fault { IfErr result (ExplainsAnalysis signatures.now tree.now.statements) }
 {
     let program = program_of_tree(alloc, tree, signatures, text)?;
-    match unbuilt(signatures, tree) {
+    match unbuilt(tree) {
         Some(place) => Err(LoadFault::Unbuilt { place }),
         None => Ok(program),
     }
@@ -283,7 +282,7 @@ fn built_program(
 ///
 /// Those of `load_to_run`; else `Unbuilt` exactly where a form is not built, with the place of the
 /// first one.
-#[tactic(auto, using(crate::proofs::PlainPrograms::is_program))]
+#[tactic(auto, using(crate::proofs::BuiltPrograms::is_program))]
 pub fn load(alloc: Global, text: &str, signatures: &[Signature]) -> Result<Program, LoadFault>
     requires text { length text.now ≤ max_bytes }
     requires devices { AreSignatures signatures.now }

@@ -1,7 +1,6 @@
 -- What holds at the places of lists, and of tests.
-use Rattle.std.proofs.Common.{◌≡◌, ℕ, zero, suc, ◌+◌, ◌<◌, Bool, true, false, cond, not, ◌&&◌, ◌||◌, nat_eq, nat_lt, List, [], ◌∷◌, ◌++◌, length, take, Option, Some, None, refl, ap, ◌∙◌, subst, arith}
-use Rattle.std.specs.List.{AllByRecursion, find, list_all, range_with_len, slice_get}
-use Rattle.std.specs.Option.{is_none}
+use Rattle.std.proofs.Common.{◌≡◌, ℕ, zero, suc, ◌+◌, ◌<◌, Bool, true, false, cond, nat_eq, nat_lt, List, [], ◌∷◌, ◌++◌, length, Some, ap, ◌∙◌, subst, arith}
+use Rattle.std.specs.List.{find, list_all, range_with_len, slice_get}
 use Rattle.std.proofs.lemmas.Bool.Decides.{nat_tests}
 use Rattle.ja_base.proofs.Tests.{and_left_true, and_right_true}
 
@@ -55,7 +54,3 @@ get-range a zero i within = absurd (omega arith)
 get-range a (suc n) zero within = ap Some (omega arith)
 get-range a (suc n) (suc i) within =
     get-range (a + 1) n i (omega (arith, within)) ∙ ap Some (omega arith)
-
-pub or-second : (a b : Bool) → (not a || b) ≡ true → a ≡ true → b ≡ true
-or-second true b h holds = h
-or-second false b h holds = absurd (cc)

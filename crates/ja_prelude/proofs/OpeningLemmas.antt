@@ -1,30 +1,24 @@
 -- What the table gives of a program that begins with its objects, with their sites and their names.
-use Rattle.std.proofs.Common.{◌≡◌, ℕ, zero, suc, ◌+◌, ◌<◌, ◌≤◌, ◌==◌, Bool, true, false, not, ◌&&◌, ◌||◌, nat_lt, List, [], ◌∷◌, ◌++◌, length, map, take, Option, Some, None, refl, sym, ap, ◌∙◌, subst, ◌⊎◌, inl, inr, arith}
+use Rattle.std.proofs.Common.{◌≡◌, ℕ, zero, suc, ◌+◌, ◌<◌, ◌≤◌, ◌==◌, Bool, true, false, ◌&&◌, ◌||◌, nat_lt, List, [], ◌∷◌, ◌++◌, length, map, Option, Some, None, refl, sym, ap, ◌∙◌, subst, arith}
 use Rattle.std.specs.Prelude.{IsSome, IsTrue}
 use Rattle.std.specs.List.{AllByRecursion, enumerate_from, find, flat_map, list_all, range_with_len, slice_get}
 use Rattle.std.specs.Option.{is_none, is_some, option_map, option_to_list}
 use Rattle.std.proofs.lemmas.Option.{slice_get_within, slice_get-map, same_Some}
-use Rattle.ja_base.specs.declared.ids.Site.{Site}
 use Rattle.ja_base.proofs.Tests.{and_left_true, and_right_true}
 use Rattle.ja_base.proofs.Options.{none_by_test}
-use Rattle.ja_base.proofs.Lists.{all_append, all_at, element_within, element_taken}
+use Rattle.ja_base.proofs.Lists.{all_append, all_at}
 use Rattle.ja_graph.specs.declared.builtins.TheConstants.{BUILTIN_CLASSES}
 use Rattle.ja_graph.specs.declared.program.Class.{Class}
 use Rattle.ja_graph.specs.declared.program.ObjectSpec.{ObjectSpec}
 use Rattle.ja_graph.specs.declared.program.Program.{Program}
-use Rattle.ja_graph.specs.declared.program.PropertySpec.{PropertySpec}
 use Rattle.ja_graph.specs.declared.program.SiteInfo.{SiteInfo}
-use Rattle.ja_graph.specs.declared.program.SpecContent.{SpecContent}
-use Rattle.ja_graph.specs.declared.program.SpecContent.TheVariants as content
 use Rattle.ja_graph.specs.Program.{object_spec, runs_function}
 use Rattle.ja_graph.specs.WellFormed.{IsBuiltin, IsFunction, IsObjectWellFormed, NamesFunctions, builtin_names}
-use Rattle.ja_graph.specs.Kinds.{IsPlain, IsPlainContent}
 use Rattle.ja_graph.specs.code.Parts.{HasScope}
-use Rattle.ja_prelude.specs.Opening.{IsGlobalName}
 use Rattle.ja_prelude.specs.Table.{TableRow, builtin_sites, call_of, construct_of, function_of, opening_objects, row_with, site_of, sites_with, table_rows}
-use Rattle.ja_prelude.proofs.ListLemmas.{all-found, all-get, get-first, get-front, get-range, lt_of, or-second}
+use Rattle.ja_prelude.proofs.ListLemmas.{all-found, all-get, get-first, get-front, get-range, lt_of}
 use Rattle.ja_prelude.proofs.ObjectLemmas.{below-at, object-well_formed}
-use Rattle.ja_prelude.proofs.TableLemmas.{are_objects, contents-plain, functions-below, functions-scoped, is_below, is_global, is_plain, is_plain_content, is_plain_prototype, leads_to_plain, names_count, prototypes-plain, sites-classes, sites-plain, sites_count, table-count, table-inside, table-objects, table-sites}
+use Rattle.ja_prelude.proofs.TableLemmas.{are_objects, functions-below, functions-scoped, is_below, is_plain, names_count, sites-classes, sites-plain, sites_count, table-count, table-inside, table-objects, table-sites}
 use Rattle.ja_prelude.specs.declared.texts.TheConstants.{FUNCTION_COUNT}
 
 -- ---- objects
@@ -174,34 +168,6 @@ runs_none info none runs =
     (and_right_true (is_none info.calls) (is_none info.constructs) none) in
     absurd (cc)
 
-pub plain_site : (first : ℕ) (p : Program) (others : List SiteInfo)
-    → p.sites ≡ builtin_sites first ++ others → (s : Site) → s.0 < 43 → is_plain s.0 ≡ true
-    → IsPlain p s
-plain_site first p others sites s before plain info is =
-    let none : has_none info ≡ true = same-plain first s.0 info before
-    (here first p others sites s.0 info before is) ∙ plain in (
-      none_by_test info.calls (and_left_true (is_none info.calls) (is_none info.constructs) none),
-      none_by_test info.constructs (and_right_true (is_none info.calls) (is_none info.constructs)
-          none),
-    )
-
-site-plain : (first : ℕ) (p : Program) (others : List SiteInfo)
-    → p.sites ≡ builtin_sites first ++ others → (s : Site) → s.0 < 43 → IsPlain p s
-    → is_plain s.0 ≡ true
-site-plain first p others sites s before plain =
-    let found = element_within (builtin_sites first) s.0
-    (omega (arith, before, sites_count first)) in
-    let none = plain found.0 (ap (λ xs. slice_get xs s.0) sites
-    ∙ get-front (builtin_sites first) others s.0 found.0 found.1) in
-    let calls : is_none found.0.calls ≡ true = ap is_none none.0 in
-    let constructs : is_none found.0.constructs ≡ true = ap is_none none.1 in
-    sym (same-plain first s.0 found.0 before found.1)
-    ∙ both-pass (is_none found.0.calls) (is_none found.0.constructs) calls constructs
-  where
-    both-pass : (a b : Bool) → a ≡ true → b ≡ true → (a && b) ≡ true
-    both-pass true b holds also = also
-    both-pass false b holds also = absurd (cc)
-
 inside : (p : Program) (i : ℕ) (o : ObjectSpec) → p.opening ≡ opening_objects
     → slice_get p.opening i ≡ Some o → o.site.0 < 43
 inside p i o opening is =
@@ -232,63 +198,3 @@ objects_are_well_formed first p others sites opening names i o is =
     object-well_formed 43 104 p i o (ap length opening ∙ table-count)
     (omega (arith, names, names_count)) (ap (are_objects 43 104 []) opening ∙ table-objects) is
     (functions_are_scoped first p others sites opening i o is)
-
--- the prototype of an object that is no function is none either
-pub prototypes_are_plain : (first : ℕ) (p : Program) (others : List SiteInfo)
-    → p.sites ≡ builtin_sites first ++ others → p.opening ≡ opening_objects
-    → (i : ℕ) (o : ObjectSpec) (s : Site) → slice_get p.opening i ≡ Some o → IsPlain p o.site
-    → o.prototype ≡ Some s → IsPlain p s
-prototypes_are_plain first p others sites opening i o s is plain prototype =
-    let test = all-get (λ (o : ObjectSpec). not (is_plain o.site.0)
-    || is_plain_prototype o.prototype) opening_objects i o prototypes-plain
-    (sym (ap (λ os. slice_get os i) opening) ∙ is) in
-    let passes = or-second (is_plain o.site.0) (is_plain_prototype o.prototype) test
-    (site-plain first p others sites o.site (inside p i o opening is) plain) in
-    let fits : (nat_lt s.0 43 && is_plain s.0) ≡ true = sym (ap is_plain_prototype prototype)
-    ∙ passes in
-    plain_site first p others sites s (lt_of s.0 43
-    (and_left_true (nat_lt s.0 43) (is_plain s.0) fits))
-    (and_right_true (nat_lt s.0 43) (is_plain s.0) fits)
-
-plain-content : (first : ℕ) (p : Program) (others : List SiteInfo)
-    → p.sites ≡ builtin_sites first ++ others → (c : SpecContent) → is_plain_content c ≡ true
-    → IsPlainContent p c
-plain-content first p others sites (content.Object s) fits =
-    plain_site first p others sites s (lt_of s.0 43
-    (and_left_true (nat_lt s.0 43) (is_plain s.0) fits))
-    (and_right_true (nat_lt s.0 43) (is_plain s.0) fits)
-plain-content first p others sites (content.Prim value) fits = tt
-plain-content first p others sites content.Row fits = tt
-
-global-name : (p : Program) (q : PropertySpec) → take (length builtin_names) p.names ≡ builtin_names
-    → (name : Option (List ℕ)) → slice_get builtin_names q.name.0 ≡ name → is_global name ≡ true
-    → IsGlobalName p q
-global-name p q names None is global = absurd (cc)
-global-name p q names (Some t) is global = (
-  t,
-  element_taken (length builtin_names) p.names q.name.0 t
-      (ap (λ ns. slice_get ns q.name.0) names ∙ is),
-  global,
-)
-
--- what is no function has no property that holds one, but under the name of a property of the
--- global object or of its prototype
-pub contents_are_plain : (first : ℕ) (p : Program) (others : List SiteInfo)
-    → p.sites ≡ builtin_sites first ++ others → p.opening ≡ opening_objects
-    → take (length builtin_names) p.names ≡ builtin_names
-    → (i j : ℕ) (o : ObjectSpec) (q : PropertySpec) → slice_get p.opening i ≡ Some o
-    → IsPlain p o.site → slice_get o.properties j ≡ Some q
-    → IsPlainContent p q.content ⊎ IsGlobalName p q
-contents_are_plain first p others sites opening names i j o q is plain property =
-    let test = all-get (λ (o : ObjectSpec). not (is_plain o.site.0)
-    || list_all leads_to_plain o.properties) opening_objects i o contents-plain
-    (sym (ap (λ os. slice_get os i) opening) ∙ is) in
-    let passes = or-second (is_plain o.site.0) (list_all leads_to_plain o.properties) test
-    (site-plain first p others sites o.site (inside p i o opening is) plain) in
-    at (is_plain_content q.content) refl (all-get leads_to_plain o.properties j q passes property)
-  where
-    at : (b : Bool) → is_plain_content q.content ≡ b
-        → (b || is_global (slice_get builtin_names q.name.0)) ≡ true
-        → IsPlainContent p q.content ⊎ IsGlobalName p q
-    at true e passes = inl (plain-content first p others sites q.content e)
-    at false e passes = inr (global-name p q names (slice_get builtin_names q.name.0) refl passes)

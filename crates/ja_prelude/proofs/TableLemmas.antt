@@ -1,5 +1,5 @@
 -- The table computed: what it says by its names, and that its objects are well formed.
-use Rattle.std.proofs.Common.{◌≡◌, ℕ, zero, suc, Bool, true, false, not, ◌&&◌, ◌||◌, ◌==◌, nat_eq, nat_lt, List, [], ◌∷◌, ◌++◌, length, map, Option, Some, None, refl}
+use Rattle.std.proofs.Common.{◌≡◌, ℕ, zero, suc, Bool, true, not, ◌&&◌, ◌||◌, ◌==◌, nat_eq, nat_lt, List, [], ◌∷◌, ◌++◌, length, map, Option, Some, None, refl}
 use Rattle.std.specs.List.{find, flat_map, fold, list_all, list_any, range_with_len, slice_get}
 use Rattle.std.specs.Option.{is_some, is_none, option_and_then, option_map, option_to_list}
 use Rattle.std.specs.Str.{bytes_eq}
@@ -13,7 +13,7 @@ use Rattle.ja_graph.specs.declared.program.SiteInfo.{SiteInfo}
 use Rattle.ja_graph.specs.declared.program.SpecContent.{SpecContent}
 use Rattle.ja_graph.specs.declared.program.SpecContent.TheVariants as content
 use Rattle.ja_graph.specs.WellFormed.{builtin_names}
-use Rattle.ja_prelude.specs.Table.{NamedSite, TableEntry, TableRow, attrs_told, builtin_number, builtin_sites, call_of, construct_of, function_of, functions_of, is_at_its_path, is_function, is_function_class, is_global_name, is_of_its_kind, named_sites, names_at, opening_objects, path_of, prototype_told, rows_of, scope_rows, table_rows, unbuilt_rows}
+use Rattle.ja_prelude.specs.Table.{NamedSite, TableEntry, TableRow, attrs_told, builtin_number, builtin_sites, call_of, construct_of, function_of, functions_of, is_at_its_path, is_function, is_function_class, is_of_its_kind, named_sites, names_at, opening_objects, path_of, prototype_told, rows_of, scope_rows, table_rows, unbuilt_rows}
 use Rattle.ja_prelude.specs.declared.texts.TheConstants.{VALUE_FIRST, FUNCTION_COUNT}
 
 -- ---- by names
@@ -126,27 +126,6 @@ is_plain s =
     not (list_any (λ (row : TableRow). nat_eq row.object.site.0 s && is_function row.object.role)
     table_rows)
 
--- .. and it is a site of the table
-abbrev pub is_plain_site : Site → Bool
-is_plain_site s = nat_lt s.0 43 && is_plain s.0
-
--- a property holds no object, or one of such a site
-abbrev pub is_plain_content : SpecContent → Bool
-is_plain_content (content.Object s) = is_plain_site s
-is_plain_content other = true
-
-abbrev pub is_plain_prototype : Option Site → Bool
-is_plain_prototype None = true
-is_plain_prototype (Some s) = is_plain_site s
-
--- the name of a property of the global object or of its prototype
-abbrev pub is_global : Option (List ℕ) → Bool
-is_global None = false
-is_global (Some name) = is_global_name name
-
-abbrev pub leads_to_plain : PropertySpec → Bool
-leads_to_plain q = is_plain_content q.content || is_global (slice_get builtin_names q.name.0)
-
 -- ---- what they give of the table
 
 pub table-objects : are_objects 43 104 [] opening_objects ≡ true
@@ -188,20 +167,10 @@ pub table-inside : list_all (λ (o : ObjectSpec). nat_lt o.site.0 43) opening_ob
 unfolding opening_objects
 table-inside = refl
 
-pub prototypes-plain : list_all (λ (o : ObjectSpec). not (is_plain o.site.0)
-    || is_plain_prototype o.prototype) opening_objects ≡ true
-unfolding opening_objects is_plain
-prototypes-plain = refl
-
 pub functions-scoped : list_all (λ (o : ObjectSpec). is_plain o.site.0 || is_some o.scope)
     opening_objects ≡ true
 unfolding opening_objects is_plain
 functions-scoped = refl
-
-pub contents-plain : list_all (λ (o : ObjectSpec). not (is_plain o.site.0)
-    || list_all leads_to_plain o.properties) opening_objects ≡ true
-unfolding opening_objects builtin_number is_global_name is_plain
-contents-plain = refl
 
 pub names_count : length builtin_names ≡ 104
 names_count = refl

@@ -1,4 +1,3 @@
-pub mod Opening
 pub mod Table
 pub mod Described
 pub mod Reading

@@ -1,6 +1,6 @@
 -- The built-in objects (ES3 section 15), by the table of them, with their names and sites; and what
 -- is said of the table.
-use Rattle.std.specs.Prelude.{ℕ, pos, Bool, true, false, ◌+◌, ◌==◌, ◌&&◌, ◌||◌, not, List, [], ◌∷◌, ◌++◌, map, filter, find, Option, Some, None}
+use Rattle.std.specs.Prelude.{ℕ, pos, Bool, true, false, ◌+◌, ◌==◌, ◌&&◌, not, List, [], ◌∷◌, ◌++◌, map, filter, find, Option, Some, None}
 use Rattle.std.specs.Bool.{if◌then◌else◌}
 use Rattle.std.specs.List.{enumerate_from, flat_map, list_any, slice_split}
 use Rattle.std.specs.Option.{is_some, option_and_then, option_map, option_map_or, option_to_list}
@@ -378,15 +378,3 @@ abbrev pub lengths : List (ℕ × Option ℕ)
 lengths =
     flat_map (λ (row : TableRow). map (λ k. (k, length_of row.entries))
     (option_to_list (call_of row.object.role))) table_rows
-
--- ---- names that lead to functions
-
--- the object of a site has a property of this name
-abbrev pub has_property : Site → List ℕ → Bool
-has_property s name =
-    list_any (λ (row : TableRow). (row.object.site.0 == s.0)
-    && list_any (λ (e : TableEntry). bytes_eq e.name name) row.entries) table_rows
-
--- the names of the properties of the global object (15.1) and of its prototype (15.2.4)
-unfoldable pub is_global_name : List ℕ → Bool
-is_global_name name = has_property sites.GLOBAL name || has_property sites.OBJECT_PROTOTYPE name

@@ -1,9 +1,8 @@
 //! What a program has that begins with the built-in objects, with their sites and their names. The
 //! functions do nothing; their contracts are the laws.
 
-ghost use Rattle.std.specs.Prelude.{◌≡◌, ◌+◌, ◌<◌, ◌≤◌, ◌⊎◌, ◌++◌, ℕ, List, [], Some, None, IsSome, length, slice_get, take};
+ghost use Rattle.std.specs.Prelude.{◌≡◌, ◌+◌, ◌<◌, ◌≤◌, ◌++◌, ℕ, List, [], Some, None, IsSome, length, slice_get, take};
 ghost use Rattle.std.specs.List.{AllByRecursion, fold};
-ghost use Rattle.ja_base.specs.declared.ids.Site.{Site};
 ghost use Rattle.ja_lower_names.specs.Names.{with_name};
 ghost use Rattle.ja_graph.specs.Program.{object_spec};
 ghost use Rattle.ja_graph.specs.WellFormed.{IsBuiltin, IsObjectWellFormed, NamesFunctions, builtin_names};
@@ -11,10 +10,7 @@ ghost use Rattle.ja_graph.specs.declared.builtins.TheConstants.{BUILTIN_CLASSES}
 ghost use Rattle.ja_graph.specs.declared.program.Class.{Class};
 ghost use Rattle.ja_graph.specs.declared.program.ObjectSpec.{ObjectSpec};
 ghost use Rattle.ja_graph.specs.declared.program.Program.{Program};
-ghost use Rattle.ja_graph.specs.declared.program.PropertySpec.{PropertySpec};
 ghost use Rattle.ja_graph.specs.declared.program.SiteInfo.{SiteInfo};
-ghost use Rattle.ja_graph.specs.Kinds.{IsPlain, IsPlainContent};
-ghost use Rattle.ja_prelude.specs.Opening.{IsGlobalName};
 ghost use Rattle.ja_prelude.specs.Table.{builtin_sites, opening_objects};
 ghost use Rattle.ja_prelude.specs.declared.texts.TheConstants.{FUNCTION_COUNT};
 
@@ -56,19 +52,4 @@ pub fn sites_are_told()
         → info.owner ≡ None }
     ensures functions { (first : ℕ) (p : Program) → first + FUNCTION_COUNT ≤ length p.functions
         → AllByRecursion (NamesFunctions p) (builtin_sites first) }
-{}
-
-/// From an object that is no function no prototype and no property leads to one that is, but a
-/// property with the name of one of the global object or of its prototype.
-pub fn plain_objects_lead_to_plain_objects()
-    ensures prototypes { (first : ℕ) (p : Program) (others : List SiteInfo)
-        → p.sites ≡ builtin_sites first ++ others → p.opening ≡ opening_objects
-        → (i : ℕ) (o : ObjectSpec) (s : Site) → slice_get p.opening i ≡ Some o → IsPlain p o.site
-        → o.prototype ≡ Some s → IsPlain p s }
-    ensures contents { (first : ℕ) (p : Program) (others : List SiteInfo)
-        → p.sites ≡ builtin_sites first ++ others → p.opening ≡ opening_objects
-        → take (length builtin_names) p.names ≡ builtin_names
-        → (i j : ℕ) (o : ObjectSpec) (q : PropertySpec) → slice_get p.opening i ≡ Some o
-        → IsPlain p o.site → slice_get o.properties j ≡ Some q
-        → IsPlainContent p q.content ⊎ IsGlobalName p q }
 {}

@@ -7,7 +7,7 @@ use Rattle.ja_load.specs.declared.fault.LoadFault.{LoadFault}
 use Rattle.ja_load.specs.declared.fault.LoadFault.TheVariants as fault
 use Rattle.ja_load.specs.Loading.{names_before}
 use Rattle.ja_lower.specs.Limits.{max_functions, max_size, function_count, size_of, IsWithin}
-use Rattle.ja_lower.specs.Lowering.{device_names, names_of}
+use Rattle.ja_lower.specs.Lowering.{names_of}
 use Rattle.ja_prim.specs.declared.signature.Signature.{Signature}
 use Rattle.ja_syntax.specs.declared.tree.Statement.{Statement}
 
@@ -28,5 +28,5 @@ Explains signatures statements (fault.Unbuilt place) = ⊥
 abbrev pub ExplainsAnalysis : List Signature → List Statement → LoadFault → Type 0
 ExplainsAnalysis signatures statements (fault.Unbuilt place) =
     IsWithin (names_before signatures) statements
-    × (unbuilt (device_names signatures) statements ≡ Some place)
+    × (unbuilt statements ≡ Some place)
 ExplainsAnalysis signatures statements f = Explains signatures statements f

@@ -1,4 +1,4 @@
-use Rattle.ja_load.proofs.PlainPrograms.{programs_are_built}
+use Rattle.ja_load.proofs.BuiltPrograms.{programs_are_built}
 use Rattle.ja_load.proofs.laws.programs_are_built.Goals as goal
 
 pub returns : goal.returns
