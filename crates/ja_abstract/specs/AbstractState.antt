@@ -1,21 +1,18 @@
 -- Abstract states: maps from registers to values, from labels and keys to properties, from sites to
 -- masks.
-use Rattle.std.specs.Prelude.{ℕ, ◌+◌, ◌*◌, pos, Bool, true, false, ◌&&◌, ◌||◌, if◌then◌else◌, ◌==◌, nat_lt, List, [], ◌∷◌, ◌++◌, map, length}
+use Rattle.std.specs.Prelude.{ℕ, ◌+◌, ◌*◌, Bool, true, false, ◌&&◌, ◌||◌, if◌then◌else◌, ◌==◌, nat_lt, List, [], ◌∷◌, ◌++◌, map, length}
 use Rattle.std.specs.List.{flat_map, range_with_len}
 use Rattle.ja_base.specs.declared.ids.Label.{Label}
 use Rattle.ja_base.specs.declared.ids.Reg.{Reg}
 use Rattle.ja_base.specs.declared.ids.Site.{Site}
-use Rattle.ja_prim.specs.declared.primitive.Num.TheVariants.{Whole}
-use Rattle.ja_prim.specs.declared.primitive.Primitive.TheVariants.{Number}
 use Rattle.ja_graph.specs.declared.program.Program.{Program}
 use Rattle.ja_graph.specs.Program.{global}
-use Rattle.ja_graph.specs.declared.registers.TheConstants.{COUNT, SCOPE, THIS}
 use Rattle.ja_abstract.specs.declared.abstraction.Mask.{Mask}
 use Rattle.ja_abstract.specs.declared.abstraction.Slot.{Slot}
 use Rattle.ja_abstract.specs.declared.abstraction.Slot.TheVariants as slot
 use Rattle.ja_abstract.specs.declared.abstraction.Key.{Key}
 use Rattle.ja_abstract.specs.declared.abstraction.Key.TheVariants as key
-use Rattle.ja_abstract.specs.AbstractValue.{AbstractValue, AbstractProperty, same_label, join, join_properties, of_label, of_primitive, undefined_value, absent_property, entry_property}
+use Rattle.ja_abstract.specs.AbstractValue.{AbstractValue, AbstractProperty, same_label, join, join_properties, absent_property}
 
 pub record AbstractState : Type 0 where
   pub register : ℕ → AbstractValue
@@ -96,20 +93,6 @@ abbrev pub join_masks : Mask → Mask → Mask
 join_masks a b = record { none = a.none || b.none; some = a.some || b.some }
 
 -- ---- states
-
--- where the program begins each property is as it was, and nothing was made
-abbrev pub entry_registers : ℕ → AbstractValue
-entry_registers r =
-    if r == THIS.0 then of_label (new global) else if r == SCOPE.0 then of_label (new global)
-    else if r == COUNT.0 then of_primitive (Number (Whole (pos 0))) else undefined_value
-
-abbrev pub entry_state : AbstractState
-entry_state =
-    record {
-      register = entry_registers;
-      property = λ l k. entry_property;
-      mask = λ s. exactly_none;
-    }
 
 abbrev pub join_states : AbstractState → AbstractState → AbstractState
 join_states a b = record {

@@ -1,27 +1,33 @@
 -- The numbers of registers, and the labels of a program in their order.
-use Rattle.std.specs.Prelude.{◌≡◌, ◌↔◌, ◌<◌, ◌+◌, ◌*◌, ◌==◌, ℕ, zero, suc, Bool, true, false, if◌then◌else◌, IsTrue, length, slice_get, Some}
+use Rattle.std.specs.Prelude.{◌≡◌, ◌↔◌, ◌<◌, ◌+◌, ◌*◌, ◌==◌, ◌++◌, ◌∷◌, [], ℕ, zero, suc, Bool, true, false, if◌then◌else◌, IsTrue, length, map, slice_get, Some, unwrap_or}
 use Rattle.std.specs.List.{flat_map, range_with_len}
 use Rattle.std.proofs.Common.{refl, ap, ◌∙◌, arith}
-use Rattle.std.proofs.lemmas.Bool.{cond-false, ne_eqb}
 use Rattle.ja_base.specs.declared.ids.Label.{Label}
 use Rattle.ja_graph.specs.declared.program.Program.{Program}
 use Rattle.ja_abstract.specs.declared.abstraction.Key.{Key}
 use Rattle.ja_abstract.specs.AbstractValue.{same_label, undefined_value}
-use Rattle.ja_abstract.specs.AbstractState.{entry_registers, label_number, labels_of, site_of, same_key}
+use Rattle.ja_abstract.specs.AbstractState.{label_number, labels_of, site_of, same_key}
+use Rattle.ja_machine.specs.Frames.{parameters_of}
+use Rattle.ja_machine.specs.Machine.{program_function}
+use Rattle.ja_rows.specs.Table.{no_arguments, opening_state}
 use Rattle.ja_abstract.proofs.Keys.{same_key-true, same_key_from}
 use Rattle.ja_abstract.proofs.Labels.{same_label-true, same_label_from, site_labels}
 
 -- ---- registers
 
--- behind the registers that each function has all are undefined
-behind : (r : ℕ) → 4 < r → entry_registers r ≡ undefined_value
-behind r h =
-    cond-false (r == 1) _ _ (ne_eqb r 1 (λ e. absurd (omega arith)))
-    ∙ (cond-false (r == 2) _ _ (ne_eqb r 2 (λ e. absurd (omega arith)))
-    ∙ cond-false (r == 4) _ _ (ne_eqb r 4 (λ e. absurd (omega arith))))
+-- where no argument is given, all registers behind those that each function has are undefined
+behind : (parameters a i : ℕ)
+    → unwrap_or (slice_get (map no_arguments.parameter (range_with_len a parameters)
+    ++ no_arguments.rest ∷ []) i) undefined_value ≡ undefined_value
+behind zero a zero = refl
+behind zero a (suc i) = refl
+behind (suc parameters) a zero = refl
+behind (suc parameters) a (suc i) = behind parameters (a + 1) i
 
-pub behind_fixed : (i : ℕ) → entry_registers (5 + i) ≡ undefined_value
-behind_fixed i = behind (5 + i) (omega arith)
+pub behind_fixed : (p : Program) (i : ℕ) → (opening_state p).register (5 + i) ≡ undefined_value
+behind_fixed p i =
+    let e : 5 + i ≡ suc (suc (suc (suc (suc i)))) = omega arith in
+    ap (λ r. (opening_state p).register r) e ∙ behind (parameters_of p program_function) 0 i
 
 -- ---- labels
 

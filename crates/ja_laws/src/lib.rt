@@ -1,4 +1,4 @@
-//! What the definitions of the whole analysis say, in other words than theirs: laws, and results
+//! What the definitions of the analysis say, in other words than theirs: laws, and results
 //! computed by the definitions of small states. Nothing stands on this crate but readers: a row
 //! that is bent is refused here.
 //!

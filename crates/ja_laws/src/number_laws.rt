@@ -12,10 +12,11 @@ ghost use Rattle.ja_graph.specs.Program.{global};
 ghost use Rattle.ja_abstract.specs.declared.abstraction.Key.{Key};
 ghost use Rattle.ja_abstract.specs.AbstractValue.{of_label, of_primitive, same_label};
 ghost use Rattle.ja_abstract.specs.AbstractValue.{undefined_value};
-ghost use Rattle.ja_abstract.specs.AbstractState.{entry_registers, label_number, labels_of};
+ghost use Rattle.ja_abstract.specs.AbstractState.{label_number, labels_of};
 ghost use Rattle.ja_abstract.specs.AbstractState.{new, same_key};
 ghost use Rattle.ja_abstract.specs.Made.{callee_register, count_register};
 ghost use Rattle.ja_abstract.specs.Made.{parameter_register, rest_register};
+ghost use Rattle.ja_rows.specs.Table.{opening_state};
 
 /// The registers that the definitions number are those that `ja_graph` names; and where a program
 /// begins, `this` and the scope chain are the global object, and there are no arguments.
@@ -24,13 +25,18 @@ pub fn registers_are_named()
     ensures count { count_register ≡ registers.COUNT.0 }
     ensures parameters { (i : ℕ) → parameter_register i ≡ registers.REST.0 + i }
     ensures rest { (parameters : ℕ) → rest_register parameters ≡ registers.REST.0 + parameters }
-    ensures thrown_first { entry_registers registers.THROWN.0 ≡ undefined_value }
-    ensures this_first { entry_registers registers.THIS.0 ≡ of_label (new global) }
-    ensures scope_first { entry_registers registers.SCOPE.0 ≡ of_label (new global) }
-    ensures callee_first { entry_registers registers.CALLEE_REGISTER.0 ≡ undefined_value }
-    ensures count_first { entry_registers registers.COUNT.0
+    ensures thrown_first { (p : Program) → (opening_state p).register registers.THROWN.0
+        ≡ undefined_value }
+    ensures this_first { (p : Program) → (opening_state p).register registers.THIS.0
+        ≡ of_label (new global) }
+    ensures scope_first { (p : Program) → (opening_state p).register registers.SCOPE.0
+        ≡ of_label (new global) }
+    ensures callee_first { (p : Program) → (opening_state p).register registers.CALLEE_REGISTER.0
+        ≡ undefined_value }
+    ensures count_first { (p : Program) → (opening_state p).register registers.COUNT.0
         ≡ of_primitive (Number (Whole (pos 0))) }
-    ensures rest_first { (i : ℕ) → entry_registers (registers.REST.0 + i) ≡ undefined_value }
+    ensures rest_first { (p : Program) (i : ℕ)
+        → (opening_state p).register (registers.REST.0 + i) ≡ undefined_value }
 {}
 
 /// The labels of a program are two of each site, the new one and the old one, and a label stands in

@@ -30,7 +30,8 @@ rises_both t u v h k = record {
 
 -- ---- visits
 
-state-joined : (o : Option AbstractState) (b : Bool) (a : AbstractState)
+-- a state joined in rises
+pub state-joined : (o : Option AbstractState) (b : Bool) (a : AbstractState)
     → LeqOptionState o (if b then Some (joined_state o a) else o)
 state-joined None true a = tt
 state-joined None false a = tt

@@ -1,5 +1,5 @@
-//! Lists of chosen length that share what they have in common, for the heaps of the analyser.
-//! No other crate uses them yet: the next heaps of the analyser stand on this one.
+//! Lists of chosen length that share what they have in common: the heaps of the analyser stand on
+//! them (`ja_aheap`).
 //!
 //! Contracts see a `Shared` as the list of its values. A fork is equal to its list, and after a
 //! change of one of the two the other reads as before. A write changes one place; a join has at

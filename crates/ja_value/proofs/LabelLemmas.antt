@@ -315,17 +315,6 @@ no_labels_is (k ∷ ks) seen r same e = (
 
 -- ---- sets within others
 
-within : (a b : Bool) → (IsTrue b → IsTrue a) → (a || b) ≡ a
-within true b h = refl
-within false true h = sym (h refl)
-within false false h = refl
-
--- the labels of a set within another are among those of the other
-pub union_within : (mine other : List ℕ) → ((q : ℕ) → IsTrue (has other q) → IsTrue (has mine q))
-    → (λ l. in_numbers mine l || in_numbers other l) ≡ in_numbers mine
-union_within mine other h =
-    λ i l. (within (has mine (label_number l)) (has other (label_number l)) (h (label_number l))) i
-
 -- a set is within another as numbers, and as labels
 pub within_labels : (mine other : List ℕ) (r : Bool)
     → (IsTrue r ↔ ((q : ℕ) → IsTrue (has mine q) → IsTrue (has other q)))

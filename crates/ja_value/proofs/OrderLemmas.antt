@@ -19,7 +19,7 @@ or_has true y e t = refl
 or_has false y e t = sym e ∙ t
 
 -- a set of labels is within another exactly if the other has them already
-labels_by_join : (a b : Labels)
+pub labels_by_join : (a b : Labels)
     → ((l : Label) → IsTrue (a l) → IsTrue (b l)) ↔ ((λ l. b l || a l) ≡ b)
 labels_by_join a b = (
   (λ h. λ i l. or_within (b l) (a l) (h l) i),

@@ -156,7 +156,7 @@ impl LabelSet {
         ensures { result ≡ true → (λ l. labels_in self.now l || labels_in other.now l)
             ≡ labels_in self.now }
     {
-        other.numbers.is_subset(&self.numbers)
+        other.is_subset(self)
     }
 
     /// Whether each label of this set is in another.

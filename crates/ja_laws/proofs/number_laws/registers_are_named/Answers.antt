@@ -16,19 +16,19 @@ pub returns-clause-rest : goal.returns-clause-rest
 returns-clause-rest c = λ parameters. refl
 
 pub returns-clause-thrown_first : goal.returns-clause-thrown_first
-returns-clause-thrown_first c = refl
+returns-clause-thrown_first c = λ p. refl
 
 pub returns-clause-this_first : goal.returns-clause-this_first
-returns-clause-this_first c = refl
+returns-clause-this_first c = λ p. refl
 
 pub returns-clause-scope_first : goal.returns-clause-scope_first
-returns-clause-scope_first c = refl
+returns-clause-scope_first c = λ p. refl
 
 pub returns-clause-callee_first : goal.returns-clause-callee_first
-returns-clause-callee_first c = refl
+returns-clause-callee_first c = λ p. refl
 
 pub returns-clause-count_first : goal.returns-clause-count_first
-returns-clause-count_first c = refl
+returns-clause-count_first c = λ p. refl
 
 pub returns-clause-rest_first : goal.returns-clause-rest_first
 returns-clause-rest_first c = behind_fixed
