@@ -1,0 +1,14 @@
+pub mod MapLemmas
+pub mod ObjectLemmas
+pub mod MaskLemmas
+pub mod HeapLemmas
+pub mod LabelLemmas
+pub mod EntryLemmas
+pub mod ListLemmas
+pub mod NumberLemmas
+pub mod WriteLemmas
+pub mod UpdateLemmas
+pub mod ComposedLemmas
+pub mod KeptLemmas
+pub mod ComposingLemmas
+pub mod HeapLaws

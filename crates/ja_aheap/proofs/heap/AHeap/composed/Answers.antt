@@ -1,0 +1,30 @@
+use Rattle.std.proofs.Common.{ℕ, ◌*◌, ap, sym, ◌∙◌, arith}
+use Rattle.std.specs.BTreeMap.{BTreeMap}
+use Rattle.ja_base.specs.declared.ids.Label.{Label}
+use Rattle.ja_abstract.specs.declared.abstraction.Key.{Key}
+use Rattle.ja_abstract.specs.declared.abstraction.Mask.{Mask}
+use Rattle.ja_value.specs.Labels.{mask_in}
+use Rattle.ja_aheap.specs.Heap.{heap_of, at_keys_below, property_at}
+use Rattle.ja_aheap.specs.code.Masks.{both_masks}
+use Rattle.ja_aheap.proofs.ComposingLemmas.{heap_composed, resolved_by}
+use Rattle.ja_aheap.proofs.heap.AHeap.composed.Goals as goal
+
+pub returns-clause-composed : goal.returns-clause-composed
+returns-clause-composed g c =
+    let h = c.args.self.now in
+    let later = c.args.later.now in
+    let mask = mask_in later.masks.value in
+    let each = λ (l : Label) (k : Key).
+    heap_composed h.objects later.objects c.in_ok-objects.objects h.names h.sites mask h.placed
+    (later.placed ∙ ap (λ (n : ℕ). 2 * n) (sym c.requires.sites))
+    (λ s above. later.counted s (omega arith)) c.in_ok-objects.ensures.composed l k
+    ∙ ap (λ (n : ℕ). at_keys_below h.names (λ (j : Key). resolved_by mask
+    (property_at later.objects n l j) (λ (m : Label). property_at h.objects h.names m j) l) k)
+    c.requires.names in
+    let masks = λ (s : ℕ). ap (λ (m : BTreeMap ℕ Mask). mask_in m s) c.in_ok-masks-2.ensures.ok
+    ∙ c.in_ok-masks.ensures s
+    ∙ (λ i. both_masks (c.deref.ensures i) (c.deref-2.ensures i) s) in
+    λ i. record (heap_of h) {
+      property = λ l k. (each l k) i;
+      mask = λ s. (masks s) i;
+    }

@@ -1,0 +1,70 @@
+use Rattle.std.proofs.Common.{ℕ, refl, ap, sym, ◌∙◌, subst}
+use Rattle.std.specs.Option.{option_map_or}
+use Rattle.ja_abstract.specs.AbstractState.{join_masks}
+use Rattle.ja_value.specs.Labels.{mask_in}
+use Rattle.ja_trie.specs.Nodes.{ArePaths}
+use Rattle.ja_abstract.proofs.Least.{property_by_join}
+use Rattle.ja_aheap.specs.Heap.{HeapMap, LeqHeap, heap_of, property_at}
+use Rattle.ja_aheap.proofs.HeapLemmas.{heap_same, joined_by_label, differs_at_label}
+use Rattle.ja_aheap.proofs.MaskLemmas.{turned}
+use Rattle.ja_aheap.proofs.heap.AHeap.join.Goals as goal
+
+pub returns-then-leq-clause-joined : goal.returns-then-leq-clause-joined
+returns-then-leq-clause-joined g c =
+    let a = heap_of c.args.self.now in
+    let b = heap_of c.args.other.now in
+    let below : LeqHeap b a = c.leq.ensures.order.0 c.if-leq.true in
+    heap_same _ _ refl refl
+    (λ l k. sym ((property_by_join (b.property l k) (a.property l k)).0 (below.property l k)))
+    (λ s. sym (turned (a.mask s) (b.mask s) ∙ below.mask s))
+
+pub returns-in_err-put-clause-nodes : goal.returns-in_err-put-clause-nodes
+returns-in_err-put-clause-nodes g c =
+    subst (λ (n : ℕ). ArePaths n n c.args.steps.now c.join_objects.new.steps)
+    c.args.self.now.placed c.in_err-put.ensures.nodes
+
+pub returns-in-Some-clause-joined : goal.returns-in-Some-clause-joined
+returns-in-Some-clause-joined g c =
+    let a = c.args.self.now in
+    let b = c.args.other.now in
+    heap_same _ _ refl refl
+    (joined_by_label a.names b.names a.objects b.objects c.join_objects.new.objects
+    c.requires.names c.in_ok-put.ensures.joined)
+    (λ s. ap (λ o. mask_in (option_map_or (λ m. m.value) o c.deref.result.now) s) (sym c.in-Some.is)
+    ∙ c.in_ok-masks.ensures.joined s
+    ∙ (λ i. join_masks (mask_in (c.deref.ensures i) s) (mask_in (c.deref-2.ensures i) s)))
+
+pub returns-in-Some-clause-nodes : goal.returns-in-Some-clause-nodes
+returns-in-Some-clause-nodes g c =
+    subst (λ (n : ℕ). ArePaths n n c.args.steps.now c.join_objects.new.steps)
+    c.args.self.now.placed c.in_ok-put.ensures.nodes
+
+pub returns-in-None-clause-joined : goal.returns-in-None-clause-joined
+returns-in-None-clause-joined g c =
+    let a = c.args.self.now in
+    let b = c.args.other.now in
+    heap_same _ _ refl refl
+    (joined_by_label a.names b.names a.objects b.objects c.join_objects.new.objects
+    c.requires.names c.in_ok-put.ensures.joined)
+    (λ s. ap (λ m. mask_in m s) (sym c.deref.ensures)
+    ∙ ap (λ o. mask_in (option_map_or (λ m. m.value) o c.deref.result.now) s) (sym c.in-None.is)
+    ∙ c.in_ok-masks.ensures.joined s
+    ∙ (λ i. join_masks (mask_in (c.deref.ensures i) s) (mask_in (c.deref-2.ensures i) s)))
+
+pub returns-in-None-clause-changed : goal.returns-in-None-clause-changed
+returns-in-None-clause-changed g c = λ said same.
+    let a = c.args.self.now in
+    let there = c.in_ok-put.ensures.changed said in
+    differs_at_label a.names a.objects c.join_objects.new.objects there.0 there.1
+    (ap (λ (m : HeapMap). m.property) same)
+
+pub returns-in-None-clause-same : goal.returns-in-None-clause-same
+returns-in-None-clause-same g c = λ said.
+    ap (λ objects. record (heap_of c.args.self.now) {
+      property = property_at objects c.args.self.now.names;
+    }) (c.in_ok-put.ensures.same said)
+
+pub returns-in-None-clause-nodes : goal.returns-in-None-clause-nodes
+returns-in-None-clause-nodes g c =
+    subst (λ (n : ℕ). ArePaths n n c.args.steps.now c.join_objects.new.steps)
+    c.args.self.now.placed c.in_ok-put.ensures.nodes

@@ -1,0 +1,18 @@
+use Rattle.std.proofs.Common.{Bool, ◌||◌, ap, inr, ◌∙◌}
+use Rattle.ja_base.proofs.Tests.{or_right_true}
+use Rattle.ja_abstract.specs.AbstractValue.{Labels, same_label}
+use Rattle.ja_abstract.specs.AbstractState.{new}
+use Rattle.ja_abstract.proofs.Labels.{same_label-self}
+use Rattle.ja_value.specs.Value.{labels_in}
+use Rattle.ja_aheap.proofs.kept.add_moved.Goals as goal
+
+pub returns-in_ok-insert-clause-added : goal.returns-in_ok-insert-clause-added
+returns-in_ok-insert-clause-added c =
+    let label = new c.args.site in
+    inr (ap (λ (set : Labels). set label) c.in_ok-insert.ensures.inserted
+    ∙ or_right_true (labels_in c.args.labels.now label) (same_label-self label))
+
+pub returns-in_ok-insert-clause-kept : goal.returns-in_ok-insert-clause-kept
+returns-in_ok-insert-clause-kept c = λ s there.
+    ap (λ (set : Labels). set (new s)) c.in_ok-insert.ensures.inserted
+    ∙ ap (λ (b : Bool). b || same_label (new c.args.site) (new s)) there

@@ -1,0 +1,6 @@
+pub mod Entries
+pub mod Heap
+pub mod Joined
+pub mod Numbers
+pub mod Objects
+pub mod code

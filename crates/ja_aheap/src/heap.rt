@@ -1,0 +1,22 @@
+ghost use Rattle.std.specs.Prelude.{◌≡◌, ◌<◌, ◌*◌, length};
+ghost use Rattle.ja_value.specs.Labels.{mask_in};
+ghost use Rattle.ja_aheap.specs.code.Masks.{NothingBeyond};
+
+use crate::AObject;
+use ja_abstract::Mask;
+use ja_trie::Shared;
+use std::collections::BTreeMap;
+use std::rc::Rc;
+
+/// An abstract heap of a program with so many sites and names: an object for each label, and a mask
+/// for each site.
+#[derive(Drop)]
+pub struct AHeap {
+    pub(crate) sites: u32,
+    pub(crate) names: u32,
+    pub(crate) objects: Shared<AObject>,
+    pub(crate) masks: Rc<BTreeMap<u64, Mask>>,
+    ghost placed: { length objects ≡ 2 * sites },
+    ghost few: { 2 * sites < 4294967296 },
+    ghost counted: { NothingBeyond sites (mask_in masks.value) },
+}
