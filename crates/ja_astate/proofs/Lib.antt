@@ -1,0 +1,4 @@
+pub mod RegisterLemmas
+pub mod StateLemmas
+pub mod MadeLemmas
+pub mod OpeningLemmas
