@@ -1,0 +1,29 @@
+-- What a reader reads, and what its readings stand for.
+use Rattle.std.specs.Prelude.{◌≡◌}
+use Rattle.ja_abstract.specs.AbstractValue.{AbstractValue, AbstractProperty}
+use Rattle.ja_abstract.specs.Reading.{View}
+use Rattle.ja_abstract.specs.Resolved.{Demands}
+use Rattle.ja_value.specs.Value.{value_of, property_of}
+use Rattle.ja_aheap.specs.Entries.{entries_of}
+use Rattle.ja_aheap.specs.Objects.{demands_in}
+use Rattle.ja_astate.specs.State.{state_of}
+use Rattle.ja_look.specs.declared.gets.Looked.{Looked}
+use Rattle.ja_look.specs.declared.scopes.Found.{Found}
+use Rattle.ja_look.specs.declared.reader.Reader.{Reader}
+
+abbrev pub view_of : Reader → View
+view_of r = record {
+  program = r.program.now;
+  state = state_of r.state.now;
+  entries = entries_of r.entries.now;
+}
+
+-- a property that was read, with what it demands
+pub record IsLooked (q : AbstractProperty) (demands : Demands) (looked : Looked) : Type 0 where
+  pub property : property_of looked.property ≡ q
+  pub demands_are : demands_in looked.demands ≡ demands
+
+-- the objects of a name
+pub record IsFound (v : AbstractValue) (demands : Demands) (found : Found) : Type 0 where
+  pub value : value_of found.value ≡ v
+  pub demands_are : demands_in found.demands ≡ demands

@@ -1,0 +1,20 @@
+ghost use Rattle.std.specs.Prelude.{◌≡◌, length};
+ghost use Rattle.ja_aheap.specs.Heap.{heap_of, IsHeapOf};
+
+use ja_aheap::DemandedEntries;
+use ja_astate::AState;
+use ja_graph::Program;
+use std::alloc::Global;
+
+/// Reads an abstract state of a program, with the values at the entry of its context.
+#[derive(Clone, Copy)]
+pub struct Reader<'a> {
+    pub alloc: Global,
+    pub program: &'a Program,
+    /// How many sites the program has.
+    pub sites: u32,
+    pub state: &'a AState,
+    pub entries: &'a DemandedEntries,
+    pub ghost sites_are: { sites ≡ length program.now.sites },
+    pub ghost heap_is: { IsHeapOf program.now (heap_of state.now.heap) },
+}
