@@ -1,7 +1,9 @@
 -- Values that are given at keys of a program.
-use Rattle.std.specs.Prelude.{◌≡◌, ◌&&◌, if◌then◌else◌, Option, Some, Result, Ok, Err, IfOk, OnOk, IsTrue, IsSome}
-use Rattle.std.proofs.Common.{inl, inr, ap, ◌∙◌, subst}
-use Rattle.std.proofs.lemmas.Bool.{cases_Bool, and_parts, cond-false}
+use Rattle.std.specs.Prelude.{◌≡◌, ◌&&◌, if◌then◌else◌, List, [], ◌∷◌, Option, Some, Result, Ok, Err, All, IfOk, OnOk, IsTrue, IsSome, is_some, slice_get}
+use Rattle.std.proofs.Common.{inl, inr, refl, ap, sym, ◌∙◌, subst, set, get_or}
+use Rattle.std.proofs.lemmas.Bool.{cases_Bool, and_parts, cond-false, false≢true}
+use Rattle.std.proofs.lemmas.List.Elements.{All-set, recursion_from_All}
+use Rattle.std.proofs.lemmas.Option.{same_Some}
 use Rattle.ja_base.specs.declared.ids.Label.{Label}
 use Rattle.ja_graph.specs.declared.program.Program.{Program}
 use Rattle.ja_abstract.specs.declared.abstraction.Key.{Key}
@@ -9,6 +11,9 @@ use Rattle.ja_abstract.specs.AbstractValue.{AbstractProperty, same_label}
 use Rattle.ja_abstract.specs.AbstractState.{is_key, same_key}
 use Rattle.ja_abstract.specs.Resolved.{Entries}
 use Rattle.ja_abstract.proofs.Keys.{same_key-true}
+use Rattle.ja_rules.specs.declared.table.ATable.{ATable}
+use Rattle.ja_rules.specs.declared.table.ContextTable.{ContextTable}
+use Rattle.ja_rules.specs.Tables.{Fits, FitsContext}
 
 pub given_keys : (p : Program) (was now : Entries) (label : Label) (key : Key)
     (q : AbstractProperty) → IsTrue (is_key p key)
@@ -22,6 +27,52 @@ given_keys p was now label key q in_range keys e l k there =
       | inr n ↦ keys l k (subst (λ (o : Option AbstractProperty). IsSome o)
           (at ∙ cond-false _ _ _ n) there)
     ]
+
+-- ---- the first context of a table
+
+set_first : (xs : List ContextTable) (c d : ContextTable) → slice_get xs 0 ≡ Some c
+    → slice_get (set xs 0 d) 0 ≡ Some d
+set_first [] c d at = absurd (false≢true (ap is_some at))
+set_first (e ∷ es) c d at = refl
+
+lent_first : (xs : List ContextTable) (c f : ContextTable) → c ≡ get_or xs 0 c
+    → slice_get xs 0 ≡ Some f → c ≡ f
+lent_first [] c f lent at = absurd (false≢true (ap is_some at))
+lent_first (e ∷ es) c f lent at = lent ∙ same_Some e f at
+
+all_first : (P : ContextTable → Type 0) (xs : List ContextTable) (c : ContextTable) → All P xs
+    → slice_get xs 0 ≡ Some c → P c
+all_first P [] c all at = absurd (false≢true (ap is_some at))
+all_first P (e ∷ es) c all at = subst P (same_Some e c at) (recursion_from_All P (e ∷ es) all).0
+
+module _ (p : Program) (t : ATable) (c : ContextTable) (fits : Fits p t)
+    (lent : c ≡ get_or t.contexts.items 0 c) where
+  is_first : c ≡ fits.first
+  is_first = lent_first t.contexts.items c fits.first lent fits.first_is
+
+  at_first : slice_get t.contexts.items 0 ≡ Some c
+  at_first = fits.first_is ∙ ap Some (sym is_first)
+
+  -- it fits the program
+  pub lent_fits : FitsContext p c
+  lent_fits = all_first (FitsContext p) t.contexts.items c fits.each at_first
+
+  -- and where another one that fits it is put in its place, so does the table
+  pub table_fits : (u : ATable) (d : ContextTable) → u.contexts.items ≡ set t.contexts.items 0 d
+      → d.context ≡ c.context → FitsContext p d → Fits p u
+  table_fits u d items same h = record {
+    each =
+        subst (All (FitsContext p)) (sym items)
+        (All-set (FitsContext p) t.contexts.items 0 d h fits.each);
+    first = d;
+    first_is =
+        ap (λ (xs : List ContextTable). slice_get xs 0) items
+        ∙ set_first t.contexts.items c d at_first;
+    first_is_root =
+        same ∙ ap (λ (x : ContextTable). x.context) is_first ∙ fits.first_is_root;
+  }
+
+-- ---- what calls ensure
 
 -- a fact where a call succeeds, from what it ensures there
 pub on_ok : {A E : Type 0} (P : A → Type 0) (Q : Type 0) (r : Result A E) → ((a : A) → P a → Q)

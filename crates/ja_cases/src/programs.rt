@@ -1,7 +1,9 @@
 //! The programs of texts, and why others have none.
 
-ghost use Rattle.std.specs.Prelude.{IfOk};
+ghost use Rattle.std.specs.Prelude.{[], IfOk};
+ghost use Rattle.ja_graph.specs.Kinds.{AreBuilt};
 ghost use Rattle.ja_graph.specs.WellFormed.{IsWellFormed};
+ghost use Rattle.ja_load.specs.Loading.{IsProgramOf};
 
 use crate::built_ins::put_objects;
 use crate::out::Out;
@@ -10,14 +12,16 @@ use crate::trees::{put_fault, put_place};
 use crate::well_formed::put_well_formed;
 use ja_base::NodeId;
 use ja_graph::Program;
+use ja_load::laws::programs_are_built;
 use ja_load::{LoadFault, load};
-use ja_model::Item;
+use ja_rows::Item;
 use ja_rules::{SolveFault, solve};
 use std::alloc::Global;
 
 /// The program of a text, which is well formed.
 fn loaded(alloc: Global, text: &str) -> Result<Program, LoadFault>
-    ensures { IfOk result IsWellFormed }
+    ensures program { IfOk result (IsProgramOf text.now []) }
+    ensures well_formed { IfOk result IsWellFormed }
 {
     if text.len() > 16_777_216 {
         return Err(LoadFault::Nodes);
@@ -48,7 +52,8 @@ fn put_sizes(out: &mut Out, program: &Program, text: &str) {
 
 /// The visits of a budget of one. It is spent on the first node, whose base isn't known yet.
 fn put_visits(out: &mut Out, program: &Program)
-    requires { IsWellFormed program.now }
+    requires program { IsWellFormed program.now }
+    requires built { AreBuilt program.now }
 {
     if let Err(SolveFault::Spent { visits }) = solve(out.alloc, program, 1) {
         for item in visits.as_slice() {
@@ -65,7 +70,8 @@ fn put_visits(out: &mut Out, program: &Program)
 
 /// What is told of a program, by its kind.
 fn put_kind(out: &mut Out, kind: &str, program: &mut Program, text: &str)
-    requires { IsWellFormed program.old }
+    requires program { IsWellFormed program.old }
+    requires built { AreBuilt program.old }
 {
     match kind {
         "built" => out.put("built"),
@@ -80,7 +86,10 @@ fn put_kind(out: &mut Out, kind: &str, program: &mut Program, text: &str)
 /// What is told of the program of a text, or why it has none.
 pub fn of_text(out: &mut Out, kind: &str, text: &str) {
     match loaded(out.alloc, text) {
-        Ok(mut program) => put_kind(out, kind, &mut program, text),
+        Ok(mut program) => {
+            programs_are_built();
+            put_kind(out, kind, &mut program, text)
+        }
         Err(fault) => put_cause(out, fault),
     }
 }

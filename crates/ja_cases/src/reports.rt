@@ -1,18 +1,18 @@
 //! What is printed of values that no program has yet.
 
-ghost use Rattle.std.specs.Prelude.{◌+◌, ◌<◌, ◌^◌, IfOk, IsTrue, OnOk, length};
+ghost use Rattle.std.specs.Prelude.{◌≡◌, ◌+◌, ◌<◌, ◌^◌, IfOk, IsTrue, OnOk, length};
 ghost use Rattle.ja_graph.specs.WellFormed.{IsWellFormed};
 ghost use Rattle.ja_abstract.specs.AbstractState.{is_key};
-ghost use Rattle.ja_rules.specs.Readings.{Fits};
+ghost use Rattle.ja_rules.specs.Tables.{Fits, FitsContext};
 
 use crate::out::{Out, add};
 use ja_abstract::{AAttrs, Flags, Key, May, NumberPart, Slot, TextPart};
 use ja_base::{Context, FnId, Label, Memory, NameId, NodeId, Place, Seq, Site};
 use ja_graph::{GLOBAL, Program, well_formed};
-use ja_model::Item;
 use ja_prim::{Int, Text16};
-use ja_report::{Refusal, refusal_text, report, spent_text};
-use ja_rules::{ATable, opening};
+use ja_report::{Refusal, refusal_text, report, spent_text, unfollowed_text};
+use ja_rows::{Edge, Item};
+use ja_rules::{ATable, ContextTable, opening};
 use ja_value::{AProp, AValue};
 use std::{mem, str};
 
@@ -68,16 +68,17 @@ fn value(out: &Out) -> AValue {
 fn give(
     out: &Out,
     program: &Program,
-    table: &mut ATable,
+    own: &mut ContextTable,
     label: Label,
     key: Key,
     property: AProp,
 ) -> Result<(), Memory>
-    requires fits { Fits program.now table.old }
+    requires fits { FitsContext program.now own.old }
     requires key { IsTrue (is_key program.now key) }
-    ensures { OnOk result (Fits program.now table.new) }
+    ensures fits { OnOk result (FitsContext program.now own.new) }
+    ensures context { own.new.context ≡ own.old.context }
 {
-    table.entries.set(out.alloc, label, key, property)
+    own.entries.set(out.alloc, label, key, property)
 }
 
 /// A property of a value.
@@ -93,6 +94,31 @@ fn none(out: &Out) -> AProp {
     property(AValue::of_flags(out.alloc, NO_FLAGS))
 }
 
+/// Gives the global object values at three names from the first on, and at two other keys.
+fn give_all(out: &Out, program: &Program, own: &mut ContextTable, first: u32) -> Result<(), Memory>
+    requires fits { FitsContext program.now own.old }
+    requires names { first + 2 < length program.now.names }
+    requires few { first + 2 < 2 ^ 32 }
+    ensures fits { OnOk result (FitsContext program.now own.new) }
+    ensures context { OnOk result (own.new.context ≡ own.old.context) }
+{
+    let label = Label {
+        site: GLOBAL,
+        old: false,
+    };
+    let known = property(value(out));
+    give(out, program, own, label, Key::Name(NameId(first)), known)?;
+    let none_at = Key::Name(NameId(first + 1));
+    give(out, program, own, label, none_at, none(out))?;
+    let none_at = Key::Name(NameId(first + 2));
+    give(out, program, own, label, none_at, none(out))?;
+    let none_at = Key::OtherIndex;
+    give(out, program, own, label, none_at, none(out))?;
+    let none_at = Key::Slot(Slot::Outer);
+    give(out, program, own, label, none_at, none(out))?;
+    Ok(())
+}
+
 /// A table with values at three names from the first on, and at two other keys.
 fn table_of(out: &Out, program: &Program, first: u32) -> Result<ATable, Memory>
     requires program { IsWellFormed program.now }
@@ -101,27 +127,7 @@ fn table_of(out: &Out, program: &Program, first: u32) -> Result<ATable, Memory>
     ensures { IfOk result (Fits program.now) }
 {
     let mut table = opening(out.alloc, program)?;
-    let label = Label {
-        site: GLOBAL,
-        old: false,
-    };
-    let known = property(value(out));
-    give(
-        out,
-        program,
-        &mut table,
-        label,
-        Key::Name(NameId(first)),
-        known,
-    )?;
-    let none_at = Key::Name(NameId(first + 1));
-    give(out, program, &mut table, label, none_at, none(out))?;
-    let none_at = Key::Name(NameId(first + 2));
-    give(out, program, &mut table, label, none_at, none(out))?;
-    let none_at = Key::OtherIndex;
-    give(out, program, &mut table, label, none_at, none(out))?;
-    let none_at = Key::Slot(Slot::Outer);
-    give(out, program, &mut table, label, none_at, none(out))?;
+    give_all(out, program, &mut table.contexts[0], first)?;
     Ok(table)
 }
 
@@ -151,20 +157,55 @@ fn put_report(out: &mut Out, program: &Program)
     }
 }
 
+/// A context of the program's own function.
+fn context(site: u32, old: bool) -> Context {
+    Context {
+        function: FnId(0),
+        receiver: Label {
+            site: Site(site),
+            old,
+        },
+    }
+}
+
+/// The step of a node.
+fn step(site: u32, old: bool, node: u32) -> Item {
+    Item::Step {
+        context: context(site, old),
+        node: NodeId(node),
+    }
+}
+
 /// The visits of a spent budget.
 fn put_spent(out: &mut Out, program: &Program) {
-    let step = |site: u32, old: bool, node: u32| Item::Step {
-        context: Context {
-            function: FnId(0),
-            receiver: Label {
-                site: Site(site),
-                old,
-            },
+    let edge = Edge {
+        caller: context(0, false),
+        node: NodeId(17),
+        callee: Context {
+            function: FnId(43),
+            ..context(99, true)
         },
-        node: NodeId(node),
     };
-    let visits = [Item::Open, step(0, false, 3), step(99, true, 17)];
+    let visits = [
+        Item::Open,
+        step(0, false, 3),
+        step(99, true, 17),
+        Item::Fill(edge),
+        Item::Back(edge),
+    ];
     if let Ok(text) = spent_text(out.alloc, program, &visits) {
+        put_bytes(out, text.as_slice());
+    }
+}
+
+/// The visits up to a call.
+fn put_unfollowed(out: &mut Out, program: &Program) {
+    let place = Place {
+        line: 4,
+        column: 20,
+    };
+    let visits = [Item::Open, step(0, false, 3)];
+    if let Ok(text) = unfollowed_text(out.alloc, program, place, &visits) {
         put_bytes(out, text.as_slice());
     }
 }
@@ -183,6 +224,7 @@ fn put_refusal(out: &mut Out) {
 /// The reports of a program, and a refusal.
 pub fn put_reports(out: &mut Out, program: &mut Program) {
     put_spent(out, program);
+    put_unfollowed(out, program);
     add_names(out, program);
     if well_formed(program) {
         put_report(out, program);

@@ -9,7 +9,7 @@ use Rattle.ja_abstract.specs.declared.abstraction.Key.{Key}
 use Rattle.ja_abstract.specs.AbstractValue.{AbstractProperty}
 use Rattle.ja_abstract.specs.AbstractState.{labels_of, labels_below, keys_of, keys_below}
 use Rattle.ja_abstract.specs.Resolved.{Entries}
-use Rattle.ja_state.specs.State.{pairs_of}
+use Rattle.ja_aheap.specs.Entries.{pairs_of}
 use Rattle.ja_report.specs.declared.output.Output.{Output}
 use Rattle.ja_report.specs.Lines.{Line, entry, entry_line, entry_lines}
 use Rattle.ja_report.specs.code.Output.{Adds}

@@ -57,7 +57,7 @@ pub adds_all : {X : Type 0} (p : Program) (f : X → List Line) (a b : Output) (
     → Adds p (flat_map f (take i xs)) a b → length xs ≤ i → Adds p (flat_map f xs) a b
 adds_all p f a b xs i was past = adds_same p _ _ a b (ap (flat_map f) (take_all i xs past)) was
 
-range_more : (i : ℕ) → range_with_len 0 (i + 1) ≡ range_with_len 0 i ++ i ∷ []
+pub range_more : (i : ℕ) → range_with_len 0 (i + 1) ≡ range_with_len 0 i ++ i ∷ []
 range_more i =
     sym (map-id (range_with_len 0 (i + 1)))
     ∙ map-range_with_len_more (λ (n : ℕ). n) 0 i i (omega arith)

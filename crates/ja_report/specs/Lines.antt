@@ -18,7 +18,7 @@ use Rattle.ja_abstract.specs.declared.abstraction.Key.{Key}
 use Rattle.ja_abstract.specs.AbstractValue.{AbstractValue, AbstractProperty, has_part}
 use Rattle.ja_abstract.specs.AbstractState.{AbstractState, sites_below, labels_of, keys_of}
 use Rattle.ja_abstract.specs.Resolved.{Entries}
-use Rattle.ja_model.specs.Table.{Table, root}
+use Rattle.ja_rows.specs.Table.{Table, root}
 use Rattle.ja_report.specs.Texts.{key_text, site_text, label_text, register_text, value_labels, value_text, attrs_text}
 
 -- a demanded value at entry, a node that has a state, and what that state has besides what it had

@@ -6,17 +6,19 @@ use Rattle.std.specs.Option.{option_map_or}
 use Rattle.std.specs.Fmt.{decimal}
 use lib.Chars.{codes}
 use Rattle.ja_base.specs.declared.ids.Context.{Context}
+use Rattle.ja_base.specs.declared.ids.Place.{Place}
 use Rattle.ja_prim.specs.declared.signature.Kinds.{Kinds}
 use Rattle.ja_prim.specs.declared.signature.Signature.{Signature}
 use Rattle.ja_graph.specs.declared.program.Program.{Program}
 use Rattle.ja_graph.specs.declared.program.SiteInfo.{SiteInfo}
-use Rattle.ja_model.specs.declared.table.Item.{Item}
-use Rattle.ja_model.specs.declared.table.Item.TheVariants.{Open, Step}
-use Rattle.ja_model.specs.declared.table.WarningKind.{WarningKind}
-use Rattle.ja_model.specs.declared.table.WarningKind.TheVariants.{NotAFunction, UnboundName}
-use Rattle.ja_model.specs.declared.table.Warning.{Warning}
+use Rattle.ja_rows.specs.declared.table.Edge.{Edge}
+use Rattle.ja_rows.specs.declared.table.Item.{Item}
+use Rattle.ja_rows.specs.declared.table.Item.TheVariants.{Open, Step, Fill, Back}
+use Rattle.ja_rows.specs.declared.table.WarningKind.{WarningKind}
+use Rattle.ja_rows.specs.declared.table.WarningKind.TheVariants.{NotAFunction, NoObject, UnboundName, ScopeRow}
+use Rattle.ja_rows.specs.declared.table.Warning.{Warning}
 use Rattle.ja_abstract.specs.AbstractState.{site_of}
-use Rattle.ja_model.specs.Table.{Table, root}
+use Rattle.ja_rows.specs.Table.{Table, root}
 use Rattle.ja_report.specs.Texts.{builtin_of, device_of, numbered_site, label_text, part, joined}
 use Rattle.ja_texts.specs.Texts.{place_text, plain, class_text}
 use Rattle.ja_report.specs.Lines.{line_text, line_sites, entry_lines, table_lines}
@@ -46,7 +48,9 @@ devices_text devices = flat_map device_line devices
 -- its place, what may go wrong there, and whether it surely does
 abbrev pub kind_text : WarningKind → List ℕ
 kind_text NotAFunction = codes "call of a non-function"
+kind_text NoObject = codes "property of null or undefined"
 kind_text UnboundName = codes "unbound name"
+kind_text ScopeRow = codes "scope row"
 
 abbrev pub certainty_text : Bool → List ℕ
 certainty_text certain = if certain then codes "certain" else codes "possible"
@@ -67,10 +71,19 @@ warnings_text ws =
 unfoldable pub context_text : Program → Context → List ℕ
 context_text p x = decimal x.function.0 ++ codes " " ++ label_text p x.receiver
 
--- a visit fills the values at entry, or takes the step of a node
+-- a call edge: its caller and node, and its callee
+unfoldable pub edge_text : Program → Edge → List ℕ
+edge_text p e =
+    context_text p e.caller ++ codes " " ++ decimal e.node.0 ++ codes " -> "
+    ++ context_text p e.callee
+
+-- a visit fills the values at the program's entry, takes the step of a node, fills the values at
+-- the entry of a callee, or gives its exits back
 unfoldable pub item_text : Program → Item → List ℕ
 item_text p Open = codes "open\n"
 item_text p (Step x n) = codes "step " ++ context_text p x ++ codes " " ++ decimal n.0 ++ codes "\n"
+item_text p (Fill e) = codes "fill " ++ edge_text p e ++ codes "\n"
+item_text p (Back e) = codes "back " ++ edge_text p e ++ codes "\n"
 
 unfoldable pub visits_text : Program → List Item → List ℕ
 visits_text p visits =
@@ -142,4 +155,11 @@ report_text p t visits warnings =
 unfoldable pub spent_text : Program → List Item → List ℕ
 spent_text p visits =
     codes "tajs spent " ++ decimal (length visits) ++ codes "\n" ++ flat_map (item_text p) visits
+    ++ codes "end\n"
+
+-- what is written where a call is met, which isn't followed yet: the place of the step that gives
+-- the call edge, and the visits, that step the last of them
+unfoldable pub unfollowed_text : Program → Place → List Item → List ℕ
+unfollowed_text p place visits =
+    codes "unbuilt " ++ place_text place ++ codes "\n" ++ flat_map (item_text p) visits
     ++ codes "end\n"

@@ -1,13 +1,14 @@
 //! Writers of the lines of a table: values at entry, and states.
 
-ghost use Rattle.std.specs.Prelude.{◌≡◌, ◌<◌, ◌++◌, [], ◌∷◌, false, OnOk, vec_len};
+ghost use Rattle.std.specs.Prelude.{◌≡◌, ◌++◌, [], ◌∷◌, false, OnOk};
+ghost use Rattle.std.specs.List.{flat_map};
 ghost use Rattle.ja_graph.specs.WellFormed.{IsWellFormed};
 ghost use Rattle.ja_machine.specs.Frames.{registers_of};
 ghost use Rattle.ja_machine.specs.Machine.{program_function};
 ghost use Rattle.ja_abstract.specs.AbstractValue.{has_part};
-ghost use Rattle.ja_abstract.specs.AbstractState.{keys_of, labels_below};
+ghost use Rattle.ja_abstract.specs.AbstractState.{keys_of, labels_below, new, old};
 ghost use Rattle.ja_value.specs.Value.{value_of, property_of};
-ghost use Rattle.ja_state.specs.State.{object_of, state_of};
+ghost use Rattle.ja_astate.specs.State.{state_of, IsStateOf};
 ghost use Rattle.ja_report.specs.Lines.{entry, point, owner_text, property_text, value_sites, is_undefined, register_line, register_lines, has_attrs, is_known, is_entry, property_line, object_lines, property_lines, mask_line, mask_lines, state_lines};
 ghost use Rattle.ja_report.specs.code.Output.{Adds};
 
@@ -15,9 +16,9 @@ use crate::output::Output;
 use crate::texts::{push_attrs, push_key, push_register, push_site};
 use crate::values::{name_label, push_value, site_count};
 use ja_abstract::{AAttrs, Key, Mask, May, NumberPart, TextPart};
+use ja_astate::AState;
 use ja_base::{Label, Memory, Reg, Site};
 use ja_graph::Program;
-use ja_state::{AObject, AState};
 use ja_texts::push_number;
 use ja_value::{AProp, AValue};
 use std::alloc::Global;
@@ -104,26 +105,46 @@ fn push_property(
     Ok(())
 }
 
+#[tactic(auto, using(crate::proofs::ObjectLemmas::property_kept))]
+fn push_key_line(
+    out: &mut Output,
+    alloc: Global,
+    program: &Program,
+    label: Label,
+    key: Key,
+    state: &AState,
+) -> Result<(), Memory>
+    requires { IsWellFormed program.now }
+    ensures { OnOk result (Adds program.now
+        (property_line program.now label key ((state_of state.now).property label key))
+        out.old out.new) }
+{
+    if let Some(property) = state.heap.property(label, key) {
+        push_property(out, alloc, program, label, key, property)?;
+    }
+    Ok(())
+}
+
 fn push_object(
     out: &mut Output,
     alloc: Global,
     program: &Program,
     keys: &[Key],
     label: Label,
-    object: &AObject,
+    state: &AState,
 ) -> Result<(), Memory>
     requires program { IsWellFormed program.now }
     requires keys { keys.now ≡ keys_of program.now }
-    ensures { OnOk result (Adds program.now (object_lines program.now label (object_of object.now))
-        out.old out.new) }
+    ensures { OnOk result (Adds program.now
+        (object_lines program.now label ((state_of state.now).property label)) out.old out.new) }
 {
     for key in keys {
-        push_property(out, alloc, program, label, *key, object.read(*key))?;
+        push_key_line(out, alloc, program, label, *key, state)?;
     }
     Ok(())
 }
 
-#[tactic(auto, using(crate::proofs::ObjectLemmas::object_kept))]
+/// Writes the lines of a label, which has none where each property is as at entry.
 fn push_label_lines(
     out: &mut Output,
     alloc: Global,
@@ -137,9 +158,30 @@ fn push_label_lines(
     ensures { OnOk result (Adds program.now
         (object_lines program.now label ((state_of state.now).property label)) out.old out.new) }
 {
-    if let Some(object) = state.object(label) {
-        push_object(out, alloc, program, keys, label, object)?;
+    if state.heap.is_as_at_entry(label) {
+        return Ok(());
     }
+    push_object(out, alloc, program, keys, label, state)?;
+    Ok(())
+}
+
+/// Writes the lines of the two labels of a site.
+fn push_both_labels(
+    out: &mut Output,
+    alloc: Global,
+    program: &Program,
+    keys: &[Key],
+    site: Site,
+    state: &AState,
+) -> Result<(), Memory>
+    requires program { IsWellFormed program.now }
+    requires keys { keys.now ≡ keys_of program.now }
+    ensures { OnOk result (Adds program.now
+        (flat_map (λ l. object_lines program.now l ((state_of state.now).property l))
+        (new site ∷ old site ∷ [])) out.old out.new) }
+{
+    push_label_lines(out, alloc, program, keys, Label { site, old: false }, state)?;
+    push_label_lines(out, alloc, program, keys, Label { site, old: true }, state)?;
     Ok(())
 }
 
@@ -155,9 +197,8 @@ fn push_properties(
     ensures { OnOk result (Adds program.now (property_lines program.now (state_of state.now))
         out.old out.new) }
 {
-    let labels = state.listed(alloc, site_count(program))?;
-    for label in &labels {
-        push_label_lines(out, alloc, program, keys, *label, state)?;
+    for site in 0..site_count(program) {
+        push_both_labels(out, alloc, program, keys, Site(site), state)?;
     }
     Ok(())
 }
@@ -231,7 +272,7 @@ fn push_registers(
     state: &AState,
 ) -> Result<(), Memory>
     requires program { IsWellFormed program.now }
-    requires registers { vec_len state.now.registers ≡ registers_of program.now program_function }
+    requires state { IsStateOf program.now (registers_of program.now program_function) state.now }
     ensures { OnOk result (Adds program.now (register_lines program.now (state_of state.now))
         out.old out.new) }
 {
@@ -267,13 +308,13 @@ fn push_masks(
     program: &Program,
     state: &AState,
 ) -> Result<(), Memory>
-    requires { IsWellFormed program.now }
+    requires { IsStateOf program.now (registers_of program.now program_function) state.now }
     ensures { OnOk result (Adds program.now (mask_lines program.now (state_of state.now)) out.old
         out.new) }
 {
-    let sites = state.masked(alloc, site_count(program))?;
+    let sites = state.heap.masked(alloc)?;
     for site in &sites {
-        push_mask(out, program, *site, state.mask(*site))?;
+        push_mask(out, program, *site, state.heap.mask(*site))?;
     }
     Ok(())
 }
@@ -301,7 +342,7 @@ pub(crate) fn push_state(
 ) -> Result<(), Memory>
     requires program { IsWellFormed program.now }
     requires keys { keys.now ≡ keys_of program.now }
-    requires registers { vec_len state.now.registers ≡ registers_of program.now program_function }
+    requires state { IsStateOf program.now (registers_of program.now program_function) state.now }
     ensures { OnOk result (Adds program.now (state_lines program.now node (state_of state.now))
         out.old out.new) }
 {

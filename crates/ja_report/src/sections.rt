@@ -4,18 +4,20 @@ ghost use Rattle.std.specs.Prelude.{◌≡◌, ◌++◌, OnOk, IfOk, ℕ, ◌==�
 ghost use Rattle.std.specs.List.{flat_map, list_any};
 ghost use Rattle.std.specs.Ordering.{nat_cmp};
 ghost use Rattle.std.specs.BTreeSet.{contains};
+ghost use Rattle.std.specs.Fmt.{decimal};
+ghost use lib.Chars.{codes};
 ghost use Rattle.ja_graph.specs.WellFormed.{IsWellFormed};
 ghost use Rattle.ja_abstract.specs.AbstractState.{site_of};
 ghost use Rattle.ja_report.specs.Texts.{builtin_of};
 ghost use Rattle.ja_report.specs.code.Texts.{with_bars};
-ghost use Rattle.ja_report.specs.Report.{kind_parts, kinds_text, device_line, devices_text, kind_text, certainty_text, warning_text, warnings_text, context_text, item_text, visits_text, info_text, is_text_site, site_line, named_sites, sites_text};
+ghost use Rattle.ja_report.specs.Report.{kind_parts, kinds_text, device_line, devices_text, kind_text, certainty_text, warning_text, warnings_text, context_text, edge_text, item_text, visits_text, info_text, is_text_site, site_line, named_sites, sites_text};
 
 use crate::texts::{device_of, push_label, push_numbered_site};
 use crate::values::{close_parts, push_part, site_count};
-use ja_base::{Context, Memory, Site};
+use ja_base::{Context, Memory, NodeId, Site};
 use ja_graph::Program;
-use ja_model::{Item, Warning, WarningKind};
 use ja_prim::{Kinds, Signature};
+use ja_rows::{Edge, Item, Warning, WarningKind};
 use ja_texts::{class_text, push_number, push_place, push_plain};
 use std::alloc::Global;
 use std::collections::BTreeSet;
@@ -73,7 +75,9 @@ fn kind_text(kind: WarningKind) -> &'static [u8]
 {
     match kind {
         WarningKind::NotAFunction => b"call of a non-function",
+        WarningKind::NoObject => b"property of null or undefined",
         WarningKind::UnboundName => b"unbound name",
+        WarningKind::ScopeRow => b"scope row",
     }
 }
 
@@ -133,19 +137,61 @@ pub(crate) fn push_context(
     Ok(())
 }
 
+#[tactic(auto, unfolding(crate::specs::Report::edge_text))]
+fn push_edge(text: &mut Vec<u8>, program: &Program, edge: Edge) -> Result<(), Memory>
+    ensures { OnOk result (text.new.items ≡ text.old.items ++ edge_text program.now edge) }
+{
+    push_context(text, program, edge.caller)?;
+    text.push(b' ')?;
+    push_number(text, u64::from(edge.node.0))?;
+    text.extend_from_slice(b" -> ")?;
+    push_context(text, program, edge.callee)?;
+    Ok(())
+}
+
+/// Adds a line of a word and a call edge.
+fn push_edge_line(
+    text: &mut Vec<u8>,
+    program: &Program,
+    word: &[u8],
+    edge: Edge,
+) -> Result<(), Memory>
+    ensures { OnOk result (text.new.items ≡ text.old.items ++ word.now
+        ++ edge_text program.now edge ++ codes "\n") }
+{
+    text.extend_from_slice(word)?;
+    push_edge(text, program, edge)?;
+    text.push(b'\n')?;
+    Ok(())
+}
+
+/// Adds the line of the step of a node.
+fn push_step(
+    text: &mut Vec<u8>,
+    program: &Program,
+    context: Context,
+    node: NodeId,
+) -> Result<(), Memory>
+    ensures { OnOk result (text.new.items ≡ text.old.items ++ codes "step "
+        ++ context_text program.now context ++ codes " " ++ decimal node.0 ++ codes "\n") }
+{
+    text.extend_from_slice(b"step ")?;
+    push_context(text, program, context)?;
+    text.push(b' ')?;
+    push_number(text, u64::from(node.0))?;
+    text.push(b'\n')?;
+    Ok(())
+}
+
 #[tactic(auto, unfolding(crate::specs::Report::item_text))]
 fn push_item(text: &mut Vec<u8>, program: &Program, item: Item) -> Result<(), Memory>
     ensures { OnOk result (text.new.items ≡ text.old.items ++ item_text program.now item) }
 {
     match item {
         Item::Open => text.extend_from_slice(b"open\n")?,
-        Item::Step { context, node } => {
-            text.extend_from_slice(b"step ")?;
-            push_context(text, program, context)?;
-            text.push(b' ')?;
-            push_number(text, u64::from(node.0))?;
-            text.push(b'\n')?;
-        }
+        Item::Step { context, node } => push_step(text, program, context, node)?,
+        Item::Fill(edge) => push_edge_line(text, program, b"fill ", edge)?,
+        Item::Back(edge) => push_edge_line(text, program, b"back ", edge)?,
     }
     Ok(())
 }

@@ -1,23 +1,25 @@
 //! Writers of the lines of a whole table.
 
 ghost use Rattle.std.specs.Prelude.{◌≡◌, ◌<◌, [], ◌∷◌, OnOk, IfOk, length, vec_len};
+ghost use Rattle.std.specs.Option.{option_map_or};
 ghost use Rattle.ja_base.specs.declared.ids.Label.{Label};
 ghost use Rattle.ja_graph.specs.WellFormed.{IsWellFormed};
 ghost use Rattle.ja_abstract.specs.AbstractState.{keys_below, keys_of};
 ghost use Rattle.ja_value.specs.Value.{property_of};
-ghost use Rattle.ja_state.specs.State.{entries_of};
-ghost use Rattle.ja_rules.specs.Readings.{table_of, Fits};
-ghost use Rattle.ja_report.specs.Lines.{entry, entry_line, entry_lines, node_lines, point_lines};
+ghost use Rattle.ja_rows.specs.Table.{root};
+ghost use Rattle.ja_aheap.specs.Entries.{entries_of};
+ghost use Rattle.ja_rules.specs.Tables.{states_in, table_of, Fits, FitsContext};
+ghost use Rattle.ja_report.specs.Lines.{entry, entry_line, entry_lines, point_lines, state_lines};
 ghost use Rattle.ja_report.specs.code.Output.{Adds};
 
 use crate::lines::{push_property_text, push_state};
 use crate::output::Output;
 use crate::values::site_count;
 use ja_abstract::{Key, Slot};
+use ja_aheap::DemandedEntries;
 use ja_base::{Label, Memory, NameId};
 use ja_graph::Program;
-use ja_rules::ATable;
-use ja_state::DemandedEntries;
+use ja_rules::{ATable, ContextTable};
 use ja_value::AProp;
 use std::alloc::Global;
 
@@ -120,17 +122,19 @@ fn push_node(
     alloc: Global,
     program: &Program,
     keys: &[Key],
-    table: &ATable,
+    own: &ContextTable,
     node: usize,
 ) -> Result<(), Memory>
     requires program { IsWellFormed program.now }
     requires keys { keys.now ≡ keys_of program.now }
-    requires fits { Fits program.now table.now }
-    requires node { node < vec_len table.now.states }
-    ensures { OnOk result (Adds program.now (node_lines program.now (table_of table.now) node)
+    requires fits { FitsContext program.now own.now }
+    requires context { own.now.context ≡ root }
+    requires node { node < vec_len own.now.states }
+    ensures { OnOk result (Adds program.now
+        (option_map_or (state_lines program.now node) (states_in own.now.states.items node) [])
         out.old out.new) }
 {
-    if let Some(state) = &table.states[node] {
+    if let Some(state) = &own.states[node] {
         push_state(out, alloc, program, keys, node, state)?;
     }
     Ok(())
@@ -149,8 +153,9 @@ pub(crate) fn push_points(
         out.new) }
 {
     let keys = all_keys(alloc, program)?;
-    for node in 0..table.states.len() {
-        push_node(out, alloc, program, &keys, table, node)?;
+    let own = table.root(program);
+    for node in 0..own.states.len() {
+        push_node(out, alloc, program, &keys, own, node)?;
     }
     Ok(())
 }

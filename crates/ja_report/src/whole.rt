@@ -1,23 +1,23 @@
-//! Whole texts: the report of a table, and the visits of a spent budget.
+//! Whole texts: the report of a table, and the visits of a spent budget or up to a call.
 
 ghost use Rattle.std.specs.Prelude.{◌≡◌, ◌++◌, OnOk, IfOk, length};
 ghost use Rattle.std.specs.List.{flat_map};
 ghost use Rattle.ja_graph.specs.WellFormed.{IsWellFormed};
-ghost use Rattle.ja_model.specs.Table.{root};
-ghost use Rattle.ja_rules.specs.Readings.{table_of, Fits};
+ghost use Rattle.ja_rows.specs.Table.{root};
+ghost use Rattle.ja_rules.specs.Tables.{table_of, Fits};
 ghost use Rattle.ja_report.specs.Lines.{line_text, entry_lines, table_lines};
-ghost use Rattle.ja_report.specs.Report.{context_line, entries_line, context_head, table_sites, report_head, report_text, spent_text};
+ghost use Rattle.ja_report.specs.Report.{context_line, entries_line, context_head, table_sites, report_head, report_text, spent_text, unfollowed_text};
 
 use crate::output::Output;
 use crate::sections::{
     push_context, push_devices, push_items, push_sites, push_visits, push_warnings,
 };
 use crate::table::{push_entries, push_points};
-use ja_base::{Context, FnId, Label, Memory};
+use ja_base::{Context, FnId, Label, Memory, Place};
 use ja_graph::{GLOBAL, Program};
-use ja_model::{Item, Warning};
+use ja_rows::{Item, Warning};
 use ja_rules::ATable;
-use ja_texts::push_number;
+use ja_texts::{push_number, push_place};
 use std::alloc::Global;
 
 #[tactic(auto, unfolding(crate::specs::Report::report_head))]
@@ -92,7 +92,7 @@ fn lines_of(alloc: Global, program: &Program, table: &ATable) -> Result<(Output,
         ≡ length (entry_lines program.now ((table_of table.now).entry root))) }
 {
     let mut lines = Output::new(alloc);
-    let entries = push_entries(&mut lines, alloc, program, &table.entries)?;
+    let entries = push_entries(&mut lines, alloc, program, &table.root(program).entries)?;
     push_points(&mut lines, alloc, program, table)?;
     Ok((lines, entries))
 }
@@ -130,6 +130,26 @@ pub fn spent_text(alloc: Global, program: &Program, visits: &[Item]) -> Result<V
     let mut text = Vec::new(alloc);
     text.extend_from_slice(b"tajs spent ")?;
     push_number(&mut text, visits.len() as u64)?;
+    text.push(b'\n')?;
+    push_items(&mut text, program, visits)?;
+    text.extend_from_slice(b"end\n")?;
+    Ok(text)
+}
+
+/// What is written where a call is met, which isn't followed yet: the place of the step that gives
+/// the call edge, and the visits, that step the last of them.
+#[tactic(auto, unfolding(crate::specs::Report::unfollowed_text))]
+pub fn unfollowed_text(
+    alloc: Global,
+    program: &Program,
+    place: Place,
+    visits: &[Item],
+) -> Result<Vec<u8>, Memory>
+    ensures { IfOk result (λ text. text.items ≡ unfollowed_text program.now place visits.now) }
+{
+    let mut text = Vec::new(alloc);
+    text.extend_from_slice(b"unbuilt ")?;
+    push_place(&mut text, place)?;
     text.push(b'\n')?;
     push_items(&mut text, program, visits)?;
     text.extend_from_slice(b"end\n")?;

@@ -40,7 +40,7 @@ use Rattle.ja_meaning.proofs.Contents
 use Rattle.ja_meaning.proofs.Builtins.{site_before}
 use Rattle.ja_value.specs.declared.property.AProp.{AProp}
 use Rattle.ja_value.specs.Value.{value_of, property_of}
-use Rattle.ja_rules.specs.Readings.{value_given, property_given, object_given, primitive_given, slot_property, opened_property}
+use Rattle.ja_rules.specs.code.Opened.{value_given, property_given, object_given, primitive_given, slot_property, opened_property}
 
 -- what a search finds is at some place, and passes the test
 pub find_at : {X : Type 0} (test : X → Bool) (xs : List X) (x : X) → find test xs ≡ Some x

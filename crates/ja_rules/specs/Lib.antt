@@ -1,7 +1,4 @@
-pub mod Faults
-pub mod Outcomes
-pub mod Readings
-pub mod Searching
 pub mod Solving
-pub mod Walking
-pub mod Writing
+pub mod Tables
+pub mod Visits
+pub mod code

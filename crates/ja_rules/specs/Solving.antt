@@ -1,13 +1,11 @@
--- What the solver keeps, and when it gives up.
-use Rattle.std.specs.Prelude.{◌≡◌, ◌≤◌, ◌<◌, ℕ, List, length, vec_len}
+-- When the solver gives up.
+use Rattle.std.specs.Prelude.{◌≡◌, ◌<◌, ℕ, List, length}
 use Rattle.ja_graph.specs.declared.program.Program.{Program}
-use Rattle.ja_model.specs.declared.table.Item.{Item}
-use Rattle.ja_model.specs.declared.table.Item.TheVariants.{Open, Step}
-use Rattle.ja_model.specs.Table.{Table, root, visited, IsItem, IsBuilt, IsClosed}
+use Rattle.ja_rows.specs.declared.table.Item.{Item}
+use Rattle.ja_rows.specs.Table.{Table, IsBuilt, IsClosed}
+use Rattle.ja_rows.specs.Unfollowed.{MeetsEdge}
 use Rattle.ja_rules.specs.declared.solver.SolveFault.{SolveFault}
-use Rattle.ja_rules.specs.declared.solver.SolveFault.TheVariants.{Spent, Memory}
-use Rattle.ja_rules.specs.declared.solver.Work.{Work}
-use Rattle.ja_rules.specs.Readings.{table_of, Fits}
+use Rattle.ja_rules.specs.declared.solver.SolveFault.TheVariants.{Spent, Unfollowed, Memory}
 
 -- there were as many visits as the budget allows, each changed the table, and the last table isn't
 -- closed
@@ -20,33 +18,5 @@ pub record WasSpent (p : Program) (budget : ℕ) (visits : List Item) : Type 0 w
 -- the cause of each fault of the solver
 abbrev pub Explains : Program → ℕ → SolveFault → Type 0
 Explains p budget (Spent visits) = WasSpent p budget visits
+Explains p budget (Unfollowed visits item) = MeetsEdge p visits item × (length visits < budget)
 Explains p budget Memory = Unit {0}
-
--- the table fits the program, and the visits built it, not more of them than the budget allows
-pub record HasBuilt (p : Program) (budget : ℕ) (work : Work) : Type 0 where
-  pub fits : Fits p work.table
-  pub built : IsBuilt p work.visits.items (table_of work.table)
-  pub few : vec_len work.visits ≤ budget
-
--- no visit is lost, and where none was added the table is as it was
-pub record GoesOn (before after : Work) : Type 0 where
-  pub more : vec_len before.visits ≤ vec_len after.visits
-  pub same : vec_len after.visits ≡ vec_len before.visits
-      → table_of after.table ≡ table_of before.table
-
--- a visit of the item doesn't change the table
-abbrev pub IsSettled : Program → Table → Item → Type 0
-IsSettled p t item = visited p t item ≡ t
-
--- each item of the table is settled
-abbrev pub AreSettled : Program → Table → Type 0
-AreSettled p t = (item : Item) → IsItem p t item → IsSettled p t item
-
--- the step of a node in the program's context
-abbrev pub step_at : ℕ → Item
-step_at n = Step root (record { 0 = n })
-
--- Open is settled, and each item that is the step of a node below n
-pub record AreSettledBelow (p : Program) (t : Table) (n : ℕ) : Type 0 where
-  pub filled : IsSettled p t Open
-  pub steps : (k : ℕ) → k < n → IsItem p t (step_at k) → IsSettled p t (step_at k)

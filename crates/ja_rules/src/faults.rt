@@ -1,210 +1,124 @@
-ghost use Rattle.std.specs.Prelude.{◌≡◌, ◌≤◌, ◌<◌, ◌+◌, ◌^◌, ℕ, Some, true, false, not, IfOk, OnOk, length, slice_get, vec_len};
-ghost use Rattle.std.specs.Option.{option_and_then};
-ghost use Rattle.ja_graph.specs.declared.program.Function.{Function};
-ghost use Rattle.ja_graph.specs.Kinds.{AreBuilt};
+ghost use Rattle.std.specs.Prelude.{◌≡◌, ◌<◌, ◌≤◌, IfOk, None, filter, length, map, vec_len};
+ghost use Rattle.std.specs.BTreeMap.{get, values, IsOrdered};
+ghost use Rattle.std.specs.List.{AllByRecursion};
+ghost use Rattle.std.specs.Option.{IfSome, option_copied, option_map};
+ghost use Rattle.ja_base.specs.declared.ids.Reg.{Reg};
+ghost use Rattle.ja_graph.specs.Node.{registers_named};
 ghost use Rattle.ja_graph.specs.Program.{nodes_of};
-ghost use Rattle.ja_graph.specs.WellFormed.{IsWellFormed, IsNodeWellFormed};
+ghost use Rattle.ja_graph.specs.WellFormed.{IsWellFormed, max_sites};
 ghost use Rattle.ja_machine.specs.Machine.{program_function};
-ghost use Rattle.ja_model.specs.Table.{IsClosed};
-ghost use Rattle.ja_model.specs.Sound.{WarnsOfFaults};
-ghost use Rattle.ja_model.specs.Warning.{AreWarnings, kind_number};
-ghost use Rattle.ja_state.specs.declared.state.AState.{AState};
-ghost use Rattle.ja_state.specs.State.{state_of};
-ghost use Rattle.ja_rules.specs.Readings.{table_of, Fits};
-ghost use Rattle.ja_rules.specs.declared.faults.Operation.{Operation};
-ghost use Rattle.ja_rules.specs.Faults.{AreInOrder, operation_of, comes_before, merged, with_operation, with_found, operations_below, warnings_of};
+ghost use Rattle.ja_abstract.specs.Resolved.{Entries};
+ghost use Rattle.ja_rows.specs.Table.{IsClosed};
+ghost use Rattle.ja_rows.specs.Unfollowed.{IsOfRoot};
+ghost use Rattle.ja_rows.specs.Warning as spec;
+ghost use Rattle.ja_rows.specs.Warning.{AreWarnings};
+ghost use Rattle.ja_sound.specs.Sound.{WarnsOfFaults};
+ghost use Rattle.ja_astate.specs.declared.state.AState.{AState};
+ghost use Rattle.ja_astate.specs.State.{state_of};
+ghost use Rattle.ja_rules.specs.Tables.{table_of, Fits};
+ghost use Rattle.ja_rules.specs.code.Faults as code;
+ghost use Rattle.ja_rules.specs.code.Faults.{Spot, held, reached_below, reached_in, spot_cmp, with_reached};
+ghost use Rattle.ja_rules.specs.declared.reached.Reached.{Reached};
 
 use crate::ATable;
-use crate::callee::callee_of;
-use ja_base::{Memory, Place, Seq};
-use ja_graph::{Node, NodeInfo, Program};
-use ja_model::{Warning, WarningKind, warned_of_faults};
-use ja_state::AState;
+use crate::reached::{Reached, reached_of};
+use ja_astate::AState;
+use ja_base::{FnId, Memory, Seq};
+use ja_graph::{NodeInfo, Program};
+use ja_rows::{Warning, WarningKind};
+use ja_sound::warned_of_faults;
 use std::alloc::{AllocError, Global};
+use std::collections::BTreeMap;
 
-// An operation by its kind and place, and whether a state at one of its nodes allows it to go
-// wrong. It is certain where none allows anything else.
-#[derive(Clone, Copy)]
-struct Operation {
-    warning: Warning,
-    fault: bool,
-}
+// The numbers by which warnings are in order: of the built-in function, or 0, the line, the column
+// and the kind.
+type Spot = (u64, u32, u32, u8);
 
-impl Operation {
-    // An operation with what one state allows.
-    fn new(kind: WarningKind, place: Place, fault: bool, more: bool) -> Operation
-        ensures { result ≡ record {
-          warning = record {
-            kind = kind;
-            place = place;
-            certain = not more;
-          };
-          fault = fault;
-        } }
-    {
-        Operation {
-            warning: Warning {
-                kind,
-                place,
-                certain: !more,
-            },
-            fault,
-        }
-    }
-
-    // Adds what another node of the same kind and place allows.
-    fn merge(&mut self, more: &Operation)
-        ensures { self.new ≡ merged self.old more.now }
-    {
-        self.warning.certain = self.warning.certain & more.warning.certain;
-        self.fault = self.fault | more.fault;
-    }
-}
-
-// The number by which kinds are in order.
+// The number of a kind.
 fn kind_number(kind: WarningKind) -> u8
-    ensures { result ≡ kind_number kind }
+    ensures { result ≡ spec.kind_number kind }
 {
     match kind {
         WarningKind::NotAFunction => 1,
+        WarningKind::NoObject => 2,
         WarningKind::UnboundName => 3,
+        WarningKind::ScopeRow => 4,
     }
 }
 
-// Whether a warning comes before another: by line, column and kind.
-fn comes_before(a: &Warning, b: &Warning) -> bool
-    ensures { result ≡ comes_before a.now b.now }
+// The number of a built-in function, from 1, or 0 where there is none.
+fn builtin_number(builtin: Option<FnId>) -> u64
+    ensures { result ≡ spec.builtin_number builtin }
 {
-    if a.place.line != b.place.line {
-        return a.place.line < b.place.line;
-    }
-    if a.place.column != b.place.column {
-        return a.place.column < b.place.column;
-    }
-    kind_number(a.kind) < kind_number(b.kind)
-}
-
-// What may go wrong at a node, from a state at it.
-fn operation_of(
-    alloc: Global,
-    program: &Program,
-    info: &NodeInfo,
-    state: &AState,
-) -> Result<Option<Operation>, Memory>
-    requires info { (fn : Function) × IsNodeWellFormed program.now fn info.now
-        × (vec_len state.now.registers ≡ fn.registers) }
-    requires sites { length program.now.sites < 2 ^ 32 }
-    ensures { IfOk result (λ o. o ≡ operation_of program.now (state_of state.now) info.now) }
-{
-    let sites = program.sites.len() as u32;
-    match &info.node {
-        Node::Call { callee, .. } => {
-            let callee = callee_of(alloc, program, state.register(*callee), sites)?;
-            Ok(Some(Operation::new(
-                WarningKind::NotAFunction,
-                info.place,
-                callee.is_other,
-                callee.is_called,
-            )))
-        }
-        Node::ReadRef { base, .. } => {
-            let base = state.register(*base);
-            let more = base.labels.has_below(sites);
-            Ok(Some(Operation::new(WarningKind::UnboundName, info.place, base.flags.null, more)))
-        }
-        // Nothing goes wrong at the others.
-        Node::Const { .. }
-        | Node::Move { .. }
-        | Node::FindName { .. }
-        | Node::ReadSoft { .. }
-        | Node::WriteRef { .. }
-        | Node::DeleteRef { .. }
-        | Node::ToObject { .. }
-        | Node::NeedObject { .. }
-        | Node::ReadProp { .. }
-        | Node::WriteProp { .. }
-        | Node::DeleteProp { .. }
-        | Node::HasProp { .. }
-        | Node::InstanceOf { .. }
-        | Node::NewObject { .. }
-        | Node::MakeFunction { .. }
-        | Node::Enter { .. }
-        | Node::Declare { .. }
-        | Node::Bind { .. }
-        | Node::PushScope { .. }
-        | Node::Convert { .. }
-        | Node::Unary { .. }
-        | Node::Binary { .. }
-        | Node::Branch { .. }
-        | Node::New { .. }
-        | Node::Names { .. }
-        | Node::Pick { .. }
-        | Node::Throw { .. }
-        | Node::Return { .. }
-        | Node::Escape
-        | Node::Intrinsic { .. }
-        | Node::Device { .. }
-        | Node::Stop { .. } => Ok(None),
+    match builtin {
+        Some(function) => u64::from(function.0) + 1,
+        None => 0,
     }
 }
 
-// How many operations come before this one. The search goes from the end, since most come in order.
-fn place_of(found: &[Operation], more: &Operation) -> usize
-    ensures within { result ≤ length found.now }
-    ensures before { (k : ℕ) (o : Operation) → k + 1 ≡ result → slice_get found.now k ≡ Some o
-        → comes_before o.warning more.now.warning ≡ true }
-    ensures stops { (o : Operation) → slice_get found.now result ≡ Some o
-        → comes_before o.warning more.now.warning ≡ false }
+// The numbers of a warning.
+fn spot_of(warning: &Warning) -> Spot
+    ensures { result ≡ code.spot_of (spec.operation_of warning.now) }
 {
-    let mut at = found.len();
-    'places: while at > 0 {
-        if comes_before(&found[at - 1].warning, &more.warning) {
-            break;
-        }
-        at -= 1;
-    }
-    at
+    (
+        builtin_number(warning.builtin),
+        warning.place.line,
+        warning.place.column,
+        kind_number(warning.kind),
+    )
 }
 
-// Adds an operation at its place, or merges it with the one of its kind and place.
-fn add(found: &mut Vec<Operation>, more: Operation) -> Result<(), Memory>
-    requires { AreInOrder found.old.items }
-    ensures { OnOk result (found.new.items ≡ with_operation more found.old.items) }
+// An operation that may have been reached earlier: it may go wrong where either may, and does so
+// certainly where both do.
+fn merged(earlier: Option<&Reached>, more: Reached) -> Reached
+    ensures { result ≡ code.merged (option_copied earlier.entry) more }
 {
-    let at = place_of(found, &more);
-    if at < found.len() && !comes_before(&more.warning, &found[at].warning) {
-        found[at].merge(&more);
-        return Ok(());
+    match earlier {
+        Some(earlier) => Reached {
+            warning: Warning {
+                certain: earlier.warning.certain & more.warning.certain,
+                ..more.warning
+            },
+            fault: earlier.fault | more.fault,
+        },
+        None => more,
     }
-    found.insert(at, more)?;
+}
+
+// Adds an operation, merged with the one of its numbers.
+fn add(found: &mut BTreeMap<Spot, Reached>, more: Reached) -> Result<(), Memory>
+    ensures { IfOk result (λ _. (k : Spot) → get spot_cmp found.new k
+        ≡ with_reached k (get spot_cmp found.old k) more) }
+{
+    let spot = spot_of(&more.warning);
+    let merged = merged(found.get(&spot), more);
+    found.insert(spot, merged)?;
     Ok(())
 }
 
-// Adds the operation of a node, if it has one and the table has a state there.
+// Adds the operation of a node, if the table has a state there.
 fn add_node(
     alloc: Global,
     program: &Program,
+    function: FnId,
     info: &NodeInfo,
     state: &Option<AState>,
-    found: &mut Vec<Operation>,
+    found: &mut BTreeMap<Spot, Reached>,
 ) -> Result<(), Memory>
-    requires info { (a : AState) → state.now ≡ Some a
-        → (fn : Function) × IsNodeWellFormed program.now fn info.now
-        × (vec_len a.registers ≡ fn.registers) }
-    requires sites { length program.now.sites < 2 ^ 32 }
-    requires order { AreInOrder found.old.items }
-    ensures { OnOk result (found.new.items ≡ with_found
-        (option_and_then (λ a. operation_of program.now (state_of a) info.now) state.now)
-        found.old.items) }
+    requires sites { length program.now.sites ≤ max_sites }
+    requires registers { IfSome state.now (λ a. AllByRecursion
+        (λ (r : Reg). r.0 < vec_len a.registers) (registers_named info.now.node)) }
+    ensures { IfOk result (λ _. (e : Entries) (k : Spot) → get spot_cmp found.new k
+        ≡ held k (get spot_cmp found.old k) (reached_in program.now e function info.now
+        (option_map state_of state.now))) }
 {
     let Some(state) = state else {
         return Ok(());
     };
-    let Some(more) = operation_of(alloc, program, info, state)? else {
-        return Ok(());
-    };
-    add(found, more)?;
-    Ok(())
+    match reached_of(alloc, program, function, info, state)? {
+        Some(reached) => add(found, reached),
+        None => Ok(()),
+    }
 }
 
 // The nodes of the program's text.
@@ -215,42 +129,57 @@ fn nodes(program: &Program) -> &[NodeInfo]
     program.functions.as_slice()[0].nodes.as_slice()
 }
 
-// The operations that the table reaches, in order.
-fn operations(alloc: Global, program: &Program, table: &ATable) -> Result<Vec<Operation>, Memory>
+// The operations that the table reaches, each once.
+fn operations(
+    alloc: Global,
+    program: &Program,
+    table: &ATable,
+) -> Result<BTreeMap<Spot, Reached>, Memory>
     requires program { IsWellFormed program.now }
     requires fits { Fits program.now table.now }
-    ensures { IfOk result (λ found. found.items
-        ≡ operations_below program.now (table_of table.now)
-        (length (nodes_of program.now program_function))) }
+    ensures { IfOk result (λ found. (k : Spot) → get spot_cmp found k
+        ≡ held k None (reached_below program.now (table_of table.now)
+        (length (nodes_of program.now program_function)))) }
 {
+    let root = table.root(program);
     let nodes = nodes(program);
-    let mut found = Vec::new(alloc);
+    let mut found = BTreeMap::new(alloc);
     'nodes: for n in 0..nodes.len() {
-        add_node(alloc, program, &nodes[n], &table.states[n], &mut found)?;
+        add_node(
+            alloc,
+            program,
+            FnId(0),
+            &nodes[n],
+            &root.states[n],
+            &mut found,
+        )?;
     }
     Ok(found)
 }
 
-// The warnings of those operations that may go wrong.
-fn warnings_of(alloc: Global, found: &[Operation]) -> Result<Vec<Warning>, AllocError>
-    ensures { IfOk result (λ ws. ws.items ≡ warnings_of found.now) }
+// The warnings of those operations that may go wrong, in order.
+fn warnings_of(alloc: Global, found: &BTreeMap<Spot, Reached>) -> Result<Vec<Warning>, AllocError>
+    ensures warnings { IfOk result (λ ws. ws.items
+        ≡ map (λ (o : Reached). o.warning) (filter (λ o. o.fault) (values found.now))) }
+    ensures ordered { IsOrdered spot_cmp found.now }
 {
     found
-        .iter()
-        .filter(|o| o.fault)
-        .map(|o| o.warning)
+        .values()
+        .filter(|reached| reached.fault)
+        .map(|reached| reached.warning)
         .collect(alloc)
 }
 
-/// The warnings of a table, by line, column and kind: one for each kind and place at which a state
-/// allows an operation to go wrong. It is certain where no state there allows anything else.
-/// `Memory` comes where memory was refused.
+/// The warnings of a table of the program's own context, by line, column and kind: one for each
+/// operation of a kind that is told at which a state allows it to go wrong. It is certain where no
+/// state there allows anything else. `Memory` comes where memory was refused.
 pub fn warnings(alloc: Global, program: &Program, table: &ATable) -> Result<Seq<Warning>, Memory>
     requires program { IsWellFormed program.now }
     requires fits { Fits program.now table.now }
+    requires root { IsOfRoot (table_of table.now) }
     ensures warnings { IfOk result (AreWarnings program.now (table_of table.now)) }
-    ensures faults { IfOk result (λ ws. AreBuilt program.now
-        → IsClosed program.now (table_of table.now) → WarnsOfFaults program.now ws) }
+    ensures faults { IfOk result (λ ws. IsClosed program.now (table_of table.now)
+        → WarnsOfFaults program.now ws) }
 {
     let found = operations(alloc, program, table)?;
     let warnings = warnings_of(alloc, &found)?;

@@ -1,27 +1,22 @@
-//! Tables of abstract states: the abstract step of a node, the visits that build a table, the
-//! solver that makes a closed one, and the warnings of a table.
+//! Tables of abstract states: the visits that build a table, the solver that makes a closed one,
+//! and the warnings of a table.
 //!
-//! The abstract step is that of its definition (`transfer`), and so is a visit, which leaves the
-//! table as it was after want of memory (`visit`). `solve` gives a table that the visits build and
-//! that is closed, or says that the budget is spent, with its cause. `warnings` are exactly those
-//! of the table.
+//! A visit is that of its definition, and leaves the table as it was after want of memory
+//! (`visit`). `solve` gives a table that the visits build and that is closed, or says that the
+//! budget is spent, or that a call is met, which isn't followed yet, each with its cause.
+//! `warnings` are exactly those of the table.
 #![tactic(auto)]
 
-mod alternative;
-mod callee;
-mod demands;
+mod entries;
 mod faults;
-mod put;
-mod reader;
-mod search;
+mod opening_heap;
+mod reached;
 mod solver;
-mod step;
+mod states;
 mod table;
-mod walk;
+mod visits;
 
-pub use demands::DemandList;
 pub use faults::warnings;
-pub use reader::{Reader, Walk};
 pub use solver::{SolveFault, Solved, solve};
-pub use step::{Outcome, transfer};
-pub use table::{ATable, opening, visit};
+pub use table::{ATable, ContextTable, opening};
+pub use visits::{Visited, visit};

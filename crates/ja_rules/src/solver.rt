@@ -1,16 +1,20 @@
 ghost use Rattle.std.specs.Prelude.{◌≡◌, ◌≤◌, ◌+◌, true, false, length, IfOk, IfErr, OnOk, vec_len};
 ghost use Rattle.ja_graph.specs.Kinds.{AreBuilt};
 ghost use Rattle.ja_graph.specs.WellFormed.{IsWellFormed};
-ghost use Rattle.ja_model.specs.Table.{IsBuilt, IsClosed, IsItem, visited};
-ghost use Rattle.ja_model.specs.Sound.{CoversRuns};
-ghost use Rattle.ja_rules.specs.Readings.{table_of, Fits};
-ghost use Rattle.ja_rules.specs.Solving.{AreSettled, Explains, GoesOn, HasBuilt, IsSettled, step_at};
+ghost use Rattle.ja_rows.specs.Table.{IsBuilt, IsClosed, IsItem, visited};
+ghost use Rattle.ja_rows.specs.Unfollowed.{IsOfRoot};
+ghost use Rattle.ja_sound.specs.Sound.{CoversRuns};
+ghost use Rattle.ja_rules.specs.Tables.{table_of, Fits};
+ghost use Rattle.ja_rules.specs.Solving.{Explains};
+ghost use Rattle.ja_rules.specs.code.Rounds.{AreSettled, GoesOn, HasBuilt, IsSettled, IsStopped, step_at};
 ghost use Rattle.ja_rules.specs.declared.solver.SolveFault.TheVariants as fault;
 
-use crate::{ATable, opening, visit};
-use ja_base::{Context, FnId, Label, Memory, NodeId, Seq};
-use ja_graph::{GLOBAL, Program};
-use ja_model::{Item, closed_covers};
+use crate::table::own_context;
+use crate::{ATable, Visited, opening, visit};
+use ja_base::{Memory, NodeId, Seq};
+use ja_graph::Program;
+use ja_rows::Item;
+use ja_sound::closed_covers;
 use std::alloc::{AllocFailed, Global};
 use std::fmt::{self, Debug, Formatter};
 use std::mem;
@@ -23,11 +27,14 @@ pub struct Solved {
     pub visits: Seq<Item>,
 }
 
-/// Why there is no table: the budget is spent, after these visits, or memory was refused.
+/// Why there is no table: the budget is spent, after these visits; after these visits the step of a
+/// node gives a call edge, and calls aren't followed yet; or memory was refused.
 #[derive(Drop, Error)]
 pub enum SolveFault {
     #[error("the budget is spent after {} visits", .visits.len())]
     Spent { visits: Seq<Item> },
+    #[error("a call is met after {} visits", .visits.len())]
+    Unfollowed { visits: Seq<Item>, step: Item },
     #[error("memory was refused")]
     Memory,
 }
@@ -36,6 +43,9 @@ impl Debug for SolveFault {
     fn fmt<W: fmt::Write>(&self, f: &mut Formatter<W>) -> fmt::Result {
         match self {
             SolveFault::Spent { visits } => write!(f, "Spent after {} visits", visits.len()),
+            SolveFault::Unfollowed { visits, .. } => {
+                write!(f, "Unfollowed after {} visits", visits.len())
+            }
             SolveFault::Memory => f.write_str("Memory"),
         }
     }
@@ -64,23 +74,30 @@ struct Work {
     visits: Vec<Item>,
 }
 
-// The step of a node in the context of the program itself.
+// The step of a node in the program's own context.
 fn step_of(node: NodeId) -> Item
     ensures { result ≡ step_at node.0 }
 {
     Item::Step {
-        context: Context {
-            function: FnId(0),
-            receiver: Label {
-                site: GLOBAL,
-                old: false,
-            },
-        },
+        context: own_context(),
         node,
     }
 }
 
 impl Work {
+    // Why there is no table, where an item's visit would change this one, or gives a call edge.
+    fn stopped(&mut self, alloc: Global, budget: u128, item: Option<Item>) -> SolveFault
+        ensures { IsStopped self.old.visits.items budget item result }
+    {
+        let visits = Seq::from_vec(mem::replace(&mut self.visits, Vec::new(alloc)));
+        match item {
+            Some(step) if (visits.len() as u128) < budget => {
+                SolveFault::Unfollowed { visits, step }
+            }
+            _ => SolveFault::Spent { visits },
+        }
+    }
+
     // Visits an item, keeps the visit if the table changed, and tells whether it did.
     fn take_turn(
         &mut self,
@@ -90,11 +107,12 @@ impl Work {
         item: Item,
     ) -> Result<bool, SolveFault>
         requires program { IsWellFormed program.now }
+        requires forms { AreBuilt program.now }
         requires built { HasBuilt program.now budget self.old }
         requires item { IsItem program.now (table_of self.old.table) item }
         ensures built { OnOk result (HasBuilt program.now budget self.new) }
-        ensures visited { OnOk result (table_of self.new.table
-            ≡ visited program.now (table_of self.old.table) item) }
+        ensures visited { OnOk result (visited program.now (table_of self.old.table) item
+            ≡ table_of self.new.table) }
         ensures goes_on { OnOk result (GoesOn self.old self.new) }
         ensures kept { IfOk result (λ k. k ≡ true
             → vec_len self.new.visits ≡ vec_len self.old.visits + 1) }
@@ -102,16 +120,17 @@ impl Work {
             → table_of self.new.table ≡ table_of self.old.table) }
         ensures fault { IfErr result (Explains program.now budget) }
     {
-        if !visit(alloc, program, &mut self.table, item)? {
-            return Ok(false);
+        match visit(alloc, program, &mut self.table, item)? {
+            Visited::Same => Ok(false),
+            Visited::Changed => {
+                if self.visits.len() as u128 >= budget {
+                    return Err(self.stopped(alloc, budget, None));
+                }
+                self.visits.push(item)?;
+                Ok(true)
+            }
+            Visited::Calls => Err(self.stopped(alloc, budget, Some(item))),
         }
-        if self.visits.len() as u128 >= budget {
-            return Err(SolveFault::Spent {
-                visits: Seq::from_vec(mem::replace(&mut self.visits, Vec::new(alloc))),
-            });
-        }
-        self.visits.push(item)?;
-        Ok(true)
     }
 
     // Takes the steps of a node until they change nothing. After each, what the program demands of
@@ -124,6 +143,7 @@ impl Work {
         node: NodeId,
     ) -> Result<(), SolveFault>
         requires program { IsWellFormed program.now }
+        requires forms { AreBuilt program.now }
         requires built { HasBuilt program.now budget self.old }
         requires item { IsItem program.now (table_of self.old.table) (step_at node.0) }
         ensures built { OnOk result (HasBuilt program.now budget self.new) }
@@ -142,6 +162,7 @@ impl Work {
     // Settles each node that has a state, in order.
     fn round(&mut self, alloc: Global, program: &Program, budget: u128) -> Result<(), SolveFault>
         requires program { IsWellFormed program.now }
+        requires forms { AreBuilt program.now }
         requires built { HasBuilt program.now budget self.old }
         ensures built { OnOk result (HasBuilt program.now budget self.new) }
         ensures goes_on { OnOk result (GoesOn self.old self.new) }
@@ -150,8 +171,9 @@ impl Work {
         ensures fault { IfErr result (Explains program.now budget) }
     {
         self.take_turn(alloc, program, budget, Item::Open)?;
-        for node in 0..self.table.states.len() {
-            if self.table.states[node].is_some() {
+        let nodes = self.table.root(program).states.len();
+        for node in 0..nodes {
+            if self.table.root(program).states[node].is_some() {
                 self.settle(alloc, program, budget, NodeId(node as u32))?;
             }
         }
@@ -161,16 +183,18 @@ impl Work {
 
 /// Visits the items of the table as it stands, in rounds, until no visit changes it. Keeps the
 /// visits that did. `Spent` comes where there are as many as the budget allows and one more would
-/// change the table, `Memory` where memory was refused.
+/// change the table, `Unfollowed` where a step gives a call edge before that, `Memory` where memory
+/// was refused.
 pub fn solve(alloc: Global, program: &Program, budget: u128) -> Result<Solved, SolveFault>
-    requires { IsWellFormed program.now }
+    requires program { IsWellFormed program.now }
+    requires built { AreBuilt program.now }
     ensures fits { IfOk result (λ s. Fits program.now s.table) }
+    ensures root { IfOk result (λ s. IsOfRoot (table_of s.table)) }
     ensures built { IfOk result (λ s. IsBuilt program.now s.visits (table_of s.table)) }
     ensures closed { IfOk result (λ s. IsClosed program.now (table_of s.table)) }
     ensures few { IfOk result (λ s. length s.visits ≤ budget) }
-    ensures covers { IfOk result (λ s. AreBuilt program.now
-        → CoversRuns program.now (table_of s.table)) }
-    ensures spent { IfErr result (Explains program.now budget) }
+    ensures covers { IfOk result (λ s. CoversRuns program.now (table_of s.table)) }
+    ensures explained { IfErr result (Explains program.now budget) }
 {
     let mut work = Work {
         table: opening(alloc, program)?,

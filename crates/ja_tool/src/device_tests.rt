@@ -296,18 +296,21 @@ fn a_built_in_is_replaced(alloc: Global) -> Result<bool, Memory> {
     )
 }
 
-/// Whether the analysis tells of the devices, and excludes their names; it asks none.
+/// Whether the analysis tells of the devices, and stops at the call of one; it asks none.
 fn analyses_tell(alloc: Global) -> Result<bool, Memory> {
     let head =
         "tajs report 1\ndevice input boolean\ndevice number number\ndevice text string\ndevice print undefined\nbuilt yes\nwarnings 0\n";
     let (status, written, left) = with_devices(alloc, "analyse", b"x = 1; x;", four(alloc, 0)?);
     let told = status == Status::Done && is_answer(&written, head);
-    let (status, written, _) = with_devices(alloc, "analyse", b"x = 1; print();", four(alloc, 0)?);
+    let (status, written, _) = with_devices(alloc, "analyse", b"print();", four(alloc, 0)?);
     Ok(
         told && left.len() == 4
             && left[0].heard.is_empty()
             && status == Status::Unbuilt
-            && is_answer(&written, "unbuilt 1:8\n"),
+            && is_answer(
+                &written,
+                "unbuilt 1:6\nstep 0 global.new 0\nopen\nstep 0 global.new 0\nstep 0 global.new 1\nstep 0 global.new 2\nend\n",
+            ),
     )
 }
 

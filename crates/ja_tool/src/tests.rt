@@ -28,7 +28,7 @@ end
 ";
 
 /// Texts, each with its status, and the answer to it or lines of its report.
-const TEXTS: [(&[u8], Status, &str); 22] = [
+const TEXTS: [(&[u8], Status, &str); 26] = [
     (b"", Status::Done, EMPTY),
     (b"x = 3;", Status::Done, "warnings 0\nedges 0\n"),
     (
@@ -60,8 +60,32 @@ const TEXTS: [(&[u8], Status, &str); 22] = [
     (b"x", Status::Warned, "1:1 unbound name certain\n"),
     (b"x = (3);; /* */ (x)", Status::Done, "warnings 0\n"),
     (b"x = 3; x.y;", Status::Unbuilt, "unbuilt 1:9\n"),
-    (b"x = 1 + 2;", Status::Unbuilt, "unbuilt 1:7\n"),
-    (b"x = 3; arguments", Status::Unbuilt, "unbuilt 1:8\n"),
+    (b"x = 1 + 2;", Status::Done, "\nglobal.new x 3 ---\n"),
+    (
+        b"x = 3; arguments",
+        Status::Warned,
+        "warnings 1\n1:8 unbound name certain\nedges 0\n",
+    ),
+    (
+        b"var i = 0; while (i < 3) { i = i + 1; } i();",
+        Status::Warned,
+        "warnings 1\n1:42 call of a non-function certain\nedges 0\n",
+    ),
+    (
+        b"var s = \"a\"; if (s == \"b\") { s = 1; } throw s;",
+        Status::Done,
+        "warnings 0\nedges 0\n",
+    ),
+    (
+        b"var s = \"a\"; if (s == \"b\") { s = 1; } throw s;",
+        Status::Done,
+        "step 0 global.new 11\nstep 0 global.new 15\nstep 0 global.new 16\n",
+    ),
+    (
+        b"Object();",
+        Status::Unbuilt,
+        "unbuilt 1:7\nstep 0 global.new 0\nopen\nstep 0 global.new 0\nstep 0 global.new 1\nstep 0 global.new 2\nend\n",
+    ),
     (
         b"x = 1;\n y = x;\nz = y = 9007199254740992;",
         Status::Scope,

@@ -12,9 +12,11 @@
 //!   the text isn't in the language, with the kind and the place that `ja_grammar` determines; 9
 //!   also exactly where it is in the language and has more than 4,096 functions, or else its graph
 //!   and parameters are more than 65,536 nodes; 20 exactly where it is analysed, is within these
-//!   limits and has a form that isn't built, with the place of the first one; 10 only where the
-//!   1,000,000 visits that are printed each changed the table and the last one isn't closed; 12 to
-//!   15 only of a run, by its end.
+//!   limits and has a form that isn't built, with the place of the first one, and else only where
+//!   the step that is printed last calls a function, which isn't followed yet (a call, or the
+//!   conversion of an object), with its place, and the visits before it, which are printed, met
+//!   none; 10 only where the 1,000,000 visits that are printed each changed the table and the last
+//!   one isn't closed; 12 to 15 only of a run, by its end.
 //! - **what was written**: after every status but 4 and 16 the text of that answer, whole, and the
 //!   sink is finished; after 4 the front of the text of another answer whose cause holds; after 16
 //!   nothing.
@@ -22,7 +24,7 @@
 //!   table that the printed visits build from the opening, each of them changing it, of these
 //!   visits, at most 1,000,000, and of its warnings. The table is closed, the warnings are exactly
 //!   those of the table, and 1 comes exactly where there is one.
-//! - **the theorem** (`CoversRuns`, `WarnsOfFaults` of `ja_model`): after every list of answers the
+//! - **the theorem** (`CoversRuns`, `WarnsOfFaults` of `ja_sound`): after every list of answers the
 //!   state of the program's run lies in the meaning of the printed state at its node and context;
 //!   an operation that goes wrong in some run has a warning; and no run is stuck (`NeverStuck`).
 //! - **the transcript** (0, and 12 to 15, of `run`): that of the run of the program of the bytes
@@ -36,7 +38,7 @@
 //!   transcript says so. What a device that tells it has heard is what the transcript says it
 //!   answered, in order and with the arguments, and nothing else of it has changed. After 16 each
 //!   comes back, and they have answered exactly the calls of some first steps of the run, or those
-//! of the whole run, the one that failed at its end among them (`MayBeLeft` in `specs/Runs.antt`).
+//!   of the whole run, the one that failed at its end among them (`MayBeLeft` in `specs/Runs.antt`).
 //!   What is seen of one changes only in a `run`.
 #![tactic(auto)]
 

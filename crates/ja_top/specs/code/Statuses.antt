@@ -1,6 +1,6 @@
 -- What clauses of the code cite beside `Statuses`, and no believed statement.
 use Rattle.std.specs.Prelude.{ℕ, List, [], ◌∷◌}
-use Rattle.ja_model.specs.declared.table.Warning.{Warning}
+use Rattle.ja_rows.specs.declared.table.Warning.{Warning}
 use Rattle.ja_report.specs.declared.refusals.Refusal.{Refusal}
 use Rattle.ja_report.specs.declared.refusals.Refusal.TheVariants as refusal
 use Rattle.ja_top.specs.declared.status.Status.{Status}

@@ -1,18 +1,22 @@
 use Rattle.ja_value.specs.Value.{property_of}
-use Rattle.ja_state.specs.State.{entries_of}
-use Rattle.ja_rules.specs.Readings.{Fits}
+use Rattle.ja_aheap.specs.Entries.{entries_of}
+use Rattle.ja_rules.specs.Tables.{FitsContext}
 use Rattle.ja_cases.proofs.Giving.{given_keys, on_ok}
 use Rattle.ja_cases.proofs.reports.give.Goals as goal
 
-pub returns : goal.returns
-returns c =
-    on_ok _ (Fits c.args.program.now (record
-    { states = c.args.table.now.states; entries = c.set.new.self })) c.set.result
+pub returns-clause-fits : goal.returns-clause-fits
+returns-clause-fits c =
+    on_ok _ (FitsContext c.args.program.now (record {
+      context = c.args.own.now.context;
+      states = c.args.own.now.states;
+      entries = c.set.new.self;
+    })) c.set.result
     (λ _ e. record {
+      function = c.requires.fits.function;
       nodes = c.requires.fits.nodes;
-      registers = c.requires.fits.registers;
+      states = c.requires.fits.states;
       keys =
-          given_keys c.args.program.now (entries_of c.args.table.now.entries)
+          given_keys c.args.program.now (entries_of c.args.own.now.entries)
           (entries_of c.set.new.self) c.args.label c.args.key (property_of c.args.property)
           c.requires.key c.requires.fits.keys e;
     })

@@ -6,8 +6,8 @@ loop-key-init c = keys_none _ _ _ _
 
 pub loop-key-preserved : goal.loop-key-preserved
 loop-key-preserved c =
-    keys_more _ _ _ _ _ _ _ _ _ _ c.loop-key.invariant c.loop-key-test.true c.read.ensures
-    c.in_ok-push_property.ensures
+    keys_more _ _ _ _ _ _ _ _ _ c.loop-key.invariant c.loop-key-test.true
+    c.in_ok-push_key_line.ensures
 
 pub returns : goal.returns
 returns c = keys_all _ _ _ _ _ _ _ c.loop-key.invariant c.loop-key-test.false c.requires.keys

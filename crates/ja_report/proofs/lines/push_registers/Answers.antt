@@ -11,4 +11,4 @@ loop-number-preserved c =
     c.in_ok-push_register_line.ensures
 
 pub returns : goal.returns
-returns c = registers_all _ _ _ _ _ c.loop-number.invariant (omega arith)
+returns c = registers_all _ c.args.state.now _ _ _ c.loop-number.invariant (omega arith)

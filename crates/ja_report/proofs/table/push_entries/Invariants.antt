@@ -1,5 +1,5 @@
 use Rattle.std.proofs.Common.{take}
-use Rattle.ja_state.specs.State.{entries_of}
+use Rattle.ja_aheap.specs.Entries.{entries_of}
 use Rattle.ja_report.specs.code.Output.{Adds}
 use Rattle.ja_report.proofs.EntryLemmas.{pair_lines}
 use Rattle.ja_report.proofs.table.push_entries.Given as goal

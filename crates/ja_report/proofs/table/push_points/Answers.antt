@@ -1,4 +1,5 @@
 use Rattle.std.proofs.Common.{arith}
+use Rattle.ja_rules.specs.Tables.{table_of}
 use Rattle.ja_report.proofs.PointLemmas.{points_none, points_more, points_all}
 use Rattle.ja_report.proofs.table.push_points.Goals as goal
 
@@ -6,9 +7,11 @@ pub loop-node-init : goal.loop-node-init
 loop-node-init c = points_none _ _ _
 
 pub loop-node-preserved : goal.loop-node-preserved
-loop-node-preserved c = points_more _ _ _ _ _ _ c.loop-node.invariant c.in_ok-push_node.ensures
+loop-node-preserved c =
+    points_more _ _ _ _ _ _ _ c.loop-node.invariant (c.root-own.ensures.states c.loop-node.node)
+    c.in_ok-push_node.ensures
 
 pub returns : goal.returns
 returns c =
-    points_all c.args.program.now c.args.table.now _ _ _ c.loop-node.invariant (omega arith)
-    c.requires.fits
+    points_all c.args.program.now (table_of c.args.table.now) _ _ _ _ c.loop-node.invariant
+    (omega arith) c.root-own.ensures.nodes

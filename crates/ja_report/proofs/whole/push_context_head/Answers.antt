@@ -1,5 +1,5 @@
 use Rattle.std.proofs.Common.{◌++◌, List, ℕ, ap, ◌∙◌, append_assoc}
-use Rattle.ja_model.specs.Table.{root}
+use Rattle.ja_rows.specs.Table.{root}
 use Rattle.ja_report.specs.Report.{context_line, entries_line, context_head}
 use Rattle.ja_report.proofs.whole.push_context_head.Goals as goal
 

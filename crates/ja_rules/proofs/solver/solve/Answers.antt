@@ -1,9 +1,21 @@
 -- A round that added no visit leaves a closed table.
-use Rattle.std.proofs.Common.{sym, ◌∙◌}
-use Rattle.ja_model.specs.Table.{IsClosed}
-use Rattle.ja_rules.specs.Readings.{table_of}
-use Rattle.ja_rules.proofs.Building.{builds_opening}
+use Rattle.std.proofs.Common.{sym, subst, ◌∙◌, arith}
+use Rattle.ja_rows.specs.Table.{IsClosed, IsBuilt}
+use Rattle.ja_rows.specs.Unfollowed.{IsOfRoot}
+use Rattle.ja_rows.proofs.Rising.{builds_opening}
+use Rattle.ja_rows.proofs.Unfollowed.{opening_of_root}
+use Rattle.ja_rules.specs.Tables.{table_of}
 use Rattle.ja_rules.proofs.solver.solve.Goals as goal
+
+pub rounds-init : goal.rounds-init
+rounds-init c = record {
+  fits = c.in_ok-opening.ensures.fits;
+  of_root =
+      subst IsOfRoot (sym c.in_ok-opening.ensures.table) (opening_of_root c.args.program.now);
+  built = subst (λ xs. IsBuilt c.args.program.now xs (table_of c.in_ok-opening.field-0))
+      (sym c.new.ensures.items) (sym c.in_ok-opening.ensures.table);
+  few = omega arith;
+}
 
 closed : (c : goal.After-from_vec) → IsClosed c.args.program.now (table_of c.round.new.self.table)
 closed c = record {
@@ -20,5 +32,5 @@ returns-clause-closed c = closed c
 
 pub returns-clause-covers : goal.returns-clause-covers
 returns-clause-covers c =
-    λ built. c.closed_covers.ensures c.args.program.now (table_of c.round.new.self.table) c.requires
-    built (closed c)
+    c.closed_covers.ensures c.args.program.now (table_of c.round.new.self.table)
+    c.requires.program (closed c)

@@ -1,6 +1,6 @@
 -- Each round begins with a table that the visits built.
 use Rattle.std.proofs.Common.{◌-◌, vec_len}
-use Rattle.ja_rules.specs.Solving.{HasBuilt}
+use Rattle.ja_rules.specs.code.Rounds.{HasBuilt}
 use Rattle.ja_rules.proofs.solver.solve.Given as goal
 
 abbrev pub invariant-rounds : goal.invariant-rounds

@@ -1,5 +1,5 @@
 use Rattle.std.proofs.Common.{◌≡◌, subst}
-use Rattle.ja_rules.specs.Readings.{table_of}
+use Rattle.ja_rules.specs.Tables.{table_of}
 use Rattle.ja_top.specs.declared.status.Status.{Status}
 use Rattle.ja_top.specs.Analyses.{IsAnalysed, Reports}
 use Rattle.ja_top.specs.code.Statuses.{status_of}
@@ -17,10 +17,11 @@ returns c =
       printed = cc (c.in_ok-text.ensures, c.as_slice.ensures, c.as_slice-2.ensures);
       built = c.requires.solved.built;
       few = c.requires.solved.few;
+      of_root = c.requires.solved.of_root;
       closed = c.requires.solved.closed;
       exact = c.in_ok-warnings.ensures.warnings;
-      covers = c.requires.solved.covers c.requires.built;
-      warned = c.in_ok-warnings.ensures.faults c.requires.built c.requires.solved.closed;
+      covers = c.requires.solved.covers;
+      warned = c.in_ok-warnings.ensures.faults c.requires.solved.closed;
       goes_on = c.never_stuck.ensures p c.requires.program;
     } in
     let same : status_of ws ≡ c.judged-status.result =

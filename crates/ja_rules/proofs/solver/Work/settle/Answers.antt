@@ -1,7 +1,10 @@
 -- A step that changed the table, and Open after it.
-use Rattle.ja_rules.specs.Readings.{table_of}
-use Rattle.ja_model.specs.declared.table.Item.TheVariants.{Open}
-use Rattle.ja_rules.proofs.Building.{goes_on_both, item_kept}
+use Rattle.std.proofs.Common.{subst}
+use Rattle.ja_rows.specs.declared.table.Item.TheVariants.{Open}
+use Rattle.ja_rows.proofs.Rising.{item_kept}
+use Rattle.ja_rules.specs.Tables.{table_of}
+use Rattle.ja_rules.specs.code.Rounds.{IsSettled}
+use Rattle.ja_rules.proofs.Building.{goes_on_both, settled_since}
 use Rattle.ja_rules.proofs.solver.Work.settle.Goals as goal
 
 pub steps-preserved : goal.steps-preserved
@@ -17,3 +20,11 @@ steps-preserved c = record {
       (table_of c.steps.self.table) (table_of c.take_turn.new.self.table) c.step_of-step.result
       c.step_of-step.result c.in_ok-take_turn.ensures.visited c.steps.invariant.item);
 }
+
+pub returns-clause-settled : goal.returns-clause-settled
+returns-clause-settled c =
+    subst (IsSettled c.args.program.now (table_of c.take_turn.new.self.table))
+    c.step_of-step.ensures
+    (settled_since c.args.program.now (table_of c.steps.self.table)
+    (table_of c.take_turn.new.self.table) c.step_of-step.result
+    c.in_ok-take_turn.ensures.visited (c.in_ok-take_turn.ensures.same c.if-branch.false))

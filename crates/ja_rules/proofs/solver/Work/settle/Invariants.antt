@@ -1,8 +1,8 @@
 -- The node still has a state, and where no visit was added the table is as it was.
 use Rattle.std.proofs.Common.{◌-◌, vec_len}
-use Rattle.ja_model.specs.Table.{IsItem}
-use Rattle.ja_rules.specs.Readings.{table_of}
-use Rattle.ja_rules.specs.Solving.{GoesOn, HasBuilt}
+use Rattle.ja_rows.specs.Table.{IsItem}
+use Rattle.ja_rules.specs.Tables.{table_of}
+use Rattle.ja_rules.specs.code.Rounds.{GoesOn, HasBuilt}
 use Rattle.ja_rules.proofs.solver.Work.settle.Given as goal
 
 abbrev pub invariant-steps : goal.invariant-steps

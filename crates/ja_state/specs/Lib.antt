@@ -1,3 +1,0 @@
-pub mod State
-pub mod Joined
-pub mod Numbers
