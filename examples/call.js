@@ -1,2 +1,0 @@
-price = 12;
-price();
