@@ -11,7 +11,7 @@ use Rattle.ja_trie.specs.code.Node.{places, IsNode, AreLong}
 use Rattle.ja_trie.specs.code.NodeFalls.{long_rest, level_length}
 
 module _ {X A : Type 0} (f : X → List A) (w : ℕ) where
-  read_level : (xs : List X) (q r : ℕ) (d : A) (e : X) → AreLong f xs w → q < length xs → r < w
+  pub read_level : (xs : List X) (q r : ℕ) (d : A) (e : X) → AreLong f xs w → q < length xs → r < w
       → get_or (flat_map f xs) (q * w + r) d ≡ get_or (f (get_or xs q e)) r d
   read_level [] q r d e h lt below = absurd (omega arith)
   read_level (x ∷ xs) zero r d e h lt below =

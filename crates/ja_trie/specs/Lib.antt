@@ -1,3 +1,4 @@
 pub mod Join
 pub mod Nodes
+pub mod Test
 pub mod code

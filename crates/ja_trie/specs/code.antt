@@ -3,3 +3,4 @@ pub mod Join
 pub mod Node
 pub mod NodeFalls
 pub mod Shared
+pub mod Test

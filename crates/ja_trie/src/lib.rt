@@ -3,8 +3,9 @@
 //!
 //! Contracts see a `Shared` as the list of its values. A fork is equal to its list, and after a
 //! change of one of the two the other reads as before. A write changes one place; a join has at
-//! each place what the join of its two values answered there, or what stood there (`Joined`). After
-//! want of memory the list is as it was.
+//! each place what the join of its two values answered there, or what stood there (`Joined`), and
+//! `all_with` tells whether a test holds of the values at each place of two lists (`SaysOfPlaces`).
+//! After want of memory the list is as it was.
 //!
 //! The nodes that are made are counted (`Steps`, `ArePaths`). Where d is the least number with
 //! 8^(d + 1) at least the length, `new` and `set` make at most d + 1, `fork` none, and `join_with`

@@ -4,6 +4,8 @@ ghost use Rattle.std.specs.Prelude.{replicate, slice_index_or, slice_set};
 ghost use Rattle.ja_trie.specs.code.Node.{places, places_after, IsNode};
 ghost use Rattle.ja_trie.specs.Join.{MayAnswer};
 ghost use Rattle.ja_trie.specs.code.Join.{JoinedTo};
+ghost use Rattle.ja_trie.specs.Test.{MaySay};
+ghost use Rattle.ja_trie.specs.code.Test.{SaysOfFirst};
 
 use crate::steps::Steps;
 use ja_base::Memory;
@@ -268,6 +270,39 @@ impl<T: Drop> Node<T> {
             _ => unreachable!(),
         }
     }
+
+    /// Whether a test holds of the values at each of the first `count` places of this node and of
+    /// another one. It takes no memory, and ends at the first place where the test doesn't hold.
+    pub fn all_with<F: Fn(&T, &T) -> bool>(
+        &self,
+        other: &Node<T>,
+        count: u32,
+        width: u32,
+        test: &F,
+    ) -> bool
+        requires level { length self.now ≡ 8 * width }
+        requires same { length other.now ≡ length self.now }
+        requires may { F.IsAlwaysCallable test.now }
+        ensures { SaysOfFirst (MaySay F.Fn test.now) count self.now other.now result }
+    {
+        if count == 0 {
+            return true;
+        }
+        match (&self.kids, &other.kids) {
+            (Kids::Values(values), Kids::Values(others)) => all_values(values, others, count, test),
+            (Kids::Nodes(nodes), Kids::Nodes(others)) => {
+                let mut left = count;
+                for i in 0..FAN_OUT as usize {
+                    if !nodes[i].all_with(&others[i], left, width / FAN_OUT, test) {
+                        return false;
+                    }
+                    left = left.saturating_sub(width);
+                }
+                true
+            }
+            _ => unreachable!(),
+        }
+    }
 }
 
 /// The values of a node joined with those of another at the first `count` places, and whether one
@@ -293,4 +328,23 @@ fn join_values<T: Drop, F: Fn(&T, &T) -> Result<Option<T>, Memory>>(
         }
     }
     Ok((kids, changed))
+}
+
+/// Whether a test holds of the values of a node and of another at each of the first `count` places.
+fn all_values<T, F: Fn(&T, &T) -> bool>(
+    values: &[Rc<T>; 8],
+    others: &[Rc<T>; 8],
+    count: u32,
+    test: &F,
+) -> bool
+    requires { F.IsAlwaysCallable test.now }
+    ensures { SaysOfFirst (MaySay F.Fn test.now) count (map (λ x. x.value) values.now)
+        (map (λ x. x.value) others.now) result }
+{
+    for i in 0..FAN_OUT.min(count) as usize {
+        if !test(&values[i], &others[i]) {
+            return false;
+        }
+    }
+    true
 }

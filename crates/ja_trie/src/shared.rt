@@ -2,6 +2,7 @@ ghost use Rattle.std.specs.Prelude.{◌≡◌, ℕ, ◌<◌, IfOk, OnErr, length
 ghost use Rattle.std.specs.Prelude.{slice_set, nat_lt};
 ghost use Rattle.ja_trie.specs.Join.{Joined, MayAnswer};
 ghost use Rattle.ja_trie.specs.Nodes.{ArePaths};
+ghost use Rattle.ja_trie.specs.Test.{MaySay, SaysOfPlaces};
 
 use crate::node::{FAN_OUT, Node};
 use crate::steps::Steps;
@@ -139,5 +140,17 @@ impl<T: Drop> Shared<T> {
             }
             None => Ok(false),
         }
+    }
+
+    /// Whether a test holds of the values at each place of the list and of one of the same length.
+    /// It goes through both once, takes no memory, and ends at the first place where the test
+    /// doesn't hold.
+    pub fn all_with<F: Fn(&T, &T) -> bool>(&self, other: &Shared<T>, test: F) -> bool
+        requires same { length other.now ≡ length self.now }
+        requires may { F.IsAlwaysCallable test }
+        ensures { SaysOfPlaces (MaySay F.Fn test) self.now other.now result }
+    {
+        self.root
+            .all_with(&other.root, self.length, self.width, &test)
     }
 }
