@@ -1,9 +1,10 @@
 -- Heaps by the places of their objects: made, with one property or all objects changed, compared
 -- and joined.
-use Rattle.std.proofs.Common.{◌≡◌, ◌≢◌, ◌==◌, ◌&&◌, ◌+◌, ◌*◌, ◌<◌, ◌≤◌, nat_lt, ℕ, zero, suc, List, [], ◌∷◌, Bool, true, false, Option, Some, None, if◌then◌else◌, length, replicate, get_or, refl, ap, sym, ◌∙◌, subst, arith}
-use Rattle.std.specs.Prelude.{◌↔◌, slice_get, slice_set}
+use Rattle.std.proofs.Common.{◌≡◌, ◌≢◌, ◌==◌, ◌&&◌, ◌+◌, ◌*◌, ◌<◌, ◌≤◌, nat_lt, ℕ, zero, suc, List, [], ◌∷◌, Bool, true, false, Option, Some, None, if◌then◌else◌, length, replicate, get_or, refl, ap, sym, ◌∙◌, subst, arith, ⊎_elim}
+use Rattle.std.specs.Prelude.{◌↔◌, IsTrue, slice_get, slice_set}
 use Rattle.std.specs.Option.{option_map, option_map_or}
-use Rattle.std.proofs.lemmas.Option.{slice_get_read, slice_get_past}
+use Rattle.std.proofs.lemmas.Option.{slice_get_read, slice_get_past, slice_get_cases, slice_get-get_or}
+use Rattle.std.proofs.lemmas.Bool.{true≢false}
 use Rattle.std.proofs.lemmas.Bool.Decides.{nat_tests}
 use Rattle.ja_machine.proofs.Lists.{slice_get-set_same, slice_get-set_other}
 use Rattle.ja_base.specs.declared.ids.Label.{Label}
@@ -18,6 +19,7 @@ use Rattle.ja_value.specs.Labels.{label_at}
 use Rattle.ja_value.proofs.LabelLemmas.{number_label}
 use Rattle.ja_trie.specs.Join.{Joined, kept_or}
 use Rattle.ja_trie.specs.Nodes.{ArePaths}
+use Rattle.ja_trie.specs.Test.{SaysOfPlaces}
 use Rattle.ja_trie.proofs.JoinLaws.{nothing_joined}
 use Rattle.ja_trie.proofs.Sharing.{long_power}
 use Rattle.ja_aheap.specs.declared.object.AObject.{AObject}
@@ -116,13 +118,53 @@ placed_shown names key p own other = λ i k. pick k (is_key_below names k) refl 
 
 -- ---- heaps compared
 
-pub leq_beyond : (names : ℕ) (a b : List AObject) (n : ℕ) → length a ≤ n → length b ≤ n
+leq_beyond : (names : ℕ) (a b : List AObject) (n : ℕ) → length a ≤ n → length b ≤ n
     → LeqOwn (own_in_place names a n) (own_in_place names b n)
 leq_beyond names a b n short short' k =
     subst (λ (own : Own). LeqProperty (own k) (own_in_place names b n k))
     (sym (shown_beyond names a n short))
     (subst (λ (own : Own). LeqProperty entry_property (own k)) (sym (shown_beyond names b n short'))
     (property_same entry_property))
+
+-- what a test of the objects at each place says of the heaps
+pub leq_in_place : (names : ℕ) (R : AObject → AObject → Bool → Type 0) (xs ys : List AObject)
+    (all : Bool) → length ys ≡ length xs → SaysOfPlaces R xs ys all
+    → ((x y : AObject) (b : Bool) → R x y b
+    → IsTrue b ↔ LeqOwn (own_below names x) (own_below names y))
+    → IsTrue all ↔ ((n : ℕ) → LeqOwn (own_in_place names xs n) (own_in_place names ys n))
+leq_in_place names R xs ys all same says decides = (
+  λ held n. ⊎_elim
+      (λ at.
+      let y = get_or ys n at.0 in
+      let its = slice_get-get_or ys n at.0 (omega (arith, same, at.1)) in
+      placed n at.0 y at.2 its
+      ((decides at.0 y true (says.held held n at.0 y at.2 its)).0 refl))
+      (λ past. leq_beyond names xs ys n past.0 (omega (arith, same, past.0)))
+      (slice_get_cases xs n).1,
+  λ each. pick all refl each,
+)
+  where
+    shown : (objects : List AObject) (n : ℕ) (o : AObject) → slice_get objects n ≡ Some o
+        → own_below names o ≡ own_in_place names objects n
+    shown objects n o at = sym (ap (λ (x : Option AObject). λ k.
+        option_map_or (λ (o : AObject). own_below names o k) x entry_property) at)
+
+    placed : (n : ℕ) (x y : AObject) → slice_get xs n ≡ Some x → slice_get ys n ≡ Some y
+        → LeqOwn (own_below names x) (own_below names y)
+        → LeqOwn (own_in_place names xs n) (own_in_place names ys n)
+    placed n x y at at' h =
+        subst (λ (own : Own). LeqOwn own (own_in_place names ys n)) (shown xs n x at)
+        (subst (LeqOwn (own_below names x)) (shown ys n y at') h)
+
+    pick : (b : Bool) → all ≡ b
+        → ((n : ℕ) → LeqOwn (own_in_place names xs n) (own_in_place names ys n)) → all ≡ true
+    pick true is each = is
+    pick false is each =
+        let f = says.failed is in
+        let here = subst (λ (own : Own). LeqOwn own (own_below names f.2))
+        (sym (shown xs f.0 f.1 f.3)) (subst (LeqOwn (own_in_place names xs f.0))
+        (sym (shown ys f.0 f.2 f.4)) (each f.0)) in
+        absurd (true≢false (sym ((decides f.1 f.2 false f.5).1 here)))
 
 -- at each place, so at each label, and the other way round
 pub leq_by_label : (names names' : ℕ) (a b : List AObject) → names ≡ names'

@@ -52,13 +52,13 @@ impl AHeap {
         ensures { IsTrue result ↔ ((n : ℕ) → LeqOwn (own_in_place self.now.names self.now.objects n)
             (own_in_place self.now.names other.now.objects n)) }
     {
-        for number in 0..2 * self.sites {
-            let object = self.objects.get(number);
-            if !object.leq(self.names, other.objects.get(number)) {
-                return false;
-            }
-        }
-        true
+        let names = self.names;
+        self.objects.all_with(
+            &other.objects,
+            |mine: &AObject, its: &AObject|
+                ensures { IsTrue result ↔ LeqOwn (own_below names mine.now) (own_below names its.now) }
+            { mine.leq(names, its) },
+        )
     }
 
     /// Whether another heap has each part of this one, so that a join of this one changes nothing
