@@ -106,16 +106,16 @@ meets_edge p items t (Back e) b i of gives = absurd (items_of_root p t of (Back 
 
 -- ---- what a visit comes to
 
-pub is_changed : (p : Program) (item : Item) (t u : Table) (v : Visited) → v ≡ Changed
-    → IsVisited p item t u v → (visited p t item ≡ u) × (u ≢ t)
-is_changed p item t u Same e h = absurd (cc)
-is_changed p item t u Changed e h = (h.1, h.2)
-is_changed p item t u Calls e h = absurd (cc)
+pub is_changed : (p : Program) (item : Item) (t u : Table) (v : Visited) (d : Bool)
+    → v ≡ Changed d → IsVisited p item t u v → (visited p t item ≡ u) × (u ≢ t)
+is_changed p item t u Same d e h = absurd (cc)
+is_changed p item t u (Changed demands) d e h = (h.1, h.2)
+is_changed p item t u Calls d e h = absurd (cc)
 
 gives_an_edge : (p : Program) (item : Item) (t u : Table) (v : Visited) → v ≡ Calls
     → IsVisited p item t u v → gives_edge p t item ≡ true
 gives_an_edge p item t u Same e h = absurd (cc)
-gives_an_edge p item t u Changed e h = absurd (cc)
+gives_an_edge p item t u (Changed demands) e h = absurd (cc)
 gives_an_edge p item t u Calls e h = h.0
 
 -- the solver stops at a step that gives an edge
@@ -219,12 +219,14 @@ has_state states n o b h e s =
 -- where no visit was added, those below n stay settled while node n is settled
 pub node_settled : (p : Program) (first before after : Work) (n : ℕ) → GoesOn first before
     → GoesOn before after → (vec_len before.visits ≡ vec_len first.visits
-    → AreSettledBelow p (table_of before.table) n) → IsSettled p (table_of after.table) (step_at n)
+    → AreSettledBelow p (table_of before.table) n)
+    → (vec_len after.visits ≡ vec_len before.visits
+    → IsSettled p (table_of after.table) (step_at n))
     → vec_len after.visits ≡ vec_len first.visits → AreSettledBelow p (table_of after.table) (n + 1)
 node_settled p first before after n h k below here e =
     let s = same_before first before after h k e in
     more_settled p (table_of after.table) n
-    (subst (λ t. AreSettledBelow p t n) (sym s.1) (below s.0)) (λ i. here)
+    (subst (λ t. AreSettledBelow p t n) (sym s.1) (below s.0)) (λ i. here (e ∙ sym s.0))
 
 -- a node without a state is no item
 pub node_passed : (p : Program) (t : Table) (n : ℕ) → is_some (t.state root n) ≡ false

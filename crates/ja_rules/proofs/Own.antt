@@ -292,13 +292,13 @@ own_stays f g e d false b first second h =
     ∙ ap (λ (k : ℕ → Option AbstractState). own_table k e) (second h)
 
 -- what a visit comes to that gives no edge
-pub told_is : (p : Program) (item : Item) (before after : Table) (c : Bool) (v : Visited)
-    → v ≡ (if c then Changed else Same) → gives_edge p before item ≡ false
+pub told_is : (p : Program) (item : Item) (before after : Table) (c d : Bool) (v : Visited)
+    → v ≡ (if c then Changed d else Same) → gives_edge p before item ≡ false
     → visited p before item ≡ after → (c ≡ true → after ≢ before) → (c ≡ false → after ≡ before)
     → IsVisited p item before after v
-told_is p item before after true v v_is none is changes stays =
+told_is p item before after true d v v_is none is changes stays =
     subst (IsVisited p item before after) (sym v_is) (none, is, changes refl)
-told_is p item before after false v v_is none is changes stays =
+told_is p item before after false d v v_is none is changes stays =
     subst (IsVisited p item before after) (sym v_is) (none, is ∙ stays refl, stays refl)
 
 -- .. by other names of the item and of the tables

@@ -10,6 +10,6 @@ use Rattle.ja_rules.specs.declared.visits.Visited.TheVariants.{Same, Changed, Ca
 abbrev pub IsVisited : Program → Item → Table → Table → Visited → Type 0
 IsVisited p item before after Same =
     (gives_edge p before item ≡ false) × (visited p before item ≡ before) × (after ≡ before)
-IsVisited p item before after Changed =
+IsVisited p item before after (Changed demands) =
     (gives_edge p before item ≡ false) × (visited p before item ≡ after) × (after ≢ before)
 IsVisited p item before after Calls = (gives_edge p before item ≡ true) × (after ≡ before)

@@ -1,4 +1,4 @@
-ghost use Rattle.std.specs.Prelude.{◌≡◌, ◌≤◌, ◌+◌, true, false, length, IfOk, IfErr, OnOk, vec_len};
+ghost use Rattle.std.specs.Prelude.{◌≡◌, ◌≤◌, ◌+◌, ◌==◌, ◌||◌, true, false, length, IfOk, IfErr, OnOk, vec_len};
 ghost use Rattle.ja_graph.specs.Kinds.{AreBuilt};
 ghost use Rattle.ja_graph.specs.WellFormed.{IsWellFormed};
 ghost use Rattle.ja_rows.specs.Table.{IsBuilt, IsClosed, IsItem, visited};
@@ -10,9 +10,10 @@ ghost use Rattle.ja_rules.specs.code.Rounds.{AreSettled, GoesOn, HasBuilt, IsSet
 ghost use Rattle.ja_rules.specs.declared.solver.SolveFault.TheVariants as fault;
 
 use crate::table::own_context;
+use crate::visits::node_info;
 use crate::{ATable, Visited, opening, visit};
 use ja_base::{Memory, NodeId, Seq};
-use ja_graph::Program;
+use ja_graph::{NodeInfo, Program};
 use ja_rows::Item;
 use ja_sound::closed_covers;
 use std::alloc::{AllocFailed, Global};
@@ -67,11 +68,12 @@ impl<T: Drop> From<AllocFailed<T>> for SolveFault {
     }
 }
 
-// The table so far, and the visits that built it.
+// The table so far, the visits that built it, and whether the last one demands more values at entry.
 #[derive(Drop)]
 struct Work {
     table: ATable,
     visits: Vec<Item>,
+    demands: bool,
 }
 
 // The step of a node in the program's own context.
@@ -82,6 +84,14 @@ fn step_of(node: NodeId) -> Item
         context: own_context(),
         node,
     }
+}
+
+// Whether a step of a node may go to the node itself.
+fn leads_to_itself(info: &NodeInfo, node: NodeId) -> bool
+    ensures { result ≡ ((info.now.next.0 == node.0)
+        || ((info.now.other.0 == node.0) || (info.now.handler.0 == node.0))) }
+{
+    info.next == node || info.other == node || info.handler == node
 }
 
 impl Work {
@@ -122,19 +132,21 @@ impl Work {
     {
         match visit(alloc, program, &mut self.table, item)? {
             Visited::Same => Ok(false),
-            Visited::Changed => {
+            Visited::Changed { demands } => {
                 if self.visits.len() as u128 >= budget {
                     return Err(self.stopped(alloc, budget, None));
                 }
                 self.visits.push(item)?;
+                self.demands = demands;
                 Ok(true)
             }
             Visited::Calls => Err(self.stopped(alloc, budget, Some(item))),
         }
     }
 
-    // Takes the steps of a node until they change nothing. After each, what the program demands of
-    // its entry is filled, so that the node's next step finds it.
+    // Takes the steps of a node until a further one would change nothing: after a step that demands
+    // more of the entry, those values are filled, so that the node's next step finds them, and where
+    // the node leads to itself its state may have changed.
     fn settle(
         &mut self,
         alloc: Global,
@@ -148,13 +160,18 @@ impl Work {
         requires item { IsItem program.now (table_of self.old.table) (step_at node.0) }
         ensures built { OnOk result (HasBuilt program.now budget self.new) }
         ensures goes_on { OnOk result (GoesOn self.old self.new) }
-        ensures settled { OnOk result (IsSettled program.now (table_of self.new.table)
-            (step_at node.0)) }
+        ensures settled { OnOk result (vec_len self.new.visits ≡ vec_len self.old.visits
+            → IsSettled program.now (table_of self.new.table) (step_at node.0)) }
         ensures fault { IfErr result (Explains program.now budget) }
     {
         let step = step_of(node);
+        let is_loop = leads_to_itself(node_info(program, node), node);
         'steps: while self.take_turn(alloc, program, budget, step)? {
-            self.take_turn(alloc, program, budget, Item::Open)?;
+            if self.demands {
+                self.take_turn(alloc, program, budget, Item::Open)?;
+            } else if !is_loop {
+                break;
+            }
         }
         Ok(())
     }
@@ -199,6 +216,7 @@ pub fn solve(alloc: Global, program: &Program, budget: u128) -> Result<Solved, S
     let mut work = Work {
         table: opening(alloc, program)?,
         visits: Vec::new(alloc),
+        demands: false,
     };
     'rounds: loop {
         let before = work.visits.len();
@@ -208,7 +226,11 @@ pub fn solve(alloc: Global, program: &Program, budget: u128) -> Result<Solved, S
         }
     }
     closed_covers();
-    let Work { table, visits } = work;
+    let Work {
+        table,
+        visits,
+        demands: _,
+    } = work;
     Ok(Solved {
         table,
         visits: Seq::from_vec(visits),

@@ -21,28 +21,28 @@ use ja_rows::Item;
 use ja_transfer::transfer;
 use std::alloc::Global;
 
-/// What a visit comes to: the table is as it was, or it changed, or a call is met, which isn't
-/// followed yet, and the table is as it was.
+/// What a visit comes to: the table is as it was; or it changed, and more values at entry may be
+/// demanded or none; or a call is met, which isn't followed yet, and the table is as it was.
 #[derive(Clone, Copy, Debug, PartialEq, Eq)]
 pub enum Visited {
     Same,
-    Changed,
+    Changed { demands: bool },
     Calls,
 }
 
 // What a visit comes to that meets no call.
-fn told(changed: bool) -> Visited
-    ensures { result ≡ (if changed then comes.Changed else comes.Same) }
+fn told(changed: bool, demands: bool) -> Visited
+    ensures { result ≡ (if changed then comes.Changed demands else comes.Same) }
 {
     if changed {
-        Visited::Changed
+        Visited::Changed { demands }
     } else {
         Visited::Same
     }
 }
 
 // A node of the program's text.
-fn node_info(program: &Program, node: NodeId) -> &NodeInfo
+pub(crate) fn node_info(program: &Program, node: NodeId) -> &NodeInfo
     requires program { IsWellFormed program.now }
     requires node { IsSome (node_at program.now program_function node) }
     ensures { node_at program.now program_function node ≡ Some result.now }
@@ -73,7 +73,7 @@ fn visit_open(alloc: Global, program: &Program, own: &mut ContextTable) -> Resul
     ensures kept { OnErr result (own_of own.new ≡ own_of own.old) }
 {
     let changed = open_entries(alloc, program, &mut own.entries)?;
-    Ok(told(changed))
+    Ok(told(changed, false))
 }
 
 // Takes the step of a node that has a state in the program's own context. After `Memory` the
@@ -105,7 +105,7 @@ fn visit_step(
     let entries = with_demanded(alloc, &own.entries, out.demands)?;
     let joined = join_all(alloc, &mut own.states, out.states.list)?;
     let demanded = replace_entries(&mut own.entries, entries);
-    Ok(told(demanded | joined))
+    Ok(told(demanded | joined, demanded))
 }
 
 /// Joins in what an item of the table gives, unless that is a call edge. After `Memory` the table

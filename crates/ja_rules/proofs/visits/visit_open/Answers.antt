@@ -1,4 +1,4 @@
-use Rattle.std.proofs.Common.{refl, sym, ap, subst, ◌∙◌}
+use Rattle.std.proofs.Common.{false, refl, sym, ap, subst, ◌∙◌}
 use Rattle.std.specs.Prelude.{IsSome}
 use Rattle.ja_abstract.specs.Resolved.{Entries}
 use Rattle.ja_aheap.specs.Entries.{entries_of}
@@ -27,7 +27,7 @@ returns-clause-visited c =
     let was = entries_of c.args.own.now.entries in
     let now = entries_of c.open_entries.new.entries in
     told_is c.args.program.now Open (own_table states was) (own_table states now)
-    c.in_ok-changed.changed c.told.result c.told.ensures refl
+    c.in_ok-changed.changed false c.told.result c.told.ensures refl
     (own-open c.args.program.now states was
     ∙ ap (own_table states) (sym c.in_ok-changed.ensures.opened))
     (λ h back. c.in_ok-changed.ensures.changed h (ap (λ (t : Table). t.entry root) back))

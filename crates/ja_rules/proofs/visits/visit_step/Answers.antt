@@ -146,7 +146,7 @@ returns-clause-visited c =
     c.is_empty.result count c.is_empty.ensures empty in
     let entries_are = ap entries_of c.replace_entries-demanded.ensures.replaced
     ∙ c.in_ok-entries.ensures.demanded in
-    told_is p (Step root c.args.node) (own_table f e) (own_table g d) _ c.told.result
+    told_is p (Step root c.args.node) (own_table f e) (own_table g d) _ _ c.told.result
     c.told.ensures
     (own-edge p f e c.args.node info a c.node_info-info.ensures state_is (out_of c.in_ok-out.out)
     out_is ∙ ap has_edge none)

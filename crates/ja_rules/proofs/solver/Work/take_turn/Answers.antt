@@ -7,7 +7,7 @@ use Rattle.ja_rules.proofs.solver.Work.take_turn.Goals as goal
 pub returns-in_ok-push-in-Changed-clause-built : goal.returns-in_ok-push-in-Changed-clause-built
 returns-in_ok-push-in-Changed-clause-built c =
     let changed = is_changed c.args.program.now c.args.item (table_of c.args.self.now.table)
-    (table_of c.visit.new.table) c.in_ok-visit.field-0 c.in-Changed.is
+    (table_of c.visit.new.table) c.in_ok-visit.field-0 c.in-Changed.demands c.in-Changed.is
     c.in_ok-visit.ensures.visited in
     record {
       fits = c.visit.ensures.fits;
