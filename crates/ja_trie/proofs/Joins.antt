@@ -1,5 +1,5 @@
 -- Lists joined place by place: one place more, and lists one after another.
-use Rattle.std.proofs.Common.{◌≡◌, ℕ, zero, suc, ◌+◌, ◌-◌, ◌*◌, ◌<◌, ◌≤◌, min, Option, None, Some, List, [], ◌∷◌, ◌++◌, length, get_or, set, map, refl, sym, ap, ◌∙◌, subst, arith, add-one, drop, ⊎_elim, ◌/◌, ◌^◌, nat_lt, take, true, false, Bool, mul-le-mul_left}
+use Rattle.std.proofs.Common.{◌≡◌, ℕ, zero, suc, ◌+◌, ◌-◌, ◌*◌, ◌<◌, ◌≤◌, min, Option, None, Some, List, [], ◌∷◌, ◌++◌, length, get_or, set, map, replicate, is_some, refl, sym, ap, ◌∙◌, subst, arith, add-one, drop, ⊎_elim, ◌/◌, ◌^◌, nat_lt, take, true, false, Bool, mul-le-mul_left}
 use Rattle.std.specs.List.{flat_map}
 use Rattle.std.proofs.lemmas.Bool.{cases_lt, lt-ltb}
 use Rattle.std.proofs.lemmas.Bool.Decides.{nat_tests}
@@ -7,7 +7,7 @@ use Rattle.std.proofs.lemmas.List.{length-set}
 use Rattle.std.proofs.lemmas.List.Elements.{All-set}
 use Rattle.ja_trie.specs.code.Node.{AreLong}
 use Rattle.ja_trie.specs.code.NodeFalls.{long_rest}
-use Rattle.ja_trie.specs.Join.{Joined}
+use Rattle.ja_trie.specs.Join.{Joined, kept_or, put_by}
 use Rattle.ja_trie.specs.code.Join.{JoinedTo}
 
 module _ {T : Type 0} (R : T → T → Option T → Type 0) where
@@ -288,6 +288,37 @@ module _ {T : Type 0} (R : T → T → Option T → Type 0) where
   joined_take (suc n) (x ∷ xs) (y ∷ ys) (z ∷ zs) puts h =
       (h.0, h.1, h.2, h.3, h.4, joined_take n xs ys zs h.1 h.5)
 
+  -- one value joined with another, at each of k places
+  pub joined_each : (k n : ℕ) (x y : T) (answer : Option T) → k ≤ n → R x y answer
+      → JoinedTo R n (replicate k x) (replicate k y) (replicate k (kept_or x answer))
+      (k * put_by answer)
+  joined_each zero n x y answer le r = (refl, omega arith)
+  joined_each (suc k) zero x y answer le r = absurd (omega arith)
+  joined_each (suc k) (suc n) x y answer le r =
+      let more : (k + 1) * put_by answer ≡ k * put_by answer + put_by answer = omega arith in
+      (answer, k * put_by answer, r, refl, omega arith, joined_each k n x y answer (omega arith) r)
+
+  -- .. and one list with another, k times
+  pub joined_copies : {X : Type 0} (x y z : X) (f : X → List T) (w k n puts : ℕ)
+      → length (f x) ≡ w → length (f y) ≡ w → k * w ≤ n → JoinedTo R w (f x) (f y) (f z) puts
+      → JoinedTo R n (flat_map f (replicate k x)) (flat_map f (replicate k y))
+      (flat_map f (replicate k z)) (k * puts)
+  joined_copies x y z f w zero n puts long long' le h = (refl, omega arith)
+  joined_copies x y z f w (suc k) n puts long long' le h =
+      let more : (k + 1) * w ≡ k * w + w = omega arith in
+      let more_puts : (k + 1) * puts ≡ k * puts + puts = omega arith in
+      let all : puts + k * puts ≡ suc k * puts = omega arith in
+      subst (λ c. JoinedTo R n (f x ++ flat_map f (replicate k x)) (f y ++ flat_map f (replicate k y))
+      (f z ++ flat_map f (replicate k z)) c) all
+      (joined_append R n (f x) (f y) (f z) _ _ _ puts (k * puts) (long' ∙ sym long)
+      (joined_past R w n (f x) (f y) (f z) puts (omega arith) (omega arith) h)
+      (joined_copies x y z f w k (n - length (f x)) puts long long' (omega arith) h))
+
+-- eight places are put where one is
+pub told_each : {T : Type 0} (answer : Option T) → is_some answer ≡ nat_lt 0 (8 * put_by answer)
+told_each None = refl
+told_each (Some x) = refl
+
 -- what the answer that something was put says of the count
 pub some_put : (puts : ℕ) → true ≡ nat_lt 0 puts → 0 < puts
 some_put puts e = grind (arith, nat_tests)
@@ -422,4 +453,26 @@ room_for h k puts left n from mid to e few made more =
     let both : (k + 1) * (puts + left) ≡ (k + 1) * puts + (k + 1) * left = omega arith in
     let all : (k + 1) * (puts + left) ≤ (k + 1) * n = mul-le-mul_left (k + 1) few in
     let higher : (h + 1) * n ≡ (k + 1) * n + n = ap (λ m. (m + 1) * n) e ∙ omega arith in
+    omega arith
+
+-- one node above those below, where the places that were put are eight times theirs
+pub one_above : (h k puts from mid to : ℕ) → h ≡ k + 1 → 0 < puts → mid ≤ from + (k + 1) * puts
+    → to ≤ mid + 1 → to ≤ from + (h + 1) * (8 * puts)
+one_above h k puts from mid to e some made more =
+    let all : (h + 1) * (8 * puts) ≡ 8 * ((k + 1) * puts) + 8 * puts =
+    ap (λ m. (m + 1) * (8 * puts)) e ∙ omega arith in
+    omega arith
+
+-- .. and where the places that count are
+pub room_above : (h k puts w n from mid to : ℕ) → h ≡ k + 1 → 0 < w → puts ≤ w → 8 * w ≤ n
+    → mid ≤ from + (k + 1) * puts → to ≤ mid + 1 → to ≤ from + (h + 1) * n
+room_above h k puts w n from mid to e some few room made more =
+    let all : (k + 1) * puts ≤ (k + 1) * n = mul-le-mul_left (k + 1) (omega arith) in
+    let higher : (h + 1) * n ≡ (k + 1) * n + n = ap (λ m. (m + 1) * n) e ∙ omega arith in
+    omega arith
+
+-- one node for eight places
+pub one_for_each : (h n puts from to : ℕ) → to ≤ from + puts → puts ≤ n → to ≤ from + (h + 1) * n
+one_for_each h n puts from to made few =
+    let all : (h + 1) * n ≡ h * n + n = omega arith in
     omega arith

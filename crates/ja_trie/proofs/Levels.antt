@@ -1,13 +1,13 @@
 -- Lists of one length, one after another: where a place of the whole stands, and what a write there
 -- changes.
-use Rattle.std.proofs.Common.{◌≡◌, ℕ, zero, suc, ◌+◌, ◌-◌, ◌*◌, ◌/◌, ◌%◌, ◌^◌, ◌<◌, ◌≤◌, Bool, true, false, if◌then◌else◌, List, [], ◌∷◌, ◌++◌, length, get_or, set, map, refl, sym, ap, ◌∙◌, subst, arith, pow-suc}
+use Rattle.std.proofs.Common.{◌≡◌, ℕ, zero, suc, ◌+◌, ◌-◌, ◌*◌, ◌/◌, ◌%◌, ◌^◌, ◌<◌, ◌≤◌, Bool, true, false, if◌then◌else◌, List, [], ◌∷◌, ◌++◌, length, get_or, set, map, replicate, drop, refl, sym, ap, ◌∙◌, subst, arith, pow-suc}
 use Rattle.std.specs.List.{flat_map, AllZip}
-use Rattle.std.proofs.lemmas.List.{get_or_append_left, get_or-append-add, set-append_left, set-append_right, length-map}
+use Rattle.std.proofs.lemmas.List.{get_or_append_left, get_or-append-add, set-append_left, set-append_right, length-map, get_or-map, get_or-replicate}
 use Rattle.std.proofs.lemmas.Nat.{div-add-mod', div_below, mod_below}
 use Rattle.std.proofs.lemmas.List.Elements.{AllZip-get_or, length_all_zip}
 use Rattle.ja_trie.specs.declared.node.Kids.{Kids}
 use Rattle.ja_trie.specs.declared.node.Kids.TheVariants.{Nodes, Values}
-use Rattle.ja_trie.specs.code.Node.{places, IsNode, AreLong}
+use Rattle.ja_trie.specs.code.Node.{places, IsNode, AreLong, AreSame}
 use Rattle.ja_trie.specs.code.NodeFalls.{long_rest, level_length}
 
 module _ {X A : Type 0} (f : X → List A) (w : ℕ) where
@@ -177,3 +177,59 @@ pub same_put : {X A : Type 0} (f : X → List A) (xs : List X) (q : ℕ) (y e : 
 same_put f [] q y e h lt = absurd (omega arith)
 same_put f (x ∷ xs) zero y e h lt = ap (λ l. l ++ flat_map f xs) h
 same_put f (x ∷ xs) (suc q) y e h lt = ap (λ l. f x ++ l) (same_put f xs q y e h (omega arith))
+
+-- ---- eight that are the same
+
+-- each of them
+pub each_same : {X A : Type 0} (f : X → A) (xs : List X) (a : A) (i : ℕ) (d : X)
+    → map f xs ≡ replicate 8 a → i < 8 → f (get_or xs i d) ≡ a
+each_same f xs a i d same below =
+    let eight : length xs ≡ 8 = sym (length-map xs f) ∙ ap length same in
+    sym (get_or-map f xs i d a (omega arith)) ∙ ap (λ l. get_or l i a) same
+    ∙ get_or-replicate 8 i a a below
+
+-- the same parts are the same list
+same_parts : {X A : Type 0} (f : X → List A) (xs ys : List X) → map f xs ≡ map f ys
+    → flat_map f xs ≡ flat_map f ys
+same_parts f [] [] e = refl
+same_parts f [] (y ∷ ys) e = absurd (omega (arith, ap length e))
+same_parts f (x ∷ xs) [] e = absurd (omega (arith, ap length e))
+same_parts f (x ∷ xs) (y ∷ ys) e =
+    ap (λ l. l ++ flat_map f xs) (ap (λ l. get_or l 0 (f x)) e)
+    ∙ ap (λ l. f y ++ l) (same_parts f xs ys (ap (λ l. drop 1 l) e))
+
+-- one part of w places that a list has eight times
+pub record IsEightTimes {X A : Type 0} (f : X → List A) (w : ℕ) (x : X) (self : List A)
+    : Type 0 where
+  pub wide : 0 < w
+  pub next : 8 * (w / 8) ≡ w
+  pub less : w / 8 < w
+  pub long : length (f x) ≡ w
+  pub whole : flat_map f (replicate 8 x) ≡ self
+
+-- the first of eight nodes that are the same
+pub first_node : {T : Type 0} (kids : Kids T) (ns : _) (w : ℕ) (self : List T) (d : _)
+    → kids ≡ Nodes ns → IsNode kids → places kids ≡ self → length self ≡ 8 * w → AreSame kids
+    → IsEightTimes (λ n. n.value) w (get_or ns 0 d) self
+first_node kids ns w self d is shape view wide same =
+    let b = below kids ns w self is shape view wide in
+    let here = subst AreSame is same in
+    record {
+      wide = b.0;
+      next = b.1;
+      less = omega (arith, b.0, b.1);
+      long = b.3 0 d (omega (arith, b.2));
+      whole = sym (same_parts (λ n. n.value) ns (replicate 8 (get_or ns 0 d)) (here.1
+          ∙ ap (λ l. replicate 8 l)
+          (sym (each_same (λ n. n.value) ns here.0 0 d here.1 (omega arith)))))
+          ∙ ap places (sym is) ∙ view;
+    }
+
+-- .. and of eight values
+pub first_value : {T : Type 0} (kids : Kids T) (xs : _) (self : List T) (d : _)
+    → kids ≡ Values xs → places kids ≡ self → AreSame kids
+    → self ≡ replicate 8 (get_or xs 0 d).value
+first_value kids xs self d is view same =
+    let here = subst AreSame is same in
+    sym view ∙ ap places is ∙ here.1 ∙ ap (λ v. replicate 8 v)
+    (sym (each_same (λ x. x.value) xs here.0 0 d here.1 (omega arith)))

@@ -1,8 +1,9 @@
 -- Lists tested place by place: lists one after another, and lists that are cut.
-use Rattle.std.proofs.Common.{◌≡◌, ℕ, zero, suc, ◌+◌, ◌-◌, ◌*◌, ◌/◌, ◌%◌, ◌<◌, ◌≤◌, Bool, true, false, List, [], ◌∷◌, length, get_or, take, refl, sym, ap, ◌∙◌, subst, arith, below_more}
+use Rattle.std.proofs.Common.{◌≡◌, ℕ, zero, suc, ◌+◌, ◌-◌, ◌*◌, ◌/◌, ◌%◌, ◌<◌, ◌≤◌, Bool, true, false, List, [], ◌∷◌, length, get_or, take, replicate, refl, sym, ap, ◌∙◌, subst, arith, below_more}
 use Rattle.std.specs.List.{flat_map}
 use Rattle.std.proofs.lemmas.Bool.{true≢false}
-use Rattle.std.proofs.lemmas.List.{get_or_default}
+use Rattle.std.proofs.lemmas.List.{get_or_default, get_or-replicate}
+use Rattle.std.proofs.lemmas.List.Elements.{All-replicate}
 use Rattle.std.proofs.lemmas.Nat.{div-add-mod', div_below, mod_below}
 use Rattle.std.proofs.lemmas.Option.{slice_get_within, slice_get-get_or, get_or_from_slice_get}
 use Rattle.ja_trie.specs.Test.{SaysOfPlaces}
@@ -95,6 +96,42 @@ module _ {T : Type 0} (R : T → T → Bool → Type 0) where
         ∙ ap (λ j. get_or (flat_map f ms) j d) at)
         (held (k / w) (omega arith) (k % w) d e rest (omega arith));
     failed = λ wrong. absurd (true≢false wrong);
+  }
+
+  -- what is said of two parts, as far as they are counted, is said of each of them eight times
+  pub said_copies : {X : Type 0} (x y : X) (f : X → List T) (w n : ℕ) (b : Bool)
+      → length (f x) ≡ w → length (f y) ≡ w → 0 < w → SaysOfFirst R n (f x) (f y) b
+      → SaysOfFirst R n (flat_map f (replicate 8 x)) (flat_map f (replicate 8 y)) b
+  said_copies x y f w n true long long' wide said =
+      held_all f w n (replicate 8 x) (replicate 8 y) 8 (omega arith) refl wide
+      (All-replicate (λ v. length (f v) ≡ w) 8 x long)
+      (All-replicate (λ v. length (f v) ≡ w) 8 y long')
+      (λ q below r d e inside within. said_of R _ _ _ _ true
+      (sym (ap (λ v. get_or (f v) r d) (get_or-replicate 8 q x e below)))
+      (sym (ap (λ v. get_or (f v) r d) (get_or-replicate 8 q y e below)))
+      (said.held refl r (omega arith) (omega arith) d))
+  said_copies x y f w n false long long' wide said =
+      failed_at f w n (replicate 8 x) (replicate 8 y) 0 n x (omega arith) (omega arith)
+      (All-replicate (λ v. length (f v) ≡ w) 8 x long)
+      (All-replicate (λ v. length (f v) ≡ w) 8 y long') (omega arith) said
+
+  -- .. and of two values
+  pub said_each : (n : ℕ) (xs ys : List T) (x y : T) (b : Bool) → xs ≡ replicate 8 x
+      → ys ≡ replicate 8 y → 0 < n → R x y b → SaysOfFirst R n xs ys b
+  said_each n xs ys x y b same same' some r = record {
+    held = λ all k within inside d. said_of R _ _ _ _ true
+        (sym (ap (λ l. get_or l k d) same
+        ∙ get_or-replicate 8 k x d (omega (arith, ap length same))))
+        (sym (ap (λ l. get_or l k d) same'
+        ∙ get_or-replicate 8 k y d (omega (arith, ap length same))))
+        (subst (R x y) all r);
+    failed = λ none. (
+      0,
+      some,
+      omega (arith, ap length same),
+      λ d. said_of R _ _ _ _ false (sym (ap (λ l. get_or l 0 d) same))
+          (sym (ap (λ l. get_or l 0 d) same')) (subst (R x y) none r),
+    );
   }
 
   -- what is said of the roots as far as the first list goes is said of the lists

@@ -7,6 +7,10 @@
 //! `all_with` tells whether a test holds of the values at each place of two lists (`SaysOfPlaces`).
 //! After want of memory the list is as it was.
 //!
+//! A node that has one kid eight times knows it: a join and a test of two such nodes go through
+//! that kid alone, so what both lists still have from when they were made costs a few steps a
+//! level, however long it is. No contract says so.
+//!
 //! The nodes that are made are counted (`Steps`, `ArePaths`). Where d is the least number with
 //! 8^(d + 1) at least the length, `new` and `set` make at most d + 1, `fork` none, and `join_with`
 //! at most d + 1 for each place that it put, or after want of memory for each place of the list. No

@@ -1,8 +1,9 @@
 ghost use Rattle.std.specs.Prelude.{◌≡◌, ℕ, ◌+◌, ◌*◌, ◌^◌, ◌<◌, ◌≤◌, ◌-◌, ◌/◌, IfOk, OnErr, MatchResult};
 ghost use Rattle.std.specs.Prelude.{if◌then◌else◌, is_ok, is_some, nat_lt, length, map, flat_map};
+ghost use Rattle.std.specs.Prelude.{Option, true};
 ghost use Rattle.std.specs.Prelude.{replicate, slice_index_or, slice_set};
-ghost use Rattle.ja_trie.specs.code.Node.{places, places_after, IsNode};
-ghost use Rattle.ja_trie.specs.Join.{MayAnswer};
+ghost use Rattle.ja_trie.specs.code.Node.{places, places_after, IsNode, AreSame};
+ghost use Rattle.ja_trie.specs.Join.{MayAnswer, kept_or, put_by};
 ghost use Rattle.ja_trie.specs.code.Join.{JoinedTo};
 ghost use Rattle.ja_trie.specs.Test.{MaySay};
 ghost use Rattle.ja_trie.specs.code.Test.{SaysOfFirst};
@@ -23,10 +24,15 @@ pub const FAN_OUT: u32 = 8;
 /// the places behind them share what the list was made with. So a node has 8 to the power of its
 /// height in places, and its kids are equally high. The height is kept nowhere: a call is told the
 /// `width`, how many places stand below each kid.
+///
+/// A node that was made with one kid eight times knows it until a place of it is put. Where both
+/// sides of a join or a test know it of theirs, one step goes through all eight.
 #[cycle(node)]
 #[derive(Drop)]
 pub struct Node<T> {
     kids: Kids<T>,
+    /// Says that all eight kids have the same values. Where it doesn't they may have them too.
+    same: bool,
 }
 
 /// What hangs at a node: eight values, or eight nodes of one height.
@@ -38,36 +44,38 @@ pub enum Kids<T> {
 }
 
 impl<T> Model for Node<T> {
-    ghost use Rattle.std.specs.Prelude.{List, length};
+    ghost use Rattle.std.specs.Prelude.{◌≡◌, true, List, length};
 
     ghost Value = { List T };
 
-    ghost use Rattle.ja_trie.specs.code.Node.{places, IsNode};
+    ghost use Rattle.ja_trie.specs.code.Node.{places, IsNode, AreSame};
 
     ghost view = { λ n. places n.kids };
 
-    ghost invariant = { λ n. IsNode n.kids };
+    ghost invariant = { λ n. IsNode n.kids × (n.same ≡ true → AreSame n.kids) };
 
     ghost size = { length };
 
     ghost use Rattle.ja_trie.specs.code.NodeFalls.{depth_within_places};
 
-    ghost size_decreases = { λ n h. depth_within_places n.kids h };
+    ghost size_decreases = { λ n h. depth_within_places n.kids h.0 };
 }
 
 impl<T: Drop> Node<T> {
-    /// The one way to make a node. It is one step. There is none where memory is refused, and then
-    /// no step is counted.
+    /// The one way to make a node, which is told whether its kids are the same. It is one step.
+    /// There is none where memory is refused, and then no step is counted.
     pub fn new<L: Ledger>(
         alloc: Global,
         kids: Kids<T>,
+        same: bool,
         steps: &mut Steps<L>,
     ) -> Result<Rc<Node<T>>, Memory>
-        requires { IsNode kids }
+        requires shape { IsNode kids }
+        requires same { same ≡ true → AreSame kids }
         ensures ok { IfOk result (λ node. node.value ≡ places kids) }
         ensures ticked { steps.new ≡ steps.old + (if is_ok result then 1 else 0) }
     {
-        let node = Rc::new(alloc, Node { kids })?;
+        let node = Rc::new(alloc, Node { kids, same })?;
         steps.tick();
         Ok(node)
     }
@@ -91,7 +99,7 @@ impl<T: Drop> Node<T> {
             value.clone()?,
             value.clone()?,
         ];
-        Node::new(alloc, Kids::Values(kids), steps)
+        Node::new(alloc, Kids::Values(kids), true, steps)
     }
 
     /// A node with one node as each of its eight kids, all of them shared.
@@ -115,7 +123,7 @@ impl<T: Drop> Node<T> {
             node.clone()?,
             node.clone()?,
         ];
-        Node::new(alloc, Kids::Nodes(kids), steps)
+        Node::new(alloc, Kids::Nodes(kids), true, steps)
     }
 
     /// The value at a place.
@@ -154,14 +162,14 @@ impl<T: Drop> Node<T> {
             Kids::Values(values) => {
                 let mut values = values.clone()?;
                 values[index as usize] = value;
-                Node::new(alloc, Kids::Values(values), steps)
+                Node::new(alloc, Kids::Values(values), false, steps)
             }
             Kids::Nodes(nodes) => {
                 let at = (index / width) as usize;
                 let below = nodes[at].set(alloc, index % width, width / FAN_OUT, value, steps)?;
                 let mut nodes = nodes.clone()?;
                 nodes[at] = below;
-                Node::new(alloc, Kids::Nodes(nodes), steps)
+                Node::new(alloc, Kids::Nodes(nodes), false, steps)
             }
         }
     }
@@ -185,23 +193,26 @@ impl<T: Drop> Node<T> {
             → steps.new ≤ steps.old + h + 1 }
     {
         match Rc::get_mut(node) {
-            Some(own) => match &mut own.kids {
-                Kids::Values(values) => {
-                    values[index as usize] = value;
-                    Ok(())
+            Some(own) => {
+                own.same = false;
+                match &mut own.kids {
+                    Kids::Values(values) => {
+                        values[index as usize] = value;
+                        Ok(())
+                    }
+                    Kids::Nodes(nodes) => {
+                        let at = (index / width) as usize;
+                        Node::put(
+                            &mut nodes[at],
+                            alloc,
+                            index % width,
+                            width / FAN_OUT,
+                            value,
+                            steps,
+                        )
+                    }
                 }
-                Kids::Nodes(nodes) => {
-                    let at = (index / width) as usize;
-                    Node::put(
-                        &mut nodes[at],
-                        alloc,
-                        index % width,
-                        width / FAN_OUT,
-                        value,
-                        steps,
-                    )
-                }
-            },
+            }
             None => {
                 *node = node.set(alloc, index, width, value, steps)?;
                 Ok(())
@@ -211,7 +222,8 @@ impl<T: Drop> Node<T> {
 
     /// The same node joined with another one at its first `count` places, or none where no place is
     /// put. It makes at most one node a level for each place that it put, and where memory is
-    /// refused for each of the first `count` places.
+    /// refused for each of the first `count` places. Where both know that their kids are the same
+    /// and all their places count, it joins one kid with one, and has the result eight times.
     pub fn join<L: Ledger, F: Fn(&T, &T) -> Result<Option<T>, Memory>>(
         &self,
         other: &Node<T>,
@@ -238,13 +250,29 @@ impl<T: Drop> Node<T> {
         }
         match (&self.kids, &other.kids) {
             (Kids::Values(values), Kids::Values(others)) => {
+                if self.same && other.same && count / FAN_OUT >= width {
+                    return join_value(alloc, &values[0], &others[0], join, steps);
+                }
                 let (kids, changed) = join_values(alloc, values, others, count, join)?;
                 if !changed {
                     return Ok(None);
                 }
-                Ok(Some(Node::new(alloc, Kids::Values(kids), steps)?))
+                Ok(Some(Node::new(alloc, Kids::Values(kids), false, steps)?))
             }
             (Kids::Nodes(nodes), Kids::Nodes(others)) => {
+                if self.same && other.same && count / FAN_OUT >= width {
+                    return match nodes[0].join(
+                        &others[0],
+                        alloc,
+                        width,
+                        width / FAN_OUT,
+                        join,
+                        steps,
+                    )? {
+                        Some(kid) => Ok(Some(Node::of_node(alloc, &kid, steps)?)),
+                        None => Ok(None),
+                    };
+                }
                 let mut kids = nodes.clone()?;
                 let mut changed = false;
                 let mut left = count;
@@ -265,7 +293,7 @@ impl<T: Drop> Node<T> {
                 if !changed {
                     return Ok(None);
                 }
-                Ok(Some(Node::new(alloc, Kids::Nodes(kids), steps)?))
+                Ok(Some(Node::new(alloc, Kids::Nodes(kids), false, steps)?))
             }
             _ => unreachable!(),
         }
@@ -273,6 +301,7 @@ impl<T: Drop> Node<T> {
 
     /// Whether a test holds of the values at each of the first `count` places of this node and of
     /// another one. It takes no memory, and ends at the first place where the test doesn't hold.
+    /// Where both know that their kids are the same, the first one of each stands for all.
     pub fn all_with<F: Fn(&T, &T) -> bool>(
         &self,
         other: &Node<T>,
@@ -289,8 +318,16 @@ impl<T: Drop> Node<T> {
             return true;
         }
         match (&self.kids, &other.kids) {
-            (Kids::Values(values), Kids::Values(others)) => all_values(values, others, count, test),
+            (Kids::Values(values), Kids::Values(others)) => {
+                if self.same && other.same {
+                    return test(&values[0], &others[0]);
+                }
+                all_values(values, others, count, test)
+            }
             (Kids::Nodes(nodes), Kids::Nodes(others)) => {
+                if self.same && other.same {
+                    return nodes[0].all_with(&others[0], count, width / FAN_OUT, test);
+                }
                 let mut left = count;
                 for i in 0..FAN_OUT as usize {
                     if !nodes[i].all_with(&others[i], left, width / FAN_OUT, test) {
@@ -302,6 +339,31 @@ impl<T: Drop> Node<T> {
             }
             _ => unreachable!(),
         }
+    }
+}
+
+/// A node with one value at its eight places, joined with another such node: `join` is asked once.
+fn join_value<T: Drop, L: Ledger, F: Fn(&T, &T) -> Result<Option<T>, Memory>>(
+    alloc: Global,
+    value: &T,
+    other: &T,
+    join: &F,
+    steps: &mut Steps<L>,
+) -> Result<Option<Rc<Node<T>>>, Memory>
+    requires { F.IsAlwaysCallable join.now }
+    ensures { MatchResult result
+        (λ node. (answer : Option T) × MayAnswer F.Fn join.now value.now other.now answer
+        × (is_some node ≡ is_some answer)
+        × (places_after (replicate 8 value.now) node ≡ replicate 8 (kept_or value.now answer))
+        × (steps.new ≤ steps.old + put_by answer))
+        (λ e. steps.new ≤ steps.old + 1) }
+{
+    match join(value, other)? {
+        Some(joined) => {
+            let joined = Rc::new(alloc, joined)?;
+            Ok(Some(Node::of_value(alloc, &joined, steps)?))
+        }
+        None => Ok(None),
     }
 }
 

@@ -105,11 +105,11 @@ impl<T: Drop> Shared<T> {
     }
 
     /// Joins the list with one of the same length, place by place: a place keeps its value where
-    /// `join` answers none, and has the value that it answers else. `join` is asked once at each
-    /// place, whatever both lists share. Answers whether a place was put; where none was, no node
-    /// was made, and else at most one a level for each place that was put. Where memory is refused,
-    /// by `join` or else, the list is as it was, and nodes may have been made and thrown away, at
-    /// most one a level for each place.
+    /// `join` answers none, and has the value that it answers else. `join` is asked at each place,
+    /// but once for all places of two nodes that have one value each throughout. Answers whether a
+    /// place was put; where none was, no node was made, and else at most one a level for each place
+    /// that was put. Where memory is refused, by `join` or else, the list is as it was, and nodes
+    /// may have been made and thrown away, at most one a level for each place.
     pub fn join_with<L: Ledger, F: Fn(&T, &T) -> Result<Option<T>, Memory>>(
         &mut self,
         other: &Shared<T>,
@@ -143,8 +143,8 @@ impl<T: Drop> Shared<T> {
     }
 
     /// Whether a test holds of the values at each place of the list and of one of the same length.
-    /// It goes through both once, takes no memory, and ends at the first place where the test
-    /// doesn't hold.
+    /// It goes through both once, and once through nodes that have one kid eight times on both
+    /// sides. It takes no memory, and ends at the first place where the test doesn't hold.
     pub fn all_with<F: Fn(&T, &T) -> bool>(&self, other: &Shared<T>, test: F) -> bool
         requires same { length other.now ≡ length self.now }
         requires may { F.IsAlwaysCallable test }

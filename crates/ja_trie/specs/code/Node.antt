@@ -1,5 +1,5 @@
 -- What a node of a shared list stands for, and its shape.
-use Rattle.std.specs.Prelude.{◌≡◌, ℕ, ◌*◌, ◌<◌, List, length, map, Option, Some, None}
+use Rattle.std.specs.Prelude.{◌≡◌, ℕ, ◌*◌, ◌<◌, List, length, map, replicate, Option, Some, None}
 use Rattle.std.specs.declared.rc.Rc.{Rc}
 use Rattle.std.proofs.Common.{Global}
 use Rattle.std.specs.List.{All, flat_map}
@@ -20,6 +20,11 @@ abbrev pub IsNode : {T : Type 0} → Kids T → Type 0
 IsNode (Values xs) = length xs ≡ 8
 IsNode (Nodes ns) =
     (length ns ≡ 8) × ((c : ℕ) × (0 < c) × AreLong (λ n. n.value) ns (8 * c))
+
+-- one value at eight places, or eight nodes with the same values
+abbrev pub AreSame : {T : Type 0} → Kids T → Type 0
+AreSame {T} (Values xs) = (x : T) × (map (λ x. x.value) xs ≡ replicate 8 x)
+AreSame {T} (Nodes ns) = (below : List T) × (map (λ n. n.value) ns ≡ replicate 8 below)
 
 -- the places of a node that was made, or those that were there
 abbrev pub places_after : {T : Type 0} → List T → Option (Rc (List T) Global) → List T

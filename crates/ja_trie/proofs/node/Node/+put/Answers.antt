@@ -8,7 +8,7 @@ use Rattle.ja_trie.proofs.node.Node.+put.Goals as goal
 pub put-requires : goal.put-requires
 put-requires g t c κs within =
     let at = kid c.own.inside.kids c.in-Nodes.nodes c.args.width c.args.index c.args.node.now.value
-    c.in-Nodes.is c.own.invariant (c.own.view_is ∙ c.in-Some.ensures.value) c.requires.level
+    c.in-Nodes.is c.own.invariant.0 (c.own.view_is ∙ c.in-Some.ensures.value) c.requires.level
     c.requires.within in
     let long = at.long (c.args.index / c.args.width) c.index-nodes-at.result
     (omega (arith, at.kid, at.eight)) in
@@ -23,7 +23,7 @@ returns-in-Values-clause-ok g t c =
 pub returns-in-Nodes-clause-ok : goal.returns-in-Nodes-clause-ok
 returns-in-Nodes-clause-ok g t c =
     let at = kid c.own.inside.kids c.in-Nodes.nodes c.args.width c.args.index c.args.node.now.value
-    c.in-Nodes.is c.own.invariant (c.own.view_is ∙ c.in-Some.ensures.value) c.requires.level
+    c.in-Nodes.is c.own.invariant.0 (c.own.view_is ∙ c.in-Some.ensures.value) c.requires.level
     c.requires.within in
     IfOk-weaker c.put.result _ _
     (λ _ e. at.writes c.args.value.value c.put.new.node c.index-nodes-at.result e)
@@ -32,7 +32,7 @@ returns-in-Nodes-clause-ok g t c =
 pub returns-in-Nodes-clause-err : goal.returns-in-Nodes-clause-err
 returns-in-Nodes-clause-err g t c =
     let at = kid c.own.inside.kids c.in-Nodes.nodes c.args.width c.args.index c.args.node.now.value
-    c.in-Nodes.is c.own.invariant (c.own.view_is ∙ c.in-Some.ensures.value) c.requires.level
+    c.in-Nodes.is c.own.invariant.0 (c.own.view_is ∙ c.in-Some.ensures.value) c.requires.level
     c.requires.within in
     on_err_weaker c.put.result (λ e. same_put (λ n. n.value) c.in-Nodes.nodes
     (c.args.index / c.args.width) c.put.new.node c.index-nodes-at.result e
@@ -42,7 +42,7 @@ returns-in-Nodes-clause-err g t c =
 pub returns-in-Nodes-clause-nodes : goal.returns-in-Nodes-clause-nodes
 returns-in-Nodes-clause-nodes g t c h high =
     let at = kid c.own.inside.kids c.in-Nodes.nodes c.args.width c.args.index c.args.node.now.value
-    c.in-Nodes.is c.own.invariant (c.own.view_is ∙ c.in-Some.ensures.value) c.requires.level
+    c.in-Nodes.is c.own.invariant.0 (c.own.view_is ∙ c.in-Some.ensures.value) c.requires.level
     c.requires.within in
     let long = at.long (c.args.index / c.args.width) c.index-nodes-at.result
     (omega (arith, at.kid, at.eight)) in

@@ -8,7 +8,7 @@ use Rattle.ja_trie.proofs.node.Node.+set.Goals as goal
 pub set-requires : goal.set-requires
 set-requires g t c κs within =
     let at = kid c.self.inside.kids c.in-Nodes.nodes c.args.width c.args.index c.args.self.now
-    c.in-Nodes.is c.self.invariant c.self.view_is c.requires.level c.requires.within in
+    c.in-Nodes.is c.self.invariant.0 c.self.view_is c.requires.level c.requires.within in
     let long : length c.deref.result.now ≡ c.args.width = ap length c.deref.ensures
     ∙ at.long _ _ (omega (arith, at.kid, at.eight)) in
     search (rules, at.less, at.next, at.inside, long)
@@ -16,7 +16,7 @@ set-requires g t c κs within =
 pub returns-in_err-below-in-Nodes-clause-nodes : goal.returns-in_err-below-in-Nodes-clause-nodes
 returns-in_err-below-in-Nodes-clause-nodes g t c h high =
     let at = kid c.self.inside.kids c.in-Nodes.nodes c.args.width c.args.index c.args.self.now
-    c.in-Nodes.is c.self.invariant c.self.view_is c.requires.level c.requires.within in
+    c.in-Nodes.is c.self.invariant.0 c.self.view_is c.requires.level c.requires.within in
     let long : length c.deref.result.now ≡ c.args.width = ap length c.deref.ensures
     ∙ at.long _ _ (omega (arith, at.kid, at.eight)) in
     let d = deeper c.args.width h at.next at.wide (sym c.requires.level ∙ high) in
@@ -25,7 +25,7 @@ returns-in_err-below-in-Nodes-clause-nodes g t c h high =
 pub returns-in_err-nodes-in-Nodes-clause-nodes : goal.returns-in_err-nodes-in-Nodes-clause-nodes
 returns-in_err-nodes-in-Nodes-clause-nodes g t c h high =
     let at = kid c.self.inside.kids c.in-Nodes.nodes c.args.width c.args.index c.args.self.now
-    c.in-Nodes.is c.self.invariant c.self.view_is c.requires.level c.requires.within in
+    c.in-Nodes.is c.self.invariant.0 c.self.view_is c.requires.level c.requires.within in
     let long : length c.deref.result.now ≡ c.args.width = ap length c.deref.ensures
     ∙ at.long _ _ (omega (arith, at.kid, at.eight)) in
     let d = deeper c.args.width h at.next at.wide (sym c.requires.level ∙ high) in
@@ -42,7 +42,7 @@ returns-in_ok-values-in-Values-clause-ok g t c =
 
 pub returns-in_ok-nodes-in-Nodes-clause-ok : goal.returns-in_ok-nodes-in-Nodes-clause-ok
 returns-in_ok-nodes-in-Nodes-clause-ok g t c =
-    let shape = subst IsNode c.in-Nodes.is c.self.invariant in
+    let shape = subst IsNode c.in-Nodes.is c.self.invariant.0 in
     let copied = c.in_ok-nodes-in-Nodes.ensures.cases.whole in
     let kept : length c.in-Nodes.nodes ≡ length c.in_ok-nodes-in-Nodes.nodes =
     length_all_zip _ _ _ copied in
@@ -64,7 +64,7 @@ returns-in_ok-nodes-in-Nodes-clause-ok g t c =
 pub returns-in_ok-nodes-in-Nodes-clause-nodes : goal.returns-in_ok-nodes-in-Nodes-clause-nodes
 returns-in_ok-nodes-in-Nodes-clause-nodes g t c h high =
     let at = kid c.self.inside.kids c.in-Nodes.nodes c.args.width c.args.index c.args.self.now
-    c.in-Nodes.is c.self.invariant c.self.view_is c.requires.level c.requires.within in
+    c.in-Nodes.is c.self.invariant.0 c.self.view_is c.requires.level c.requires.within in
     let long : length c.deref.result.now ≡ c.args.width = ap length c.deref.ensures
     ∙ at.long _ _ (omega (arith, at.kid, at.eight)) in
     let d = deeper c.args.width h at.next at.wide (sym c.requires.level ∙ high) in
