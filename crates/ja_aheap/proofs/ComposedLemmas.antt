@@ -4,6 +4,8 @@ use Rattle.std.proofs.lemmas.Option.{slice_get_read}
 use Rattle.std.specs.Prelude.{IsTrue}
 use Rattle.std.specs.Option.{option_map_or, IfSome}
 use Rattle.std.specs.Ordering.{nat_cmp}
+use Rattle.std.specs.declared.rc.Rc.{Rc}
+use Rattle.std.specs.Global.{Global}
 use Rattle.std.specs.BTreeMap.{BTreeMap, get}
 use denote.Ref.{Bor}
 use Rattle.ja_base.specs.declared.ids.Label.{Label}
@@ -21,7 +23,7 @@ use Rattle.ja_value.specs.Value.{property_of}
 use Rattle.ja_aheap.specs.declared.object.AObject.{AObject}
 use Rattle.ja_aheap.specs.declared.sources.Sources.{Sources}
 use Rattle.ja_aheap.specs.Heap.{is_key_below}
-use Rattle.ja_aheap.specs.Objects.{at, object_of}
+use Rattle.ja_aheap.specs.Objects.{at, object_of, shared_property}
 use Rattle.ja_aheap.specs.code.Own.{own_below}
 use Rattle.ja_aheap.specs.code.Composed.{composed_property, property_list, AreAt, composed_by, composed_at, lists, IsKept, read_at, origins_at, composed_of}
 use Rattle.ja_aheap.proofs.MapLemmas.{found}
@@ -60,8 +62,8 @@ pub at_unlisted : (o : AObject) (q : ℕ) → is_some (get nat_cmp o.listed q) �
     → at o q ≡ property_of o.common
 at_unlisted o q none = pick (get nat_cmp o.listed q) none
   where
-    pick : (x : Option AProp) → is_some x ≡ false
-        → option_map_or property_of x (property_of o.common) ≡ property_of o.common
+    pick : (x : Option (Rc AProp Global)) → is_some x ≡ false
+        → option_map_or shared_property x (property_of o.common) ≡ property_of o.common
     pick None none = refl
     pick (Some p) none = absurd (cc)
 
@@ -82,8 +84,8 @@ pub object_composed : (s : Sources) (o : AObject) → AreAt (composed_at s) o.li
     → common_in o ≡ composed_by s common_in → (q : ℕ) → at o q ≡ composed_at s q
 object_composed s o right none common q = pick (get nat_cmp o.listed q) refl
   where
-    pick : (x : Option AProp) → get nat_cmp o.listed q ≡ x
-        → option_map_or property_of x (property_of o.common) ≡ composed_at s q
+    pick : (x : Option (Rc AProp Global)) → get nat_cmp o.listed q ≡ x
+        → option_map_or shared_property x (property_of o.common) ≡ composed_at s q
     pick (Some p) is = right q p is
     pick None is =
         let unlisted = none q (ap is_some is) in
@@ -102,9 +104,9 @@ none_of_four a b c d r is none =
     (or_left_false a d (or_right_false b _ rest), or_left_false b _ rest, or_left_false c _ all)
 
 -- nothing is listed in an empty map
-pub nothing_at : (m : BTreeMap ℕ AProp) (f : ℕ → AbstractProperty) → m.entries ≡ [] → AreAt f m
+pub nothing_at : (m : BTreeMap ℕ (Rc AProp Global)) (f : ℕ → AbstractProperty) → m.entries ≡ [] → AreAt f m
 nothing_at m f empty q p is =
-    absurd (none_not_some (sym (ap (λ (es : List (ℕ × AProp)). found es q) empty) ∙ is))
+    absurd (none_not_some (sym (ap (λ (es : List (ℕ × Rc AProp Global)). found es q) empty) ∙ is))
 
 -- ---- what stays
 

@@ -11,7 +11,7 @@ use Rattle.std.proofs.lemmas.Map.Entries.{none_past_head, lookup_head, lookup_ta
 use Rattle.std.proofs.lemmas.Map.Iter.{rest_more}
 use Rattle.std.specs.Map.Iter.{deref_pair, TakesFirst}
 use denote.Ref.{Bor}
-use Rattle.std.specs.List.{AllByRecursion}
+use Rattle.std.specs.List.{AllByRecursion, AllZip}
 use Rattle.std.specs.Cmp.{eq_by_cmp_equiv}
 use Rattle.std.specs.Option.{option_map_or}
 use Rattle.std.specs.Ordering.{nat_cmp}
@@ -262,3 +262,25 @@ each_found P (e ∷ es) each q x is =
 pub each_end : {X : Type 0} (P : ℕ → X → Type 0) (all rest : List (ℕ × X)) → rest ≡ []
     → (AtEach P rest → AtEach P all) → (q : ℕ) (x : X) → found all q ≡ Some x → P q x
 each_end P all rest none h = each_found P all (h (subst (AtEach P) (sym none) tt))
+
+-- ---- a map once more
+
+-- what is read of a clone
+pub cloned : {X Z : Type 0} (C : X → X → Type 0) (f : X → Z) (d e : Z) (es fs : List (ℕ × X))
+    → ((x y : X) → C x y → f y ≡ f x) → d ≡ e
+    → AllZip (λ (p q : ℕ × X). (q.0 ≡ p.0) × C p.1 q.1) es fs → (q : ℕ)
+    → option_map_or f (found fs q) d ≡ option_map_or f (found es q) e
+cloned C f d e [] [] same rest each q = rest
+cloned C f d e [] (y ∷ ys) same rest each q = absurd (each)
+cloned C f d e (x ∷ xs) [] same rest each q = absurd (each)
+cloned C f d e (x ∷ xs) (y ∷ ys) same rest each q =
+    ap (λ o. option_map_or f o d) (found_step y ys q)
+    ∙ ap (λ (n : ℕ). option_map_or f (if n == q then Some y.1 else found ys q) d) each.0.0
+    ∙ pick (cloned C f d e xs ys same rest each.1 q) (x.0 == q)
+    ∙ ap (λ o. option_map_or f o e) (sym (found_step x xs q))
+  where
+    pick : option_map_or f (found ys q) d ≡ option_map_or f (found xs q) e → (b : Bool)
+        → option_map_or f (if b then Some y.1 else found ys q) d
+        ≡ option_map_or f (if b then Some x.1 else found xs q) e
+    pick later true = same x.1 y.1 each.0.1
+    pick later false = later

@@ -3,6 +3,8 @@ use Rattle.std.proofs.Common.{◌≡◌, ◌+◌, ◌<◌, ℕ, zero, suc, Bool,
 use Rattle.std.specs.Prelude.{IsSome}
 use Rattle.std.specs.Option.{option_map_or}
 use Rattle.std.specs.Ordering.{nat_cmp}
+use Rattle.std.specs.declared.rc.Rc.{Rc}
+use Rattle.std.specs.Global.{Global}
 use Rattle.std.specs.BTreeMap.{get}
 use Rattle.std.proofs.lemmas.Bool.Decides.{nat_tests}
 use Rattle.ja_abstract.specs.declared.abstraction.Slot.TheVariants as slot
@@ -12,13 +14,13 @@ use Rattle.ja_abstract.specs.AbstractValue.{AbstractProperty, entry_property, jo
 use Rattle.ja_abstract.specs.AbstractState.{key_number}
 use Rattle.ja_abstract.specs.Made.{Own}
 use Rattle.ja_abstract.specs.Order.{LeqProperty}
-use Rattle.ja_abstract.proofs.Order.{property_same}
-use Rattle.ja_abstract.proofs.Least.{property_by_join}
+use Rattle.ja_abstract.proofs.Order.{property_same, property-join, property_equal}
+use Rattle.ja_abstract.proofs.Least.{property_by_join, property-join_right, property_least}
 use Rattle.ja_value.specs.declared.property.AProp.{AProp}
 use Rattle.ja_value.specs.Value.{property_of}
 use Rattle.ja_aheap.specs.declared.object.AObject.{AObject}
 use Rattle.ja_aheap.specs.Heap.{is_key_below, at_keys_below}
-use Rattle.ja_aheap.specs.Objects.{at}
+use Rattle.ja_aheap.specs.Objects.{at, shared_property}
 use Rattle.ja_aheap.specs.code.Own.{own_below, join_owns, LeqOwn}
 
 -- what holds of each value that may stand there, and of the one that stands for none
@@ -96,15 +98,15 @@ leq_from_numbers a b names end is_end listed others rest =
     (λ q below. at_number q (omega arith) (get nat_cmp a.listed q) refl
     (get nat_cmp b.listed q) refl)
   where
-    at_number : (q : ℕ) → q < end → (o : Option AProp) → get nat_cmp a.listed q ≡ o
-        → (p : Option AProp) → get nat_cmp b.listed q ≡ p → LeqProperty (at a q) (at b q)
+    at_number : (q : ℕ) → q < end → (o : Option (Rc AProp Global)) → get nat_cmp a.listed q ≡ o
+        → (p : Option (Rc AProp Global)) → get nat_cmp b.listed q ≡ p → LeqProperty (at a q) (at b q)
     at_number q below (Some x) is p is_p = listed q (ap is_some is) below
     at_number q below None is (Some y) is_p = others q (ap is_some is_p) below
     at_number q below None none None none' =
-        subst (λ o. LeqProperty (option_map_or property_of o (property_of a.common)) (at b q))
+        subst (λ o. LeqProperty (option_map_or shared_property o (property_of a.common)) (at b q))
         (sym none)
         (subst (λ o. LeqProperty (property_of a.common)
-        (option_map_or property_of o (property_of b.common))) (sym none') (rest q none none' below))
+        (option_map_or shared_property o (property_of b.common))) (sym none') (rest q none none' below))
 
 pub leq_at_number : (a b : AObject) (names end : ℕ) → end ≡ 6 + names
     → LeqOwn (own_below names a) (own_below names b) → (q : ℕ) → q < end
@@ -118,8 +120,8 @@ pub leq_at_rest : (a b : AObject) (names end : ℕ) → end ≡ 6 + names
     → LeqProperty (property_of a.common) (property_of b.common)
 leq_at_rest a b names end is_end each q none none' below =
     subst (λ o. LeqProperty (property_of a.common)
-    (option_map_or property_of o (property_of b.common))) none'
-    (subst (λ o. LeqProperty (option_map_or property_of o (property_of a.common)) (at b q)) none
+    (option_map_or shared_property o (property_of b.common))) none'
+    (subst (λ o. LeqProperty (option_map_or shared_property o (property_of a.common)) (at b q)) none
     (leq_at_number a b names end is_end each q below))
 
 -- ---- objects as at entry
@@ -130,9 +132,9 @@ pub entry_from_numbers : (a : AObject) (names end : ℕ) → end ≡ 6 + names
     → (k : Key) → own_below names a k ≡ entry_property
 entry_from_numbers a names end is_end listed rest =
     at_each_key names (λ p q. p ≡ entry_property) refl (at a) (at a)
-    (λ q below. either property_of (λ p. p ≡ entry_property) (get nat_cmp a.listed q)
+    (λ q below. either shared_property (λ p. p ≡ entry_property) (get nat_cmp a.listed q)
     (property_of a.common)
-    (λ p is. subst (λ o. option_map_or property_of o (property_of a.common) ≡ entry_property) is
+    (λ p is. subst (λ o. option_map_or shared_property o (property_of a.common) ≡ entry_property) is
     (listed q (ap is_some is) (omega arith)))
     (λ none. rest q none (omega arith)))
 
@@ -146,7 +148,7 @@ pub entry_at_rest : (a : AObject) (names end : ℕ) → end ≡ 6 + names
     → ((k : Key) → own_below names a k ≡ entry_property) → (q : ℕ)
     → get nat_cmp a.listed q ≡ None → q < end → property_of a.common ≡ entry_property
 entry_at_rest a names end is_end each q none below =
-    subst (λ o. option_map_or property_of o (property_of a.common) ≡ entry_property) none
+    subst (λ o. option_map_or shared_property o (property_of a.common) ≡ entry_property) none
     (entry_at_number a names end is_end each q below)
 
 -- ---- objects joined
@@ -174,3 +176,11 @@ pub below_joined : (a b : AObject) (names : ℕ)
     → LeqOwn (own_below names b) (own_below names a)
 below_joined a b names same k =
     (property_by_join _ _).1 (sym (ap (λ (o : Own). o k) same))
+
+-- the other way round
+pub properties_turned : (a b : AbstractProperty) → join_properties a b ≡ join_properties b a
+properties_turned a b =
+    let below : (p q : AbstractProperty) → LeqProperty (join_properties p q) (join_properties q p) =
+    λ p q. property_least p q (join_properties q p) (property-join_right q p)
+    (property-join q p) in
+    property_equal (join_properties a b) (join_properties b a) (below a b) (below b a)

@@ -3,6 +3,8 @@ use Rattle.std.specs.Prelude.{ℕ, ◌&&◌, Bool, List, map}
 use Rattle.std.specs.Option.{option_map_or}
 use Rattle.std.specs.List.{list_any}
 use Rattle.std.specs.Ordering.{nat_cmp}
+use Rattle.std.specs.declared.rc.Rc.{Rc}
+use Rattle.std.specs.Global.{Global}
 use Rattle.std.specs.BTreeMap.{get}
 use Rattle.ja_base.specs.declared.ids.Label.{Label}
 use Rattle.ja_abstract.specs.declared.abstraction.Key.{Key}
@@ -19,9 +21,12 @@ use Rattle.ja_aheap.specs.declared.object.AObject.{AObject}
 use Rattle.ja_aheap.specs.declared.writes.Write.{Write}
 use Rattle.ja_aheap.specs.declared.writes.Writes.{Writes}
 
+abbrev pub shared_property : Rc AProp Global → AbstractProperty
+shared_property p = property_of p.value
+
 -- the property of an object at the number of a key: the one that is listed, else the common one
 abbrev pub at : AObject → ℕ → AbstractProperty
-at o q = option_map_or property_of (get nat_cmp o.listed q) (property_of o.common)
+at o q = option_map_or shared_property (get nat_cmp o.listed q) (property_of o.common)
 
 abbrev pub object_of : AObject → Own
 object_of o k = at o (key_number k)

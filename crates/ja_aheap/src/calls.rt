@@ -115,7 +115,7 @@ impl AHeap {
     {
         let number = label_number(label) as u32;
         let mut object = self.objects.get(number).copy(alloc)?;
-        object.write(key, property)?;
+        object.write(alloc, key, property)?;
         self.objects.set(number, object, steps)?;
         Ok(())
     }

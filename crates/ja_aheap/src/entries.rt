@@ -1,4 +1,5 @@
 ghost use Rattle.std.specs.Prelude.{◌≡◌, ◌≢◌, ◌==◌, ◌&&◌, ◌+◌, ◌-◌, ◌*◌, ℕ, nat_lt, nat_le, [], ◌∷◌, ◌++◌, map, filter, IfOk, OnErr, IsSome, Option, Some, None, true, false, if◌then◌else◌, unwrap_or};
+ghost use Rattle.std.specs.Option.{option_map};
 ghost use Rattle.std.specs.Ordering.{nat_cmp};
 ghost use Rattle.std.specs.BTreeMap.{get};
 ghost use Rattle.ja_abstract.specs.AbstractValue.{same_label, no_property};
@@ -9,7 +10,6 @@ ghost use Rattle.ja_aheap.specs.Numbers.{property_in, entry_in, is_demanded, key
 
 use crate::keys::{key_number, label_among};
 use crate::maps::{exchange, fill, put};
-use crate::object::copy_properties;
 use ja_abstract::{Key, Slot};
 use ja_base::{Label, Memory, NameId};
 use ja_value::{AProp, AValue, label_number, unknown_attrs};
@@ -108,6 +108,23 @@ impl DemandedEntries {
         }
         Ok(pairs)
     }
+}
+
+/// The same properties once more.
+fn copy_properties(
+    alloc: Global,
+    listed: &BTreeMap<u64, AProp>,
+) -> Result<BTreeMap<u64, AProp>, Memory>
+    ensures { IfOk result (λ m. (q : ℕ) → option_map property_of (get nat_cmp m q)
+        ≡ option_map property_of (get nat_cmp listed.now q)) }
+{
+    let mut copies = BTreeMap::new(alloc);
+    fill(
+        &mut copies,
+        listed,
+        |_number: u64, property: &AProp| property.copy(alloc),
+    )?;
+    Ok(copies)
 }
 
 /// Takes out the demanded properties at the number of a label, and leaves some in their place.

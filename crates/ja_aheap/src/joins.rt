@@ -88,9 +88,6 @@ impl AHeap {
         ensures nodes { ArePaths (2 * (heap_of self.old).sites) (2 * (heap_of self.old).sites)
             steps.old steps.new }
     {
-        if other.leq(self) {
-            return Ok(false);
-        }
         let masks = joined_masks(alloc, &self.masks, &other.masks)?;
         let put = join_objects(&mut self.objects, alloc, self.names, &other.objects, steps)?;
         match masks {

@@ -15,6 +15,7 @@ use ja_base::{Label, Memory, Site};
 use ja_value::{AProp, LabelSet};
 use std::alloc::Global;
 use std::collections::BTreeMap;
+use std::rc::Rc;
 
 /// Adds the new label of a site, if something may be made there.
 fn add_moved(labels: &mut LabelSet, site: Site, mask: Mask) -> Result<(), Memory>
@@ -59,7 +60,7 @@ impl AObject {
             ≡ at self.now q }
     {
         self.common.value.labels.intersects(moved, sites)
-            || !all_listed(&self.listed, |_number: u64, property: &AProp| {
+            || !all_listed(&self.listed, |_number: u64, property: &Rc<AProp>| {
                 !property.value.labels.intersects(moved, sites)
             })
     }

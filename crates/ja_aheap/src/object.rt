@@ -12,19 +12,20 @@ ghost use Rattle.ja_aheap.specs.code.Own.{own_below, join_owns, LeqOwn};
 
 use crate::keys::key_number;
 use crate::maps::{all_listed, fill, put};
-use crate::properties::{has_new_label, is_entry, joined};
+use crate::properties::{aged_shared, has_new_label, is_entry, joined, joined_shared};
 use ja_abstract::Key;
 use ja_base::{Memory, Site};
 use ja_value::AProp;
 use std::alloc::Global;
 use std::collections::BTreeMap;
+use std::rc::Rc;
 
 /// The properties of an abstract object by key: those that are listed, and one common to all other
-/// keys.
+/// keys. Objects share the listed ones that they have in common.
 #[derive(Drop)]
 pub struct AObject {
     pub common: AProp,
-    pub(crate) listed: BTreeMap<u64, AProp>,
+    pub(crate) listed: BTreeMap<u64, Rc<AProp>>,
 }
 
 impl AObject {
@@ -68,22 +69,23 @@ impl AObject {
     }
 
     /// Replaces the property at a key. After `Memory` the object is as it was.
-    pub fn write(&mut self, key: Key, property: AProp) -> Result<(), Memory>
+    pub fn write(&mut self, alloc: Global, key: Key, property: AProp) -> Result<(), Memory>
         ensures kept { OnErr result (object_of self.new ≡ object_of self.old) }
         ensures written { IfOk result (λ _. object_of self.new
             ≡ (λ k. if same_key key k then property_of property else object_of self.old k)) }
     {
+        let property = Rc::new(alloc, property)?;
         put(&mut self.listed, key_number(key), property)?;
         Ok(())
     }
 
-    /// The same object once more.
+    /// The same object once more, which shares the listed properties.
     pub fn copy(&self, alloc: Global) -> Result<AObject, Memory>
         ensures { IfOk result (λ o. object_of o ≡ object_of self.now) }
     {
         Ok(AObject {
             common: self.common.copy(alloc)?,
-            listed: copy_properties(alloc, &self.listed)?,
+            listed: self.listed.clone()?,
         })
     }
 
@@ -93,7 +95,7 @@ impl AObject {
         ensures { IsTrue result ↔ ((q : ℕ) → IsSome (get nat_cmp self.now.listed q)
             → q < end → LeqProperty (at self.now q) (at other.now q)) }
     {
-        all_listed(&self.listed, |number: u64, property: &AProp| {
+        all_listed(&self.listed, |number: u64, property: &Rc<AProp>| {
             number >= end || property.leq(other.at(number))
         })
     }
@@ -104,7 +106,7 @@ impl AObject {
         ensures { IsTrue result ↔ ((q : ℕ) → IsSome (get nat_cmp other.now.listed q)
             → q < end → LeqProperty (at self.now q) (at other.now q)) }
     {
-        all_listed(&other.listed, |number: u64, property: &AProp| {
+        all_listed(&other.listed, |number: u64, property: &Rc<AProp>| {
             number >= end || self.at(number).leq(property)
         })
     }
@@ -169,13 +171,17 @@ impl AObject {
             return Ok(None);
         }
         let mut listed = BTreeMap::new(alloc);
-        fill(&mut listed, &self.listed, |number: u64, property: &AProp| {
-            joined(alloc, property, other.at(number))
-        })?;
+        fill(
+            &mut listed,
+            &self.listed,
+            |number: u64, property: &Rc<AProp>| {
+                joined_shared(alloc, property, other.at(number))
+            },
+        )?;
         fill(
             &mut listed,
             &other.listed,
-            |number: u64, property: &AProp| { joined(alloc, self.at(number), property) },
+            |number: u64, property: &Rc<AProp>| { joined_shared(alloc, property, self.at(number)) },
         )?;
         let common = joined(alloc, &self.common, &other.common)?;
         Ok(Some(AObject { common, listed }))
@@ -186,7 +192,7 @@ impl AObject {
         ensures { result ≡ false → (q : ℕ) → (at self.now q).value.label (new site) ≡ false }
     {
         has_new_label(&self.common, site)
-            || !all_listed(&self.listed, |_number: u64, property: &AProp| {
+            || !all_listed(&self.listed, |_number: u64, property: &Rc<AProp>| {
                 !has_new_label(property, site)
             })
     }
@@ -204,7 +210,7 @@ impl AObject {
         fill(
             &mut listed,
             &self.listed,
-            |_number: u64, property: &AProp| { property.aged(alloc, site) },
+            |_number: u64, property: &Rc<AProp>| { aged_shared(alloc, property, site) },
         )?;
         let common = self.common.aged(alloc, site)?;
         Ok(Some(AObject { common, listed }))
@@ -215,7 +221,7 @@ impl AObject {
         ensures { IsTrue result ↔ ((q : ℕ) → IsSome (get nat_cmp self.now.listed q)
             → q < end → at self.now q ≡ entry_property) }
     {
-        all_listed(&self.listed, |number: u64, property: &AProp| {
+        all_listed(&self.listed, |number: u64, property: &Rc<AProp>| {
             number >= end || is_entry(property)
         })
     }
@@ -230,21 +236,4 @@ impl AObject {
         let end = 6 + u64::from(names);
         self.lists_entries(end) && (is_entry(&self.common) || self.lists_all(end, self))
     }
-}
-
-/// The same properties once more.
-pub fn copy_properties(
-    alloc: Global,
-    listed: &BTreeMap<u64, AProp>,
-) -> Result<BTreeMap<u64, AProp>, Memory>
-    ensures { IfOk result (λ m. (q : ℕ) → option_map property_of (get nat_cmp m q)
-        ≡ option_map property_of (get nat_cmp listed.now q)) }
-{
-    let mut copies = BTreeMap::new(alloc);
-    fill(
-        &mut copies,
-        listed,
-        |_number: u64, property: &AProp| property.copy(alloc),
-    )?;
-    Ok(copies)
 }

@@ -21,7 +21,7 @@ impl AObject {
         let mut object = AObject::absent(alloc);
         let mut listed = made.listed;
         while let Some((key, property)) = listed.pop() {
-            object.write(key, property)?;
+            object.write(alloc, key, property)?;
         }
         Ok(object)
     }
@@ -34,7 +34,7 @@ impl AObject {
     {
         let mut joined = self.read(key).copy(alloc)?;
         joined.join(alloc, property)?;
-        self.write(key, joined)?;
+        self.write(alloc, key, joined)?;
         Ok(())
     }
 
@@ -46,7 +46,7 @@ impl AObject {
         if write.joins {
             self.join_at(alloc, write.key, &write.property)
         } else {
-            self.write(write.key, write.property)
+            self.write(alloc, write.key, write.property)
         }
     }
 

@@ -19,6 +19,7 @@ use ja_base::Memory;
 use ja_value::{AProp, AValue, LabelSet, unknown_attrs};
 use std::alloc::Global;
 use std::collections::BTreeMap;
+use std::rc::Rc;
 
 /// Joins an earlier property, if there is one, to the rest, with the labels of now.
 fn with_earlier(
@@ -133,7 +134,7 @@ impl<'a> Sources<'a> {
     fn list_one(
         &self,
         alloc: Global,
-        listed: &mut BTreeMap<u64, AProp>,
+        listed: &mut BTreeMap<u64, Rc<AProp>>,
         number: u64,
     ) -> Result<(), Memory>
         ensures right { IfOk result (λ _. AreAt (composed_at self.now) listed.old
@@ -142,7 +143,7 @@ impl<'a> Sources<'a> {
             ≡ (number == q || is_some (get nat_cmp listed.old q))) }
     {
         if !listed.contains_key(&number) {
-            let property = self.at(alloc, number)?;
+            let property = Rc::new(alloc, self.at(alloc, number)?)?;
             put(listed, number, property)?;
         }
         Ok(())
@@ -152,7 +153,7 @@ impl<'a> Sources<'a> {
     fn list(
         &self,
         alloc: Global,
-        listed: &mut BTreeMap<u64, AProp>,
+        listed: &mut BTreeMap<u64, Rc<AProp>>,
         object: &AObject,
     ) -> Result<(), Memory>
         ensures right { IfOk result (λ _. AreAt (composed_at self.now) listed.old
@@ -170,7 +171,7 @@ impl<'a> Sources<'a> {
     fn list_if_there(
         &self,
         alloc: Global,
-        listed: &mut BTreeMap<u64, AProp>,
+        listed: &mut BTreeMap<u64, Rc<AProp>>,
         object: Option<&AObject>,
     ) -> Result<(), Memory>
         ensures right { IfOk result (λ _. AreAt (composed_at self.now) listed.old

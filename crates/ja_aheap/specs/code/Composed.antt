@@ -2,6 +2,8 @@
 use Rattle.std.specs.Prelude.{◌≡◌, ◌<◌, ◌≤◌, ◌⊎◌, IsTrue, ℕ, Bool, true, false, is_some, if◌then◌else◌, List, [], ◌∷◌, ◌++◌, map, length, Option, Some, slice_get}
 use Rattle.std.specs.Option.{option_map_or}
 use Rattle.std.specs.Ordering.{nat_cmp}
+use Rattle.std.specs.declared.rc.Rc.{Rc}
+use Rattle.std.specs.Global.{Global}
 use Rattle.std.specs.BTreeMap.{BTreeMap, get}
 use denote.Ref.{Bor}
 use Rattle.ja_base.specs.declared.ids.Label.{Label}
@@ -18,7 +20,7 @@ use Rattle.ja_value.specs.Value.{property_of}
 use Rattle.ja_aheap.specs.declared.object.AObject.{AObject}
 use Rattle.ja_aheap.specs.declared.sources.Sources.{Sources}
 use Rattle.ja_aheap.specs.Heap.{is_key_below}
-use Rattle.ja_aheap.specs.Objects.{at, object_of}
+use Rattle.ja_aheap.specs.Objects.{at, object_of, shared_property}
 
 -- a property, with what some objects had at the first moment in the place of `entry`
 abbrev pub composed_property : (ℕ → Mask) → AbstractProperty → List AbstractProperty
@@ -33,8 +35,8 @@ abbrev pub property_list : {X : Type 0} → (X → AbstractProperty) → Option 
 property_list f o = option_map_or (λ (x : Bor _). f x.now ∷ []) o []
 
 -- what is listed at a number is the property there
-abbrev pub AreAt : (ℕ → AbstractProperty) → BTreeMap ℕ AProp → Type 0
-AreAt f m = (q : ℕ) (p : AProp) → get nat_cmp m q ≡ Some p → property_of p ≡ f q
+abbrev pub AreAt : (ℕ → AbstractProperty) → BTreeMap ℕ (Rc AProp Global) → Type 0
+AreAt f m = (q : ℕ) (p : Rc AProp Global) → get nat_cmp m q ≡ Some p → shared_property p ≡ f q
 
 -- an object, by what is read of the objects that it is composed of
 abbrev pub composed_by : Sources → (AObject → AbstractProperty) → AbstractProperty

@@ -9,15 +9,6 @@ use Rattle.ja_aheap.proofs.HeapLemmas.{heap_same, joined_by_label, differs_at_la
 use Rattle.ja_aheap.proofs.MaskLemmas.{turned}
 use Rattle.ja_aheap.proofs.heap.AHeap.join.Goals as goal
 
-pub returns-then-leq-clause-joined : goal.returns-then-leq-clause-joined
-returns-then-leq-clause-joined g c =
-    let a = heap_of c.args.self.now in
-    let b = heap_of c.args.other.now in
-    let below : LeqHeap b a = c.leq.ensures.order.0 c.if-leq.true in
-    heap_same _ _ refl refl
-    (λ l k. sym ((property_by_join (b.property l k) (a.property l k)).0 (below.property l k)))
-    (λ s. sym (turned (a.mask s) (b.mask s) ∙ below.mask s))
-
 pub returns-in_err-put-clause-nodes : goal.returns-in_err-put-clause-nodes
 returns-in_err-put-clause-nodes g c =
     subst (λ (n : ℕ). ArePaths n n c.args.steps.now c.join_objects.new.steps)
