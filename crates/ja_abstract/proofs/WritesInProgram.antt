@@ -130,17 +130,17 @@ module _ (w : View) (has_length : IsTrue (is_key w.program length_key)) where
       (λ _. cond_both (is_array_label p l && is_index_key p k) (element_writes w l k v) _
       (λ o. IfSome o AreWrites) (λ _. element_writes_are l k v at_key) (λ _. (at_key, tt)))
 
-  accepted_writes_are : (l : Label) (k : Key) (v : AbstractValue) → IsKey p k
+  pub accepted_writes_are : (l : Label) (k : Key) (v : AbstractValue) → IsKey p k
       → IfSome (accepted_writes w l k v) AreWrites
   accepted_writes_are l k v at_key =
       cond_both (may_accept (asked_at w l k)) (put_writes w l k v) None (λ o. IfSome o AreWrites)
       (λ _. put_writes_are l k v at_key) (λ _. tt)
 
-  some_writes : (o : Option (List Write)) → IfSome o AreWrites → AreWrites (unwrap_or o [])
+  pub some_writes : (o : Option (List Write)) → IfSome o AreWrites → AreWrites (unwrap_or o [])
   some_writes None are = tt
   some_writes (Some writes) are = are
 
-  put_list_is : (v : AbstractValue) (l : Label) (keys : List Key) → AreKeys p keys
+  pub put_list_is : (v : AbstractValue) (l : Label) (keys : List Key) → AreKeys p keys
       → AreWrites (put_list w keys v l)
   put_list_is v l [] all = tt
   put_list_is v l (k ∷ ks) all =

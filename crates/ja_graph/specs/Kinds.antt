@@ -4,30 +4,18 @@ use Rattle.std.specs.Prelude.{◌≡◌, Bool, true, false, Some}
 use Rattle.ja_base.specs.declared.ids.FnId.{FnId}
 use Rattle.ja_base.specs.declared.ids.NodeId.{NodeId}
 use Rattle.ja_graph.specs.declared.node.Node.{Node}
-use Rattle.ja_graph.specs.declared.node.Node.TheVariants.{Const, Move, FindName, ReadRef, ReadSoft, WriteRef, DeleteRef, Declare, Convert, Unary, Binary, Branch, Call, Throw, Return, Escape}
+use Rattle.ja_graph.specs.declared.node.Node.TheVariants.{MakeFunction, Enter, Intrinsic, Device}
 use Rattle.ja_graph.specs.declared.node.NodeInfo.{NodeInfo}
 use Rattle.ja_graph.specs.declared.program.Program.{Program}
 use Rattle.ja_graph.specs.Program.{node_at}
 
--- a node of a kind that is built
+-- a node of a kind that is built: each but those of functions, of the built-in ones and of devices
 abbrev pub is_built : Node → Bool
-is_built (Const dst prim) = true
-is_built (Move dst src) = true
-is_built (FindName dst name) = true
-is_built (ReadRef dst base name error) = true
-is_built (ReadSoft dst base name) = true
-is_built (WriteRef base name src) = true
-is_built (DeleteRef dst base name) = true
-is_built (Declare name) = true
-is_built (Convert dst src hint other) = true
-is_built (Unary dst op src) = true
-is_built (Binary dst op a b) = true
-is_built (Branch src) = true
-is_built (Call dst callee receiver args error) = true
-is_built (Throw src) = true
-is_built (Return src) = true
-is_built Escape = true
-is_built node = false
+is_built (MakeFunction dst function site proto_site) = false
+is_built (Enter site arguments) = false
+is_built (Intrinsic dst which args) = false
+is_built (Device dst which) = false
+is_built node = true
 
 -- the program's text is its function 0
 abbrev pub text_function : FnId

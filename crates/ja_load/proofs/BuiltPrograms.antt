@@ -1,138 +1,89 @@
--- A text all of whose forms are built comes to nodes of kinds that are built, and to no function
--- but the program.
-use Rattle.std.proofs.Common.{◌≡◌, ℕ, zero, suc, Bool, true, false, if◌then◌else◌, List, [], ◌∷◌, ◌++◌, map, Some, None, slice_get, refl, sym, ap, ◌∙◌, subst}
-use Rattle.std.specs.List.{AllByRecursion, flat_map, fold}
+-- A text without functions comes to nodes of kinds that are built, and to no function but the
+-- program.
+use Rattle.std.proofs.Common.{◌≡◌, ℕ, zero, suc, true, false, List, [], ◌∷◌, map, length, Some, None, slice_get, refl, sym, ap, ◌∙◌, subst}
+use Rattle.std.specs.List.{AllByRecursion}
 use Rattle.std.specs.Prelude.{String}
 use Rattle.std.specs.String.{string_bytes}
 use Rattle.std.specs.declared.alloc.Global.{Global}
-use Rattle.ja_base.specs.declared.ids.Place.{Place}
-use Rattle.ja_base.proofs.Lists.{all_append, all_at}
-use Rattle.ja_prim.specs.declared.primitive.Primitive.TheVariants as primitive
+use Rattle.ja_base.proofs.Lists.{all_at}
 use Rattle.ja_prim.specs.declared.signature.Signature.{Signature}
-use Rattle.ja_syntax.specs.Hoisted.{hoisted_variables}
-use Rattle.ja_syntax.specs.declared.tree.Case.{Case}
-use Rattle.ja_syntax.specs.declared.tree.Statement.{Statement, roll-Statement}
-use Rattle.ja_syntax.specs.declared.tree.Expression.{Expression}
-use Rattle.ja_syntax.specs.declared.tree.Expression.TheOpen.{Statement-F}
-use Rattle.ja_syntax.specs.declared.tree.Expression.TheViews.{out-roll-Statement}
+use Rattle.ja_syntax.specs.declared.tree.FunctionOf.{FunctionOf}
+use Rattle.ja_syntax.specs.declared.tree.Statement.{Statement}
 use Rattle.ja_graph.specs.Kinds.{AreBuilt, is_built, text_function}
 use Rattle.ja_graph.specs.Program.{nodes_of}
+use Rattle.ja_graph.specs.Renaming.{Renaming, renamed}
+use Rattle.ja_graph.specs.declared.node.Node.{Node}
 use Rattle.ja_graph.specs.declared.node.Node.TheVariants as node
 use Rattle.ja_graph.specs.declared.node.NodeInfo.{NodeInfo}
 use Rattle.ja_graph.specs.declared.program.Function.{Function}
 use Rattle.ja_graph.specs.declared.program.Program.{Program}
-use Rattle.ja_lower_listing.specs.declared.item.Item.{Item}
-use Rattle.ja_lower_listing.specs.Listing.{begins_with_node}
-use Rattle.ja_lower_draft.specs.Lines.{Listing, Scene, name_id, with_const}
-use Rattle.ja_lower_statements.specs.Functions.{first_temporary, nothing_listed, declare_function, declare_function_of, declare_functions, declare_variables, with_body, unhandled, first_place, first_const, beginning_with_node, program_listing}
-use Rattle.ja_lower_statements.specs.Statements.{Around, does}
-use Rattle.ja_lower_ranges.specs.InRange.{OfNode}
+use Rattle.ja_lower_draft.specs.Lines.{Scene}
+use Rattle.ja_lower_names.specs.TextOrder.{functions_in}
+use Rattle.ja_lower_statements.specs.Functions.{program_listing}
+use Rattle.ja_lower_ranges.specs.Found.{HasText}
+use Rattle.ja_lower_ranges.specs.InRange.{Limits, IsInRange, limits_of}
 use Rattle.ja_lower_ranges.proofs.CopyRanges.{assembled_keeps}
+use Rattle.ja_lower_ranges.proofs.FunctionRanges.{program_in_range}
 use Rattle.ja_lower.specs.declared.body.Body.{Body}
 use Rattle.ja_lower.specs.Limits.{IsWithin}
 use Rattle.ja_lower.specs.Lowering.{names_of, scene_of, program_body, function_body, bodies_of, numbered, function_of, functions_of, lowered, lowered_with_prelude}
 use Rattle.ja_lower.proofs.FunctionLemmas.{get-numbered}
-use Rattle.ja_load.specs.Built.{Places, earlier, in_statement, unbuilt}
+use Rattle.ja_lower.proofs.Scenes.{scene_has_its_text}
+use Rattle.ja_load.specs.Built.{place_of_first, unbuilt}
 use Rattle.ja_load.specs.Loading.{names_before, sites_before, program_of, IsTextOf, IsProgramOf}
-use Rattle.ja_load.proofs.BuiltTrees.{HasNone, OfStatement, by_statements}
-use Rattle.ja_load.proofs.BuiltNodes.{IsBuilt, AllBuilt, IsBuiltListing, renamed_built, built_node, built_const, built_restarted}
-use Rattle.ja_load.proofs.BuiltStatements.{built_all, each_built}
-use Rattle.ja_load.proofs.NoFunctions.{no_functions}
 
--- ---- where no place is the first one, there is none
+-- ---- where there is no first function, there is none
 
-stays_some : (ps : Places) (first : Place) → fold earlier (Some first) ps ≡ None → ⊥
-stays_some [] first is = absurd (cc)
-stays_some (p ∷ ps) first is = stays_some ps _ is
+no_first : (fs : List (FunctionOf Statement)) → place_of_first fs ≡ None → fs ≡ []
+no_first [] is = refl
+no_first (f ∷ fs) is = absurd (cc)
 
-no_places : (ps : Places) → fold earlier None ps ≡ None → HasNone ps
-no_places [] is = tt
-no_places (p ∷ ps) is = absurd (stays_some ps p is)
-
-text_has_none : (xs : List Statement) → unbuilt xs ≡ None → HasNone (flat_map in_statement xs)
-unfolding unbuilt
-text_has_none xs is = no_places (flat_map in_statement xs) is
-
--- ---- what a text declares: no function, and variables
-
-abbrev DeclaresNothing : Statement → Type 0
-DeclaresNothing x =
-    (scene : Scene) (base : ℕ) (l : Listing) → declare_function_of scene x base l ≡ l
-
-abbrev Anything : Expression → Type 0
-Anything e = Unit {0}
-
-level_declares : (x : Statement-F Expression Statement Case)
-    → OfStatement Anything DeclaresNothing x → DeclaresNothing (roll-Statement x)
-level_declares (Statement-F.Statement::Function f) fine scene base l = absurd fine
-level_declares x fine scene base l =
-    ap (λ y. declare_function scene y base l) (out-roll-Statement x)
-
-declares_nothing : (scene : Scene) (xs : List Statement) (base : ℕ) (l : Listing)
-    → AllByRecursion DeclaresNothing xs → declare_functions scene xs base l ≡ l
-unfolding declare_functions
-declares_nothing scene [] base l each = refl
-declares_nothing scene (x ∷ xs) base l each =
-    ap (declare_functions scene xs base) (each.0 scene base l)
-    ∙ declares_nothing scene xs base l each.1
-
-nothing_declared : (scene : Scene) (xs : List Statement) (base : ℕ) (l : Listing)
-    → HasNone (flat_map in_statement xs) → declare_functions scene xs base l ≡ l
-nothing_declared scene xs base l none =
-    declares_nothing scene xs base l (by_statements Anything DeclaresNothing (λ e none. tt)
-    level_declares xs none)
-
-built_variables : (scene : Scene) (place : Place) (vs : List (List ℕ)) (l : Listing)
-    → IsBuiltListing l → IsBuiltListing (declare_variables scene place vs l)
-unfolding declare_variables
-built_variables scene place [] l built = built
-built_variables scene place (v ∷ vs) l built =
-    built_variables scene place vs _
-    (built_node scene place (node.Declare (name_id scene v)) refl built)
+no_functions : (xs : List Statement) → unbuilt xs ≡ None → functions_in xs ≡ []
+no_functions xs is = no_first (functions_in xs) is
 
 -- ---- the program's nodes
 
-body_built : (scene : Scene) (place : Place) (xs : List Statement) (base : ℕ) (l : Listing)
-    → HasNone (flat_map in_statement xs) → scene.specials ≡ false → IsBuiltListing l
-    → IsBuiltListing (with_body scene place xs base l)
-body_built scene place xs base l none plain built =
-    let around : Around = record { scene = scene; ways = []; labels = [] } in
-    let start = subst IsBuiltListing (sym (nothing_declared scene xs base l none)) built in
-    let statements = built_all (map does xs) (each_built xs none) around base _
-    (record { plain = plain; ways = tt })
-    (built_variables scene place (hoisted_variables xs) _ start) in
-    built_node scene place node.Escape refl (built_node scene place (node.Return _) refl
-    (built_const scene place primitive.Undefined (built_restarted base statements)))
+-- a node of a kind that is built
+abbrev IsBuilt : Node → Type 0
+IsBuilt n = is_built n ≡ true
 
-beginning_built : (scene : Scene) (items : List Item) → AllBuilt items
-    → AllBuilt (beginning_with_node scene items)
-unfolding beginning_with_node
-beginning_built scene items built = either (begins_with_node items)
-  where
-    first : IsBuiltListing (with_const scene first_place primitive.Undefined
-        (nothing_listed (first_temporary 0))).listing
-    first =
-        built_const {l = nothing_listed (first_temporary 0)} scene first_place
-        primitive.Undefined (record { nodes = tt })
+-- a node that is in range in a text without functions
+in_range_built : (limits : Limits) (n : Node) → limits.specials ≡ false → limits.functions ≡ 0
+    → IsInRange limits n → IsBuilt n
+in_range_built limits (node.MakeFunction dst function site proto_site) plain none h =
+    absurd (h.without_functions none)
+in_range_built limits (node.Enter site arguments) plain none h =
+    absurd (h.without_functions none)
+in_range_built limits (node.Intrinsic dst which args) plain none h = absurd (h.of_texts plain)
+in_range_built limits (node.Device dst which) plain none h = absurd (h.of_texts plain)
+in_range_built limits n plain none h = refl
 
-    either : (b : Bool) → AllBuilt (if b then items else first_const scene ++ items)
-    either true = built
-    either false = all_append (OfNode IsBuilt) (first_const scene) items first.nodes built
+-- numbers of sites keep the kind of a node
+renamed_built : (r : Renaming) (n : Node) → IsBuilt n → IsBuilt (renamed r n)
+unfolding renamed
+renamed_built r (node.MakeFunction dst function site proto_site) built = absurd (cc)
+renamed_built r (node.Enter site arguments) built = absurd (cc)
+renamed_built r (node.Intrinsic dst which args) built = absurd (cc)
+renamed_built r (node.Device dst which) built = absurd (cc)
+renamed_built r n built = refl
 
-program_built : (scene : Scene) (xs : List Statement) → HasNone (flat_map in_statement xs)
-    → scene.specials ≡ false → AllBuilt (program_listing scene xs)
-unfolding program_listing
-program_built scene xs none plain =
-    beginning_built (unhandled scene) _ (body_built (unhandled scene) first_place xs
-    (first_temporary 0) (nothing_listed (first_temporary 0)) none plain
-    (record { nodes = tt })).nodes
+all_built : (limits : Limits) (infos : List NodeInfo) → limits.specials ≡ false
+    → limits.functions ≡ 0 → AllByRecursion (λ (i : NodeInfo). IsInRange limits i.node) infos
+    → AllByRecursion (λ (i : NodeInfo). IsBuilt i.node) infos
+all_built limits [] plain none each = tt
+all_built limits (i ∷ infos) plain none each = (
+  in_range_built limits i.node plain none each.0,
+  all_built limits infos plain none each.1,
+)
 
 -- the nodes of the program
-nodes_built : (scene : Scene) (xs : List Statement) → unbuilt xs ≡ None → scene.specials ≡ false
+nodes_built : (scene : Scene) (xs : List Statement) → HasText scene xs → scene.specials ≡ false
+    → length scene.functions ≡ 0
     → AllByRecursion (λ (i : NodeInfo). IsBuilt i.node) (program_body scene xs).nodes
-nodes_built scene xs is plain =
-    assembled_keeps IsBuilt (program_listing scene xs)
-    (program_built scene xs (text_has_none xs is) plain)
+nodes_built scene xs has plain none =
+    let limits = limits_of 0 scene in
+    all_built limits (program_body scene xs).nodes plain none
+    (assembled_keeps (IsInRange limits) (program_listing scene xs) (program_in_range scene xs has))
 
 numbered_built : (first : ℕ) (infos : List NodeInfo) (n : ℕ) (info : NodeInfo)
     → AllByRecursion (λ (i : NodeInfo). IsBuilt i.node) infos
@@ -141,6 +92,19 @@ numbered_built first infos n info each is =
     let from = get-numbered first infos n info is in
     let old = all_at (λ (i : NodeInfo). IsBuilt i.node) infos n from.1 each from.2 in
     subst (λ (i : NodeInfo). IsBuilt i.node) from.3 (renamed_built _ from.1.node old)
+
+-- those of a text without functions, behind some names
+module _ (names : List (List ℕ)) (xs : List Statement) (is : unbuilt xs ≡ None) where
+  abbrev text_scene : Scene
+  text_scene = scene_of (names_of false names xs) xs
+
+  none_made : length text_scene.functions ≡ 0
+  none_made =
+      ap (λ (fs : List (FunctionOf Statement)). length (map (λ (f : FunctionOf Statement). f.place)
+      fs)) (no_functions xs is)
+
+  text_built : AllByRecursion (λ (i : NodeInfo). IsBuilt i.node) (program_body text_scene xs).nodes
+  text_built = nodes_built text_scene xs (scene_has_its_text false names xs) refl none_made
 
 -- ---- the text's functions
 
@@ -155,8 +119,7 @@ only_body : (scene : Scene) (xs : List Statement) → unbuilt xs ≡ None
     → bodies_of scene xs ≡ program_body scene xs ∷ []
 unfolding bodies_of
 only_body scene xs is =
-    ap (λ fs. program_body scene xs ∷ map (function_body scene) fs)
-    (no_functions xs (text_has_none xs is))
+    ap (λ fs. program_body scene xs ∷ map (function_body scene) fs) (no_functions xs is)
 
 pub lowered_built : (names : List (List ℕ)) (first : ℕ) (xs : List Statement) (f n : ℕ)
     (fn : Function) (info : NodeInfo) → unbuilt xs ≡ None
@@ -169,7 +132,7 @@ lowered_built names first xs f n fn info is at_f at_n =
     let same = only_function first body f fn
     (ap (λ (bs : List Body). slice_get (functions_of first bs) f)
     (sym (only_body scene xs is)) ∙ at_f) in
-    numbered_built first body.nodes n info (nodes_built scene xs is refl)
+    numbered_built first body.nodes n info (text_built names xs is)
     (ap (λ (g : Function). slice_get g.nodes n) same ∙ at_n)
 
 -- ---- the program
@@ -188,7 +151,7 @@ program_is_built text signatures xs is =
     let scene = scene_of (names_of false (names_before signatures) xs) xs in
     record {
       nodes = λ n info at. numbered_built (sites_before signatures) (program_body scene xs).nodes
-          n.0 info (nodes_built scene xs is refl) (ap (λ infos. slice_get infos n.0)
+          n.0 info (text_built (names_before signatures) xs is) (ap (λ infos. slice_get infos n.0)
           (sym (text_nodes text signatures xs)) ∙ at);
     }
 

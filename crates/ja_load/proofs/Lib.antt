@@ -1,13 +1,6 @@
-pub mod BuiltForms
 pub mod BuiltHosts
-pub mod BuiltNodes
 pub mod BuiltPrograms
-pub mod BuiltStatements
-pub mod BuiltTrees
 pub mod HostLemmas
 pub mod HostNames
-pub mod NoFunctions
 pub mod Places
-pub mod Rulesets
-pub mod UnbuiltLemmas
 pub mod WellFormedLemmas

@@ -270,7 +270,7 @@ fn built_program(
     ensures fault { IfErr result (ExplainsAnalysis signatures.now tree.now.statements) }
 {
     let program = program_of_tree(alloc, tree, signatures, text)?;
-    match unbuilt(tree) {
+    match unbuilt(alloc, tree)? {
         Some(place) => Err(LoadFault::Unbuilt { place }),
         None => Ok(program),
     }

@@ -3,4 +3,5 @@ pub mod Loops
 pub mod Meetings
 pub mod Pairs
 pub mod Searches
+mod Showing
 pub mod Walking

@@ -1,9 +1,12 @@
 ghost use Rattle.std.specs.Prelude.{◌≡◌, length};
+ghost use Rattle.std.proofs.Props.{props};
 ghost use Rattle.ja_aheap.specs.Heap.{heap_of, IsHeapOf};
+ghost use Rattle.ja_keys.specs.Keys.{IsKeysOf};
 
 use ja_aheap::DemandedEntries;
 use ja_astate::AState;
 use ja_graph::Program;
+use ja_keys::ProgramKeys;
 use std::alloc::Global;
 
 /// Reads an abstract state of a program, with the values at the entry of its context.
@@ -11,10 +14,13 @@ use std::alloc::Global;
 pub struct Reader<'a> {
     pub alloc: Global,
     pub program: &'a Program,
+    /// The keys of the program.
+    pub keys: &'a ProgramKeys,
     /// How many sites the program has.
     pub sites: u32,
     pub state: &'a AState,
     pub entries: &'a DemandedEntries,
+    pub ghost keys_are: { IsKeysOf program.now keys.now } by { Prim.hlevel props },
     pub ghost sites_are: { sites ≡ length program.now.sites },
     pub ghost heap_is: { IsHeapOf program.now (heap_of state.now.heap) },
 }

@@ -3,11 +3,13 @@ ghost use Rattle.std.specs.Option.{option_map_or};
 ghost use Rattle.ja_graph.specs.WellFormed.{IsWellFormed};
 ghost use Rattle.ja_abstract.specs.AbstractState.{labels_of};
 ghost use Rattle.ja_abstract.specs.AbstractValue.{no_property};
+ghost use Rattle.ja_abstract.specs.Keys.{keys_of_value};
 ghost use Rattle.ja_abstract.specs.Reading.{own, demands_of_own, both};
 ghost use Rattle.ja_abstract.specs.Resolved.{resolved, demands_of, origins, renamed, from_entry};
 ghost use Rattle.ja_aheap.specs.Heap.{heap_of, IsHeapOf};
 ghost use Rattle.ja_aheap.specs.Objects.{demands_in};
-ghost use Rattle.ja_value.specs.Value.{property_of, labels_in};
+ghost use Rattle.ja_keys.specs.Keys.{IsKeysOf};
+ghost use Rattle.ja_value.specs.Value.{value_of, property_of, labels_in};
 ghost use Rattle.ja_look.specs.code.Pairs.{demands_for};
 
 use crate::Reader;
@@ -16,7 +18,8 @@ use ja_aheap::{DemandList, DemandedEntries};
 use ja_astate::AState;
 use ja_base::{Label, Memory};
 use ja_graph::Program;
-use ja_value::{AProp, LabelSet};
+use ja_keys::ProgramKeys;
+use ja_value::{AProp, AValue, LabelSet};
 use std::alloc::Global;
 
 /// Demands a key of each of these labels.
@@ -37,10 +40,12 @@ impl<'a> Reader<'a> {
     pub fn new(
         alloc: Global,
         program: &'a Program,
+        keys: &'a ProgramKeys,
         state: &'a AState,
         entries: &'a DemandedEntries,
     ) -> Reader<'a>
         requires program { IsWellFormed program.now }
+        requires keys { IsKeysOf program.now keys.now }
         requires heap { IsHeapOf program.now (heap_of state.now.heap) }
         ensures program { result.program.now ≡ program.now }
         ensures state { result.state.now ≡ state.now }
@@ -49,6 +54,7 @@ impl<'a> Reader<'a> {
         Reader {
             alloc,
             program,
+            keys,
             sites: program.sites.len() as u32,
             state,
             entries,
@@ -61,6 +67,14 @@ impl<'a> Reader<'a> {
             ≡ filter (labels_in set.now) (labels_of self.now.program.now)) }
     {
         set.list(self.alloc, self.sites)
+    }
+
+    /// The keys of a value, in the program's order.
+    pub fn keys_of_value(&self, value: &AValue) -> Result<Vec<Key>, Memory>
+        ensures { IfOk result (λ v. v.items
+            ≡ keys_of_value self.now.program.now (value_of value.now)) }
+    {
+        self.keys.keys_of_value(self.alloc, value)
     }
 
     /// The property of a label and a key now.

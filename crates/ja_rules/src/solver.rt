@@ -4,6 +4,7 @@ ghost use Rattle.ja_graph.specs.WellFormed.{IsWellFormed};
 ghost use Rattle.ja_rows.specs.Table.{IsBuilt, IsClosed, IsItem, visited};
 ghost use Rattle.ja_rows.specs.Unfollowed.{IsOfRoot};
 ghost use Rattle.ja_sound.specs.Sound.{CoversRuns};
+ghost use Rattle.ja_keys.specs.Keys.{IsKeysOf};
 ghost use Rattle.ja_rules.specs.Tables.{table_of, Fits};
 ghost use Rattle.ja_rules.specs.Solving.{Explains};
 ghost use Rattle.ja_rules.specs.code.Rounds.{AreSettled, GoesOn, HasBuilt, IsSettled, IsStopped, step_at};
@@ -14,6 +15,7 @@ use crate::visits::node_info;
 use crate::{ATable, Visited, opening, visit};
 use ja_base::{Memory, NodeId, Seq};
 use ja_graph::{NodeInfo, Program};
+use ja_keys::ProgramKeys;
 use ja_rows::Item;
 use ja_sound::closed_covers;
 use std::alloc::{AllocFailed, Global};
@@ -113,10 +115,12 @@ impl Work {
         &mut self,
         alloc: Global,
         program: &Program,
+        keys: &ProgramKeys,
         budget: u128,
         item: Item,
     ) -> Result<bool, SolveFault>
         requires program { IsWellFormed program.now }
+        requires keys { IsKeysOf program.now keys.now }
         requires forms { AreBuilt program.now }
         requires built { HasBuilt program.now budget self.old }
         requires item { IsItem program.now (table_of self.old.table) item }
@@ -130,7 +134,7 @@ impl Work {
             → table_of self.new.table ≡ table_of self.old.table) }
         ensures fault { IfErr result (Explains program.now budget) }
     {
-        match visit(alloc, program, &mut self.table, item)? {
+        match visit(alloc, program, keys, &mut self.table, item)? {
             Visited::Same => Ok(false),
             Visited::Changed { demands } => {
                 if self.visits.len() as u128 >= budget {
@@ -151,10 +155,12 @@ impl Work {
         &mut self,
         alloc: Global,
         program: &Program,
+        keys: &ProgramKeys,
         budget: u128,
         node: NodeId,
     ) -> Result<(), SolveFault>
         requires program { IsWellFormed program.now }
+        requires keys { IsKeysOf program.now keys.now }
         requires forms { AreBuilt program.now }
         requires built { HasBuilt program.now budget self.old }
         requires item { IsItem program.now (table_of self.old.table) (step_at node.0) }
@@ -166,9 +172,9 @@ impl Work {
     {
         let step = step_of(node);
         let is_loop = leads_to_itself(node_info(program, node), node);
-        'steps: while self.take_turn(alloc, program, budget, step)? {
+        'steps: while self.take_turn(alloc, program, keys, budget, step)? {
             if self.demands {
-                self.take_turn(alloc, program, budget, Item::Open)?;
+                self.take_turn(alloc, program, keys, budget, Item::Open)?;
             } else if !is_loop {
                 break;
             }
@@ -177,8 +183,15 @@ impl Work {
     }
 
     // Settles each node that has a state, in order.
-    fn round(&mut self, alloc: Global, program: &Program, budget: u128) -> Result<(), SolveFault>
+    fn round(
+        &mut self,
+        alloc: Global,
+        program: &Program,
+        keys: &ProgramKeys,
+        budget: u128,
+    ) -> Result<(), SolveFault>
         requires program { IsWellFormed program.now }
+        requires keys { IsKeysOf program.now keys.now }
         requires forms { AreBuilt program.now }
         requires built { HasBuilt program.now budget self.old }
         ensures built { OnOk result (HasBuilt program.now budget self.new) }
@@ -187,11 +200,11 @@ impl Work {
             → AreSettled program.now (table_of self.new.table)) }
         ensures fault { IfErr result (Explains program.now budget) }
     {
-        self.take_turn(alloc, program, budget, Item::Open)?;
+        self.take_turn(alloc, program, keys, budget, Item::Open)?;
         let nodes = self.table.root(program).states.len();
         for node in 0..nodes {
             if self.table.root(program).states[node].is_some() {
-                self.settle(alloc, program, budget, NodeId(node as u32))?;
+                self.settle(alloc, program, keys, budget, NodeId(node as u32))?;
             }
         }
         Ok(())
@@ -213,6 +226,7 @@ pub fn solve(alloc: Global, program: &Program, budget: u128) -> Result<Solved, S
     ensures covers { IfOk result (λ s. CoversRuns program.now (table_of s.table)) }
     ensures explained { IfErr result (Explains program.now budget) }
 {
+    let keys = ProgramKeys::new(alloc, program)?;
     let mut work = Work {
         table: opening(alloc, program)?,
         visits: Vec::new(alloc),
@@ -220,7 +234,7 @@ pub fn solve(alloc: Global, program: &Program, budget: u128) -> Result<Solved, S
     };
     'rounds: loop {
         let before = work.visits.len();
-        work.round(alloc, program, budget)?;
+        work.round(alloc, program, &keys, budget)?;
         if work.visits.len() == before {
             break;
         }

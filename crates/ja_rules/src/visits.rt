@@ -6,6 +6,7 @@ ghost use Rattle.ja_machine.specs.Machine.{program_function};
 ghost use Rattle.ja_rows.specs.declared.table.Item.TheVariants as items;
 ghost use Rattle.ja_rows.specs.Table.{IsItem, root, visited};
 ghost use Rattle.ja_rows.specs.Unfollowed.{IsOfRoot, gives_edge};
+ghost use Rattle.ja_keys.specs.Keys.{IsKeysOf};
 ghost use Rattle.ja_rules.specs.declared.visits.Visited.TheVariants as comes;
 ghost use Rattle.ja_rules.specs.Tables.{table_of, states_in, Fits, FitsContext};
 ghost use Rattle.ja_rules.specs.Visits.{IsVisited};
@@ -17,8 +18,9 @@ use crate::{ATable, ContextTable};
 use ja_astate::AState;
 use ja_base::{Memory, NodeId};
 use ja_graph::{NodeInfo, Program};
+use ja_keys::ProgramKeys;
+use ja_nodes::transfer;
 use ja_rows::Item;
-use ja_transfer::transfer;
 use std::alloc::Global;
 
 /// What a visit comes to: the table is as it was; or it changed, and more values at entry may be
@@ -81,10 +83,12 @@ fn visit_open(alloc: Global, program: &Program, own: &mut ContextTable) -> Resul
 fn visit_step(
     alloc: Global,
     program: &Program,
+    keys: &ProgramKeys,
     own: &mut ContextTable,
     node: NodeId,
 ) -> Result<Visited, Memory>
     requires program { IsWellFormed program.now }
+    requires keys { IsKeysOf program.now keys.now }
     requires built { AreBuilt program.now }
     requires fits { FitsContext program.now own.old }
     requires context { own.old.context ≡ root }
@@ -98,7 +102,16 @@ fn visit_step(
 {
     let info = node_info(program, node);
     let state = state_at(&own.states, node);
-    let out = transfer(alloc, program, own.context, node, info, state, &own.entries)?;
+    let out = transfer(
+        alloc,
+        program,
+        keys,
+        own.context,
+        node,
+        info,
+        state,
+        &own.entries,
+    )?;
     if !out.edges.is_empty() {
         return Ok(Visited::Calls);
     }
@@ -113,10 +126,12 @@ fn visit_step(
 pub fn visit(
     alloc: Global,
     program: &Program,
+    keys: &ProgramKeys,
     table: &mut ATable,
     item: Item,
 ) -> Result<Visited, Memory>
     requires program { IsWellFormed program.now }
+    requires keys { IsKeysOf program.now keys.now }
     requires built { AreBuilt program.now }
     requires fits { Fits program.now table.old }
     requires root { IsOfRoot (table_of table.old) }
@@ -129,7 +144,9 @@ pub fn visit(
 {
     match item {
         Item::Open => visit_open(alloc, program, &mut table.contexts[0]),
-        Item::Step { node, .. } => visit_step(alloc, program, &mut table.contexts[0], node),
+        Item::Step { node, .. } => {
+            visit_step(alloc, program, keys, &mut table.contexts[0], node)
+        }
         Item::Fill(_) => unreachable!(),
         Item::Back(_) => unreachable!(),
     }

@@ -5,6 +5,8 @@
 mod built_in_tests;
 #[cfg(test)]
 mod device_tests;
+#[cfg(test)]
+mod heap_tests;
 mod hosts;
 #[cfg(test)]
 mod object_tests;

@@ -59,7 +59,7 @@ const TEXTS: [(&[u8], Status, &str); 26] = [
     ),
     (b"x", Status::Warned, "1:1 unbound name certain\n"),
     (b"x = (3);; /* */ (x)", Status::Done, "warnings 0\n"),
-    (b"x = 3; x.y;", Status::Unbuilt, "unbuilt 1:9\n"),
+    (b"x = 3; x.y;", Status::Done, "warnings 0\n"),
     (b"x = 1 + 2;", Status::Done, "\nglobal.new x 3 ---\n"),
     (
         b"x = 3; arguments",

@@ -15,23 +15,24 @@ use Rattle.ja_abstract.specs.Reading.{View}
 use Rattle.ja_abstract.specs.Values.{has_atoms}
 use Rattle.ja_rows.specs.declared.table.Edge.{Edge}
 use Rattle.ja_rows.specs.Out.{Point}
-use Rattle.ja_rows.specs.Edges.{calls_at, runs, edge, edges_to, receivers, some_runs, has_other}
-use Rattle.ja_transfer.specs.code.Callees.{some_run, IsNext, edges_at, edges_below}
+use Rattle.ja_rows.specs.Edges.{runs, edge, edges_to, some_runs, has_other}
+use Rattle.ja_transfer.specs.declared.sites.Entry.{Entry}
+use Rattle.ja_transfer.specs.code.Callees.{entry_by, some_run, IsNext, edges_at, edges_below}
 use Rattle.ja_transfer.proofs.Filters.{any_filter}
 
 -- ---- the next function
 
 -- a label more
-pub next_more : (p : Program) (labels : List Label) (i : ℕ) (d : Label) (from end : ℕ)
-    (called next : Option FnId) → i < length labels → called ≡ calls_at p (get_or labels i d)
-    → IsNext (λ f. some_run p (take i labels) f
+pub next_more : (entry : Entry) (p : Program) (labels : List Label) (i : ℕ) (d : Label) (from end : ℕ)
+    (called next : Option FnId) → i < length labels → called ≡ entry_by entry p (get_or labels i d)
+    → IsNext (λ f. some_run entry p (take i labels) f
     || option_map_or (λ (g : FnId). g.0 == f) called false) from end next
-    → IsNext (some_run p (take (i + 1) labels)) from end next
-next_more p labels i d from end called next within is least =
-    let run_is : (λ f. some_run p (take i labels) f
-    || option_map_or (λ (g : FnId). g.0 == f) called false) ≡ some_run p (take (i + 1) labels) =
-    (λ j f. some_run p (take i labels) f || option_map_or (λ (g : FnId). g.0 == f) (is j) false)
-    ∙ sym (λ j f. list_any_more (runs (calls_at p) f) labels i d within j) in
+    → IsNext (some_run entry p (take (i + 1) labels)) from end next
+next_more entry p labels i d from end called next within is least =
+    let run_is : (λ f. some_run entry p (take i labels) f
+    || option_map_or (λ (g : FnId). g.0 == f) called false) ≡ some_run entry p (take (i + 1) labels) =
+    (λ j f. some_run entry p (take i labels) f || option_map_or (λ (g : FnId). g.0 == f) (is j) false)
+    ∙ sym (λ j f. list_any_more (runs (entry_by entry p) f) labels i d within j) in
     subst (λ (is_run : ℕ → Bool). IsNext is_run from end next) run_is least
 
 -- none is next
@@ -105,29 +106,31 @@ edges_to_none x receivers f n past =
     edges_rest x (λ g. g == f) receivers 0 n (omega arith)
     (λ g low high. ne_eqb g f (λ e. omega (arith, e)))
 
--- ---- calls
+-- ---- calls and constructions
 
-module _ (w : View) (u : AbstractValue) (labels : List Label)
+module _ (w : View) (entry : Entry) (u : AbstractValue) (labels : List Label)
     (are : labels ≡ filter u.label (labels_of w.program)) where
+  abbrev run : Label → Option FnId
+  run = entry_by entry w.program
+
   -- the functions that some callee runs are those that the labels of the callee run
-  pub called_edges : (x : Point) (r : AbstractValue)
-      → edges_below x (some_run w.program labels) (filter (receivers w r) (labels_of w.program))
-      (length w.program.functions)
-      ≡ edges_to w x (some_runs w (calls_at w.program) u) (receivers w r)
-  called_edges x r =
-      let runs_of : ℕ → Labels = λ f. runs (calls_at w.program) f in
-      let run_is : some_run w.program labels ≡ some_runs w (calls_at w.program) u =
+  pub entered_edges : (x : Point) (receivers : Labels)
+      → edges_below x (some_run entry w.program labels)
+      (filter receivers (labels_of w.program)) (length w.program.functions)
+      ≡ edges_to w x (some_runs w run u) receivers
+  entered_edges x receivers =
+      let runs_of : ℕ → Labels = λ f. runs run f in
+      let run_is : some_run entry w.program labels ≡ some_runs w run u =
       (λ i f. list_any (runs_of f) (are i))
       ∙ (λ i f. any_filter u.label (runs_of f) (labels_of w.program) i) in
       ap (λ (is_run : ℕ → Bool). edges_below x is_run
-      (filter (receivers w r) (labels_of w.program)) (length w.program.functions)) run_is
+      (filter receivers (labels_of w.program)) (length w.program.functions)) run_is
 
   -- .. and so are those that run none
   pub other_callees : (atoms : Bool) → atoms ≡ has_atoms u
-      → (atoms || list_any (λ l. not (is_some (calls_at w.program l))) labels)
-      ≡ has_other w (calls_at w.program) u
+      → (atoms || list_any (λ l. not (is_some (run l))) labels) ≡ has_other w run u
   other_callees atoms atoms_are =
-      let uncalled : Labels = λ l. not (is_some (calls_at w.program l)) in
-      ap (λ b. b || list_any uncalled labels) atoms_are
-      ∙ ap (λ b. has_atoms u || b) (ap (list_any uncalled) are
-      ∙ any_filter u.label uncalled (labels_of w.program))
+      let without : Labels = λ l. not (is_some (run l)) in
+      ap (λ b. b || list_any without labels) atoms_are
+      ∙ ap (λ b. has_atoms u || b) (ap (list_any without) are
+      ∙ any_filter u.label without (labels_of w.program))

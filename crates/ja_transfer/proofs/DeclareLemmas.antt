@@ -1,4 +1,4 @@
--- Declarations of variables: where they may be missing, and what the states come to.
+-- Definitions and declarations: where variables may be missing, and what the states come to.
 use Rattle.std.proofs.Common.{arith, ◌≡◌, ◌==◌, ◌&&◌, ◌||◌, true, false, not, List, [], ◌∷◌, length, Option, Some, None, cond, refl, sym, ap, ◌∙◌}
 use Rattle.std.specs.List.{filter, list_any}
 use Rattle.std.specs.Option.{option_map_or}
@@ -6,7 +6,7 @@ use Rattle.std.proofs.lemmas.Bool.{ne_eqb}
 use Rattle.ja_base.specs.declared.ids.Label.{Label}
 use Rattle.ja_base.specs.declared.ids.NodeId.{NodeId}
 use Rattle.ja_abstract.specs.declared.abstraction.Key.{Key}
-use Rattle.ja_abstract.specs.AbstractValue.{Labels}
+use Rattle.ja_abstract.specs.AbstractValue.{Labels, AbstractProperty}
 use Rattle.ja_abstract.specs.AbstractState.{AbstractState, labels_of}
 use Rattle.ja_abstract.specs.Reading.{View, some_label}
 use Rattle.ja_abstract.specs.Writes.{Write, sets_at, strong_update, new_alone, declared, is_missing}
@@ -17,23 +17,22 @@ use Rattle.ja_transfer.specs.code.Members.{weakly_over}
 use Rattle.ja_transfer.proofs.Filters.{any_filter}
 use Rattle.ja_transfer.proofs.WeakLemmas.{weak_where}
 
--- ---- at the one object of a label, or where it may be missing
+-- ---- at the one object of a label, or at each of some labels
 
-module _ (w : View) (ls missing : List Label) (k : Key) where
+module _ (w : View) (ls each : List Label) (k : Key) (q : AbstractProperty) where
   abbrev at_one : Option Label → AbstractState
   at_one o =
-      let writes : List Write = sets_at k declared_property ∷ [] in
+      let writes : List Write = sets_at k q ∷ [] in
       option_map_or (λ l. strong_update w.state l writes) o
-      (weakly_over w.program w.state missing (λ l. writes))
+      (weakly_over w.program w.state each (λ l. writes))
 
-  pub declared_alone : (l : Label) → new_alone ls ≡ Some l
-      → strong_update w.state l (sets_at k declared_property ∷ []) ≡ declared_over w ls missing k
-  declared_alone l alone = ap at_one (sym alone)
+  pub set_alone : (l : Label) → new_alone ls ≡ Some l
+      → strong_update w.state l (sets_at k q ∷ []) ≡ at_one (new_alone ls)
+  set_alone l alone = ap at_one (sym alone)
 
-  pub declared_each : new_alone ls ≡ None
-      → weakly_over w.program w.state missing (λ l. sets_at k declared_property ∷ [])
-      ≡ declared_over w ls missing k
-  declared_each none = ap at_one (sym none)
+  pub set_each : new_alone ls ≡ None
+      → weakly_over w.program w.state each (λ l. sets_at k q ∷ []) ≡ at_one (new_alone ls)
+  set_each none = ap at_one (sym none)
 
 -- ---- some labels of the program
 

@@ -1,14 +1,13 @@
-mod AtNode
-mod CalleeLemmas
+pub mod CalleeLemmas
 mod DeclareLemmas
 mod DeleteLemmas
 pub mod Filters
-mod GivenLemmas
-mod MemberLemmas
+pub mod GivenLemmas
+pub mod MemberLemmas
 mod PutLemmas
 mod ReceiverLemmas
 mod ShapeLemmas
 mod SpotLemmas
 mod TargetLemmas
 mod ValueLemmas
-mod WeakLemmas
+pub mod WeakLemmas

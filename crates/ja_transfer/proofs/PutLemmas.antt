@@ -1,4 +1,4 @@
--- Puts at labels that have no arrays: what is written, and what the states come to.
+-- Puts: what is written, and what the states come to.
 use Rattle.std.proofs.Common.{◌≡◌, ◌+◌, ◌<◌, ℕ, Bool, true, false, ◌&&◌, ◌||◌, if◌then◌else◌, List, [], ◌∷◌, ◌++◌, length, take, get_or, Option, Some, None, refl, sym, subst, ap, ◌∙◌, append-nil}
 use Rattle.std.specs.Prelude.{IsTrue, unwrap_or}
 use Rattle.std.specs.List.{filter, list_any, flat_map}
@@ -15,7 +15,7 @@ use Rattle.ja_abstract.specs.declared.abstraction.Key.{Key}
 use Rattle.ja_abstract.specs.AbstractValue.{Labels, AbstractValue}
 use Rattle.ja_abstract.specs.AbstractState.{AbstractState, labels_of, is_key, same_key}
 use Rattle.ja_abstract.specs.InProgram.{AreKeys, AreAtKeys}
-use Rattle.ja_abstract.specs.Keys.{is_index_key}
+use Rattle.ja_abstract.proofs.WritesInProgram.{some_writes, accepted_writes_are}
 use Rattle.ja_abstract.specs.Made.{length_key}
 use Rattle.ja_abstract.specs.Reading.{View, demands_of_get, demands_if, both, one_label, may_refuse, may_accept}
 use Rattle.ja_abstract.specs.Resolved.{Demands, demands_of}
@@ -29,44 +29,13 @@ use Rattle.ja_transfer.proofs.WeakLemmas.{weak_at_set, demands_at_set}
 
 -- ---- at a label and a key
 
-module _ (w : View) (l : Label) (plain : is_array_label w.program l ≡ false) where
-  abbrev p : Program
-  p = w.program
-
-  -- the property alone is written
-  pub plain_writes : (k : Key) (v : AbstractValue)
-      → put_writes w l k v ≡ Some (sets_at k (put_property w l k v) ∷ [])
-  plain_writes k v =
-      ap (λ (b : Bool). if b && same_key k length_key then length_writes w l v
-      else if b && is_index_key p k then element_writes w l k v
-      else Some (sets_at k (put_property w l k v) ∷ [])) plain
-
-  -- what is asked is all that is demanded
-  pub plain_demands : (k : Key) → demands_of_get w (one_label l) (k ∷ []) ≡ demands_of_put w l k
-  plain_demands k =
-      let asked : Demands = demands_of_get w (one_label l) (k ∷ []) in
-      let grown : Bool → Demands =
-      λ b. demands_if (b && is_index_key p k && may_accept (asked_at w l k))
-      (demands_of w.state l length_key) in
-      (λ n m j. sym (or-false (asked m j)) n) ∙ ap (λ (b : Bool). both asked (grown b)) (sym plain)
-
-  -- .. at keys of the program
-  pub accepted_keys : (k : Key) (v : AbstractValue) → IsTrue (is_key p k)
-      → AreAtKeys p (unwrap_or (accepted_writes w l k v) [])
-  accepted_keys k v at_key =
-      elim (may_accept (asked_at w l k)) as (λ b.
-      AreAtKeys p (unwrap_or (if b then put_writes w l k v else None) [])) [
-        | true ↦ subst (λ (o : Option (List Write)). AreAtKeys p (unwrap_or o []))
-            (sym (plain_writes k v)) (at_key, tt)
-        | false ↦ tt
-      ]
-
-  pub put_list_keys : (keys : List Key) (v : AbstractValue) → AreKeys p keys
-      → AreAtKeys p (put_list w keys v l)
-  put_list_keys [] v are = tt
-  put_list_keys (k ∷ ks) v are =
-      all_append (λ (x : Write). IsTrue (is_key p x.key)) (unwrap_or (accepted_writes w l k v) [])
-      (put_list w ks v l) (accepted_keys k v are.0) (put_list_keys ks v are.1)
+-- what is written is at keys of the program
+pub accepted_keys : (w : View) → IsTrue (is_key w.program length_key) → (l : Label) (k : Key)
+    (v : AbstractValue) → IsTrue (is_key w.program k)
+    → AreAtKeys w.program (unwrap_or (accepted_writes w l k v) [])
+accepted_keys w has_length l k v at_key =
+    some_writes w has_length (accepted_writes w l k v)
+    (accepted_writes_are w has_length l k v at_key)
 
 -- ---- at a label and some keys
 

@@ -90,13 +90,3 @@ module _ (p : Program) where
       ap {B = Labels} (λ (xs : List Label) (m : Label). set m && not (array_in xs m)) are
       ∙ (λ n m. without_by (set m) (array_in (filter set (labels_of p)) m) (is_array_label p m)
       (arrays_are set m) n)
-
-  -- .. has no array
-  pub left_plain : (set : Labels) (l : Label) → IsTrue (without_arrays p set l)
-      → is_array_label p l ≡ false
-  left_plain set l e =
-      not_true (is_array_label p l) (and_parts (set l) (not (is_array_label p l)) e).1
-    where
-      not_true : (b : Bool) → IsTrue (not b) → b ≡ false
-      not_true true t = absurd (false≢true t)
-      not_true false t = refl

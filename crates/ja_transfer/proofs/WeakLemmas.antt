@@ -101,7 +101,7 @@ and_agree : (b c d : Bool) → (b ≡ true → c ≡ d) → (b && c) ≡ (b && d
 and_agree false c d same = refl
 and_agree true c d same = same refl
 
-members_are : (p : Program) (target : Labels) (m : Label) → IsTrue (is_label p m)
+pub members_are : (p : Program) (target : Labels) (m : Label) → IsTrue (is_label p m)
     → list_any (λ (l : Label). same_label l m) (filter target (labels_of p)) ≡ target m
 members_are p target m here =
     let ls = filter target (labels_of p) in

@@ -7,9 +7,10 @@ ghost use Rattle.ja_abstract.specs.AbstractState.{labels_of};
 ghost use Rattle.ja_rows.specs.Edges.{edge, edges_to, receivers};
 ghost use Rattle.ja_aheap.specs.Heap.{heap_of};
 ghost use Rattle.ja_value.specs.Value.{value_of, labels_in};
+ghost use Rattle.ja_transfer.specs.declared.sites.Entry.TheVariants.{Call};
 ghost use Rattle.ja_transfer.specs.code.Callees.{some_run, IsNext, edges_below};
 
-use crate::sites::calls_at;
+use crate::sites::{Entry, entry_at};
 use crate::stepper::Stepper;
 use ja_base::{Context, FnId, Label, Memory};
 use ja_graph::Program;
@@ -34,14 +35,19 @@ fn lesser(next: Option<FnId>, called: Option<FnId>, from: usize, end: usize) -> 
     }
 }
 
-/// The least function from a number on, and below another, that the objects of some labels run
-/// where they are called.
-fn next_called(program: &Program, callees: &[Label], from: usize, end: usize) -> Option<FnId>
-    ensures { IsNext (some_run program.now callees.now) from end result }
+/// The least function from a number on, and below another, that the objects of some labels run.
+fn next_run(
+    program: &Program,
+    entry: Entry,
+    callees: &[Label],
+    from: usize,
+    end: usize,
+) -> Option<FnId>
+    ensures { IsNext (some_run entry program.now callees.now) from end result }
 {
     let mut next = None;
     for callee in callees {
-        next = lesser(next, calls_at(program, *callee), from, end);
+        next = lesser(next, entry_at(program, entry, *callee), from, end);
     }
     next
 }
@@ -73,20 +79,21 @@ impl Stepper<'_> {
     }
 
     /// An edge into each function that some callee runs, for each receiver.
-    pub(crate) fn edges_into(
+    pub fn edges_into(
         &self,
+        entry: Entry,
         callees: &[Label],
         receivers: &[Label],
     ) -> Result<Vec<Edge>, Memory>
         ensures { IfOk result (λ edges. edges.items ≡ edges_below (point_of self.now)
-            (some_run self.now.reader.program.now callees.now) receivers.now
+            (some_run entry self.now.reader.program.now callees.now) receivers.now
             (length self.now.reader.program.now.functions)) }
     {
         let program = self.reader.program;
         let end = program.functions.len();
         let mut edges = Vec::new(self.reader.alloc);
         let mut from = 0;
-        while let Some(function) = next_called(program, callees, from, end) {
+        while let Some(function) = next_run(program, entry, callees, from, end) {
             self.add_edges(&mut edges, function, receivers)?;
             from = function.0 as usize + 1;
         }
@@ -102,17 +109,18 @@ impl Stepper<'_> {
     ) -> Result<Vec<Edge>, Memory>
         requires { 0 < (heap_of self.now.reader.state.now.heap).sites }
         ensures { IfOk result (λ edges. edges.items ≡ edges_below (point_of self.now)
-            (some_run self.now.reader.program.now callees.now)
+            (some_run Call self.now.reader.program.now callees.now)
             (filter (receivers (at_view self.now) (value_of receiver.now))
             (labels_of self.now.reader.program.now))
             (length self.now.reader.program.now.functions)) }
     {
         let program = self.reader.program;
-        if next_called(program, callees, 0, program.functions.len()).is_none() {
+        let end = program.functions.len();
+        if next_run(program, Entry::Call, callees, 0, end).is_none() {
             return Ok(Vec::new(self.reader.alloc));
         }
         let receivers = self.receivers(receiver)?;
-        self.edges_into(callees, &receivers)
+        self.edges_into(Entry::Call, callees, &receivers)
     }
 
     /// An edge into a function for each label of a set, if there is reason for them.

@@ -10,18 +10,18 @@ ghost use Rattle.ja_rows.specs.Out.{goes};
 ghost use Rattle.ja_astate.specs.State.{state_of, HaveOneShape};
 ghost use Rattle.ja_value.specs.Value.{property_of};
 ghost use Rattle.ja_transfer.specs.code.Members.{weakly_over};
-ghost use Rattle.ja_transfer.specs.code.Declares.{declared_property, declared_over};
+ghost use Rattle.ja_transfer.specs.code.Declares.{declared_property, declared_over, defined_over};
 ghost use Rattle.ja_transfer.specs.code.Deletes.{is_there};
 
 use crate::given::States;
 use crate::spots::new_alone;
 use crate::stepper::Stepper;
-use crate::writing::one_write;
 use ja_abstract::Key;
 use ja_astate::AState;
 use ja_base::{Label, Memory};
 use ja_graph::DONT_DELETE;
 use ja_value::{AProp, AValue};
+use ja_writes::one_write;
 use std::alloc::Global;
 
 /// Where a key is there, and where it may be missing.
@@ -90,6 +90,23 @@ impl Stepper<'_> {
             self.weakly(&mut state, *label, writes)?;
         }
         Ok(state)
+    }
+
+    /// The state at hand after a property was defined at some labels of the program: in place at
+    /// the one object of a new label, and joined in elsewhere.
+    pub fn defined(&self, members: &[Label], key: Key, property: AProp) -> Result<AState, Memory>
+        requires members { All (λ (l : Label). IsTrue (is_label self.now.reader.program.now l))
+            members.now }
+        requires key { IsTrue (is_key self.now.reader.program.now key) }
+        ensures state { IfOk result (λ a. state_of a
+            ≡ defined_over (at_view self.now) members.now key (property_of property)) }
+        ensures shape { IfOk result (HaveOneShape self.now.reader.state.now) }
+    {
+        let Some(label) = new_alone(members) else {
+            return self.defines_weakly(members, key, &property);
+        };
+        let writes = one_write(self.reader.alloc, key, property, false)?;
+        self.strongly(label, writes)
     }
 
     /// The state at hand after a variable was declared at some labels of the program, where it may

@@ -18,11 +18,11 @@ ghost use Rattle.ja_transfer.specs.code.Members.{weakly_over};
 use crate::given::States;
 use crate::spots::strong_spot;
 use crate::stepper::Stepper;
-use crate::writing::one_write;
 use ja_abstract::Key;
 use ja_aheap::{DemandList, Write, Writes};
 use ja_base::{Label, Memory, Reg};
 use ja_value::{AProp, AValue, LabelSet};
+use ja_writes::one_write;
 use std::alloc::Global;
 
 /// What the objects of a label may have at a key themselves.
@@ -119,11 +119,7 @@ impl Stepper<'_> {
     }
 
     /// Demands what the objects of some labels have at some keys themselves.
-    pub(crate) fn demand_target(
-        &self,
-        target: &LabelSet,
-        keys: &[Key],
-    ) -> Result<DemandList, Memory>
+    pub fn demand_target(&self, target: &LabelSet, keys: &[Key]) -> Result<DemandList, Memory>
         ensures { IfOk result (λ d. demands_in d
             ≡ demands_of_delete (at_view self.now) (labels_in target.now) keys.now) }
     {
@@ -152,7 +148,7 @@ impl Stepper<'_> {
 
     /// The state at hand with a Boolean in a register goes to the next node, if there is reason
     /// for it.
-    pub(crate) fn gives_bool(
+    pub fn gives_bool(
         &self,
         states: &mut States,
         is_given: bool,
@@ -259,7 +255,7 @@ impl Stepper<'_> {
 
     /// [[Delete]] at some labels and keys: the states that it may leave go to the next node with
     /// what it gives in a register.
-    pub(crate) fn deletes(
+    pub fn deletes(
         &self,
         states: &mut States,
         dst: Reg,

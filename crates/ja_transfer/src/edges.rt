@@ -9,7 +9,7 @@ ghost use Rattle.ja_value.specs.Value.{value_of};
 
 use crate::given::States;
 use crate::outcome::Outcome;
-use crate::sites::some_uncalled;
+use crate::sites::{Entry, some_without};
 use crate::stepper::Stepper;
 use crate::values::join_if;
 use ja_aheap::DemandList;
@@ -120,7 +120,8 @@ impl Stepper<'_> {
     {
         let callee = self.reader.state.register(callee);
         let callees = self.reader.labels(&callee.labels)?;
-        let is_other = callee.has_atoms() | some_uncalled(self.reader.program, &callees);
+        let is_other = callee.has_atoms()
+            | some_without(self.reader.program, Entry::Call, &callees);
         let edges = self.call_edges(&callees, self.reader.state.register(receiver))?;
         let mut states = States::new(self.reader.alloc);
         self.type_error(&mut states, is_other, error, NOT_A_FUNCTION)?;

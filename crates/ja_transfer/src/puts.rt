@@ -1,31 +1,27 @@
 //! [[Put]] at some labels and keys (ES3 8.6.2.2): strong at the one object of a new label and just
-//! one name, and weak elsewhere (Balakrishnan and Reps, SAS 2006). Arrays aren't put at yet.
+//! one name, and weak elsewhere (Balakrishnan and Reps, SAS 2006).
 
-ghost use Rattle.std.specs.Prelude.{◌≡◌, [], ◌∷◌, ◌++◌, IfOk, IsTrue, All, None, false, if◌then◌else◌, unwrap_or};
+ghost use Rattle.std.specs.Prelude.{◌≡◌, [], ◌++◌, IfOk, IsTrue, All, None, if◌then◌else◌, unwrap_or};
 ghost use Rattle.std.specs.Option.{option_map};
 ghost use Rattle.ja_base.specs.declared.ids.Label.{Label};
-ghost use Rattle.ja_abstract.specs.AbstractValue.{unknown_attrs};
 ghost use Rattle.ja_abstract.specs.AbstractState.{is_label, is_key};
 ghost use Rattle.ja_abstract.specs.InProgram.{AreKeys};
-ghost use Rattle.ja_abstract.specs.Reading.{one_label, demands_of_get};
-ghost use Rattle.ja_abstract.specs.Writes.{put_attrs, put_property, put_writes, is_array_label, asked_at, demands_of_put, strong_put, put_states, put_list, demands_of_puts};
+ghost use Rattle.ja_abstract.specs.Writes.{put_writes, demands_of_put, strong_put, put_states, put_list, demands_of_puts};
 ghost use Rattle.ja_rows.specs.Out.{all_go, goes};
 ghost use Rattle.ja_aheap.specs.Objects.{demands_in, writes_of};
-ghost use Rattle.ja_look.specs.Looks.{IsLooked};
-ghost use Rattle.ja_value.specs.Value.{value_of, property_of, labels_in};
+ghost use Rattle.ja_value.specs.Value.{value_of, labels_in};
 ghost use Rattle.ja_transfer.specs.code.Members.{weakly_over, demands_over};
 ghost use Rattle.ja_transfer.specs.code.Puts.{put_of, one_put, putting_of, putting, demands_of_keys, puts_at_some};
 
 use crate::given::States;
 use crate::spots::strong_spot;
 use crate::stepper::Stepper;
-use crate::writing::one_write;
-use ja_abstract::{AAttrs, Key};
+use ja_abstract::Key;
 use ja_aheap::{DemandList, Writes};
 use ja_base::{Label, Memory};
-use ja_graph::NO_ATTRS;
 use ja_look::Looked;
-use ja_value::{AProp, AValue, LabelSet, exact_attrs, join_attrs, unknown_attrs};
+use ja_value::{AValue, LabelSet};
+use ja_writes::{asked_at, demand_length, put_writes};
 use std::alloc::Global;
 
 /// What a put does at the objects of a label and a key.
@@ -48,13 +44,6 @@ pub(crate) struct PutsAt {
     pub writes: Writes,
     /// The pairs of the entry that this takes.
     pub demands: DemandList,
-}
-
-/// These attributes where there is reason for them, or nothing known.
-fn attrs_if(is_there: bool, attrs: AAttrs) -> AAttrs
-    ensures { result ≡ (if is_there then attrs else unknown_attrs) }
-{
-    if is_there { attrs } else { unknown_attrs() }
 }
 
 /// Adds writes behind others, if there are some.
@@ -107,48 +96,6 @@ impl Stepper<'_> {
 
     // ---- at a label and a key
 
-    /// The attributes of a property that is put: those that it has, and none where it may be new.
-    fn put_attrs(&self, property: &AProp) -> AAttrs
-        ensures { result ≡ put_attrs (at_view self.now) (property_of property.now) }
-    {
-        let is_there = property.value.is_present(self.reader.sites);
-        let had = attrs_if(is_there, property.attrs);
-        let given = attrs_if(property.value.flags.absent, exact_attrs(NO_ATTRS));
-        join_attrs(had, given)
-    }
-
-    /// The property that is put at a label and a key.
-    fn put_property(&self, label: Label, key: Key, value: &AValue) -> Result<AProp, Memory>
-        ensures { IfOk result (λ q. property_of q
-            ≡ put_property (at_view self.now) label key (value_of value.now)) }
-    {
-        let property = self.reader.resolved(label, key)?;
-        let attrs = self.put_attrs(&property);
-        let value = value.copy(self.reader.alloc)?;
-        Ok(AProp { value, attrs })
-    }
-
-    /// What a put that is accepted writes, if it writes something.
-    fn writes_at(&self, label: Label, key: Key, value: &AValue) -> Result<Option<Writes>, Memory>
-        requires { is_array_label self.now.reader.program.now label ≡ false }
-        ensures { IfOk result (λ writes. option_map writes_of writes
-            ≡ put_writes (at_view self.now) label key (value_of value.now)) }
-    {
-        let property = self.put_property(label, key, value)?;
-        let writes = one_write(self.reader.alloc, key, property, false)?;
-        Ok(Some(writes))
-    }
-
-    /// What [[CanPut]] goes by (8.6.2.3): what [[Get]] may find.
-    fn asked_at(&self, label: Label, key: Key) -> Result<Looked, Memory>
-        ensures { IfOk result (IsLooked (asked_at (at_view self.now) label key)
-            (demands_of_get (at_view self.now) (one_label label) (key ∷ []))) }
-    {
-        let mut one = LabelSet::new(self.reader.alloc);
-        one.insert(label)?;
-        self.reader.get(&one, &[key])
-    }
-
     /// What a put writes at the objects of a label and a key, if it may be accepted and writes
     /// something.
     fn accepted_writes(
@@ -158,25 +105,29 @@ impl Stepper<'_> {
         key: Key,
         value: &AValue,
     ) -> Result<Option<Writes>, Memory>
-        requires { is_array_label self.now.reader.program.now label ≡ false }
+        requires { IsTrue (is_key self.now.reader.program.now key) }
         ensures { IfOk result (λ writes. option_map writes_of writes ≡ (if accepts
             then put_writes (at_view self.now) label key (value_of value.now) else None)) }
     {
         if !accepts {
             return Ok(None);
         }
-        self.writes_at(label, key, value)
+        put_writes(&self.reader, label, key, value)
     }
 
     /// What a put does at the objects of a label and a key.
     fn put_at(&self, label: Label, key: Key, value: &AValue) -> Result<PutAt, Memory>
-        requires { is_array_label self.now.reader.program.now label ≡ false }
+        requires { IsTrue (is_key self.now.reader.program.now key) }
         ensures { IfOk result (λ put. put_of put
             ≡ one_put (at_view self.now) label key (value_of value.now)) }
     {
-        let Looked { property, demands } = self.asked_at(label, key)?;
+        let Looked {
+            property,
+            mut demands,
+        } = asked_at(&self.reader, label, key)?;
         let accepts = property.attrs.read_only.unset | property.value.flags.absent;
         let writes = self.accepted_writes(accepts, label, key, value)?;
+        demand_length(&self.reader, accepts, label, key, &mut demands)?;
         Ok(PutAt {
             refuses: property.attrs.read_only.set,
             writes,
@@ -186,7 +137,7 @@ impl Stepper<'_> {
 
     /// What a put does at the objects of a label and some keys.
     fn puts_at(&self, label: Label, keys: &[Key], value: &AValue) -> Result<PutsAt, Memory>
-        requires { is_array_label self.now.reader.program.now label ≡ false }
+        requires { AreKeys self.now.reader.program.now keys.now }
         ensures { IfOk result (λ puts. putting_of puts
             ≡ putting (at_view self.now) label keys.now (value_of value.now)) }
     {
@@ -209,7 +160,6 @@ impl Stepper<'_> {
         value: &AValue,
     ) -> Result<DemandList, Memory>
         requires label { IsTrue (is_label self.now.reader.program.now label) }
-        requires array { is_array_label self.now.reader.program.now label ≡ false }
         requires key { IsTrue (is_key self.now.reader.program.now key) }
         ensures states { IfOk result (λ _. AreAdded self.now (all_go self.now.info.now.next
             (strong_put (at_view self.now) label key (value_of value.now)))
@@ -241,8 +191,6 @@ impl Stepper<'_> {
     ) -> Result<DemandList, Memory>
         requires labels { All (λ (l : Label). IsTrue (is_label self.now.reader.program.now l))
             members.now }
-        requires arrays { All (λ (l : Label).
-            is_array_label self.now.reader.program.now l ≡ false) members.now }
         requires keys { AreKeys self.now.reader.program.now keys.now }
         ensures states { IfOk result (λ _. AreAdded self.now (goes
             (puts_at_some (at_view self.now) members.now keys.now (value_of value.now))
@@ -272,15 +220,13 @@ impl Stepper<'_> {
 
     /// [[Put]] of a value at some labels and keys: the states that it may leave go to the next
     /// node, and what it demands is given.
-    pub(crate) fn puts(
+    pub fn puts(
         &self,
         states: &mut States,
         target: &LabelSet,
         keys: &[Key],
         value: &AValue,
     ) -> Result<DemandList, Memory>
-        requires arrays { (l : Label) → IsTrue (labels_in target.now l)
-            → is_array_label self.now.reader.program.now l ≡ false }
         requires keys { AreKeys self.now.reader.program.now keys.now }
         ensures states { IfOk result (λ _. AreAdded self.now (all_go self.now.info.now.next
             (put_states (at_view self.now) (labels_in target.now) keys.now (value_of value.now)))

@@ -1,48 +1,27 @@
 //! The state at hand after writes: at the one object of a label, or at all objects of one.
 
-ghost use Rattle.std.specs.Prelude.{◌≡◌, ◌<◌, [], ◌∷◌, IfOk, IsTrue, vec_len};
+ghost use Rattle.std.specs.Prelude.{◌≡◌, ◌<◌, IfOk, IsTrue, vec_len};
 ghost use Rattle.ja_abstract.specs.AbstractValue.{same_label};
 ghost use Rattle.ja_abstract.specs.AbstractState.{is_label};
 ghost use Rattle.ja_abstract.specs.InProgram.{AreAtKeys};
-ghost use Rattle.ja_abstract.specs.Writes.{Write, strong_update, weak_update};
+ghost use Rattle.ja_abstract.specs.Writes.{strong_update, weak_update};
 ghost use Rattle.ja_rows.specs.Out.{goes, sets_in};
-ghost use Rattle.ja_aheap.specs.Objects.{write_of, writes_of};
+ghost use Rattle.ja_aheap.specs.Objects.{writes_of};
 ghost use Rattle.ja_astate.specs.State.{state_of, HaveOneShape};
-ghost use Rattle.ja_value.specs.Value.{value_of, property_of};
+ghost use Rattle.ja_value.specs.Value.{value_of};
 
 use crate::given::States;
 use crate::stepper::Stepper;
-use ja_abstract::Key;
-use ja_aheap::{Write, Writes};
+use ja_aheap::Writes;
 use ja_astate::AState;
 use ja_base::{Label, Memory, NodeId, Reg};
-use ja_value::{AProp, AValue};
-use std::alloc::Global;
-
-/// One write.
-pub(crate) fn one_write(
-    alloc: Global,
-    key: Key,
-    property: AProp,
-    joins: bool,
-) -> Result<Writes, Memory>
-    ensures { IfOk result (λ writes. writes_of writes
-        ≡ record { key = key; property = property_of property; joins = joins } ∷ []) }
-{
-    let mut list = Vec::new(alloc);
-    list.push(Write {
-        key,
-        property,
-        joins,
-    })?;
-    Ok(Writes { list })
-}
+use ja_value::AValue;
 
 impl Stepper<'_> {
     ghost use Rattle.ja_transfer.specs.Outcomes.{at_view, AreAdded};
 
     /// The state at hand after writes at the one object of a label.
-    pub(crate) fn strongly(&self, label: Label, writes: Writes) -> Result<AState, Memory>
+    pub fn strongly(&self, label: Label, writes: Writes) -> Result<AState, Memory>
         requires label { IsTrue (is_label self.now.reader.program.now label) }
         requires keys { AreAtKeys self.now.reader.program.now (writes_of writes) }
         ensures state { IfOk result (λ a. state_of a
@@ -55,12 +34,7 @@ impl Stepper<'_> {
     }
 
     /// Writes at all objects of a label in a state like the one at hand: each write joins.
-    pub(crate) fn weakly(
-        &self,
-        state: &mut AState,
-        label: Label,
-        writes: Writes,
-    ) -> Result<(), Memory>
+    pub fn weakly(&self, state: &mut AState, label: Label, writes: Writes) -> Result<(), Memory>
         requires shape { HaveOneShape self.now.reader.state.now state.old }
         requires label { IsTrue (is_label self.now.reader.program.now label) }
         requires keys { AreAtKeys self.now.reader.program.now (writes_of writes) }
@@ -73,7 +47,7 @@ impl Stepper<'_> {
     }
 
     /// A state of the function at hand goes to a node, if there is reason for it.
-    pub(crate) fn gives_if(
+    pub fn gives_if(
         &self,
         states: &mut States,
         is_given: bool,
@@ -92,7 +66,7 @@ impl Stepper<'_> {
 
     /// A state of the function at hand with a value in a register goes to a node, if the value has
     /// some part.
-    pub(crate) fn sets_in(
+    pub fn sets_in(
         &self,
         states: &mut States,
         state: AState,

@@ -6,11 +6,18 @@ use Rattle.ja_base.specs.declared.ids.Label.{Label}
 use Rattle.ja_graph.specs.declared.program.Program.{Program}
 use Rattle.ja_rows.specs.declared.table.Edge.{Edge}
 use Rattle.ja_rows.specs.Out.{Point}
-use Rattle.ja_rows.specs.Edges.{calls_at, runs, edge}
+use Rattle.ja_rows.specs.Edges.{calls_at, constructs_at, runs, edge}
+use Rattle.ja_transfer.specs.declared.sites.Entry.{Entry}
+use Rattle.ja_transfer.specs.declared.sites.Entry.TheVariants.{Call, Construct}
+
+-- the function that the objects of a label run
+abbrev pub entry_by : Entry → Program → Label → Option FnId
+entry_by Call = calls_at
+entry_by Construct = constructs_at
 
 -- some of the labels run a function
-abbrev pub some_run : Program → List Label → ℕ → Bool
-some_run p labels f = list_any (runs (calls_at p) f) labels
+abbrev pub some_run : Entry → Program → List Label → ℕ → Bool
+some_run entry p labels f = list_any (runs (entry_by entry p) f) labels
 
 -- the least function from a number on, and below another, that is run
 pub record IsLeast (is_run : ℕ → Bool) (from end g : ℕ) : Type 0 where

@@ -20,3 +20,10 @@ declared_over w labels missing k =
     let writes = sets_at k declared_property ∷ [] in
     option_map_or (λ l. strong_update w.state l writes) (new_alone labels)
     (weakly_over w.program w.state missing (λ l. writes))
+
+-- a property that is defined at the one object of a label, or joined in at each label
+abbrev pub defined_over : View → List Label → Key → AbstractProperty → AbstractState
+defined_over w labels k q =
+    let writes = sets_at k q ∷ [] in
+    option_map_or (λ l. strong_update w.state l writes) (new_alone labels)
+    (weakly_over w.program w.state labels (λ l. writes))

@@ -3,7 +3,7 @@ use Rattle.std.specs.Prelude.{slice_get, Option}
 use Rattle.std.specs.Option.{option_and_then, option_map}
 use Rattle.std.proofs.lemmas.List.Elements.{recursion_from_All}
 use Rattle.ja_base.specs.declared.ids.Context.{Context}
-use Rattle.ja_graph.specs.Program.{nodes_of}
+use Rattle.ja_graph.specs.Program.{node_at, nodes_of}
 use Rattle.ja_machine.specs.Frames.{registers_of}
 use Rattle.ja_machine.specs.Machine.{program_function}
 use Rattle.ja_abstract.specs.AbstractState.{AbstractState}
@@ -19,10 +19,25 @@ use Rattle.ja_transfer.specs.Outcomes.{out_of}
 use Rattle.ja_rules.specs.Tables.{states_in}
 use Rattle.ja_rules.specs.code.Entries.{demanded}
 use Rattle.ja_rules.specs.code.Own.{own_table}
+use Rattle.ja_rules.specs.code.States.{AreStates}
 use Rattle.ja_rules.proofs.Demands.{replaced_changes, replaced_stays}
 use Rattle.ja_rules.proofs.Own.{own-edge, own-step, own_changes, own_stays, told_is}
 use Rattle.ja_rules.proofs.Steps.{given_shapes, no_edge, some_edge, step_keys, step_nodes}
 use Rattle.ja_rules.proofs.visits.visit_step.Goals as goal
+
+pub transfer-requires-clause-node : goal.transfer-requires-clause-node
+transfer-requires-clause-node c =
+    let p = c.args.program.now in
+    let info = c.node_info-info.result.now in
+    let at : slice_get c.args.own.now.states.items c.args.node.0
+    ≡ Some (Some c.state_at-state.result.now) = ap (λ xs. slice_get xs c.args.node.0)
+    (sym c.deref.ensures.value) ∙ c.state_at-state.ensures in
+    record {
+      well_formed = c.requires.program;
+      node_is = subst (λ (x : Context). node_at p x.function c.args.node ≡ Some info)
+          (sym c.requires.context) c.node_info-info.ensures;
+      state_is = c.requires.fits.states c.args.node.0 c.state_at-state.result.now at;
+    }
 
 pub returns-then-not-is_empty-clause-visited : goal.returns-then-not-is_empty-clause-visited
 returns-then-not-is_empty-clause-visited c =
@@ -84,6 +99,24 @@ join_all-requires-clause-shapes c =
           c.in_ok-out.out.states.list.items
           (c.requires.fits.states c.args.node.0 c.state_at-state.result.now at)
           (recursion_from_All _ _ c.in_ok-out.ensures.fits);
+    }
+
+pub returns-in_err-joined-clause-fits : goal.returns-in_err-joined-clause-fits
+returns-in_err-joined-clause-fits c =
+    let p = c.args.program.now in
+    let count = registers_of p c.args.own.now.context.function in
+    let kept : c.join_all.new.states.items ≡ c.args.own.now.states.items
+    = c.in_err-joined.ensures.kept in
+    let same : length c.join_all.new.states.items ≡ length c.args.own.now.states.items
+    = ap length kept in
+    let nodes : vec_len c.join_all.new.states
+    ≡ length (nodes_of p c.args.own.now.context.function) = search
+    (rules, same, c.requires.fits.nodes) in
+    record {
+      function = c.requires.fits.function;
+      nodes = nodes;
+      states = subst (AreStates p count) (sym kept) c.requires.fits.states;
+      keys = c.requires.fits.keys;
     }
 
 pub returns-clause-fits : goal.returns-clause-fits

@@ -10,8 +10,9 @@ use Rattle.ja_rows.specs.Edges.{has_other, calls_at, edges_to, some_runs, receiv
 use Rattle.ja_value.specs.Value.{value_of}
 use Rattle.ja_transfer.specs.declared.outcome.Outcome.{Outcome}
 use Rattle.ja_transfer.specs.Outcomes.{at_view, point_of, AreAdded, IsOutcome}
+use Rattle.ja_transfer.specs.declared.sites.Entry.TheVariants.{Call}
 use Rattle.ja_transfer.specs.code.Callees.{some_run, edges_below}
-use Rattle.ja_transfer.proofs.CalleeLemmas.{called_edges, other_callees}
+use Rattle.ja_transfer.proofs.CalleeLemmas.{entered_edges, other_callees}
 use Rattle.ja_transfer.proofs.GivenLemmas.{with_edges, outcome_with}
 use Rattle.ja_transfer.proofs.stepper.Stepper.call.Goals as goal
 
@@ -33,14 +34,14 @@ returns c dst args =
     let thrown = λ (b : Bool). type_error w b s.info.now c.args.error not_a_function_message in
     let out = λ (v q : AbstractValue). with_edges (thrown (has_other w entry v))
     (edges_to w x (some_runs w entry v) (receivers w q)) in
-    let other : (c.has_atoms.result || c.some_uncalled.result) ≡ has_other w entry u =
-    ap (λ b. c.has_atoms.result || b) (c.some_uncalled.ensures
+    let other : (c.has_atoms.result || c.some_without.result) ≡ has_other w entry u =
+    ap (λ b. c.has_atoms.result || b) (c.some_without.ensures
     ∙ ap (list_any (λ l. not (is_some (entry l)))) c.deref.ensures.value)
-    ∙ other_callees w u labels c.in_ok-callees.ensures c.has_atoms.result c.has_atoms.ensures in
+    ∙ other_callees w Call u labels c.in_ok-callees.ensures c.has_atoms.result c.has_atoms.ensures in
     let edges = c.in_ok-edges.ensures
-    ∙ ap (λ (ls : List Label). edges_below x (some_run p ls)
+    ∙ ap (λ (ls : List Label). edges_below x (some_run Call p ls)
     (filter (receivers w r) (labels_of p)) (length p.functions)) c.deref-2.ensures.value
-    ∙ called_edges w u labels c.in_ok-callees.ensures x r in
+    ∙ entered_edges w Call u labels c.in_ok-callees.ensures x (receivers w r) in
     subst (λ v. IsOutcome s (out v (at w c.args.receiver)) o) c.register-callee.ensures
     (subst (λ q. IsOutcome s (out u q) o) c.register.ensures
     (outcome_with s (thrown (has_other w entry u)) _ c.new-states.result o c.new-states.ensures

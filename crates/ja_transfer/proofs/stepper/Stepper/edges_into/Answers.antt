@@ -9,7 +9,7 @@ use Rattle.ja_transfer.proofs.stepper.Stepper.edges_into.Goals as goal
 pub loop-function-preserved : goal.loop-function-preserved
 loop-function-preserved c =
     let s = c.args.self.now in
-    let is_run = some_run s.reader.program.now c.args.callees.now in
+    let is_run = some_run c.args.entry s.reader.program.now c.args.callees.now in
     let g = c.in-Some.function.0 in (
       omega (arith, c.in-Some.ensures.below),
       c.in_ok-add_edges.ensures
@@ -23,8 +23,8 @@ pub returns : goal.returns
 returns c =
     let s = c.args.self.now in
     c.loop-function.invariant.1
-    ∙ edges_rest (point_of s) (some_run s.reader.program.now c.args.callees.now)
+    ∙ edges_rest (point_of s) (some_run c.args.entry s.reader.program.now c.args.callees.now)
     c.args.receivers.now c.loop-function.from c.len-end.result c.loop-function.invariant.0
     c.in_default.ensures
-    ∙ ap (edges_below (point_of s) (some_run s.reader.program.now c.args.callees.now)
+    ∙ ap (edges_below (point_of s) (some_run c.args.entry s.reader.program.now c.args.callees.now)
     c.args.receivers.now) c.len-end.ensures

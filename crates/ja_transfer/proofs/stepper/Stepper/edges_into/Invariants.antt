@@ -6,7 +6,7 @@ use Rattle.ja_transfer.proofs.stepper.Stepper.edges_into.Given as goal
 abbrev pub invariant-loop-function : goal.invariant-loop-function
 invariant-loop-function l =
     (l.from ≤ l.end) × (l.edges.items ≡ edges_below (point_of l.self)
-    (some_run l.program l.callees) l.receivers l.from)
+    (some_run l.entry l.program l.callees) l.receivers l.from)
 
 abbrev pub decreases-loop-function : goal.decreases-loop-function
 decreases-loop-function l = l.end - l.from

@@ -1,14 +1,13 @@
-use Rattle.std.proofs.Common.{◌≡◌, [], ◌∷◌, false, List, Some, None, ap, subst, sym, ◌∙◌}
+use Rattle.std.proofs.Common.{◌≡◌, [], ◌∷◌, List, Some, None, ap, subst, sym, ◌∙◌}
 use Rattle.std.proofs.lemmas.Result.{IfOk-weaker}
 use Rattle.ja_base.specs.declared.ids.Label.{Label}
 use Rattle.ja_abstract.specs.InProgram.{AreKeys}
-use Rattle.ja_abstract.specs.Writes.{is_array_label}
 use Rattle.ja_rows.specs.Out.{all_go}
 use Rattle.ja_value.specs.Value.{labels_in, value_of}
 use Rattle.ja_transfer.specs.Outcomes.{at_view}
 use Rattle.ja_transfer.specs.code.Members.{strong_spot}
 use Rattle.ja_transfer.proofs.GivenLemmas.{added_as}
-use Rattle.ja_transfer.proofs.MemberLemmas.{IsLabel, members_labels, members_in, of_one}
+use Rattle.ja_transfer.proofs.MemberLemmas.{IsLabel, members_labels, of_one}
 use Rattle.ja_transfer.proofs.PutLemmas.{put_strong, put_weak, put_demands, puts_demands}
 use Rattle.ja_transfer.proofs.SpotLemmas.{spot_is}
 use Rattle.ja_transfer.proofs.stepper.Stepper.puts.Goals as goal
@@ -27,10 +26,8 @@ strong_put-requires c =
     let spot : strong_spot ls keys ≡ Some (l, k) = sym c.strong_spot.ensures ∙ c.in-Some.is in
     let one : ls ≡ l ∷ [] = (spot_is ls keys l k spot).0 in
     let name : keys ≡ k ∷ [] = (spot_is ls keys l k spot).1 in
-    let IsPlain : Label → Type 0 = λ m. is_array_label p m ≡ false in
     record {
       label = of_one (IsLabel p) ls l one (members_labels p target ls are);
-      array = of_one IsPlain ls l one (members_in p IsPlain target ls are c.requires.arrays);
       key = (subst (AreKeys p) name c.requires.keys).0;
     }
 
@@ -72,7 +69,6 @@ weak_put-requires c =
     let are = c.deref-in-None.ensures.value ∙ c.in_ok-members.ensures in
     record {
       labels = members_labels p target ls are;
-      arrays = members_in p (λ m. is_array_label p m ≡ false) target ls are c.requires.arrays;
       keys = c.requires.keys;
     }
 

@@ -23,8 +23,8 @@ strongly-requires c =
       label = c.requires.label;
       keys =
           subst (λ (o : Option (List Write)). AreAtKeys w.program (unwrap_or o [])) (sym writes)
-          (accepted_keys w c.args.label c.requires.array c.args.key (value_of c.args.value.now)
-          c.requires.key);
+          (accepted_keys w c.args.self.now.reader.keys_are.has_length c.args.label c.args.key
+          (value_of c.args.value.now) c.requires.key);
     }
 
 pub returns-clause-states : goal.returns-clause-states

@@ -9,7 +9,7 @@ use Rattle.ja_value.specs.Value.{value_of}
 use Rattle.ja_transfer.specs.Outcomes.{at_view}
 use Rattle.ja_transfer.specs.code.Puts.{Putting, demands_of_keys}
 use Rattle.ja_transfer.proofs.MemberLemmas.{some_more, demands_more}
-use Rattle.ja_transfer.proofs.PutLemmas.{put_list_keys}
+use Rattle.ja_abstract.proofs.WritesInProgram.{put_list_is}
 use Rattle.ja_transfer.proofs.WeakLemmas.{weak_none, weak_more}
 use Rattle.ja_transfer.proofs.stepper.Stepper.weak_put.Goals as goal
 
@@ -29,9 +29,6 @@ loop-label-init c =
       demanded = c.new-demands.ensures;
     }
 
-pub puts_at-requires : goal.puts_at-requires
-puts_at-requires c = c.requires.arrays c.loop-label.label-index first c.loop-label-test.true
-
 pub weakly-requires : goal.weakly-requires
 weakly-requires c =
     let w = at_view c.args.self.now in
@@ -43,8 +40,8 @@ weakly-requires c =
       label = c.requires.labels i first within;
       keys =
           subst (AreAtKeys w.program) (sym (ap (λ (x : Putting). x.writes) puts))
-          (put_list_keys w _ (c.requires.arrays i first within) c.args.keys.now
-          (value_of c.args.value.now) c.requires.keys);
+          (put_list_is w c.args.self.now.reader.keys_are.has_length (value_of c.args.value.now) _
+          c.args.keys.now c.requires.keys);
     }
 
 pub loop-label-preserved : goal.loop-label-preserved

@@ -1,5 +1,4 @@
 use Rattle.std.proofs.Common.{subst, ap, ◌∙◌}
-use Rattle.std.specs.Prelude.{IsTrue}
 use Rattle.std.proofs.lemmas.Bool.{lt-ltb}
 use Rattle.ja_abstract.specs.AbstractValue.{AbstractValue, Labels}
 use Rattle.ja_abstract.specs.Writes.{or_global, put_states, demands_of_puts}
@@ -8,17 +7,10 @@ use Rattle.ja_rows.specs.Out.{out, all_go, at, name_keys}
 use Rattle.ja_value.specs.Value.{value_of, labels_in}
 use Rattle.ja_transfer.specs.Outcomes.{at_view, IsOutcome}
 use Rattle.ja_transfer.proofs.GivenLemmas.{given_first, outcome_of}
-use Rattle.ja_transfer.proofs.TargetLemmas.{left_plain}
 use Rattle.ja_transfer.proofs.stepper.Stepper.write_ref.Goals as goal
 
 pub puts-requires : goal.puts-requires
-puts-requires c =
-    let p = c.args.self.now.reader.program.now in
-    record {
-      arrays = λ l here. left_plain p (or_global (value_of c.register.result.now)) l
-          (subst (λ (set : Labels). IsTrue (set l)) c.in_ok-target.ensures here);
-      keys = (lt-ltb _ _ c.requires.name, tt);
-    }
+puts-requires c = record { keys = (lt-ltb _ _ c.requires.name, tt) }
 
 pub returns : goal.returns
 returns c =

@@ -1,0 +1,4 @@
+mod InsertionLemmas
+mod KeyLemmas
+mod NameLemmas
+mod ValueLemmas

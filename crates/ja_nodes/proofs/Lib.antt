@@ -1,0 +1,2 @@
+mod AtNode
+mod MemberLemmas

@@ -1,7 +1,0 @@
-use Rattle.std.proofs.Common.{take}
-use Rattle.ja_transfer.specs.code.Callees.{some_run, IsNext}
-use Rattle.ja_transfer.proofs.callees.next_called.Given as goal
-
-abbrev pub invariant-loop-callee : goal.invariant-loop-callee
-invariant-loop-callee l =
-    IsNext (some_run l.program (take l.callee-index l.callees)) l.from l.end l.next
