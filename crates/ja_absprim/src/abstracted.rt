@@ -38,14 +38,14 @@ impl Abstracted {
     }
 
     /// Nothing is given.
-    pub(crate) fn none(alloc: Global) -> Abstracted
+    pub fn none(alloc: Global) -> Abstracted
         ensures { abstracted_of result ≡ no_result }
     {
         Abstracted::gives(AValue::empty(alloc))
     }
 
     /// A value is given.
-    pub(crate) fn gives(value: AValue) -> Abstracted
+    pub fn gives(value: AValue) -> Abstracted
         ensures { abstracted_of result ≡ gives (value_of value) }
     {
         Abstracted {

@@ -36,7 +36,7 @@ fn digits(alloc: Global, n: u64, radix: u64) -> Result<Vec<u16>, Memory>
 }
 
 /// The digits of a number in a radix, with `-` before those of a negative one, or `NaN`.
-pub(crate) fn radix_text(alloc: Global, number: Num, radix: u64) -> Result<Text16, Memory>
+pub fn radix_text(alloc: Global, number: Num, radix: u64) -> Result<Text16, Memory>
     requires low { min_radix ≤ radix }
     requires high { radix ≤ max_radix }
     ensures { IfOk result (λ text. text ≡ radix_text radix number) }

@@ -16,3 +16,5 @@ pub mod intrinsics;
 pub mod made;
 pub mod messages;
 pub mod operators;
+
+pub use digits::radix_text;
