@@ -104,7 +104,8 @@ none_of_four a b c d r is none =
     (or_left_false a d (or_right_false b _ rest), or_left_false b _ rest, or_left_false c _ all)
 
 -- nothing is listed in an empty map
-pub nothing_at : (m : BTreeMap ℕ (Rc AProp Global)) (f : ℕ → AbstractProperty) → m.entries ≡ [] → AreAt f m
+pub nothing_at : (m : BTreeMap ℕ (Rc AProp Global))
+    (f : ℕ → AbstractProperty) → m.entries ≡ [] → AreAt f m
 nothing_at m f empty q p is =
     absurd (none_not_some (sym (ap (λ (es : List (ℕ × Rc AProp Global)). found es q) empty) ∙ is))
 

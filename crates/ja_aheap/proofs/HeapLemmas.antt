@@ -19,6 +19,7 @@ use Rattle.ja_value.specs.Labels.{label_at}
 use Rattle.ja_value.proofs.LabelLemmas.{number_label}
 use Rattle.ja_trie.specs.Join.{Joined, kept_or}
 use Rattle.ja_trie.specs.Nodes.{ArePaths}
+use Rattle.ja_trie.specs.Run.{IsRun}
 use Rattle.ja_trie.specs.Test.{SaysOfPlaces}
 use Rattle.ja_trie.proofs.JoinLaws.{nothing_joined}
 use Rattle.ja_trie.proofs.Sharing.{long_power}
@@ -49,6 +50,18 @@ pub shown_within : (names : ℕ) (objects : List AObject) (n : ℕ) (o : AObject
 shown_within names objects n o within is =
     sym (ap (λ (x : Option AObject). λ k. option_map_or (λ (o : AObject). own_below names o k) x
     entry_property) (slice_get_read objects (length objects) n o refl within is))
+
+-- a run of one object is of labels that have its properties
+pub shown_in_run : (names : ℕ) (objects : List AObject) (from to end k : ℕ)
+    → IsRun objects from end → from ≤ k → k < to → to ≤ end
+    → own_in_place names objects k ≡ own_in_place names objects from
+shown_in_run names objects from to end k run above below most =
+    ap (λ (x : Option AObject). λ j. option_map_or (λ (o : AObject). own_below names o j) x
+    entry_property) (⊎_elim (λ h.
+    slice_get-get_or objects k h.0 (omega (arith, run.within))
+    ∙ ap Some (run.same k above (omega arith) h.0 ∙ h.3) ∙ sym h.2) (λ h.
+    absurd (omega (arith, run.ahead, run.within, h.0)))
+    (slice_get_cases objects from).1)
 
 pub shown_beyond : (names : ℕ) (objects : List AObject) (n : ℕ) → length objects ≤ n
     → own_in_place names objects n ≡ (λ k. entry_property)

@@ -99,14 +99,16 @@ leq_from_numbers a b names end is_end listed others rest =
     (get nat_cmp b.listed q) refl)
   where
     at_number : (q : ℕ) → q < end → (o : Option (Rc AProp Global)) → get nat_cmp a.listed q ≡ o
-        → (p : Option (Rc AProp Global)) → get nat_cmp b.listed q ≡ p → LeqProperty (at a q) (at b q)
+        → (p : Option (Rc AProp Global)) → get nat_cmp b.listed q ≡ p → LeqProperty (at a q)
+        (at b q)
     at_number q below (Some x) is p is_p = listed q (ap is_some is) below
     at_number q below None is (Some y) is_p = others q (ap is_some is_p) below
     at_number q below None none None none' =
         subst (λ o. LeqProperty (option_map_or shared_property o (property_of a.common)) (at b q))
         (sym none)
         (subst (λ o. LeqProperty (property_of a.common)
-        (option_map_or shared_property o (property_of b.common))) (sym none') (rest q none none' below))
+        (option_map_or shared_property o (property_of b.common))) (sym none')
+        (rest q none none' below))
 
 pub leq_at_number : (a b : AObject) (names end : ℕ) → end ≡ 6 + names
     → LeqOwn (own_below names a) (own_below names b) → (q : ℕ) → q < end

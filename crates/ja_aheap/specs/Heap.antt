@@ -1,6 +1,6 @@
 -- What the analyser's heaps stand for: maps from labels and keys to properties, and from sites to
 -- masks; and what a call makes of such a map.
-use Rattle.std.specs.Prelude.{◌≡◌, ◌==◌, ℕ, Bool, true, false, ◌&&◌, not, if◌then◌else◌, nat_lt, List, length, Option, None, Some, slice_get}
+use Rattle.std.specs.Prelude.{◌≡◌, ◌==◌, ◌<◌, ◌≤◌, ℕ, Bool, true, false, ◌&&◌, not, if◌then◌else◌, nat_lt, List, length, Option, None, Some, slice_get}
 use Rattle.std.specs.Option.{option_map_or}
 use denote.Ref.{Bor}
 use Rattle.ja_base.specs.declared.ids.Label.{Label}
@@ -158,3 +158,8 @@ IsPropertyAt h l k (Some q) = property_of q.now ≡ h.property l k
 -- a site whose mask isn't exactly none
 abbrev pub is_masked : HeapMap → Site → Bool
 is_masked h s = not ((h.mask s.0).none && not (h.mask s.0).some)
+
+-- each label of the sites from one up to another is as at entry
+abbrev pub AreUntouched : HeapMap → ℕ → ℕ → Type 0
+AreUntouched h from to =
+    (l : Label) (k : Key) → from ≤ l.site.0 → l.site.0 < to → h.property l k ≡ entry_property

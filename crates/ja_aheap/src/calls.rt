@@ -1,9 +1,9 @@
-ghost use Rattle.std.specs.Prelude.{◌≡◌, ◌<◌, ◌*◌, ◌↔◌, IfOk, OnErr, IsTrue, false, filter};
+ghost use Rattle.std.specs.Prelude.{◌≡◌, ◌<◌, ◌≤◌, ◌*◌, ◌↔◌, IfOk, OnErr, IsTrue, false, filter};
 ghost use Rattle.ja_abstract.specs.declared.abstraction.Key.{Key};
 ghost use Rattle.ja_abstract.specs.AbstractValue.{entry_property, join_properties};
 ghost use Rattle.ja_abstract.specs.AbstractState.{sites_below};
 ghost use Rattle.ja_abstract.specs.Resolved.{renamed};
-ghost use Rattle.ja_aheap.specs.Heap.{entry_heap, with_property_in, IsPropertyAt, has_label, has_key, is_rest, is_masked};
+ghost use Rattle.ja_aheap.specs.Heap.{entry_heap, with_property_in, IsPropertyAt, has_label, has_key, is_rest, is_masked, AreUntouched};
 ghost use Rattle.ja_trie.specs.Nodes.{ArePaths};
 ghost use Rattle.ja_value.specs.Value.{property_of};
 
@@ -173,6 +173,21 @@ impl AHeap {
         }
         let number = label_number(label) as u32;
         self.objects.get(number).is_as_at_entry(self.names)
+    }
+
+    /// A site at or behind `site`, before which each label from `site` on is as at entry. So far
+    /// this tells it in a few steps, however many sites that are: where `site` itself comes, its
+    /// labels have to be looked at.
+    pub fn untouched_to(&self, site: Site) -> Site
+        ensures ahead { site.0 ≤ result.0 }
+        ensures untouched { AreUntouched (heap_of self.now) site.0 result.0 }
+    {
+        let label = Label { site, old: false };
+        if site.0 >= self.sites || !self.is_as_at_entry(label) {
+            return site;
+        }
+        let end = self.objects.run_end(label_number(label) as u32);
+        Site(end / 2)
     }
 
     /// Whether the mask of a site isn't exactly none.

@@ -1,5 +1,5 @@
 -- The lines of a state: what is as at entry has none, and the writers' loops add the others.
-use Rattle.std.proofs.Common.{◌≡◌, ℕ, Bool, true, false, not, ◌&&◌, ◌+◌, ◌<◌, ◌≤◌, List, [], ◌∷◌, ◌++◌, filter, take, length, get_or, refl, ap, sym, ◌∙◌, append-nil}
+use Rattle.std.proofs.Common.{◌≡◌, ℕ, zero, suc, Bool, true, false, not, ◌&&◌, ◌+◌, ◌-◌, ◌<◌, ◌≤◌, List, [], ◌∷◌, ◌++◌, filter, take, length, get_or, refl, ap, sym, ◌∙◌, append-nil, arith}
 use Rattle.std.specs.List.{flat_map, list_any, range_with_len}
 use Rattle.std.proofs.lemmas.Bool.{true≢false}
 use Rattle.std.proofs.lemmas.List.{take_all}
@@ -13,7 +13,7 @@ use Rattle.ja_abstract.specs.declared.abstraction.Key.{Key}
 use Rattle.ja_abstract.specs.declared.abstraction.Mask.{Mask}
 use Rattle.ja_abstract.specs.AbstractValue.{AbstractValue, AbstractProperty, entry_property, no_labels}
 use Rattle.ja_abstract.specs.AbstractState.{labels_of, labels_below, keys_of, sites_below, site_of, new, old}
-use Rattle.ja_aheap.specs.Heap.{HeapMap, heap_of, is_masked}
+use Rattle.ja_aheap.specs.Heap.{HeapMap, heap_of, is_masked, AreUntouched}
 use Rattle.ja_astate.specs.declared.state.AState.{AState}
 use Rattle.ja_astate.specs.State.{state_of}
 use Rattle.ja_report.specs.declared.output.Output.{Output}
@@ -136,6 +136,32 @@ labels_step p f i a b c was step =
     adds_same p _ _ a c (sym (ap (flat_map lines) (labels_more i)
     ∙ flat_map-append lines (labels_below i) (new (site_of i) ∷ old (site_of i) ∷ [])))
     (adds_append p _ _ a b c was step)
+
+-- sites whose labels are as at entry have no lines
+labels_over : (p : Program) (f : Label → Key → AbstractProperty) (i n : ℕ) (a b : Output)
+    → Adds p (label_front p f i) a b
+    → ((l : Label) (k : Key) → i ≤ l.site.0 → l.site.0 < i + n → f l k ≡ entry_property)
+    → Adds p (label_front p f (i + n)) a b
+labels_over p f i zero a b was untouched =
+    let same : i ≡ i + 0 = omega arith in
+    adds_same p _ _ a b (ap (label_front p f) same) was
+labels_over p f i (suc n) a b was untouched =
+    let more : i + n + 1 ≡ i + suc n = omega arith in
+    let none : (l : Label) → l.site.0 ≡ i + n → Adds p (object_lines p l (f l)) b b =
+    λ l here. object_unkept p l (f l) b (λ k. untouched l k (omega arith) (omega arith)) in
+    adds_same p _ _ a b (ap (label_front p f) more) (labels_step p f (i + n) a b b
+    (labels_over p f i n a b was (λ l k from to. untouched l k from (omega arith)))
+    (both_labels p f (new (site_of (i + n))) (old (site_of (i + n))) b b b
+    (none (new (site_of (i + n))) refl) (none (old (site_of (i + n))) refl)))
+
+pub labels_to : (p : Program) (s : AState) (i j end : ℕ) (a b : Output)
+    → Adds p (label_front p (state_of s).property i) a b → i ≤ j → j ≤ end
+    → AreUntouched (heap_of s.heap) i end → Adds p (label_front p (state_of s).property j) a b
+labels_to p s i j end a b was from to untouched =
+    let there : i + (j - i) ≡ j = omega arith in
+    adds_same p _ _ a b (ap (label_front p (state_of s).property) there)
+    (labels_over p (state_of s).property i (j - i) a b was
+    (λ l k above below. untouched l k above (omega arith)))
 
 pub labels_all : (p : Program) (s : AState) (n : ℕ) (a b : Output)
     → Adds p (label_front p (state_of s).property n) a b → n ≡ length p.sites

@@ -185,6 +185,7 @@ fn push_both_labels(
     Ok(())
 }
 
+// Goes over the sites that nothing was written to at once.
 fn push_properties(
     out: &mut Output,
     alloc: Global,
@@ -197,8 +198,12 @@ fn push_properties(
     ensures { OnOk result (Adds program.now (property_lines program.now (state_of state.now))
         out.old out.new) }
 {
-    for site in 0..site_count(program) {
+    let sites = site_count(program);
+    let mut site = 0;
+    'sites: while site < sites {
         push_both_labels(out, alloc, program, keys, Site(site), state)?;
+        let next = state.heap.untouched_to(Site(site + 1));
+        site = next.0.min(sites);
     }
     Ok(())
 }

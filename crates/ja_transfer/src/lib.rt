@@ -34,5 +34,5 @@ mod writing;
 
 pub use given::States;
 pub use outcome::Outcome;
-pub use sites::{Entry, is_function, some_function, some_other, some_without};
+pub use sites::{Entry, entry_at, is_function, some_function, some_other, some_without};
 pub use stepper::Stepper;

@@ -18,7 +18,7 @@ pub enum Entry {
 }
 
 /// The function that the objects of a label run, if they run one.
-pub(crate) fn entry_at(program: &Program, entry: Entry, label: Label) -> Option<FnId>
+pub fn entry_at(program: &Program, entry: Entry, label: Label) -> Option<FnId>
     ensures { result ≡ entry_by entry program.now label }
 {
     match program.sites.as_slice().get(label.site.0 as usize) {

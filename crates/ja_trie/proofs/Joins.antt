@@ -308,7 +308,8 @@ module _ {T : Type 0} (R : T → T → Option T → Type 0) where
       let more : (k + 1) * w ≡ k * w + w = omega arith in
       let more_puts : (k + 1) * puts ≡ k * puts + puts = omega arith in
       let all : puts + k * puts ≡ suc k * puts = omega arith in
-      subst (λ c. JoinedTo R n (f x ++ flat_map f (replicate k x)) (f y ++ flat_map f (replicate k y))
+      subst (λ c. JoinedTo R n (f x ++ flat_map f (replicate k x)) (f y ++ flat_map f
+      (replicate k y))
       (f z ++ flat_map f (replicate k z)) c) all
       (joined_append R n (f x) (f y) (f z) _ _ _ puts (k * puts) (long' ∙ sym long)
       (joined_past R w n (f x) (f y) (f z) puts (omega arith) (omega arith) h)

@@ -14,6 +14,14 @@ use Rattle.ja_trie.specs.code.Test.{SaysOfFirst}
 use Rattle.ja_trie.proofs.Levels.{read_level}
 use Rattle.ja_trie.proofs.Sharing.{long_is}
 
+-- a place before a cut
+pub taken : {T : Type 0} (n k : ℕ) (l : List T) (d : T) → k < n → get_or
+    (take n l) k d ≡ get_or l k d
+taken zero k l d below = absurd (omega arith)
+taken (suc n) k [] d below = refl
+taken (suc n) zero (x ∷ l) d below = refl
+taken (suc n) (suc k) (x ∷ l) d below = taken n k l d (omega arith)
+
 -- one of the values that a list has
 element : {T : Type 0} (xs : List T) → 0 < length xs → T
 element [] some = absurd (omega arith)
@@ -167,9 +175,3 @@ module _ {T : Type 0} (R : T → T → Bool → Type 0) where
               said_of R _ _ _ _ false at at' (h.3 d),
             );
       }
-    where
-      taken : (n k : ℕ) (l : List T) (d : T) → k < n → get_or (take n l) k d ≡ get_or l k d
-      taken zero k l d below = absurd (omega arith)
-      taken (suc n) k [] d below = refl
-      taken (suc n) zero (x ∷ l) d below = refl
-      taken (suc n) (suc k) (x ∷ l) d below = taken n k l d (omega arith)

@@ -1,4 +1,5 @@
 pub mod Join
 pub mod Nodes
+pub mod Run
 pub mod Test
 pub mod code

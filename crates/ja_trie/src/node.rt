@@ -5,6 +5,7 @@ ghost use Rattle.std.specs.Prelude.{replicate, slice_index_or, slice_set};
 ghost use Rattle.ja_trie.specs.code.Node.{places, places_after, IsNode, AreSame};
 ghost use Rattle.ja_trie.specs.Join.{MayAnswer, kept_or, put_by};
 ghost use Rattle.ja_trie.specs.code.Join.{JoinedTo};
+ghost use Rattle.ja_trie.specs.Run.{IsRun};
 ghost use Rattle.ja_trie.specs.Test.{MaySay};
 ghost use Rattle.ja_trie.specs.code.Test.{SaysOfFirst};
 
@@ -137,6 +138,32 @@ impl<T: Drop> Node<T> {
             Kids::Nodes(nodes) => {
                 let at = (index / width) as usize;
                 nodes[at].get(index % width, width / FAN_OUT)
+            }
+        }
+    }
+
+    /// The end of a run of one value that begins at a place: behind it, and as far as nodes know
+    /// that their kids are the same.
+    pub fn run_end(&self, index: u32, width: u32) -> u64
+        requires within { index < length self.now }
+        requires level { length self.now ≡ 8 * width }
+        ensures { IsRun self.now index result }
+    {
+        match &self.kids {
+            Kids::Values(_) => {
+                if self.same {
+                    return FAN_OUT as u64;
+                }
+                u64::from(index) + 1
+            }
+            Kids::Nodes(nodes) => {
+                let at = (index / width) as usize;
+                let inside = index % width;
+                let end = nodes[at].run_end(inside, width / FAN_OUT);
+                if self.same && inside == 0 && end == u64::from(width) {
+                    return FAN_OUT as u64 * end;
+                }
+                u64::from(index - inside) + end
             }
         }
     }

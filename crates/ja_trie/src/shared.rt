@@ -2,6 +2,7 @@ ghost use Rattle.std.specs.Prelude.{◌≡◌, ℕ, ◌<◌, IfOk, OnErr, length
 ghost use Rattle.std.specs.Prelude.{slice_set, nat_lt};
 ghost use Rattle.ja_trie.specs.Join.{Joined, MayAnswer};
 ghost use Rattle.ja_trie.specs.Nodes.{ArePaths};
+ghost use Rattle.ja_trie.specs.Run.{IsRun};
 ghost use Rattle.ja_trie.specs.Test.{MaySay, SaysOfPlaces};
 
 use crate::node::{FAN_OUT, Node};
@@ -68,6 +69,17 @@ impl<T: Drop> Shared<T> {
         ensures { result.now ≡ slice_index_or self.now index result.now }
     {
         self.root.get(index, self.width)
+    }
+
+    /// The end of a run: a place behind `index` up to which each place has the value at `index`. It
+    /// goes down one node a level, and takes no memory. A run goes on as far as nodes have one kid
+    /// eight times; one of equal values that were put one by one ends behind its first place.
+    pub fn run_end(&self, index: u32) -> u32
+        requires { index < length self.now }
+        ensures { IsRun self.now index result }
+    {
+        let end = self.root.run_end(index, self.width);
+        end.min(u64::from(self.length)) as u32
     }
 
     /// An equal list. It has no counter to make a node with, and shares the root: that costs the

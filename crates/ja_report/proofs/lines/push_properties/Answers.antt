@@ -1,13 +1,20 @@
 use Rattle.std.proofs.Common.{arith}
-use Rattle.ja_report.proofs.ObjectLemmas.{labels_none, labels_step, labels_all}
+use Rattle.ja_report.proofs.ObjectLemmas.{labels_none, labels_step, labels_to, labels_all}
 use Rattle.ja_report.proofs.lines.push_properties.Goals as goal
 
-pub loop-site-init : goal.loop-site-init
-loop-site-init c = labels_none _ _ _
+pub loop-sites-init : goal.loop-sites-init
+loop-sites-init c = (omega arith, labels_none _ _ _)
 
-pub loop-site-preserved : goal.loop-site-preserved
-loop-site-preserved c =
-    labels_step _ _ _ _ _ _ c.loop-site.invariant c.in_ok-push_both_labels.ensures
+pub loop-sites-preserved : goal.loop-sites-preserved
+loop-sites-preserved c = (
+  omega (arith, c.min-sites.ensures),
+  labels_to _ c.args.state.now _ _ _ _ _
+      (labels_step _ _ _ _ _ _ c.loop-sites.invariant.1 c.in_ok-push_both_labels.ensures)
+      (omega (arith, c.min-sites.ensures, c.untouched_to-next.ensures.ahead))
+      (omega (arith, c.min-sites.ensures)) c.untouched_to-next.ensures.untouched,
+)
 
 pub returns : goal.returns
-returns c = labels_all _ c.args.state.now _ _ _ c.loop-site.invariant (omega arith)
+returns c =
+    labels_all _ c.args.state.now _ _ _ c.loop-sites.invariant.1
+    (omega (arith, c.loop-sites.invariant.0, c.loop-sites-test.false, c.site_count-sites.ensures))

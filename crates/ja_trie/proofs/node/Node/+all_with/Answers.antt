@@ -19,10 +19,12 @@ pub unreachable-requires : goal.unreachable-requires
 unreachable-requires g t c =
     elim c.in_default.branch [
       | in_default-via-in-Values+in_default w ↦
-          mixed _ _ _ _ _ _ w.in_default.is-0 w.in_default.is-1 c.self.invariant.0 c.other.invariant.0
+          mixed _ _ _ _ _ _ w.in_default.is-0 w.in_default.is-1 c.self.invariant.0
+          c.other.invariant.0
           c.self.view_is c.other.view_is (sym c.requires.same)
       | in_default-via-in-Nodes+in_default w ↦
-          mixed _ _ _ _ _ _ w.in_default.is-1 w.in_default.is-0 c.other.invariant.0 c.self.invariant.0
+          mixed _ _ _ _ _ _ w.in_default.is-1 w.in_default.is-0 c.other.invariant.0
+          c.self.invariant.0
           c.other.view_is c.self.view_is c.requires.same
     ]
 
@@ -76,7 +78,8 @@ all_with-requires-in-loop-i g t c κs within =
     let b = below c.other.inside.kids c.in-Nodes-Nodes.others c.args.width c.args.other.now
     c.in-Nodes-Nodes.is-1 c.other.invariant.0 c.other.view_is
     (c.requires.same ∙ c.requires.level) in
-    let first : length c.deref-in-loop-i.result.now ≡ c.args.width = ap length c.deref-in-loop-i.ensures
+    let first : length c.deref-in-loop-i.result.now ≡ c.args.width = ap length
+    c.deref-in-loop-i.ensures
     ∙ a.3 c.loop-i.i _ (omega (arith, a.2, c.loop-i-test.true)) in
     let second : length c.deref-in-loop-i-2.result.now ≡ c.args.width =
     ap length c.deref-in-loop-i-2.ensures

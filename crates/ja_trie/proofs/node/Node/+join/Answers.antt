@@ -85,7 +85,8 @@ returns-in_err-kid-in-Nodes-Nodes g t c =
     let d = deeper c.args.width h a.next a.wide (sym c.requires.level ∙ high) in
     room_above h d.0 c.args.width c.args.width c.args.count c.args.steps.now c.join.new.steps
     c.join.new.steps d.1 a.wide (omega arith) room
-    (c.in_err-kid-in-Nodes-Nodes.ensures d.0 (ap length c.deref-then-count-width-2.ensures ∙ a.long ∙ d.2))
+    (c.in_err-kid-in-Nodes-Nodes.ensures d.0 (ap length c.deref-then-count-width-2.ensures
+    ∙ a.long ∙ d.2))
     (omega arith))
 
 pub of_node-requires : goal.of_node-requires
@@ -161,7 +162,8 @@ returns-then-count-width-2 g t c =
                 c.args.width 8 c.args.count e.0 a.long b.long room
                 (joined_at (MayAnswer g.F.Fn c.args.join.now) c.args.width _ _ _ _ _ _ e.0
                 c.deref-then-count-width-2.ensures c.deref-then-count-width-2-2.ensures
-                (ap (places_after c.deref-then-count-width-2.result.now) w.in-None.is ∙ c.deref-then-count-width-2.ensures) e.2)),
+                (ap (places_after c.deref-then-count-width-2.result.now) w.in-None.is ∙
+                c.deref-then-count-width-2.ensures) e.2)),
             λ h high.
                 let d = deeper c.args.width h a.next a.wide (sym c.requires.level ∙ high) in
                 let made = e.3 d.0 (ap length c.deref-then-count-width-2.ensures ∙ a.long ∙ d.2) in
@@ -199,7 +201,8 @@ loop-i-init g t c =
 pub join-requires-in-loop-i : goal.join-requires-in-loop-i
 join-requires-in-loop-i g t c κs within =
     let j = c.loop-i.invariant in
-    let first : length c.deref-in-loop-i.result.now ≡ c.args.width = ap length c.deref-in-loop-i.ensures
+    let first : length c.deref-in-loop-i.result.now ≡ c.args.width = ap length
+    c.deref-in-loop-i.ensures
     ∙ j.long c.loop-i.i _ (omega (arith, j.eight, c.loop-i-test.true)) in
     let second : length c.deref-in-loop-i-2.result.now ≡ c.args.width =
     ap length c.deref-in-loop-i-2.ensures ∙ j.long_others c.loop-i.i _
@@ -225,8 +228,10 @@ loop-i-preserved g t c =
           c.saturating_sub-left.result c.join-in-loop-i.new.steps
           (sym (ap is_some w.in-Some-2.is) ∙ e.1)
           (joined_at (MayAnswer g.F.Fn c.args.join.now) c.loop-i.left _ _ _ _ _ _ e.0
-          c.deref-in-loop-i.ensures second (ap (places_after c.deref-in-loop-i.result.now) w.in-Some-2.is) e.2)
-          (λ h high. e.3 h (ap length c.deref-in-loop-i.ensures ∙ high)) c.saturating_sub-left.ensures)
+          c.deref-in-loop-i.ensures second (ap (places_after
+          c.deref-in-loop-i.result.now) w.in-Some-2.is) e.2)
+          (λ h high. e.3 h (ap length c.deref-in-loop-i.ensures ∙ high))
+          c.saturating_sub-left.ensures)
       | in_default-2 w ↦
           joining_at _ _ _ _ _ _ _ _ _ _ _ _ _ _ w.kids-is w.changed-is
           (joining_kept (MayAnswer g.F.Fn c.args.join.now)
@@ -236,15 +241,18 @@ loop-i-preserved g t c =
           c.join-in-loop-i.new.steps
           (sym (ap is_some w.in_default-2.is) ∙ e.1)
           (joined_at (MayAnswer g.F.Fn c.args.join.now) c.loop-i.left _ _ _ _ _ _ e.0
-          c.deref-in-loop-i.ensures second (ap (places_after c.deref-in-loop-i.result.now) w.in_default-2.is
+          c.deref-in-loop-i.ensures second (ap (places_after
+          c.deref-in-loop-i.result.now) w.in_default-2.is
           ∙ c.deref-in-loop-i.ensures) e.2)
-          (λ h high. e.3 h (ap length c.deref-in-loop-i.ensures ∙ high)) c.saturating_sub-left.ensures)
+          (λ h high. e.3 h (ap length c.deref-in-loop-i.ensures ∙ high))
+          c.saturating_sub-left.ensures)
     ]
 
 pub returns-in_err-kid-in-Nodes-Nodes-2 : goal.returns-in_err-kid-in-Nodes-Nodes-2
 returns-in_err-kid-in-Nodes-Nodes-2 g t c =
     let j = c.loop-i.invariant in
-    let kid : length c.deref-in-loop-i.result.now ≡ c.args.width = ap length c.deref-in-loop-i.ensures
+    let kid : length c.deref-in-loop-i.result.now ≡ c.args.width = ap length
+    c.deref-in-loop-i.ensures
     ∙ j.long c.loop-i.i _ (omega (arith, j.eight, c.loop-i-test.true)) in
     MatchResult-from_err c.from_residual-in_err-kid-in-Nodes-Nodes-2.result _ _
     c.from_residual-in_err-kid-in-Nodes-Nodes-2.ensures.0 (λ y h high.
@@ -307,10 +315,12 @@ pub unreachable-requires : goal.unreachable-requires
 unreachable-requires g t c =
     elim c.in_default.branch [
       | in_default-via-in-Values+in_default w ↦
-          mixed _ _ _ _ _ _ w.in_default.is-0 w.in_default.is-1 c.self.invariant.0 c.other.invariant.0
+          mixed _ _ _ _ _ _ w.in_default.is-0 w.in_default.is-1 c.self.invariant.0
+          c.other.invariant.0
           c.self.view_is c.other.view_is (sym c.requires.same)
       | in_default-via-in-Nodes+in_default w ↦
-          mixed _ _ _ _ _ _ w.in_default.is-1 w.in_default.is-0 c.other.invariant.0 c.self.invariant.0
+          mixed _ _ _ _ _ _ w.in_default.is-1 w.in_default.is-0 c.other.invariant.0
+          c.self.invariant.0
           c.other.view_is c.self.view_is c.requires.same
     ]
 
