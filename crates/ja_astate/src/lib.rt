@@ -5,11 +5,7 @@
 
 mod heaps;
 mod opening;
-#[cfg(test)]
-mod opening_tests;
 mod registers;
 mod state;
-#[cfg(test)]
-mod tests;
 
 pub use state::AState;

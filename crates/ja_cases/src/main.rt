@@ -5,6 +5,7 @@
 mod built_ins;
 mod graphs;
 mod listings;
+mod lists;
 mod names;
 mod out;
 mod primitives;
@@ -12,6 +13,7 @@ mod programs;
 mod renaming;
 mod reports;
 mod row;
+mod states;
 mod streams;
 mod tokens;
 mod trees;
@@ -49,6 +51,8 @@ fn calls(out: &mut Out, topic: &str) {
     match topic {
         "renamed nodes" => renaming::renamed_nodes(out),
         "values" => values::values(out),
+        "shared lists" => lists::lists(out),
+        "abstract states" => states::states(out),
         _ => programs::of_text(out, topic, ""),
     }
 }

@@ -3,7 +3,7 @@
 use crate::out::Out;
 use crate::primitives;
 use ja_abstract::{Mask, NumberPart, TextPart};
-use ja_base::{Label, Site};
+use ja_base::{Label, Memory, Site};
 use ja_graph::{Attrs, NO_ATTRS};
 use ja_prim::{Int, Text16};
 use ja_value::{AProp, AValue, LabelSet, exact_attrs, is_index_text};
@@ -143,6 +143,28 @@ fn renames(out: &mut Out) {
     }
 }
 
+/// A value that gets one part after another, and its primitive parts at last: their ranks.
+fn ranks(out: &mut Out) -> Result<(), Memory> {
+    let alloc = out.alloc;
+    let mut labels = LabelSet::new(alloc);
+    for (site, old) in [(7, false), (2, true), (5, false)] {
+        labels.insert(label(site, old))?;
+    }
+    let mut value = AValue::of_bools(alloc, true, true);
+    out.line_of_number("true and false, ranked among 8 sites", value.rank(8));
+    value.join(alloc, &AValue::whole_constant(alloc, 3))?;
+    out.line_of_number("and 3", value.rank(8));
+    value.join(
+        alloc,
+        &AValue::of_number_part(alloc, NumberPart::OtherWhole),
+    )?;
+    out.line_of_number("and other numbers", value.rank(8));
+    value.join(alloc, &AValue::of_labels(alloc, labels))?;
+    out.line_of_number("and n7 o2 n5", value.rank(8));
+    out.line_of_number("without these", value.primitives_of(alloc)?.rank(8));
+    Ok(())
+}
+
 pub fn values(out: &mut Out) {
     if let Some(five) = Int::new(5) {
         joins(out, five);
@@ -156,4 +178,5 @@ pub fn values(out: &mut Out) {
         property_joins(out, &mut AProp { value, attrs });
     }
     renames(out);
+    let _ = ranks(out);
 }

@@ -21,8 +21,6 @@ mod laws;
 mod node;
 mod shared;
 mod steps;
-#[cfg(test)]
-mod tests;
 
 pub use laws::nodes_by_length;
 pub use shared::Shared;

@@ -17,8 +17,6 @@ mod makers;
 mod numbers;
 mod parts;
 mod property;
-#[cfg(test)]
-mod tests;
 mod texts;
 mod value;
 

@@ -1,6 +1,6 @@
 use Rattle.std.proofs.Common.{◌≡◌, nat_lt, sym, ap, ◌∙◌}
 use Rattle.ja_aheap.specs.Heap.{heap_of}
-use Rattle.ja_astate.proofs.tests.written.Goals as goal
+use Rattle.ja_cases.proofs.states.writes_both.Goals as goal
 
 pub strongly-requires-clause-label : goal.strongly-requires-clause-label
 strongly-requires-clause-label c =

@@ -1,10 +1,14 @@
+//! Abstract states of two sites and one name: objects that are made, written, and read through a
+//! later state.
+
 ghost use Rattle.std.specs.Prelude.{◌≡◌, IfOk, IsTrue, All, vec_len};
 ghost use Rattle.ja_aheap.specs.Heap.{HeapMap, heap_of, has_key};
 ghost use Rattle.ja_aheap.specs.declared.writes.Write.{Write};
 
-use crate::AState;
+use crate::out::Out;
 use ja_abstract::{Key, NumberPart};
 use ja_aheap::{Made, Write, Writes};
+use ja_astate::AState;
 use ja_base::{Label, Memory, NameId, Site};
 use ja_value::{AProp, AValue};
 use std::alloc::Global;
@@ -82,38 +86,44 @@ fn has(state: &AState, label: Label) -> bool {
     }
 }
 
-/// Of a state with an object that has a 5, whose register has an old one: whether the register has
-/// the new one, and the old one; the number once a 7 was put in a fork; and, once the fork was
-/// joined with the state, in which the 7 was put weakly, whether that changed it, whether the
-/// number is any index, and whether a second join changes it.
-fn written(alloc: Global) -> Result<(bool, bool, i64, bool, bool, bool), Memory> {
+/// Prints the number of the property of an object.
+fn line_of_property(out: &mut Out, label: &str, state: &AState, object: Label) {
+    out.line(label, "");
+    match number(state, object) {
+        NumberPart::One(number) => out.put_signed(number.get()),
+        NumberPart::Index => out.put("any index"),
+        _ => out.put("something else"),
+    }
+}
+
+/// A state with an object that has a 5, whose register has an old one: a 7 is put in a fork, and
+/// weakly in the state, and then the fork is joined with it.
+fn writes_both(out: &mut Out) -> Result<(), Memory> {
+    let alloc = out.alloc;
     let entry = entry(alloc)?;
     let five = AValue::whole_constant(alloc, 5);
     let mut state = entry.with_object(alloc, FIRST, made(alloc, five)?)?;
+    out.line_of_bool(
+        "the register has the object that is made",
+        has(&state, new(FIRST)),
+    );
+    out.line_of_bool("it has the older one", has(&state, old(FIRST)));
     let mut fork = state.fork(alloc)?;
     fork.strongly(alloc, new(FIRST), writes(alloc, 7)?)?;
-    let strong = match number(&fork, new(FIRST)) {
-        NumberPart::One(number) => number.get(),
-        _ => 0,
-    };
+    line_of_property(out, "5, and a 7 put strongly", &fork, new(FIRST));
     state.weakly(alloc, new(FIRST), writes(alloc, 7)?)?;
-    let changed = fork.join(alloc, &state)?;
-    let is_index = number(&fork, new(FIRST)) == NumberPart::Index;
-    let again = fork.join(alloc, &state)?;
-    Ok((
-        has(&state, new(FIRST)),
-        has(&state, old(FIRST)),
-        strong,
-        changed,
-        is_index,
-        again,
-    ))
+    let is_changed = fork.join(alloc, &state)?;
+    out.line_of_bool("a join with a 7 put weakly changes it", is_changed);
+    line_of_property(out, "to", &fork, new(FIRST));
+    let is_changed = fork.join(alloc, &state)?;
+    out.line_of_bool("a second one changes it", is_changed);
+    Ok(())
 }
 
-/// Of a state in which an object has that of another site, read through one in which an object more
-/// was made there: whether it has the new one of that site, and the old one; whether the register
-/// has the old one of the first site; and the number of the object that was made last.
-fn composed(alloc: Global) -> Result<(bool, bool, bool, i64), Memory> {
+/// A state in which an object has that of another site, read through one in which an object more
+/// was made there.
+fn composes(out: &mut Out) -> Result<(), Memory> {
+    let alloc = out.alloc;
     let entry = entry(alloc)?;
     let second = AValue::of_label(alloc, new(SECOND))?;
     let first = entry.with_objects(
@@ -128,24 +138,19 @@ fn composed(alloc: Global) -> Result<(bool, bool, bool, i64), Memory> {
     let three = AValue::whole_constant(alloc, 3);
     let later = entry.with_object(alloc, SECOND, made(alloc, three)?)?;
     let both = first.composed(alloc, &later)?;
-    let last = match number(&both, new(SECOND)) {
-        NumberPart::One(number) => number.get(),
-        _ => 0,
-    };
-    Ok((
-        names(&both, new(FIRST), new(SECOND)),
-        names(&both, new(FIRST), old(SECOND)),
-        has(&both, old(FIRST)),
-        last,
-    ))
+    let is_newest = names(&both, new(FIRST), new(SECOND));
+    out.line_of_bool(
+        "an object of before has the newest of the later state",
+        is_newest,
+    );
+    let is_older = names(&both, new(FIRST), old(SECOND));
+    out.line_of_bool("it has an older one", is_older);
+    out.line_of_bool("the register has the older one", has(&both, old(FIRST)));
+    line_of_property(out, "the newest has", &both, new(SECOND));
+    Ok(())
 }
 
-#[test]
-fn objects_are_made_and_written(rt: HostRuntime) {
-    assert!(&rt; matches!(written(rt.alloc()), Ok((false, true, 7, true, true, false))));
-}
-
-#[test]
-fn what_is_known_is_renamed(rt: HostRuntime) {
-    assert!(&rt; matches!(composed(rt.alloc()), Ok((false, true, true, 3))));
+pub fn states(out: &mut Out) {
+    let _ = writes_both(out);
+    let _ = composes(out);
 }
