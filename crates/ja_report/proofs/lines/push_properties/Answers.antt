@@ -2,19 +2,19 @@ use Rattle.std.proofs.Common.{arith}
 use Rattle.ja_report.proofs.ObjectLemmas.{labels_none, labels_step, labels_to, labels_all}
 use Rattle.ja_report.proofs.lines.push_properties.Goals as goal
 
-pub loop-sites-init : goal.loop-sites-init
-loop-sites-init c = (omega arith, labels_none _ _ _)
+pub sites-init : goal.sites-init
+sites-init c = (omega arith, labels_none _ _ _)
 
-pub loop-sites-preserved : goal.loop-sites-preserved
-loop-sites-preserved c = (
-  omega (arith, c.min-sites.ensures),
+pub sites-preserved : goal.sites-preserved
+sites-preserved c = (
+  omega (arith, c.min-site.ensures),
   labels_to _ c.args.state.now _ _ _ _ _
-      (labels_step _ _ _ _ _ _ c.loop-sites.invariant.1 c.in_ok-push_both_labels.ensures)
-      (omega (arith, c.min-sites.ensures, c.untouched_to-next.ensures.ahead))
-      (omega (arith, c.min-sites.ensures)) c.untouched_to-next.ensures.untouched,
+      (labels_step _ _ _ _ _ _ c.sites.invariant.1 c.in_ok-push_both_labels.ensures)
+      (omega (arith, c.min-site.ensures, c.untouched_to-next.ensures.ahead))
+      (omega (arith, c.min-site.ensures)) c.untouched_to-next.ensures.untouched,
 )
 
 pub returns : goal.returns
 returns c =
-    labels_all _ c.args.state.now _ _ _ c.loop-sites.invariant.1
-    (omega (arith, c.loop-sites.invariant.0, c.loop-sites-test.false, c.site_count-sites.ensures))
+    labels_all _ c.args.state.now _ _ _ c.sites.invariant.1
+    (omega (arith, c.sites.invariant.0, c.sites-test.false, c.site_count-sites.ensures))
