@@ -4,7 +4,7 @@ use Rattle.ja_cases.proofs.states.writes_both.Goals as goal
 
 pub strongly-requires-clause-label : goal.strongly-requires-clause-label
 strongly-requires-clause-label c =
-    let here : c.new.result.site.0 ≡ 0 = ap (λ s. s.0) c.new.ensures in
+    let here : c.new-2.result.site.0 ≡ 0 = ap (λ s. s.0) c.new-2.ensures in
     let sites : (heap_of c.in_ok-fork.fork.heap).sites ≡ 2 = sym c.in_ok-fork.ensures.shape.sites
     ∙ sym c.in_ok-state.ensures.shape.sites ∙ c.in_ok-entry.ensures.sites in
     λ i. nat_lt (here i) (sites i)
@@ -17,7 +17,7 @@ strongly-requires-clause-keys c =
 
 pub weakly-requires-clause-label : goal.weakly-requires-clause-label
 weakly-requires-clause-label c =
-    let here : c.new-3.result.site.0 ≡ 0 = ap (λ s. s.0) c.new-3.ensures in
+    let here : c.new-4.result.site.0 ≡ 0 = ap (λ s. s.0) c.new-4.ensures in
     let sites : (heap_of c.in_ok-state.state.heap).sites ≡ 2 =
     sym c.in_ok-state.ensures.shape.sites ∙ c.in_ok-entry.ensures.sites in
     λ i. nat_lt (here i) (sites i)
