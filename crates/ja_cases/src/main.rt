@@ -38,7 +38,6 @@ fn answer(out: &mut Out, kind: &str, text: &str) {
         "write" => streams::write(out, text),
         "sure-write" => streams::surely_write(out, text),
         "edges" => listings::edges(out, text),
-        "built" => programs::of_text(out, kind, text),
         "program" => programs::of_text(out, kind, text),
         "budget" => programs::of_text(out, kind, text),
         "calls" => calls(out, text),

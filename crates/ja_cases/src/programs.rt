@@ -1,18 +1,16 @@
 //! The programs of texts, and why others have none.
 
 ghost use Rattle.std.specs.Prelude.{[], IfOk};
-ghost use Rattle.ja_graph.specs.Kinds.{AreBuilt};
 ghost use Rattle.ja_graph.specs.WellFormed.{IsWellFormed};
 ghost use Rattle.ja_load.specs.Loading.{IsProgramOf};
 
 use crate::built_ins::put_objects;
 use crate::out::Out;
 use crate::reports::put_reports;
-use crate::trees::{put_fault, put_place};
+use crate::trees::put_fault;
 use crate::well_formed::put_well_formed;
 use ja_base::NodeId;
 use ja_graph::Program;
-use ja_load::laws::programs_are_built;
 use ja_load::{LoadFault, load};
 use ja_rows::Item;
 use ja_rules::{SolveFault, solve};
@@ -29,14 +27,10 @@ fn loaded(alloc: Global, text: &str) -> Result<Program, LoadFault>
     load(alloc, text, &[])
 }
 
-/// Why a text has no program: the place of the first form that isn't built, or another cause.
+/// Why a text has no program.
 fn put_cause(out: &mut Out, fault: LoadFault) {
     match fault {
         LoadFault::Parse(fault) => put_fault(out, fault),
-        LoadFault::Unbuilt { place } => {
-            out.put("unbuilt ");
-            put_place(out, place);
-        }
         _ => out.put("limit"),
     }
 }
@@ -52,8 +46,7 @@ fn put_sizes(out: &mut Out, program: &Program, text: &str) {
 
 /// The visits of a budget of one. It is spent on the first node, whose base isn't known yet.
 fn put_visits(out: &mut Out, program: &Program)
-    requires program { IsWellFormed program.now }
-    requires built { AreBuilt program.now }
+    requires { IsWellFormed program.now }
 {
     if let Err(SolveFault::Spent { visits }) = solve(out.alloc, program, 1) {
         for item in visits.as_slice() {
@@ -70,11 +63,9 @@ fn put_visits(out: &mut Out, program: &Program)
 
 /// What is told of a program, by its kind.
 fn put_kind(out: &mut Out, kind: &str, program: &mut Program, text: &str)
-    requires program { IsWellFormed program.old }
-    requires built { AreBuilt program.old }
+    requires { IsWellFormed program.old }
 {
     match kind {
-        "built" => out.put("built"),
         "program" => put_sizes(out, program, text),
         "budget" => put_visits(out, program),
         "built-in objects" => put_objects(out, program),
@@ -86,10 +77,7 @@ fn put_kind(out: &mut Out, kind: &str, program: &mut Program, text: &str)
 /// What is told of the program of a text, or why it has none.
 pub fn of_text(out: &mut Out, kind: &str, text: &str) {
     match loaded(out.alloc, text) {
-        Ok(mut program) => {
-            programs_are_built();
-            put_kind(out, kind, &mut program, text)
-        }
+        Ok(mut program) => put_kind(out, kind, &mut program, text),
         Err(fault) => put_cause(out, fault),
     }
 }

@@ -2,15 +2,15 @@
 
 ghost use Rattle.std.specs.Prelude.{◌≡◌, ◌+◌, ◌<◌, ◌^◌, IfOk, IsTrue, OnOk, length};
 ghost use Rattle.ja_graph.specs.WellFormed.{IsWellFormed};
-ghost use Rattle.ja_abstract.specs.AbstractState.{is_key};
+ghost use Rattle.ja_abstract.specs.AbstractState.{is_key, is_label};
 ghost use Rattle.ja_rules.specs.Tables.{Fits, FitsContext};
 
 use crate::out::{Out, add};
 use ja_abstract::{AAttrs, Flags, Key, May, NumberPart, Slot, TextPart};
 use ja_base::{Context, FnId, Label, Memory, NameId, NodeId, Place, Seq, Site};
-use ja_graph::{GLOBAL, Program, well_formed};
+use ja_graph::{Program, well_formed};
 use ja_prim::{Int, Text16};
-use ja_report::{Refusal, refusal_text, report, spent_text, unfollowed_text};
+use ja_report::{Refusal, refusal_text, report, spent_text};
 use ja_rows::{Edge, Item};
 use ja_rules::{ATable, ContextTable, opening};
 use ja_value::{AProp, AValue};
@@ -74,6 +74,7 @@ fn give(
     property: AProp,
 ) -> Result<(), Memory>
     requires fits { FitsContext program.now own.old }
+    requires label { IsTrue (is_label program.now label) }
     requires key { IsTrue (is_key program.now key) }
     ensures fits { OnOk result (FitsContext program.now own.new) }
     ensures context { own.new.context ≡ own.old.context }
@@ -94,7 +95,7 @@ fn none(out: &Out) -> AProp {
     property(AValue::of_flags(out.alloc, NO_FLAGS))
 }
 
-/// Gives the global object values at three names from the first on, and at two other keys.
+/// Gives a context's receiver values at three names from the first on, and at two other keys.
 fn give_all(out: &Out, program: &Program, own: &mut ContextTable, first: u32) -> Result<(), Memory>
     requires fits { FitsContext program.now own.old }
     requires names { first + 2 < length program.now.names }
@@ -102,10 +103,7 @@ fn give_all(out: &Out, program: &Program, own: &mut ContextTable, first: u32) ->
     ensures fits { OnOk result (FitsContext program.now own.new) }
     ensures context { OnOk result (own.new.context ≡ own.old.context) }
 {
-    let label = Label {
-        site: GLOBAL,
-        old: false,
-    };
+    let label = own.context.receiver;
     let known = property(value(out));
     give(out, program, own, label, Key::Name(NameId(first)), known)?;
     let none_at = Key::Name(NameId(first + 1));
@@ -198,25 +196,13 @@ fn put_spent(out: &mut Out, program: &Program) {
     }
 }
 
-/// The visits up to a call.
-fn put_unfollowed(out: &mut Out, program: &Program) {
-    let place = Place {
-        line: 4,
-        column: 20,
-    };
-    let visits = [Item::Open, step(0, false, 3)];
-    if let Ok(text) = unfollowed_text(out.alloc, program, place, &visits) {
-        put_bytes(out, text.as_slice());
-    }
-}
-
 /// A refusal.
 fn put_refusal(out: &mut Out) {
     let place = Place {
         line: 12,
         column: 3,
     };
-    if let Ok(text) = refusal_text(out.alloc, Refusal::Unbuilt { place }) {
+    if let Ok(text) = refusal_text(out.alloc, Refusal::Syntax { place }) {
         put_bytes(out, text.as_slice());
     }
 }
@@ -224,7 +210,6 @@ fn put_refusal(out: &mut Out) {
 /// The reports of a program, and a refusal.
 pub fn put_reports(out: &mut Out, program: &mut Program) {
     put_spent(out, program);
-    put_unfollowed(out, program);
     add_names(out, program);
     if well_formed(program) {
         put_report(out, program);

@@ -2,5 +2,4 @@ pub mod Node
 pub mod Program
 pub mod WellFormed
 pub mod Renaming
-pub mod Kinds
 pub mod code

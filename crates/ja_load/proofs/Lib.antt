@@ -1,5 +1,4 @@
 pub mod BuiltHosts
-pub mod BuiltPrograms
 pub mod HostLemmas
 pub mod HostNames
 pub mod Places

@@ -1,4 +1,3 @@
-pub mod Built
 pub mod Hosts
 pub mod Loading
 pub mod code

@@ -1,16 +1,14 @@
 -- The program of a text, and why a text has none.
-use Rattle.std.specs.Prelude.{◌≡◌, ◌<◌, ◌≤◌, ◌+◌, ℕ, String, List, ◌++◌, length, Some, None}
+use Rattle.std.specs.Prelude.{◌≡◌, ◌<◌, ◌≤◌, ◌+◌, ℕ, String, List, ◌++◌, length}
 use Rattle.std.specs.Str.{IsUtf8}
 use Rattle.std.specs.String.{string_bytes}
 use Rattle.std.specs.declared.alloc.Global.{Global}
-use Rattle.ja_base.specs.declared.ids.Place.{Place}
 use Rattle.ja_grammar.specs.Language.{Spells, Explains, max_levels}
 use Rattle.ja_grammar.specs.declared.fault.ParseFault.{ParseFault}
 use Rattle.ja_graph.specs.WellFormed.{builtin_names}
 use Rattle.ja_graph.specs.declared.builtins.TheConstants.{BUILTIN_CLASSES}
 use Rattle.ja_graph.specs.declared.program.Program.{Program}
 use Rattle.ja_lex.specs.Tokens.{tokens}
-use Rattle.ja_load.specs.Built.{unbuilt}
 use Rattle.ja_load.specs.Hosts.{device_sites, opening_with}
 use Rattle.ja_lower.specs.Limits.{max_functions, max_size, function_count, size_of, IsWithin}
 use Rattle.ja_lower.specs.declared.lowered.Lowered.{Lowered}
@@ -60,19 +58,13 @@ program_of text signatures statements =
 abbrev pub IsTextOf : List ℕ → List Statement → Type 0
 IsTextOf bytes statements = IsUtf8 bytes × Spells max_levels (tokens bytes) statements
 
--- the program of a text within the limits, with these devices: it is run
-pub record IsProgramToRun (bytes : List ℕ) (signatures : List Signature) (p : Program) : Type
-    0 where
+-- the program of a text within the limits, with these devices
+pub record IsProgramOf (bytes : List ℕ) (signatures : List Signature) (p : Program) : Type 0 where
   pub statements : List Statement
   pub text : IsTextOf bytes statements
   pub within : IsWithin (names_before signatures) statements
   pub program : p ≡ program_of p.text signatures statements
   pub keeps : string_bytes p.text ≡ bytes
-
--- .. and it is analysed where all forms of the text are built
-pub record IsProgramOf (bytes : List ℕ) (signatures : List Signature) (p : Program) : Type 0 where
-  pub loaded : IsProgramToRun bytes signatures p
-  pub built : unbuilt loaded.statements ≡ None
 
 -- the text has too many functions
 abbrev pub HasManyFunctions : List ℕ → Type 0
@@ -88,13 +80,6 @@ HasManyNodes bytes signatures =
     × IsTextOf bytes statements
     × (function_count statements ≤ max_functions)
     × (max_size < size_of (names_before signatures) statements)
-
--- it is within the limits, and a form is not built: the first one has this place
-abbrev pub IsUnbuiltAt : List ℕ → List Signature → Place → Type 0
-IsUnbuiltAt bytes signatures place =
-    (statements : List Statement) × IsTextOf bytes statements
-    × IsWithin (names_before signatures) statements
-    × (unbuilt statements ≡ Some place)
 
 -- the bytes are a text, and this is what its tokens are refused with, which is determined
 -- (`refused_once` in ja_grammar) and said of no text of the language (`refused_is_none`)

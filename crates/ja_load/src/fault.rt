@@ -2,7 +2,7 @@ ghost use Rattle.std.specs.Prelude.{◌≡◌};
 ghost use Rattle.ja_grammar.specs.declared.fault.ParseFault.TheVariants.{Memory as NoMemory};
 ghost use Rattle.ja_load.specs.declared.fault.LoadFault.TheVariants.{Parse};
 
-use ja_base::{Memory, Place};
+use ja_base::Memory;
 use ja_grammar::ParseFault;
 use std::alloc::{AllocError, AllocFailed};
 use thiserror::Error;
@@ -22,9 +22,6 @@ pub enum LoadFault {
     /// It has more than 1,048,576 names.
     #[error("more than 1,048,576 names")]
     Names,
-    /// The first form that is not built has this place.
-    #[error("a form that is not built at {place:?}")]
-    Unbuilt { place: Place },
 }
 
 impl From<Memory> for LoadFault {

@@ -1,22 +1,20 @@
-ghost use Rattle.std.specs.Prelude.{◌≡◌, ◌<◌, ◌≤◌, ◌+◌, ◌++◌, None, length, IfOk, IfErr, OnOk};
+ghost use Rattle.std.specs.Prelude.{◌≡◌, ◌<◌, ◌≤◌, ◌+◌, ◌++◌, length, IfOk, IfErr, OnOk};
 ghost use Rattle.std.specs.List.{AllByRecursion};
 ghost use Rattle.std.specs.String.{string_bytes};
 ghost use Rattle.ja_lex.specs.Spots.{max_bytes};
 ghost use Rattle.ja_device.specs.code.Signatures.{AreSignatures};
 ghost use Rattle.ja_graph.specs.WellFormed as graph;
 ghost use Rattle.ja_graph.specs.declared.program.TheConstants.{MAX_DEVICES};
-ghost use Rattle.ja_load.specs.Built as built;
-ghost use Rattle.ja_load.specs.code.Explaining.{Explains, ExplainsAnalysis};
+ghost use Rattle.ja_load.specs.code.Explaining.{Explains};
 ghost use Rattle.ja_load.specs.Hosts.{device_sites};
-ghost use Rattle.ja_load.specs.Loading.{IsProgramOf, IsProgramToRun, names_before, program_of, program_with, sites_before};
-ghost use Rattle.ja_load.specs.code.Loading.{HasNone, HasNoneToRun};
+ghost use Rattle.ja_load.specs.Loading.{IsProgramOf, names_before, program_of, program_with, sites_before};
+ghost use Rattle.ja_load.specs.code.Loading.{HasNone};
 ghost use Rattle.ja_lower.specs.Limits.{IsWithin, max_functions};
 ghost use Rattle.ja_lower.specs.Lowering.{behind_devices, device_names, followed_by, lowered, lowered_prelude};
 ghost use Rattle.ja_prelude.specs.Prelude as spec;
 ghost use Rattle.ja_prelude.specs.code.Prelude as code;
 ghost use Rattle.ja_prelude.specs.Table.{builtin_sites};
 
-use crate::built::unbuilt;
 use crate::fault::LoadFault;
 use crate::hosts::{add_device_sites, copied, opening_with};
 use ja_base::{FnId, Memory, Seq};
@@ -253,52 +251,7 @@ fn program_of_tree(
     Ok(program)
 }
 
-/// The program of a tree all of whose forms are built.
-fn built_program(
-    alloc: Global,
-    tree: &Tree,
-    signatures: &[Signature],
-    text: &str,
-) -> Result<Program, LoadFault>
-    requires { AreSignatures signatures.now }
-    ensures program { IfOk result (λ p. p ≡ program_of p.text signatures.now tree.now.statements) }
-    ensures text { IfOk result (λ p. string_bytes p.text ≡ text.now) }
-    ensures within { IfOk result (λ _. IsWithin (names_before signatures.now) tree.now.statements) }
-    ensures built { IfOk result (λ _. built.unbuilt tree.now.statements ≡ None) }
-    ensures well_formed { IfOk result graph.IsWellFormed }
-    ensures signatures { IfOk result (λ p. p.signatures ≡ signatures.now) }
-    ensures fault { IfErr result (ExplainsAnalysis signatures.now tree.now.statements) }
-{
-    let program = program_of_tree(alloc, tree, signatures, text)?;
-    match unbuilt(alloc, tree)? {
-        Some(place) => Err(LoadFault::Unbuilt { place }),
-        None => Ok(program),
-    }
-}
-
-/// The program of a text of at most 16,777,216 bytes with these devices, to be analysed.
-///
-/// # Errors
-///
-/// Those of `load_to_run`; else `Unbuilt` exactly where a form is not built, with the place of the
-/// first one.
-#[tactic(auto, using(crate::proofs::BuiltPrograms::is_program))]
-pub fn load(alloc: Global, text: &str, signatures: &[Signature]) -> Result<Program, LoadFault>
-    requires text { length text.now ≤ max_bytes }
-    requires devices { AreSignatures signatures.now }
-    ensures program { IfOk result (IsProgramOf text.now signatures.now) }
-    ensures well_formed { IfOk result graph.IsWellFormed }
-    ensures signatures { IfOk result (λ p. p.signatures ≡ signatures.now) }
-    ensures fault { IfErr result (HasNone text.now signatures.now) }
-{
-    let tree = match parse(alloc, text) {
-        Ok(tree) => tree,
-        Err(fault) => return Err(LoadFault::Parse(fault)),
-    };
-    built_program(alloc, &tree, signatures, text)
-}
-
-/// The program of a text of at most 16,777,216 bytes with these devices, to be run.
+/// The program of a text of at most 16,777,216 bytes with these devices.
 ///
 /// # Errors
 ///
@@ -306,17 +259,13 @@ pub fn load(alloc: Global, text: &str, signatures: &[Signature]) -> Result<Progr
 /// `Functions` exactly where it has more than 4,096 functions, the program among them; else `Nodes`
 /// exactly where these have more than 65,536 nodes, each parameter of a function counted as one
 /// more; else `Names` exactly where the program has more than 1,048,576 names.
-pub fn load_to_run(
-    alloc: Global,
-    text: &str,
-    signatures: &[Signature],
-) -> Result<Program, LoadFault>
+pub fn load(alloc: Global, text: &str, signatures: &[Signature]) -> Result<Program, LoadFault>
     requires text { length text.now ≤ max_bytes }
     requires devices { AreSignatures signatures.now }
-    ensures program { IfOk result (IsProgramToRun text.now signatures.now) }
+    ensures program { IfOk result (IsProgramOf text.now signatures.now) }
     ensures well_formed { IfOk result graph.IsWellFormed }
     ensures signatures { IfOk result (λ p. p.signatures ≡ signatures.now) }
-    ensures fault { IfErr result (HasNoneToRun text.now signatures.now) }
+    ensures fault { IfErr result (HasNone text.now signatures.now) }
 {
     let tree = match parse(alloc, text) {
         Ok(tree) => tree,

@@ -2,12 +2,12 @@
 //! the recency abstraction).
 //!
 //! `transfer` goes by the kind of the node: to the rows of names, operators and edges, which stand
-//! in `ja_transfer`, and to those of objects, which stand here: reads, writes and deletions of
+//! in `ja_transfer`, to those of functions, of the built-in ones and of devices, which stand in
+//! `ja_functions`, and to those of objects, which stand here: reads, writes and deletions of
 //! properties (`properties.rt`), `instanceof` (`instances.rt`), the objects that nodes make
 //! (`made.rt`, `objects.rt`), scopes (`scopes.rt`), `for`-`in` (`enumeration.rt`) and
-//! constructions (`constructs.rt`). No kind that isn't built comes there. Contracts see what a row
-//! gives as that of the definitions (`ja_rows/specs`), exactly. What is left free is want of
-//! memory.
+//! constructions (`constructs.rt`). Contracts see what a row gives as that of the definitions
+//! (`ja_rows/specs`), exactly. What is left free is want of memory.
 #![tactic(auto)]
 
 mod constructs;

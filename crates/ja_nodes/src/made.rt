@@ -3,49 +3,21 @@
 ghost use Rattle.std.specs.Prelude.{◌≡◌, [], ◌∷◌, IfOk};
 ghost use Rattle.ja_graph.specs.declared.node.Made.TheVariants as made;
 ghost use Rattle.ja_machine.specs.Objects.{prototype_of_error};
-ghost use Rattle.ja_abstract.specs.declared.abstraction.Key.TheVariants as key;
 ghost use Rattle.ja_abstract.specs.Made as spec;
-ghost use Rattle.ja_aheap.specs.Objects.{own_in, listed_of};
+ghost use Rattle.ja_aheap.specs.Objects.{own_in};
 ghost use Rattle.ja_value.specs.Value.{value_of, labels_in};
 
 use ja_abstract::{Key, NumberPart, Slot, TextPart};
 use ja_aheap as heap;
-use ja_base::{Label, Memory, Site};
+use ja_base::{Memory, Site};
+use ja_functions::{inherits, property_of, slot_of};
 use ja_graph::{
-    ALL_ATTRS, ARRAY_PROTOTYPE, Attrs, ERROR_PROTOTYPE, EVAL_ERROR_PROTOTYPE, ErrorKind,
-    KEPT_HIDDEN, LENGTH, Made, OBJECT_PROTOTYPE, RANGE_ERROR_PROTOTYPE, REFERENCE_ERROR_PROTOTYPE,
+    ALL_ATTRS, ARRAY_PROTOTYPE, ERROR_PROTOTYPE, EVAL_ERROR_PROTOTYPE, ErrorKind, KEPT_HIDDEN,
+    LENGTH, Made, OBJECT_PROTOTYPE, RANGE_ERROR_PROTOTYPE, REFERENCE_ERROR_PROTOTYPE,
     STRING_PROTOTYPE, SYNTAX_ERROR_PROTOTYPE, TYPE_ERROR_PROTOTYPE, URI_ERROR_PROTOTYPE,
 };
-use ja_value::{AProp, AValue, LabelSet, copy_text_part};
+use ja_value::{AValue, LabelSet, copy_text_part};
 use std::alloc::Global;
-
-/// A property of an object that is to be made.
-type Listed = (Key, AProp);
-
-/// An internal property.
-fn slot_of(slot: Slot, value: AValue) -> Listed
-    ensures { listed_of result ≡ spec.slot_of (key.Slot slot) (value_of value) }
-{
-    (Key::Slot(slot), AProp::bare(value))
-}
-
-/// The prototype.
-fn inherits(alloc: Global, prototype: Site) -> Result<Listed, Memory>
-    ensures { IfOk result (λ q. listed_of q ≡ spec.inherits prototype) }
-{
-    let label = Label {
-        site: prototype,
-        old: false,
-    };
-    Ok(slot_of(Slot::Prototype, AValue::of_label(alloc, label)?))
-}
-
-/// The length, a number with some attributes.
-fn length_of(value: AValue, attrs: Attrs) -> Listed
-    ensures { listed_of result ≡ spec.property_of spec.length_key (value_of value) attrs }
-{
-    (Key::Name(LENGTH), AProp::with_attrs(value, attrs))
-}
 
 /// The prototype of an error.
 fn prototype_of_error(kind: ErrorKind) -> Site
@@ -78,7 +50,7 @@ fn array_made(alloc: Global) -> Result<heap::Made, Memory>
     let length = AValue::whole_constant(alloc, 0);
     let mut listed = Vec::new(alloc);
     listed.push(inherits(alloc, ARRAY_PROTOTYPE)?)?;
-    listed.push(length_of(length, KEPT_HIDDEN))?;
+    listed.push(property_of(Key::Name(LENGTH), length, KEPT_HIDDEN))?;
     Ok(heap::Made { listed })
 }
 
@@ -125,7 +97,8 @@ pub(crate) fn text_made(alloc: Global, part: &TextPart) -> Result<heap::Made, Me
     let mut listed = Vec::new(alloc);
     listed.push(inherits(alloc, STRING_PROTOTYPE)?)?;
     listed.push(slot_of(Slot::Value, value))?;
-    listed.push(length_of(length_of_text(alloc, part), ALL_ATTRS))?;
+    let length = length_of_text(alloc, part);
+    listed.push(property_of(Key::Name(LENGTH), length, ALL_ATTRS))?;
     Ok(heap::Made { listed })
 }
 

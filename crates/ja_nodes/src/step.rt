@@ -1,6 +1,5 @@
-ghost use Rattle.std.specs.Prelude.{◌≡◌, IfOk, All, true};
+ghost use Rattle.std.specs.Prelude.{◌≡◌, IfOk, All};
 ghost use Rattle.ja_base.specs.declared.ids.NodeId.{NodeId};
-ghost use Rattle.ja_graph.specs.Kinds.{is_built};
 ghost use Rattle.ja_rows.specs.Out.{nowhere};
 ghost use Rattle.ja_rows.specs.Table.{point};
 ghost use Rattle.ja_rows.specs.Transfer.{transfer, transfer_node};
@@ -19,6 +18,7 @@ use crate::scopes::{bind, push_scope};
 use ja_aheap::{DemandList, DemandedEntries};
 use ja_astate::AState;
 use ja_base::{Context, Memory, NodeId};
+use ja_functions::{device, enter, intrinsic, make_function};
 use ja_graph::{Node, NodeInfo, Program};
 use ja_keys::ProgramKeys;
 use ja_look::Reader;
@@ -38,7 +38,6 @@ pub fn transfer(
 ) -> Result<Outcome, Memory>
     requires keys { IsKeysOf program.now keys.now }
     requires node { IsAtNode program.now (point context number info.now) state.now }
-    requires built { is_built info.now.node ≡ true }
     ensures out { IfOk result (λ o. out_of o ≡ transfer (record {
       program = program.now;
       state = state_of state.now;
@@ -69,7 +68,6 @@ fn nowhere(stepper: &Stepper<'_>) -> Outcome
 fn step(stepper: &Stepper<'_>) -> Result<Outcome, Memory>
     requires node { IsAtNode stepper.now.reader.program.now (point_of stepper.now)
         stepper.now.reader.state.now }
-    requires built { is_built stepper.now.info.now.node ≡ true }
     ensures { IfOk result (IsOutcome stepper.now (transfer_node (at_view stepper.now)
         (point_of stepper.now) stepper.now.info.now stepper.now.info.now.node)) }
 {
@@ -142,10 +140,16 @@ fn step(stepper: &Stepper<'_>) -> Result<Outcome, Memory>
         } => stepper.call(*callee, *receiver, *error),
         Node::Throw { src } => stepper.throw(*src),
         Node::Return { .. } | Node::Escape | Node::Stop { .. } => Ok(nowhere(stepper)),
-        // The kinds that aren't built.
-        Node::MakeFunction { .. }
-        | Node::Enter { .. }
-        | Node::Intrinsic { .. }
-        | Node::Device { .. } => unreachable!(),
+        Node::MakeFunction {
+            dst,
+            function,
+            site,
+            proto_site,
+        } => make_function(stepper, *dst, *function, *site, *proto_site),
+        Node::Enter { site, arguments } => enter(stepper, *site, *arguments),
+        Node::Intrinsic { dst, which, args } => {
+            intrinsic(stepper, *dst, *which, args.as_slice())
+        }
+        Node::Device { dst, which } => device(stepper, *dst, *which),
     }
 }

@@ -86,16 +86,27 @@ pair_lines-pairs e (l ∷ ls) ks =
     (pair_lines-keys e l ks) ∙ ap (λ (xs : List Line). flat_map (entry_line e l) ks ++ xs)
     (pair_lines-pairs e ls ks)
 
-pub pairs_all : (p : Program) (e : Entries) (pairs : List (Label × Key)) (i m n : ℕ) (a b : Output)
+pub pairs_front : (p : Program) (e : Entries) (pairs : List (Label × Key)) (i : ℕ) (a b : Output)
     → Adds p (pair_lines e (take i pairs)) a b → length pairs ≤ i
+    → Adds p (flat_map (λ (pair : Label × Key). entry_line e pair.0 pair.1) pairs) a b
+unfolding pair_lines
+pairs_front p e pairs i a b was past =
+    adds_same p _ _ a b (ap (pair_lines e) (take_all i pairs past)) was
+
+pairs_are : (p : Program) (e : Entries) (pairs : List (Label × Key)) (m n : ℕ)
     → pairs ≡ pairs_of e (labels_below m) (keys_below n) → m ≡ length p.sites → n ≡ length p.names
-    → Adds p (entry_lines p e) a b
-unfolding entry_lines
-pairs_all p e pairs i m n a b was past all sites names =
-    adds_same p _ _ a b (ap (pair_lines e) (take_all i pairs past ∙ all
-    ∙ ap (λ (k : ℕ). pairs_of e (labels_below k) (keys_below n)) sites
-    ∙ ap (λ (k : ℕ). pairs_of e (labels_of p) (keys_below k)) names)
-    ∙ pair_lines-pairs e (labels_of p) (keys_of p)) was
+    → pairs ≡ pairs_of e (labels_of p) (keys_of p)
+pairs_are p e pairs m n all sites names =
+    all ∙ ap (λ (k : ℕ). pairs_of e (labels_below k) (keys_below n)) sites
+    ∙ ap (λ (k : ℕ). pairs_of e (labels_of p) (keys_below k)) names
+
+pub pairs_all : (p : Program) (e : Entries) (pairs : List (Label × Key)) (m n : ℕ)
+    → pairs ≡ pairs_of e (labels_below m) (keys_below n) → m ≡ length p.sites → n ≡ length p.names
+    → flat_map (λ (pair : Label × Key). entry_line e pair.0 pair.1) pairs ≡ entry_lines p e
+unfolding pair_lines entry_lines
+pairs_all p e pairs m n all sites names =
+    ap (pair_lines e) (pairs_are p e pairs m n all sites names)
+    ∙ pair_lines-pairs e (labels_of p) (keys_of p)
 
 -- each pair has one line
 count_step : (e : Entries) (l : Label) (k : Key) (o : Option AbstractProperty) → e l k ≡ o
@@ -124,11 +135,9 @@ count_pairs e (l ∷ ls) ks =
     (count_pairs e ls ks) ∙ sym (length-append (flat_map (entry_line e l) ks)
     (flat_map (λ (m : Label). flat_map (entry_line e m) ks) ls))
 
-pub pairs_count : (p : Program) (e : Entries) (pairs : List (Label × Key)) (c m n : ℕ)
+pub pairs_count : (p : Program) (e : Entries) (pairs : List (Label × Key)) (m n : ℕ)
     → pairs ≡ pairs_of e (labels_below m) (keys_below n) → m ≡ length p.sites → n ≡ length p.names
-    → c ≡ length pairs → c ≡ length (entry_lines p e)
+    → length pairs ≡ length (entry_lines p e)
 unfolding entry_lines
-pairs_count p e pairs c m n all sites names count =
-    count ∙ ap length (all ∙ ap (λ (k : ℕ). pairs_of e (labels_below k) (keys_below n)) sites
-    ∙ ap (λ (k : ℕ). pairs_of e (labels_of p) (keys_below k)) names)
-    ∙ count_pairs e (labels_of p) (keys_of p)
+pairs_count p e pairs m n all sites names =
+    ap length (pairs_are p e pairs m n all sites names) ∙ count_pairs e (labels_of p) (keys_of p)

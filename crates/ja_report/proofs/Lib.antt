@@ -1,3 +1,6 @@
+pub mod Ascending
+pub mod ContextLemmas
+pub mod EdgeLemmas
 pub mod EntryLemmas
 pub mod NameLemmas
 pub mod ObjectLemmas
@@ -6,3 +9,4 @@ pub mod PartLemmas
 pub mod PointLemmas
 pub mod Rulesets
 pub mod SiteLemmas
+pub mod WholeLemmas

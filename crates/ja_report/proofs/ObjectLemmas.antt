@@ -1,14 +1,14 @@
 -- The lines of a state: what is as at entry has none, and the writers' loops add the others.
-use Rattle.std.proofs.Common.{◌≡◌, ℕ, zero, suc, Bool, true, false, not, ◌&&◌, ◌+◌, ◌-◌, ◌<◌, ◌≤◌, List, [], ◌∷◌, ◌++◌, filter, take, length, get_or, refl, ap, sym, ◌∙◌, append-nil, arith}
+use Rattle.std.proofs.Common.{◌≡◌, ℕ, zero, suc, Bool, true, false, not, ◌&&◌, ◌+◌, ◌-◌, ◌<◌, ◌≤◌, List, [], ◌∷◌, ◌++◌, filter, take, length, get_or, slice_get, Some, refl, ap, sym, ◌∙◌, append-nil, arith}
 use Rattle.std.specs.List.{flat_map, list_any, range_with_len}
 use Rattle.std.proofs.lemmas.Bool.{true≢false}
 use Rattle.std.proofs.lemmas.List.{take_all}
 use Rattle.std.proofs.lemmas.List.Concat.{flat_map-append}
+use Rattle.ja_base.specs.declared.ids.FnId.{FnId}
 use Rattle.ja_base.specs.declared.ids.Label.{Label}
 use Rattle.ja_base.specs.declared.ids.Site.{Site}
 use Rattle.ja_graph.specs.declared.program.Program.{Program}
-use Rattle.ja_machine.specs.Frames.{registers_of}
-use Rattle.ja_machine.specs.Machine.{program_function}
+use Rattle.ja_machine.specs.Frames.{parameters_of, registers_of}
 use Rattle.ja_abstract.specs.declared.abstraction.Key.{Key}
 use Rattle.ja_abstract.specs.declared.abstraction.Mask.{Mask}
 use Rattle.ja_abstract.specs.AbstractValue.{AbstractValue, AbstractProperty, entry_property, no_labels}
@@ -212,26 +212,31 @@ site_lines_all p a ss i x y was past all count =
 
 -- ---- registers
 
--- the lines of the first registers
-pub register_front : Program → (ℕ → AbstractValue) → ℕ → List Line
-register_front p f n = flat_map (λ (r : ℕ). register_line p r (f r)) (range_with_len 0 n)
+-- the lines of the first registers, of a function with so many parameters
+pub register_front : Program → ℕ → (ℕ → AbstractValue) → ℕ → List Line
+register_front p parameters f n =
+    flat_map (λ (r : ℕ). register_line p parameters r (f r)) (range_with_len 0 n)
 
-pub registers_none : (p : Program) (f : ℕ → AbstractValue) (x : Output)
-    → Adds p (register_front p f 0) x x
+pub registers_none : (p : Program) (parameters : ℕ) (f : ℕ → AbstractValue) (x : Output)
+    → Adds p (register_front p parameters f 0) x x
 unfolding register_front
-registers_none p f x = adds_none p x
+registers_none p parameters f x = adds_none p x
 
-pub registers_more : (p : Program) (f : ℕ → AbstractValue) (i : ℕ) (v : AbstractValue)
-    (x y z : Output) → Adds p (register_front p f i) x y → v ≡ f i
-    → Adds p (register_line p i v) y z → Adds p (register_front p f (i + 1)) x z
+pub registers_more : (p : Program) (parameters : ℕ) (f : ℕ → AbstractValue) (i : ℕ)
+    (v : AbstractValue) (x y z : Output) → Adds p (register_front p parameters f i) x y → v ≡ f i
+    → Adds p (register_line p parameters i v) y z
+    → Adds p (register_front p parameters f (i + 1)) x z
 unfolding register_front
-registers_more p f i v x y z was read step =
-    adds_number p (λ (r : ℕ). register_line p r (f r)) x y z i was
-    (adds_same p _ _ y z (ap (register_line p i) read) step)
+registers_more p parameters f i v x y z was read step =
+    adds_number p (λ (r : ℕ). register_line p parameters r (f r)) x y z i was
+    (adds_same p _ _ y z (ap (register_line p parameters i) read) step)
 
-pub registers_all : (p : Program) (a : AState) (n : ℕ) (x y : Output)
-    → Adds p (register_front p (state_of a).register n) x y → n ≡ registers_of p program_function
-    → Adds p (register_lines p (state_of a)) x y
+pub registers_all : (p : Program) (f : FnId) (a : AState) (parameters n : ℕ) (x y : Output)
+    → Adds p (register_front p parameters (state_of a).register n) x y
+    → parameters ≡ parameters_of p f → n ≡ registers_of p f
+    → Adds p (register_lines p f (state_of a)) x y
 unfolding register_front register_lines
-registers_all p a n x y was all =
-    adds_same p _ _ x y (ap (register_front p (state_of a).register) all) was
+registers_all p f a parameters n x y was named all =
+    adds_same p _ _ x y
+    (ap (λ (m : ℕ). register_front p m (state_of a).register n) named
+    ∙ ap (register_front p (parameters_of p f) (state_of a).register) all) was

@@ -3,13 +3,13 @@ use Rattle.std.specs.Prelude.{ℕ, List, ◌++◌}
 use Rattle.std.specs.Fmt.{decimal}
 use lib.Chars.{codes}
 use Rattle.ja_report.specs.declared.refusals.Refusal.{Refusal}
-use Rattle.ja_report.specs.declared.refusals.Refusal.TheVariants.{Usage, ReadFault, TooLong, NotText, Syntax, Scope, Depth, Functions, Nodes, Unbuilt}
+use Rattle.ja_report.specs.declared.refusals.Refusal.TheVariants.{Usage, ReadFault, TooLong, NotText, Syntax, Scope, Depth, Functions, Nodes}
 use Rattle.ja_texts.specs.Texts.{place_text, scope_name}
 
 -- one line: how the program is called, that its input failed, that its text is too long, the offset
 -- of the first byte that begins no character, the place of the first token with which no program
--- goes on, or where the text leaves the profile and how, that it nests too deep, that it has too
--- many functions, or too many nodes, or the place of a form that is not built
+-- goes on, or where the text leaves the profile and how, that it nests too deep, or that it has too
+-- many functions, or too many nodes
 abbrev pub refusal_text : Refusal → List ℕ
 refusal_text Usage =
     codes
@@ -23,4 +23,3 @@ refusal_text (Scope kind place) =
 refusal_text Depth = codes "limit depth 200\n"
 refusal_text Functions = codes "limit functions 4096\n"
 refusal_text Nodes = codes "limit nodes 65536\n"
-refusal_text (Unbuilt place) = codes "unbuilt " ++ place_text place ++ codes "\n"

@@ -1,11 +1,11 @@
--- The report of a table: the devices of its program, its warnings, the sites that it names, its
--- states, and the visits that built it.
-use Rattle.std.specs.Prelude.{ℕ, Bool, not, ◌&&◌, if◌then◌else◌, ◌==◌, List, [], ◌++◌, filter, length, slice_get, is_some}
+-- The report of a table: the devices of its program, its warnings, its call edges, the sites that
+-- it names, its contexts with their states, and the visits that built it.
+use Rattle.std.specs.Prelude.{ℕ, Bool, not, ◌&&◌, if◌then◌else◌, ◌==◌, List, [], ◌++◌, filter, length, slice_get, Option, Some, None, is_some}
 use Rattle.std.specs.List.{flat_map, list_any, range_with_len}
-use Rattle.std.specs.Option.{option_map_or}
+use Rattle.std.specs.Option.{option_and_then, option_map_or}
 use Rattle.std.specs.Fmt.{decimal}
 use lib.Chars.{codes}
-use Rattle.ja_base.specs.declared.ids.Context.{Context}
+use Rattle.ja_base.specs.declared.ids.FnId.{FnId}
 use Rattle.ja_base.specs.declared.ids.Place.{Place}
 use Rattle.ja_prim.specs.declared.signature.Kinds.{Kinds}
 use Rattle.ja_prim.specs.declared.signature.Signature.{Signature}
@@ -18,10 +18,12 @@ use Rattle.ja_rows.specs.declared.table.WarningKind.{WarningKind}
 use Rattle.ja_rows.specs.declared.table.WarningKind.TheVariants.{NotAFunction, NoObject, UnboundName, ScopeRow}
 use Rattle.ja_rows.specs.declared.table.Warning.{Warning}
 use Rattle.ja_abstract.specs.AbstractState.{site_of}
-use Rattle.ja_rows.specs.Table.{Table, root}
-use Rattle.ja_report.specs.Texts.{builtin_of, device_of, numbered_site, label_text, part, joined}
+use Rattle.ja_rows.specs.Listed.{contexts_of, edges_of}
+use Rattle.ja_rows.specs.Table.{Table}
+use Rattle.ja_rows.specs.Warning.{builtin_of as builtin_function}
+use Rattle.ja_report.specs.Texts.{builtin_of, device_of, numbered_site, part, joined}
 use Rattle.ja_texts.specs.Texts.{place_text, plain, class_text}
-use Rattle.ja_report.specs.Lines.{line_text, line_sites, entry_lines, table_lines}
+use Rattle.ja_report.specs.Lines.{context_text, line_text, line_sites, table_lines}
 
 -- ---- devices
 
@@ -55,10 +57,15 @@ kind_text ScopeRow = codes "scope row"
 abbrev pub certainty_text : Bool → List ℕ
 certainty_text certain = if certain then codes "certain" else codes "possible"
 
+-- where it stands: its place, or the built-in function with the number of a token of its text
+unfoldable pub spot_text : Option FnId → Place → List ℕ
+spot_text None place = place_text place
+spot_text (Some f) place = codes "@" ++ decimal f.0 ++ codes ":" ++ decimal place.column
+
 unfoldable pub warning_text : Warning → List ℕ
 warning_text w =
-    place_text w.place ++ codes " " ++ kind_text w.kind ++ codes " " ++ certainty_text w.certain
-    ++ codes "\n"
+    spot_text w.builtin w.place ++ codes " " ++ kind_text w.kind ++ codes " "
+    ++ certainty_text w.certain ++ codes "\n"
 
 -- how many, and then each on its line
 unfoldable pub warnings_text : List Warning → List ℕ
@@ -66,10 +73,6 @@ warnings_text ws =
     codes "warnings " ++ decimal (length ws) ++ codes "\n" ++ flat_map warning_text ws
 
 -- ---- visits
-
--- a context is its function's number and its receiver
-unfoldable pub context_text : Program → Context → List ℕ
-context_text p x = decimal x.function.0 ++ codes " " ++ label_text p x.receiver
 
 -- a call edge: its caller and node, and its callee
 unfoldable pub edge_text : Program → Edge → List ℕ
@@ -89,22 +92,22 @@ unfoldable pub visits_text : Program → List Item → List ℕ
 visits_text p visits =
     codes "visits " ++ decimal (length visits) ++ codes "\n" ++ flat_map (item_text p) visits
 
--- ---- the context
+-- ---- edges
 
-unfoldable pub context_line : Program → Context → List ℕ
-context_line p x = codes "context " ++ context_text p x ++ codes "\n"
+-- how many, and then each on its line
+unfoldable pub edges_text : Program → List Edge → List ℕ
+edges_text p edges =
+    codes "edges " ++ decimal (length edges) ++ codes "\n"
+    ++ flat_map (λ (e : Edge). edge_text p e ++ codes "\n") edges
 
-unfoldable pub entries_line : ℕ → List ℕ
-entries_line n = codes "entries " ++ decimal n ++ codes "\n"
+-- ---- contexts
 
--- the one context of a table, and how many values at entry it demands
-unfoldable pub context_head : Program → ℕ → List ℕ
-context_head p entries = codes "contexts 1\n" ++ context_line p root ++ entries_line entries
+unfoldable pub contexts_line : ℕ → List ℕ
+contexts_line n = codes "contexts " ++ decimal n ++ codes "\n"
 
-abbrev pub context_lines : Program → Table → List ℕ
-context_lines p t =
-    context_head p (length (entry_lines p (t.entry root)))
-    ++ flat_map (line_text p) (table_lines p t)
+abbrev pub contexts_text : Program → Table → List ℕ
+contexts_text p t =
+    contexts_line (length (contexts_of p t)) ++ flat_map (line_text p) (table_lines p t)
 
 -- ---- sites
 
@@ -112,11 +115,15 @@ context_lines p t =
 abbrev pub table_sites : Program → Table → List ℕ
 table_sites p t = flat_map (line_sites p) (table_lines p t)
 
--- a site of the text has a place and a class
+-- the built-in function that makes the objects of a site, if one does
+abbrev pub builtin_owner : Program → SiteInfo → Option FnId
+builtin_owner p info = option_and_then (builtin_function p) info.owner
+
+-- a site of a node has a place and a class
 unfoldable pub info_text : Program → ℕ → List ℕ
 info_text p s =
-    option_map_or (λ (info : SiteInfo). place_text info.place ++ codes " " ++ class_text info.class)
-    (slice_get p.sites s) []
+    option_map_or (λ (info : SiteInfo). spot_text (builtin_owner p info) info.place ++ codes " "
+    ++ class_text info.class) (slice_get p.sites s) []
 
 unfoldable pub site_line : Program → ℕ → List ℕ
 site_line p s = numbered_site (site_of s) ++ codes " " ++ info_text p s ++ codes "\n"
@@ -126,7 +133,7 @@ unfoldable pub is_text_site : Program → ℕ → Bool
 is_text_site p s =
     not (is_some (builtin_of p (site_of s))) && not (is_some (device_of p (site_of s)))
 
--- those of the text among these sites, each once, by number
+-- those of nodes among these sites, each once, by number
 unfoldable pub named_sites : Program → List ℕ → List ℕ
 named_sites p named =
     filter (λ (s : ℕ). is_text_site p s && list_any (λ (n : ℕ). n == s) named)
@@ -139,27 +146,20 @@ sites_text p named =
 
 -- ---- whole texts
 
--- the report begins with the devices, the warnings and the sites that are named below, and goes on
--- with the context and the visits
-unfoldable pub report_head : Program → List Warning → List ℕ → List ℕ
-report_head p warnings named =
+-- the report begins with the devices, the warnings, the call edges and the sites that are named
+-- below, and goes on with the contexts and the visits
+unfoldable pub report_head : Program → Table → List Warning → List ℕ → List ℕ
+report_head p t warnings named =
     codes "tajs report 1\n" ++ devices_text p.signatures ++ codes "built yes\n"
-    ++ warnings_text warnings ++ codes "edges 0\n" ++ sites_text p named
+    ++ warnings_text warnings ++ edges_text p (edges_of p t) ++ sites_text p named
 
 unfoldable pub report_text : Program → Table → List Item → List Warning → List ℕ
 report_text p t visits warnings =
-    report_head p warnings (table_sites p t) ++ context_lines p t ++ visits_text p visits
+    report_head p t warnings (table_sites p t) ++ contexts_text p t ++ visits_text p visits
     ++ codes "end\n"
 
 -- what is written where the budget of visits is spent
 unfoldable pub spent_text : Program → List Item → List ℕ
 spent_text p visits =
     codes "tajs spent " ++ decimal (length visits) ++ codes "\n" ++ flat_map (item_text p) visits
-    ++ codes "end\n"
-
--- what is written where a call is met, which isn't followed yet: the place of the step that gives
--- the call edge, and the visits, that step the last of them
-unfoldable pub unfollowed_text : Program → Place → List Item → List ℕ
-unfollowed_text p place visits =
-    codes "unbuilt " ++ place_text place ++ codes "\n" ++ flat_map (item_text p) visits
     ++ codes "end\n"

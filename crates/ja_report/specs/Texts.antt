@@ -1,5 +1,5 @@
 -- The texts of names, keys, labels, values and attributes.
-use Rattle.std.specs.Prelude.{ℕ, ◌-◌, Bool, false, not, ◌&&◌, ◌||◌, if◌then◌else◌, ◌==◌, nat_le, List, [], ◌∷◌, ◌++◌, map, filter, length, Option, None, slice_get}
+use Rattle.std.specs.Prelude.{ℕ, ◌-◌, Bool, false, not, ◌&&◌, ◌||◌, if◌then◌else◌, ◌==◌, nat_le, List, [], ◌∷◌, ◌++◌, map, filter, length, Option, None, slice_get, nat_lt}
 use Rattle.std.specs.List.{list_all, join_with_byte}
 use Rattle.std.specs.Option.{option_map_or, option_and_then}
 use Rattle.std.specs.Fmt.{decimal, signed_decimal}
@@ -89,11 +89,18 @@ label_text p l = site_text p l.site ++ age_text l.old
 
 -- ---- registers
 
-unfoldable pub register_text : ℕ → List ℕ
-register_text r =
+-- behind those that each function has: the parameters, the rest of the arguments, and temporaries
+unfoldable pub later_register_text : ℕ → ℕ → List ℕ
+later_register_text parameters n =
+    if nat_lt n parameters then codes "a" ++ decimal n
+    else if n == parameters then codes "rest" else codes "r" ++ decimal (n - parameters - 1)
+
+-- a register of a function with so many parameters
+unfoldable pub register_text : ℕ → ℕ → List ℕ
+register_text parameters r =
     if r == 0 then codes "thrown" else if r == 1 then codes "this" else if r == 2 then codes "scope"
-    else if r == 3 then codes "callee" else if r == 4 then codes "count" else if r == 5
-    then codes "rest" else codes "r" ++ decimal (r - 6)
+    else if r == 3 then codes "callee" else if r == 4 then codes "count"
+    else later_register_text parameters (r - 5)
 
 -- ---- values
 

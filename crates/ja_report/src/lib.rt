@@ -1,8 +1,8 @@
-//! What the program prints: reports, the visits of a spent budget or up to a call, and refusals, as
-//! texts to the byte.
+//! What the program prints: reports, the visits of a spent budget, and refusals, as texts to the
+//! byte.
 //!
 //! Exactly the report, the texts of visits and the refusals of their definitions, to the byte
-//! (`report`, `spent_text`, `unfollowed_text`, `refusal_text`).
+//! (`report`, `spent_text`, `refusal_text`).
 #![tactic(auto)]
 
 mod lines;
@@ -15,4 +15,4 @@ mod values;
 mod whole;
 
 pub use refusals::{Refusal, refusal_text};
-pub use whole::{report, spent_text, unfollowed_text};
+pub use whole::{report, spent_text};

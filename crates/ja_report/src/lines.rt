@@ -3,11 +3,11 @@
 ghost use Rattle.std.specs.Prelude.{◌≡◌, ◌++◌, [], ◌∷◌, false, OnOk};
 ghost use Rattle.std.specs.List.{flat_map};
 ghost use Rattle.ja_graph.specs.WellFormed.{IsWellFormed};
-ghost use Rattle.ja_machine.specs.Frames.{registers_of};
-ghost use Rattle.ja_machine.specs.Machine.{program_function};
+ghost use Rattle.ja_machine.specs.Frames.{parameters_of, registers_of};
 ghost use Rattle.ja_abstract.specs.AbstractValue.{has_part};
 ghost use Rattle.ja_abstract.specs.AbstractState.{keys_of, labels_below, new, old};
 ghost use Rattle.ja_value.specs.Value.{value_of, property_of};
+ghost use Rattle.ja_aheap.specs.Heap.{heap_of, IsHeapOf};
 ghost use Rattle.ja_astate.specs.State.{state_of, IsStateOf};
 ghost use Rattle.ja_report.specs.Lines.{entry, point, owner_text, property_text, value_sites, is_undefined, register_line, register_lines, has_attrs, is_known, is_entry, property_line, object_lines, property_lines, mask_line, mask_lines, state_lines};
 ghost use Rattle.ja_report.specs.code.Output.{Adds};
@@ -17,7 +17,7 @@ use crate::texts::{push_attrs, push_key, push_register, push_site};
 use crate::values::{name_label, push_value, site_count};
 use ja_abstract::{AAttrs, Key, Mask, May, NumberPart, TextPart};
 use ja_astate::AState;
-use ja_base::{Label, Memory, Reg, Site};
+use ja_base::{FnId, Label, Memory, Reg, Site};
 use ja_graph::Program;
 use ja_texts::push_number;
 use ja_value::{AProp, AValue};
@@ -201,9 +201,13 @@ fn push_properties(
     let sites = site_count(program);
     let mut site = 0;
     'sites: while site < sites {
-        push_both_labels(out, alloc, program, keys, Site(site), state)?;
-        let next = state.heap.untouched_to(Site(site + 1));
-        site = next.0.min(sites);
+        let next = state.heap.untouched_to(Site(site)).0.min(sites);
+        if next == site {
+            push_both_labels(out, alloc, program, keys, Site(site), state)?;
+            site += 1;
+        } else {
+            site = next;
+        }
     }
     Ok(())
 }
@@ -243,29 +247,41 @@ fn push_register_line(
     out: &mut Output,
     alloc: Global,
     program: &Program,
+    parameters: u32,
     number: u32,
     value: &AValue,
 ) -> Result<(), Memory>
     requires { IsWellFormed program.now }
-    ensures { OnOk result (Adds program.now (register_line program.now number (value_of value.now))
-        out.old out.new) }
+    ensures { OnOk result (Adds program.now
+        (register_line program.now parameters number (value_of value.now)) out.old out.new) }
 {
     if is_undefined(program, value) {
         return Ok(());
     }
-    push_register(&mut out.text, number)?;
+    push_register(&mut out.text, parameters, number)?;
     out.text.push(b' ')?;
     push_value(out, alloc, program, value)?;
     out.text.push(b'\n')?;
     Ok(())
 }
 
-/// How many registers the program's own function has.
-fn register_count(program: &Program) -> u32
-    ensures { result ≡ registers_of program.now program_function }
+/// How many registers a function has.
+fn register_count(program: &Program, function: FnId) -> u32
+    ensures { result ≡ registers_of program.now function }
 {
-    match program.functions.as_slice().first() {
-        Some(text) => text.registers,
+    match program.functions.as_slice().get(function.0 as usize) {
+        Some(function) => function.registers,
+        None => 0,
+    }
+}
+
+/// How many parameters a function has, of which there are fewer than registers.
+fn parameter_count(program: &Program, function: FnId) -> u32
+    requires { IsWellFormed program.now }
+    ensures { result ≡ parameters_of program.now function }
+{
+    match program.functions.as_slice().get(function.0 as usize) {
+        Some(function) => function.parameters.len() as u32,
         None => 0,
     }
 }
@@ -274,15 +290,18 @@ fn push_registers(
     out: &mut Output,
     alloc: Global,
     program: &Program,
+    function: FnId,
     state: &AState,
 ) -> Result<(), Memory>
     requires program { IsWellFormed program.now }
-    requires state { IsStateOf program.now (registers_of program.now program_function) state.now }
-    ensures { OnOk result (Adds program.now (register_lines program.now (state_of state.now))
-        out.old out.new) }
+    requires state { IsStateOf program.now (registers_of program.now function) state.now }
+    ensures { OnOk result (Adds program.now
+        (register_lines program.now function (state_of state.now)) out.old out.new) }
 {
-    for number in 0..register_count(program) {
-        push_register_line(out, alloc, program, number, state.register(Reg(number)))?;
+    let parameters = parameter_count(program, function);
+    for number in 0..register_count(program, function) {
+        let value = state.register(Reg(number));
+        push_register_line(out, alloc, program, parameters, number, value)?;
     }
     Ok(())
 }
@@ -313,7 +332,7 @@ fn push_masks(
     program: &Program,
     state: &AState,
 ) -> Result<(), Memory>
-    requires { IsStateOf program.now (registers_of program.now program_function) state.now }
+    requires { IsHeapOf program.now (heap_of state.now.heap) }
     ensures { OnOk result (Adds program.now (mask_lines program.now (state_of state.now)) out.old
         out.new) }
 {
@@ -342,17 +361,18 @@ pub(crate) fn push_state(
     alloc: Global,
     program: &Program,
     keys: &[Key],
+    function: FnId,
     node: usize,
     state: &AState,
 ) -> Result<(), Memory>
     requires program { IsWellFormed program.now }
     requires keys { keys.now ≡ keys_of program.now }
-    requires state { IsStateOf program.now (registers_of program.now program_function) state.now }
-    ensures { OnOk result (Adds program.now (state_lines program.now node (state_of state.now))
-        out.old out.new) }
+    requires state { IsStateOf program.now (registers_of program.now function) state.now }
+    ensures { OnOk result (Adds program.now
+        (state_lines program.now function node (state_of state.now)) out.old out.new) }
 {
     push_point(out, program, node)?;
-    push_registers(out, alloc, program, state)?;
+    push_registers(out, alloc, program, function, state)?;
     push_properties(out, alloc, program, keys, state)?;
     push_masks(out, alloc, program, state)?;
     Ok(())

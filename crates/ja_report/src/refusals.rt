@@ -28,8 +28,6 @@ pub enum Refusal {
     /// The text's functions have more than 65,536 nodes, each parameter of a function counted as
     /// one more.
     Nodes,
-    /// The text has a form that is not built, at this place.
-    Unbuilt { place: Place },
 }
 
 ghost use Rattle.ja_report.specs.Refusals.{refusal_text};
@@ -91,7 +89,6 @@ fn push_refusal(text: &mut Vec<u8>, refusal: Refusal) -> Result<(), Memory>
         Refusal::Depth => push_bytes(text, b"limit depth 200\n"),
         Refusal::Functions => push_bytes(text, b"limit functions 4096\n"),
         Refusal::Nodes => push_bytes(text, b"limit nodes 65536\n"),
-        Refusal::Unbuilt { place } => push_line(text, b"unbuilt ", place),
     }
 }
 

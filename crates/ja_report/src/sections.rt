@@ -8,16 +8,21 @@ ghost use Rattle.std.specs.Fmt.{decimal};
 ghost use lib.Chars.{codes};
 ghost use Rattle.ja_graph.specs.WellFormed.{IsWellFormed};
 ghost use Rattle.ja_abstract.specs.AbstractState.{site_of};
+ghost use Rattle.ja_rules.specs.Tables.{table_of, Fits};
+ghost use Rattle.ja_rules.specs.declared.table.CallEdge.{CallEdge as Kept};
+ghost use Rattle.ja_rows.specs.Listed.{edges_of};
+ghost use Rattle.ja_report.specs.Lines.{context_text};
 ghost use Rattle.ja_report.specs.Texts.{builtin_of};
 ghost use Rattle.ja_report.specs.code.Texts.{with_bars};
-ghost use Rattle.ja_report.specs.Report.{kind_parts, kinds_text, device_line, devices_text, kind_text, certainty_text, warning_text, warnings_text, context_text, edge_text, item_text, visits_text, info_text, is_text_site, site_line, named_sites, sites_text};
+ghost use Rattle.ja_report.specs.Report.{kind_parts, kinds_text, device_line, devices_text, kind_text, certainty_text, spot_text, warning_text, warnings_text, edge_text, edges_text, item_text, visits_text, builtin_owner, info_text, is_text_site, site_line, named_sites, sites_text};
 
 use crate::texts::{device_of, push_label, push_numbered_site};
 use crate::values::{close_parts, push_part, site_count};
-use ja_base::{Context, Memory, NodeId, Site};
-use ja_graph::Program;
+use ja_base::{Context, FnId, Memory, NodeId, Place, Site};
+use ja_graph::{Program, SiteInfo};
 use ja_prim::{Kinds, Signature};
 use ja_rows::{Edge, Item, Warning, WarningKind};
+use ja_rules::{ATable, CallEdge};
 use ja_texts::{class_text, push_number, push_place, push_plain};
 use std::alloc::Global;
 use std::collections::BTreeSet;
@@ -87,11 +92,26 @@ fn certainty_text(certain: bool) -> &'static [u8]
     if certain { b"certain" } else { b"possible" }
 }
 
+/// Writes where something stands: its place, or the built-in function with the number of a token.
+#[tactic(auto, unfolding(crate::specs::Report::spot_text))]
+fn push_spot(text: &mut Vec<u8>, builtin: Option<FnId>, place: Place) -> Result<(), Memory>
+    ensures { OnOk result (text.new.items ≡ text.old.items ++ spot_text builtin place) }
+{
+    let Some(function) = builtin else {
+        return push_place(text, place);
+    };
+    text.push(b'@')?;
+    push_number(text, u64::from(function.0))?;
+    text.push(b':')?;
+    push_number(text, u64::from(place.column))?;
+    Ok(())
+}
+
 #[tactic(auto, unfolding(crate::specs::Report::warning_text))]
 fn push_warning(text: &mut Vec<u8>, warning: Warning) -> Result<(), Memory>
     ensures { OnOk result (text.new.items ≡ text.old.items ++ warning_text warning) }
 {
-    push_place(text, warning.place)?;
+    push_spot(text, warning.builtin, warning.place)?;
     text.push(b' ')?;
     text.extend_from_slice(kind_text(warning.kind))?;
     text.push(b' ')?;
@@ -123,7 +143,7 @@ pub(crate) fn push_warnings(text: &mut Vec<u8>, warnings: &[Warning]) -> Result<
 
 // ---- visits
 
-#[tactic(auto, unfolding(crate::specs::Report::context_text))]
+#[tactic(auto, unfolding(crate::specs::Lines::context_text))]
 pub(crate) fn push_context(
     text: &mut Vec<u8>,
     program: &Program,
@@ -226,6 +246,38 @@ pub(crate) fn push_visits(
     Ok(())
 }
 
+// ---- edges
+
+#[tactic(auto, using(crate::proofs::Rulesets::for_push_devices))]
+fn push_each_edge(text: &mut Vec<u8>, program: &Program, edges: &[CallEdge]) -> Result<(), Memory>
+    ensures { OnOk result (text.new.items ≡ text.old.items
+        ++ flat_map (λ (e : Kept). edge_text program.now e.edge ++ codes "\n") edges.now) }
+{
+    for kept in edges {
+        push_edge_line(text, program, b"", kept.edge)?;
+    }
+    Ok(())
+}
+
+/// Writes the call edges of a table.
+#[tactic(auto, unfolding(crate::specs::Report::edges_text))]
+pub(crate) fn push_edges(
+    text: &mut Vec<u8>,
+    program: &Program,
+    table: &ATable,
+) -> Result<(), Memory>
+    requires program { IsWellFormed program.now }
+    requires fits { Fits program.now table.now }
+    ensures { OnOk result (text.new.items ≡ text.old.items
+        ++ edges_text program.now (edges_of program.now (table_of table.now))) }
+{
+    text.extend_from_slice(b"edges ")?;
+    push_number(text, table.edges.len() as u64)?;
+    text.push(b'\n')?;
+    push_each_edge(text, program, &table.edges)?;
+    Ok(())
+}
+
 // ---- sites
 
 /// The numbers of a list as a set.
@@ -281,12 +333,22 @@ fn named_sites(alloc: Global, program: &Program, named: &[u32]) -> Result<Vec<u3
     Ok(sites)
 }
 
+/// The built-in function that makes the objects of a site, if one does.
+fn builtin_owner(program: &Program, info: &SiteInfo) -> Option<FnId>
+    ensures { result ≡ builtin_owner program.now info.now }
+{
+    match info.owner {
+        Some(owner) if owner.0 >= program.text_functions => Some(owner),
+        _ => None,
+    }
+}
+
 #[tactic(auto, unfolding(crate::specs::Report::info_text))]
 fn push_info(text: &mut Vec<u8>, program: &Program, number: u32) -> Result<(), Memory>
     ensures { OnOk result (text.new.items ≡ text.old.items ++ info_text program.now number) }
 {
     if let Some(info) = program.sites.as_slice().get(number as usize) {
-        push_place(text, info.place)?;
+        push_spot(text, builtin_owner(program, info), info.place)?;
         text.push(b' ')?;
         text.extend_from_slice(class_text(info.class))?;
     }

@@ -1,11 +1,10 @@
 //! Writers of the texts of names, keys, labels and attributes. Each adds to what was written.
 
-ghost use Rattle.std.specs.Prelude.{◌≡◌, ◌≤◌, ◌-◌, ◌++◌, OnOk, decimal};
+ghost use Rattle.std.specs.Prelude.{◌≡◌, ◌∷◌, ◌++◌, OnOk, decimal};
 ghost use Rattle.std.specs.Option.{option_map};
-ghost use lib.Chars.{codes};
 ghost use Rattle.std.specs.List.{list_all};
 ghost use Rattle.ja_prim.specs.Characters.{is_digit};
-ghost use Rattle.ja_report.specs.Texts.{is_name_unit, is_bare, name_text, slot_text, key_text, device_of, device_text, site_text, label_text, register_text, attr_text, attrs_text, numbered_site};
+ghost use Rattle.ja_report.specs.Texts.{is_name_unit, is_bare, name_text, slot_text, key_text, device_of, device_text, site_text, label_text, register_text, later_register_text, attr_text, attrs_text, numbered_site};
 
 use ja_abstract::{AAttrs, Key, May, Slot};
 use ja_base::{Label, Memory, Site};
@@ -133,18 +132,40 @@ pub(crate) fn push_label(text: &mut Vec<u8>, program: &Program, label: Label) ->
     Ok(())
 }
 
-fn push_numbered_register(text: &mut Vec<u8>, register: u32) -> Result<(), Memory>
-    requires { 6 ≤ register }
-    ensures { OnOk result (text.new.items ≡ text.old.items ++ codes "r" ++ decimal (register - 6)) }
+/// A letter and a number.
+fn push_lettered(text: &mut Vec<u8>, letter: u8, number: u32) -> Result<(), Memory>
+    ensures { OnOk result (text.new.items ≡ text.old.items ++ letter ∷ decimal number) }
 {
-    text.push(b'r')?;
-    push_number(text, u64::from(register - 6))?;
+    text.push(letter)?;
+    push_number(text, u64::from(number))?;
     Ok(())
 }
 
+/// A register behind those that each function has: of a parameter, the rest of the arguments, or a
+/// temporary.
+#[tactic(auto, unfolding(crate::specs::Texts::later_register_text))]
+fn push_later_register(text: &mut Vec<u8>, parameters: u32, number: u32) -> Result<(), Memory>
+    ensures { OnOk result (text.new.items ≡ text.old.items
+        ++ later_register_text parameters number) }
+{
+    if number < parameters {
+        return push_lettered(text, b'a', number);
+    }
+    if number == parameters {
+        text.extend_from_slice(b"rest")?;
+        return Ok(());
+    }
+    push_lettered(text, b'r', number - parameters - 1)
+}
+
 #[tactic(auto, unfolding(crate::specs::Texts::register_text))]
-pub(crate) fn push_register(text: &mut Vec<u8>, register: u32) -> Result<(), Memory>
-    ensures { OnOk result (text.new.items ≡ text.old.items ++ register_text register) }
+pub(crate) fn push_register(
+    text: &mut Vec<u8>,
+    parameters: u32,
+    register: u32,
+) -> Result<(), Memory>
+    ensures { OnOk result (text.new.items ≡ text.old.items
+        ++ register_text parameters register) }
 {
     let word: &[u8] = match register {
         0 => b"thrown",
@@ -152,8 +173,7 @@ pub(crate) fn push_register(text: &mut Vec<u8>, register: u32) -> Result<(), Mem
         2 => b"scope",
         3 => b"callee",
         4 => b"count",
-        5 => b"rest",
-        _ => return push_numbered_register(text, register),
+        _ => return push_later_register(text, parameters, register - 5),
     };
     text.extend_from_slice(word)?;
     Ok(())

@@ -1,6 +1,7 @@
 pub mod Applied
 pub mod StepsInProgram
 pub mod TablesInProgram
-pub mod Unfollowed
+pub mod StepEdges
+pub mod Views
 pub mod Rising
 pub mod KeysInProgram

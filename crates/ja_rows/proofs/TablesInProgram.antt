@@ -30,7 +30,7 @@ use Rattle.ja_rows.specs.Calls.{given_back}
 use Rattle.ja_rows.specs.Table.{Table, root, same_context, opening_state, opening_table, StateAt, Effects, joined_state, with_state, with_states, effects, effects_step, effects_fill, effects_back, node_numbers, exit_at, view_at, at_node, entry_state_of, point, visited, Builds, IsBuilt}
 use Rattle.ja_rows.specs.Transfer.{transfer}
 use Rattle.ja_rows.proofs.StepsInProgram.{given_in, back_in}
-use Rattle.ja_rows.proofs.Unfollowed.{with_view_by}
+use Rattle.ja_rows.proofs.Views.{with_view_by}
 
 -- ---- the facts of a node of the program
 

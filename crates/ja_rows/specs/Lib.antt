@@ -2,6 +2,7 @@ pub mod BuiltIns
 pub mod Calls
 pub mod Edges
 pub mod Enumeration
+pub mod Listed
 pub mod Names
 pub mod Objects
 pub mod Operators
@@ -10,5 +11,4 @@ pub mod Properties
 pub mod Scopes
 pub mod Table
 pub mod Transfer
-pub mod Unfollowed
 pub mod Warning

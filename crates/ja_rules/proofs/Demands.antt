@@ -1,26 +1,18 @@
 -- Demands that are joined to the values at entry.
-use Rattle.std.specs.Prelude.{◌≡◌, ◌≢◌, Bool, true, false, if◌then◌else◌, List, [], ◌∷◌, ◌++◌, length, Option, Some, None, IfSome, IsSome, IsTrue, unwrap_or, ◌||◌, ◌&&◌}
-use Rattle.std.specs.Option.{is_some, option_map}
-use Rattle.std.specs.List.{list_all, list_any}
+use Rattle.std.specs.Prelude.{◌≡◌, ◌≢◌, Bool, true, false, if◌then◌else◌, List, [], ◌∷◌, ◌++◌, length, Option, Some, None, IsSome, IsTrue, unwrap_or, ◌||◌, ◌&&◌}
+use Rattle.std.specs.List.{list_any}
 use Rattle.std.proofs.Common.{refl, sym, ◌∙◌, ap, subst, inl, inr, arith}
-use Rattle.std.proofs.lemmas.Bool.{cases_Bool, false≢true, true≢false, and_parts}
+use Rattle.std.proofs.lemmas.Bool.{cases_Bool, true≢false}
 use Rattle.std.proofs.lemmas.List.Folds.{list_any-append}
 use Rattle.ja_base.specs.declared.ids.Label.{Label}
-use Rattle.ja_graph.specs.declared.program.Program.{Program}
 use Rattle.ja_abstract.specs.declared.abstraction.Key.{Key}
-use Rattle.ja_abstract.specs.AbstractState.{same_key, is_key}
+use Rattle.ja_abstract.specs.AbstractState.{same_key}
 use Rattle.ja_abstract.specs.AbstractValue.{AbstractProperty, no_property, same_label}
 use Rattle.ja_abstract.specs.Resolved.{Demands, Entries}
-use Rattle.ja_abstract.proofs.Keys.{same_key-true}
-use Rattle.ja_abstract.proofs.Labels.{same_label-true}
 use Rattle.ja_abstract.proofs.Order.{LeqEntries, LeqOptionProperty, property_same}
-use Rattle.ja_value.specs.declared.property.AProp.{AProp}
-use Rattle.ja_aheap.specs.declared.entries.DemandedEntries.{DemandedEntries}
-use Rattle.ja_aheap.specs.Entries.{entries_of, IsEntryAt}
 use Rattle.ja_aheap.specs.Objects.{is_pair}
 use Rattle.ja_rows.specs.Table.{with_demand}
-use Rattle.ja_rules.specs.code.Entries.{demanded, opened_entries}
-use denote.Ref.{Bor}
+use Rattle.ja_rules.specs.code.Entries.{demanded}
 
 demanded_one : (q : Option AbstractProperty) (b : Bool) → LeqOptionProperty q (with_demand q b)
 demanded_one None true = tt
@@ -102,76 +94,19 @@ pub demanded_none : (e : Entries) (pairs : List (Label × Key)) → length pairs
 demanded_none e [] h = refl
 demanded_none e (x ∷ xs) h = absurd (omega arith)
 
-here_cases : (q : Option AbstractProperty) (x b : Bool) → (x ≡ true → is_some q ≡ true)
-    → (if x || b then Some (unwrap_or q no_property) else q)
-    ≡ (if b then Some (unwrap_or q no_property) else q)
-here_cases q false b h = refl
-here_cases (Some s) true true h = refl
-here_cases (Some s) true false h = refl
-here_cases None true b h = absurd (false≢true (h refl))
-
-demanded_here : (e : Entries) (l : Label) (k : Key) (rest : List (Label × Key))
-    → is_some (e l k) ≡ true → demanded e (demands_of_list ((l, k) ∷ rest))
-    ≡ demanded e (demands_of_list rest)
-demanded_here e l k rest h =
-    λ i m j. here_cases (e m j) (is_pair m j (l, k)) (list_any (is_pair m j) rest)
-    (λ t. let (s, d) = and_parts (same_label l m) (same_key k j) t in
-    subst (λ (a : Label). is_some (e a j) ≡ true) (same_label-true l m s)
-    (subst (λ (b : Key). is_some (e l b) ≡ true) (same_key-true k j d) h)) i
-
--- each pair of a list was demanded before
-pub all_demanded : (e : Entries) (pairs : List (Label × Key))
-    → list_all (λ (p : Label × Key). is_some (e p.0 p.1)) pairs ≡ true
-    → demanded e (demands_of_list pairs) ≡ e
-all_demanded e [] h = refl
-all_demanded e (p ∷ ps) h = let (a, b) = and_parts (is_some (e p.0 p.1)) _ h in
-    demanded_here e p.0 p.1 ps a ∙ all_demanded e ps b
-
--- what is read at a pair tells whether it was demanded
-pub entry_there : (e : DemandedEntries) (l : Label) (k : Key) (r : Option (Bor AProp))
-    → IsEntryAt e l k r → is_some r ≡ is_some (entries_of e l k)
-entry_there e l k None h = sym (ap is_some h)
-entry_there e l k (Some q) h = sym (ap is_some h)
-
--- ---- values at entry that are replaced
-
--- they changed if there are others
-pub replaced_changes : (o : Option DemandedEntries) (e f : DemandedEntries) (b : Bool)
-    → f ≡ unwrap_or o e → b ≡ is_some o → IfSome o (λ x. entries_of x ≢ entries_of e) → b ≡ true
-    → entries_of f ≢ entries_of e
-replaced_changes (Some x) e f b h g apart t = λ same. apart (sym (ap entries_of h) ∙ same)
-replaced_changes None e f b h g apart t = absurd (false≢true (sym g ∙ t))
-
--- .. and stayed if there are none
-pub replaced_stays : (o : Option DemandedEntries) (e f : DemandedEntries) (b : Bool)
-    → f ≡ unwrap_or o e → b ≡ is_some o → b ≡ false → entries_of f ≡ entries_of e
-replaced_stays (Some x) e f b h g t = absurd (true≢false (sym g ∙ t))
-replaced_stays None e f b h g t = ap entries_of h
-
 -- ---- keys that are demanded
 
 some_or : (b : Bool) (o : Option AbstractProperty) → IsSome (with_demand o b) → b ≡ false
     → IsSome o
 some_or b o h f = subst (λ c. IsSome (with_demand o c)) f h
 
--- each key that is demanded then is one of the program, where each that was and each more is
-pub demanded_keys : (p : Program) (e : Entries) (d : Demands)
-    → ((l : Label) (k : Key) → IsSome (e l k) → IsTrue (is_key p k))
-    → ((l : Label) (k : Key) → IsTrue (d l k) → IsTrue (is_key p k)) → (l : Label) (k : Key)
-    → IsSome (demanded e d l k) → IsTrue (is_key p k)
-demanded_keys p e d was now l k h =
+-- what holds of each pair that was demanded and of each more holds of each that is demanded then
+pub demanded_all : (P : Label → Key → Type 0) (e : Entries) (d : Demands)
+    → ((l : Label) (k : Key) → IsSome (e l k) → P l k)
+    → ((l : Label) (k : Key) → IsTrue (d l k) → P l k) → (l : Label) (k : Key)
+    → IsSome (demanded e d l k) → P l k
+demanded_all P e d was now l k h =
     elim (cases_Bool (d l k)) [
       | inl t ↦ now l k t
       | inr f ↦ was l k (some_or (d l k) (e l k) h f)
     ]
-
-some_mapped : (f : AbstractProperty → AbstractProperty) (o : Option AbstractProperty)
-    → IsSome (option_map f o) → IsSome o
-some_mapped f None h = absurd (false≢true h)
-some_mapped f (Some q) h = refl
-
--- Open demands nothing
-pub opened_keys : (p : Program) (e : Entries)
-    → ((l : Label) (k : Key) → IsSome (e l k) → IsTrue (is_key p k)) → (l : Label) (k : Key)
-    → IsSome (opened_entries p e l k) → IsTrue (is_key p k)
-opened_keys p e was l k h = was l k (some_mapped _ (e l k) h)

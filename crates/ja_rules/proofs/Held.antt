@@ -1,33 +1,30 @@
 -- What is held of operations at their numbers.
-use Rattle.std.specs.Prelude.{◌≡◌, ◌⊎◌, ℕ, zero, suc, ◌+◌, Bool, true, false, not, ◌&&◌, ◌||◌, ◌==◌, if◌then◌else◌, List, [], ◌∷◌, Option, Some, None}
+use Rattle.std.specs.Prelude.{◌≡◌, ◌⊎◌, ℕ, zero, suc, ◌+◌, Bool, true, false, not, ◌&&◌, ◌||◌, ◌==◌, if◌then◌else◌, List, [], ◌∷◌, ◌++◌, ◌<◌, length, take, get_or, Option, Some, None}
 use Rattle.std.specs.declared.cmp.Ordering.{Ordering}
 use Rattle.std.specs.declared.cmp.Ordering.TheVariants.{Less, Equal, Greater}
 use Rattle.std.specs.BTreeMap.{BTreeMap, get, Updates}
 use Rattle.std.specs.Cmp.{IsTotalOrder, then_total, on_total}
-use Rattle.std.specs.List.{list_any}
+use Rattle.std.specs.List.{flat_map, list_any, range_with_len}
 use Rattle.std.specs.Ordering.{is_eq, nat_cmp, ordering_then}
-use Rattle.std.proofs.Common.{refl, sym, ◌∙◌, ap, inl, inr, add-one}
+use Rattle.std.proofs.Common.{refl, sym, ◌∙◌, ap, inl, inr, add-one, arith}
 use Rattle.std.proofs.Math.Bool.{or-false, or_assoc}
 use Rattle.std.proofs.lemmas.Cmp.{nat_cmp_total}
+use Rattle.std.proofs.lemmas.List.{append-nil, take_more}
+use Rattle.std.proofs.lemmas.List.Concat.{flat_map-append}
 use Rattle.std.proofs.lemmas.List.Sums.{fold-append}
 use Rattle.std.proofs.lemmas.Map.Lookups.{CmpEqualImpliesEq, exact_unsigned}
 use Rattle.std.proofs.lemmas.Map.Views.{tells_apart}
 use Rattle.std.proofs.lemmas.Option.{same_Some}
 use Rattle.ja_base.specs.declared.ids.FnId.{FnId}
 use Rattle.ja_base.proofs.Options.{none_not_some}
-use Rattle.ja_graph.specs.declared.node.NodeInfo.{NodeInfo}
 use Rattle.ja_graph.specs.declared.program.Program.{Program}
-use Rattle.ja_graph.specs.Program.{node_at}
-use Rattle.ja_machine.specs.Machine.{program_function}
-use Rattle.ja_abstract.specs.AbstractState.{AbstractState}
 use Rattle.ja_rows.specs.declared.table.WarningKind.{WarningKind}
 use Rattle.ja_rows.specs.declared.table.WarningKind.TheVariants.{NotAFunction, NoObject, UnboundName, ScopeRow}
-use Rattle.ja_rows.specs.Table.{Table, root}
 use Rattle.ja_rows.specs.Warning.{Operation, operation_of, builtin_number, kind_number, IsBelow}
 use Rattle.ja_aheap.proofs.MapLemmas.{less_than}
 use Rattle.ja_rules.specs.declared.reached.Reached.{Reached}
-use Rattle.ja_rules.specs.code.Faults.{Spot, spot_of, spot_cmp, is_at, reached_in, reached_at, reached_below, merged, with_reached, held}
-use Rattle.ja_rules.proofs.ReachedLemmas.{reached_is}
+use Rattle.ja_rules.specs.declared.table.ContextTable.{ContextTable}
+use Rattle.ja_rules.specs.code.Faults.{Spot, spot_of, spot_cmp, is_at, reached_at, reached_of_context, merged, with_reached, held}
 
 -- ---- the order of numbers
 
@@ -200,19 +197,45 @@ held_added m n s earlier o now s_is earlier_is now_is updates k =
         ∙ ap (get spot_cmp m) (tells_apart spot_exact s k here)))
     by false apart = refl
 
--- .. and those of a node more
-pub held_next : (p : Program) (t : Table) (k : Spot) (n : ℕ) (i : NodeInfo)
-    (s : Option AbstractState) (before after : Option Reached)
-    → node_at p program_function (record { 0 = n }) ≡ Some i → t.state root n ≡ s
-    → before ≡ held k None (reached_below p t n)
-    → after ≡ held k before (reached_in p (t.entry root) program_function i s)
-    → after ≡ held k None (reached_below p t (n + 1))
-held_next p t k n i s before after info_is state_is before_is after_is =
-    after_is ∙ ap (λ q. held k q (reached_in p (t.entry root) program_function i s)) before_is
-    ∙ ap (held k (held k None (reached_below p t n)))
-    (sym (reached_is p t n i s info_is state_is))
-    ∙ sym (fold-append (with_reached k) None (reached_below p t n) (reached_at p t n))
-    ∙ ap (λ m. held k None (reached_below p t m)) (sym (add-one n))
+range_push : (a n : ℕ) → range_with_len a (suc n) ≡ range_with_len a n ++ (a + n) ∷ []
+range_push a zero = let e : a ≡ a + 0 = omega arith in ap (λ m. m ∷ []) e
+range_push a (suc n) =
+    let e : a + 1 + n ≡ a + suc n = omega arith in
+    ap (λ ms. a ∷ ms) (range_push (a + 1) n ∙ ap (λ m. range_with_len (a + 1) n ++ m ∷ []) e)
+
+range_more : (n : ℕ) → range_with_len 0 (n + 1) ≡ range_with_len 0 n ++ n ∷ []
+range_more n =
+    let e : 0 + n ≡ n = omega arith in
+    ap (range_with_len 0) (add-one n) ∙ range_push 0 n ∙ ap (λ m. range_with_len 0 n ++ m ∷ []) e
+
+-- .. those of a node more
+pub held_next : (p : Program) (c : ContextTable) (k : Spot) (n : ℕ)
+    (first before after : Option Reached) (os : List Reached) → reached_at p c n ≡ os
+    → before ≡ held k first (flat_map (reached_at p c) (range_with_len 0 n))
+    → after ≡ held k before os
+    → after ≡ held k first (flat_map (reached_at p c) (range_with_len 0 (n + 1)))
+held_next p c k n first before after os is before_is after_is =
+    let now : List Reached = flat_map (reached_at p c) (range_with_len 0 n) in
+    after_is ∙ ap (λ q. held k q os) before_is
+    ∙ ap (held k (held k first now)) (sym is ∙ sym (append-nil (reached_at p c n)))
+    ∙ sym (fold-append (with_reached k) first now (flat_map (reached_at p c) (n ∷ [])))
+    ∙ ap (held k first) (sym (flat_map-append (reached_at p c) (range_with_len 0 n) (n ∷ []))
+    ∙ ap (flat_map (reached_at p c)) (sym (range_more n)))
+
+-- .. and those of a context more
+pub held_context : (p : Program) (k : Spot) (cs : List ContextTable) (n : ℕ) (c : ContextTable)
+    (before after : Option Reached) → n < length cs → c ≡ get_or cs n c
+    → before ≡ held k None (flat_map (reached_of_context p) (take n cs))
+    → after ≡ held k before (reached_of_context p c)
+    → after ≡ held k None (flat_map (reached_of_context p) (take (n + 1) cs))
+held_context p k cs n c before after within is before_is after_is =
+    let now : List Reached = flat_map (reached_of_context p) (take n cs) in
+    after_is ∙ ap (λ q. held k q (reached_of_context p c)) before_is
+    ∙ ap (held k (held k None now)) (sym (append-nil (reached_of_context p c)))
+    ∙ sym (fold-append (with_reached k) None now (flat_map (reached_of_context p) (c ∷ [])))
+    ∙ ap (held k None) (sym (flat_map-append (reached_of_context p) (take n cs) (c ∷ []))
+    ∙ ap (flat_map (reached_of_context p)) (ap (λ d. take n cs ++ d ∷ []) is
+    ∙ sym (take_more cs n c within)))
 
 -- whether it may go wrong, and whether anything else may happen
 abbrev has_fault : Option Reached → Bool

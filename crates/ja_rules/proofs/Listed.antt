@@ -1,5 +1,5 @@
 -- The warnings of what is held of a table's operations are those of the table.
-use Rattle.std.specs.Prelude.{◌≡◌, ℕ, suc, Bool, true, false, not, ◌&&◌, ◌||◌, cond, IsTrue, List, [], ◌∷◌, map, filter, length, Some, None, Any, Contains}
+use Rattle.std.specs.Prelude.{◌≡◌, suc, Bool, true, false, not, ◌&&◌, ◌||◌, cond, IsTrue, List, [], ◌∷◌, map, filter, Some, None, Any, Contains}
 use Rattle.std.specs.declared.cmp.Ordering.TheVariants.{Less}
 use Rattle.std.specs.BTreeMap.{BTreeMap, get, is_at as finds, IsOrdered}
 use Rattle.std.specs.Cmp.{eq_by_cmp_equiv}
@@ -12,23 +12,22 @@ use Rattle.std.proofs.lemmas.Bool.{cases_Bool, true≢false, and_parts, and_from
 use Rattle.std.proofs.lemmas.List.Elements.{All-contains_itself, recursion_from_All}
 use Rattle.std.proofs.lemmas.Map.Keys.{sorted_tail}
 use Rattle.std.proofs.lemmas.Map.Views.{btree_map_get_iff}
-use Rattle.std.proofs.lemmas.Option.{same_Some, slice_get_within}
+use Rattle.std.proofs.lemmas.Option.{same_Some}
 use Rattle.ja_base.proofs.Lists.{all_weaker}
 use Rattle.ja_base.proofs.Options.{none_not_some}
 use Rattle.ja_graph.specs.declared.program.Program.{Program}
-use Rattle.ja_graph.specs.Program.{nodes_of}
-use Rattle.ja_machine.specs.Machine.{program_function}
 use Rattle.ja_abstract.specs.Reading.{View}
 use Rattle.ja_abstract.proofs.Lists.{Member}
 use Rattle.ja_rows.specs.declared.table.Warning.{Warning}
 use Rattle.ja_rows.specs.declared.table.WarningKind.{WarningKind}
 use Rattle.ja_rows.specs.Table.{Table}
-use Rattle.ja_rows.specs.Unfollowed.{IsOfRoot}
 use Rattle.ja_rows.specs.Warning.{Test, Operation, operation_of, numbers_of, is_told, IsBelow, AreOrdered, IsReached, IsWarned, AreWarnings}
 use Rattle.ja_rules.specs.declared.reached.Reached.{Reached}
-use Rattle.ja_rules.specs.code.Faults.{Spot, spot_of, spot_cmp, is_at, held, reached_below}
+use Rattle.ja_rules.specs.declared.table.ATable.{ATable}
+use Rattle.ja_rules.specs.Tables.{table_of, Fits}
+use Rattle.ja_rules.specs.code.Faults.{Spot, spot_of, spot_cmp, is_at, held}
 use Rattle.ja_rules.proofs.Held.{spot_exact, spot_total, spot_below, same_operation, at_spot, any_fault, any_more, IsHeld, is_held, held_from_fault}
-use Rattle.ja_rules.proofs.ReachedLemmas.{IsFrom, IsKept, all_from, reached_kept}
+use Rattle.ja_rules.proofs.ReachedLemmas.{IsFrom, IsKept, all_from, all_reached, reached_kept}
 
 -- ---- tests of lists
 
@@ -137,17 +136,16 @@ ordered_listed (e ∷ es) sorted each =
 
 -- ---- what is held is warned
 
-module _ (p : Program) (t : Table) (of : IsOfRoot t) where
-  abbrev count : ℕ
-  count = length (nodes_of p program_function)
+module _ (p : Program) (u : ATable) (fits : Fits p u) where
+  abbrev t : Table
+  t = table_of u
 
   abbrev os : List Reached
-  os = reached_below p t count
+  os = all_reached p u fits
 
   kept : (o : Operation) (test : Test) (w : View) → IsTrue (is_told test.kind)
-      → IsReached p t o test w → IsKept p t count o test w
-  kept = reached_kept p t of count
-      (λ k i is. slice_get_within (nodes_of p program_function) k.0 i is)
+      → IsReached p t o test w → IsKept p u fits o test w
+  kept = reached_kept p u fits
 
   module _ (k : Spot) (q : Reached) (h : IsHeld k os q) where
     -- an operation at the numbers that passes a test, and which is this one
@@ -159,7 +157,7 @@ module _ (p : Program) (t : Table) (of : IsOfRoot t) where
 
     picked : (g : Reached → Bool) → list_any (λ o. is_at k o && g o) os ≡ true → Picked g
     picked g some =
-        let (o, found, from) = pick (λ o. is_at k o && g o) (IsFrom p t) os (all_from p t count)
+        let (o, found, from) = pick (λ o. is_at k o && g o) (IsFrom p t) os (all_from p u fits)
         some in
         let (here, passes) = and_parts (is_at k o) (g o) found in
         record {
@@ -180,7 +178,7 @@ module _ (p : Program) (t : Table) (of : IsOfRoot t) where
         → (s : Test) (v : View) → IsReached p t (operation_of q.warning) s v → s.more v ≡ false
     certain_then told certain s v r =
         let kind_is : s.kind ≡ q.warning.kind = ap (λ (o : Operation). o.kind) r.operation_is in
-        let m : IsKept p t count (operation_of q.warning) s v = kept (operation_of q.warning) s v
+        let m : IsKept p u fits (operation_of q.warning) s v = kept (operation_of q.warning) s v
         (subst (λ (x : WarningKind). IsTrue (is_told x)) (sym kind_is) told) r in
         let here : is_at k m.kept ≡ true =
         ap (λ (o : Operation). is_eq (spot_cmp (spot_of o) k)) m.operation_is ∙ h.at_spot in
@@ -234,7 +232,7 @@ module _ (p : Program) (t : Table) (of : IsOfRoot t) where
   found o test v r told fault =
       let k : Spot = spot_of o in
       let kind_is : test.kind ≡ o.kind = ap (λ (x : Operation). x.kind) r.operation_is in
-      let m : IsKept p t count o test v = kept o test v
+      let m : IsKept p u fits o test v = kept o test v
       (subst (λ (x : WarningKind). IsTrue (is_told x)) (sym kind_is) told) r in
       let here : is_at k m.kept ≡ true =
       ap (λ (x : Operation). is_eq (spot_cmp (spot_of x) k)) m.operation_is

@@ -1,3 +1,4 @@
+pub mod Order
 pub mod Solving
 pub mod Tables
 pub mod Visits

@@ -1,7 +1,10 @@
 -- What clauses of the code cite, and no believed statement.
-pub mod Faults
-pub mod Opened
-pub mod Rounds
 pub mod Entries
-pub mod Own
-pub mod States
+pub mod Exits
+pub mod Faults
+pub mod Filling
+pub mod Growing
+pub mod Opened
+pub mod Places
+pub mod Rounds
+pub mod Stepping

@@ -1,27 +1,25 @@
 ghost use Rattle.std.specs.Prelude.{◌≡◌, ◌<◌, ◌≤◌, IfOk, None, filter, length, map, vec_len};
 ghost use Rattle.std.specs.BTreeMap.{get, values, IsOrdered};
-ghost use Rattle.std.specs.List.{AllByRecursion};
+ghost use Rattle.std.specs.List.{AllByRecursion, flat_map};
 ghost use Rattle.std.specs.Option.{IfSome, option_copied, option_map};
 ghost use Rattle.ja_base.specs.declared.ids.Reg.{Reg};
 ghost use Rattle.ja_graph.specs.Node.{registers_named};
 ghost use Rattle.ja_graph.specs.Program.{nodes_of};
 ghost use Rattle.ja_graph.specs.WellFormed.{IsWellFormed, max_sites};
-ghost use Rattle.ja_machine.specs.Machine.{program_function};
 ghost use Rattle.ja_abstract.specs.Resolved.{Entries};
 ghost use Rattle.ja_rows.specs.Table.{IsClosed};
-ghost use Rattle.ja_rows.specs.Unfollowed.{IsOfRoot};
 ghost use Rattle.ja_rows.specs.Warning as spec;
 ghost use Rattle.ja_rows.specs.Warning.{AreWarnings};
 ghost use Rattle.ja_sound.specs.Sound.{WarnsOfFaults};
 ghost use Rattle.ja_astate.specs.declared.state.AState.{AState};
 ghost use Rattle.ja_astate.specs.State.{state_of};
-ghost use Rattle.ja_rules.specs.Tables.{table_of, Fits};
+ghost use Rattle.ja_rules.specs.Tables.{table_of, Fits, FitsContext};
 ghost use Rattle.ja_rules.specs.code.Faults as code;
-ghost use Rattle.ja_rules.specs.code.Faults.{Spot, held, reached_below, reached_in, spot_cmp, with_reached};
+ghost use Rattle.ja_rules.specs.code.Faults.{Spot, held, reached_in, reached_of_context, spot_cmp, with_reached};
 ghost use Rattle.ja_rules.specs.declared.reached.Reached.{Reached};
 
-use crate::ATable;
 use crate::reached::{Reached, reached_of};
+use crate::{ATable, ContextTable};
 use ja_astate::AState;
 use ja_base::{FnId, Memory, Seq};
 use ja_graph::{NodeInfo, Program};
@@ -121,12 +119,41 @@ fn add_node(
     }
 }
 
-// The nodes of the program's text.
-fn nodes(program: &Program) -> &[NodeInfo]
-    requires { IsWellFormed program.now }
-    ensures { result.now ≡ nodes_of program.now program_function }
+// The nodes of a function.
+fn nodes(program: &Program, function: FnId) -> &[NodeInfo]
+    requires { function.0 < length program.now.functions }
+    ensures { result.now ≡ nodes_of program.now function }
 {
-    program.functions.as_slice()[0].nodes.as_slice()
+    program.functions.as_slice()[function.0 as usize]
+        .nodes
+        .as_slice()
+}
+
+// Adds the operations of the nodes at which a context has a state.
+fn add_context(
+    alloc: Global,
+    program: &Program,
+    own: &ContextTable,
+    found: &mut BTreeMap<Spot, Reached>,
+) -> Result<(), Memory>
+    requires program { IsWellFormed program.now }
+    requires fits { FitsContext program.now own.now }
+    ensures { IfOk result (λ _. (k : Spot) → get spot_cmp found.new k
+        ≡ held k (get spot_cmp found.old k) (reached_of_context program.now own.now)) }
+{
+    let function = own.context.function;
+    let nodes = nodes(program, function);
+    for node in 0..nodes.len() {
+        add_node(
+            alloc,
+            program,
+            function,
+            &nodes[node],
+            &own.nodes[node].state,
+            found,
+        )?;
+    }
+    Ok(())
 }
 
 // The operations that the table reaches, each once.
@@ -138,21 +165,11 @@ fn operations(
     requires program { IsWellFormed program.now }
     requires fits { Fits program.now table.now }
     ensures { IfOk result (λ found. (k : Spot) → get spot_cmp found k
-        ≡ held k None (reached_below program.now (table_of table.now)
-        (length (nodes_of program.now program_function)))) }
+        ≡ held k None (flat_map (reached_of_context program.now) table.now.contexts.items)) }
 {
-    let root = table.root(program);
-    let nodes = nodes(program);
     let mut found = BTreeMap::new(alloc);
-    'nodes: for n in 0..nodes.len() {
-        add_node(
-            alloc,
-            program,
-            FnId(0),
-            &nodes[n],
-            &root.states[n],
-            &mut found,
-        )?;
+    for own in &table.contexts {
+        add_context(alloc, program, own, &mut found)?;
     }
     Ok(found)
 }
@@ -170,13 +187,13 @@ fn warnings_of(alloc: Global, found: &BTreeMap<Spot, Reached>) -> Result<Vec<War
         .collect(alloc)
 }
 
-/// The warnings of a table of the program's own context, by line, column and kind: one for each
-/// operation of a kind that is told at which a state allows it to go wrong. It is certain where no
-/// state there allows anything else. `Memory` comes where memory was refused.
+/// The warnings of a table, those of the text by line, column and kind, and those of the built-in
+/// functions behind them: one for each operation of a kind that is told at which a state of some
+/// context allows it to go wrong. It is certain where no state there allows anything else. `Memory`
+/// comes where memory was refused.
 pub fn warnings(alloc: Global, program: &Program, table: &ATable) -> Result<Seq<Warning>, Memory>
     requires program { IsWellFormed program.now }
     requires fits { Fits program.now table.now }
-    requires root { IsOfRoot (table_of table.now) }
     ensures warnings { IfOk result (AreWarnings program.now (table_of table.now)) }
     ensures faults { IfOk result (λ ws. IsClosed program.now (table_of table.now)
         → WarnsOfFaults program.now ws) }

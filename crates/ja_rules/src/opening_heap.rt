@@ -108,7 +108,7 @@ fn opening_object(program: &Program, site: Site) -> Option<&ObjectSpec>
 /// What the objects of a label have at a key when a run begins: nothing, where the opening heap has
 /// no such object.
 pub fn opened(alloc: Global, program: &Program, label: Label, key: Key) -> Result<AProp, Memory>
-    requires program { IsWellFormed program.now }
+    requires program { ∥ IsWellFormed program.now ∥₁ }
     requires key { IsTrue (is_key program.now key) }
     ensures { IfOk result (λ q. property_of q ≡ opened program.now label key) }
 {

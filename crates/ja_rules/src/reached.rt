@@ -1,4 +1,4 @@
-ghost use Rattle.std.specs.Prelude.{◌≡◌, ◌<◌, ◌≤◌, IfOk, [], ◌∷◌, not, length, is_some, vec_len};
+ghost use Rattle.std.specs.Prelude.{◌≡◌, ◌<◌, ◌≤◌, IfOk, [], ◌∷◌, length, is_some, vec_len};
 ghost use Rattle.std.specs.List.{AllByRecursion, list_any};
 ghost use Rattle.std.specs.Option.{option_to_list};
 ghost use Rattle.ja_base.specs.declared.ids.Reg.{Reg};
@@ -7,12 +7,14 @@ ghost use Rattle.ja_graph.specs.WellFormed.{max_sites};
 ghost use Rattle.ja_abstract.specs.Reading.{View};
 ghost use Rattle.ja_abstract.specs.Resolved.{Entries};
 ghost use Rattle.ja_rows.specs.Warning.{Test, builtin_of, no_function, no_object, unbound};
-ghost use Rattle.ja_rules.specs.code.Faults.{entry_by, reached_by, tested, view_of, Says};
+ghost use Rattle.ja_transfer.specs.code.Callees.{entry_by};
+ghost use Rattle.ja_rules.specs.code.Faults.{reached_by, tested, view_of, Says};
 
 use ja_astate::AState;
 use ja_base::{FnId, Label, Memory, Reg};
 use ja_graph::{Node, NodeInfo, Program};
 use ja_rows::{Warning, WarningKind};
+use ja_transfer::{Entry, entry_at, some_without};
 use std::alloc::Global;
 
 /// An operation that a table reaches, and whether a state there allows it to go wrong. It is
@@ -28,35 +30,6 @@ pub(crate) struct Reached {
 struct Allowed {
     fault: bool,
     more: bool,
-}
-
-// How objects run a function.
-#[derive(Clone, Copy)]
-enum Entry {
-    Call,
-    Construct,
-}
-
-// The function that the objects of a label run.
-fn entry_at(program: &Program, entry: Entry, label: Label) -> Option<FnId>
-    ensures { result ≡ entry_by entry program.now label }
-{
-    match program.sites.as_slice().get(label.site.0 as usize) {
-        Some(site) => match entry {
-            Entry::Call => site.calls,
-            Entry::Construct => site.constructs,
-        },
-        None => None,
-    }
-}
-
-// Whether the objects of one of some labels run no function.
-fn some_without(program: &Program, entry: Entry, labels: &[Label]) -> bool
-    ensures { result ≡ list_any (λ l. not (is_some (entry_by entry program.now l))) labels.now }
-{
-    labels
-        .iter()
-        .any(|label| entry_at(program, entry, *label).is_none())
 }
 
 // Whether the objects of one of some labels run a function.

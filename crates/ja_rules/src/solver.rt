@@ -1,20 +1,18 @@
-ghost use Rattle.std.specs.Prelude.{◌≡◌, ◌≤◌, ◌+◌, ◌==◌, ◌||◌, true, false, length, IfOk, IfErr, OnOk, vec_len};
-ghost use Rattle.ja_graph.specs.Kinds.{AreBuilt};
+ghost use Rattle.std.specs.Prelude.{◌≡◌, ◌≤◌, ◌+◌, true, false, length, IfOk, IfErr, OnOk, vec_len};
 ghost use Rattle.ja_graph.specs.WellFormed.{IsWellFormed};
 ghost use Rattle.ja_rows.specs.Table.{IsBuilt, IsClosed, IsItem, visited};
-ghost use Rattle.ja_rows.specs.Unfollowed.{IsOfRoot};
+ghost use Rattle.ja_rows.specs.declared.table.Item.{Item};
+ghost use Rattle.ja_rows.specs.declared.table.Item.TheVariants as item;
 ghost use Rattle.ja_sound.specs.Sound.{CoversRuns};
-ghost use Rattle.ja_keys.specs.Keys.{IsKeysOf};
 ghost use Rattle.ja_rules.specs.Tables.{table_of, Fits};
 ghost use Rattle.ja_rules.specs.Solving.{Explains};
-ghost use Rattle.ja_rules.specs.code.Rounds.{AreSettled, GoesOn, HasBuilt, IsSettled, IsStopped, step_at};
+ghost use Rattle.ja_rules.specs.code.Growing.{HasSameEdges, HasSameKeys};
+ghost use Rattle.ja_rules.specs.code.Rounds.{AreFilled, AreGivenBack, AreSettled, AreStepped, AreSteppedAt, GoesOn, HasBuilt, IsSettled, IsUnchanged};
 ghost use Rattle.ja_rules.specs.declared.solver.SolveFault.TheVariants as fault;
 
-use crate::table::own_context;
-use crate::visits::node_info;
-use crate::{ATable, Visited, opening, visit};
-use ja_base::{Memory, NodeId, Seq};
-use ja_graph::{NodeInfo, Program};
+use crate::{ATable, opening, visit};
+use ja_base::{Context, Memory, NodeId, Seq};
+use ja_graph::Program;
 use ja_keys::ProgramKeys;
 use ja_rows::Item;
 use ja_sound::closed_covers;
@@ -30,14 +28,11 @@ pub struct Solved {
     pub visits: Seq<Item>,
 }
 
-/// Why there is no table: the budget is spent, after these visits; after these visits the step of a
-/// node gives a call edge, and calls aren't followed yet; or memory was refused.
+/// Why there is no table: the budget is spent, after these visits; or memory was refused.
 #[derive(Drop, Error)]
 pub enum SolveFault {
     #[error("the budget is spent after {} visits", .visits.len())]
     Spent { visits: Seq<Item> },
-    #[error("a call is met after {} visits", .visits.len())]
-    Unfollowed { visits: Seq<Item>, step: Item },
     #[error("memory was refused")]
     Memory,
 }
@@ -46,9 +41,6 @@ impl Debug for SolveFault {
     fn fmt<W: fmt::Write>(&self, f: &mut Formatter<W>) -> fmt::Result {
         match self {
             SolveFault::Spent { visits } => write!(f, "Spent after {} visits", visits.len()),
-            SolveFault::Unfollowed { visits, .. } => {
-                write!(f, "Unfollowed after {} visits", visits.len())
-            }
             SolveFault::Memory => f.write_str("Memory"),
         }
     }
@@ -70,156 +62,230 @@ impl<T: Drop> From<AllocFailed<T>> for SolveFault {
     }
 }
 
-// The table so far, the visits that built it, and whether the last one demands more values at entry.
+// What the solver works on: a program with its keys, so many visits, the table so far, and the
+// visits that built it.
 #[derive(Drop)]
-struct Work {
+struct Work<'a> {
+    alloc: Global,
+    program: &'a Program,
+    keys: &'a ProgramKeys,
+    budget: u128,
     table: ATable,
     visits: Vec<Item>,
-    demands: bool,
 }
 
-// The step of a node in the program's own context.
-fn step_of(node: NodeId) -> Item
-    ensures { result ≡ step_at node.0 }
-{
-    Item::Step {
-        context: own_context(),
-        node,
-    }
-}
-
-// Whether a step of a node may go to the node itself.
-fn leads_to_itself(info: &NodeInfo, node: NodeId) -> bool
-    ensures { result ≡ ((info.now.next.0 == node.0)
-        || ((info.now.other.0 == node.0) || (info.now.handler.0 == node.0))) }
-{
-    info.next == node || info.other == node || info.handler == node
-}
-
-impl Work {
-    // Why there is no table, where an item's visit would change this one, or gives a call edge.
-    fn stopped(&mut self, alloc: Global, budget: u128, item: Option<Item>) -> SolveFault
-        ensures { IsStopped self.old.visits.items budget item result }
+impl Work<'_> {
+    // Why there is no table, where an item's visit would change this one.
+    fn spent(&mut self) -> SolveFault
+        ensures { result ≡ fault.Spent self.old.visits.items }
     {
-        let visits = Seq::from_vec(mem::replace(&mut self.visits, Vec::new(alloc)));
-        match item {
-            Some(step) if (visits.len() as u128) < budget => {
-                SolveFault::Unfollowed { visits, step }
-            }
-            _ => SolveFault::Spent { visits },
+        let visits = mem::replace(&mut self.visits, Vec::new(self.alloc));
+        SolveFault::Spent {
+            visits: Seq::from_vec(visits),
         }
     }
 
     // Visits an item, keeps the visit if the table changed, and tells whether it did.
-    fn take_turn(
-        &mut self,
-        alloc: Global,
-        program: &Program,
-        keys: &ProgramKeys,
-        budget: u128,
-        item: Item,
-    ) -> Result<bool, SolveFault>
-        requires program { IsWellFormed program.now }
-        requires keys { IsKeysOf program.now keys.now }
-        requires forms { AreBuilt program.now }
-        requires built { HasBuilt program.now budget self.old }
-        requires item { IsItem program.now (table_of self.old.table) item }
-        ensures built { OnOk result (HasBuilt program.now budget self.new) }
-        ensures visited { OnOk result (visited program.now (table_of self.old.table) item
+    fn take_turn(&mut self, item: Item) -> Result<bool, SolveFault>
+        requires built { HasBuilt self.old }
+        requires item { IsItem self.old.program.now (table_of self.old.table) item }
+        ensures built { OnOk result (HasBuilt self.new) }
+        ensures visited { OnOk result (visited self.old.program.now (table_of self.old.table) item
             ≡ table_of self.new.table) }
         ensures goes_on { OnOk result (GoesOn self.old self.new) }
         ensures kept { IfOk result (λ k. k ≡ true
             → vec_len self.new.visits ≡ vec_len self.old.visits + 1) }
-        ensures same { IfOk result (λ k. k ≡ false
-            → table_of self.new.table ≡ table_of self.old.table) }
-        ensures fault { IfErr result (Explains program.now budget) }
+        ensures same { IfOk result (λ k. k ≡ false → IsUnchanged self.old self.new) }
+        ensures edges { OnOk result (HasSameEdges item self.old.table self.new.table) }
+        ensures fault { IfErr result (Explains self.old.program.now self.old.budget) }
     {
-        match visit(alloc, program, keys, &mut self.table, item)? {
-            Visited::Same => Ok(false),
-            Visited::Changed { demands } => {
-                if self.visits.len() as u128 >= budget {
-                    return Err(self.stopped(alloc, budget, None));
-                }
-                self.visits.push(item)?;
-                self.demands = demands;
-                Ok(true)
-            }
-            Visited::Calls => Err(self.stopped(alloc, budget, Some(item))),
+        let changed = visit(self.alloc, self.program, self.keys, &mut self.table, item)?;
+        if !changed {
+            return Ok(false);
         }
+        if self.visits.len() as u128 >= self.budget {
+            return Err(self.spent());
+        }
+        self.visits.push(item)?;
+        Ok(true)
     }
 
-    // Takes the steps of a node until a further one would change nothing: after a step that demands
-    // more of the entry, those values are filled, so that the node's next step finds them, and where
-    // the node leads to itself its state may have changed.
-    fn settle(
-        &mut self,
-        alloc: Global,
-        program: &Program,
-        keys: &ProgramKeys,
-        budget: u128,
-        node: NodeId,
-    ) -> Result<(), SolveFault>
-        requires program { IsWellFormed program.now }
-        requires keys { IsKeysOf program.now keys.now }
-        requires forms { AreBuilt program.now }
-        requires built { HasBuilt program.now budget self.old }
-        requires item { IsItem program.now (table_of self.old.table) (step_at node.0) }
-        ensures built { OnOk result (HasBuilt program.now budget self.new) }
+    // Visits Open, if it is due.
+    fn open_if_due(&mut self) -> Result<(), SolveFault>
+        requires built { HasBuilt self.old }
+        ensures built { OnOk result (HasBuilt self.new) }
         ensures goes_on { OnOk result (GoesOn self.old self.new) }
-        ensures settled { OnOk result (vec_len self.new.visits ≡ vec_len self.old.visits
-            → IsSettled program.now (table_of self.new.table) (step_at node.0)) }
-        ensures fault { IfErr result (Explains program.now budget) }
+        ensures kept { OnOk result (HasSameKeys self.old.table self.new.table) }
+        ensures items { OnOk result ((i : Item)
+            → IsItem self.old.program.now (table_of self.old.table) i
+            → IsItem self.old.program.now (table_of self.new.table) i) }
+        ensures fault { IfErr result (Explains self.old.program.now self.old.budget) }
     {
-        let step = step_of(node);
-        let is_loop = leads_to_itself(node_info(program, node), node);
-        'steps: while self.take_turn(alloc, program, keys, budget, step)? {
-            if self.demands {
-                self.take_turn(alloc, program, keys, budget, Item::Open)?;
-            } else if !is_loop {
-                break;
-            }
+        if self.table.is_open_due() {
+            self.take_turn(Item::Open)?;
         }
         Ok(())
     }
 
-    // Settles each node that has a state, in order.
-    fn round(
-        &mut self,
-        alloc: Global,
-        program: &Program,
-        keys: &ProgramKeys,
-        budget: u128,
-    ) -> Result<(), SolveFault>
-        requires program { IsWellFormed program.now }
-        requires keys { IsKeysOf program.now keys.now }
-        requires forms { AreBuilt program.now }
-        requires built { HasBuilt program.now budget self.old }
-        ensures built { OnOk result (HasBuilt program.now budget self.new) }
+    // Visits an item until what it reads stays as it is, and Open behind each of these visits. An
+    // item that isn't due is visited where each is.
+    fn settle(&mut self, item: Item, each: bool) -> Result<(), SolveFault>
+        requires built { HasBuilt self.old }
+        requires item { IsItem self.old.program.now (table_of self.old.table) item }
+        ensures built { OnOk result (HasBuilt self.new) }
         ensures goes_on { OnOk result (GoesOn self.old self.new) }
-        ensures settled { OnOk result (vec_len self.new.visits ≡ vec_len self.old.visits
-            → AreSettled program.now (table_of self.new.table)) }
-        ensures fault { IfErr result (Explains program.now budget) }
+        ensures settled { OnOk result (each ≡ true → IsUnchanged self.old self.new
+            → IsSettled self.new.program.now (table_of self.new.table) item) }
+        ensures edges { OnOk result (HasSameEdges item self.old.table self.new.table) }
+        ensures fault { IfErr result (Explains self.old.program.now self.old.budget) }
     {
-        self.take_turn(alloc, program, keys, budget, Item::Open)?;
-        let nodes = self.table.root(program).states.len();
+        let mut is_next = each || self.table.is_due(item);
+        'turns: while is_next {
+            let changed = self.take_turn(item)?;
+            if !changed {
+                return Ok(());
+            }
+            self.open_if_due()?;
+            is_next = self.table.is_due(item);
+        }
+        Ok(())
+    }
+
+    // Settles a node of a context, if it has a state.
+    fn settle_step(&mut self, context: Context, node: NodeId, each: bool) -> Result<(), SolveFault>
+        requires built { HasBuilt self.old }
+        ensures built { OnOk result (HasBuilt self.new) }
+        ensures goes_on { OnOk result (GoesOn self.old self.new) }
+        ensures settled { OnOk result (each ≡ true → IsUnchanged self.old self.new
+            → IsItem self.new.program.now (table_of self.new.table) (item.Step context node)
+            → IsSettled self.new.program.now (table_of self.new.table)
+            (item.Step context node)) }
+        ensures fault { IfErr result (Explains self.old.program.now self.old.budget) }
+    {
+        let Some(own) = self.table.at(context) else {
+            return Ok(());
+        };
+        let is_item = own.state(node).is_some();
+        let is_next = is_item && (each || own.is_step_due(node));
+        if is_next {
+            self.settle(Item::Step { context, node }, each)?;
+        }
+        Ok(())
+    }
+
+    // Settles the nodes of a context that have a state, in order.
+    fn settle_context(&mut self, context: Context, each: bool) -> Result<(), SolveFault>
+        requires built { HasBuilt self.old }
+        ensures built { OnOk result (HasBuilt self.new) }
+        ensures goes_on { OnOk result (GoesOn self.old self.new) }
+        ensures settled { OnOk result (each ≡ true → IsUnchanged self.old self.new
+            → AreSteppedAt self.new.program.now (table_of self.new.table) context) }
+        ensures fault { IfErr result (Explains self.old.program.now self.old.budget) }
+    {
+        let nodes = match self.table.at(context) {
+            Some(own) => own.nodes.len(),
+            None => 0,
+        };
         for node in 0..nodes {
-            if self.table.root(program).states[node].is_some() {
-                self.settle(alloc, program, keys, budget, NodeId(node as u32))?;
-            }
+            self.settle_step(context, NodeId(node as u32), each)?;
         }
         Ok(())
+    }
+
+    // Settles the nodes of each context, those of contexts that are reached meanwhile too where
+    // these come behind.
+    fn settle_steps(&mut self, each: bool) -> Result<(), SolveFault>
+        requires built { HasBuilt self.old }
+        ensures built { OnOk result (HasBuilt self.new) }
+        ensures goes_on { OnOk result (GoesOn self.old self.new) }
+        ensures settled { OnOk result (each ≡ true → IsUnchanged self.old self.new
+            → AreStepped self.new.program.now (table_of self.new.table)) }
+        ensures fault { IfErr result (Explains self.old.program.now self.old.budget) }
+    {
+        let mut place = 0;
+        'contexts: while place < self.table.contexts.len() {
+            let context = self.table.contexts[place].context;
+            self.settle_context(context, each)?;
+            place = self.table.contexts_up_to(context);
+        }
+        Ok(())
+    }
+
+    // Settles the fill of each edge.
+    fn settle_fills(&mut self, each: bool) -> Result<(), SolveFault>
+        requires built { HasBuilt self.old }
+        ensures built { OnOk result (HasBuilt self.new) }
+        ensures goes_on { OnOk result (GoesOn self.old self.new) }
+        ensures settled { OnOk result (each ≡ true → IsUnchanged self.old self.new
+            → AreFilled self.new.program.now (table_of self.new.table)) }
+        ensures fault { IfErr result (Explains self.old.program.now self.old.budget) }
+    {
+        for place in 0..self.table.edges.len() {
+            let edge = self.table.edges[place].edge;
+            self.settle(Item::Fill(edge), each)?;
+        }
+        Ok(())
+    }
+
+    // Settles the back of each edge.
+    fn settle_backs(&mut self, each: bool) -> Result<(), SolveFault>
+        requires built { HasBuilt self.old }
+        ensures built { OnOk result (HasBuilt self.new) }
+        ensures goes_on { OnOk result (GoesOn self.old self.new) }
+        ensures settled { OnOk result (each ≡ true → IsUnchanged self.old self.new
+            → AreGivenBack self.new.program.now (table_of self.new.table)) }
+        ensures fault { IfErr result (Explains self.old.program.now self.old.budget) }
+    {
+        for place in 0..self.table.edges.len() {
+            let edge = self.table.edges[place].edge;
+            self.settle(Item::Back(edge), each)?;
+        }
+        Ok(())
+    }
+
+    // Settles the items that are due, or each: Open, the steps, the fills and the backs.
+    fn round(&mut self, each: bool) -> Result<(), SolveFault>
+        requires built { HasBuilt self.old }
+        ensures built { OnOk result (HasBuilt self.new) }
+        ensures goes_on { OnOk result (GoesOn self.old self.new) }
+        ensures settled { OnOk result (each ≡ true → IsUnchanged self.old self.new
+            → AreSettled self.new.program.now (table_of self.new.table)) }
+        ensures fault { IfErr result (Explains self.old.program.now self.old.budget) }
+    {
+        self.settle(Item::Open, each)?;
+        self.settle_steps(each)?;
+        self.settle_fills(each)?;
+        self.settle_backs(each)
+    }
+
+    // Goes round by the items that are due until none changes the table, and then by each.
+    fn rounds(&mut self) -> Result<(), SolveFault>
+        requires built { HasBuilt self.old }
+        ensures built { OnOk result (HasBuilt self.new) }
+        ensures goes_on { OnOk result (GoesOn self.old self.new) }
+        ensures settled { OnOk result
+            (AreSettled self.new.program.now (table_of self.new.table)) }
+        ensures fault { IfErr result (Explains self.old.program.now self.old.budget) }
+    {
+        let mut each = false;
+        'rounds: loop {
+            let before = self.visits.len();
+            self.round(each)?;
+            let is_same = self.visits.len() == before;
+            if each && is_same {
+                return Ok(());
+            }
+            each = is_same;
+        }
     }
 }
 
 /// Visits the items of the table as it stands, in rounds, until no visit changes it. Keeps the
 /// visits that did. `Spent` comes where there are as many as the budget allows and one more would
-/// change the table, `Unfollowed` where a step gives a call edge before that, `Memory` where memory
-/// was refused.
+/// change the table, `Memory` where memory was refused.
 pub fn solve(alloc: Global, program: &Program, budget: u128) -> Result<Solved, SolveFault>
     requires program { IsWellFormed program.now }
-    requires built { AreBuilt program.now }
     ensures fits { IfOk result (λ s. Fits program.now s.table) }
-    ensures root { IfOk result (λ s. IsOfRoot (table_of s.table)) }
     ensures built { IfOk result (λ s. IsBuilt program.now s.visits (table_of s.table)) }
     ensures closed { IfOk result (λ s. IsClosed program.now (table_of s.table)) }
     ensures few { IfOk result (λ s. length s.visits ≤ budget) }
@@ -228,22 +294,22 @@ pub fn solve(alloc: Global, program: &Program, budget: u128) -> Result<Solved, S
 {
     let keys = ProgramKeys::new(alloc, program)?;
     let mut work = Work {
+        alloc,
+        program,
+        keys: &keys,
+        budget,
         table: opening(alloc, program)?,
         visits: Vec::new(alloc),
-        demands: false,
     };
-    'rounds: loop {
-        let before = work.visits.len();
-        work.round(alloc, program, &keys, budget)?;
-        if work.visits.len() == before {
-            break;
-        }
-    }
+    work.rounds()?;
     closed_covers();
     let Work {
+        alloc: _,
+        program: _,
+        keys: _,
+        budget: _,
         table,
         visits,
-        demands: _,
     } = work;
     Ok(Solved {
         table,

@@ -1,108 +1,111 @@
-ghost use Rattle.std.specs.Prelude.{◌≡◌, ◌≢◌, if◌then◌else◌, IfOk, IsSome, OnErr, Some, slice_get};
-ghost use Rattle.ja_graph.specs.Kinds.{AreBuilt};
+ghost use Rattle.std.specs.Prelude.{◌≡◌, ◌≢◌, IfOk, IsSome, IsTrue, OnOk, Some, false, fold, slice_get, true};
+ghost use Rattle.std.specs.List.{AllByRecursion};
 ghost use Rattle.ja_graph.specs.Program.{node_at};
 ghost use Rattle.ja_graph.specs.WellFormed.{IsWellFormed};
-ghost use Rattle.ja_machine.specs.Machine.{program_function};
 ghost use Rattle.ja_rows.specs.declared.table.Item.TheVariants as items;
-ghost use Rattle.ja_rows.specs.Table.{IsItem, root, visited};
-ghost use Rattle.ja_rows.specs.Unfollowed.{IsOfRoot, gives_edge};
+ghost use Rattle.ja_rows.specs.Table.{IsItem};
 ghost use Rattle.ja_keys.specs.Keys.{IsKeysOf};
-ghost use Rattle.ja_rules.specs.declared.visits.Visited.TheVariants as comes;
-ghost use Rattle.ja_rules.specs.Tables.{table_of, states_in, Fits, FitsContext};
+ghost use Rattle.ja_look.specs.Looks.{view_of};
+ghost use Rattle.ja_flow.specs.Flow.{AreGivenMore, IsCaller};
+ghost use Rattle.ja_flow.specs.code.Calling.{IsCalling};
+ghost use Rattle.ja_rules.specs.Tables.{kept_state, table_of, Fits, FitsContext};
 ghost use Rattle.ja_rules.specs.Visits.{IsVisited};
-ghost use Rattle.ja_rules.specs.code.Own.{own_of};
+ghost use Rattle.ja_rules.specs.code.Exits.{given_at, has_left, is_left, AreAllGiven, IsGivenBack};
+ghost use Rattle.ja_rules.specs.code.Filling.{IsFilled};
+ghost use Rattle.ja_rules.specs.code.Growing.{HasSameEdges, HasSameKeys};
+ghost use Rattle.ja_rules.specs.code.Stepping.{with_entered, AreEntered, FitsEntered, IsCallerOf, IsStep};
 
-use crate::entries::{open_entries, replace_entries, with_demanded};
-use crate::states::join_all;
-use crate::{ATable, ContextTable};
+use crate::entries::OpeningHeap;
+use crate::joins::is_exit;
+use crate::table::{ATable, ContextTable, node_info, own_context};
+use ja_aheap::DemandList;
 use ja_astate::AState;
-use ja_base::{Memory, NodeId};
+use ja_base::{Context, Memory, NodeId};
+use ja_flow::{Caller, Calling, Entered, Filled, calling_of, enter, fill, give_back, values_for};
 use ja_graph::{NodeInfo, Program};
 use ja_keys::ProgramKeys;
+use ja_look::Reader;
 use ja_nodes::transfer;
-use ja_rows::Item;
+use ja_rows::{Edge, Item};
+use ja_transfer::{Outcome, States};
 use std::alloc::Global;
 
-/// What a visit comes to: the table is as it was; or it changed, and more values at entry may be
-/// demanded or none; or a call is met, which isn't followed yet, and the table is as it was.
-#[derive(Clone, Copy, Debug, PartialEq, Eq)]
-pub enum Visited {
-    Same,
-    Changed { demands: bool },
-    Calls,
-}
-
-// What a visit comes to that meets no call.
-fn told(changed: bool, demands: bool) -> Visited
-    ensures { result ≡ (if changed then comes.Changed demands else comes.Same) }
-{
-    if changed {
-        Visited::Changed { demands }
-    } else {
-        Visited::Same
-    }
-}
-
-// A node of the program's text.
-pub(crate) fn node_info(program: &Program, node: NodeId) -> &NodeInfo
-    requires program { IsWellFormed program.now }
-    requires node { IsSome (node_at program.now program_function node) }
-    ensures { node_at program.now program_function node ≡ Some result.now }
-{
-    &program.functions.as_slice()[0].nodes.as_slice()[node.0 as usize]
-}
-
-// The state at a node that has one.
-fn state_at(states: &[Option<AState>], node: NodeId) -> &AState
-    requires { IsSome (states_in states.now node.0) }
-    ensures { slice_get states.now node.0 ≡ Some (Some result.now) }
-{
-    match &states[node.0 as usize] {
-        Some(state) => state,
-        None => unreachable!(),
-    }
-}
+// ---- Open
 
 // Joins the contents of the opening heap into the values at entry of the program's own context.
-// After `Memory` the context is as it was.
-fn visit_open(alloc: Global, program: &Program, own: &mut ContextTable) -> Result<Visited, Memory>
+fn visit_open(alloc: Global, program: &Program, table: &mut ATable) -> Result<bool, Memory>
     requires program { IsWellFormed program.now }
-    requires fits { FitsContext program.now own.old }
-    ensures fits { FitsContext program.now own.new }
-    ensures context { own.new.context ≡ own.old.context }
-    ensures visited { IfOk result (IsVisited program.now items.Open (own_of own.old)
-        (own_of own.new)) }
-    ensures kept { OnErr result (own_of own.new ≡ own_of own.old) }
+    requires fits { Fits program.now table.old }
+    ensures visited { IfOk result (IsVisited program.now items.Open (table_of table.old)
+        (table_of table.new)) }
+    ensures kept { HasSameKeys table.old table.new }
+    ensures fits { OnOk result (Fits program.now table.new) }
 {
-    let changed = open_entries(alloc, program, &mut own.entries)?;
-    Ok(told(changed, false))
+    let sites = program.sites.len() as u32;
+    let names = program.names.len() as u32;
+    let heap = OpeningHeap { alloc, program };
+    let own = &table.contexts[0];
+    let pairs = own.entries.pairs(alloc, sites, names)?;
+    let values = values_for(alloc, &heap, &own.entries, &pairs)?;
+    table.set_values(alloc, own_context(), values)
 }
 
-// Takes the step of a node that has a state in the program's own context. After `Memory` the
-// context is as it was.
-fn visit_step(
+// ---- Step
+
+// A function that is entered along an edge.
+#[derive(Drop)]
+struct Entry {
+    edge: Edge,
+    entered: Entered,
+}
+
+// The entries along the edges from a node.
+fn entries_along(reader: &Reader<'_>, info: &NodeInfo, edges: &[Edge]) -> Result<Vec<Entry>, Memory>
+    requires { AllByRecursion (IsCallerOf reader.now info.now) edges.now }
+    ensures { IfOk result (λ v. AreEntered reader.now.program.now (view_of reader.now) info.now
+        edges.now v.items) }
+{
+    let mut entries = Vec::new(reader.alloc);
+    for edge in edges {
+        let caller = Caller {
+            reader: *reader,
+            info,
+            edge: *edge,
+        };
+        let entered = enter(&caller)?;
+        entries.push(Entry {
+            edge: *edge,
+            entered,
+        })?;
+    }
+    Ok(entries)
+}
+
+// What the step of a node gives, and the entries along its edges.
+#[derive(Drop)]
+struct Step {
+    outcome: Outcome,
+    entries: Vec<Entry>,
+}
+
+// The step of a node of a context, from its state.
+fn step_of(
     alloc: Global,
     program: &Program,
     keys: &ProgramKeys,
-    own: &mut ContextTable,
+    own: &ContextTable,
     node: NodeId,
-) -> Result<Visited, Memory>
+    state: &AState,
+) -> Result<Step, Memory>
     requires program { IsWellFormed program.now }
     requires keys { IsKeysOf program.now keys.now }
-    requires built { AreBuilt program.now }
-    requires fits { FitsContext program.now own.old }
-    requires context { own.old.context ≡ root }
-    requires node { IsSome (node_at program.now program_function node) }
-    requires state { IsSome (states_in own.old.states.items node.0) }
-    ensures fits { FitsContext program.now own.new }
-    ensures context { own.new.context ≡ own.old.context }
-    ensures visited { IfOk result (IsVisited program.now (items.Step root node) (own_of own.old)
-        (own_of own.new)) }
-    ensures kept { OnErr result (own_of own.new ≡ own_of own.old) }
+    requires fits { FitsContext program.now own.now }
+    requires node { IsSome (node_at program.now own.now.context.function node) }
+    requires state { kept_state own.now.nodes.items node.0 ≡ Some state.now }
+    ensures { IfOk result (IsStep program.now own.now node) }
 {
-    let info = node_info(program, node);
-    let state = state_at(&own.states, node);
-    let out = transfer(
+    let info = node_info(program, own.context.function, node);
+    let outcome = transfer(
         alloc,
         program,
         keys,
@@ -112,42 +115,328 @@ fn visit_step(
         state,
         &own.entries,
     )?;
-    if !out.edges.is_empty() {
-        return Ok(Visited::Calls);
-    }
-    let entries = with_demanded(alloc, &own.entries, out.demands)?;
-    let joined = join_all(alloc, &mut own.states, out.states.list)?;
-    let demanded = replace_entries(&mut own.entries, entries);
-    Ok(told(demanded | joined, demanded))
+    let reader = Reader::new(alloc, program, keys, state, &own.entries);
+    let entries = entries_along(&reader, info, &outcome.edges)?;
+    Ok(Step { outcome, entries })
 }
 
-/// Joins in what an item of the table gives, unless that is a call edge. After `Memory` the table
-/// is as it was.
+// Joins in what an edge gives: its callee, with the state that enters it, what that demands of the
+// caller, and the edge.
+fn take_entry(
+    alloc: Global,
+    program: &Program,
+    table: &mut ATable,
+    entry: Entry,
+) -> Result<bool, Memory>
+    requires program { IsWellFormed program.now }
+    requires fits { Fits program.now table.old }
+    requires entry { FitsEntered program.now (table_of table.old) entry }
+    ensures taken { IfOk result (λ _. table_of table.new
+        ≡ with_entered (table_of table.old) entry) }
+    ensures changed { IfOk result (λ c. c ≡ true → table_of table.new ≢ table_of table.old) }
+    ensures same { IfOk result (λ c. c ≡ false → table_of table.new ≡ table_of table.old) }
+    ensures fits { OnOk result (Fits program.now table.new) }
+{
+    let Entry { edge, entered } = entry;
+    let Entered { state, demands } = entered;
+    let is_reached = table.add_context(alloc, program, edge.callee)?;
+    let is_joined = table.join_state(alloc, program, edge.callee, NodeId(0), state)?;
+    let is_demanded = table.demand(alloc, edge.caller, demands)?;
+    let is_called = table.add_edge(program, edge)?;
+    Ok(is_reached | is_joined | is_demanded | is_called)
+}
+
+// Joins in what each of some edges gives.
+fn take_entries(
+    alloc: Global,
+    program: &Program,
+    table: &mut ATable,
+    entries: Vec<Entry>,
+) -> Result<bool, Memory>
+    requires program { IsWellFormed program.now }
+    requires fits { Fits program.now table.old }
+    requires entries { AllByRecursion (FitsEntered program.now (table_of table.old)) entries.items }
+    ensures taken { IfOk result (λ _. table_of table.new
+        ≡ fold with_entered (table_of table.old) entries.items) }
+    ensures changed { IfOk result (λ c. c ≡ true → table_of table.new ≢ table_of table.old) }
+    ensures same { IfOk result (λ c. c ≡ false → table_of table.new ≡ table_of table.old) }
+    ensures fits { OnOk result (Fits program.now table.new) }
+{
+    let mut changed = false;
+    for entry in entries {
+        let taken = take_entry(alloc, program, table, entry)?;
+        changed = changed | taken;
+    }
+    Ok(changed)
+}
+
+// Takes the step of a node that has a state in a context.
+fn visit_step(
+    alloc: Global,
+    program: &Program,
+    keys: &ProgramKeys,
+    table: &mut ATable,
+    context: Context,
+    node: NodeId,
+) -> Result<bool, Memory>
+    requires program { IsWellFormed program.now }
+    requires keys { IsKeysOf program.now keys.now }
+    requires fits { Fits program.now table.old }
+    requires item { IsItem program.now (table_of table.old) (items.Step context node) }
+    ensures visited { IfOk result (IsVisited program.now (items.Step context node)
+        (table_of table.old) (table_of table.new)) }
+    ensures fits { OnOk result (Fits program.now table.new) }
+{
+    let Some(own) = table.at(context) else {
+        return Ok(false);
+    };
+    let Some(state) = own.state(node) else {
+        return Ok(false);
+    };
+    let Step { outcome, entries } = step_of(alloc, program, keys, own, node, state)?;
+    let is_joined = table.join_states(alloc, program, context, outcome.states.list)?;
+    let is_demanded = table.demand(alloc, context, outcome.demands)?;
+    let is_taken = take_entries(alloc, program, table, entries)?;
+    Ok(is_joined | is_demanded | is_taken)
+}
+
+// ---- Fill
+
+// The values of a callee's entry, by the state of its caller.
+fn filled_by(
+    alloc: Global,
+    program: &Program,
+    keys: &ProgramKeys,
+    table: &ATable,
+    edge: Edge,
+) -> Result<Option<Filled>, Memory>
+    requires program { IsWellFormed program.now }
+    requires keys { IsKeysOf program.now keys.now }
+    requires fits { Fits program.now table.now }
+    requires edge { IsTrue ((table_of table.now).edge edge) }
+    ensures { IfOk result (IsFilled program.now (table_of table.now) edge) }
+{
+    let (Some(own), Some(callee)) = (table.at(edge.caller), table.at(edge.callee)) else {
+        return Ok(None);
+    };
+    let Some(state) = own.state(edge.node) else {
+        return Ok(None);
+    };
+    let caller = Caller {
+        reader: Reader::new(alloc, program, keys, state, &own.entries),
+        info: node_info(program, edge.caller.function, edge.node),
+        edge,
+    };
+    let filled = fill(&caller, &callee.entries)?;
+    Ok(Some(filled))
+}
+
+// Fills the values that a callee demands of its entry.
+fn visit_fill(
+    alloc: Global,
+    program: &Program,
+    keys: &ProgramKeys,
+    table: &mut ATable,
+    edge: Edge,
+) -> Result<bool, Memory>
+    requires program { IsWellFormed program.now }
+    requires keys { IsKeysOf program.now keys.now }
+    requires fits { Fits program.now table.old }
+    requires item { IsItem program.now (table_of table.old) (items.Fill edge) }
+    ensures visited { IfOk result (IsVisited program.now (items.Fill edge)
+        (table_of table.old) (table_of table.new)) }
+    ensures kept { HasSameKeys table.old table.new }
+    ensures fits { OnOk result (Fits program.now table.new) }
+{
+    let Some(Filled { values, demands }) = filled_by(alloc, program, keys, table, edge)? else {
+        return Ok(false);
+    };
+    let is_filled = table.set_values(alloc, edge.callee, values)?;
+    let is_demanded = table.demand(alloc, edge.caller, demands)?;
+    Ok(is_filled | is_demanded)
+}
+
+// ---- Back
+
+// What the exits of a callee give back, and what that takes from the caller's entry.
+#[derive(Drop)]
+struct Given {
+    states: States,
+    demands: DemandList,
+}
+
+// Whether a node is an exit at which a context has a state.
+fn is_left(program: &Program, callee: &ContextTable, node: NodeId) -> bool
+    requires program { IsWellFormed program.now }
+    requires node { IsSome (node_at program.now callee.now.context.function node) }
+    ensures { result ≡ is_left program.now callee.now node.0 }
+{
+    let info = node_info(program, callee.context.function, node);
+    is_exit(&info.node) && callee.state(node).is_some()
+}
+
+// Whether a context has a state at one of its exits.
+fn has_exit(program: &Program, callee: &ContextTable) -> bool
+    requires program { IsWellFormed program.now }
+    requires fits { FitsContext program.now callee.now }
+    ensures { result ≡ has_left program.now callee.now }
+{
+    for node in 0..callee.nodes.len() {
+        if is_left(program, callee, NodeId(node as u32)) {
+            return true;
+        }
+    }
+    false
+}
+
+// What a node of the callee gives back, if it is an exit with a state.
+fn add_given(
+    caller: &Caller<'_>,
+    calling: &Calling,
+    callee: &ContextTable,
+    node: NodeId,
+    states: &mut States,
+) -> Result<(), Memory>
+    requires caller { IsCaller caller.now }
+    requires calling { IsCalling caller.now calling.now }
+    requires fits { FitsContext caller.now.reader.program.now callee.now }
+    requires callee { callee.now.context ≡ caller.now.edge.callee }
+    requires node { IsSome (node_at caller.now.reader.program.now
+        callee.now.context.function node) }
+    ensures { IfOk result (λ _. AreGivenMore caller.now
+        (given_at caller.now callee.now node.0) states.old states.new) }
+{
+    let Some(exit) = callee.state(node) else {
+        return Ok(());
+    };
+    let info = node_info(caller.reader.program, callee.context.function, node);
+    give_back(caller, calling, exit, &info.node, states)
+}
+
+// What each node of the callee gives back.
+fn all_given(caller: &Caller<'_>, callee: &ContextTable) -> Result<Given, Memory>
+    requires caller { IsCaller caller.now }
+    requires fits { FitsContext caller.now.reader.program.now callee.now }
+    requires callee { callee.now.context ≡ caller.now.edge.callee }
+    ensures { IfOk result (AreAllGiven caller.now callee.now) }
+{
+    let calling = calling_of(caller)?;
+    let mut states = States::new(caller.reader.alloc);
+    for node in 0..callee.nodes.len() {
+        add_given(caller, &calling, callee, NodeId(node as u32), &mut states)?;
+    }
+    Ok(Given {
+        states,
+        demands: calling.demands,
+    })
+}
+
+// What the exits of a callee give its caller, if there is one with a state.
+fn given_by(
+    alloc: Global,
+    program: &Program,
+    keys: &ProgramKeys,
+    table: &ATable,
+    edge: Edge,
+) -> Result<Option<Given>, Memory>
+    requires program { IsWellFormed program.now }
+    requires keys { IsKeysOf program.now keys.now }
+    requires fits { Fits program.now table.now }
+    requires edge { IsTrue ((table_of table.now).edge edge) }
+    ensures { IfOk result (IsGivenBack program.now (table_of table.now) edge) }
+{
+    let (Some(own), Some(callee)) = (table.at(edge.caller), table.at(edge.callee)) else {
+        return Ok(None);
+    };
+    let Some(state) = own.state(edge.node) else {
+        return Ok(None);
+    };
+    if !has_exit(program, callee) {
+        return Ok(None);
+    }
+    let caller = Caller {
+        reader: Reader::new(alloc, program, keys, state, &own.entries),
+        info: node_info(program, edge.caller.function, edge.node),
+        edge,
+    };
+    let given = all_given(&caller, callee)?;
+    Ok(Some(given))
+}
+
+// Gives what the exits of a callee give to its caller.
+fn visit_back(
+    alloc: Global,
+    program: &Program,
+    keys: &ProgramKeys,
+    table: &mut ATable,
+    edge: Edge,
+) -> Result<bool, Memory>
+    requires program { IsWellFormed program.now }
+    requires keys { IsKeysOf program.now keys.now }
+    requires fits { Fits program.now table.old }
+    requires item { IsItem program.now (table_of table.old) (items.Back edge) }
+    ensures visited { IfOk result (IsVisited program.now (items.Back edge)
+        (table_of table.old) (table_of table.new)) }
+    ensures kept { HasSameKeys table.old table.new }
+    ensures fits { OnOk result (Fits program.now table.new) }
+{
+    let Some(Given { states, demands }) = given_by(alloc, program, keys, table, edge)? else {
+        return Ok(false);
+    };
+    let is_joined = table.join_states(alloc, program, edge.caller, states.list)?;
+    let is_demanded = table.demand(alloc, edge.caller, demands)?;
+    Ok(is_joined | is_demanded)
+}
+
+// ---- each of them
+
+// Joins in what an item gives.
+fn take(
+    alloc: Global,
+    program: &Program,
+    keys: &ProgramKeys,
+    table: &mut ATable,
+    item: Item,
+) -> Result<bool, Memory>
+    requires program { IsWellFormed program.now }
+    requires keys { IsKeysOf program.now keys.now }
+    requires fits { Fits program.now table.old }
+    requires item { IsItem program.now (table_of table.old) item }
+    ensures visited { IfOk result (IsVisited program.now item (table_of table.old)
+        (table_of table.new)) }
+    ensures edges { HasSameEdges item table.old table.new }
+    ensures fits { OnOk result (Fits program.now table.new) }
+{
+    match item {
+        Item::Open => visit_open(alloc, program, table),
+        Item::Step { context, node } => { visit_step(alloc, program, keys, table, context, node) }
+        Item::Fill(edge) => visit_fill(alloc, program, keys, table, edge),
+        Item::Back(edge) => visit_back(alloc, program, keys, table, edge),
+    }
+}
+
+/// Joins in what an item of the table gives, and tells whether the table changed. After `Memory`
+/// some of it may have been joined in, and the table is of no use.
 pub fn visit(
     alloc: Global,
     program: &Program,
     keys: &ProgramKeys,
     table: &mut ATable,
     item: Item,
-) -> Result<Visited, Memory>
+) -> Result<bool, Memory>
     requires program { IsWellFormed program.now }
     requires keys { IsKeysOf program.now keys.now }
-    requires built { AreBuilt program.now }
     requires fits { Fits program.now table.old }
-    requires root { IsOfRoot (table_of table.old) }
     requires item { IsItem program.now (table_of table.old) item }
-    ensures fits { Fits program.now table.new }
-    ensures root { IsOfRoot (table_of table.new) }
     ensures visited { IfOk result (IsVisited program.now item (table_of table.old)
         (table_of table.new)) }
-    ensures kept { OnErr result (table_of table.new ≡ table_of table.old) }
+    ensures edges { HasSameEdges item table.old table.new }
+    ensures fits { OnOk result (Fits program.now table.new) }
 {
-    match item {
-        Item::Open => visit_open(alloc, program, &mut table.contexts[0]),
-        Item::Step { node, .. } => {
-            visit_step(alloc, program, keys, &mut table.contexts[0], node)
-        }
-        Item::Fill(_) => unreachable!(),
-        Item::Back(_) => unreachable!(),
+    table.set_visited(item);
+    let changed = take(alloc, program, keys, table, item)?;
+    if changed {
+        table.clock = table.clock.saturating_add(1);
     }
+    Ok(changed)
 }

@@ -296,7 +296,7 @@ fn a_built_in_is_replaced(alloc: Global) -> Result<bool, Memory> {
     )
 }
 
-/// Whether the analysis tells of the devices, and stops at the call of one; it asks none.
+/// Whether the analysis tells of the devices, and follows the call of one; it asks none.
 fn analyses_tell(alloc: Global) -> Result<bool, Memory> {
     let head =
         "tajs report 1\ndevice input boolean\ndevice number number\ndevice text string\ndevice print undefined\nbuilt yes\nwarnings 0\n";
@@ -306,10 +306,10 @@ fn analyses_tell(alloc: Global) -> Result<bool, Memory> {
     Ok(
         told && left.len() == 4
             && left[0].heard.is_empty()
-            && status == Status::Unbuilt
+            && status == Status::Done
             && is_answer(
                 &written,
-                "unbuilt 1:6\nstep 0 global.new 0\nopen\nstep 0 global.new 0\nstep 0 global.new 1\nstep 0 global.new 2\nend\n",
+                "warnings 0\nedges 1\n0 global.new 2 -> 4 global.new\n",
             ),
     )
 }

@@ -82,27 +82,22 @@ const STATES: [Row; 9] = [
     ),
 ];
 
-/// Functions of a text, and calls, end an analysis.
-const NOT_BUILT: [Row; 4] = [
+/// Functions of a text are entered, and give back what they return or throw.
+const CALLS: [Row; 3] = [
     (
-        b"var o = { f: function () {} };",
-        Status::Unbuilt,
-        "unbuilt 1:14\n",
+        b"var o = { f: function () { return this.p; } }; o.f().x;",
+        Status::Warned,
+        "warnings 1\n1:53 property of null or undefined certain\nedges 1\n",
     ),
     (
-        b"function f() { function g() {} }",
-        Status::Unbuilt,
-        "unbuilt 1:1\n",
+        b"function f(n) { if (n) { throw 1; } return {}; } f(0).x;",
+        Status::Done,
+        "warnings 0\nedges 1\n0 global.new ",
     ),
     (
-        b"new Object();",
-        Status::Unbuilt,
-        "unbuilt 1:1\nstep 0 global.new 0\nopen\nstep 0 global.new 0\nstep 0 global.new 1\nstep 0 global.new 2\nend\n",
-    ),
-    (
-        b"({}) + 1;",
-        Status::Unbuilt,
-        "unbuilt 1:6\nstep 0 global.new 0\nstep 0 global.new 1\nstep 0 global.new 2\nend\n",
+        b"function C() { this.p = 1; } new C().q.r;",
+        Status::Warned,
+        "warnings 1\n1:39 property of null or undefined certain\nedges 1\n",
     ),
 ];
 
@@ -122,5 +117,5 @@ fn objects_are_told(rt: HostRuntime) {
     let alloc = rt.alloc();
     assert_eq!(rt; first_wrong(alloc, &RECENCY), None);
     assert_eq!(rt; first_wrong(alloc, &STATES), None);
-    assert_eq!(rt; first_wrong(alloc, &NOT_BUILT), None);
+    assert_eq!(rt; first_wrong(alloc, &CALLS), None);
 }

@@ -1,3 +1,4 @@
+pub mod FoundLemmas
 pub mod Reporting
 pub mod Transcripts
 pub mod WordLemmas

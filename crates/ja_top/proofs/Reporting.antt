@@ -1,28 +1,21 @@
 -- What the statuses of a report say.
-use Rattle.std.specs.Prelude.{◌≡◌, ◌<◌, List, [], ◌∷◌, ◌++◌, ℕ, String, Some, IsSome, is_some, true, length}
-use Rattle.std.specs.Option.{option_map}
+use Rattle.std.specs.Prelude.{List, [], ◌∷◌, ℕ, String, Some, true}
 use Rattle.std.specs.declared.alloc.Global.{Global}
-use Rattle.std.proofs.Common.{inl, inr, ap, sym, ◌∙◌}
-use Rattle.ja_base.specs.declared.ids.Place.{Place}
-use Rattle.ja_graph.specs.declared.node.NodeInfo.{NodeInfo}
+use Rattle.std.proofs.Common.{inl, inr}
 use Rattle.ja_graph.specs.declared.program.Program.{Program}
-use Rattle.ja_rows.specs.declared.table.Item.{Item}
 use Rattle.ja_rows.specs.declared.table.Warning.{Warning}
-use Rattle.ja_rows.specs.Unfollowed.{MeetsEdge}
-use Rattle.ja_report.specs.Report.{unfollowed_text}
 use Rattle.ja_prim.specs.declared.signature.Signature.{Signature}
 use Rattle.ja_top.specs.declared.status.Status.{Status}
 use Rattle.ja_top.specs.declared.status.Status.TheVariants.{Done, Warned, Usage, ReadFault}
 use Rattle.ja_top.specs.declared.status.Status.TheVariants.{WriteFault, TooLong, NotText, Syntax}
 use Rattle.ja_top.specs.declared.status.Status.TheVariants.{Scope, Limit, Spent, DeviceFault, Left}
-use Rattle.ja_top.specs.declared.status.Status.TheVariants.{Uncaught, StepsSpent, Memory, Unbuilt}
+use Rattle.ja_top.specs.declared.status.Status.TheVariants.{Uncaught, StepsSpent, Memory}
 use Rattle.ja_load.specs.Loading.{IsProgramOf}
 use Rattle.ja_top.specs.declared.command.Command.{Command}
 use Rattle.ja_top.specs.declared.command.Command.TheVariants as command
-use Rattle.ja_top.specs.Analyses.{IsAnalysed, IsUnfollowed, Reports, Analyses, budget}
+use Rattle.ja_top.specs.Analyses.{IsAnalysed, Reports, Analyses}
 use Rattle.ja_top.specs.Answers.{Call, HasCause, IsInput, Written, IsAnswered, DevicesStand}
 use Rattle.ja_top.specs.Runs.{Runs, signatures_of}
-use Rattle.ja_top.specs.code.Solutions.{stepped_at}
 use Rattle.ja_top.specs.code.Statuses.{status_of}
 use Rattle.ja_top.specs.Words.{IsCommand, IsRunCommand, IsCommandLine}
 use Rattle.ja_top.specs.code.Commands.{AsksFor, Follows}
@@ -33,29 +26,6 @@ pub reports : (p : Program) (text : List ℕ) (ws : List Warning) → IsAnalysed
     → Reports p (status_of ws) text
 reports p text [] h = h
 reports p text (w ∷ ws) h = (w, ws, h)
-
--- the step that meets a call edge is that of a node
-pub meets_node : (p : Program) (visits : List Item) (step : Item) → MeetsEdge p visits step
-    → IsSome (stepped_at p step)
-meets_node p visits step m = ap is_some (ap (stepped_at p) m.step_is ∙ m.node_is)
-
--- the visits up to a call edge, printed with the place of its step
-pub unfollowed : (p : Program) (visits : List Item) (step : Item) (place : Place) (text : List ℕ)
-    → MeetsEdge p visits step → length visits < budget
-    → option_map (λ (i : NodeInfo). i.place) (stepped_at p step) ≡ Some place
-    → text ≡ unfollowed_text p place (visits ++ step ∷ []) → IsUnfollowed p text
-unfollowed p visits step place text m few at printed =
-    let found : stepped_at p step ≡ Some m.info = ap (stepped_at p) m.step_is ∙ m.node_is in
-    let same : Some place ≡ Some m.info.place =
-    sym at ∙ ap (option_map (λ (i : NodeInfo). i.place)) found in
-    let is : place ≡ m.info.place = cc same in
-    record {
-      visits = visits;
-      step = step;
-      few = few;
-      meets = m;
-      printed = printed ∙ ap (λ (q : Place). unfollowed_text p q (visits ++ step ∷ [])) is;
-    }
 
 -- a report on the program of a text is an analysis of the text
 pub analyses : (bytes : List ℕ) (signatures : List Signature) (p : Program) (status : Status)
@@ -69,7 +39,6 @@ analyses bytes signatures p ReadFault text of h = absurd h
 analyses bytes signatures p WriteFault text of h = absurd h
 analyses bytes signatures p TooLong text of h = absurd h
 analyses bytes signatures p Memory text of h = absurd h
-analyses bytes signatures p Unbuilt text of h = inr (p, of, h)
 analyses bytes signatures p NotText text of h = absurd h
 analyses bytes signatures p Syntax text of h = absurd h
 analyses bytes signatures p Scope text of h = absurd h
@@ -93,7 +62,6 @@ module _ (c : Call) (bytes : List ℕ) (text : List ℕ) (input : IsInput c byte
   analysed Done command h stand = inl (command, (bytes, input, h), stand)
   analysed Warned command h stand = (command, (bytes, input, h), stand)
   analysed Spent command h stand = (command, (bytes, input, h), stand)
-  analysed Unbuilt command h stand = (command, (bytes, input, h), stand)
   analysed NotText command h stand = inl (command, (bytes, input, h), stand)
   analysed Syntax command h stand = inl (command, (bytes, input, h), stand)
   analysed Scope command h stand = inl (command, (bytes, input, h), stand)
@@ -122,7 +90,6 @@ module _ (c : Call) (bytes : List ℕ) (text : List ℕ) (input : IsInput c byte
   ran steps Limit command h = inr (steps, command, (bytes, input, h))
   ran steps Warned command h = absurd h
   ran steps Spent command h = absurd h
-  ran steps Unbuilt command h = absurd h
   ran steps Usage command h = absurd h
   ran steps ReadFault command h = absurd h
   ran steps WriteFault command h = absurd h
@@ -148,7 +115,6 @@ answered c w Usage text h a f = (text, h, a, f)
 answered c w ReadFault text h a f = (text, h, a, f)
 answered c w TooLong text h a f = (text, h, a, f)
 answered c w Spent text h a f = (text, h, a, f)
-answered c w Unbuilt text h a f = (text, h, a, f)
 answered c w NotText text h a f = (text, h, a, f)
 answered c w Syntax text h a f = (text, h, a, f)
 answered c w Scope text h a f = (text, h, a, f)

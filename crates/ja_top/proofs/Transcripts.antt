@@ -4,7 +4,7 @@ use Rattle.std.proofs.Common.{◌∙◌, inr, ap, refl, sym, subst}
 use Rattle.ja_base.specs.declared.ids.Memory.{Memory}
 use Rattle.ja_device.specs.Devices.{AllSeen}
 use Rattle.ja_graph.specs.declared.program.Program.{Program}
-use Rattle.ja_load.specs.Loading.{IsProgramToRun}
+use Rattle.ja_load.specs.Loading.{IsProgramOf}
 use Rattle.ja_prim.specs.declared.signature.Signature.{Signature}
 use Rattle.ja_run.specs.declared.ended.RunEnd.{RunEnd}
 use Rattle.ja_run.specs.declared.ended.RunEnd.TheVariants as run_end
@@ -18,9 +18,9 @@ use Rattle.ja_top.specs.Statuses.{status_of_end}
 
 module _ (bytes : List ℕ) (signatures : List Signature) (p : Program) (steps : ℕ)
     (before after : AllSeen) (its : signatures ≡ signatures_of before)
-    (of : IsProgramToRun bytes signatures p) where
-  here : IsProgramToRun bytes (signatures_of before) p
-  here = subst (λ s. IsProgramToRun bytes s p) its of
+    (of : IsProgramOf bytes signatures p) where
+  here : IsProgramOf bytes (signatures_of before) p
+  here = subst (λ s. IsProgramOf bytes s p) its of
 
   of_end : (text : List ℕ) (end : RunEnd)
       → Transcribes p steps before after (status_of_end end) text

@@ -1,56 +1,45 @@
 -- How a text is analysed: the cause of each status, and the text that is written with it.
-use Rattle.std.specs.Prelude.{◌≡◌, ◌<◌, ◌≤◌, ◌⊎◌, ℕ, List, [], ◌∷◌, ◌++◌, length}
+use Rattle.std.specs.Prelude.{◌≡◌, ◌≤◌, ◌⊎◌, ℕ, List, [], ◌∷◌, length}
 use Rattle.std.specs.Str.{IsUtf8}
 use Rattle.std.specs.Str.Lossy.{utf8_valid_len}
 use Rattle.ja_base.specs.declared.ids.Place.{Place}
 use Rattle.ja_base.specs.declared.ids.ScopeKind.{ScopeKind}
 use Rattle.ja_graph.specs.declared.program.Program.{Program}
 use Rattle.ja_grammar.specs.declared.fault.ParseFault.TheVariants as fault
-use Rattle.ja_load.specs.Loading.{IsProgramOf, HasManyFunctions, HasManyNodes, IsUnbuiltAt, IsNone}
+use Rattle.ja_load.specs.Loading.{IsProgramOf, HasManyFunctions, HasManyNodes, IsNone}
 use Rattle.ja_machine.specs.Runs.{NeverStuck}
 use Rattle.ja_rows.specs.declared.table.Item.{Item}
 use Rattle.ja_rows.specs.declared.table.Warning.{Warning}
 use Rattle.ja_rows.specs.Table.{Table, IsBuilt, IsClosed}
-use Rattle.ja_rows.specs.Unfollowed.{IsOfRoot, MeetsEdge}
 use Rattle.ja_rows.specs.Warning.{AreWarnings}
 use Rattle.ja_sound.specs.Sound.{CoversRuns, WarnsOfFaults}
 use Rattle.ja_prim.specs.declared.signature.Signature.{Signature}
 use Rattle.ja_report.specs.declared.refusals.Refusal.TheVariants as refusal
 use Rattle.ja_report.specs.Refusals.{refusal_text}
-use Rattle.ja_report.specs.Report.{report_text, spent_text, unfollowed_text}
+use Rattle.ja_report.specs.Report.{report_text, spent_text}
 use Rattle.ja_rules.specs.Solving.{WasSpent}
 use Rattle.ja_top.specs.declared.status.Status.{Status}
 use Rattle.ja_top.specs.declared.status.Status.TheVariants.{Done, Warned, NotText, Syntax, Scope}
-use Rattle.ja_top.specs.declared.status.Status.TheVariants.{Limit, Spent, Unbuilt}
+use Rattle.ja_top.specs.declared.status.Status.TheVariants.{Limit, Spent}
 
 -- the greatest number of visits
 abbrev pub budget : ℕ
 budget = 1000000
 
 -- What is printed of a program, with these warnings: the table that the printed visits build, which
--- has the program's own context alone, is closed and covers every run; an operation that goes wrong
--- in some run is among the warnings. No run of the program is stuck.
+-- is closed and covers every run; an operation that goes wrong in some run is among the warnings.
+-- No run of the program is stuck.
 pub record IsAnalysed (p : Program) (text : List ℕ) (warnings : List Warning) : Type 0 where
   pub table : Table
   pub visits : List Item
   pub printed : text ≡ report_text p table visits warnings
   pub built : IsBuilt p visits table
   pub few : length visits ≤ budget
-  pub of_root : IsOfRoot table
   pub closed : IsClosed p table
   pub exact : AreWarnings p table warnings
   pub covers : CoversRuns p table
   pub warned : WarnsOfFaults p warnings
   pub goes_on : NeverStuck p
-
--- Calls aren't followed yet: after these visits, which are printed, the step that is printed behind
--- them gives a call edge, and its place is printed before. The budget allows that step.
-pub record IsUnfollowed (p : Program) (text : List ℕ) : Type 0 where
-  pub visits : List Item
-  pub step : Item
-  pub few : length visits < budget
-  pub meets : MeetsEdge p visits step
-  pub printed : text ≡ unfollowed_text p meets.info.place (visits ++ step ∷ [])
 
 -- what is written of a program, by the status
 abbrev pub Reports : Program → Status → List ℕ → Type 0
@@ -58,7 +47,6 @@ Reports p Done text = IsAnalysed p text []
 Reports p Warned text = (w : Warning) × (ws : List Warning) × IsAnalysed p text (w ∷ ws)
 Reports p Spent text =
     (visits : List Item) × WasSpent p budget visits × (text ≡ spent_text p visits)
-Reports p Unbuilt text = IsUnfollowed p text
 Reports p status text = ⊥
 
 abbrev pub ReportsOnText : List ℕ → List Signature → Status → List ℕ → Type 0
@@ -87,8 +75,4 @@ Analyses bytes signatures Scope text =
     (kind : ScopeKind) × (place : Place) × IsNone bytes (fault.Scope kind place)
     × (text ≡ refusal_text (refusal.Scope kind place))
 Analyses bytes signatures Limit text = IsPastLimit bytes signatures text
-Analyses bytes signatures Unbuilt text =
-    ((place : Place) × IsUnbuiltAt bytes signatures place
-    × (text ≡ refusal_text (refusal.Unbuilt place)))
-    ⊎ ReportsOnText bytes signatures Unbuilt text
 Analyses bytes signatures status text = ⊥

@@ -14,7 +14,7 @@ use Rattle.ja_top.specs.declared.status.Status.{Status}
 use Rattle.ja_top.specs.declared.status.Status.TheVariants.{Done, Warned, Usage, ReadFault}
 use Rattle.ja_top.specs.declared.status.Status.TheVariants.{WriteFault, TooLong, NotText, Syntax}
 use Rattle.ja_top.specs.declared.status.Status.TheVariants.{Scope, Limit, Spent, DeviceFault, Left}
-use Rattle.ja_top.specs.declared.status.Status.TheVariants.{Uncaught, StepsSpent, Memory, Unbuilt}
+use Rattle.ja_top.specs.declared.status.Status.TheVariants.{Uncaught, StepsSpent, Memory}
 use Rattle.ja_top.specs.Runs.{MayBeLeftByText, Runs, signatures_of}
 use Rattle.ja_top.specs.Words.{IsCommand, IsCommandLine, IsRunCommand}
 
@@ -92,7 +92,6 @@ HasCause c Limit text = AnswersInput c Limit text
 HasCause c Done text = AnswersInput c Done text
 HasCause c Warned text = AnalysesInput c Warned text
 HasCause c Spent text = AnalysesInput c Spent text
-HasCause c Unbuilt text = AnalysesInput c Unbuilt text
 HasCause c DeviceFault text = RunsInput c DeviceFault text
 HasCause c Left text = RunsInput c Left text
 HasCause c Uncaught text = RunsInput c Uncaught text

@@ -3,7 +3,7 @@
 use Rattle.std.specs.Prelude.{◌≡◌, ◌⊎◌, ◌+◌, ℕ, List, ◌++◌, map, take, drop}
 use Rattle.ja_device.specs.Devices.{AllSeen, signature_of}
 use Rattle.ja_graph.specs.declared.program.Program.{Program}
-use Rattle.ja_load.specs.Loading.{IsProgramToRun}
+use Rattle.ja_load.specs.Loading.{IsProgramOf}
 use Rattle.ja_prim.specs.declared.signature.Signature.{Signature}
 use Rattle.ja_run.specs.Asked.{IsCutShort, IsLeft}
 use Rattle.ja_run.specs.declared.ended.Ended.{Ended}
@@ -45,7 +45,7 @@ pub record Transcribes (p : Program) (steps : ℕ) (before after : AllSeen) (sta
 
 abbrev pub TranscribesText : List ℕ → ℕ → AllSeen → AllSeen → Status → List ℕ → Type 0
 TranscribesText bytes steps before after status text =
-    (p : Program) × IsProgramToRun bytes (signatures_of before) p
+    (p : Program) × IsProgramOf bytes (signatures_of before) p
     × Transcribes p steps before after status text
 
 -- the text is refused as by the analysis, and no device is asked
@@ -83,5 +83,5 @@ MayBeLeft p steps before after =
 abbrev pub MayBeLeftByText : List ℕ → ℕ → AllSeen → AllSeen → Type 0
 MayBeLeftByText bytes steps before after =
     (after ≡ before)
-    ⊎ ((p : Program) × IsProgramToRun bytes (signatures_of before) p
+    ⊎ ((p : Program) × IsProgramOf bytes (signatures_of before) p
     × MayBeLeft p steps before after)

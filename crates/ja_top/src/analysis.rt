@@ -1,36 +1,31 @@
 //! The answer of the analysis to bytes.
 
-ghost use Rattle.std.specs.Prelude.{◌≡◌, ◌<◌, ◌≤◌, IfOk, IsSome, Some, length};
-ghost use Rattle.std.specs.Option.{option_map};
+ghost use Rattle.std.specs.Prelude.{◌≡◌, ◌≤◌, IfOk, length};
 ghost use Rattle.ja_lex.specs.Spots.{max_bytes};
 ghost use Rattle.ja_device.specs.code.Signatures.{AreSignatures};
-ghost use Rattle.ja_graph.specs.declared.node.NodeInfo.{NodeInfo};
-ghost use Rattle.ja_graph.specs.Kinds.{AreBuilt};
 ghost use Rattle.ja_graph.specs.WellFormed.{IsWellFormed};
-ghost use Rattle.ja_rows.specs.Unfollowed.{MeetsEdge};
-ghost use Rattle.ja_top.specs.Analyses.{Analyses, Reports, budget};
+ghost use Rattle.ja_top.specs.Analyses.{Analyses, Reports};
 ghost use Rattle.ja_top.specs.Runs.{signatures_of};
 ghost use Rattle.ja_top.specs.code.Statuses.{status_of};
-ghost use Rattle.ja_top.specs.code.Solutions.{stepped_at, IsSolved};
+ghost use Rattle.ja_top.specs.code.Solutions.{IsSolved};
 
 use crate::answer::Answer;
 use crate::refusing::{explain, refuse};
 use crate::status::Status;
-use ja_base::{Memory, Place, Seq};
+use ja_base::Memory;
 use ja_device::{Device, Devices};
-use ja_graph::{NodeInfo, Program};
-use ja_load::laws::programs_are_built;
+use ja_graph::Program;
 use ja_load::load;
 use ja_machine::never_stuck;
 use ja_prim::Signature;
-use ja_report::{Refusal, report, spent_text, unfollowed_text};
-use ja_rows::{Item, Warning};
+use ja_report::{Refusal, report, spent_text};
+use ja_rows::Warning;
 use ja_rules::{SolveFault, Solved, solve, warnings};
 use std::alloc::Global;
 use std::str;
 
 /// The greatest number of visits.
-const BUDGET: u128 = 1_000_000;
+pub(crate) const BUDGET: u128 = 1_000_000;
 
 // Done where there is no warning.
 fn judged(warnings: &[Warning]) -> Status
@@ -62,61 +57,9 @@ fn report_of(alloc: Global, program: &Program, solved: &Solved) -> Result<Answer
     Ok(Answer { status, text })
 }
 
-// The node that an item steps, if it is the step of one.
-fn stepped(program: &Program, item: Item) -> Option<&NodeInfo>
-    ensures { option_map (λ info. info.now) result ≡ stepped_at program.now item }
-{
-    match item {
-        Item::Step { context, node } => {
-            match program
-                .functions
-                .as_slice()
-                .get(context.function.0 as usize)
-            {
-                Some(function) => function.nodes.as_slice().get(node.0 as usize),
-                None => None,
-            }
-        }
-        Item::Open | Item::Fill(_) | Item::Back(_) => None,
-    }
-}
-
-// The place of the step of a node.
-fn place_of(program: &Program, step: Item) -> Place
-    requires { IsSome (stepped_at program.now step) }
-    ensures { option_map (λ (i : NodeInfo). i.place) (stepped_at program.now step) ≡ Some result }
-{
-    match stepped(program, step) {
-        Some(info) => info.place,
-        None => unreachable!(),
-    }
-}
-
-// What is written where a step gives a call edge, after these visits.
-fn stop_at(
-    alloc: Global,
-    program: &Program,
-    visits: Seq<Item>,
-    step: Item,
-) -> Result<Answer, Memory>
-    requires meets { MeetsEdge program.now visits step }
-    requires few { length visits < budget }
-    ensures { IfOk result (λ a. Reports program.now a.status a.text.items) }
-{
-    let place = place_of(program, step);
-    let mut visits = visits.into_vec();
-    visits.push(step)?;
-    let text = unfollowed_text(alloc, program, place, &visits)?;
-    Ok(Answer {
-        status: Status::Unbuilt,
-        text,
-    })
-}
-
 // Solves a program, and reports on it.
 fn solve_and_report(alloc: Global, program: &Program) -> Result<Answer, Memory>
     requires program { IsWellFormed program.now }
-    requires built { AreBuilt program.now }
     ensures { IfOk result (λ a. Reports program.now a.status a.text.items) }
 {
     match solve(alloc, program, BUDGET) {
@@ -128,7 +71,6 @@ fn solve_and_report(alloc: Global, program: &Program) -> Result<Answer, Memory>
                 text,
             })
         }
-        Err(SolveFault::Unfollowed { visits, step }) => stop_at(alloc, program, visits, step),
         Err(SolveFault::Memory) => Err(Memory),
     }
 }
@@ -142,7 +84,6 @@ fn analyse_text(alloc: Global, text: &str, signatures: &[Signature]) -> Result<A
 {
     match load(alloc, text, signatures) {
         Ok(program) => {
-            programs_are_built();
             let answer = solve_and_report(alloc, &program)?;
             Ok(answer)
         }
@@ -154,11 +95,9 @@ fn analyse_text(alloc: Global, text: &str, signatures: &[Signature]) -> Result<A
 /// may call these devices. None is asked.
 ///
 /// The status is `Done` or `Warned` with a report, without or with warnings; `Spent` with the
-/// visits where 1,000,000 of them didn't close the table; `Unbuilt` with the place of the first
-/// form that isn't analysed yet, or, with its place and the visits up to it, of the first step that
-/// calls a function, which isn't followed yet; and `NotText`, `Syntax`, `Scope` or `Limit` with the
-/// line of a refusal where the bytes aren't UTF-8, no program (ES3 11 to 14), out of the profile, or
-/// past a limit.
+/// visits where 1,000,000 of them didn't close the table; and `NotText`, `Syntax`, `Scope` or
+/// `Limit` with the line of a refusal where the bytes aren't UTF-8, no program (ES3 11 to 14), out
+/// of the profile, or past a limit.
 ///
 /// # Errors
 ///

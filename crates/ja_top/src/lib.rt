@@ -1,5 +1,5 @@
-//! The answers of the analyser: to a text and host devices (`analyse`, `run`), and to words and a
-//! source (`tajs`). What is proved of each is stated from `specs/Answers.antt` on.
+//! The answers of the analyser: to a text and host devices (`analyse`, `find`, `run`), and to words
+//! and a source (`tajs`). What is proved of each is stated from `specs/Answers.antt` on.
 //!
 //! The clause `answered` of `tajs` (`top.rt`), by `IsAnswered` of `specs/Answers.antt`, says of all
 //! words, sources, sinks and lists of devices:
@@ -11,12 +11,8 @@
 //!   UTF-8, with the offset of the first byte that begins no character; 7, 8 and 9 exactly where
 //!   the text isn't in the language, with the kind and the place that `ja_grammar` determines; 9
 //!   also exactly where it is in the language and has more than 4,096 functions, or else its graph
-//!   and parameters are more than 65,536 nodes; 20 exactly where it is analysed, is within these
-//!   limits and has a form that isn't built, with the place of the first one, and else only where
-//!   the step that is printed last calls a function, which isn't followed yet (a call, or the
-//!   conversion of an object), with its place, and the visits before it, which are printed, met
-//!   none; 10 only where the 1,000,000 visits that are printed each changed the table and the last
-//!   one isn't closed; 12 to 15 only of a run, by its end.
+//!   and parameters are more than 65,536 nodes; 10 only where the 1,000,000 visits that are printed
+//!   each changed the table and the last one isn't closed; 12 to 15 only of a run, by its end.
 //! - **what was written**: after every status but 4 and 16 the text of that answer, whole, and the
 //!   sink is finished; after 4 the front of the text of another answer whose cause holds; after 16
 //!   nothing.
@@ -38,13 +34,14 @@
 //!   transcript says so. What a device that tells it has heard is what the transcript says it
 //!   answered, in order and with the arguments, and nothing else of it has changed. After 16 each
 //!   comes back, and they have answered exactly the calls of some first steps of the run, or those
-//!   of the whole run, the one that failed at its end among them (`MayBeLeft` in `specs/Runs.antt`).
-//!   What is seen of one changes only in a `run`.
+//!   of the whole run, the one that failed at its end among them (`MayBeLeft` in
+//!   `specs/Runs.antt`). What is seen of one changes only in a `run`.
 #![tactic(auto)]
 
 mod analysis;
 mod answer;
 mod command;
+mod finding;
 mod refusing;
 mod running;
 mod status;
@@ -52,6 +49,7 @@ mod top;
 
 pub use analysis::analyse;
 pub use answer::Answer;
+pub use finding::{FindFault, Findings, find};
 pub use running::run;
 pub use status::Status;
 pub use top::{MAX_BYTES, tajs};
@@ -59,4 +57,7 @@ pub use top::{MAX_BYTES, tajs};
 // what these take and give
 pub use ja_base::{Failed, Memory, MemorySink, MemorySource, Sink, Source, StdSink, StdSource};
 pub use ja_device::{CallFault, Device, Devices, DevicesFault, Heard, Scripted};
+pub use ja_grammar::ParseFault;
+pub use ja_load::LoadFault;
 pub use ja_prim::{Int, Kinds, Num, Primitive, Signature, Text16};
+pub use ja_rows::{Item, Warning, WarningKind};

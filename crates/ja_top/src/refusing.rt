@@ -2,7 +2,7 @@
 
 ghost use Rattle.std.specs.Prelude.{◌≡◌, ℕ, List, IfOk};
 ghost use Rattle.ja_device.specs.Devices.{AllSeen};
-ghost use Rattle.ja_load.specs.code.Loading.{HasNone, HasNoneToRun};
+ghost use Rattle.ja_load.specs.code.Loading.{HasNone};
 ghost use Rattle.ja_prim.specs.declared.signature.Signature.{Signature};
 ghost use Rattle.ja_top.specs.Analyses.{Analyses};
 ghost use Rattle.ja_top.specs.Runs.{Runs, signatures_of};
@@ -29,7 +29,6 @@ fn status_of(refusal: Refusal) -> Status
         Refusal::Syntax { .. } => Status::Syntax,
         Refusal::Scope { .. } => Status::Scope,
         Refusal::Depth | Refusal::Functions | Refusal::Nodes => Status::Limit,
-        Refusal::Unbuilt { .. } => Status::Unbuilt,
     }
 }
 
@@ -48,7 +47,7 @@ pub(crate) fn explain(alloc: Global, fault: LoadFault) -> Result<Answer, Memory>
         → HasNone bytes signatures fault
         → Analyses bytes signatures a.status a.text.items) }
     ensures run { IfOk result (λ a. (bytes : List ℕ) (steps : ℕ) (devices : AllSeen)
-        → HasNoneToRun bytes (signatures_of devices) fault
+        → HasNone bytes (signatures_of devices) fault
         → Runs bytes steps devices devices a.status a.text.items) }
 {
     match fault {
@@ -62,6 +61,5 @@ pub(crate) fn explain(alloc: Global, fault: LoadFault) -> Result<Answer, Memory>
         LoadFault::Nodes => refuse(alloc, Refusal::Nodes),
         // no status has this cause: see docs/DECISIONS.md
         LoadFault::Names => Err(Memory),
-        LoadFault::Unbuilt { place } => refuse(alloc, Refusal::Unbuilt { place }),
     }
 }

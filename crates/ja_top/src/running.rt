@@ -12,7 +12,7 @@ use crate::status::Status;
 use ja_base::Memory;
 use ja_device::{Device, Devices};
 use ja_graph::Program;
-use ja_load::load_to_run;
+use ja_load::load;
 use ja_report::Refusal;
 use ja_run::{RunEnd, run as run_program, run_text};
 use std::alloc::Global;
@@ -68,7 +68,7 @@ fn transcribe_text<D: Device>(
     ensures memory { IfErr result (λ _. MayBeLeftByText text.now steps devices.old devices.new) }
 {
     let signatures = devices.signatures(alloc)?;
-    match load_to_run(alloc, text, signatures.as_slice()) {
+    match load(alloc, text, signatures.as_slice()) {
         Ok(program) => transcribe(alloc, &program, devices, steps),
         Err(fault) => explain(alloc, fault),
     }

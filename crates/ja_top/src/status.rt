@@ -35,9 +35,6 @@ pub enum Status {
     StepsSpent = 15,
     /// Memory was refused. Nothing was written.
     Memory = 16,
-    /// The text has a form that isn't built yet, or its analysis meets a call, and calls aren't
-    /// followed yet.
-    Unbuilt = 20,
 }
 
 impl Status {

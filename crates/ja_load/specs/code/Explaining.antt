@@ -1,8 +1,7 @@
 -- Why a tree has no program.
-use Rattle.std.specs.Prelude.{◌≡◌, ◌<◌, ◌≤◌, false, List, length, Some}
+use Rattle.std.specs.Prelude.{◌<◌, ◌≤◌, false, List, length}
 use Rattle.ja_grammar.specs.declared.fault.ParseFault.TheVariants as parse
 use Rattle.ja_graph.specs.WellFormed.{max_names}
-use Rattle.ja_load.specs.Built.{unbuilt}
 use Rattle.ja_load.specs.declared.fault.LoadFault.{LoadFault}
 use Rattle.ja_load.specs.declared.fault.LoadFault.TheVariants as fault
 use Rattle.ja_load.specs.Loading.{names_before}
@@ -11,7 +10,7 @@ use Rattle.ja_lower.specs.Lowering.{names_of}
 use Rattle.ja_prim.specs.declared.signature.Signature.{Signature}
 use Rattle.ja_syntax.specs.declared.tree.Statement.{Statement}
 
--- what a fault says of a tree that is run; want of memory is explained by nothing
+-- what a fault says of a tree; want of memory is explained by nothing
 abbrev pub Explains : List Signature → List Statement → LoadFault → Type 0
 Explains signatures statements (fault.Parse parse.Memory) = Unit {0}
 Explains signatures statements (fault.Parse f) = ⊥
@@ -22,11 +21,3 @@ Explains signatures statements fault.Nodes =
 Explains signatures statements fault.Names =
     IsWithin (names_before signatures) statements
     × (max_names < length (names_of false (names_before signatures) statements))
-Explains signatures statements (fault.Unbuilt place) = ⊥
-
--- .. and of one that is analysed
-abbrev pub ExplainsAnalysis : List Signature → List Statement → LoadFault → Type 0
-ExplainsAnalysis signatures statements (fault.Unbuilt place) =
-    IsWithin (names_before signatures) statements
-    × (unbuilt statements ≡ Some place)
-ExplainsAnalysis signatures statements f = Explains signatures statements f

@@ -7,7 +7,7 @@ use Rattle.ja_lower.specs.Limits.{IsWithin}
 use Rattle.ja_lower.specs.Lowering.{names_of}
 use Rattle.ja_prim.specs.declared.signature.Signature.{Signature}
 use Rattle.ja_syntax.specs.declared.tree.Statement.{Statement}
-use Rattle.ja_load.specs.Loading.{names_before, IsTextOf, HasManyFunctions, HasManyNodes, IsUnbuiltAt, IsNone}
+use Rattle.ja_load.specs.Loading.{names_before, IsTextOf, HasManyFunctions, HasManyNodes, IsNone}
 
 -- it is within both limits, but its program has too many names
 abbrev pub HasManyNames : List ℕ → List Signature → Type 0
@@ -17,15 +17,9 @@ HasManyNames bytes signatures =
     × IsWithin (names_before signatures) statements
     × (max_names < length (names_of false (names_before signatures) statements))
 
--- why a text has no program to be run
-abbrev pub HasNoneToRun : List ℕ → List Signature → LoadFault → Type 0
-HasNoneToRun bytes signatures (fault.Parse f) = IsNone bytes f
-HasNoneToRun bytes signatures fault.Functions = HasManyFunctions bytes
-HasNoneToRun bytes signatures fault.Nodes = HasManyNodes bytes signatures
-HasNoneToRun bytes signatures fault.Names = HasManyNames bytes signatures
-HasNoneToRun bytes signatures (fault.Unbuilt place) = ⊥
-
--- .. and to be analysed
+-- why a text has no program
 abbrev pub HasNone : List ℕ → List Signature → LoadFault → Type 0
-HasNone bytes signatures (fault.Unbuilt place) = IsUnbuiltAt bytes signatures place
-HasNone bytes signatures f = HasNoneToRun bytes signatures f
+HasNone bytes signatures (fault.Parse f) = IsNone bytes f
+HasNone bytes signatures fault.Functions = HasManyFunctions bytes
+HasNone bytes signatures fault.Nodes = HasManyNodes bytes signatures
+HasNone bytes signatures fault.Names = HasManyNames bytes signatures

@@ -1,38 +1,31 @@
 -- The operations that a table reaches, and what is held of them by their numbers.
-use Rattle.std.specs.Prelude.{◌≡◌, ℕ, zero, suc, Bool, not, ◌&&◌, ◌||◌, if◌then◌else◌, List, [], ◌++◌, map, filter, Option, Some, None}
+use Rattle.std.specs.Prelude.{◌≡◌, ℕ, Bool, not, ◌&&◌, ◌||◌, if◌then◌else◌, List, [], map, filter, Option, Some, None}
 use Rattle.std.specs.declared.cmp.Ordering.{Ordering}
-use Rattle.std.specs.List.{fold}
+use Rattle.std.specs.List.{flat_map, fold}
 use Rattle.std.specs.Option.{option_map_or}
 use Rattle.std.specs.Ordering.{is_eq, nat_cmp, ordering_then}
 use Rattle.ja_base.specs.declared.ids.FnId.{FnId}
-use Rattle.ja_base.specs.declared.ids.Label.{Label}
 use Rattle.ja_graph.specs.declared.node.Node.{Node}
 use Rattle.ja_graph.specs.declared.node.NodeInfo.{NodeInfo}
 use Rattle.ja_graph.specs.declared.program.Program.{Program}
 use Rattle.ja_graph.specs.Program.{node_at}
-use Rattle.ja_machine.specs.Machine.{program_function}
 use Rattle.ja_abstract.specs.AbstractState.{AbstractState}
 use Rattle.ja_abstract.specs.Resolved.{Entries}
 use Rattle.ja_abstract.specs.Reading.{View}
-use Rattle.ja_rows.specs.Edges.{calls_at, constructs_at}
-use Rattle.ja_rows.specs.Table.{Table, root}
+use Rattle.ja_rows.specs.Table.{node_numbers}
 use Rattle.ja_rows.specs.Warning.{Test, Operation, operation_of, builtin_of, builtin_number, is_told, kind_number, tests}
+use Rattle.ja_aheap.specs.Entries.{entries_of}
 use Rattle.ja_astate.specs.declared.state.AState.{AState}
 use Rattle.ja_astate.specs.State.{state_of}
 use Rattle.ja_rules.specs.declared.reached.Allowed.{Allowed}
-use Rattle.ja_rules.specs.declared.reached.Entry.{Entry}
-use Rattle.ja_rules.specs.declared.reached.Entry.TheVariants.{Call, Construct}
 use Rattle.ja_rules.specs.declared.reached.Reached.{Reached}
+use Rattle.ja_rules.specs.declared.table.ContextTable.{ContextTable}
+use Rattle.ja_rules.specs.Tables.{states_in}
 
 -- ---- at one node
 
 abbrev pub view_of : Program → AState → Entries → View
 view_of p a e = record { program = p; state = state_of a; entries = e }
-
--- the function that the objects of a label run
-abbrev pub entry_by : Entry → Program → Label → Option FnId
-entry_by Call = calls_at
-entry_by Construct = constructs_at
 
 -- a state allows what a test says of its view
 pub record Says (test : Test) (w : View) (a : Allowed) : Type 0 where
@@ -63,17 +56,15 @@ abbrev pub reached_in : Program → Entries → FnId → NodeInfo → Option Abs
 reached_in p e f i state =
     option_map_or (λ a. reached_by (record { program = p; state = a; entries = e }) f i) state []
 
--- ---- at all nodes of the text
+-- ---- at all nodes of a context
 
-abbrev pub reached_at : Program → Table → ℕ → List Reached
-reached_at p t n =
-    option_map_or (λ i. reached_in p (t.entry root) program_function i (t.state root n))
-    (node_at p program_function (record { 0 = n })) []
+abbrev pub reached_at : Program → ContextTable → ℕ → List Reached
+reached_at p c n =
+    option_map_or (λ i. reached_in p (entries_of c.entries) c.context.function i
+    (states_in c.nodes.items n)) (node_at p c.context.function (record { 0 = n })) []
 
--- at the nodes below n
-abbrev pub reached_below : Program → Table → ℕ → List Reached
-reached_below p t zero = []
-reached_below p t (suc n) = reached_below p t n ++ reached_at p t n
+abbrev pub reached_of_context : Program → ContextTable → List Reached
+reached_of_context p c = flat_map (reached_at p c) (node_numbers p c.context.function)
 
 -- ---- what is held of them
 

@@ -7,7 +7,7 @@ use Rattle.ja_top.specs.declared.status.Status.{Status}
 use Rattle.ja_top.specs.declared.status.Status.TheVariants.{Done, Warned, Usage, ReadFault}
 use Rattle.ja_top.specs.declared.status.Status.TheVariants.{WriteFault, TooLong, NotText, Syntax}
 use Rattle.ja_top.specs.declared.status.Status.TheVariants.{Scope, Limit, Spent, DeviceFault, Left}
-use Rattle.ja_top.specs.declared.status.Status.TheVariants.{Uncaught, StepsSpent, Memory, Unbuilt}
+use Rattle.ja_top.specs.declared.status.Status.TheVariants.{Uncaught, StepsSpent, Memory}
 
 -- a report without a warning is done, and one with a warning is warned
 abbrev pub status_of : List Warning → Status
@@ -25,7 +25,6 @@ status_of_refusal (refusal.Scope kind place) = Scope
 status_of_refusal refusal.Depth = Limit
 status_of_refusal refusal.Functions = Limit
 status_of_refusal refusal.Nodes = Limit
-status_of_refusal (refusal.Unbuilt place) = Unbuilt
 
 -- the exit status
 abbrev pub code_of : Status → ℕ
@@ -45,4 +44,3 @@ code_of Left = 13
 code_of Uncaught = 14
 code_of StepsSpent = 15
 code_of Memory = 16
-code_of Unbuilt = 20

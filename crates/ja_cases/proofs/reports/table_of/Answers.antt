@@ -9,5 +9,5 @@ give_all-requires-clause-fits c =
 pub returns : goal.returns
 returns c =
     table_fits c.args.program.now c.in_ok-table.table c.index_mut.result.now
-    c.in_ok-table.ensures.fits c.index_mut.ensures.value _ c.give_all.new.own refl
+    c.in_ok-table.ensures.fits c.index_mut.ensures.value _ c.give_all.new.own refl refl
     c.in_ok-give_all.ensures.context c.in_ok-give_all.ensures.fits

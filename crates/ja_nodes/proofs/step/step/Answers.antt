@@ -1,8 +1,13 @@
 -- The registers, the names and the sites of a node are of the state and of the program.
-use Rattle.std.proofs.Common.{arith}
+use Rattle.std.proofs.Common.{arith, ◌<◌, List, sym, subst, vec_len}
+use Rattle.std.specs.List.{AllByRecursion}
+use Rattle.std.specs.Result.{IfOk}
 use Rattle.std.proofs.lemmas.Result.{IfOk-weaker}
-use Rattle.ja_nodes.proofs.AtNode.{numbers_at, fixed_registers, global_site}
+use Rattle.ja_base.specs.declared.ids.Reg.{Reg}
+use Rattle.ja_rows.specs.BuiltIns.{transfer_intrinsic}
+use Rattle.ja_nodes.proofs.AtNode.{numbers_at, fixed_registers, few_parameters, global_site, parameters_fit}
 use Rattle.ja_transfer.proofs.GivenLemmas.{of_kind}
+use Rattle.ja_transfer.specs.Outcomes.{at_view, IsOutcome}
 use Rattle.ja_nodes.proofs.step.step.Goals as goal
 
 -- ---- Const
@@ -414,3 +419,68 @@ pub returns-in-Pick : goal.returns-in-Pick
 returns-in-Pick c =
     of_kind c.args.stepper.now _ _ c.pick.result c.in-Pick.is (IfOk-weaker c.pick.result _ _
     (λ o told. told c.in-Pick.list) c.pick.ensures)
+
+-- ---- MakeFunction
+
+pub make_function-requires : goal.make_function-requires
+make_function-requires c =
+    let h = numbers_at _ _ _ c.requires.node _ c.in-MakeFunction.is in
+    let fixed = fixed_registers _ _ _ c.requires.node in
+    record {
+      dst = h.0;
+      scope = omega (arith, fixed);
+      few = few_parameters _ c.requires.node.well_formed c.in-MakeFunction.function;
+      site = h.1;
+      proto_site = h.2;
+      apart = h.3;
+    }
+
+pub returns-in-MakeFunction : goal.returns-in-MakeFunction
+returns-in-MakeFunction c =
+    of_kind c.args.stepper.now _ _ c.make_function.result c.in-MakeFunction.is
+    c.make_function.ensures
+
+-- ---- Enter
+
+pub enter-requires : goal.enter-requires
+enter-requires c =
+    let h = numbers_at _ _ _ c.requires.node _ c.in-Enter.is in
+    let fit = parameters_fit _ _ _ c.requires.node in
+    record {
+      parameters = record { registers = fit.0; few = fit.1 };
+      site = h.0;
+      arguments = h.1;
+    }
+
+pub returns-in-Enter : goal.returns-in-Enter
+returns-in-Enter c =
+    of_kind c.args.stepper.now _ _ c.enter.result c.in-Enter.is c.enter.ensures
+
+-- ---- Intrinsic
+
+pub intrinsic-requires : goal.intrinsic-requires
+intrinsic-requires c =
+    let h = numbers_at _ _ _ c.requires.node _ c.in-Intrinsic.is in
+    let count = vec_len c.args.stepper.now.reader.state.now.registers in
+    record {
+      dst = h.0;
+      args =
+          subst (AllByRecursion (λ (r : Reg). r.0 < count)) (sym c.as_slice.ensures) h.1;
+    }
+
+pub returns-in-Intrinsic : goal.returns-in-Intrinsic
+returns-in-Intrinsic c =
+    let s = c.args.stepper.now in
+    of_kind s _ _ c.intrinsic.result c.in-Intrinsic.is (subst (λ (args : List Reg).
+    IfOk c.intrinsic.result (IsOutcome s (transfer_intrinsic (at_view s) s.info.now
+    c.in-Intrinsic.dst c.in-Intrinsic.which args))) c.as_slice.ensures c.intrinsic.ensures)
+
+-- ---- Device
+
+pub device-requires : goal.device-requires
+device-requires c =
+    numbers_at _ _ _ c.requires.node _ c.in-Device.is
+
+pub returns-in-Device : goal.returns-in-Device
+returns-in-Device c =
+    of_kind c.args.stepper.now _ _ c.device.result c.in-Device.is c.device.ensures

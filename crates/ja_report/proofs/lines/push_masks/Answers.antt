@@ -15,4 +15,4 @@ loop-site-preserved c =
 pub returns : goal.returns
 returns c =
     site_lines_all _ c.args.state.now _ _ _ _ c.loop-site.invariant c.loop-site-test.false
-    (c.deref-site-items.ensures.value ∙ c.in_ok-sites.ensures) c.requires.heap.sites
+    (c.deref-site-items.ensures.value ∙ c.in_ok-sites.ensures) c.requires.sites

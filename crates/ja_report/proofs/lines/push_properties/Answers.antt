@@ -5,13 +5,18 @@ use Rattle.ja_report.proofs.lines.push_properties.Goals as goal
 pub sites-init : goal.sites-init
 sites-init c = (omega arith, labels_none _ _ _)
 
+pub sites-preserved-then-next-site : goal.sites-preserved-then-next-site
+sites-preserved-then-next-site c = (
+  omega (arith, c.sites-test.true),
+  labels_step _ _ _ _ _ _ c.sites.invariant.1 c.in_ok-push_both_labels.ensures,
+)
+
 pub sites-preserved : goal.sites-preserved
 sites-preserved c = (
-  omega (arith, c.min-site.ensures),
-  labels_to _ c.args.state.now _ _ _ _ _
-      (labels_step _ _ _ _ _ _ c.sites.invariant.1 c.in_ok-push_both_labels.ensures)
-      (omega (arith, c.min-site.ensures, c.untouched_to-next.ensures.ahead))
-      (omega (arith, c.min-site.ensures)) c.untouched_to-next.ensures.untouched,
+  omega (arith, c.min-next.ensures),
+  labels_to _ c.args.state.now _ _ _ _ _ c.sites.invariant.1
+      (omega (arith, c.sites-test.true, c.min-next.ensures, c.untouched_to.ensures.ahead))
+      (omega (arith, c.min-next.ensures)) c.untouched_to.ensures.untouched,
 )
 
 pub returns : goal.returns

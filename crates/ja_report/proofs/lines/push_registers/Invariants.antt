@@ -5,5 +5,5 @@ use Rattle.ja_report.proofs.lines.push_registers.Given as goal
 
 abbrev pub invariant-loop-number : goal.invariant-loop-number
 invariant-loop-number l =
-    Adds l.program (register_front l.program (state_of l.state).register l.number) l.initial.out
-    l.out
+    Adds l.program (register_front l.program l.parameters (state_of l.state).register l.number)
+    l.initial.out l.out

@@ -6,5 +6,5 @@ use Rattle.ja_report.proofs.table.push_entries.Given as goal
 
 abbrev pub invariant-loop-pair : goal.invariant-loop-pair
 invariant-loop-pair l =
-    Adds l.program (pair_lines (entries_of l.entries) (take l.pair-index l.pair-items))
-    l.initial.out l.out
+    Adds l.program (pair_lines (entries_of l.entries) (take l.pair-index l.pairs)) l.initial.out
+    l.out

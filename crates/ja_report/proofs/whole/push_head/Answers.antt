@@ -7,7 +7,7 @@ unfolding report_head
 returns c =
     simp (
       c.in_ok-push_sites.ensures,
-      c.in_ok-extend_from_slice-3.ensures.items,
+      c.in_ok-push_edges.ensures,
       c.in_ok-push_warnings.ensures,
       c.in_ok-extend_from_slice-2.ensures.items,
       c.in_ok-push_devices.ensures,

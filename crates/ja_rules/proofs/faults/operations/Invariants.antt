@@ -1,10 +1,10 @@
--- What is held of the nodes below this one.
-use Rattle.std.proofs.Common.{◌≡◌, None}
+-- What is held of the contexts before this one.
+use Rattle.std.proofs.Common.{◌≡◌, None, take}
 use Rattle.std.specs.BTreeMap.{get}
-use Rattle.ja_rules.specs.Tables.{table_of}
-use Rattle.ja_rules.specs.code.Faults.{Spot, held, reached_below, spot_cmp}
+use Rattle.std.specs.List.{flat_map}
+use Rattle.ja_rules.specs.code.Faults.{Spot, held, reached_of_context, spot_cmp}
 use Rattle.ja_rules.proofs.faults.operations.Given as goal
 
-abbrev pub invariant-nodes : goal.invariant-nodes
-invariant-nodes l = (k : Spot) → get spot_cmp l.found k
-    ≡ held k None (reached_below l.program (table_of l.table) l.n)
+abbrev pub invariant-loop-own : goal.invariant-loop-own
+invariant-loop-own l = (k : Spot) → get spot_cmp l.found k
+    ≡ held k None (flat_map (reached_of_context l.program) (take l.own-index l.table.contexts.items))

@@ -10,7 +10,7 @@ are_theirs : (c : goal.After-drop-found-2)
 are_theirs c =
     subst (AreWarnings c.args.program.now (table_of c.args.table.now))
     (sym (c.from_vec.ensures ∙ c.in_ok-warnings.ensures.warnings))
-    (are_warnings c.args.program.now (table_of c.args.table.now) c.requires.root
+    (are_warnings c.args.program.now c.args.table.now c.requires.fits
     c.in_ok-found.found c.in_ok-warnings.ensures.ordered c.in_ok-found.ensures)
 
 pub returns-clause-warnings : goal.returns-clause-warnings

@@ -4,7 +4,8 @@ use Rattle.std.specs.List.{list_any}
 use Rattle.ja_base.specs.declared.ids.Label.{Label}
 use Rattle.ja_abstract.specs.AbstractState.{labels_below}
 use Rattle.ja_value.specs.Value.{value_of, labels_in}
-use Rattle.ja_rules.specs.code.Faults.{entry_by, view_of}
+use Rattle.ja_transfer.specs.code.Callees.{entry_by}
+use Rattle.ja_rules.specs.code.Faults.{view_of}
 use Rattle.ja_rules.proofs.ReachedLemmas.{says_function}
 use Rattle.ja_rules.proofs.reached.no_function.Goals as goal
 

@@ -1,40 +1,60 @@
 -- A round that added no visit leaves a closed table.
-use Rattle.std.proofs.Common.{List, sym, subst, ◌∙◌, arith}
+use Rattle.std.proofs.Common.{◌≤◌, arith, length, subst, sym}
 use Rattle.ja_graph.specs.declared.program.Program.{Program}
-use Rattle.ja_rows.specs.declared.table.Item.{Item}
-use Rattle.ja_rows.specs.Table.{Table, IsClosed, IsBuilt}
-use Rattle.ja_rows.specs.Unfollowed.{IsOfRoot}
-use Rattle.ja_rows.proofs.Rising.{builds_opening}
-use Rattle.ja_rows.proofs.Unfollowed.{opening_of_root}
-use Rattle.ja_rules.specs.Tables.{table_of}
-use Rattle.ja_rules.specs.code.Rounds.{AreSettled}
+use Rattle.ja_rows.specs.Table.{IsBuilt, IsClosed}
+use Rattle.ja_rules.specs.Tables.{table_of, Fits}
+use Rattle.ja_rules.proofs.Rounds.{closed, now_is}
 use Rattle.ja_rules.proofs.solver.solve.Goals as goal
 
-pub rounds-init : goal.rounds-init
-rounds-init c = record {
-  fits = c.in_ok-opening.ensures.fits;
-  of_root =
-      subst IsOfRoot (sym c.in_ok-opening.ensures.table) (opening_of_root c.args.program.now);
-  built = subst (λ xs. IsBuilt c.args.program.now xs (table_of c.in_ok-opening.field-0))
-      (sym c.new-2.ensures.items) (sym c.in_ok-opening.ensures.table);
-  few = omega arith;
+pub rounds-requires : goal.rounds-requires
+rounds-requires c = record {
+  built = record {
+    program = c.requires.program;
+    keys = c.in_ok-keys.ensures;
+    fits = c.in_ok-opening.ensures.fits;
+    built = subst (λ xs. IsBuilt c.args.program.now xs (table_of c.in_ok-opening.field-0))
+        (sym c.new-2.ensures.items) (sym c.in_ok-opening.ensures.table);
+    few = omega (arith, c.new-2.ensures.len);
+  };
 }
 
-closed : (p : Program) (visits : List Item) (t : Table) → IsBuilt p visits t → AreSettled p t
-    → IsClosed p t
-closed p visits t built settled =
-    record { opening = builds_opening p visits t built; settled = settled }
+pub returns-clause-fits : goal.returns-clause-fits
+returns-clause-fits c =
+    subst (λ (q : Program). Fits q c.rounds.new.self.table)
+    (now_is c.in_ok-rounds.ensures.goes_on.program) c.in_ok-rounds.ensures.built.fits
+
+pub returns-clause-built : goal.returns-clause-built
+returns-clause-built c =
+    subst (λ xs. IsBuilt c.args.program.now xs (table_of c.rounds.new.self.table))
+    (sym c.from_vec.ensures)
+    (subst (λ (q : Program). IsBuilt q c.rounds.new.self.visits.items
+    (table_of c.rounds.new.self.table)) (now_is c.in_ok-rounds.ensures.goes_on.program)
+    c.in_ok-rounds.ensures.built.built)
 
 pub returns-clause-closed : goal.returns-clause-closed
 returns-clause-closed c =
-    closed c.args.program.now c.round.new.self.visits.items (table_of c.round.new.self.table)
-    c.in_ok-round.ensures.built.built (c.in_ok-round.ensures.settled
-    (sym c.len.ensures ∙ c.if-len-before.true ∙ c.len-before.ensures))
+    subst (λ (q : Program). IsClosed q (table_of c.rounds.new.self.table))
+    (now_is c.in_ok-rounds.ensures.goes_on.program)
+    (closed c.rounds.new.self.program.now c.rounds.new.self.visits.items
+    (table_of c.rounds.new.self.table) c.in_ok-rounds.ensures.built.built
+    c.in_ok-rounds.ensures.settled)
+
+pub returns-clause-few : goal.returns-clause-few
+returns-clause-few c =
+    subst (λ xs. length xs ≤ c.args.budget) (sym c.from_vec.ensures)
+    (omega (
+      arith,
+      c.in_ok-rounds.ensures.built.few,
+      c.in_ok-rounds.ensures.goes_on.budget,
+      c.rounds.new.self.visits.ok.0,
+    ))
 
 pub returns-clause-covers : goal.returns-clause-covers
 returns-clause-covers c =
-    c.closed_covers.ensures c.args.program.now (table_of c.round.new.self.table)
-    c.requires.program (closed c.args.program.now c.round.new.self.visits.items
-    (table_of c.round.new.self.table) c.in_ok-round.ensures.built.built
-    (c.in_ok-round.ensures.settled (sym c.len.ensures ∙ c.if-len-before.true
-    ∙ c.len-before.ensures)))
+    c.closed_covers.ensures c.args.program.now (table_of c.rounds.new.self.table)
+    c.requires.program
+    (subst (λ (q : Program). IsClosed q (table_of c.rounds.new.self.table))
+    (now_is c.in_ok-rounds.ensures.goes_on.program)
+    (closed c.rounds.new.self.program.now c.rounds.new.self.visits.items
+    (table_of c.rounds.new.self.table) c.in_ok-rounds.ensures.built.built
+    c.in_ok-rounds.ensures.settled))

@@ -17,7 +17,6 @@ returns c =
       printed = cc (c.in_ok-text.ensures, c.as_slice.ensures, c.as_slice-2.ensures);
       built = c.requires.solved.built;
       few = c.requires.solved.few;
-      of_root = c.requires.solved.of_root;
       closed = c.requires.solved.closed;
       exact = c.in_ok-warnings.ensures.warnings;
       covers = c.requires.solved.covers;

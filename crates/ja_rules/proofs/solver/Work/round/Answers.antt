@@ -1,57 +1,42 @@
--- Each node that has a state is settled in turn.
-use Rattle.std.proofs.Common.{sym, ap, ◌∙◌, true, false, is_some, arith}
-use Rattle.ja_rules.specs.Tables.{table_of}
-use Rattle.ja_rules.proofs.Building.{few_nodes, goes_on_both, has_state, step_is_item, node_settled, node_passed, all_settled}
+use Rattle.std.proofs.Common.{rules}
+use Rattle.ja_rules.proofs.Rounds.{both_on, explains_from, goes_both, round_settled}
+use Rattle.ja_rules.proofs.Visiting.{ok_after}
 use Rattle.ja_rules.proofs.solver.Work.round.Goals as goal
-use Rattle.ja_rules.proofs.solver.Work.round.Goals.{then-is_some+in_ok-settle, else-is_some}
 
-pub overflow_cast-node : goal.overflow_cast-node
-overflow_cast-node c =
-    omega (arith, few_nodes c.args.program.now c.requires.program, c.loop-node.invariant.all)
+pub returns-in_err-settle_steps-clause-fault : goal.returns-in_err-settle_steps-clause-fault
+returns-in_err-settle_steps-clause-fault c =
+    explains_from c.args.self.now c.settle.new.self c.in_ok-settle.ensures.goes_on _
+    (search rules)
 
-pub settle-requires-clause-item : goal.settle-requires-clause-item
-settle-requires-clause-item c =
-    step_is_item c.args.program.now (table_of c.loop-node.self.table) c.loop-node.node
-    (omega (arith, c.loop-node.invariant.all))
-    (ap is_some (c.root-in-loop-node.ensures.states c.loop-node.node)
-    ∙ has_state c.root-in-loop-node.result.now.states.items c.loop-node.node c.index.result.now true
-    (omega (arith, c.loop-node.invariant.all, c.root-in-loop-node.ensures.nodes))
-    c.index.ensures (sym c.is_some.ensures ∙ c.if-is_some.true))
+pub returns-in_err-settle_fills-clause-fault : goal.returns-in_err-settle_fills-clause-fault
+returns-in_err-settle_fills-clause-fault c =
+    explains_from c.args.self.now c.settle_steps.new.self
+    (goes_both c.args.self.now c.settle.new.self c.settle_steps.new.self
+    c.in_ok-settle.ensures.goes_on c.in_ok-settle_steps.ensures.goes_on) _ (search rules)
 
-pub loop-node-preserved : goal.loop-node-preserved
-loop-node-preserved c =
-    elim c.if-is_some.branch [
-      | then-is_some+in_ok-settle w ↦
-          rw w.self-is (record {
-            built = w.in_ok-settle.ensures.built;
-            goes_on =
-                goes_on_both _ _ _ c.loop-node.invariant.goes_on w.in_ok-settle.ensures.goes_on;
-            all = c.loop-node.invariant.all;
-            settled =
-                node_settled c.args.program.now c.args.self.now c.loop-node.self w.settle.new.self
-                c.loop-node.node c.loop-node.invariant.goes_on w.in_ok-settle.ensures.goes_on
-                c.loop-node.invariant.settled w.in_ok-settle.ensures.settled;
-          })
-      | else-is_some w ↦
-          rw w.self-is (record {
-            built = c.loop-node.invariant.built;
-            goes_on = c.loop-node.invariant.goes_on;
-            all = c.loop-node.invariant.all;
-            settled =
-                λ e. node_passed c.args.program.now (table_of c.loop-node.self.table)
-                c.loop-node.node (ap is_some (c.root-in-loop-node.ensures.states c.loop-node.node)
-                ∙ has_state c.root-in-loop-node.result.now.states.items c.loop-node.node
-                c.index.result.now false (omega (
-                  arith,
-                  c.loop-node.invariant.all,
-                  c.root-in-loop-node.ensures.nodes,
-                )) c.index.ensures (sym c.is_some.ensures
-                ∙ w.if-is_some.false)) (c.loop-node.invariant.settled e);
-          })
-    ]
+pub returns-clause-goes_on : goal.returns-clause-goes_on
+returns-clause-goes_on c =
+    ok_after c.settle_backs.result c.settle_backs.ensures.goes_on
+    (λ last. goes_both c.args.self.now c.settle_fills.new.self c.settle_backs.new.self
+    (goes_both c.args.self.now c.settle_steps.new.self c.settle_fills.new.self
+    (goes_both c.args.self.now c.settle.new.self c.settle_steps.new.self
+    c.in_ok-settle.ensures.goes_on c.in_ok-settle_steps.ensures.goes_on)
+    c.in_ok-settle_fills.ensures.goes_on) last)
 
 pub returns-clause-settled : goal.returns-clause-settled
 returns-clause-settled c =
-    λ e. all_settled c.args.program.now (table_of c.loop-node.self.table) c.loop-node.node
-    c.loop-node.invariant.built.of_root (omega (arith, c.loop-node.invariant.all))
-    (c.loop-node.invariant.settled e)
+    both_on c.settle_backs.result c.settle_backs.ensures.goes_on c.settle_backs.ensures.settled
+    (λ last backs each same. round_settled c.args.self.now c.settle.new.self
+    c.settle_steps.new.self c.settle_fills.new.self c.settle_backs.new.self
+    c.in_ok-settle.ensures.goes_on c.in_ok-settle_steps.ensures.goes_on
+    c.in_ok-settle_fills.ensures.goes_on last (c.in_ok-settle.ensures.settled each)
+    (c.in_ok-settle_steps.ensures.settled each) (c.in_ok-settle_fills.ensures.settled each)
+    (backs each) same)
+
+pub returns-clause-fault : goal.returns-clause-fault
+returns-clause-fault c =
+    explains_from c.args.self.now c.settle_fills.new.self
+    (goes_both c.args.self.now c.settle_steps.new.self c.settle_fills.new.self
+    (goes_both c.args.self.now c.settle.new.self c.settle_steps.new.self
+    c.in_ok-settle.ensures.goes_on c.in_ok-settle_steps.ensures.goes_on)
+    c.in_ok-settle_fills.ensures.goes_on) c.settle_backs.result c.settle_backs.ensures.fault

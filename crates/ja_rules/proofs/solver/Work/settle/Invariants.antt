@@ -1,16 +1,19 @@
--- The node still has a state, and where no visit was added the table is as it was.
-use Rattle.std.proofs.Common.{◌-◌, vec_len}
+-- The item is still one, and where no visit was added it is visited next.
+use Rattle.std.proofs.Common.{◌≡◌, ◌-◌, true, vec_len}
 use Rattle.ja_rows.specs.Table.{IsItem}
 use Rattle.ja_rules.specs.Tables.{table_of}
-use Rattle.ja_rules.specs.code.Rounds.{GoesOn, HasBuilt}
+use Rattle.ja_rules.specs.code.Growing.{HasSameEdges}
+use Rattle.ja_rules.specs.code.Rounds.{GoesOn, HasBuilt, IsUnchanged}
 use Rattle.ja_rules.proofs.solver.Work.settle.Given as goal
 
-abbrev pub invariant-steps : goal.invariant-steps
-invariant-steps l = record {
-  built : HasBuilt l.program l.budget l.self;
+abbrev pub invariant-turns : goal.invariant-turns
+invariant-turns l = record {
+  built : HasBuilt l.self;
   goes_on : GoesOn l.fn.self l.self;
-  item : IsItem l.program (table_of l.self.table) l.step;
+  item : IsItem l.self.program.now (table_of l.self.table) l.item;
+  edges : HasSameEdges l.item l.fn.self.table l.self.table;
+  next : l.each ≡ true → IsUnchanged l.fn.self l.self → l.is_next ≡ true;
 }
 
-abbrev pub decreases-steps : goal.decreases-steps
-decreases-steps l = l.budget - vec_len l.self.visits
+abbrev pub decreases-turns : goal.decreases-turns
+decreases-turns l = l.self.budget - vec_len l.self.visits

@@ -1,0 +1,13 @@
+pub mod AtCalling
+pub mod AtNode
+pub mod Callees
+pub mod Chains
+pub mod Changes
+pub mod Constructing
+pub mod EnteredStates
+pub mod Entries
+pub mod Exits
+pub mod FilledEntries
+pub mod Giving
+pub mod Loops
+pub mod Pairs

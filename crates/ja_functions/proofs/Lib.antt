@@ -1,0 +1,4 @@
+mod IndexKeys
+mod Labels
+mod Lists
+mod Operations

@@ -1,0 +1,214 @@
+//! What visits join into a table: states at nodes, demands, and values at entries. After `Memory`
+//! some of it may have been joined in.
+
+ghost use Rattle.std.specs.Prelude.{◌≡◌, ◌≢◌, ◌↔◌, [], IfOk, IfSome, IsSome, IsTrue, OnOk, Some, false, map, true};
+ghost use Rattle.std.specs.List.{AllByRecursion};
+ghost use Rattle.std.specs.Option.{option_map};
+ghost use Rattle.ja_graph.specs.declared.program.Program.{Program};
+ghost use Rattle.ja_graph.specs.Program.{node_at};
+ghost use Rattle.ja_graph.specs.WellFormed.{IsWellFormed};
+ghost use Rattle.ja_machine.specs.Frames.{registers_of};
+ghost use Rattle.ja_rows.specs.Table.{is_exit, joined_state};
+ghost use Rattle.ja_aheap.specs.Objects.{demands_in};
+ghost use Rattle.ja_astate.specs.State.{state_of, HaveOneShape, IsStateOf};
+ghost use Rattle.ja_transfer.specs.Outcomes.{given_by};
+ghost use Rattle.ja_flow.specs.code.Pairs.{with_set};
+ghost use Rattle.ja_rules.specs.Order.{AreContextsOrdered};
+ghost use Rattle.ja_rules.specs.Tables.{states_in, table_of, Fits, FitsContext};
+ghost use Rattle.ja_rules.specs.code.Growing.{with_demands_at, with_entries_at, with_given, with_state_at, with_states_at, AreDemandsOf, AreValuesOf, HasSameKeys};
+
+use crate::entries::demand_all;
+use crate::table::{ATable, ContextTable, node_info};
+use ja_aheap::DemandList;
+use ja_astate::AState;
+use ja_base::{Context, Memory, NodeId};
+use ja_flow::{EntryValue, set_values};
+use ja_graph::{Node, Program};
+use std::alloc::Global;
+
+// Joins a state into the one that is kept, if there is one, and tells whether that changes it.
+fn join_kept(alloc: Global, kept: &mut Option<AState>, state: AState) -> Result<bool, Memory>
+    requires { IfSome kept.old (λ s. HaveOneShape s state) }
+    ensures joined { IfOk result (λ _. option_map state_of kept.new
+        ≡ Some (joined_state (option_map state_of kept.old) (state_of state))) }
+    ensures changed { IfOk result (λ c. c ≡ true
+        → option_map state_of kept.new ≢ option_map state_of kept.old) }
+    ensures same { IfOk result (λ c. c ≡ false
+        → option_map state_of kept.new ≡ option_map state_of kept.old) }
+    ensures shape { OnOk result (IfSome kept.new (HaveOneShape state)) }
+{
+    match kept {
+        Some(before) => before.join(alloc, &state),
+        None => {
+            *kept = Some(state);
+            Ok(true)
+        }
+    }
+}
+
+/// Whether a node leaves its function.
+pub(crate) fn is_exit(node: &Node) -> bool
+    ensures { result ≡ is_exit node.now }
+{
+    matches!(node, Node::Return { .. } | Node::Escape)
+}
+
+// When something changed last, if it changes now or not.
+fn last_change(changed: bool, now: u64, before: u64) -> u64 {
+    if changed { now } else { before }
+}
+
+// Joins a state in at a node of a context, and tells whether the states changed.
+fn join_at(
+    alloc: Global,
+    program: &Program,
+    own: &mut ContextTable,
+    node: NodeId,
+    state: AState,
+    now: u64,
+) -> Result<bool, Memory>
+    requires program { IsWellFormed program.now }
+    requires fits { FitsContext program.now own.old }
+    requires node { IsSome (node_at program.now own.old.context.function node) }
+    requires state { IsStateOf program.now
+        (registers_of program.now own.old.context.function) state }
+    ensures joined { IfOk result (λ _. states_in own.new.nodes.items
+        ≡ with_given (states_in own.old.nodes.items) (node.0, state_of state)) }
+    ensures changed { IfOk result (λ c. c ≡ true
+        → states_in own.new.nodes.items ≢ states_in own.old.nodes.items) }
+    ensures same { IfOk result (λ c. c ≡ false
+        → states_in own.new.nodes.items ≡ states_in own.old.nodes.items) }
+    ensures context { own.new.context ≡ own.old.context }
+    ensures entries { own.new.entries ≡ own.old.entries }
+    ensures fits { OnOk result (FitsContext program.now own.new) }
+{
+    let is_left = is_exit(&node_info(program, own.context.function, node).node);
+    let at = &mut own.nodes[node.0 as usize];
+    let changed = join_kept(alloc, &mut at.state, state)?;
+    at.changed = last_change(changed, now, at.changed);
+    own.changes.left = last_change(changed & is_left, now, own.changes.left);
+    Ok(changed)
+}
+
+impl ATable {
+    // The time of what this visit changes.
+    fn next_time(&self) -> u64 {
+        self.clock.saturating_add(1)
+    }
+
+    /// Joins a state in at a node of a context that is reached, and tells whether that changes the
+    /// table.
+    pub(crate) fn join_state(
+        &mut self,
+        alloc: Global,
+        program: &Program,
+        context: Context,
+        node: NodeId,
+        state: AState,
+    ) -> Result<bool, Memory>
+        requires program { IsWellFormed program.now }
+        requires fits { Fits program.now self.old }
+        requires context { IsTrue ((table_of self.old).context context) }
+        requires node { IsSome (node_at program.now context.function node) }
+        requires state { IsStateOf program.now
+            (registers_of program.now context.function) state }
+        ensures joined { IfOk result (λ _. table_of self.new
+            ≡ with_state_at (table_of self.old) context node.0 (state_of state)) }
+        ensures changed { IfOk result (λ c. c ≡ true → table_of self.new ≢ table_of self.old) }
+        ensures same { IfOk result (λ c. c ≡ false → table_of self.new ≡ table_of self.old) }
+        ensures kept { HasSameKeys self.old self.new }
+        ensures fits { OnOk result (Fits program.now self.new) }
+    {
+        let now = self.next_time();
+        match self.place_of(context) {
+            Some(place) => join_at(alloc, program, &mut self.contexts[place], node, state, now),
+            None => unreachable!(),
+        }
+    }
+
+    /// Joins states in at nodes of a context that is reached, the first of them first, and tells
+    /// whether that changes the table.
+    pub(crate) fn join_states(
+        &mut self,
+        alloc: Global,
+        program: &Program,
+        context: Context,
+        states: Vec<(NodeId, AState)>,
+    ) -> Result<bool, Memory>
+        requires program { IsWellFormed program.now }
+        requires fits { Fits program.now self.old }
+        requires context { IsTrue ((table_of self.old).context context) }
+        requires nodes { AllByRecursion (λ (s : NodeId × AState).
+            IsSome (node_at program.now context.function s.0)) states.items }
+        requires states { AllByRecursion (λ (s : NodeId × AState). IsStateOf program.now
+            (registers_of program.now context.function) s.1) states.items }
+        ensures joined { IfOk result (λ _. table_of self.new
+            ≡ with_states_at (table_of self.old) context (map given_by states.items)) }
+        ensures changed { IfOk result (λ c. c ≡ true → table_of self.new ≢ table_of self.old) }
+        ensures same { IfOk result (λ c. c ≡ false → table_of self.new ≡ table_of self.old) }
+        ensures kept { HasSameKeys self.old self.new }
+        ensures fits { OnOk result (Fits program.now self.new) }
+    {
+        let mut changed = false;
+        for (node, state) in states {
+            let joined = self.join_state(alloc, program, context, node, state)?;
+            changed = changed | joined;
+        }
+        Ok(changed)
+    }
+
+    /// Demands pairs of the entry of a context that is reached, and tells whether one wasn't
+    /// demanded before.
+    pub(crate) fn demand(
+        &mut self,
+        alloc: Global,
+        context: Context,
+        demands: DemandList,
+    ) -> Result<bool, Memory>
+        requires ordered { AreContextsOrdered self.old.contexts.items }
+        requires context { IsTrue ((table_of self.old).context context) }
+        ensures demanded { IfOk result (λ _. table_of self.new
+            ≡ with_demands_at (table_of self.old) context (demands_in demands)) }
+        ensures changed { IfOk result (λ c. c ≡ true → table_of self.new ≢ table_of self.old) }
+        ensures same { IfOk result (λ c. c ≡ false → table_of self.new ≡ table_of self.old) }
+        ensures kept { HasSameKeys self.old self.new }
+        ensures fits { OnOk result ((p : Program) → AreDemandsOf p (demands_in demands)
+            → Fits p self.old → Fits p self.new) }
+    {
+        let now = self.next_time();
+        let Some(place) = self.place_of(context) else {
+            unreachable!();
+        };
+        let own = &mut self.contexts[place];
+        let changed = demand_all(alloc, &mut own.entries, demands)?;
+        own.changes.demanded = last_change(changed, now, own.changes.demanded);
+        Ok(changed)
+    }
+
+    /// Sets values of the entry of a context that is reached, and tells whether there are some.
+    pub(crate) fn set_values(
+        &mut self,
+        alloc: Global,
+        context: Context,
+        values: Vec<EntryValue>,
+    ) -> Result<bool, Memory>
+        requires ordered { AreContextsOrdered self.old.contexts.items }
+        requires context { IsTrue ((table_of self.old).context context) }
+        ensures set { IfOk result (λ _. table_of self.new
+            ≡ with_entries_at (table_of self.old) context
+            (with_set ((table_of self.old).entry context) values.items)) }
+        ensures told { IfOk result (λ t. t ≡ false ↔ (values.items ≡ [])) }
+        ensures kept { HasSameKeys self.old self.new }
+        ensures fits { OnOk result ((p : Program) → AreValuesOf p values.items
+            → Fits p self.old → Fits p self.new) }
+    {
+        let now = self.next_time();
+        let Some(place) = self.place_of(context) else {
+            unreachable!();
+        };
+        let own = &mut self.contexts[place];
+        let changed = set_values(alloc, &mut own.entries, values)?;
+        own.changes.valued = last_change(changed, now, own.changes.valued);
+        Ok(changed)
+    }
+}
