@@ -1,0 +1,20 @@
+function Cart() {
+  this.prices = [];
+  this.count = 0;
+}
+Cart.prototype.add = function (price) {
+  this.prices[this.count] = price;
+  this.count = this.count + 1;
+};
+Cart.prototype.total = function () {
+  var sum = 0;
+  for (var i = 0; i < this.count; i++) {
+    sum = sum + this.prices[i];
+  }
+  return sum;
+};
+var cart = new Cart(), coupon = {};
+while (input()) { cart.add(number()); }
+if (cart.total() > 100) { cart.discount(10); }
+if (cart.total() < 10) { prnt("too little"); }
+if (input()) { coupon.code.toString(); }
