@@ -1,0 +1,10 @@
+pub mod NoFaults
+pub mod Lexed
+pub mod Leaves
+pub mod Options
+pub mod TopLevel
+pub mod Given
+pub mod ReadingLemmas
+pub mod NumberLemmas
+pub mod MatchLemmas
+pub mod Examples

@@ -1,0 +1,10 @@
+-- The value stands in the next word.
+use Rattle.ja_words.proofs.Examples.{some_analyse, some_check, some_run}
+use Rattle.ja_words.proofs.laws.commands_have_words.Goals as goal
+
+pub returns : goal.returns
+returns c = record {
+  analyse = λ cert budget low high. some_analyse cert budget low high;
+  check = some_check;
+  run = λ steps low high. some_run steps low high;
+}

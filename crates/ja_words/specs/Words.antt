@@ -1,0 +1,70 @@
+-- The command lines of the program. A word is its bytes.
+use Rattle.std.specs.Prelude.{◌≡◌, ◌≤◌, ◌⊎◌, ◌-◌, ◌^◌, ℕ, Bool, true, false, List, [], ◌∷◌, ◌++◌}
+use Rattle.std.specs.Prelude.{Option, Some, None}
+use lib.Chars.{codes}
+use Rattle.std.specs.Fmt.{decimal}
+use Rattle.ja_words.specs.declared.command.Command.{Command}
+use Rattle.ja_words.specs.declared.command.Command.TheVariants.{Analyse, Check, Run}
+
+abbrev pub Word : Type 0
+Word = List ℕ
+
+-- the words of a flag, which is asked for or not
+abbrev pub IsFlag : Word → Bool → List Word → Type 0
+IsFlag name false words = words ≡ []
+IsFlag name true words = words ≡ name ∷ []
+
+-- the words of an option with its value, which is the next word, or follows `=` in the same word
+abbrev pub IsOption : Word → Word → List Word → Type 0
+IsOption name value words =
+    (words ≡ name ∷ value ∷ []) ⊎ (words ≡ (name ++ codes "=" ++ value) ∷ [])
+
+-- the words of an option whose value is a number from 1 to `most`, in decimal digits; there are
+-- none for the number that is meant where none is given
+abbrev pub IsNumber : Word → ℕ → ℕ → ℕ → List Word → Type 0
+IsNumber name default most number words =
+    ((words ≡ []) × (number ≡ default))
+    ⊎ ((1 ≤ number) × (number ≤ most) × IsOption name (decimal number) words)
+
+-- how many visits are made at most, and how many steps: where no number is given, and the greatest
+abbrev pub default_budget : ℕ
+default_budget = 1000000
+
+abbrev pub max_budget : ℕ
+max_budget = 2 ^ 128 - 1
+
+abbrev pub default_steps : ℕ
+default_steps = 1000000
+
+abbrev pub max_steps : ℕ
+max_steps = 10000000
+
+abbrev pub IsBudget : ℕ → List Word → Type 0
+IsBudget = IsNumber (codes "--budget") default_budget max_budget
+
+abbrev pub IsSteps : ℕ → List Word → Type 0
+IsSteps = IsNumber (codes "--steps") default_steps max_steps
+
+-- the words are those of the one group and those of the other, in either order
+abbrev pub AreBoth : List Word → List Word → List Word → Type 0
+AreBoth words a b = (words ≡ a ++ b) ⊎ (words ≡ b ++ a)
+
+-- the words are options of the analysis, in any order, each at most once
+abbrev pub IsAnalyseOptions : List Word → Bool → ℕ → Type 0
+IsAnalyseOptions words cert budget =
+    (a : List Word) × (b : List Word) × IsFlag (codes "--cert") cert a × IsBudget budget b
+    × AreBoth words a b
+
+-- the words are the command line of this command: its word, and its options
+abbrev pub IsCommandLine : List Word → Command → Type 0
+IsCommandLine words (Analyse cert budget) =
+    (options : List Word) × (words ≡ codes "analyse" ∷ options)
+    × IsAnalyseOptions options cert budget
+IsCommandLine words Check = words ≡ codes "check" ∷ []
+IsCommandLine words (Run steps) =
+    (options : List Word) × (words ≡ codes "run" ∷ options) × IsSteps steps options
+
+-- what the words ask for: the command of a command line, and nothing exactly where they are none
+abbrev pub AsksFor : List Word → Option Command → Type 0
+AsksFor words (Some command) = IsCommandLine words command
+AsksFor words None = (command : Command) → IsCommandLine words command → ⊥

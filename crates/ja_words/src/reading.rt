@@ -1,0 +1,60 @@
+//! The command that clap's matches say.
+
+ghost use Rattle.std.specs.Prelude.{◌≡◌};
+ghost use Rattle.clap.specs.Words.{found_of, rows_of, subcommand_rows_of};
+ghost use Rattle.ja_words.specs.code.Answers.{ReadsAnalyse, ReadsCommand, ReadsNamed, ReadsRun};
+
+use crate::command::Command;
+use crate::numbers::number_of;
+use clap::ArgMatches;
+
+/// How many visits are made at most, where the words don't say it, and the greatest number.
+const DEFAULT_BUDGET: u128 = 1_000_000;
+
+const MAX_BUDGET: u128 = u128::MAX;
+
+/// The same of the steps of a run.
+const DEFAULT_STEPS: u128 = 1_000_000;
+
+const MAX_STEPS: u128 = 10_000_000;
+
+// The analysis with these options.
+fn analyse(options: &ArgMatches<'_>) -> Option<Command>
+    ensures { ReadsAnalyse (rows_of (found_of options.now)) result }
+{
+    let budget = number_of(options.get_str("budget"), DEFAULT_BUDGET, MAX_BUDGET)?;
+    let cert = options.get_flag("cert");
+    Some(Command::Analyse { cert, budget })
+}
+
+// The run with these options.
+fn run(options: &ArgMatches<'_>) -> Option<Command>
+    ensures { ReadsRun (rows_of (found_of options.now)) result }
+{
+    let steps = number_of(options.get_str("steps"), DEFAULT_STEPS, MAX_STEPS)?;
+    Some(Command::Run {
+        steps: steps as u64,
+    })
+}
+
+// The command of this name, with these options.
+fn named(name: &str, options: &ArgMatches<'_>) -> Option<Command>
+    ensures { ReadsNamed name.now (rows_of (found_of options.now)) result }
+{
+    match name {
+        "analyse" => analyse(options),
+        "check" => Some(Command::Check),
+        "run" => run(options),
+        _ => None,
+    }
+}
+
+/// The command that the matches say, unless they name none, or a value is no number of its option.
+pub(crate) fn command_of(matches: &ArgMatches<'_>) -> Option<Command>
+    ensures { ReadsCommand (subcommand_rows_of matches.now) result }
+{
+    match matches.subcommand() {
+        Some((name, options)) => named(name, options),
+        None => None,
+    }
+}
