@@ -1,5 +1,5 @@
 -- The contexts that a table keeps in order are those of its table, in order; and what each has.
-use Rattle.std.specs.Prelude.{◌≡◌, ◌⊎◌, ◌*◌, ◌<◌, ◌==◌, ℕ, Bool, false, IsTrue, filter, length, map, nat_lt, vec_len, List, [], ◌∷◌, ◌++◌, Option, Some}
+use Rattle.std.specs.Prelude.{◌≡◌, ◌⊎◌, ◌*◌, ◌<◌, ◌==◌, ℕ, Bool, false, IsTrue, All, filter, length, map, nat_lt, vec_len, List, [], ◌∷◌, ◌++◌, Option, Some}
 use Rattle.std.specs.List.{AllByRecursion, flat_map, list_any, range_with_len}
 use Rattle.std.specs.Option.{option_and_then, option_map_or}
 use Rattle.std.proofs.Common.{refl, sym, subst, ap, ◌∙◌, inl, inr, arith}
@@ -140,34 +140,44 @@ kept_ascend (c ∷ cs) o = (
   kept_ascend cs o.1,
 )
 
-module _ (p : Program) (t : ATable) (fits : Fits p t) where
+-- where they are contexts of the program, in order
+module _ (p : Program) (t : ATable) (each : All (FitsContext p) t.contexts.items) where
   kept_fits : (x : Context) → Member x (kept_contexts t.contexts.items) → IsContext p x
   kept_fits x m =
       let r = from_map (λ (d : ContextTable). d.context) x t.contexts.items m in
       let c : FitsContext p r.0 = of_member (FitsContext p) t.contexts.items r.0
-      (recursion_from_All (FitsContext p) t.contexts.items fits.each) r.1 in
+      (recursion_from_All (FitsContext p) t.contexts.items each) r.1 in
       subst (IsContext p) r.2 c.context
 
-  pub kept_is_reached : (x : Context) → IsTrue ((table_of t).context x)
+  pub reached_among : (x : Context) → IsTrue ((table_of t).context x)
       → Member x (contexts_of p (table_of t))
-  kept_is_reached x is =
+  reached_among x is =
       member-filter (table_of t).context x (all_contexts p) (context_listed p x (kept_fits x
       (listed (λ (c : ContextTable). c.context) same_context same_context-true t.contexts.items x
       is))) is
 
-  pub contexts_listed : contexts_of p (table_of t) ≡ kept_contexts t.contexts.items
-  contexts_listed =
+  pub contexts_kept : AreContextsOrdered t.contexts.items
+      → contexts_of p (table_of t) ≡ kept_contexts t.contexts.items
+  contexts_kept ordered =
       same_elements Comes comes_one_way (contexts_of p (table_of t))
       (kept_contexts t.contexts.items) (contexts_ascend p (table_of t).context)
-      (kept_ascend t.contexts.items fits.ordered)
+      (kept_ascend t.contexts.items ordered)
       (λ x m. listed (λ (c : ContextTable). c.context) same_context same_context-true
       t.contexts.items x (from_filter (table_of t).context x (all_contexts p) m).1)
-      (λ x m. kept_is_reached x (told (λ (c : ContextTable). c.context) same_context
+      (λ x m. reached_among x (told (λ (c : ContextTable). c.context) same_context
       same_context-self t.contexts.items x m))
+
+pub kept_is_reached : (p : Program) (t : ATable) → Fits p t → (x : Context)
+    → IsTrue ((table_of t).context x) → Member x (contexts_of p (table_of t))
+kept_is_reached p t fits x is = reached_among p t fits.each x is
+
+pub contexts_listed : (p : Program) (t : ATable) → Fits p t
+    → contexts_of p (table_of t) ≡ kept_contexts t.contexts.items
+contexts_listed p t fits = contexts_kept p t fits.each fits.ordered
 
 -- ---- what each of them has
 
-flat_map_each : {A B : Type 0} (f g : A → List B) (xs : List A)
+pub flat_map_each : {A B : Type 0} (f g : A → List B) (xs : List A)
     → AllByRecursion (λ x. f x ≡ g x) xs → flat_map f xs ≡ flat_map g xs
 flat_map_each f g [] all = refl
 flat_map_each f g (x ∷ xs) all =
@@ -183,7 +193,7 @@ apart x y h = elim (cases_Bool (same_context x y)) [
 ]
 
 -- each is the first of its context
-find_kept : (cs : List ContextTable) → AreContextsOrdered cs
+pub find_kept : (cs : List ContextTable) → AreContextsOrdered cs
     → AllByRecursion (λ (c : ContextTable). find_context c.context cs ≡ Some c) cs
 find_kept [] o = tt
 find_kept (c ∷ cs) o = (

@@ -1,5 +1,5 @@
 -- The call edges that a table keeps in order are those of its table, in order.
-use Rattle.std.specs.Prelude.{◌≡◌, ◌⊎◌, ◌<◌, ◌==◌, ℕ, IsTrue, length, map, nat_lt, vec_len, List, [], ◌∷◌, ◌++◌}
+use Rattle.std.specs.Prelude.{◌≡◌, ◌⊎◌, ◌<◌, ◌==◌, ℕ, IsTrue, All, length, map, nat_lt, vec_len, List, [], ◌∷◌, ◌++◌}
 use Rattle.std.specs.List.{flat_map}
 use Rattle.std.specs.Fmt.{decimal}
 use lib.Chars.{codes}
@@ -22,10 +22,10 @@ use Rattle.ja_rows.proofs.Views.{same_context-true}
 use Rattle.ja_rules.specs.declared.table.ATable.{ATable}
 use Rattle.ja_rules.specs.declared.table.CallEdge.{CallEdge}
 use Rattle.ja_rules.specs.Order.{below_context, below_edge, AreEdgesOrdered}
-use Rattle.ja_rules.specs.Tables.{table_of, Fits, FitsEdge}
+use Rattle.ja_rules.specs.Tables.{table_of, Fits, FitsContext, FitsEdge}
 use Rattle.ja_report.specs.Report.{edge_text, edges_text}
 use Rattle.ja_report.proofs.Ascending.{of_member, of_each, from_map, from_flat_map, first_kept, first_or_later, number_listed, Ascends, ascends_kept, ascends-flat_map, ascends-range, same_elements}
-use Rattle.ja_report.proofs.ContextLemmas.{Comes, comes_one_way, contexts_ascend, kept_is_reached, listed, told}
+use Rattle.ja_report.proofs.ContextLemmas.{Comes, comes_one_way, contexts_ascend, listed, reached_among, told}
 
 -- ---- the order of edges
 
@@ -195,24 +195,31 @@ kept_ascend (e ∷ es) o = (
   kept_ascend es o.1,
 )
 
-module _ (p : Program) (t : ATable) (fits : Fits p t) where
+-- where they lead between contexts of the table, in order
+module _ (p : Program) (t : ATable) (each : All (FitsContext p) t.contexts.items)
+    (edges : All (λ (d : CallEdge). FitsEdge p t d.edge) t.edges.items) where
   kept_fits : (e : Edge) → Member e (kept_edges t.edges.items) → FitsEdge p t e
   kept_fits e m =
       let r = from_map (λ (d : CallEdge). d.edge) e t.edges.items m in
       subst (FitsEdge p t) r.2 (of_member (λ (d : CallEdge). FitsEdge p t d.edge) t.edges.items r.0
-      (recursion_from_All (λ (d : CallEdge). FitsEdge p t d.edge) t.edges.items fits.edges) r.1)
+      (recursion_from_All (λ (d : CallEdge). FitsEdge p t d.edge) t.edges.items edges) r.1)
 
-  pub edges_listed : edges_of p (table_of t) ≡ kept_edges t.edges.items
-  edges_listed =
+  pub edges_kept : AreEdgesOrdered t.edges.items
+      → edges_of p (table_of t) ≡ kept_edges t.edges.items
+  edges_kept ordered =
       same_elements Follows follows_one_way (edges_of p (table_of t)) (kept_edges t.edges.items)
-      (edges_ascend p (table_of t)) (kept_ascend t.edges.items fits.edges_ordered)
+      (edges_ascend p (table_of t)) (kept_ascend t.edges.items ordered)
       (λ e m. listed (λ (d : CallEdge). d.edge) same_edge same_edge-true t.edges.items e
       (edge_is p (table_of t) e m))
       (λ e m. let f = kept_fits e m in
-      edge_listed p (table_of t) e (kept_is_reached p t fits e.caller f.caller)
+      edge_listed p (table_of t) e (reached_among p t each e.caller f.caller)
       (within_from_some (nodes_of p e.caller.function) e.node.0 f.node)
-      (kept_is_reached p t fits e.callee f.callee)
+      (reached_among p t each e.callee f.callee)
       (told (λ (d : CallEdge). d.edge) same_edge same_edge-self t.edges.items e m))
+
+pub edges_listed : (p : Program) (t : ATable) → Fits p t
+    → edges_of p (table_of t) ≡ kept_edges t.edges.items
+edges_listed p t fits = edges_kept p t fits.each fits.edges fits.edges_ordered
 
 -- how many there are
 pub edges_count : (p : Program) (t : ATable) → Fits p t

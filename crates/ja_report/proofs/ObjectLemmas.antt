@@ -29,7 +29,7 @@ filter_step {X} {A} f test x xs false e none rest =
     rw e (rest ∙ ap (λ (l : List A). l ++ flat_map f xs) (sym (none e)))
 
 -- elements that give nothing may be left out
-flat_map_filter : {X A : Type 0} (f : X → List A) (test : X → Bool)
+pub flat_map_filter : {X A : Type 0} (f : X → List A) (test : X → Bool)
     → ((x : X) → test x ≡ false → f x ≡ []) → (xs : List X)
     → flat_map f (filter test xs) ≡ flat_map f xs
 flat_map_filter f test none [] = refl
@@ -52,12 +52,12 @@ entry_is_entry p = rw (no_label (labels_of p)) refl
 
 -- ---- properties
 
-entry_none : (p : Program) (l : Label) (k : Key) (q : AbstractProperty) → q ≡ entry_property
+pub entry_none : (p : Program) (l : Label) (k : Key) (q : AbstractProperty) → q ≡ entry_property
     → property_line p l k q ≡ []
 unfolding property_line
 entry_none p l k q e = rw (ap (is_entry p) e ∙ entry_is_entry p) refl
 
-object_none : (p : Program) (l : Label) (f : Key → AbstractProperty)
+pub object_none : (p : Program) (l : Label) (f : Key → AbstractProperty)
     → ((k : Key) → f k ≡ entry_property) → [] ≡ object_lines p l f
 unfolding object_lines
 object_none p l f h =
@@ -114,7 +114,7 @@ both_labels p f l m a b c first second =
 pub label_front : Program → (Label → Key → AbstractProperty) → ℕ → List Line
 label_front p f n = flat_map (λ (l : Label). object_lines p l (f l)) (labels_below n)
 
-labels_more : (i : ℕ)
+pub labels_more : (i : ℕ)
     → labels_below (i + 1) ≡ labels_below i ++ new (site_of i) ∷ old (site_of i) ∷ []
 labels_more i =
     let both : ℕ → List Label = λ s. new (site_of s) ∷ old (site_of s) ∷ [] in
@@ -178,7 +178,7 @@ unfolding mask_line
 no_line s m true e n = rw e refl
 no_line s m false e n = absurd (true≢false n)
 
-unmasked : (h : HeapMap) (s : Site) → is_masked h s ≡ false → mask_line s (h.mask s.0) ≡ []
+pub unmasked : (h : HeapMap) (s : Site) → is_masked h s ≡ false → mask_line s (h.mask s.0) ≡ []
 unmasked h s e = no_line s (h.mask s.0) _ refl e
 
 -- the lines of the first sites

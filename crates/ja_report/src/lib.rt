@@ -14,5 +14,8 @@ mod texts;
 mod values;
 mod whole;
 
+pub use lines::{is_entry, is_undefined, register_count};
 pub use refusals::{Refusal, refusal_text};
+pub use table::{all_keys, name_count};
+pub use values::site_count;
 pub use whole::{report, spent_text};

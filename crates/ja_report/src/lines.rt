@@ -76,7 +76,7 @@ fn has_attrs(attrs: AAttrs) -> bool
 
 /// Whether a property is exactly as at entry.
 #[tactic(auto, unfolding(crate::specs::Lines::is_entry))]
-fn is_entry(program: &Program, property: &AProp) -> bool
+pub fn is_entry(program: &Program, property: &AProp) -> bool
     requires { IsWellFormed program.now }
     ensures { result ≡ is_entry program.now (property_of property.now) }
 {
@@ -235,7 +235,7 @@ fn has_more(sites: u32, value: &AValue) -> bool
 
 /// Whether a value is exactly undefined.
 #[tactic(auto, unfolding(crate::specs::Lines::is_undefined))]
-fn is_undefined(program: &Program, value: &AValue) -> bool
+pub fn is_undefined(program: &Program, value: &AValue) -> bool
     requires { IsWellFormed program.now }
     ensures { result ≡ is_undefined program.now (value_of value.now) }
 {
@@ -266,7 +266,7 @@ fn push_register_line(
 }
 
 /// How many registers a function has.
-fn register_count(program: &Program, function: FnId) -> u32
+pub fn register_count(program: &Program, function: FnId) -> u32
     ensures { result ≡ registers_of program.now function }
 {
     match program.functions.as_slice().get(function.0 as usize) {

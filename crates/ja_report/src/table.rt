@@ -27,7 +27,7 @@ use ja_value::AProp;
 use std::alloc::Global;
 
 /// How many names a program has.
-fn name_count(program: &Program) -> u32
+pub fn name_count(program: &Program) -> u32
     requires { IsWellFormed program.now }
     ensures { result ≡ length program.now.names }
 {
@@ -54,7 +54,7 @@ fn keys_below(alloc: Global, names: u32) -> Result<Vec<Key>, Memory>
 }
 
 /// The keys of a program, in order.
-pub(crate) fn all_keys(alloc: Global, program: &Program) -> Result<Vec<Key>, Memory>
+pub fn all_keys(alloc: Global, program: &Program) -> Result<Vec<Key>, Memory>
     requires { IsWellFormed program.now }
     ensures { IfOk result (λ keys. keys.items ≡ keys_of program.now) }
 {

@@ -18,7 +18,7 @@ use ja_value::{AValue, LabelSet};
 use std::alloc::Global;
 
 /// How many sites a program has.
-pub(crate) fn site_count(program: &Program) -> u32
+pub fn site_count(program: &Program) -> u32
     requires { IsWellFormed program.now }
     ensures { result ≡ length program.now.sites }
 {

@@ -81,11 +81,13 @@ pub fn report(
     ensures { IfOk result (λ text. text.items
         ≡ report_text program.now (table_of table.now) visits.now warnings.now) }
 {
-    let lines = lines_of(alloc, program, table)?;
+    let Output { text: lines, named } = lines_of(alloc, program, table)?;
     let mut text = Vec::new(alloc);
-    push_head(&mut text, alloc, program, table, warnings, &lines.named)?;
+    push_head(&mut text, alloc, program, table, warnings, &named)?;
+    drop(named);
     push_context_count(&mut text, table.contexts.len())?;
-    text.extend_from_slice(&lines.text)?;
+    text.extend_from_slice(&lines)?;
+    drop(lines);
     push_visits(&mut text, program, visits)?;
     text.extend_from_slice(b"end\n")?;
     Ok(text)
