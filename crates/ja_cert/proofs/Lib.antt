@@ -1,0 +1,9 @@
+pub mod Commas
+pub mod ContextLemmas
+pub mod EntryLemmas
+pub mod Floats
+pub mod Names
+pub mod Rulesets
+pub mod StateLemmas
+pub mod Views
+pub mod Wholes

@@ -1,0 +1,4 @@
+-- what a certificate is, and the first place at which JSON is none
+pub mod Certificate
+-- what the functions inside the crate promise each other
+pub mod code
