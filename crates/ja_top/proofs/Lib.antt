@@ -1,4 +1,4 @@
+pub mod Asking
 pub mod FoundLemmas
 pub mod Reporting
 pub mod Transcripts
-pub mod WordLemmas

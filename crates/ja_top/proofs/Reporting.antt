@@ -1,109 +1,133 @@
--- What the statuses of a report say.
-use Rattle.std.specs.Prelude.{List, [], ◌∷◌, ℕ, String, Some, true}
-use Rattle.std.specs.declared.alloc.Global.{Global}
-use Rattle.std.proofs.Common.{inl, inr}
+-- What the statuses of an answer say.
+use Rattle.std.specs.Prelude.{◌≡◌, List, [], ◌∷◌, ℕ, Some, true}
+use Rattle.std.proofs.Common.{◌∙◌, ap, sym, subst, inl, inr}
 use Rattle.ja_graph.specs.declared.program.Program.{Program}
+use Rattle.ja_grammar.specs.declared.fault.ParseFault.TheVariants as parse_fault
+use Rattle.ja_load.specs.declared.fault.LoadFault.{LoadFault}
+use Rattle.ja_load.specs.declared.fault.LoadFault.TheVariants as fault
+use Rattle.ja_load.specs.code.Loading.{HasNone}
 use Rattle.ja_rows.specs.declared.table.Warning.{Warning}
 use Rattle.ja_prim.specs.declared.signature.Signature.{Signature}
+use Rattle.ja_report.specs.Refusals.{refusal_text}
+use Rattle.ja_report.specs.declared.refusals.Refusal.{Refusal}
+use Rattle.ja_report.specs.declared.refusals.Refusal.TheVariants as refusal
+use Rattle.ja_top.specs.declared.answer.Answer.{Answer}
+use Rattle.ja_top.specs.declared.request.Request.{Request}
 use Rattle.ja_top.specs.declared.status.Status.{Status}
 use Rattle.ja_top.specs.declared.status.Status.TheVariants.{Done, Warned, Usage, ReadFault}
 use Rattle.ja_top.specs.declared.status.Status.TheVariants.{WriteFault, TooLong, NotText, Syntax}
 use Rattle.ja_top.specs.declared.status.Status.TheVariants.{Scope, Limit, Spent, DeviceFault, Left}
 use Rattle.ja_top.specs.declared.status.Status.TheVariants.{Uncaught, StepsSpent, Memory}
 use Rattle.ja_load.specs.Loading.{IsProgramOf}
-use Rattle.ja_top.specs.declared.command.Command.{Command}
-use Rattle.ja_top.specs.declared.command.Command.TheVariants as command
-use Rattle.ja_top.specs.Analyses.{IsAnalysed, Reports, Analyses}
-use Rattle.ja_top.specs.Answers.{Call, HasCause, IsInput, Written, IsAnswered, DevicesStand}
+use Rattle.ja_top.specs.Analyses.{IsAnalysed, Reports, Refuses, Analyses}
+use Rattle.ja_top.specs.Answers.{Call, AnswersInput, Asks, Follows, HasCause, IsInput}
+use Rattle.ja_top.specs.Answers.{Written, IsAnswered}
 use Rattle.ja_top.specs.Runs.{Runs, signatures_of}
-use Rattle.ja_top.specs.code.Statuses.{status_of}
-use Rattle.ja_top.specs.Words.{IsCommand, IsRunCommand, IsCommandLine}
-use Rattle.ja_top.specs.code.Commands.{AsksFor, Follows}
+use Rattle.ja_top.specs.Statuses.{refusal_of}
+use Rattle.ja_top.specs.code.Solutions.{IsRefusal}
+use Rattle.ja_top.specs.code.Statuses.{status_of, status_of_refusal}
 use Rattle.ja_base.specs.Streams.{Appends, TurnsTo}
+use Rattle.ja_device.specs.Devices.{AllSeen}
+use Rattle.ja_words.specs.declared.command.Command.{Command}
+use Rattle.ja_words.specs.declared.command.Command.TheVariants as command
 
 -- an analysis with its warnings is reported under the status of these
-pub reports : (p : Program) (text : List ℕ) (ws : List Warning) → IsAnalysed p text ws
-    → Reports p (status_of ws) text
-reports p text [] h = h
-reports p text (w ∷ ws) h = (w, ws, h)
+pub reports : (request : Request) (p : Program) (text : List ℕ) (ws : List Warning)
+    → IsAnalysed request p text ws → Reports request p (status_of ws) text
+reports request p text [] h = h
+reports request p text (w ∷ ws) h = (w, ws, h)
 
 -- a report on the program of a text is an analysis of the text
-pub analyses : (bytes : List ℕ) (signatures : List Signature) (p : Program) (status : Status)
-    (text : List ℕ) → IsProgramOf bytes signatures p → Reports p status text
-    → Analyses bytes signatures status text
-analyses bytes signatures p Done text of h = (p, of, h)
-analyses bytes signatures p Warned text of h = (p, of, h)
-analyses bytes signatures p Spent text of h = (p, of, h)
-analyses bytes signatures p Usage text of h = absurd h
-analyses bytes signatures p ReadFault text of h = absurd h
-analyses bytes signatures p WriteFault text of h = absurd h
-analyses bytes signatures p TooLong text of h = absurd h
-analyses bytes signatures p Memory text of h = absurd h
-analyses bytes signatures p NotText text of h = absurd h
-analyses bytes signatures p Syntax text of h = absurd h
-analyses bytes signatures p Scope text of h = absurd h
-analyses bytes signatures p Limit text of h = absurd h
-analyses bytes signatures p DeviceFault text of h = absurd h
-analyses bytes signatures p Left text of h = absurd h
-analyses bytes signatures p Uncaught text of h = absurd h
-analyses bytes signatures p StepsSpent text of h = absurd h
+pub analyses : (request : Request) (bytes : List ℕ) (signatures : List Signature) (p : Program)
+    (status : Status) (text : List ℕ) → IsProgramOf bytes signatures p
+    → Reports request p status text → Analyses request bytes signatures status text
+analyses request bytes signatures p status text of h = inl (p, of, h)
 
--- a command is one of a command line
-pub is_line : (words : List (String Global)) (c : Command) → AsksFor words (Some c)
-    → IsCommandLine words
-is_line words command.Analyse asks = inl asks
-is_line words (command.Run steps) asks = inr (steps, asks)
+module _ (r : Refusal) (a : Answer) (is : IsRefusal a r) (bytes : List ℕ)
+    (signatures : List Signature) where
+  abbrev Told : Status → Type 0
+  Told status = Refuses bytes signatures status a.text.items
 
-module _ (c : Call) (bytes : List ℕ) (text : List ℕ) (input : IsInput c bytes) where
-  -- an analysis of the bytes that were read is an answer, where the devices come back as they were
-  analysed : (status : Status) → IsCommand c.words
-      → Analyses bytes (signatures_of c.devices) status text → DevicesStand c
-      → HasCause c status text
-  analysed Done command h stand = inl (command, (bytes, input, h), stand)
-  analysed Warned command h stand = (command, (bytes, input, h), stand)
-  analysed Spent command h stand = (command, (bytes, input, h), stand)
-  analysed NotText command h stand = inl (command, (bytes, input, h), stand)
-  analysed Syntax command h stand = inl (command, (bytes, input, h), stand)
-  analysed Scope command h stand = inl (command, (bytes, input, h), stand)
-  analysed Limit command h stand = inl (command, (bytes, input, h), stand)
-  analysed Usage command h stand = absurd h
-  analysed ReadFault command h stand = absurd h
-  analysed WriteFault command h stand = absurd h
-  analysed TooLong command h stand = absurd h
-  analysed DeviceFault command h stand = absurd h
-  analysed Left command h stand = absurd h
-  analysed Uncaught command h stand = absurd h
-  analysed StepsSpent command h stand = absurd h
-  analysed Memory command h stand = absurd h
+  -- where it is this refusal, its status and its text are those of this one
+  of_status : (s : Refusal) → r ≡ s → Told (status_of_refusal s) → Told a.status
+  of_status s same h = subst Told (sym (is.status_is ∙ ap status_of_refusal same)) h
 
-  -- and so is a run of them
-  ran : (steps : ℕ) (status : Status) → IsRunCommand c.words steps
-      → Runs bytes steps c.devices c.devices_after status text → HasCause c status text
-  ran steps Done command h = inr (steps, command, (bytes, input, h))
-  ran steps DeviceFault command h = (steps, command, (bytes, input, h))
-  ran steps Left command h = (steps, command, (bytes, input, h))
-  ran steps Uncaught command h = (steps, command, (bytes, input, h))
-  ran steps StepsSpent command h = (steps, command, (bytes, input, h))
-  ran steps NotText command h = inr (steps, command, (bytes, input, h))
-  ran steps Syntax command h = inr (steps, command, (bytes, input, h))
-  ran steps Scope command h = inr (steps, command, (bytes, input, h))
-  ran steps Limit command h = inr (steps, command, (bytes, input, h))
-  ran steps Warned command h = absurd h
-  ran steps Spent command h = absurd h
-  ran steps Usage command h = absurd h
-  ran steps ReadFault command h = absurd h
-  ran steps WriteFault command h = absurd h
-  ran steps TooLong command h = absurd h
-  ran steps Memory command h = absurd h
+  of_text : (s : Refusal) → r ≡ s → a.text.items ≡ refusal_text s
+  of_text s same = is.text_is ∙ ap refusal_text same
 
--- what a command comes to on the bytes that were read is an answer
+  -- the refusal of a text that has no program says why it has none
+  pub refuses : (f : LoadFault) → refusal_of f ≡ Some r → HasNone bytes signatures f
+      → Refuses bytes signatures a.status a.text.items
+  refuses (fault.Parse (parse_fault.Syntax place)) of h =
+      let same : r ≡ refusal.Syntax place = cc of in
+      of_status (refusal.Syntax place) same (place, h, of_text (refusal.Syntax place) same)
+  refuses (fault.Parse (parse_fault.Scope kind place)) of h =
+      let same : r ≡ refusal.Scope kind place = cc of in
+      of_status (refusal.Scope kind place) same
+      (kind, place, h, of_text (refusal.Scope kind place) same)
+  refuses (fault.Parse (parse_fault.Depth place)) of h =
+      let same : r ≡ refusal.Depth = cc of in
+      of_status refusal.Depth same (inl (place, h, of_text refusal.Depth same))
+  refuses (fault.Parse parse_fault.Memory) of h = absurd (cc of)
+  refuses fault.Functions of h =
+      let same : r ≡ refusal.Functions = cc of in
+      of_status refusal.Functions same (inr (inl (h, of_text refusal.Functions same)))
+  refuses fault.Nodes of h =
+      let same : r ≡ refusal.Nodes = cc of in
+      of_status refusal.Nodes same (inr (inr (h, of_text refusal.Nodes same)))
+  refuses fault.Names of h = absurd (cc of)
+
+-- a status that no command comes to
+module _ (status : Status)
+    (report : (request : Request) (p : Program) (text : List ℕ) → Reports request p status text → ⊥)
+    (refusal : (bytes : List ℕ) (signatures : List Signature) (text : List ℕ)
+    → Refuses bytes signatures status text → ⊥)
+    (run : (bytes : List ℕ) (steps : ℕ) (before after : AllSeen) (text : List ℕ)
+    → Runs bytes steps before after status text → ⊥) where
+  unfollowed : (asked : Command) (bytes : List ℕ) (before after : AllSeen) (text : List ℕ)
+      → Follows asked bytes before after status text → ⊥
+  unfollowed (command.Analyse cert budget) bytes before after text h =
+      elim h.0 [
+        | inl r ↦ report _ r.0 text r.2
+        | inr r ↦ refusal bytes (signatures_of before) text r
+      ]
+  unfollowed command.Check bytes before after text h = h
+  unfollowed (command.Run steps) bytes before after text h = run bytes steps before after text h
+
+  never : (c : Call) (text : List ℕ) → AnswersInput c status text → ⊥
+  never c text h = unfollowed h.0 h.2.0 c.devices c.devices_after text h.2.2
+
+-- what is answered to the bytes that were read has its cause
+caused : (c : Call) (status : Status) (text : List ℕ) → AnswersInput c status text
+    → HasCause c status text
+caused c Done text h = h
+caused c Warned text h = h
+caused c NotText text h = h
+caused c Syntax text h = h
+caused c Scope text h = h
+caused c Limit text h = h
+caused c Spent text h = h
+caused c DeviceFault text h = h
+caused c Left text h = h
+caused c Uncaught text h = h
+caused c StepsSpent text h = h
+caused c Usage text h =
+    absurd (never Usage (λ q p t b. b) (λ s n t b. b) (λ s n d e t b. b) c text h)
+caused c ReadFault text h =
+    absurd (never ReadFault (λ q p t b. b) (λ s n t b. b) (λ s n d e t b. b) c text h)
+caused c WriteFault text h =
+    absurd (never WriteFault (λ q p t b. b) (λ s n t b. b) (λ s n d e t b. b) c text h)
+caused c TooLong text h =
+    absurd (never TooLong (λ q p t b. b) (λ s n t b. b) (λ s n d e t b. b) c text h)
+caused c Memory text h =
+    absurd (never Memory (λ q p t b. b) (λ s n t b. b) (λ s n d e t b. b) c text h)
+
+-- .. of the command that the words ask for
 pub answers : (c : Call) (bytes : List ℕ) (asked : Command) (status : Status) (text : List ℕ)
-    → AsksFor c.words (Some asked) → IsInput c bytes
+    → Asks c.words asked → IsInput c bytes
     → Follows asked bytes c.devices c.devices_after status text → HasCause c status text
-answers c bytes command.Analyse status text asks input h =
-    analysed c bytes text input status asks h.0 h.1
-answers c bytes (command.Run steps) status text asks input h =
-    ran c bytes text input steps status asks h
+answers c bytes asked status text asks input h =
+    caused c status text (asked, asks, (bytes, input, h))
 
 -- an answer with its cause that was written is answered
 pub answered : (c : Call) (w : Written) (status : Status) (text : List ℕ) → HasCause c status text

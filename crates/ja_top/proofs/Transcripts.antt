@@ -5,11 +5,15 @@ use Rattle.ja_base.specs.declared.ids.Memory.{Memory}
 use Rattle.ja_device.specs.Devices.{AllSeen}
 use Rattle.ja_graph.specs.declared.program.Program.{Program}
 use Rattle.ja_load.specs.Loading.{IsProgramOf}
+use Rattle.ja_load.specs.code.Loading.{HasNone}
+use Rattle.ja_load.specs.declared.fault.LoadFault.{LoadFault}
 use Rattle.ja_prim.specs.declared.signature.Signature.{Signature}
 use Rattle.ja_run.specs.declared.ended.RunEnd.{RunEnd}
 use Rattle.ja_run.specs.declared.ended.RunEnd.TheVariants as run_end
 use Rattle.ja_top.specs.declared.answer.Answer.{Answer}
 use Rattle.ja_top.specs.declared.status.Status.{Status}
+use Rattle.ja_top.specs.declared.status.Status.TheVariants as status
+use Rattle.ja_top.specs.Analyses.{Refuses}
 use Rattle.ja_top.specs.Runs.{MayBeLeft, MayBeLeftByText, Runs, Transcribes}
 use Rattle.ja_top.specs.Runs.{returned, signatures_of}
 use Rattle.ja_top.specs.Statuses.{status_of_end}
@@ -51,6 +55,41 @@ module _ (bytes : List ℕ) (signatures : List Signature) (p : Program) (steps :
       → IfErr r (λ _. MayBeLeftByText bytes steps before after)
   all_left (Ok a) h = h
   all_left (Err e) h = inr (p, here, h)
+
+-- ---- refusals
+
+-- a text that has no program is refused, and each device is as it was
+module _ (bytes : List ℕ) (steps : ℕ) (devices : AllSeen) (text : List ℕ) where
+  pub refused : (status : Status) → Refuses bytes (signatures_of devices) status text
+      → Runs bytes steps devices devices status text
+  refused status.NotText h = (h, refl)
+  refused status.Syntax h = (h, refl)
+  refused status.Scope h = (h, refl)
+  refused status.Limit h = (h, refl)
+  refused status.Done h = absurd h
+  refused status.Warned h = absurd h
+  refused status.Usage h = absurd h
+  refused status.ReadFault h = absurd h
+  refused status.WriteFault h = absurd h
+  refused status.TooLong h = absurd h
+  refused status.Spent h = absurd h
+  refused status.DeviceFault h = absurd h
+  refused status.Left h = absurd h
+  refused status.Uncaught h = absurd h
+  refused status.StepsSpent h = absurd h
+  refused status.Memory h = absurd h
+
+-- .. in the answer of a call that says why a text has none
+pub all_refused : (bytes : List ℕ) (signatures : List Signature) (steps : ℕ) (devices : AllSeen)
+    (f : LoadFault) (r : Result Answer Memory) → signatures ≡ signatures_of devices
+    → HasNone bytes signatures f
+    → IfOk r (λ (a : Answer). (b : List ℕ) (s : List Signature) → HasNone b s f
+    → Refuses b s a.status a.text.items)
+    → IfOk r (λ (a : Answer). Runs bytes steps devices devices a.status a.text.items)
+all_refused bytes signatures steps devices f (Ok a) its none h =
+    refused bytes steps devices a.text.items a.status
+    (subst (λ s. Refuses bytes s a.status a.text.items) its (h bytes signatures none))
+all_refused bytes signatures steps devices f (Err e) its none h = h
 
 -- ---- errors
 

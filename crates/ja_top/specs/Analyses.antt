@@ -1,5 +1,5 @@
 -- How a text is analysed: the cause of each status, and the text that is written with it.
-use Rattle.std.specs.Prelude.{◌≡◌, ◌≤◌, ◌⊎◌, ℕ, List, [], ◌∷◌, length}
+use Rattle.std.specs.Prelude.{◌≡◌, ◌≤◌, ◌⊎◌, ℕ, Bool, if◌then◌else◌, List, [], ◌∷◌, length}
 use Rattle.std.specs.Str.{IsUtf8}
 use Rattle.std.specs.Str.Lossy.{utf8_valid_len}
 use Rattle.ja_base.specs.declared.ids.Place.{Place}
@@ -17,24 +17,28 @@ use Rattle.ja_prim.specs.declared.signature.Signature.{Signature}
 use Rattle.ja_report.specs.declared.refusals.Refusal.TheVariants as refusal
 use Rattle.ja_report.specs.Refusals.{refusal_text}
 use Rattle.ja_report.specs.Report.{report_text, spent_text}
+use Rattle.ja_cert.specs.Certificate.{certificate_text}
 use Rattle.ja_rules.specs.Solving.{WasSpent}
+use Rattle.ja_top.specs.declared.request.Request.{Request}
 use Rattle.ja_top.specs.declared.status.Status.{Status}
 use Rattle.ja_top.specs.declared.status.Status.TheVariants.{Done, Warned, NotText, Syntax, Scope}
 use Rattle.ja_top.specs.declared.status.Status.TheVariants.{Limit, Spent}
 
--- the greatest number of visits
-abbrev pub budget : ℕ
-budget = 1000000
+-- what is printed of a table that these visits build: its certificate, or else its report
+abbrev pub result_text : Bool → Program → Table → List Item → List Warning → List ℕ
+result_text certifies p t visits warnings =
+    if certifies then certificate_text p t visits else report_text p t visits warnings
 
 -- What is printed of a program, with these warnings: the table that the printed visits build, which
 -- is closed and covers every run; an operation that goes wrong in some run is among the warnings.
 -- No run of the program is stuck.
-pub record IsAnalysed (p : Program) (text : List ℕ) (warnings : List Warning) : Type 0 where
+pub record IsAnalysed (request : Request) (p : Program) (text : List ℕ) (warnings : List Warning)
+    : Type 0 where
   pub table : Table
   pub visits : List Item
-  pub printed : text ≡ report_text p table visits warnings
+  pub printed : text ≡ result_text request.certifies p table visits warnings
   pub built : IsBuilt p visits table
-  pub few : length visits ≤ budget
+  pub few : length visits ≤ request.budget
   pub closed : IsClosed p table
   pub exact : AreWarnings p table warnings
   pub covers : CoversRuns p table
@@ -42,16 +46,17 @@ pub record IsAnalysed (p : Program) (text : List ℕ) (warnings : List Warning) 
   pub goes_on : NeverStuck p
 
 -- what is written of a program, by the status
-abbrev pub Reports : Program → Status → List ℕ → Type 0
-Reports p Done text = IsAnalysed p text []
-Reports p Warned text = (w : Warning) × (ws : List Warning) × IsAnalysed p text (w ∷ ws)
-Reports p Spent text =
-    (visits : List Item) × WasSpent p budget visits × (text ≡ spent_text p visits)
-Reports p status text = ⊥
+abbrev pub Reports : Request → Program → Status → List ℕ → Type 0
+Reports request p Done text = IsAnalysed request p text []
+Reports request p Warned text =
+    (w : Warning) × (ws : List Warning) × IsAnalysed request p text (w ∷ ws)
+Reports request p Spent text =
+    (visits : List Item) × WasSpent p request.budget visits × (text ≡ spent_text p visits)
+Reports request p status text = ⊥
 
-abbrev pub ReportsOnText : List ℕ → List Signature → Status → List ℕ → Type 0
-ReportsOnText bytes signatures status text =
-    (p : Program) × IsProgramOf bytes signatures p × Reports p status text
+abbrev pub ReportsOnText : Request → List ℕ → List Signature → Status → List ℕ → Type 0
+ReportsOnText request bytes signatures status text =
+    (p : Program) × IsProgramOf bytes signatures p × Reports request p status text
 
 -- the text nests too deep, or has too many functions, or else too many nodes
 abbrev pub IsPastLimit : List ℕ → List Signature → List ℕ → Type 0
@@ -60,19 +65,21 @@ IsPastLimit bytes signatures text =
     ⊎ ((HasManyFunctions bytes × (text ≡ refusal_text refusal.Functions))
     ⊎ (HasManyNodes bytes signatures × (text ≡ refusal_text refusal.Nodes)))
 
--- the cause of each status of the analysis of a text whose program has these devices, and what is
--- written
-abbrev pub Analyses : List ℕ → List Signature → Status → List ℕ → Type 0
-Analyses bytes signatures Done text = ReportsOnText bytes signatures Done text
-Analyses bytes signatures Warned text = ReportsOnText bytes signatures Warned text
-Analyses bytes signatures Spent text = ReportsOnText bytes signatures Spent text
-Analyses bytes signatures NotText text =
+-- why a text has no program, by the status, and what is written
+abbrev pub Refuses : List ℕ → List Signature → Status → List ℕ → Type 0
+Refuses bytes signatures NotText text =
     (IsUtf8 bytes → ⊥) × (text ≡ refusal_text (refusal.NotText (utf8_valid_len bytes)))
-Analyses bytes signatures Syntax text =
+Refuses bytes signatures Syntax text =
     (place : Place) × IsNone bytes (fault.Syntax place)
     × (text ≡ refusal_text (refusal.Syntax place))
-Analyses bytes signatures Scope text =
+Refuses bytes signatures Scope text =
     (kind : ScopeKind) × (place : Place) × IsNone bytes (fault.Scope kind place)
     × (text ≡ refusal_text (refusal.Scope kind place))
-Analyses bytes signatures Limit text = IsPastLimit bytes signatures text
-Analyses bytes signatures status text = ⊥
+Refuses bytes signatures Limit text = IsPastLimit bytes signatures text
+Refuses bytes signatures status text = ⊥
+
+-- the cause of each status of the analysis of a text whose program has these devices, and what is
+-- written
+abbrev pub Analyses : Request → List ℕ → List Signature → Status → List ℕ → Type 0
+Analyses request bytes signatures status text =
+    ReportsOnText request bytes signatures status text ⊎ Refuses bytes signatures status text

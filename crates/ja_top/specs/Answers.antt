@@ -1,7 +1,8 @@
 -- The answers of the program to words, a source and devices: the cause of each status, the text
 -- that is written with it, and what the source, the sink and the devices are then. `Analyses` and
--- `Runs` say how a text is answered.
-use Rattle.std.specs.Prelude.{◌≡◌, ◌≤◌, ◌⊎◌, ◌+◌, ℕ, String, Bool, true, List, length, Option}
+-- `Runs` say how bytes are answered.
+use Rattle.std.specs.Prelude.{◌≡◌, ◌≤◌, ◌⊎◌, ◌+◌, ℕ, String, Bool, true, List, map, length, Option}
+use Rattle.std.specs.String.{string_bytes}
 use Rattle.std.specs.declared.alloc.Global.{Global}
 use Rattle.ja_base.specs.Streams.{Rose, Keeps, Took, IsAtEnd, IsLonger, TakesCount, Appends}
 use Rattle.ja_base.specs.Streams.{AppendsFront, TurnsTo}
@@ -11,12 +12,12 @@ use Rattle.ja_report.specs.declared.refusals.Refusal.TheVariants as refusal
 use Rattle.ja_report.specs.Refusals.{refusal_text}
 use Rattle.ja_top.specs.Analyses.{Analyses}
 use Rattle.ja_top.specs.declared.status.Status.{Status}
-use Rattle.ja_top.specs.declared.status.Status.TheVariants.{Done, Warned, Usage, ReadFault}
-use Rattle.ja_top.specs.declared.status.Status.TheVariants.{WriteFault, TooLong, NotText, Syntax}
-use Rattle.ja_top.specs.declared.status.Status.TheVariants.{Scope, Limit, Spent, DeviceFault, Left}
-use Rattle.ja_top.specs.declared.status.Status.TheVariants.{Uncaught, StepsSpent, Memory}
+use Rattle.ja_top.specs.declared.status.Status.TheVariants.{Usage, ReadFault, WriteFault, TooLong}
+use Rattle.ja_top.specs.declared.status.Status.TheVariants.{Memory}
 use Rattle.ja_top.specs.Runs.{MayBeLeftByText, Runs, signatures_of}
-use Rattle.ja_top.specs.Words.{IsCommand, IsCommandLine, IsRunCommand}
+use Rattle.ja_words.specs.declared.command.Command.{Command}
+use Rattle.ja_words.specs.declared.command.Command.TheVariants as command
+use Rattle.ja_words.specs.Words.{IsCommandLine}
 
 -- What a call meets: its words; what is left of the source and how many faults it has counted,
 -- before and after; and the devices that are handed in and that come back.
@@ -53,51 +54,49 @@ pub record IsInput (c : Call) (bytes : List ℕ) : Type 0 where
   pub end : IsAtEnd c.left_after
   pub within : length bytes ≤ max_bytes
 
--- the bytes that were read are analysed
-abbrev pub AnalysesBytes : Call → Status → List ℕ → Type 0
-AnalysesBytes c status text =
-    (bytes : List ℕ) × IsInput c bytes × Analyses bytes (signatures_of c.devices) status text
+-- the words ask for a command that is offered, which the check of a certificate isn't yet
+abbrev pub IsOffered : Command → Type 0
+IsOffered command.Check = ⊥
+IsOffered asked = Unit {0}
 
-abbrev pub AnalysesInput : Call → Status → List ℕ → Type 0
-AnalysesInput c status text = IsCommand c.words × AnalysesBytes c status text × DevicesStand c
+abbrev pub Asks : List (String Global) → Command → Type 0
+Asks words asked = IsCommandLine (map string_bytes words) asked × IsOffered asked
 
--- .. or run, in so many steps at most
-abbrev pub RunsBytes : Call → ℕ → Status → List ℕ → Type 0
-RunsBytes c steps status text =
-    (bytes : List ℕ) × IsInput c bytes × Runs bytes steps c.devices c.devices_after status text
+-- the answer of a command to the bytes of a text, with the devices that are handed in and that come
+-- back
+abbrev pub Follows : Command → List ℕ → AllSeen → AllSeen → Status → List ℕ → Type 0
+Follows (command.Analyse cert budget) bytes before after status text =
+    Analyses (record { certifies = cert; budget = budget }) bytes (signatures_of before) status text
+    × (after ≡ before)
+Follows command.Check bytes before after status text = ⊥
+Follows (command.Run steps) bytes before after status text =
+    Runs bytes steps before after status text
 
-abbrev pub RunsInput : Call → Status → List ℕ → Type 0
-RunsInput c status text = (steps : ℕ) × IsRunCommand c.words steps × RunsBytes c steps status text
+-- they ask for some command that is
+abbrev pub IsAsked : Call → Type 0
+IsAsked c = (asked : Command) × Asks c.words asked
 
--- either of them
+-- the bytes that were read are answered by the command that the words ask for
 abbrev pub AnswersInput : Call → Status → List ℕ → Type 0
-AnswersInput c status text = AnalysesInput c status text ⊎ RunsInput c status text
+AnswersInput c status text =
+    (asked : Command) × Asks c.words asked
+    × ((bytes : List ℕ) × IsInput c bytes
+    × Follows asked bytes c.devices c.devices_after status text)
 
 -- the cause of each status that has a text, and the text
 abbrev pub HasCause : Call → Status → List ℕ → Type 0
 HasCause c Usage text =
-    (IsCommandLine c.words → ⊥) × Keeps c.left c.left_after × DevicesStand c
+    (IsAsked c → ⊥) × Keeps c.left c.left_after × DevicesStand c
     × (text ≡ refusal_text refusal.Usage)
 HasCause c ReadFault text =
-    IsCommandLine c.words × Rose c.faults c.faults_after × DevicesStand c
+    IsAsked c × Rose c.faults c.faults_after × DevicesStand c
     × (text ≡ refusal_text refusal.ReadFault)
 HasCause c TooLong text =
-    IsCommandLine c.words × IsLonger max_bytes c.left
-    × TakesCount (max_bytes + 1) c.left c.left_after × DevicesStand c
-    × (text ≡ refusal_text refusal.TooLong)
-HasCause c NotText text = AnswersInput c NotText text
-HasCause c Syntax text = AnswersInput c Syntax text
-HasCause c Scope text = AnswersInput c Scope text
-HasCause c Limit text = AnswersInput c Limit text
-HasCause c Done text = AnswersInput c Done text
-HasCause c Warned text = AnalysesInput c Warned text
-HasCause c Spent text = AnalysesInput c Spent text
-HasCause c DeviceFault text = RunsInput c DeviceFault text
-HasCause c Left text = RunsInput c Left text
-HasCause c Uncaught text = RunsInput c Uncaught text
-HasCause c StepsSpent text = RunsInput c StepsSpent text
+    IsAsked c × IsLonger max_bytes c.left × TakesCount (max_bytes + 1) c.left c.left_after
+    × DevicesStand c × (text ≡ refusal_text refusal.TooLong)
 HasCause c WriteFault text = ⊥
 HasCause c Memory text = ⊥
+HasCause c status text = AnswersInput c status text
 
 -- What the sink holds: what was written and whether it is finished, before and after, and its
 -- faults.
@@ -136,7 +135,7 @@ IsBegun c w =
 -- a run of the text that was read was refused memory
 abbrev pub StopsRun : Call → Type 0
 StopsRun c =
-    (steps : ℕ) × IsRunCommand c.words steps
+    (steps : ℕ) × Asks c.words (command.Run steps)
     × ((bytes : List ℕ) × IsInput c bytes × MayBeLeftByText bytes steps c.devices c.devices_after)
 
 -- without memory each device comes back, and only a run of the text that was read may have asked

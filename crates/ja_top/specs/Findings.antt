@@ -13,10 +13,13 @@ use Rattle.ja_rows.specs.Table.{Table, IsBuilt, IsClosed}
 use Rattle.ja_rows.specs.Warning.{AreWarnings}
 use Rattle.ja_rules.specs.Solving.{WasSpent}
 use Rattle.ja_sound.specs.Sound.{CoversRuns, WarnsOfFaults}
-use Rattle.ja_top.specs.Analyses.{budget}
 use Rattle.ja_top.specs.declared.finding.FindFault.{FindFault}
 use Rattle.ja_top.specs.declared.finding.FindFault.TheVariants as fault
 use Rattle.ja_top.specs.declared.finding.Findings.{Findings}
+
+-- the greatest number of visits
+abbrev pub budget : ℕ
+budget = 1000000
 
 -- What is found of a program: the warnings of a table that so many visits build, which is closed,
 -- covers every run and has so many contexts and edges. An operation that goes wrong in some run is

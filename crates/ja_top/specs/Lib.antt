@@ -3,7 +3,6 @@ pub mod Answers
 pub mod Analyses
 pub mod Findings
 pub mod Runs
-pub mod Words
 pub mod Statuses
 -- what the functions inside the crate promise each other
 pub mod code

@@ -11,7 +11,7 @@ use Rattle.ja_run.specs.declared.ended.RunEnd.{RunEnd}
 use Rattle.ja_run.specs.declared.ended.RunEnd.TheVariants as run_end
 use Rattle.ja_run.specs.Run.{IsRun}
 use Rattle.ja_run.specs.Transcript.{run_text}
-use Rattle.ja_top.specs.Analyses.{Analyses}
+use Rattle.ja_top.specs.Analyses.{Refuses}
 use Rattle.ja_top.specs.declared.status.Status.{Status}
 use Rattle.ja_top.specs.declared.status.Status.TheVariants.{Done, NotText, Syntax, Scope, Limit}
 use Rattle.ja_top.specs.declared.status.Status.TheVariants.{DeviceFault, Left, Uncaught, StepsSpent}
@@ -51,7 +51,7 @@ TranscribesText bytes steps before after status text =
 -- the text is refused as by the analysis, and no device is asked
 abbrev pub RefusesText : List ℕ → AllSeen → AllSeen → Status → List ℕ → Type 0
 RefusesText bytes before after status text =
-    Analyses bytes (signatures_of before) status text × (after ≡ before)
+    Refuses bytes (signatures_of before) status text × (after ≡ before)
 
 -- The cause of each status of the run of a text, and what is written. A text that is none of the
 -- language, or passes a limit, is refused as by the analysis; every form is run.

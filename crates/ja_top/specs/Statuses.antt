@@ -1,4 +1,10 @@
--- The status of each answer, and the exit status.
+-- The status of the end of a run, and the refusal of a text that has no program.
+use Rattle.std.specs.Prelude.{Option, Some, None}
+use Rattle.ja_grammar.specs.declared.fault.ParseFault.TheVariants as parse_fault
+use Rattle.ja_load.specs.declared.fault.LoadFault.{LoadFault}
+use Rattle.ja_load.specs.declared.fault.LoadFault.TheVariants as fault
+use Rattle.ja_report.specs.declared.refusals.Refusal.{Refusal}
+use Rattle.ja_report.specs.declared.refusals.Refusal.TheVariants as refusal
 use Rattle.ja_run.specs.declared.ended.RunEnd.{RunEnd}
 use Rattle.ja_run.specs.declared.ended.RunEnd.TheVariants as run_end
 use Rattle.ja_top.specs.declared.status.Status.{Status}
@@ -13,3 +19,13 @@ status_of_end (run_end.Uncaught value) = Uncaught
 status_of_end (run_end.Scope kind place) = Left
 status_of_end (run_end.Device which) = DeviceFault
 status_of_end run_end.Limit = StepsSpent
+
+-- why a text has no program; want of memory is none, and no status has too many names as its cause
+abbrev pub refusal_of : LoadFault → Option Refusal
+refusal_of (fault.Parse (parse_fault.Syntax place)) = Some (refusal.Syntax place)
+refusal_of (fault.Parse (parse_fault.Scope kind place)) = Some (refusal.Scope kind place)
+refusal_of (fault.Parse (parse_fault.Depth place)) = Some refusal.Depth
+refusal_of (fault.Parse parse_fault.Memory) = None
+refusal_of fault.Functions = Some refusal.Functions
+refusal_of fault.Nodes = Some refusal.Nodes
+refusal_of fault.Names = None

@@ -4,15 +4,18 @@ ghost use Rattle.std.specs.Prelude.{◌≡◌, ◌≤◌, IfOk, length};
 ghost use Rattle.ja_lex.specs.Spots.{max_bytes};
 ghost use Rattle.ja_device.specs.code.Signatures.{AreSignatures};
 ghost use Rattle.ja_graph.specs.WellFormed.{IsWellFormed};
-ghost use Rattle.ja_top.specs.Analyses.{Analyses, Reports};
+ghost use Rattle.ja_rules.specs.Tables.{table_of, Fits};
+ghost use Rattle.ja_top.specs.Analyses.{result_text, Analyses, Reports};
 ghost use Rattle.ja_top.specs.Runs.{signatures_of};
 ghost use Rattle.ja_top.specs.code.Statuses.{status_of};
 ghost use Rattle.ja_top.specs.code.Solutions.{IsSolved};
 
 use crate::answer::Answer;
 use crate::refusing::{explain, refuse};
+use crate::request::Request;
 use crate::status::Status;
 use ja_base::Memory;
+use ja_cert::write;
 use ja_device::{Device, Devices};
 use ja_graph::Program;
 use ja_load::load;
@@ -24,11 +27,8 @@ use ja_rules::{SolveFault, Solved, solve, warnings};
 use std::alloc::Global;
 use std::str;
 
-/// The greatest number of visits.
-pub(crate) const BUDGET: u128 = 1_000_000;
-
-// Done where there is no warning.
-fn judged(warnings: &[Warning]) -> Status
+/// Done where there is no warning.
+pub(crate) fn judged(warnings: &[Warning]) -> Status
     ensures { result ≡ status_of warnings.now }
 {
     if warnings.is_empty() {
@@ -38,18 +38,46 @@ fn judged(warnings: &[Warning]) -> Status
     }
 }
 
-// The report of a solved program.
-fn report_of(alloc: Global, program: &Program, solved: &Solved) -> Result<Answer, Memory>
+// The report of a solved program, or its certificate.
+fn text_of(
+    alloc: Global,
+    program: &Program,
+    solved: &Solved,
+    certifies: bool,
+    warnings: &[Warning],
+) -> Result<Vec<u8>, Memory>
     requires program { IsWellFormed program.now }
-    requires solved { IsSolved program.now solved.now }
-    ensures { IfOk result (λ a. Reports program.now a.status a.text.items) }
+    requires devices { AreSignatures program.now.signatures }
+    requires fits { Fits program.now solved.now.table }
+    ensures { IfOk result (λ text. text.items ≡ result_text certifies program.now
+        (table_of solved.now.table) solved.now.visits warnings.now) }
+{
+    let visits = solved.visits.as_slice();
+    if certifies {
+        write(alloc, program, &solved.table, visits)
+    } else {
+        report(alloc, program, &solved.table, visits, warnings)
+    }
+}
+
+// The answer of a solved program.
+fn report_of(
+    alloc: Global,
+    program: &Program,
+    solved: &Solved,
+    request: Request,
+) -> Result<Answer, Memory>
+    requires program { IsWellFormed program.now }
+    requires devices { AreSignatures program.now.signatures }
+    requires solved { IsSolved program.now request.budget solved.now }
+    ensures { IfOk result (λ a. Reports request program.now a.status a.text.items) }
 {
     let warnings = warnings(alloc, program, &solved.table)?;
-    let text = report(
+    let text = text_of(
         alloc,
         program,
-        &solved.table,
-        solved.visits.as_slice(),
+        solved,
+        request.certifies,
         warnings.as_slice(),
     )?;
     let status = judged(warnings.as_slice());
@@ -58,12 +86,13 @@ fn report_of(alloc: Global, program: &Program, solved: &Solved) -> Result<Answer
 }
 
 // Solves a program, and reports on it.
-fn solve_and_report(alloc: Global, program: &Program) -> Result<Answer, Memory>
+fn solve_and_report(alloc: Global, program: &Program, request: Request) -> Result<Answer, Memory>
     requires program { IsWellFormed program.now }
-    ensures { IfOk result (λ a. Reports program.now a.status a.text.items) }
+    requires devices { AreSignatures program.now.signatures }
+    ensures { IfOk result (λ a. Reports request program.now a.status a.text.items) }
 {
-    match solve(alloc, program, BUDGET) {
-        Ok(solved) => report_of(alloc, program, &solved),
+    match solve(alloc, program, request.budget) {
+        Ok(solved) => report_of(alloc, program, &solved, request),
         Err(SolveFault::Spent { visits }) => {
             let text = spent_text(alloc, program, visits.as_slice())?;
             Ok(Answer {
@@ -77,14 +106,19 @@ fn solve_and_report(alloc: Global, program: &Program) -> Result<Answer, Memory>
 
 // Analyses a text.
 #[tactic(auto, using(crate::proofs::Reporting::analyses))]
-fn analyse_text(alloc: Global, text: &str, signatures: &[Signature]) -> Result<Answer, Memory>
+fn analyse_text(
+    alloc: Global,
+    text: &str,
+    signatures: &[Signature],
+    request: Request,
+) -> Result<Answer, Memory>
     requires text { length text.now ≤ max_bytes }
     requires devices { AreSignatures signatures.now }
-    ensures { IfOk result (λ a. Analyses text.now signatures.now a.status a.text.items) }
+    ensures { IfOk result (λ a. Analyses request text.now signatures.now a.status a.text.items) }
 {
     match load(alloc, text, signatures) {
         Ok(program) => {
-            let answer = solve_and_report(alloc, &program)?;
+            let answer = solve_and_report(alloc, &program, request)?;
             Ok(answer)
         }
         Err(fault) => explain(alloc, fault),
@@ -94,10 +128,10 @@ fn analyse_text(alloc: Global, text: &str, signatures: &[Signature]) -> Result<A
 /// Analyses the bytes of a text, at most [`MAX_BYTES`](crate::MAX_BYTES) of them, as a program that
 /// may call these devices. None is asked.
 ///
-/// The status is `Done` or `Warned` with a report, without or with warnings; `Spent` with the
-/// visits where 1,000,000 of them didn't close the table; and `NotText`, `Syntax`, `Scope` or
-/// `Limit` with the line of a refusal where the bytes aren't UTF-8, no program (ES3 11 to 14), out
-/// of the profile, or past a limit.
+/// The status is `Done` or `Warned` with a report or a certificate, without or with warnings;
+/// `Spent` with the visits where the budget's visits didn't close the table; and `NotText`,
+/// `Syntax`, `Scope` or `Limit` with the line of a refusal where the bytes aren't UTF-8, no program
+/// (ES3 11 to 14), out of the profile, or past a limit.
 ///
 /// # Errors
 ///
@@ -106,15 +140,16 @@ pub fn analyse<D: Device>(
     alloc: Global,
     bytes: &[u8],
     devices: &Devices<D>,
+    request: Request,
 ) -> Result<Answer, Memory>
     requires { length bytes.now ≤ max_bytes }
     ensures { IfOk result
-        (λ a. Analyses bytes.now (signatures_of devices.now) a.status a.text.items) }
+        (λ a. Analyses request bytes.now (signatures_of devices.now) a.status a.text.items) }
 {
     match str::from_utf8(bytes) {
         Ok(text) => {
             let signatures = devices.signatures(alloc)?;
-            analyse_text(alloc, text, signatures.as_slice())
+            analyse_text(alloc, text, signatures.as_slice(), request)
         }
         Err(error) => {
             let offset = error.valid_up_to();

@@ -6,20 +6,20 @@
 //!
 //! - **each status has its cause**. Want of memory (16) alone is free, and 3 and 4 come only where
 //!   the source's or the sink's count of faults rose in this call. Where none of these comes, it is
-//!   2 exactly where the words aren't `analyse`, `run`, or `run --steps` and a number from 1 to
-//!   10,000,000; 5 where more than 16,777,216 bytes were left; 6 exactly where the bytes are no
-//!   UTF-8, with the offset of the first byte that begins no character; 7, 8 and 9 exactly where
-//!   the text isn't in the language, with the kind and the place that `ja_grammar` determines; 9
-//!   also exactly where it is in the language and has more than 4,096 functions, or else its graph
-//!   and parameters are more than 65,536 nodes; 10 only where the 1,000,000 visits that are printed
-//!   each changed the table and the last one isn't closed; 12 to 15 only of a run, by its end.
+//!   2 exactly where the words are no command line (`ja_words/specs/Words.antt`); 5 where more than
+//!   16,777,216 bytes were left; 6 exactly where the bytes are no UTF-8, with the offset of the
+//!   first byte that begins no character; 7, 8 and 9 exactly where the text isn't in the language,
+//!   with the kind and the place that `ja_grammar` determines; 9 also exactly where it is in the
+//!   language and has more than 4,096 functions, or else its graph and parameters are more than
+//!   65,536 nodes; 10 only where the budget's visits, which are printed, each changed the table and
+//!   the last one isn't closed; 12 to 15 only of a run, by its end.
 //! - **what was written**: after every status but 4 and 16 the text of that answer, whole, and the
 //!   sink is finished; after 4 the front of the text of another answer whose cause holds; after 16
 //!   nothing.
-//! - **the report** (0 and 1 of `analyse`): that of the program of the bytes that were read, of the
-//!   table that the printed visits build from the opening, each of them changing it, of these
-//!   visits, at most 1,000,000, and of its warnings. The table is closed, the warnings are exactly
-//!   those of the table, and 1 comes exactly where there is one.
+//! - **the report** (0 and 1 of `analyse`), or the certificate: that of the program of the bytes
+//!   that were read, of the table that the printed visits build from the opening, each of them
+//!   changing it, of these visits, no more than the budget, and of its warnings. The table is
+//!   closed, the warnings are exactly those of the table, and 1 comes exactly where there is one.
 //! - **the theorem** (`CoversRuns`, `WarnsOfFaults` of `ja_sound`): after every list of answers the
 //!   state of the program's run lies in the meaning of the printed state at its node and context;
 //!   an operation that goes wrong in some run has a warning; and no run is stuck (`NeverStuck`).
@@ -40,9 +40,9 @@
 
 mod analysis;
 mod answer;
-mod command;
 mod finding;
 mod refusing;
+mod request;
 mod running;
 mod status;
 mod top;
@@ -50,6 +50,7 @@ mod top;
 pub use analysis::analyse;
 pub use answer::Answer;
 pub use finding::{FindFault, Findings, find};
+pub use request::Request;
 pub use running::run;
 pub use status::Status;
 pub use top::{MAX_BYTES, tajs};

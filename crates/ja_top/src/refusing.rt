@@ -1,11 +1,10 @@
 //! Why there is no answer.
 
 ghost use Rattle.std.specs.Prelude.{◌≡◌, ℕ, List, IfOk};
-ghost use Rattle.ja_device.specs.Devices.{AllSeen};
 ghost use Rattle.ja_load.specs.code.Loading.{HasNone};
 ghost use Rattle.ja_prim.specs.declared.signature.Signature.{Signature};
-ghost use Rattle.ja_top.specs.Analyses.{Analyses};
-ghost use Rattle.ja_top.specs.Runs.{Runs, signatures_of};
+ghost use Rattle.ja_top.specs.Analyses.{Refuses};
+ghost use Rattle.ja_top.specs.Statuses.{refusal_of};
 ghost use Rattle.ja_top.specs.code.Statuses.{status_of_refusal};
 ghost use Rattle.ja_top.specs.code.Solutions.{IsRefusal};
 
@@ -41,25 +40,30 @@ pub(crate) fn refuse(alloc: Global, refusal: Refusal) -> Result<Answer, Memory>
     Ok(Answer { status, text })
 }
 
-/// Says why a text has no program, to be analysed or to be run.
-pub(crate) fn explain(alloc: Global, fault: LoadFault) -> Result<Answer, Memory>
-    ensures analysis { IfOk result (λ a. (bytes : List ℕ) (signatures : List Signature)
-        → HasNone bytes signatures fault
-        → Analyses bytes signatures a.status a.text.items) }
-    ensures run { IfOk result (λ a. (bytes : List ℕ) (steps : ℕ) (devices : AllSeen)
-        → HasNone bytes (signatures_of devices) fault
-        → Runs bytes steps devices devices a.status a.text.items) }
+/// The refusal of a text that has no program. Of want of memory, and of too many names, there is
+/// none.
+fn refusal_of(fault: LoadFault) -> Option<Refusal>
+    ensures { result ≡ refusal_of fault }
 {
     match fault {
-        LoadFault::Parse(ParseFault::Syntax { place }) => refuse(alloc, Refusal::Syntax { place }),
-        LoadFault::Parse(ParseFault::Scope { kind, place }) => {
-            refuse(alloc, Refusal::Scope { kind, place })
-        }
-        LoadFault::Parse(ParseFault::Depth { .. }) => refuse(alloc, Refusal::Depth),
-        LoadFault::Parse(ParseFault::Memory) => Err(Memory),
-        LoadFault::Functions => refuse(alloc, Refusal::Functions),
-        LoadFault::Nodes => refuse(alloc, Refusal::Nodes),
-        // no status has this cause: see docs/DECISIONS.md
-        LoadFault::Names => Err(Memory),
+        LoadFault::Parse(ParseFault::Syntax { place }) => Some(Refusal::Syntax { place }),
+        LoadFault::Parse(ParseFault::Scope { kind, place }) => Some(Refusal::Scope { kind, place }),
+        LoadFault::Parse(ParseFault::Depth { .. }) => Some(Refusal::Depth),
+        LoadFault::Functions => Some(Refusal::Functions),
+        LoadFault::Nodes => Some(Refusal::Nodes),
+        // no status has too many names as its cause: see docs/DECISIONS.md
+        LoadFault::Parse(ParseFault::Memory) | LoadFault::Names => None,
+    }
+}
+
+/// Says why a text has no program, to be analysed or to be run.
+#[tactic(auto, using(crate::proofs::Reporting::refuses))]
+pub(crate) fn explain(alloc: Global, fault: LoadFault) -> Result<Answer, Memory>
+    ensures { IfOk result (λ a. (bytes : List ℕ) (signatures : List Signature)
+        → HasNone bytes signatures fault → Refuses bytes signatures a.status a.text.items) }
+{
+    match refusal_of(fault) {
+        Some(refusal) => refuse(alloc, refusal),
+        None => Err(Memory),
     }
 }

@@ -1,27 +1,41 @@
 //! The answer to words and a source.
 
-ghost use Rattle.std.specs.Prelude.{◌≤◌, IfOk, IfErr, List, OnOk, OnErr, Some, String, length};
+ghost use Rattle.std.specs.Prelude.{◌≤◌, IfOk, IfErr, List, OnOk, OnErr, String, length};
 ghost use Rattle.std.specs.Prelude.{true};
 ghost use Rattle.std.specs.declared.alloc.Global.{Global};
 ghost use Rattle.ja_base.specs.Streams.{NeverFalls, Appends, AppendsFront, TurnsTo};
 ghost use Rattle.ja_base.specs.Streams.{HasCause as StreamCause};
 ghost use Rattle.ja_lex.specs.Spots.{max_bytes};
-ghost use Rattle.ja_top.specs.Answers.{DevicesComeBack, HasCause, IsAnswered, call_of, written_of};
-ghost use Rattle.ja_top.specs.code.Commands.{AsksFor, Follows, StopsShort};
+ghost use Rattle.ja_top.specs.Answers.{Asks, DevicesComeBack, Follows, HasCause, IsAnswered};
+ghost use Rattle.ja_top.specs.Answers.{IsOffered, call_of, written_of};
+ghost use Rattle.ja_top.specs.code.Commands.{AsksFor, StopsShort};
 
 use crate::analysis::analyse;
 use crate::answer::Answer;
-use crate::command::{Command, asked};
 use crate::refusing::refuse;
+use crate::request::Request;
 use crate::running::run;
 use crate::status::Status;
 use ja_base::{Failed, Memory, ReadFault, Sink, Source, read_all, write_all};
 use ja_device::{Device, Devices};
 use ja_report::Refusal;
+use ja_words::{Command, asked, words_ask_for_one_command};
 use std::alloc::Global;
 
 /// The greatest number of bytes of a text.
 pub const MAX_BYTES: usize = 16_777_216;
+
+// What the words ask for, if it is offered.
+#[tactic(auto, using(crate::proofs::Asking::none_asked, crate::proofs::Asking::no_check))]
+fn asked_for(alloc: Global, words: &[String]) -> Result<Option<Command>, Memory>
+    ensures { IfOk result (AsksFor words.now) }
+{
+    words_ask_for_one_command();
+    match asked(alloc, words)? {
+        Some(Command::Check) | None => Ok(None),
+        Some(command) => Ok(Some(command)),
+    }
+}
 
 // The answer of a command to the bytes of a text.
 fn follow<D: Device>(
@@ -30,32 +44,40 @@ fn follow<D: Device>(
     bytes: &[u8],
     devices: &mut Devices<D>,
 ) -> Result<Answer, Memory>
-    requires { length bytes.now ≤ max_bytes }
+    requires bytes { length bytes.now ≤ max_bytes }
+    requires offered { IsOffered command }
     ensures answer { IfOk result
         (λ a. Follows command bytes.now devices.old devices.new a.status a.text.items) }
     ensures memory { IfErr result (λ _. StopsShort command bytes.now devices.old devices.new) }
 {
     match command {
-        Command::Analyse => analyse(alloc, bytes, devices),
+        Command::Analyse { cert, budget } => {
+            let request = Request {
+                certifies: cert,
+                budget,
+            };
+            analyse(alloc, bytes, devices, request)
+        }
+        Command::Check => unreachable!(),
         Command::Run { steps } => run(alloc, bytes, devices, steps),
     }
 }
 
 // The answer of a command to the source, before it is written: of any words that ask for it.
-#[tactic(auto, using(crate::proofs::Reporting::is_line))]
 fn answer_of<S: Source, D: Device>(
     alloc: Global,
     command: Command,
     source: &mut S,
     devices: &mut Devices<D>,
 ) -> Result<Answer, Memory>
+    requires { IsOffered command }
     ensures count { NeverFalls (S.faults source.old) (S.faults source.new) }
     ensures cause { IfOk result
-        (λ a. (words : List (String Global)) → AsksFor words (Some command) → HasCause
+        (λ a. (words : List (String Global)) → Asks words command → HasCause
         (call_of S.left S.faults words source.old source.new devices.old devices.new)
         a.status a.text.items) }
     ensures memory { IfErr result
-        (λ _. (words : List (String Global)) → AsksFor words (Some command) → DevicesComeBack
+        (λ _. (words : List (String Global)) → Asks words command → DevicesComeBack
         (call_of S.left S.faults words source.old source.new devices.old devices.new)) }
 {
     match read_all(alloc, source, MAX_BYTES) {
@@ -85,7 +107,7 @@ fn answer<S: Source, D: Device>(
         (λ _. DevicesComeBack
         (call_of S.left S.faults words.now source.old source.new devices.old devices.new)) }
 {
-    match asked(words) {
+    match asked_for(alloc, words)? {
         Some(command) => answer_of(alloc, command, source, devices),
         None => refuse(alloc, Refusal::Usage),
     }

@@ -1,5 +1,5 @@
 -- What the solver gives, and what is refused.
-use Rattle.std.specs.Prelude.{◌≡◌, ◌≤◌, length}
+use Rattle.std.specs.Prelude.{◌≡◌, ◌≤◌, ℕ, length}
 use Rattle.ja_graph.specs.declared.program.Program.{Program}
 use Rattle.ja_rows.specs.Table.{IsBuilt, IsClosed}
 use Rattle.ja_sound.specs.Sound.{CoversRuns}
@@ -7,12 +7,11 @@ use Rattle.ja_report.specs.declared.refusals.Refusal.{Refusal}
 use Rattle.ja_report.specs.Refusals.{refusal_text}
 use Rattle.ja_rules.specs.declared.solver.Solved.{Solved}
 use Rattle.ja_rules.specs.Tables.{table_of, Fits}
-use Rattle.ja_top.specs.Analyses.{budget}
 use Rattle.ja_top.specs.declared.answer.Answer.{Answer}
 use Rattle.ja_top.specs.code.Statuses.{status_of_refusal}
 
--- what the solver gives of a program
-pub record IsSolved (p : Program) (s : Solved) : Type 0 where
+-- what the solver gives of a program in so many visits at most
+pub record IsSolved (p : Program) (budget : ℕ) (s : Solved) : Type 0 where
   pub fits : Fits p s.table
   pub built : IsBuilt p s.visits (table_of s.table)
   pub closed : IsClosed p (table_of s.table)

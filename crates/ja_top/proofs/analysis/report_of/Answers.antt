@@ -11,10 +11,10 @@ returns c =
     let p = c.args.program.now in
     let ws = c.in_ok-warnings.warnings in
     let text = c.in_ok-text.text.items in
-    let whole : IsAnalysed p text ws = record {
+    let whole : IsAnalysed c.args.request p text ws = record {
       table = table_of c.args.solved.now.table;
       visits = c.args.solved.now.visits;
-      printed = cc (c.in_ok-text.ensures, c.as_slice.ensures, c.as_slice-2.ensures);
+      printed = cc (c.in_ok-text.ensures, c.as_slice.ensures);
       built = c.requires.solved.built;
       few = c.requires.solved.few;
       closed = c.requires.solved.closed;
@@ -24,5 +24,6 @@ returns c =
       goes_on = c.never_stuck.ensures p c.requires.program;
     } in
     let same : status_of ws ≡ c.judged-status.result =
-    cc (c.judged-status.ensures, c.as_slice-3.ensures) in
-    let R : Status → Type 0 = λ s. Reports p s text in subst R same (reports p text ws whole)
+    cc (c.judged-status.ensures, c.as_slice-2.ensures) in
+    let R : Status → Type 0 = λ s. Reports c.args.request p s text in
+    subst R same (reports c.args.request p text ws whole)

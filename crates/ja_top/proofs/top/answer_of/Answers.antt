@@ -1,5 +1,5 @@
 use Rattle.std.proofs.Common.{subst, ℕ, List}
-use Rattle.ja_top.specs.code.Commands.{Follows}
+use Rattle.ja_top.specs.Answers.{Follows}
 use Rattle.ja_top.proofs.Reporting.{answers}
 use Rattle.ja_top.proofs.top.answer_of.Goals as goal
 
