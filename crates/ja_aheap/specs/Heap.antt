@@ -1,6 +1,6 @@
 -- What the analyser's heaps stand for: maps from labels and keys to properties, and from sites to
 -- masks; and what a call makes of such a map.
-use Rattle.std.specs.Prelude.{◌≡◌, ◌==◌, ◌<◌, ◌≤◌, ℕ, Bool, true, false, ◌&&◌, not, if◌then◌else◌, nat_lt, List, length, Option, None, Some, slice_get}
+use Rattle.std.specs.Prelude.{◌≡◌, ◌==◌, ◌<◌, ◌≤◌, ℕ, Bool, true, false, ◌&&◌, not, if◌then◌else◌, nat_lt, List, [], ◌∷◌, length, Option, None, Some, slice_get}
 use Rattle.std.specs.Option.{option_map_or}
 use denote.Ref.{Bor}
 use Rattle.ja_base.specs.declared.ids.Label.{Label}
@@ -105,6 +105,14 @@ made_in h s =
       property = λ l. at_keys_below h.names (made_property (half h) s l);
       mask = λ t. if s.0 == t then exactly_some else h.mask t;
     }
+
+-- some masks are set, of those of one site the first
+abbrev pub masks_with : List (Site × Mask) → (ℕ → Mask) → ℕ → Mask
+masks_with [] mask s = mask s
+masks_with (m ∷ ms) mask s = if m.0.0 == s then m.1 else masks_with ms mask s
+
+abbrev pub with_masks_in : HeapMap → List (Site × Mask) → HeapMap
+with_masks_in h masks = record h { mask = masks_with masks h.mask }
 
 -- an object has these properties
 abbrev pub with_own_in : HeapMap → Label → Own → HeapMap

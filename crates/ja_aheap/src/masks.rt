@@ -3,6 +3,7 @@ ghost use Rattle.std.specs.Option.{option_map_or};
 ghost use Rattle.std.specs.Ordering.{nat_cmp};
 ghost use Rattle.std.specs.BTreeMap.{get};
 ghost use Rattle.ja_abstract.specs.AbstractState.{join_masks, exactly_some};
+ghost use Rattle.ja_aheap.specs.Heap.{masks_with};
 ghost use Rattle.ja_value.specs.Labels.{mask_in};
 
 use crate::maps::{all_listed, fill, put};
@@ -100,4 +101,22 @@ pub fn made_masks(
     put(&mut made, u64::from(site.0), some)?;
     fill(&mut made, masks, |_site: u64, mask: &Mask| Ok(*mask))?;
     Ok(Rc::new(alloc, made)?)
+}
+
+/// The masks after some are set, of those of one site the first.
+pub fn masks_with(
+    alloc: Global,
+    masks: &BTreeMap<u64, Mask>,
+    others: Vec<(Site, Mask)>,
+) -> Result<Rc<BTreeMap<u64, Mask>>, Memory>
+    ensures { IfOk result (λ m. (s : ℕ) → mask_in m.value s
+        ≡ masks_with others.items (mask_in masks.now) s) }
+{
+    let mut set = BTreeMap::new(alloc);
+    fill(&mut set, masks, |_site: u64, mask: &Mask| Ok(*mask))?;
+    let mut others = others;
+    while let Some((site, mask)) = others.pop() {
+        put(&mut set, u64::from(site.0), mask)?;
+    }
+    Ok(Rc::new(alloc, set)?)
 }

@@ -1,11 +1,15 @@
-ghost use Rattle.std.specs.Prelude.{◌≡◌, ◌*◌, IfOk, OnErr, IsTrue, All};
-ghost use Rattle.ja_aheap.specs.Heap.{with_own_in, strongly_in, weakly_in, has_label, has_key};
+ghost use Rattle.std.specs.Prelude.{◌≡◌, ◌*◌, ◌<◌, IfOk, OnErr, IsTrue, All};
+ghost use Rattle.ja_base.specs.declared.ids.Site.{Site};
+ghost use Rattle.ja_abstract.specs.declared.abstraction.Mask.{Mask};
+ghost use Rattle.ja_aheap.specs.Heap.{with_masks_in, with_own_in, strongly_in, weakly_in, has_label, has_key};
 ghost use Rattle.ja_aheap.specs.Objects.{own_in, writes_of};
 ghost use Rattle.ja_aheap.specs.declared.writes.Write.{Write};
 ghost use Rattle.ja_trie.specs.Nodes.{ArePaths};
 
+use crate::masks::masks_with;
 use crate::{AHeap, AObject, Made, Writes};
-use ja_base::{Label, Memory};
+use ja_abstract::Mask;
+use ja_base::{Label, Memory, Site};
 use ja_trie::Steps;
 use ja_value::label_number;
 use std::alloc::Global;
@@ -77,6 +81,17 @@ impl AHeap {
         let mut object = self.objects.get(number).copy(alloc)?;
         object.weakly(alloc, writes)?;
         self.objects.set(number, object, steps)?;
+        Ok(())
+    }
+
+    /// Sets the masks of some sites. Of several of one site the first counts.
+    pub fn set_masks(&mut self, alloc: Global, masks: Vec<(Site, Mask)>) -> Result<(), Memory>
+        requires { All (λ (m : Site × Mask). m.0.0 < (heap_of self.old).sites) masks.items }
+        ensures set { IfOk result (λ _. heap_of self.new
+            ≡ with_masks_in (heap_of self.old) masks.items) }
+        ensures kept { OnErr result (heap_of self.new ≡ heap_of self.old) }
+    {
+        self.masks = masks_with(alloc, &self.masks, masks)?;
         Ok(())
     }
 }
