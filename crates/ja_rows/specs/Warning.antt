@@ -181,13 +181,6 @@ AreOrdered (w ∷ ws) =
 
 -- ---- the warnings of a table
 
--- the kinds that are told: that of rows that are read isn't yet
-abbrev pub is_told : WarningKind → Bool
-is_told NotAFunction = true
-is_told NoObject = true
-is_told UnboundName = true
-is_told ScopeRow = false
-
 -- some state at the operation allows it to go wrong; the warning is certain where none allows
 -- anything else
 pub record IsWarned (p : Program) (t : Table) (w : Warning) : Type 0 where
@@ -198,12 +191,10 @@ pub record IsWarned (p : Program) (t : Table) (w : Warning) : Type 0 where
   pub certain : IsTrue w.certain ↔ ((s : Test) (v : View) → IsReached p t (operation_of w) s v
       → s.more v ≡ false)
 
--- the warnings are in order, each operation of a kind that is told is warned that may go wrong, and
--- no other
+-- the warnings are in order, each operation is warned that may go wrong, and no other
 pub record AreWarnings (p : Program) (t : Table) (ws : List Warning) : Type 0 where
   pub ordered : AreOrdered ws
   pub warned : AllByRecursion (IsWarned p t) ws
-  pub told : AllByRecursion (λ (w : Warning). IsTrue (is_told w.kind)) ws
   pub complete : (o : Operation) (test : Test) (v : View) → IsReached p t o test v
-      → IsTrue (is_told o.kind) → IsTrue (test.fault v)
+      → IsTrue (test.fault v)
       → Any (λ (w : Warning). operation_of w ≡ o) ws

@@ -1,7 +1,6 @@
 -- What clauses of the code cite, and no believed statement.
 pub mod Entries
 pub mod Exits
-pub mod Faults
 pub mod Filling
 pub mod Growing
 pub mod Opened

@@ -1,25 +1,21 @@
-//! Tables of abstract states: the visits that build a table, the solver that makes a closed one,
-//! and the warnings of a table.
+//! Tables of abstract states: the visits that build a table, and the solver that makes a closed one.
 //!
 //! A visit is that of its definition (`visit`): the values of the opening heap, the step of a node
 //! with the functions that it enters, the values that fill a callee's entry, and what a callee's
 //! exits give back. `solve` gives a table that the visits build and that is closed, or says that
-//! the budget is spent. `warnings` are exactly those of the table. Contexts and edges are kept in
-//! order (`table.rt`), and what visits join in is `joins.rt`. Which items are worth a visit is kept
-//! too (`due.rt`): no clause rests on that, since the last round visits each item.
+//! the budget is spent. Contexts and edges are kept in order (`table.rt`), and what visits join in is
+//! `joins.rt`. Which items are worth a visit is kept too (`due.rt`): no clause rests on that, since
+//! the last round visits each item.
 #![tactic(auto)]
 
 mod due;
 mod entries;
-mod faults;
 mod joins;
 mod opening_heap;
-mod reached;
 mod solver;
 mod table;
 mod visits;
 
-pub use faults::warnings;
 pub use solver::{SolveFault, Solved, solve};
 pub use table::{ATable, CallEdge, Changes, ContextTable, NodeTable, opening};
 pub use visits::visit;

@@ -37,14 +37,14 @@ use Rattle.ja_rows.specs.Edges.{calls_at, constructs_at}
 use Rattle.ja_rows.specs.Out.{Point, name_keys}
 use Rattle.ja_rows.specs.Out as abstract
 use Rattle.ja_rows.specs.Table.{Table, view_at, point}
-use Rattle.ja_rows.specs.Warning.{Test, Operation, operation_at, operation_of, tests, no_function, no_object, unbound, is_told, AreWarnings}
+use Rattle.ja_rows.specs.Warning.{Test, Operation, operation_at, operation_of, tests, no_function, no_object, unbound, AreWarnings}
 use Rattle.ja_sound.specs.Faults.{is_nothing_value, is_null, fault_at, fault_of_frames}
 use Rattle.ja_sound.specs.Sound.{IsCovered, CoversRuns, WarnsOfFaults}
 use Rattle.ja_sound.specs.Statements.{IsAt}
 use Rattle.ja_sound.proofs.AtCovered.{GrowsAlong, at_covered}
 use Rattle.ja_sound.proofs.AtNode as nodes
 use Rattle.ja_sound.proofs.Called.{called_other, constructing_other}
-use Rattle.ja_sound.proofs.FaultKinds.{so_parts, no_value, faults_are_told}
+use Rattle.ja_sound.proofs.FaultKinds.{so_parts, no_value}
 
 -- a test of the node that says the kind, and that the view passes
 pub record IsTold (w : View) (n : Node) (kind : WarningKind) : Type 0 where
@@ -178,8 +178,7 @@ module _ (p : Program) (good : IsWellFormed p) (t : Table) (ws : List Warning)
               state = cov.state;
               state_is = cov.state_is;
               view_is = refl;
-            }) (subst (λ (z : Operation). IsTrue (is_told z.kind)) o_is
-            (faults_are_told p cov.top i.node kind fault_is)) told.fault
+            }) told.fault
 
   pub warns_of_faults : WarnsOfFaults p ws
   warns_of_faults answers c o reached is =

@@ -1,0 +1,287 @@
+-- What is held of operations at their numbers.
+use Rattle.std.specs.Prelude.{◌≡◌, ◌⊎◌, ℕ, zero, suc, ◌+◌, Bool, true, false, not, ◌&&◌, ◌||◌, ◌==◌, if◌then◌else◌, List, [], ◌∷◌, ◌++◌, ◌<◌, length, take, get_or, Option, Some, None}
+use Rattle.std.specs.declared.cmp.Ordering.{Ordering}
+use Rattle.std.specs.declared.cmp.Ordering.TheVariants.{Less, Equal, Greater}
+use Rattle.std.specs.BTreeMap.{BTreeMap, get, Updates}
+use Rattle.std.specs.Cmp.{IsTotalOrder, then_total, on_total}
+use Rattle.std.specs.List.{flat_map, list_any, range_with_len}
+use Rattle.std.specs.Ordering.{is_eq, nat_cmp, ordering_then}
+use Rattle.std.proofs.Common.{refl, sym, ◌∙◌, ap, inl, inr, add-one}
+use Rattle.std.proofs.Math.Bool.{or-false, or_assoc}
+use Rattle.std.proofs.lemmas.Cmp.{nat_cmp_total}
+use Rattle.std.proofs.lemmas.List.{append-nil, take_more}
+use Rattle.std.proofs.lemmas.List.Concat.{flat_map-append}
+use Rattle.std.proofs.lemmas.List.Sums.{fold-append}
+use Rattle.std.proofs.lemmas.Map.Lookups.{CmpEqualImpliesEq, exact_unsigned}
+use Rattle.std.proofs.lemmas.Map.Views.{tells_apart}
+use Rattle.std.proofs.lemmas.Option.{same_Some}
+use Rattle.ja_base.specs.declared.ids.FnId.{FnId}
+use Rattle.ja_base.proofs.Options.{none_not_some}
+use Rattle.ja_graph.specs.declared.program.Program.{Program}
+use Rattle.ja_rows.specs.declared.table.WarningKind.{WarningKind}
+use Rattle.ja_rows.specs.declared.table.WarningKind.TheVariants.{NotAFunction, NoObject, UnboundName, ScopeRow}
+use Rattle.ja_rows.specs.Warning.{Operation, operation_of, builtin_number, kind_number, IsBelow}
+use Rattle.ja_aheap.proofs.MapLemmas.{less_than}
+use Rattle.ja_warn.specs.declared.reached.Reached.{Reached}
+use Rattle.ja_rules.specs.declared.table.ContextTable.{ContextTable}
+use Rattle.ja_rules.proofs.NodeFacts.{one_more}
+use Rattle.ja_warn.specs.code.Faults.{Spot, spot_of, spot_cmp, is_at, reached_at, reached_of_context, merged, with_reached, held}
+
+-- ---- the order of numbers
+
+then_equal : (a b : Ordering) → ordering_then a b ≡ Equal → (a ≡ Equal) × (b ≡ Equal)
+then_equal Less b e = absurd (cc)
+then_equal Equal b e = (refl, e)
+then_equal Greater b e = absurd (cc)
+
+then_less : (a b : Ordering) → ordering_then a b ≡ Less
+    → (a ≡ Less) ⊎ ((a ≡ Equal) × (b ≡ Less))
+then_less Less b e = inl refl
+then_less Equal b e = inr (refl, e)
+then_less Greater b e = absurd (cc)
+
+-- numbers that the order ties are the same
+pub spot_exact : CmpEqualImpliesEq spot_cmp
+spot_exact x y e =
+    let (first, kind) = then_equal _ (nat_cmp x.3 y.3) e in
+    let (front, column) = then_equal _ (nat_cmp x.2 y.2) first in
+    let (builtin, line) = then_equal (nat_cmp x.0 y.0) (nat_cmp x.1 y.1) front in
+    let builtin_is : x.0 ≡ y.0 = exact_unsigned x.0 y.0 builtin in
+    let line_is : x.1 ≡ y.1 = exact_unsigned x.1 y.1 line in
+    let column_is : x.2 ≡ y.2 = exact_unsigned x.2 y.2 column in
+    let kind_is : x.3 ≡ y.3 = exact_unsigned x.3 y.3 kind in
+    λ i. (builtin_is i, line_is i, column_is i, kind_is i)
+
+pub spot_total : IsTotalOrder spot_cmp
+spot_total =
+    then_total (then_total (then_total (on_total (λ (s : Spot). s.0) nat_cmp_total)
+    (on_total (λ (s : Spot). s.1) nat_cmp_total)) (on_total (λ (s : Spot). s.2) nat_cmp_total))
+    (on_total (λ (s : Spot). s.3) nat_cmp_total)
+
+-- what comes earlier by the order is below
+pub spot_below : (x y : Spot) → spot_cmp x y ≡ Less
+    → IsBelow (x.0 ∷ x.1 ∷ x.2 ∷ x.3 ∷ []) (y.0 ∷ y.1 ∷ y.2 ∷ y.3 ∷ [])
+spot_below x y e =
+    elim (then_less _ (nat_cmp x.3 y.3) e) [
+      | inl first ↦ elim (then_less _ (nat_cmp x.2 y.2) first) [
+        | inl front ↦ elim (then_less (nat_cmp x.0 y.0) (nat_cmp x.1 y.1) front) [
+          | inl builtin ↦ inl (less_than x.0 y.0 builtin)
+          | inr line ↦ inr (
+            exact_unsigned x.0 y.0 line.0,
+            inl (less_than x.1 y.1 line.1),
+          )
+        ]
+        | inr column ↦
+            let front = then_equal (nat_cmp x.0 y.0) (nat_cmp x.1 y.1) column.0 in
+            inr (
+              exact_unsigned x.0 y.0 front.0,
+              inr (
+                exact_unsigned x.1 y.1 front.1,
+                inl (less_than x.2 y.2 column.1),
+              ),
+            )
+      ]
+      | inr kind ↦
+          let first = then_equal _ (nat_cmp x.2 y.2) kind.0 in
+          let front = then_equal (nat_cmp x.0 y.0) (nat_cmp x.1 y.1) first.0 in
+          inr (
+            exact_unsigned x.0 y.0 front.0,
+            inr (
+              exact_unsigned x.1 y.1 front.1,
+              inr (
+                exact_unsigned x.2 y.2 first.1,
+                inl (less_than x.3 y.3 kind.1),
+              ),
+            ),
+          )
+    ]
+
+-- ---- the operation of its numbers
+
+abbrev kind_at : ℕ → WarningKind
+kind_at n =
+    if n == 1 then NotAFunction else (if n == 2 then NoObject else (if n == 3 then UnboundName
+    else ScopeRow))
+
+kind_back : (k : WarningKind) → kind_at (kind_number k) ≡ k
+kind_back NotAFunction = refl
+kind_back NoObject = refl
+kind_back UnboundName = refl
+kind_back ScopeRow = refl
+
+abbrev builtin_at : ℕ → Option FnId
+builtin_at zero = None
+builtin_at (suc n) = Some (record { 0 = n })
+
+builtin_back : (f : Option FnId) → builtin_at (builtin_number f) ≡ f
+builtin_back None = refl
+builtin_back (Some f) = ap builtin_at (add-one f.0)
+
+abbrev operation_at : Spot → Operation
+operation_at s =
+    record {
+      kind = kind_at s.3;
+      place = record { line = s.1; column = s.2 };
+      builtin = builtin_at s.0;
+    }
+
+operation_back : (o : Operation) → operation_at (spot_of o) ≡ o
+operation_back o =
+    λ i. record {
+      kind = kind_back o.kind i;
+      place = o.place;
+      builtin = builtin_back o.builtin i;
+    }
+
+-- operations of the same numbers are the same
+pub same_operation : (a b : Operation) → spot_of a ≡ spot_of b → a ≡ b
+same_operation a b e = sym (operation_back a) ∙ ap operation_at e ∙ operation_back b
+
+-- ---- what is held
+
+module _ (k : Spot) where
+  -- what is at the numbers has them
+  pub at_spot : (o : Reached) → is_at k o ≡ true → spot_of (operation_of o.warning) ≡ k
+  at_spot o here = tells_apart spot_exact (spot_of (operation_of o.warning)) k here
+
+  -- what merging takes from both is taken from all that is at the numbers
+  one_tells : (f : Option Reached → Bool) (g : Reached → Bool)
+      → ((q : Option Reached) (o : Reached) → f (Some (merged q o)) ≡ (f q || g o))
+      → (q : Option Reached) (o : Reached) (b : Bool)
+      → f (if b then Some (merged q o) else q) ≡ (f q || (b && g o))
+  one_tells f g h q o true = h q o
+  one_tells f g h q o false = sym (or-false (f q))
+
+  held_tells : (f : Option Reached → Bool) (g : Reached → Bool)
+      → ((q : Option Reached) (o : Reached) → f (Some (merged q o)) ≡ (f q || g o))
+      → (q : Option Reached) (os : List Reached)
+      → f (held k q os) ≡ (f q || list_any (λ o. is_at k o && g o) os)
+  held_tells f g h q [] = sym (or-false (f q))
+  held_tells f g h q (o ∷ os) =
+      let rest : Bool = list_any (λ x. is_at k x && g x) os in
+      held_tells f g h (with_reached k q o) os
+      ∙ ap (λ b. b || rest) (one_tells f g h q o (is_at k o))
+      ∙ or_assoc (f q) (is_at k o && g o) rest
+
+  -- what is held is at the numbers
+  held_at : (q : Option Reached) (os : List Reached)
+      → ((r : Reached) → q ≡ Some r → is_at k r ≡ true)
+      → (r : Reached) → held k q os ≡ Some r → is_at k r ≡ true
+  held_at q [] h r is = h r is
+  held_at q (o ∷ os) h r is = held_at (with_reached k q o) os (by (is_at k o) refl) r is
+    where
+      met : (e : Option Reached) → is_at k (merged e o) ≡ is_at k o
+      met None = refl
+      met (Some e) = refl
+
+      by : (b : Bool) → is_at k o ≡ b → (s : Reached)
+          → (if b then Some (merged q o) else q) ≡ Some s → is_at k s ≡ true
+      by true here s e =
+          ap (is_at k) (sym (same_Some (merged q o) s e)) ∙ met q ∙ here
+      by false apart s e = h s e
+
+-- one operation more is held
+pub held_added : (m n : BTreeMap Spot Reached) (s : Spot) (earlier : Option Reached)
+    (o now : Reached) → s ≡ spot_of (operation_of o.warning) → earlier ≡ get spot_cmp m s
+    → now ≡ merged earlier o → Updates spot_cmp m n s (Some now)
+    → (k : Spot) → get spot_cmp n k ≡ with_reached k (get spot_cmp m k) o
+held_added m n s earlier o now s_is earlier_is now_is updates k =
+    updates.0 k ∙ by (is_eq (spot_cmp s k)) refl
+    ∙ ap (λ x. if is_eq (spot_cmp x k) then Some (merged (get spot_cmp m k) o)
+    else get spot_cmp m k) s_is
+  where
+    by : (b : Bool) → is_eq (spot_cmp s k) ≡ b
+        → (if b then Some now else get spot_cmp m k)
+        ≡ (if b then Some (merged (get spot_cmp m k) o) else get spot_cmp m k)
+    by true here =
+        ap Some (now_is ∙ ap (λ e. merged e o) (earlier_is
+        ∙ ap (get spot_cmp m) (tells_apart spot_exact s k here)))
+    by false apart = refl
+
+-- .. those of a node more
+pub held_next : (p : Program) (c : ContextTable) (k : Spot) (n : ℕ)
+    (first before after : Option Reached)
+    → before ≡ held k first (flat_map (reached_at p c) (range_with_len 0 n))
+    → after ≡ held k before (reached_at p c n)
+    → after ≡ held k first (flat_map (reached_at p c) (range_with_len 0 (n + 1)))
+held_next p c k n first before after before_is after_is =
+    let now : List Reached = flat_map (reached_at p c) (range_with_len 0 n) in
+    after_is ∙ ap (λ q. held k q (reached_at p c n)) before_is
+    ∙ sym (fold-append (with_reached k) first now (reached_at p c n))
+    ∙ ap (held k first) (sym (one_more (reached_at p c) n))
+
+-- .. and those of a context more
+pub held_context : (p : Program) (k : Spot) (cs : List ContextTable) (n : ℕ) (c : ContextTable)
+    (before after : Option Reached) → n < length cs → c ≡ get_or cs n c
+    → before ≡ held k None (flat_map (reached_of_context p) (take n cs))
+    → after ≡ held k before (reached_of_context p c)
+    → after ≡ held k None (flat_map (reached_of_context p) (take (n + 1) cs))
+held_context p k cs n c before after within is before_is after_is =
+    let now : List Reached = flat_map (reached_of_context p) (take n cs) in
+    after_is ∙ ap (λ q. held k q (reached_of_context p c)) before_is
+    ∙ ap (held k (held k None now)) (sym (append-nil (reached_of_context p c)))
+    ∙ sym (fold-append (with_reached k) None now (flat_map (reached_of_context p) (c ∷ [])))
+    ∙ ap (held k None) (sym (flat_map-append (reached_of_context p) (take n cs) (c ∷ []))
+    ∙ ap (flat_map (reached_of_context p)) (ap (λ d. take n cs ++ d ∷ []) is
+    ∙ sym (take_more cs n c within)))
+
+-- whether it may go wrong, and whether anything else may happen
+abbrev has_fault : Option Reached → Bool
+has_fault None = false
+has_fault (Some o) = o.fault
+
+abbrev has_more : Option Reached → Bool
+has_more None = false
+has_more (Some o) = not o.warning.certain
+
+fault_merged : (q : Option Reached) (o : Reached)
+    → has_fault (Some (merged q o)) ≡ (has_fault q || o.fault)
+fault_merged None o = refl
+fault_merged (Some q) o = refl
+
+not_both : (a b : Bool) → not (a && b) ≡ (not a || not b)
+not_both true b = refl
+not_both false b = refl
+
+more_merged : (q : Option Reached) (o : Reached)
+    → has_more (Some (merged q o)) ≡ (has_more q || not o.warning.certain)
+more_merged None o = refl
+more_merged (Some q) o = not_both q.warning.certain o.warning.certain
+
+-- the operations at the numbers that may go wrong, and those that allow anything else
+abbrev pub any_fault : Spot → List Reached → Bool
+any_fault k os = list_any (λ o. is_at k o && o.fault) os
+
+abbrev pub any_more : Spot → List Reached → Bool
+any_more k os = list_any (λ o. is_at k o && not o.warning.certain) os
+
+-- what is held at numbers has them, may go wrong where one of them may, and does so certainly where
+-- none allows anything else
+pub record IsHeld (k : Spot) (os : List Reached) (q : Reached) : Type 0 where
+  pub at_spot : is_at k q ≡ true
+  pub fault_is : q.fault ≡ any_fault k os
+  pub more_is : not q.warning.certain ≡ any_more k os
+
+pub is_held : (k : Spot) (os : List Reached) (q : Reached) → held k None os ≡ Some q
+    → IsHeld k os q
+is_held k os q is = record {
+  at_spot = held_at k None os (λ r e. absurd (none_not_some e)) q is;
+  fault_is =
+      ap has_fault (sym is)
+      ∙ held_tells k has_fault (λ (o : Reached). o.fault) fault_merged None os;
+  more_is =
+      ap has_more (sym is)
+      ∙ held_tells k has_more (λ (o : Reached). not o.warning.certain) more_merged None os;
+}
+
+-- something is held where an operation at the numbers may go wrong
+pub held_from_fault : (k : Spot) (os : List Reached) → any_fault k os ≡ true
+    → (q : Reached) × (held k None os ≡ Some q) × (q.fault ≡ true)
+held_from_fault k os some =
+    found (held k None os) refl (held_tells k has_fault (λ (o : Reached). o.fault) fault_merged
+    None os ∙ some)
+  where
+    found : (q : Option Reached) → held k None os ≡ q → has_fault q ≡ true
+        → (r : Reached) × (held k None os ≡ Some r) × (r.fault ≡ true)
+    found None is fault = absurd (cc)
+    found (Some q) is fault = (q, is, fault)

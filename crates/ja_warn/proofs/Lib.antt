@@ -1,0 +1,5 @@
+pub mod Held
+pub mod Listed
+pub mod NodeLemmas
+pub mod ReachedLemmas
+pub mod Rows

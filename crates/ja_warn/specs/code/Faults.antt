@@ -1,0 +1,97 @@
+-- The operations that a table reaches, and what is held of them by their numbers.
+use Rattle.std.specs.Prelude.{◌≡◌, ℕ, Bool, not, ◌&&◌, ◌||◌, if◌then◌else◌, List, [], map, Option, Some, None}
+use Rattle.std.specs.declared.cmp.Ordering.{Ordering}
+use Rattle.std.specs.List.{flat_map, fold}
+use Rattle.std.specs.Option.{option_map_or}
+use Rattle.std.specs.Ordering.{is_eq, nat_cmp, ordering_then}
+use Rattle.ja_base.specs.declared.ids.FnId.{FnId}
+use Rattle.ja_graph.specs.declared.node.NodeInfo.{NodeInfo}
+use Rattle.ja_graph.specs.declared.program.Program.{Program}
+use Rattle.ja_graph.specs.Program.{node_at}
+use Rattle.ja_abstract.specs.declared.abstraction.Key.{Key}
+use Rattle.ja_abstract.specs.AbstractState.{AbstractState}
+use Rattle.ja_abstract.specs.AbstractValue.{Labels}
+use Rattle.ja_abstract.specs.Resolved.{Entries}
+use Rattle.ja_abstract.specs.Reading.{View}
+use Rattle.ja_rows.specs.Table.{node_numbers}
+use Rattle.ja_rows.specs.Warning.{Test, Operation, operation_of, builtin_of, builtin_number, has_no_row, has_row, kind_number, tests}
+use Rattle.ja_aheap.specs.Entries.{entries_of}
+use Rattle.ja_warn.specs.declared.reached.Allowed.{Allowed}
+use Rattle.ja_warn.specs.declared.reached.Reached.{Reached}
+use Rattle.ja_rules.specs.declared.table.ContextTable.{ContextTable}
+use Rattle.ja_rules.specs.Tables.{states_in}
+
+-- ---- at one node
+
+-- a state allows what a test says of its view
+pub record Says (test : Test) (w : View) (a : Allowed) : Type 0 where
+  pub fault : a.fault ≡ test.fault w
+  pub more : a.more ≡ test.more w
+
+-- .. and what a reading says: a row, and anything else
+pub record SaysRow (w : View) (start : Labels) (keys : List Key) (a : Allowed) : Type 0 where
+  pub fault : a.fault ≡ has_row w start keys
+  pub more : a.more ≡ has_no_row w start keys
+
+-- what a test says of its operation
+abbrev pub tested : View → FnId → NodeInfo → Test → Reached
+tested w f i test = record {
+  warning = record {
+    kind = test.kind;
+    place = i.place;
+    builtin = builtin_of w.program f;
+    certain = not (test.more w);
+  };
+  fault = test.fault w;
+}
+
+abbrev pub reached_by : View → FnId → NodeInfo → List Reached
+reached_by w f i = map (tested w f i) (tests i.node)
+
+-- .. by the state that a table has at the node, if it has one
+abbrev pub reached_in : Program → Entries → FnId → NodeInfo → Option AbstractState → List Reached
+reached_in p e f i state =
+    option_map_or (λ a. reached_by (record { program = p; state = a; entries = e }) f i) state []
+
+-- ---- at all nodes of a context
+
+abbrev pub reached_at : Program → ContextTable → ℕ → List Reached
+reached_at p c n =
+    option_map_or (λ i. reached_in p (entries_of c.entries) c.context.function i
+    (states_in c.nodes.items n)) (node_at p c.context.function (record { 0 = n })) []
+
+abbrev pub reached_of_context : Program → ContextTable → List Reached
+reached_of_context p c = flat_map (reached_at p c) (node_numbers p c.context.function)
+
+-- ---- what is held of them
+
+-- the numbers of an operation, by which warnings are in order
+abbrev pub Spot : Type 0
+Spot = ℕ × ℕ × ℕ × ℕ
+
+abbrev pub spot_of : Operation → Spot
+spot_of o = (builtin_number o.builtin, o.place.line, o.place.column, kind_number o.kind)
+
+abbrev pub spot_cmp : Spot → Spot → Ordering
+spot_cmp x y =
+    ordering_then (ordering_then (ordering_then (nat_cmp x.0 y.0) (nat_cmp x.1 y.1))
+    (nat_cmp x.2 y.2)) (nat_cmp x.3 y.3)
+
+abbrev pub is_at : Spot → Reached → Bool
+is_at k o = is_eq (spot_cmp (spot_of (operation_of o.warning)) k)
+
+-- one more of the same operation: it may go wrong where either may, and does so certainly where
+-- both do
+abbrev pub merged : Option Reached → Reached → Reached
+merged None o = o
+merged (Some q) o = record {
+  warning = record o.warning { certain = q.warning.certain && o.warning.certain };
+  fault = q.fault || o.fault;
+}
+
+-- what is held at a spot, with one more, and of a list
+abbrev pub with_reached : Spot → Option Reached → Reached → Option Reached
+with_reached k q o = if is_at k o then Some (merged q o) else q
+
+abbrev pub held : Spot → Option Reached → List Reached → Option Reached
+held k q os = fold (with_reached k) q os

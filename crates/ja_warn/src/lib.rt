@@ -1,0 +1,13 @@
+//! The warnings of a table: the operations that one of its states allows to go wrong.
+//!
+//! Each node with a test is looked at in each state that the table has there (`nodes.rt`): what the
+//! state allows (`reached.rt`) is put with what was found of the same operation (`found.rt`), in
+//! the order in which warnings are told. Nothing is demanded of a context's entry, only read.
+#![tactic(auto)]
+
+mod faults;
+mod found;
+mod nodes;
+mod reached;
+
+pub use faults::warnings;
