@@ -1,16 +1,14 @@
 -- Command lines that are written out, and one of each command.
-use Rattle.std.proofs.Common.{◌≡◌, ◌≤◌, ◌∙◌, ℕ, Bool, true, false, List, [], ◌∷◌, refl}
+use Rattle.std.proofs.Common.{◌≡◌, ◌≤◌, ◌<◌, ◌∙◌, ℕ, Bool, true, false, List, [], ◌∷◌, refl}
 use Rattle.std.proofs.Common.{sym, ap, inl, inr, arith, codes, decimal, length}
 use Rattle.std.specs.Fmt.{digits}
 use Rattle.std.specs.Str.Parse.{digits_value}
 use Rattle.std.proofs.lemmas.Fmt.{decimal_digit, decimal_is_IsNumeral_wide}
-use Rattle.clap.specs.declared.error.kind.ErrorKind.TheVariants as kind
-use Rattle.clap.proofs.OnLiterals.{clap_on_literals}
+use Rattle.ja_gen.specs.Generated.{max_number}
 use Rattle.ja_words.specs.Words.{IsCommandLine, Word, max_budget, max_steps}
 use Rattle.ja_words.specs.code.Answers.{Spells}
 use Rattle.ja_words.specs.declared.command.Command.{Command}
-use Rattle.ja_words.specs.declared.command.Command.TheVariants.{Analyse, Check, Run}
-use Rattle.ja_words.proofs.Given.{analyse_is_not_run, check_is_not_run, taken}
+use Rattle.ja_words.specs.declared.command.Command.TheVariants.{Analyse, Check, Generate, Run}
 
 pub attached : IsCommandLine (codes "analyse" ∷ codes "--budget=5" ∷ codes "--cert" ∷ [])
     (Analyse true 5)
@@ -49,63 +47,82 @@ pub seven_steps : IsCommandLine (codes "run" ∷ codes "--steps" ∷ codes "7" �
 unfolding digits
 seven_steps = (codes "--steps" ∷ codes "7" ∷ [], refl, inr (omega arith, omega arith, inl refl))
 
+pub three : IsCommandLine (codes "generate" ∷ codes "--number" ∷ codes "3" ∷ []) (Generate 3)
+unfolding digits
+three = (codes "--number" ∷ codes "3" ∷ [], refl, (omega arith, omega arith, inl refl))
+
+pub greatest : IsCommandLine (codes "generate" ∷ codes "--number=200" ∷ []) (Generate 200)
+unfolding digits
+greatest = (codes "--number=200" ∷ [], refl, (omega arith, omega arith, inr refl))
+
 -- the number that a word spells
 number_is : (most : ℕ) (word : List ℕ) (number : ℕ) → most ≤ 10000000 → Spells most word number
     → number ≡ digits_value 10 word
 number_is most word number small is =
     sym (decimal_is_IsNumeral_wide number (omega (arith, is.2))).1 ∙ ap (digits_value 10) (sym is.0)
 
-no_leading_zero : (number : ℕ) → Spells max_steps (codes "07") number → ⊥
-no_leading_zero number is =
-    let seven : number ≡ 7 = number_is max_steps (codes "07") number (omega arith) is in
-    let one : length (decimal number) ≡ 1 = ap (λ (n : ℕ). length (decimal n)) seven
-    ∙ ap length (decimal_digit 7 (omega arith)) in
-    let two : 2 ≡ length (decimal number) = ap length is.0 in
-    absurd (omega (arith, one, two))
+no_leading_zero : (most : ℕ) (word : List ℕ) (number : ℕ) → most ≤ 10000000
+    → digits_value 10 word < 10 → 1 < length word → Spells most word number → ⊥
+no_leading_zero most word number small digit long is =
+    let same = number_is most word number small is in
+    let one = ap length (decimal_digit number (omega (arith, same))) in
+    absurd (omega (arith, one, ap length is.0))
 
-no_zero : (number : ℕ) → Spells max_steps (codes "0") number → ⊥
-no_zero number is =
-    let zero_steps : number ≡ 0 = number_is max_steps (codes "0") number (omega arith) is in
-    absurd (omega (arith, is.1, zero_steps))
+no_zero : (most number : ℕ) → most ≤ 10000000 → Spells most (codes "0") number → ⊥
+no_zero most number small is =
+    absurd (omega (arith, is.1, number_is most (codes "0") number small is))
+
+-- the word behind `--steps` is the number, and so is that behind `--number`
+steps_spelled : (word : Word) (steps : ℕ)
+    → IsCommandLine (codes "run" ∷ codes "--steps" ∷ word ∷ []) (Run steps)
+    → Spells max_steps word steps
+steps_spelled word steps line = elim line.2 [
+  | inl none ↦ absurd (cc)
+  | inr given ↦ elim given.2 [
+    | inl is ↦ (cc, given.0, given.1)
+    | inr is ↦ absurd (cc)
+  ]
+]
+
+number_spelled : (word : Word) (number : ℕ)
+    → IsCommandLine (codes "generate" ∷ codes "--number" ∷ word ∷ []) (Generate number)
+    → Spells max_number word number
+number_spelled word number line = elim line.2.2 [
+  | inl is ↦ (cc, line.2.0, line.2.1)
+  | inr is ↦ absurd (cc)
+]
 
 pub leading_zero : (command : Command)
     → IsCommandLine (codes "run" ∷ codes "--steps" ∷ codes "07" ∷ []) command → ⊥
-unfolding clap_on_literals
-leading_zero (Analyse cert budget) line =
-    analyse_is_not_run (sym (taken (codes "run" ∷ codes "--steps" ∷ codes "07" ∷ [])
-    (Analyse cert budget) line).says.0)
-leading_zero Check line =
-    check_is_not_run (sym (taken (codes "run" ∷ codes "--steps" ∷ codes "07" ∷ []) Check line).says)
-leading_zero (Run steps) line =
-    no_leading_zero steps (taken (codes "run" ∷ codes "--steps" ∷ codes "07" ∷ [])
-    (Run steps) line).says.1
+leading_zero (Run steps) line = no_leading_zero max_steps (codes "07") steps (omega arith)
+    (omega arith) (omega arith) (steps_spelled (codes "07") steps line)
+leading_zero command line = cc
 
 pub zero_of_steps : (command : Command)
     → IsCommandLine (codes "run" ∷ codes "--steps" ∷ codes "0" ∷ []) command → ⊥
-unfolding clap_on_literals
-zero_of_steps (Analyse cert budget) line =
-    analyse_is_not_run (sym (taken (codes "run" ∷ codes "--steps" ∷ codes "0" ∷ [])
-    (Analyse cert budget) line).says.0)
-zero_of_steps Check line =
-    check_is_not_run (sym (taken (codes "run" ∷ codes "--steps" ∷ codes "0" ∷ []) Check line).says)
 zero_of_steps (Run steps) line =
-    no_zero steps (taken (codes "run" ∷ codes "--steps" ∷ codes "0" ∷ []) (Run steps) line).says.1
+    no_zero max_steps steps (omega arith) (steps_spelled (codes "0") steps line)
+zero_of_steps command line = cc
 
-pub twice : (command : Command)
-    → IsCommandLine (codes "analyse" ∷ codes "--cert" ∷ codes "--cert" ∷ []) command → ⊥
-unfolding clap_on_literals
-twice command line =
-    let fails : kind.ArgumentConflict ∷ [] ≡ [] =
-    (taken (codes "analyse" ∷ codes "--cert" ∷ codes "--cert" ∷ []) command line).clean in
-    cc fails
+pub leading_zero_of_number : (command : Command)
+    → IsCommandLine (codes "generate" ∷ codes "--number" ∷ codes "01" ∷ []) command → ⊥
+leading_zero_of_number (Generate number) line =
+    no_leading_zero max_number (codes "01") number (omega arith) (omega arith) (omega arith)
+    (number_spelled (codes "01") number line)
+leading_zero_of_number command line = cc
 
-pub of_another : (command : Command) → IsCommandLine (codes "check" ∷ codes "--cert" ∷ []) command
-    → ⊥
-unfolding clap_on_literals
-of_another command line =
-    let fails : kind.UnknownArgument ∷ [] ≡ [] =
-    (taken (codes "check" ∷ codes "--cert" ∷ []) command line).clean in
-    cc fails
+pub zero_of_number : (command : Command)
+    → IsCommandLine (codes "generate" ∷ codes "--number" ∷ codes "0" ∷ []) command → ⊥
+zero_of_number (Generate number) line =
+    no_zero max_number number (omega arith) (number_spelled (codes "0") number line)
+zero_of_number command line = cc
+
+pub past_number : (command : Command)
+    → IsCommandLine (codes "generate" ∷ codes "--number" ∷ codes "201" ∷ []) command → ⊥
+past_number (Generate number) line =
+    let is = number_spelled (codes "201") number line in
+    absurd (omega (arith, is.2, number_is max_number (codes "201") number (omega arith) is))
+past_number command line = cc
 
 -- ---- one of each command
 
@@ -148,4 +165,11 @@ pub some_run : (steps : ℕ) → 1 ≤ steps → steps ≤ max_steps
 some_run steps low high = (
   codes "run" ∷ codes "--steps" ∷ decimal steps ∷ [],
   (codes "--steps" ∷ decimal steps ∷ [], refl, inr (low, high, inl refl)),
+)
+
+pub some_generate : (number : ℕ) → 1 ≤ number → number ≤ max_number
+    → (words : List Word) × IsCommandLine words (Generate number)
+some_generate number low high = (
+  codes "generate" ∷ codes "--number" ∷ decimal number ∷ [],
+  (codes "--number" ∷ decimal number ∷ [], refl, (low, high, inl refl)),
 )

@@ -1,29 +1,33 @@
 -- A command line is taken by clap, whose matches say its command.
 use Rattle.std.proofs.Common.{◌≡◌, ◌||◌, ◌∙◌, ◌++◌, ◌<◌, ◌^◌, ℕ, Bool, true, false, List, []}
-use Rattle.std.proofs.Common.{◌∷◌, Option, Some, None, refl, sym, ap, ap₂, subst, inl, inr, arith}
+use Rattle.std.proofs.Common.{◌∷◌, ◌≤◌, Option, Some, None, refl, sym, ap, ap₂, subst, inl, inr, arith}
 use Rattle.std.proofs.Common.{codes}
-use Rattle.std.proofs.Common.{decimal, slice_index}
+use Rattle.std.proofs.Common.{decimal}
 use Rattle.std.proofs.lemmas.Fmt.{decimal_is_IsNumeral_wide}
 use Rattle.std.specs.Str.Parse.{digits_value}
 use Rattle.clap.specs.Values.{bool_text}
 use Rattle.clap.specs.Walk.{Held, Row, Text, finished, first_of, idle, one_of, option, rows_after}
-use Rattle.clap.specs.Simple.{subcommand_of}
+use Rattle.clap.specs.Simple.{Shape, subcommand_of}
 use Rattle.clap.specs.Kinds.{Kinds, or_else}
 use Rattle.clap.specs.Faults.{fault_of}
 use Rattle.clap.proofs.OnLiterals.{clap_on_literals}
-use Rattle.ja_words.specs.Words.{AreBoth, IsCommandLine, IsFlag, IsNumber, Word}
+use Rattle.ja_words.specs.Words.{AreBoth, IsCommandLine, IsFlag, IsNumber, IsOption, Word}
+use Rattle.ja_gen.specs.Generated.{max_number}
 use Rattle.ja_words.specs.Words.{default_budget, default_steps, max_budget, max_steps}
-use Rattle.ja_words.specs.code.Answers.{SaysBudget, SaysFlag, SaysIfMet, SaysNumber, SaysSteps}
+use Rattle.ja_words.specs.code.Answers.{SaysBudget, SaysClasses, SaysFlag, SaysGiven, SaysIfMet}
+use Rattle.ja_words.specs.code.Answers.{SaysNumber, SaysSteps}
 use Rattle.ja_words.specs.code.Apps.{has_dashes, tajs_app}
 use Rattle.ja_words.specs.declared.command.Command.{Command}
-use Rattle.ja_words.specs.declared.command.Command.TheVariants.{Analyse, Check, Run}
+use Rattle.ja_words.specs.declared.command.Command.TheVariants.{Analyse, Check, Generate, Run}
 use Rattle.ja_words.proofs.Leaves.{end_held, held, left_fault, standing, value_held, value_left}
 use Rattle.ja_words.proofs.Lexed.{IsNoOption, long_word, numeral_is_no_option}
 use Rattle.ja_words.proofs.Options.{IsValue, analyse_is_plain, analyse_leaf, budget_named}
 use Rattle.ja_words.proofs.Options.{budget_rule}
-use Rattle.ja_words.proofs.Options.{cert_rows, check_leaf, run_is_plain, run_leaf, steps_named}
+use Rattle.ja_words.proofs.Options.{cert_rows, check_leaf, generate_is_plain, generate_leaf}
+use Rattle.ja_words.proofs.Options.{number_named, number_rule, run_is_plain, run_leaf, steps_named}
 use Rattle.ja_words.proofs.Options.{steps_rule}
-use Rattle.ja_words.proofs.TopLevel.{enters_analyse, enters_check, enters_run, start}
+use Rattle.ja_words.proofs.TopLevel.{enters_analyse, enters_check, enters_generate, enters_run}
+use Rattle.ja_words.proofs.TopLevel.{start}
 
 -- ---- the options of the analysis
 
@@ -119,6 +123,11 @@ record HasValue (name : Word) (default most number : ℕ) (words : List Word) : 
   says : SaysNumber default most value number
   is_no_option : IsNoOptionIfGiven value
 
+decimal_is_no_option : (most number : ℕ) → most < 10 ^ 64 → number ≤ most
+    → IsNoOption (decimal number)
+decimal_is_no_option most number small high = numeral_is_no_option (decimal number)
+    (decimal_is_IsNumeral_wide number (omega arith)).0
+
 value_of : (name : Word) (default most number : ℕ) (words : List Word) → most < 10 ^ 64
     → IsNumber name default most number words → HasValue name default most number words
 value_of name default most number words small (inl h) =
@@ -127,8 +136,7 @@ value_of name default most number words small (inr h) = record {
   value = Some (decimal number);
   is_value = h.2;
   says = (refl, h.0, h.1);
-  is_no_option = numeral_is_no_option (decimal number)
-      (decimal_is_IsNumeral_wide number (omega (arith, h.1))).0;
+  is_no_option = decimal_is_no_option most number small h.1;
 }
 
 both_are : (words a b x y : List Text) → AreBoth words a b → a ≡ x → b ≡ y → AreBoth words x y
@@ -173,40 +181,66 @@ gives_analyse options true (Some v) a b flag (inr value) fine both =
     (long_word (codes "budget") (Some v) ∷ []) both flag value)
     (cert_budget_word v) (budget_word_cert v)
 
--- ---- the options of a run
+-- ---- the one option of a run, and of a generated program
 
-abbrev run_after : List Text → List Row
-run_after options = rows_after run_leaf.rules [] options
+record GivesOne (leaf : Shape) (id : Text) (options : List Text) (value : Option Text) : Type 0
+  where
+    clean : left_fault leaf start options ≡ []
+    dashes : has_dashes options ≡ false
+    says : first_of id (rows_after leaf.rules [] options) ≡ value
 
-record GivesRun (options : List Text) (steps : Option Text) : Type 0 where
-  clean : left_fault run_leaf start options ≡ []
-  dashes : has_dashes options ≡ false
-  says_steps : first_of (codes "steps") (run_after options) ≡ steps
+abbrev GivesRun : List Text → Option Text → Type 0
+GivesRun = GivesOne run_leaf (codes "steps")
+
+abbrev GivesGenerate : List Text → Option Text → Type 0
+GivesGenerate = GivesOne generate_leaf (codes "number")
 
 no_steps : GivesRun [] None
 unfolding clap_on_literals
-no_steps = record { clean = refl; dashes = refl; says_steps = refl }
+no_steps = record { clean = refl; dashes = refl; says = refl }
 
 steps_word : (v : Text) → GivesRun (long_word (codes "steps") (Some v) ∷ []) (Some v)
 unfolding clap_on_literals
-steps_word v = record { clean = refl; dashes = refl; says_steps = refl }
+steps_word v = record { clean = refl; dashes = refl; says = refl }
 
 steps_next : (v : Text) → IsNoOption v → GivesRun (codes "--steps" ∷ v ∷ []) (Some v)
 unfolding clap_on_literals
 steps_next v is = record {
   clean = value_left run_leaf run_is_plain steps_rule steps_named refl [] v [] is;
   dashes = ap (λ (b : Bool). b || false) is.dashes;
-  says_steps = ap (λ (h : Held). first_of (codes "steps") (finished run_leaf.rules h))
+  says = ap (λ (h : Held). first_of (codes "steps") (finished run_leaf.rules h))
       (value_held run_leaf run_is_plain steps_rule steps_named refl [] v [] is);
 }
 
 gives_run : (options : List Text) (steps : Option Text) → IsValue (codes "--steps") steps options
     → IsNoOptionIfGiven steps → GivesRun options steps
-gives_run options None is fine = subst (λ (o : List Text). GivesRun o None) (sym is) no_steps
+gives_run options None is fine =
+    subst (λ (o : List Text). GivesRun o None) (sym is) no_steps
 gives_run options (Some v) (inl is) fine =
     subst (λ (o : List Text). GivesRun o (Some v)) (sym is) (steps_next v fine)
 gives_run options (Some v) (inr is) fine =
     subst (λ (o : List Text). GivesRun o (Some v)) (sym is) (steps_word v)
+
+number_word : (v : Text) → GivesGenerate (long_word (codes "number") (Some v) ∷ []) (Some v)
+unfolding clap_on_literals
+number_word v = record { clean = refl; dashes = refl; says = refl }
+
+number_next : (v : Text) → IsNoOption v
+    → GivesGenerate (codes "--number" ∷ v ∷ []) (Some v)
+unfolding clap_on_literals
+number_next v is = record {
+  clean = value_left generate_leaf generate_is_plain number_rule number_named refl [] v [] is;
+  dashes = ap (λ (b : Bool). b || false) is.dashes;
+  says = ap (λ (h : Held). first_of (codes "number") (finished generate_leaf.rules h))
+      (value_held generate_leaf generate_is_plain number_rule number_named refl [] v [] is);
+}
+
+gives_generate : (options : List Text) (v : Text) → IsOption (codes "--number") v options
+    → IsNoOption v → GivesGenerate options (Some v)
+gives_generate options v (inl is) fine =
+    subst (λ (o : List Text). GivesGenerate o (Some v)) (sym is) (number_next v fine)
+gives_generate options v (inr is) fine =
+    subst (λ (o : List Text). GivesGenerate o (Some v)) (sym is) (number_word v)
 
 check_clean : left_fault check_leaf start [] ≡ []
 unfolding clap_on_literals
@@ -220,6 +254,7 @@ SaysExactly (Some sub) (Analyse cert budget) = (sub.0 ≡ codes "analyse")
     × (one_of (codes "cert") sub.1 ≡ Some (bool_text cert)) × SaysBudget sub.1 budget
 SaysExactly (Some sub) Check = sub.0 ≡ codes "check"
 SaysExactly (Some sub) (Run steps) = (sub.0 ≡ codes "run") × SaysSteps sub.1 steps
+SaysExactly (Some sub) (Generate number) = (sub.0 ≡ codes "generate") × SaysClasses sub.1 number
 
 pub record IsTaken (words : List Text) (command : Command) : Type 0 where
   pub dashes : has_dashes words ≡ false
@@ -268,18 +303,29 @@ taken words (Run steps) line =
           (sym enters.subcommand) (
             refl,
             subst (λ (o : Option Text). SaysNumber default_steps max_steps o steps)
-                (sym gives.says_steps) value.says,
+                (sym gives.says) value.says,
+          );
+    })
+taken words (Generate number) line =
+    let options = line.0 in
+    let gives = gives_generate options (decimal number) line.2.2
+    (decimal_is_no_option max_number number (omega arith) line.2.1) in
+    let enters = enters_generate options in
+    subst (λ (w : List Text). IsTaken w (Generate number)) (sym line.1) (record {
+      dashes = gives.dashes;
+      clean = enters.fault ∙ ap (λ (k : Kinds). or_else k []) gives.clean;
+      says = subst (λ (o : Option (Text × List Row)). SaysExactly o (Generate number))
+          (sym enters.subcommand) (
+            refl,
+            subst (λ (o : Option Text). SaysGiven max_number o number) (sym gives.says)
+                (refl, line.2.0, line.2.1),
           );
     })
 
 -- ---- what is said exactly is said
 
-abbrev first_code : Option Text → ℕ
-first_code None = 0
-first_code (Some t) = slice_index t 0
-
 true_text : Some (codes "true") ≡ Some (codes "false") → ⊥
-true_text e = let bad : ◌≡◌ {A = ℕ} 116 102 = ap first_code e in absurd (omega (arith, bad))
+true_text e = cc e
 
 flag_said : (text : Option Text) (asked : Bool) → text ≡ Some (bool_text asked)
     → SaysFlag text asked
@@ -293,37 +339,27 @@ exactly_says (Some sub) (Analyse cert budget) says =
     (says.0, flag_said (one_of (codes "cert") sub.1) cert says.1, says.2)
 exactly_says (Some sub) Check says = says
 exactly_says (Some sub) (Run steps) says = says
+exactly_says (Some sub) (Generate number) says = says
 
 -- ---- the words determine the command
 
 bool_said : (text : Option Text) (a b : Bool) → text ≡ Some (bool_text a)
     → text ≡ Some (bool_text b) → a ≡ b
 bool_said text true true p q = refl
-bool_said text true false p q = absurd (true_text (sym p ∙ q))
-bool_said text false true p q = absurd (true_text (sym q ∙ p))
 bool_said text false false p q = refl
+bool_said text a b p q = cc
+
+given_said : (most : ℕ) (value : Option Text) (a b : ℕ) → most < 10 ^ 64
+    → SaysGiven most value a → SaysGiven most value b → a ≡ b
+given_said most None a b small p q = absurd p
+given_said most (Some v) a b small p q =
+    sym (decimal_is_IsNumeral_wide a (omega (arith, p.2))).1 ∙ ap (digits_value 10) (sym p.0 ∙ q.0)
+    ∙ (decimal_is_IsNumeral_wide b (omega (arith, q.2))).1
 
 number_said : (default most : ℕ) (value : Option Text) (a b : ℕ) → most < 10 ^ 64
     → SaysNumber default most value a → SaysNumber default most value b → a ≡ b
 number_said default most None a b small p q = p ∙ sym q
-number_said default most (Some v) a b small p q =
-    sym (decimal_is_IsNumeral_wide a (omega (arith, p.2))).1 ∙ ap (digits_value 10) (sym p.0 ∙ q.0)
-    ∙ (decimal_is_IsNumeral_wide b (omega (arith, q.2))).1
-
-pub differ : (a b : Text) → (slice_index a 0 ≡ slice_index b 0 → ⊥) → a ≡ b → ⊥
-differ a b other e = other (ap (λ (t : Text). slice_index t 0) e)
-
-pub analyse_is_not_check : codes "analyse" ≡ codes "check" → ⊥
-analyse_is_not_check = differ (codes "analyse") (codes "check") (λ e. let bad : 97 ≡ 99 = e in
-    absurd (omega arith))
-
-pub analyse_is_not_run : codes "analyse" ≡ codes "run" → ⊥
-analyse_is_not_run = differ (codes "analyse") (codes "run") (λ e. let bad : 97 ≡ 114 = e in
-    absurd (omega arith))
-
-pub check_is_not_run : codes "check" ≡ codes "run" → ⊥
-check_is_not_run = differ (codes "check") (codes "run") (λ e. let bad : 99 ≡ 114 = e in
-    absurd (omega arith))
+number_said default most (Some v) a b small p q = given_said most (Some v) a b small p q
 
 said_once : (sub : Option (Text × List Row)) (c d : Command) → SaysExactly sub c → SaysExactly sub d
     → c ≡ d
@@ -332,18 +368,14 @@ said_once (Some sub) (Analyse cert budget) (Analyse cert' budget') p q =
     ap₂ Analyse (bool_said (one_of (codes "cert") sub.1) cert cert' p.1 q.1)
     (number_said default_budget max_budget (first_of (codes "budget") sub.1) budget budget'
     (omega arith) p.2 q.2)
-said_once (Some sub) (Analyse cert budget) Check p q = absurd (analyse_is_not_check (sym p.0 ∙ q))
-said_once (Some sub) (Analyse cert budget) (Run steps) p q =
-    absurd (analyse_is_not_run (sym p.0 ∙ q.0))
-said_once (Some sub) Check (Analyse cert budget) p q = absurd (analyse_is_not_check (sym q.0 ∙ p))
 said_once (Some sub) Check Check p q = refl
-said_once (Some sub) Check (Run steps) p q = absurd (check_is_not_run (sym p ∙ q.0))
-said_once (Some sub) (Run steps) (Analyse cert budget) p q =
-    absurd (analyse_is_not_run (sym q.0 ∙ p.0))
-said_once (Some sub) (Run steps) Check p q = absurd (check_is_not_run (sym q ∙ p.0))
 said_once (Some sub) (Run steps) (Run steps') p q =
     ap Run (number_said default_steps max_steps (first_of (codes "steps") sub.1) steps steps'
     (omega arith) p.1 q.1)
+said_once (Some sub) (Generate number) (Generate number') p q =
+    ap Generate (given_said max_number (first_of (codes "number") sub.1) number number'
+    (omega arith) p.1 q.1)
+said_once (Some sub) c d p q = cc
 
 pub one_command : (words : List Word) (c d : Command) → IsCommandLine words c
     → IsCommandLine words d → c ≡ d

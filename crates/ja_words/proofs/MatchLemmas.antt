@@ -6,20 +6,18 @@ use Rattle.clap.specs.Words.{first_value}
 use Rattle.clap.specs.Words.{one_text, rows_of}
 use Rattle.clap.specs.declared.parser.matches.Found.{Found}
 use Rattle.clap.proofs.WalkLemmas.{first_value-rows, one_text-rows}
+use Rattle.ja_gen.specs.Generated.{max_number}
 use Rattle.ja_words.specs.Words.{default_budget, default_steps, max_budget, max_steps}
-use Rattle.ja_words.specs.code.Answers.{ReadsAnalyse}
-use Rattle.ja_words.specs.code.Answers.{ReadsNumber, ReadsRun}
-use Rattle.ja_words.specs.code.Answers.{SaysNumber}
-use Rattle.ja_words.specs.declared.command.Command.TheVariants.{Analyse, Check, Run}
-use Rattle.ja_words.proofs.Given.{analyse_is_not_check, analyse_is_not_run, check_is_not_run}
+use Rattle.ja_words.specs.code.Answers.{ReadsAnalyse, ReadsGenerate, ReadsNumber, ReadsRun}
+use Rattle.ja_words.specs.code.Answers.{SaysGiven, SaysNumber}
+use Rattle.ja_words.specs.declared.command.Command.TheVariants.{Analyse, Generate, Run}
 
 pub no_budget : (f : Found) (value : Option Text) → value ≡ first_value f (codes "budget")
     → ReadsNumber default_budget max_budget value None → ReadsAnalyse (rows_of f) None
 no_budget f value is none (Analyse cert budget) says =
     none budget (subst (λ (o : Option Text). SaysNumber default_budget max_budget o budget)
     (sym (is ∙ first_value-rows f (codes "budget"))) says.2)
-no_budget f value is none Check says = analyse_is_not_check says
-no_budget f value is none (Run steps) says = analyse_is_not_run says.0
+no_budget f value is none command says = cc
 
 pub analyse_read : (f : Found) (value : Option Text) (budget : ℕ) (cert : Bool)
     → value ≡ first_value f (codes "budget")
@@ -40,11 +38,10 @@ analyse_read f value budget cert is says yes_cert no_cert = (
 
 pub no_steps : (f : Found) (value : Option Text) → value ≡ first_value f (codes "steps")
     → ReadsNumber default_steps max_steps value None → ReadsRun (rows_of f) None
-no_steps f value is none (Analyse cert budget) says = analyse_is_not_run (sym says.0)
-no_steps f value is none Check says = check_is_not_run (sym says)
 no_steps f value is none (Run steps) says =
     none steps (subst (λ (o : Option Text). SaysNumber default_steps max_steps o steps)
     (sym (is ∙ first_value-rows f (codes "steps"))) says.1)
+no_steps f value is none command says = cc
 
 pub run_read : (f : Found) (value : Option Text) (steps : ℕ) → value ≡ first_value f (codes "steps")
     → SaysNumber default_steps max_steps value steps → ReadsRun (rows_of f) (Some (Run steps))
@@ -52,4 +49,20 @@ run_read f value steps is says = (
   refl,
   subst (λ (o : Option Text). SaysNumber default_steps max_steps o steps)
       (is ∙ first_value-rows f (codes "steps")) says,
+)
+
+pub no_number : (f : Found) (value : Option Text) → value ≡ first_value f (codes "number")
+    → ((number : ℕ) → SaysGiven max_number value number → ⊥) → ReadsGenerate (rows_of f) None
+no_number f value is none (Generate number) says =
+    none number (subst (λ (o : Option Text). SaysGiven max_number o number)
+    (sym (is ∙ first_value-rows f (codes "number"))) says.1)
+no_number f value is none command says = cc
+
+pub generate_read : (f : Found) (value : Option Text) (number : ℕ)
+    → value ≡ first_value f (codes "number") → SaysGiven max_number value number
+    → ReadsGenerate (rows_of f) (Some (Generate number))
+generate_read f value number is says = (
+  refl,
+  subst (λ (o : Option Text). SaysGiven max_number o number)
+      (is ∙ first_value-rows f (codes "number")) says,
 )

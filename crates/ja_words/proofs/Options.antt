@@ -2,7 +2,7 @@
 use Rattle.std.proofs.Common.{◌≡◌, ◌⊎◌, ◌||◌, ◌&&◌, ◌∙◌, ◌++◌, Bool, true, false, cond, List, []}
 use Rattle.std.proofs.Common.{◌∷◌, Option, Some, None, is_some, not, refl, sym, ap, subst, inl, inr}
 use Rattle.std.proofs.Common.{fold}
-use Rattle.std.proofs.Common.{codes}
+use Rattle.std.proofs.Common.{ap₂, append_assoc, codes}
 use Rattle.std.specs.Str.{bytes_eq}
 use Rattle.std.proofs.lemmas.Slice.Eq.{bytes_eq-Decides}
 use Rattle.clap.specs.Values.{bool_text}
@@ -11,13 +11,13 @@ use Rattle.clap.specs.Walk.{with_default, first_of, one_of}
 use Rattle.clap.specs.Simple.{Shape, built_leaf, filled, inherited, marked_built}
 use Rattle.clap.specs.Simple.{with_index, with_leaf_noted}
 use Rattle.clap.specs.Kinds.{Kinds, or_else}
-use Rattle.clap.specs.Faults.{use_fault, values_fault}
+use Rattle.clap.specs.Faults.{defaults_fault, use_fault, values_fault}
 use Rattle.clap.specs.declared.error.kind.ErrorKind.TheVariants as kind
 use Rattle.ja_words.specs.Words.{AreBoth, IsFlag, IsOption, Word}
-use Rattle.ja_words.specs.code.Apps.{analyse_app, check_app, flag_rule, run_app, tajs_app}
-use Rattle.ja_words.specs.code.Apps.{value_rule}
+use Rattle.ja_words.specs.code.Apps.{analyse_app, check_app, flag_rule, generate_app}
+use Rattle.ja_words.specs.code.Apps.{required_rule, run_app, tajs_app, value_rule}
 use Rattle.ja_words.proofs.NoFaults.{or_else_split}
-use Rattle.ja_words.proofs.Leaves.{AreUses, IsNamed, IsPlainLeaf, Stands, Use, uses_fault}
+use Rattle.ja_words.proofs.Leaves.{AreUses, IsNamed, IsPlainLeaf, Stands, Use, use_in, uses_fault}
 use Rattle.ja_words.proofs.Leaves.{uses_rows}
 use Rattle.ja_words.proofs.Leaves.{values}
 use Rattle.std.proofs.lemmas.Option.{same_Some}
@@ -37,6 +37,9 @@ check_leaf = leaf_of check_app.top
 abbrev pub run_leaf : Shape
 run_leaf = leaf_of run_app.top
 
+abbrev pub generate_leaf : Shape
+generate_leaf = leaf_of generate_app.top
+
 abbrev pub cert_rule : Rule
 cert_rule = with_index 1 (filled (flag_rule (codes "cert")))
 
@@ -45,6 +48,9 @@ budget_rule = with_index 1 (filled (value_rule (codes "budget")))
 
 abbrev pub steps_rule : Rule
 steps_rule = with_index 1 (filled (value_rule (codes "steps")))
+
+abbrev pub number_rule : Rule
+number_rule = with_index 1 (filled (required_rule (codes "number")))
 
 -- ---- the option of a name
 
@@ -86,6 +92,13 @@ run_rule name a e = elim (first_or_later steps_rule [] name a e) [
   | inr none ↦ absurd (cc none)
 ]
 
+generate_rule : (name : Text) (a : Rule) → arg_by_long generate_leaf.rules name ≡ Some a
+    → IsRule (codes "number") number_rule name a
+generate_rule name a e = elim (first_or_later number_rule [] name a e) [
+  | inl h ↦ (is_name_of (codes "number") name h.0, h.1)
+  | inr none ↦ absurd (cc none)
+]
+
 cert_named : IsNamed analyse_leaf.rules cert_rule
 cert_named = record { by_id = refl; one = λ e. absurd (cc e) }
 
@@ -94,6 +107,9 @@ budget_named = record { by_id = refl; one = λ e. refl }
 
 pub steps_named : IsNamed run_leaf.rules steps_rule
 steps_named = record { by_id = refl; one = λ e. refl }
+
+pub number_named : IsNamed generate_leaf.rules number_rule
+number_named = record { by_id = refl; one = λ e. refl }
 
 pub analyse_is_plain : IsPlainLeaf analyse_leaf
 analyse_is_plain = record {
@@ -110,6 +126,14 @@ run_is_plain = record {
   no_short = λ x. refl;
   no_index = refl;
   named = λ name a e. subst (IsNamed run_leaf.rules) (sym (run_rule name a e).1) steps_named;
+}
+
+pub generate_is_plain : IsPlainLeaf generate_leaf
+generate_is_plain = record {
+  no_short = λ x. refl;
+  no_index = refl;
+  named = λ name a e. subst (IsNamed generate_leaf.rules) (sym (generate_rule name a e).1)
+      number_named;
 }
 
 pub check_is_plain : IsPlainLeaf check_leaf
@@ -142,9 +166,6 @@ cert_use = (codes "cert", cert_rule, None)
 abbrev budget_use : Text → Use
 budget_use v = (codes "budget", budget_rule, Some v)
 
-abbrev steps_use : Text → Use
-steps_use v = (codes "steps", steps_rule, Some v)
-
 -- a use of an option that takes a value has one, and no other has
 has_value : (id : Text) (r : Rule) (u : Use) → IsRule id r u.0 u.1 → takes_values u.1 ≡ is_some u.2
     → takes_values r ≡ true → (v : Text) × (u ≡ (id, r, Some v))
@@ -171,6 +192,15 @@ analyse_use u found takes = elim (analyse_rule u.0 u.1 found) [
   | inr is ↦ inr (has_value (codes "budget") budget_rule u is takes refl)
 ]
 
+-- a use with a value that stands alone
+alone : (id v : Text) (words rest : List Text) → Stands id (Some v) words rest → rest ≡ []
+    → IsOption (long_word id None) v words
+alone id v words rest (inl is) none =
+    inl (is ∙ ap (λ (r : List Text). long_word id None ∷ v ∷ r) none)
+alone id v words rest (inr is) none =
+    inr (is ∙ ap₂ (λ (t : Text) (r : List Text). (45 ∷ 45 ∷ t) ∷ r)
+    (sym (append_assoc id (codes "=") v)) none)
+
 -- ---- no option is used twice
 
 abbrev repeated : Rule → List Text → Bool → Kinds
@@ -185,10 +215,6 @@ cert_twice rows has e = cc
 budget_twice : (v : Text) (rows : List Row) → has_row (codes "budget") rows ≡ true
     → use_fault false budget_rule (v ∷ []) rows ≡ [] → ⊥
 budget_twice v rows has e = cc (subst (λ (b : Bool). repeated budget_rule (v ∷ []) b ≡ []) has e)
-
-steps_twice : (v : Text) (rows : List Row) → has_row (codes "steps") rows ≡ true
-    → use_fault false steps_rule (v ∷ []) rows ≡ [] → ⊥
-steps_twice v rows has e = cc (subst (λ (b : Bool). repeated steps_rule (v ∷ []) b ≡ []) has e)
 
 first_clean : (s : Shape) (rows : List Row) (u : Use) (us : List Use)
     → uses_fault s rows (u ∷ us) ≡ []
@@ -228,15 +254,7 @@ cert_budget_rows v = used budget_rule (v ∷ []) cert_rows
 abbrev budget_cert_rows : Text → List Row
 budget_cert_rows v = used cert_rule [] (budget_rows v)
 
--- a value that stands first or last
-lone_value : (v : Text) (words rest : List Text) → Stands (codes "budget") (Some v) words rest
-    → rest ≡ []
-    → IsOption (codes "--budget") v words
-lone_value v words rest (inl is) none =
-    inl (is ∙ ap (λ (r : List Text). codes "--budget" ∷ v ∷ r) none)
-lone_value v words rest (inr is) none =
-    inr (is ∙ ap (λ (r : List Text). long_word (codes "budget") (Some v) ∷ r) none)
-
+-- a value that stands first
 value_first : (v : Text) (words rest : List Text) → Stands (codes "budget") (Some v) words rest
     → (first : List Text) × IsOption (codes "--budget") v first × (words ≡ first ++ rest)
 value_first v words rest (inl is) = (codes "--budget" ∷ v ∷ [], inl refl, is)
@@ -281,7 +299,7 @@ behind_cert (u ∷ us) words rest is are e = elim (analyse_use u are.1 are.2) [
           cert_words = codes "--cert" ∷ [];
           budget_words = rest;
           is_cert = refl;
-          is_budget = lone_value v rest are.0 stands end;
+          is_budget = alone (codes "budget") v rest are.0 stands end;
           are_both = inl is;
           says_cert = ap (one_of (codes "cert")) rows_are;
           says_budget = ap (first_of (codes "budget")) rows_are;
@@ -297,7 +315,7 @@ behind_budget v [] words rest stands are e = record {
   cert_words = [];
   budget_words = words;
   is_cert = refl;
-  is_budget = lone_value v words rest stands are;
+  is_budget = alone (codes "budget") v words rest stands are;
   are_both = inl refl;
   says_cert = refl;
   says_budget = refl;
@@ -366,54 +384,90 @@ analyse_reads (u ∷ us) words are e = elim (analyse_use u are.1 are.2) [
         (subst (λ (w : Use). Stands w.0 w.2 words are.0) eq are.3) are.4
         (subst (λ (w : Use). uses_fault analyse_leaf (used w.1 (values w.2) []) us ≡ []) eq clean))
 
--- ---- the options of a run
+-- ---- commands with one option, which takes a value
+
+abbrev OneUse : Text → Rule → List Use → List Text → Type 0
+OneUse id r us words = ((us ≡ []) × (words ≡ []))
+    ⊎ ((v : Text) × (us ≡ (id, r, Some v) ∷ []) × IsOption (long_word id None) v words)
+
+module _ (leaf : Shape) (id : Text) (r : Rule)
+    (only : (name : Text) (a : Rule) → arg_by_long leaf.rules name ≡ Some a → IsRule id r name a)
+    (takes : takes_values r ≡ true)
+    (twice : (v w : Text) → use_in leaf r (v ∷ []) (used r (w ∷ []) []) ≡ [] → ⊥) where
+  use_is : (u : Use) → arg_by_long leaf.rules u.0 ≡ Some u.1 → takes_values u.1 ≡ is_some u.2
+      → (v : Text) × (u ≡ (id, r, Some v))
+  use_is u found has = has_value id r u (only u.0 u.1 found) has takes
+
+  one_use : (us : List Use) (words : List Text) → AreUses leaf.rules us words
+      → uses_fault leaf [] us ≡ [] → OneUse id r us words
+  one_use [] words are e = inl (refl, are)
+  one_use (u ∷ []) words are e =
+      let this = use_is u are.1 are.2 in
+      let stands = subst (λ (x : Use). Stands x.0 x.2 words are.0) this.1 are.3 in
+      inr (this.0, ap (λ (x : Use). x ∷ []) this.1, alone id this.0 words are.0 stands are.4)
+  one_use (u ∷ w ∷ us) words are e =
+      let this = use_is u are.1 are.2 in
+      let again = use_is w are.4.1 are.4.2 in
+      let rows = used u.1 (values u.2) [] in
+      let clean = (first_clean leaf rows w us (first_clean leaf [] u (w ∷ us) e).1).0 in
+      absurd (twice again.0 this.0
+      (subst (λ (x : Use). use_in leaf r (again.0 ∷ []) (used x.1 (values x.2) []) ≡ []) this.1
+      (subst (λ (x : Use). use_in leaf x.1 (values x.2) rows ≡ []) again.1 clean)))
+
+-- ---- the option of a run
 
 pub record ReadsRun (words : List Text) (rows : List Row) : Type 0 where
   pub steps : Option Text
   pub is_steps : IsValue (codes "--steps") steps words
   pub says_steps : first_of (codes "steps") rows ≡ steps
 
-abbrev steps_rows : Text → List Row
-steps_rows v = used steps_rule (v ∷ []) []
-
-abbrev run_rows : List Row → List Use → List Row
-run_rows rows us = rows_with run_leaf (uses_rows rows us)
-
-run_use : (u : Use) → arg_by_long run_leaf.rules u.0 ≡ Some u.1 → takes_values u.1 ≡ is_some u.2
-    → (v : Text) × (u ≡ steps_use v)
-run_use u found takes = has_value (codes "steps") steps_rule u (run_rule u.0 u.1 found) takes refl
-
-steps_alone : (v : Text) (words rest : List Text) → Stands (codes "steps") (Some v) words rest
-    → rest ≡ []
-    → IsOption (codes "--steps") v words
-steps_alone v words rest (inl is) none =
-    inl (is ∙ ap (λ (r : List Text). codes "--steps" ∷ v ∷ r) none)
-steps_alone v words rest (inr is) none =
-    inr (is ∙ ap (λ (r : List Text). long_word (codes "steps") (Some v) ∷ r) none)
-
-behind_steps : (v : Text) (us : List Use) (words rest : List Text)
-    → Stands (codes "steps") (Some v) words rest
-    → AreUses run_leaf.rules us rest → uses_fault run_leaf (steps_rows v) us ≡ []
-    → ReadsRun words (run_rows (steps_rows v) us)
-behind_steps v [] words rest stands are e =
-    record { steps = Some v; is_steps = steps_alone v words rest stands are; says_steps = refl }
-behind_steps v (u ∷ us) words rest stands are e =
-    let again = run_use u are.1 are.2 in
-    absurd (steps_twice again.0 (steps_rows v) refl
-    (subst (λ (u : Use). use_fault false u.1 (values u.2) (steps_rows v) ≡ []) again.1
-    (first_clean run_leaf (steps_rows v) u us e).0))
+abbrev run_rows : List Use → List Row
+run_rows us = rows_with run_leaf (uses_rows [] us)
 
 pub run_reads : (us : List Use) (words : List Text) → AreUses run_leaf.rules us words
-    → uses_fault run_leaf [] us ≡ [] → ReadsRun words (run_rows [] us)
-run_reads [] words are e = record { steps = None; is_steps = are; says_steps = refl }
-run_reads (u ∷ us) words are e = go (run_use u are.1 are.2)
-  where
-    go : (v : Text) × (u ≡ steps_use v) → ReadsRun words (run_rows [] (u ∷ us))
-    go p = subst (λ (w : Use). ReadsRun words (run_rows [] (w ∷ us))) (sym p.1)
-        (behind_steps p.0 us words are.0
-        (subst (λ (w : Use). Stands w.0 w.2 words are.0) p.1 are.3) are.4
-        (subst (λ (w : Use). uses_fault run_leaf (used w.1 (values w.2) []) us ≡ []) p.1
-        (first_clean run_leaf [] u us e).1))
+    → uses_fault run_leaf [] us ≡ [] → ReadsRun words (run_rows us)
+run_reads us words are e =
+    elim (one_use run_leaf (codes "steps") steps_rule run_rule refl (λ v w twice. cc twice) us
+    words are e) [
+      | inl none ↦ record {
+        steps = None;
+        is_steps = none.1;
+        says_steps = ap (λ (us : List Use). first_of (codes "steps") (run_rows us)) none.0;
+      }
+      | inr one ↦ record {
+        steps = Some one.0;
+        is_steps = one.2;
+        says_steps = ap (λ (us : List Use). first_of (codes "steps") (run_rows us)) one.1;
+      }
+    ]
+
+-- ---- the option of a generated program
+
+pub record ReadsGenerate (words : List Text) (rows : List Row) : Type 0 where
+  pub number : Text
+  pub is_number : IsOption (codes "--number") number words
+  pub says_number : first_of (codes "number") rows ≡ Some number
+
+abbrev generate_rows : List Use → List Row
+generate_rows us = rows_with generate_leaf (uses_rows [] us)
+
+number_missing : uses_fault generate_leaf [] [] ≡ [] → ⊥
+unfolding defaults_fault
+number_missing e = cc e
+
+pub generate_reads : (us : List Use) (words : List Text) → AreUses generate_leaf.rules us words
+    → uses_fault generate_leaf [] us ≡ [] → ReadsGenerate words (generate_rows us)
+generate_reads us words are e =
+    elim (one_use generate_leaf (codes "number") number_rule generate_rule refl
+    (λ v w twice. cc twice) us words are e) [
+      | inl none ↦ absurd (number_missing
+          (subst (λ (us : List Use). uses_fault generate_leaf [] us ≡ []) none.0 e))
+      | inr one ↦ record {
+        number = one.0;
+        is_number = one.2;
+        says_number = ap (λ (us : List Use). first_of (codes "number") (generate_rows us)) one.1;
+      }
+    ]
 
 -- ---- `check` has none
 

@@ -9,22 +9,23 @@ use Rattle.clap.specs.declared.parser.matches.ArgMatches.{ArgMatches}
 use Rattle.ja_base.proofs.Tests.{or_left_false, or_right_false}
 use Rattle.ja_words.specs.Words.{AsksFor, IsCommandLine, IsFlag, IsNumber, IsOption, Word}
 use Rattle.ja_words.specs.Words.{default_budget}
+use Rattle.ja_gen.specs.Generated.{max_number}
 use Rattle.ja_words.specs.Words.{default_steps, max_budget, max_steps}
 use Rattle.ja_words.specs.code.Answers.{IsClapAnswer, ReadsCommand, Says, SaysFlag, SaysIfMet}
-use Rattle.ja_words.specs.code.Answers.{SaysNumber}
+use Rattle.ja_words.specs.code.Answers.{SaysGiven, SaysNumber}
 use Rattle.ja_words.specs.code.Apps.{has_dashes, is_dashes, tajs_app}
 use Rattle.ja_words.specs.declared.command.Command.{Command}
-use Rattle.ja_words.specs.declared.command.Command.TheVariants.{Analyse, Check, Run}
-use Rattle.ja_words.proofs.Given.{analyse_is_not_check, analyse_is_not_run, check_is_not_run}
+use Rattle.ja_words.specs.declared.command.Command.TheVariants.{Analyse, Check, Generate, Run}
 use Rattle.ja_words.proofs.Given.{exactly_says, taken}
 use Rattle.ja_words.proofs.NoFaults.{or_else_split}
 use Rattle.ja_words.proofs.Leaves.{IsPlainLeaf, Reads, leaf_reads, left_fault}
-use Rattle.ja_words.proofs.Options.{IsValue, ReadsAnalyse, ReadsRun, analyse_is_plain, analyse_leaf}
-use Rattle.ja_words.proofs.Options.{analyse_reads, check_is_plain, check_leaf, check_reads}
-use Rattle.ja_words.proofs.Options.{rows_with}
-use Rattle.ja_words.proofs.Options.{run_is_plain, run_leaf, run_reads}
+use Rattle.ja_words.proofs.Options.{IsValue, ReadsAnalyse, ReadsGenerate, ReadsRun}
+use Rattle.ja_words.proofs.Options.{analyse_is_plain, analyse_leaf, analyse_reads, check_is_plain}
+use Rattle.ja_words.proofs.Options.{check_leaf, check_reads, generate_is_plain, generate_leaf}
+use Rattle.ja_words.proofs.Options.{generate_reads, rows_with, run_is_plain, run_leaf, run_reads}
 use Rattle.ja_words.proofs.TopLevel.{Enters, Which, analyse, check, enters_analyse, enters_check}
-use Rattle.ja_words.proofs.TopLevel.{enters_run, other, other_fails, run, start, which}
+use Rattle.ja_words.proofs.TopLevel.{enters_generate, enters_run, generate, other, other_fails}
+use Rattle.ja_words.proofs.TopLevel.{run, start, which}
 
 flag_is : (text : Option Text) (read asked : Bool) → text ≡ Some (bool_text read)
     → SaysFlag text asked → asked ≡ read
@@ -57,13 +58,10 @@ analyse_line rest rows (Analyse cert budget) read says =
         read.are_both,
       ),
     )
-analyse_line rest rows Check read says = absurd (analyse_is_not_check says)
-analyse_line rest rows (Run steps) read says = absurd (analyse_is_not_run says.0)
+analyse_line rest rows command read says = absurd (cc)
 
 run_line : (rest : List Word) (rows : List Row) (command : Command) → ReadsRun rest rows
     → Says (codes "run", rows) command → IsCommandLine (codes "run" ∷ rest) command
-run_line rest rows (Analyse cert budget) read says = absurd (analyse_is_not_run (sym says.0))
-run_line rest rows Check read says = absurd (check_is_not_run (sym says))
 run_line rest rows (Run steps) read says =
     let number = subst (λ (o : Option Text). SaysNumber default_steps max_steps o steps)
     read.says_steps says.1 in (
@@ -72,12 +70,27 @@ run_line rest rows (Run steps) read says =
       number_is (codes "--steps") default_steps max_steps read.steps steps rest
           read.is_steps number,
     )
+run_line rest rows command read says = absurd (cc)
+
+generate_line : (rest : List Word) (rows : List Row) (command : Command) → ReadsGenerate rest rows
+    → Says (codes "generate", rows) command → IsCommandLine (codes "generate" ∷ rest) command
+generate_line rest rows (Generate number) read says =
+    let spells = subst (λ (o : Option Text). SaysGiven max_number o number)
+    read.says_number says.1 in (
+      rest,
+      refl,
+      (
+        spells.1,
+        spells.2,
+        subst (λ (t : Text). IsOption (codes "--number") t rest) spells.0 read.is_number,
+      ),
+    )
+generate_line rest rows command read says = absurd (cc)
 
 check_line : (rest : List Word) (rows : List Row) (command : Command) → rest ≡ []
     → Says (codes "check", rows) command → IsCommandLine (codes "check" ∷ rest) command
-check_line rest rows (Analyse cert budget) none says = absurd (analyse_is_not_check (sym says.0))
 check_line rest rows Check none says = ap (λ (r : List Word). codes "check" ∷ r) none
-check_line rest rows (Run steps) none says = absurd (check_is_not_run says.0)
+check_line rest rows command none says = absurd (cc)
 
 -- what clap reads of the words behind the name of a command
 module _ (name : Text) (leaf : Shape) (plain : IsPlainLeaf leaf) (rest : List Text)
@@ -120,6 +133,18 @@ module _ (rest : List Text) (dashes : has_dashes rest ≡ false) (command : Comm
       (subst (ReadsRun rest) (sym rows) options)
       (said (codes "run") run_leaf run_is_plain rest (enters_run rest) dashes clean command says)
 
+  reads_generate : Clean (codes "generate") → Said (codes "generate")
+      → IsCommandLine (codes "generate" ∷ rest) command
+  reads_generate clean says =
+      let reads = read (codes "generate") generate_leaf generate_is_plain rest
+      (enters_generate rest) dashes clean in
+      let option = generate_reads reads.uses rest reads.words_are reads.clean in
+      let rows = ap (rows_with generate_leaf) reads.last in
+      generate_line rest (rows_after generate_leaf.rules [] rest) command
+      (subst (ReadsGenerate rest) (sym rows) option)
+      (said (codes "generate") generate_leaf generate_is_plain rest
+      (enters_generate rest) dashes clean command says)
+
   reads_check : Clean (codes "check") → Said (codes "check")
       → IsCommandLine (codes "check" ∷ rest) command
   reads_check clean says =
@@ -150,6 +175,7 @@ line_of (word ∷ rest) dashes clean command says = go (which word)
     go (analyse is) = at_name (codes "analyse") is (reads_analyse rest rest_dashes command)
     go (check is) = at_name (codes "check") is (reads_check rest rest_dashes command)
     go (run is) = at_name (codes "run") is (reads_run rest rest_dashes command)
+    go (generate is) = at_name (codes "generate") is (reads_generate rest rest_dashes command)
     go (other none) = absurd (other_fails word rest
         (or_left_false (is_dashes word) (has_dashes rest) dashes) none clean)
 

@@ -17,7 +17,7 @@ use Rattle.ja_words.specs.code.Apps.{is_dashes, tajs_app}
 use Rattle.ja_words.proofs.NoFaults.{or_else_join, or_else_split}
 use Rattle.ja_words.proofs.Leaves.{IsPlainLeaf, Turned, idle_turn, is_name, is_use, left_fault}
 use Rattle.ja_words.proofs.Leaves.{standing}
-use Rattle.ja_words.proofs.Options.{analyse_leaf, check_leaf, run_leaf}
+use Rattle.ja_words.proofs.Options.{analyse_leaf, check_leaf, generate_leaf, run_leaf}
 
 abbrev pub app : App
 app = built tajs_app
@@ -97,33 +97,45 @@ enters_run rest = record {
   subcommand = subcommand_is (codes "run") run_leaf refl refl refl refl rest;
 }
 
+pub enters_generate : (rest : List Text) → Enters (codes "generate") generate_leaf rest
+unfolding clap_on_literals
+enters_generate rest = record {
+  fault = fault_is (codes "generate") generate_leaf refl refl refl refl rest;
+  subcommand = subcommand_is (codes "generate") generate_leaf refl refl refl refl rest;
+}
+
 -- ---- which command a word names
 
 pub data Which (word : Text) : Type 0 where
   analyse : word ≡ codes "analyse" → Which word
   check : word ≡ codes "check" → Which word
   run : word ≡ codes "run" → Which word
+  generate : word ≡ codes "generate" → Which word
   other : subcommand_met names idle word ≡ None → Which word
 
-abbrev met_by : Bool → Bool → Bool → Option Text
-met_by a b c = option_map (λ (s : Text × List Text). s.0)
+abbrev met_by : Bool → Bool → Bool → Bool → Option Text
+met_by a b c d = option_map (λ (s : Text × List Text). s.0)
     (cond (a || false) (Some (codes "analyse", []))
     (cond (b || false) (Some (codes "check", []))
-    (cond (c || false) (Some (codes "run", [])) None)))
+    (cond (c || false) (Some (codes "run", []))
+    (cond (d || false) (Some (codes "generate", [])) None))))
 
 same_text : (a b : Text) → bytes_eq a b ≡ true → b ≡ a
 same_text a b e = sym ((bytes_eq-Decides a b).0 e)
 
 pub which : (word : Text) → Which word
 which word = go (bytes_eq (codes "analyse") word) (bytes_eq (codes "check") word)
-    (bytes_eq (codes "run") word) refl refl refl
+    (bytes_eq (codes "run") word) (bytes_eq (codes "generate") word) refl refl refl refl
   where
-    go : (a b c : Bool) → bytes_eq (codes "analyse") word ≡ a → bytes_eq (codes "check") word ≡ b
-        → bytes_eq (codes "run") word ≡ c → Which word
-    go true b c is_a is_b is_c = analyse (same_text (codes "analyse") word is_a)
-    go false true c is_a is_b is_c = check (same_text (codes "check") word is_b)
-    go false false true is_a is_b is_c = run (same_text (codes "run") word is_c)
-    go false false false is_a is_b is_c = other (λ i. met_by (is_a i) (is_b i) (is_c i))
+    go : (a b c d : Bool) → bytes_eq (codes "analyse") word ≡ a → bytes_eq (codes "check") word ≡ b
+        → bytes_eq (codes "run") word ≡ c → bytes_eq (codes "generate") word ≡ d → Which word
+    go true b c d is_a is_b is_c is_d = analyse (same_text (codes "analyse") word is_a)
+    go false true c d is_a is_b is_c is_d = check (same_text (codes "check") word is_b)
+    go false false true d is_a is_b is_c is_d = run (same_text (codes "run") word is_c)
+    go false false false true is_a is_b is_c is_d =
+        generate (same_text (codes "generate") word is_d)
+    go false false false false is_a is_b is_c is_d =
+        other (λ i. met_by (is_a i) (is_b i) (is_c i) (is_d i))
 
 top_is_plain : IsPlainLeaf app.top
 top_is_plain = record { no_short = λ x. refl; no_index = refl; named = λ name a e. absurd (cc e) }

@@ -3,8 +3,9 @@ use Rattle.std.specs.Prelude.{◌≡◌, ◌≤◌, ◌⊎◌, ◌-◌, ◌^◌,
 use Rattle.std.specs.Prelude.{Option, Some, None}
 use lib.Chars.{codes}
 use Rattle.std.specs.Fmt.{decimal}
+use Rattle.ja_gen.specs.Generated.{max_number}
 use Rattle.ja_words.specs.declared.command.Command.{Command}
-use Rattle.ja_words.specs.declared.command.Command.TheVariants.{Analyse, Check, Run}
+use Rattle.ja_words.specs.declared.command.Command.TheVariants.{Analyse, Check, Generate, Run}
 
 abbrev pub Word : Type 0
 Word = List ℕ
@@ -19,12 +20,16 @@ abbrev pub IsOption : Word → Word → List Word → Type 0
 IsOption name value words =
     (words ≡ name ∷ value ∷ []) ⊎ (words ≡ (name ++ codes "=" ++ value) ∷ [])
 
--- the words of an option whose value is a number from 1 to `most`, in decimal digits; there are
--- none for the number that is meant where none is given
+-- the words of an option whose value is a number from 1 to `most`, in decimal digits
+abbrev pub IsGiven : Word → ℕ → ℕ → List Word → Type 0
+IsGiven name most number words =
+    (1 ≤ number) × (number ≤ most) × IsOption name (decimal number) words
+
+-- the same of an option that may be left out: there are no words for the number that is meant where
+-- none is given
 abbrev pub IsNumber : Word → ℕ → ℕ → ℕ → List Word → Type 0
 IsNumber name default most number words =
-    ((words ≡ []) × (number ≡ default))
-    ⊎ ((1 ≤ number) × (number ≤ most) × IsOption name (decimal number) words)
+    ((words ≡ []) × (number ≡ default)) ⊎ IsGiven name most number words
 
 -- how many visits are made at most, and how many steps: where no number is given, and the greatest
 abbrev pub default_budget : ℕ
@@ -63,6 +68,9 @@ IsCommandLine words (Analyse cert budget) =
 IsCommandLine words Check = words ≡ codes "check" ∷ []
 IsCommandLine words (Run steps) =
     (options : List Word) × (words ≡ codes "run" ∷ options) × IsSteps steps options
+IsCommandLine words (Generate number) =
+    (options : List Word) × (words ≡ codes "generate" ∷ options)
+    × IsGiven (codes "--number") max_number number options
 
 -- what the words ask for: the command of a command line, and nothing exactly where they are none
 abbrev pub AsksFor : List Word → Option Command → Type 0

@@ -2,8 +2,8 @@
 
 ghost use Rattle.std.specs.Prelude.{◌≡◌, IfOk, false};
 ghost use Rattle.clap.specs.Words.{rule_of};
-ghost use Rattle.ja_words.specs.code.Apps.{IsApp, analyse_app, check_app, flag_rule, run_app};
-ghost use Rattle.ja_words.specs.code.Apps.{tajs_app, top_app, value_rule};
+ghost use Rattle.ja_words.specs.code.Apps.{IsApp, analyse_app, check_app, flag_rule, generate_app};
+ghost use Rattle.ja_words.specs.code.Apps.{run_app, tajs_app, top_app, value_rule};
 
 use clap::{Arg, ArgAction, Command};
 use std::alloc::{AllocError, Global};
@@ -42,6 +42,12 @@ fn run<'a>(alloc: Global) -> Result<Command<'a>, AllocError>
     Command::new(alloc, "run").arg(option(alloc, "steps"))
 }
 
+fn generate<'a>(alloc: Global) -> Result<Command<'a>, AllocError>
+    ensures { IfOk result (IsApp generate_app) }
+{
+    Command::new(alloc, "generate").arg(option(alloc, "number").required(true))
+}
+
 // The program without its commands: the words begin behind its name, and no help is offered.
 fn top<'a>(alloc: Global) -> Command<'a>
     ensures { IsApp top_app result }
@@ -59,5 +65,6 @@ pub(crate) fn tajs<'a>(alloc: Global) -> Result<Command<'a>, AllocError>
     top(alloc)
         .subcommand(analyse(alloc)?)?
         .subcommand(check(alloc))?
-        .subcommand(run(alloc)?)
+        .subcommand(run(alloc)?)?
+        .subcommand(generate(alloc)?)
 }

@@ -10,4 +10,6 @@ pub enum Command {
     Check,
     /// A run of a program, of at most so many steps (1 to 10,000,000).
     Run { steps: u64 },
+    /// The generated program with so many classes (1 to 200).
+    Generate { number: u32 },
 }

@@ -15,5 +15,8 @@ mod reading;
 mod words;
 
 pub use command::Command;
-pub use laws::{commands_have_words, examples_of_words, words_ask_for_one_command};
+pub use laws::{
+    commands_have_words, examples_of_numbers, examples_of_words, words_ask_for_one_command,
+};
+pub use reading::DEFAULT_BUDGET;
 pub use words::asked;

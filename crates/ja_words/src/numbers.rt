@@ -13,8 +13,8 @@ fn is_spelled(word: &str, number: u128, most: u128) -> bool
     1 <= number && number <= most && buffer.format(number) == word
 }
 
-// The number that a word is, from 1 to `most`.
-fn number_in(word: &str, most: u128) -> Option<u128>
+/// The number that a word is, from 1 to `most`.
+pub(crate) fn number_in(word: &str, most: u128) -> Option<u128>
     ensures { Counts most word.now result }
 {
     match word.parse::<u128>() {

@@ -2,21 +2,26 @@
 
 ghost use Rattle.std.specs.Prelude.{◌≡◌};
 ghost use Rattle.clap.specs.Words.{found_of, rows_of, subcommand_rows_of};
-ghost use Rattle.ja_words.specs.code.Answers.{ReadsAnalyse, ReadsCommand, ReadsNamed, ReadsRun};
+ghost use Rattle.ja_words.specs.code.Answers.{ReadsAnalyse, ReadsCommand, ReadsGenerate};
+ghost use Rattle.ja_words.specs.code.Answers.{ReadsNamed, ReadsRun};
 
 use crate::command::Command;
-use crate::numbers::number_of;
+use crate::numbers::{number_in, number_of};
 use clap::ArgMatches;
 
-/// How many visits are made at most, where the words don't say it, and the greatest number.
-const DEFAULT_BUDGET: u128 = 1_000_000;
+/// How many visits are made at most, where the words don't say it.
+pub const DEFAULT_BUDGET: u128 = 1_000_000;
 
+/// The greatest number of visits that the words may say.
 const MAX_BUDGET: u128 = u128::MAX;
 
 /// The same of the steps of a run.
 const DEFAULT_STEPS: u128 = 1_000_000;
 
 const MAX_STEPS: u128 = 10_000_000;
+
+/// The greatest number of classes of a generated program.
+const MAX_NUMBER: u128 = 200;
 
 // The analysis with these options.
 fn analyse(options: &ArgMatches<'_>) -> Option<Command>
@@ -37,6 +42,17 @@ fn run(options: &ArgMatches<'_>) -> Option<Command>
     })
 }
 
+// The generated program with this option.
+fn generate(options: &ArgMatches<'_>) -> Option<Command>
+    ensures { ReadsGenerate (rows_of (found_of options.now)) result }
+{
+    let word = options.get_str("number")?;
+    let number = number_in(word, MAX_NUMBER)?;
+    Some(Command::Generate {
+        number: number as u32,
+    })
+}
+
 // The command of this name, with these options.
 fn named(name: &str, options: &ArgMatches<'_>) -> Option<Command>
     ensures { ReadsNamed name.now (rows_of (found_of options.now)) result }
@@ -45,6 +61,7 @@ fn named(name: &str, options: &ArgMatches<'_>) -> Option<Command>
         "analyse" => analyse(options),
         "check" => Some(Command::Check),
         "run" => run(options),
+        "generate" => generate(options),
         _ => None,
     }
 }

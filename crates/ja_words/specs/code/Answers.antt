@@ -5,10 +5,12 @@ use Rattle.std.specs.Fmt.{decimal}
 use Rattle.clap.specs.Words.{Row, Text, fault_of, first_of, one_of, subcommand_of}
 use Rattle.clap.specs.Words.{subcommand_rows_of}
 use Rattle.clap.specs.declared.parser.matches.ArgMatches.{ArgMatches}
-use Rattle.ja_words.specs.Words.{default_budget, default_steps, max_budget, max_steps}
+use Rattle.ja_gen.specs.Generated.{max_number}
+use Rattle.ja_words.specs.Words.{default_budget, default_steps, max_budget}
+use Rattle.ja_words.specs.Words.{max_steps}
 use Rattle.ja_words.specs.code.Apps.{tajs_app}
 use Rattle.ja_words.specs.declared.command.Command.{Command}
-use Rattle.ja_words.specs.declared.command.Command.TheVariants.{Analyse, Check, Run}
+use Rattle.ja_words.specs.declared.command.Command.TheVariants.{Analyse, Check, Generate, Run}
 
 -- the word is a number from 1 to `most`, in decimal digits
 abbrev pub Spells : ℕ → Text → ℕ → Type 0
@@ -19,7 +21,12 @@ abbrev pub Counts : ℕ → Text → Option ℕ → Type 0
 Counts most word None = (number : ℕ) → Spells most word number → ⊥
 Counts most word (Some number) = Spells most word number
 
--- the number of an option, with the value that it was given, if any
+-- the number of an option that is always there, with the value that it was given, if any
+abbrev pub SaysGiven : ℕ → Option Text → ℕ → Type 0
+SaysGiven most None number = ⊥
+SaysGiven most (Some word) number = Spells most word number
+
+-- the same of an option that may be left out
 abbrev pub SaysNumber : ℕ → ℕ → Option Text → ℕ → Type 0
 SaysNumber default most None number = number ≡ default
 SaysNumber default most (Some word) number = Spells most word number
@@ -39,12 +46,16 @@ SaysBudget rows = SaysNumber default_budget max_budget (first_of (codes "budget"
 abbrev pub SaysSteps : List Row → ℕ → Type 0
 SaysSteps rows = SaysNumber default_steps max_steps (first_of (codes "steps") rows)
 
+abbrev pub SaysClasses : List Row → ℕ → Type 0
+SaysClasses rows = SaysGiven max_number (first_of (codes "number") rows)
+
 -- the command that a subcommand is, by its name and its matches
 abbrev pub Says : Text × List Row → Command → Type 0
 Says sub (Analyse cert budget) = (sub.0 ≡ codes "analyse")
     × SaysFlag (one_of (codes "cert") sub.1) cert × SaysBudget sub.1 budget
 Says sub Check = sub.0 ≡ codes "check"
 Says sub (Run steps) = (sub.0 ≡ codes "run") × SaysSteps sub.1 steps
+Says sub (Generate number) = (sub.0 ≡ codes "generate") × SaysClasses sub.1 number
 
 abbrev pub SaysIfMet : Option (Text × List Row) → Command → Type 0
 SaysIfMet None command = ⊥
@@ -64,6 +75,9 @@ ReadsAnalyse = ReadsNamed (codes "analyse")
 
 abbrev pub ReadsRun : List Row → Option Command → Type 0
 ReadsRun = ReadsNamed (codes "run")
+
+abbrev pub ReadsGenerate : List Row → Option Command → Type 0
+ReadsGenerate = ReadsNamed (codes "generate")
 
 -- what clap makes of the words: it takes them, with the subcommand that they name, or it doesn't
 abbrev pub IsClapAnswer : List Text → Option ArgMatches → Type 0

@@ -10,12 +10,15 @@ use Rattle.clap.specs.declared.builder.command.Command.{Command}
 use Rattle.clap.specs.declared.builder.command.Command.TheViews.{out-Command as fields_of}
 use Rattle.clap.specs.declared.builder.action.ArgAction.TheVariants.{Set, SetTrue}
 
--- a flag, and an option that takes a value
+-- a flag, an option that takes a value, and one that is always there
 abbrev pub flag_rule : Text → Rule
 flag_rule name = record (new_rule name) { long = Some name; action = Some SetTrue }
 
 abbrev pub value_rule : Text → Rule
 value_rule name = record (new_rule name) { long = Some name; action = Some Set }
+
+abbrev pub required_rule : Text → Rule
+required_rule name = record (value_rule name) { required = true }
 
 abbrev pub analyse_app : App
 analyse_app = with_rule
@@ -28,6 +31,9 @@ check_app = new_app (codes "check")
 abbrev pub run_app : App
 run_app = with_rule (new_app (codes "run")) (value_rule (codes "steps"))
 
+abbrev pub generate_app : App
+generate_app = with_rule (new_app (codes "generate")) (required_rule (codes "number"))
+
 -- the program, which has no help, and whose own name is no word
 abbrev pub top_app : App
 top_app = on_top (λ s. record s {
@@ -38,7 +44,9 @@ top_app = on_top (λ s. record s {
 
 abbrev pub tajs_app : App
 tajs_app = with_subcommand
-    (with_subcommand (with_subcommand top_app analyse_app.top) check_app.top) run_app.top
+    (with_subcommand
+    (with_subcommand (with_subcommand top_app analyse_app.top) check_app.top) run_app.top)
+    generate_app.top
 
 -- a command of clap is this one
 abbrev pub IsApp : App → Command → Type 0

@@ -1,5 +1,5 @@
 -- The value stands in the next word.
-use Rattle.ja_words.proofs.Examples.{some_analyse, some_check, some_run}
+use Rattle.ja_words.proofs.Examples.{some_analyse, some_check, some_generate, some_run}
 use Rattle.ja_words.proofs.laws.commands_have_words.Goals as goal
 
 pub returns : goal.returns
@@ -7,4 +7,5 @@ returns c = record {
   analyse = λ cert budget low high. some_analyse cert budget low high;
   check = some_check;
   run = λ steps low high. some_run steps low high;
+  generate = λ number low high. some_generate number low high;
 }

@@ -1,16 +1,22 @@
--- Computed.
-use Rattle.ja_words.proofs.Examples.{alone, apart, attached, leading_zero, of_another, seven_steps}
-use Rattle.ja_words.proofs.Examples.{twice, zero_of_steps}
+-- Computed, and what a number is written as.
+use Rattle.ja_words.proofs.Examples.{alone, apart, attached, leading_zero, seven_steps}
+use Rattle.ja_words.proofs.Examples.{zero_of_steps}
 use Rattle.ja_words.proofs.laws.examples_of_words.Goals as goal
 
-pub returns : goal.returns
-returns c = record {
-  attached = attached;
-  apart = apart;
-  alone = alone;
-  steps = seven_steps;
-  leading_zero = λ command line. leading_zero command line;
-  zero = λ command line. zero_of_steps command line;
-  twice = λ command line. twice command line;
-  of_another = λ command line. of_another command line;
-}
+pub returns-clause-attached : goal.returns-clause-attached
+returns-clause-attached c = attached
+
+pub returns-clause-apart : goal.returns-clause-apart
+returns-clause-apart c = apart
+
+pub returns-clause-alone : goal.returns-clause-alone
+returns-clause-alone c = alone
+
+pub returns-clause-steps : goal.returns-clause-steps
+returns-clause-steps c = seven_steps
+
+pub returns-clause-leading_zero : goal.returns-clause-leading_zero
+returns-clause-leading_zero c = λ command line. leading_zero command line
+
+pub returns-clause-zero : goal.returns-clause-zero
+returns-clause-zero c = λ command line. zero_of_steps command line

@@ -1,0 +1,2 @@
+-- the programs that are generated
+pub mod Generated
