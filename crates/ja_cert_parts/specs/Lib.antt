@@ -1,0 +1,2 @@
+-- what the functions promise
+pub mod code

@@ -1,0 +1,23 @@
+-- contexts, edges, visits, devices, and whole certificates
+pub mod Told
+pub mod ObjectLemmas
+pub mod Orders
+pub mod ContextsRight
+pub mod EdgesRight
+pub mod PointSteps
+pub mod EdgeSteps
+pub mod TablesBuilt
+pub mod WholeRead
+pub mod WholeSteps
+pub mod PlacesTold
+pub mod DevicesRight
+pub mod ItemsRight
+-- states of what is listed
+pub mod Below
+pub mod Listing
+pub mod Pairs
+pub mod Plain
+pub mod Right
+pub mod Parts
+pub mod Again
+pub mod Setting

@@ -1,0 +1,13 @@
+use Rattle.ja_cert_read.proofs.Again.{right_within, state_is}
+use Rattle.ja_cert_read.proofs.states.state_of_parts.Goals as goal
+
+pub built_state-requires-clause-within : goal.built_state-requires-clause-within
+built_state-requires-clause-within c =
+    right_within c.args.program.now c.args.function c.args.registers.items c.args.heap.items
+    c.args.masks.items c.requires.registers c.requires.heap c.requires.masks
+
+pub returns : goal.returns
+returns c =
+    state_is c.args.program.now c.args.function c.args.registers.items c.args.heap.items
+    c.args.masks.items _ c.requires.registers c.requires.heap c.requires.masks
+    c.in_ok-state.ensures.shape c.in_ok-state.ensures.state

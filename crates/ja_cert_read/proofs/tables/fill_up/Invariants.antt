@@ -1,0 +1,6 @@
+use Rattle.std.proofs.Common.{◌≡◌, ◌++◌}
+use Rattle.ja_rules.specs.code.Growing.{no_nodes}
+use Rattle.ja_cert_read.proofs.tables.fill_up.Given as goal
+
+abbrev pub invariant-loop : goal.invariant-loop
+invariant-loop l = l.nodes.items ≡ l.initial.nodes.items ++ no_nodes l.counter

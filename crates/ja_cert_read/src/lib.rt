@@ -1,0 +1,17 @@
+//! Reading certificates: from bytes to the program, the table and the visits that they have, or to
+//! why they are none.
+#![tactic(auto)]
+
+mod certificate;
+mod contexts;
+mod devices;
+mod edges;
+mod items;
+mod places;
+mod points;
+mod reading;
+mod states;
+mod tables;
+
+pub use certificate::{CertFault, Certificate};
+pub use reading::read;
