@@ -147,7 +147,7 @@ fn put_report(out: &mut Out, program: &Program)
     if let Ok(names) = u32::try_from(program.names.len()) {
         if names >= 3 {
             if let Ok(table) = table_of(out, program, names - 3) {
-                if let Ok(text) = report(out.alloc, program, &table, &[], &[]) {
+                if let Ok(text) = report(out.alloc, program, &table, &[], true, &[]) {
                     put_bytes(out, text.as_slice());
                 }
             }

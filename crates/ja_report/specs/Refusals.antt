@@ -2,6 +2,11 @@
 use Rattle.std.specs.Prelude.{ℕ, List, ◌++◌}
 use Rattle.std.specs.Fmt.{decimal}
 use lib.Chars.{codes}
+use Rattle.ja_graph.specs.declared.program.Program.{Program}
+use Rattle.ja_rows.specs.declared.table.Item.{Item}
+use Rattle.ja_report.specs.Report.{item_text}
+use Rattle.ja_report.specs.declared.certificates.CertRefusal.{CertRefusal}
+use Rattle.ja_report.specs.declared.certificates.CertRefusal.TheVariants as cert
 use Rattle.ja_report.specs.declared.refusals.Refusal.{Refusal}
 use Rattle.ja_report.specs.declared.refusals.Refusal.TheVariants.{Usage, ReadFault, TooLong, NotText, Syntax, Scope, Depth, Functions, Nodes}
 use Rattle.ja_texts.specs.Texts.{place_text, scope_name}
@@ -23,3 +28,16 @@ refusal_text (Scope kind place) =
 refusal_text Depth = codes "limit depth 200\n"
 refusal_text Functions = codes "limit functions 4096\n"
 refusal_text Nodes = codes "limit nodes 65536\n"
+
+-- one line: a certificate is no JSON, or has the wrong shape at this place first, or its text is
+-- refused, or its table lacks the opening
+abbrev pub cert_refusal_text : CertRefusal → List ℕ
+cert_refusal_text cert.Json = codes "certificate json\n"
+cert_refusal_text (cert.Shape item) =
+    codes "certificate shape " ++ item.items ++ codes "\n"
+cert_refusal_text (cert.Text refusal) = codes "certificate text " ++ refusal_text refusal
+cert_refusal_text cert.Opening = codes "certificate opening\n"
+
+-- one line: this is the first item whose visit changes the table of a certificate
+abbrev pub open_text : Program → Item → List ℕ
+open_text p item = codes "certificate open " ++ item_text p item

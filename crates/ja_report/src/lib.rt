@@ -1,10 +1,11 @@
-//! What the program prints: reports, the visits of a spent budget, and refusals, as texts to the
-//! byte.
+//! What the program prints: reports, the visits of a spent budget, the summary of a generated
+//! program, and refusals, of certificates too, as texts to the byte.
 //!
-//! Exactly the report, the texts of visits and the refusals of their definitions, to the byte
-//! (`report`, `spent_text`, `refusal_text`).
+//! Exactly the report, the visits, the summary and the refusals of their definitions, to the byte
+//! (`report`, `spent_text`, `summary_text`, `refusal_text`, `cert_refusal_text`, `open_text`).
 #![tactic(auto)]
 
+mod certificates;
 mod lines;
 mod output;
 mod refusals;
@@ -14,8 +15,9 @@ mod texts;
 mod values;
 mod whole;
 
+pub use certificates::{CertRefusal, cert_refusal_text, open_text};
 pub use lines::{is_entry, is_undefined, register_count};
 pub use refusals::{Refusal, refusal_text};
 pub use table::{all_keys, name_count};
 pub use values::site_count;
-pub use whole::{report, spent_text};
+pub use whole::{report, spent_text, summary_text};

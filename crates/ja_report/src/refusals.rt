@@ -33,7 +33,7 @@ pub enum Refusal {
 ghost use Rattle.ja_report.specs.Refusals.{refusal_text};
 
 /// Adds bytes.
-fn push_bytes(text: &mut Vec<u8>, bytes: &[u8]) -> Result<(), Memory>
+pub(crate) fn push_bytes(text: &mut Vec<u8>, bytes: &[u8]) -> Result<(), Memory>
     ensures { OnOk result (text.new.items ≡ text.old.items ++ bytes.now) }
 {
     text.extend_from_slice(bytes)?;
@@ -73,7 +73,7 @@ fn push_scope(text: &mut Vec<u8>, kind: ScopeKind, place: Place) -> Result<(), M
 }
 
 /// Adds the line of a refusal.
-fn push_refusal(text: &mut Vec<u8>, refusal: Refusal) -> Result<(), Memory>
+pub(crate) fn push_refusal(text: &mut Vec<u8>, refusal: Refusal) -> Result<(), Memory>
     ensures { OnOk result (text.new.items ≡ text.old.items ++ refusal_text refusal) }
 {
     match refusal {

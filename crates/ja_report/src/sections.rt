@@ -204,7 +204,7 @@ fn push_step(
 }
 
 #[tactic(auto, unfolding(crate::specs::Report::item_text))]
-fn push_item(text: &mut Vec<u8>, program: &Program, item: Item) -> Result<(), Memory>
+pub(crate) fn push_item(text: &mut Vec<u8>, program: &Program, item: Item) -> Result<(), Memory>
     ensures { OnOk result (text.new.items ≡ text.old.items ++ item_text program.now item) }
 {
     match item {

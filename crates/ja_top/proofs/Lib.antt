@@ -1,4 +1,4 @@
-pub mod Asking
+pub mod Judging
 pub mod FoundLemmas
 pub mod Reporting
 pub mod Transcripts

@@ -73,6 +73,7 @@ module _ (bytes : List ℕ) (steps : ℕ) (devices : AllSeen) (text : List ℕ) 
   refused status.WriteFault h = absurd h
   refused status.TooLong h = absurd h
   refused status.Spent h = absurd h
+  refused status.CertRefused h = absurd h
   refused status.DeviceFault h = absurd h
   refused status.Left h = absurd h
   refused status.Uncaught h = absurd h

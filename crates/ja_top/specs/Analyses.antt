@@ -1,5 +1,5 @@
 -- How a text is analysed: the cause of each status, and the text that is written with it.
-use Rattle.std.specs.Prelude.{◌≡◌, ◌≤◌, ◌⊎◌, ℕ, Bool, if◌then◌else◌, List, [], ◌∷◌, length}
+use Rattle.std.specs.Prelude.{◌≡◌, ◌≤◌, ◌⊎◌, ℕ, true, false, List, length}
 use Rattle.std.specs.Str.{IsUtf8}
 use Rattle.std.specs.Str.Lossy.{utf8_valid_len}
 use Rattle.ja_base.specs.declared.ids.Place.{Place}
@@ -16,18 +16,22 @@ use Rattle.ja_sound.specs.Sound.{CoversRuns, WarnsOfFaults}
 use Rattle.ja_prim.specs.declared.signature.Signature.{Signature}
 use Rattle.ja_report.specs.declared.refusals.Refusal.TheVariants as refusal
 use Rattle.ja_report.specs.Refusals.{refusal_text}
-use Rattle.ja_report.specs.Report.{report_text, spent_text}
+use Rattle.ja_report.specs.Report.{report_text, spent_text, summary_text}
 use Rattle.ja_cert.specs.Certificate.{certificate_text}
 use Rattle.ja_rules.specs.Solving.{WasSpent}
+use Rattle.ja_top.specs.Statuses.{has_fault}
+use Rattle.ja_top.specs.declared.request.Form.{Form}
+use Rattle.ja_top.specs.declared.request.Form.TheVariants as form
 use Rattle.ja_top.specs.declared.request.Request.{Request}
 use Rattle.ja_top.specs.declared.status.Status.{Status}
 use Rattle.ja_top.specs.declared.status.Status.TheVariants.{Done, Warned, NotText, Syntax, Scope}
 use Rattle.ja_top.specs.declared.status.Status.TheVariants.{Limit, Spent}
 
--- what is printed of a table that these visits build: its certificate, or else its report
-abbrev pub result_text : Bool → Program → Table → List Item → List Warning → List ℕ
-result_text certifies p t visits warnings =
-    if certifies then certificate_text p t visits else report_text p t visits warnings
+-- what is printed of a table that these visits build: its report, its certificate, or its counts
+abbrev pub result_text : Form → Program → Table → List Item → List Warning → List ℕ
+result_text form.Report p t visits warnings = report_text p t visits true warnings
+result_text form.Certificate p t visits warnings = certificate_text p t visits
+result_text (form.Summary number) p t visits warnings = summary_text number p t warnings
 
 -- What is printed of a program, with these warnings: the table that the printed visits build, which
 -- is closed and covers every run; an operation that goes wrong in some run is among the warnings.
@@ -36,7 +40,7 @@ pub record IsAnalysed (request : Request) (p : Program) (text : List ℕ) (warni
     : Type 0 where
   pub table : Table
   pub visits : List Item
-  pub printed : text ≡ result_text request.certifies p table visits warnings
+  pub printed : text ≡ result_text request.form p table visits warnings
   pub built : IsBuilt p visits table
   pub few : length visits ≤ request.budget
   pub closed : IsClosed p table
@@ -47,9 +51,10 @@ pub record IsAnalysed (request : Request) (p : Program) (text : List ℕ) (warni
 
 -- what is written of a program, by the status
 abbrev pub Reports : Request → Program → Status → List ℕ → Type 0
-Reports request p Done text = IsAnalysed request p text []
+Reports request p Done text =
+    (ws : List Warning) × (has_fault ws ≡ false) × IsAnalysed request p text ws
 Reports request p Warned text =
-    (w : Warning) × (ws : List Warning) × IsAnalysed request p text (w ∷ ws)
+    (ws : List Warning) × (has_fault ws ≡ true) × IsAnalysed request p text ws
 Reports request p Spent text =
     (visits : List Item) × WasSpent p request.budget visits × (text ≡ spent_text p visits)
 Reports request p status text = ⊥

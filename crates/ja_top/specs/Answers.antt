@@ -1,7 +1,7 @@
 -- The answers of the program to words, a source and devices: the cause of each status, the text
--- that is written with it, and what the source, the sink and the devices are then. `Analyses` and
--- `Runs` say how bytes are answered.
-use Rattle.std.specs.Prelude.{◌≡◌, ◌≤◌, ◌⊎◌, ◌+◌, ℕ, String, Bool, true, List, map, length, Option}
+-- that is written with it, and what the source, the sink and the devices are then. `Analyses`,
+-- `Checks` and `Runs` say how bytes are answered.
+use Rattle.std.specs.Prelude.{◌≡◌, ◌≤◌, ◌⊎◌, ◌+◌, ℕ, String, Bool, true, if◌then◌else◌, List, map, length, Option}
 use Rattle.std.specs.String.{string_bytes}
 use Rattle.std.specs.declared.alloc.Global.{Global}
 use Rattle.ja_base.specs.Streams.{Rose, Keeps, Took, IsAtEnd, IsLonger, TakesCount, Appends}
@@ -10,14 +10,18 @@ use Rattle.ja_lex.specs.Spots.{max_bytes}
 use Rattle.ja_device.specs.Devices.{AllSeen}
 use Rattle.ja_report.specs.declared.refusals.Refusal.TheVariants as refusal
 use Rattle.ja_report.specs.Refusals.{refusal_text}
+use Rattle.ja_gen.specs.Generated.{generated_text}
 use Rattle.ja_top.specs.Analyses.{Analyses}
+use Rattle.ja_top.specs.Checks.{Checks}
+use Rattle.ja_top.specs.declared.request.Form.TheVariants as form
+use Rattle.ja_top.specs.declared.request.Request.{Request}
 use Rattle.ja_top.specs.declared.status.Status.{Status}
 use Rattle.ja_top.specs.declared.status.Status.TheVariants.{Usage, ReadFault, WriteFault, TooLong}
 use Rattle.ja_top.specs.declared.status.Status.TheVariants.{Memory}
 use Rattle.ja_top.specs.Runs.{MayBeLeftByText, Runs, signatures_of}
 use Rattle.ja_words.specs.declared.command.Command.{Command}
 use Rattle.ja_words.specs.declared.command.Command.TheVariants as command
-use Rattle.ja_words.specs.Words.{IsCommandLine}
+use Rattle.ja_words.specs.Words.{IsCommandLine, default_budget}
 
 -- What a call meets: its words; what is left of the source and how many faults it has counted,
 -- before and after; and the devices that are handed in and that come back.
@@ -54,33 +58,44 @@ pub record IsInput (c : Call) (bytes : List ℕ) : Type 0 where
   pub end : IsAtEnd c.left_after
   pub within : length bytes ≤ max_bytes
 
--- the words ask for a command that is offered, which the check of a certificate isn't yet
-abbrev pub IsOffered : Command → Type 0
-IsOffered command.Check = ⊥
-IsOffered asked = Unit {0}
-
+-- the words ask for a command
 abbrev pub Asks : List (String Global) → Command → Type 0
-Asks words asked = IsCommandLine (map string_bytes words) asked × IsOffered asked
+Asks words asked = IsCommandLine (map string_bytes words) asked
 
--- the answer of a command to the bytes of a text, with the devices that are handed in and that come
--- back
+-- what bytes are analysed, checked or run: of `generate` those of its own program, and nothing is
+-- read; of the others all that was left
+abbrev pub IsGiven : Command → Call → List ℕ → Type 0
+IsGiven (command.Generate number) c bytes =
+    (bytes ≡ generated_text number) × Keeps c.left c.left_after
+IsGiven asked c bytes = IsInput c bytes
+
+-- what an analysis is asked for, and in how many visits at most
+abbrev pub request_of : Bool → ℕ → Request
+request_of cert budget =
+    record { form = if cert then form.Certificate else form.Report; budget = budget }
+
+abbrev pub summing : ℕ → Request
+summing number = record { form = form.Summary number; budget = default_budget }
+
+-- the answer of a command to bytes, with the devices that are handed in and that come back
 abbrev pub Follows : Command → List ℕ → AllSeen → AllSeen → Status → List ℕ → Type 0
 Follows (command.Analyse cert budget) bytes before after status text =
-    Analyses (record { certifies = cert; budget = budget }) bytes (signatures_of before) status text
-    × (after ≡ before)
-Follows command.Check bytes before after status text = ⊥
+    Analyses (request_of cert budget) bytes (signatures_of before) status text × (after ≡ before)
+Follows command.Check bytes before after status text = Checks bytes status text × (after ≡ before)
 Follows (command.Run steps) bytes before after status text =
     Runs bytes steps before after status text
+Follows (command.Generate number) bytes before after status text =
+    Analyses (summing number) bytes (signatures_of before) status text × (after ≡ before)
 
 -- they ask for some command that is
 abbrev pub IsAsked : Call → Type 0
 IsAsked c = (asked : Command) × Asks c.words asked
 
--- the bytes that were read are answered by the command that the words ask for
-abbrev pub AnswersInput : Call → Status → List ℕ → Type 0
-AnswersInput c status text =
+-- the bytes that are given are answered by the command that the words ask for
+abbrev pub AnswersBytes : Call → Status → List ℕ → Type 0
+AnswersBytes c status text =
     (asked : Command) × Asks c.words asked
-    × ((bytes : List ℕ) × IsInput c bytes
+    × ((bytes : List ℕ) × IsGiven asked c bytes
     × Follows asked bytes c.devices c.devices_after status text)
 
 -- the cause of each status that has a text, and the text
@@ -96,7 +111,7 @@ HasCause c TooLong text =
     × DevicesStand c × (text ≡ refusal_text refusal.TooLong)
 HasCause c WriteFault text = ⊥
 HasCause c Memory text = ⊥
-HasCause c status text = AnswersInput c status text
+HasCause c status text = AnswersBytes c status text
 
 -- What the sink holds: what was written and whether it is finished, before and after, and its
 -- faults.

@@ -13,13 +13,10 @@ use Rattle.ja_rows.specs.Table.{Table, IsBuilt, IsClosed}
 use Rattle.ja_rows.specs.Warning.{AreWarnings}
 use Rattle.ja_rules.specs.Solving.{WasSpent}
 use Rattle.ja_sound.specs.Sound.{CoversRuns, WarnsOfFaults}
+use Rattle.ja_words.specs.Words.{default_budget}
 use Rattle.ja_top.specs.declared.finding.FindFault.{FindFault}
 use Rattle.ja_top.specs.declared.finding.FindFault.TheVariants as fault
 use Rattle.ja_top.specs.declared.finding.Findings.{Findings}
-
--- the greatest number of visits
-abbrev pub budget : ℕ
-budget = 1000000
 
 -- What is found of a program: the warnings of a table that so many visits build, which is closed,
 -- covers every run and has so many contexts and edges. An operation that goes wrong in some run is
@@ -28,7 +25,7 @@ pub record IsFoundIn (p : Program) (found : Findings) : Type 0 where
   pub table : Table
   pub visits : List Item
   pub built : IsBuilt p visits table
-  pub few : length visits ≤ budget
+  pub few : length visits ≤ default_budget
   pub closed : IsClosed p table
   pub exact : AreWarnings p table found.warnings
   pub contexts : found.contexts ≡ length (contexts_of p table)
@@ -44,7 +41,7 @@ Finds bytes signatures found =
 
 -- why nothing is found of a program; want of memory is explained by nothing
 abbrev pub IsUnfoundIn : Program → FindFault → Type 0
-IsUnfoundIn p fault.Spent = (visits : List Item) × WasSpent p budget visits
+IsUnfoundIn p fault.Spent = (visits : List Item) × WasSpent p default_budget visits
 IsUnfoundIn p fault.Memory = Unit {0}
 IsUnfoundIn p f = ⊥
 

@@ -1,6 +1,7 @@
 -- what the calls of the crate say: read from `Answers` on
 pub mod Answers
 pub mod Analyses
+pub mod Checks
 pub mod Findings
 pub mod Runs
 pub mod Statuses

@@ -1,16 +1,31 @@
--- The status of the end of a run, and the refusal of a text that has no program.
-use Rattle.std.specs.Prelude.{Option, Some, None}
+-- Which warnings decide a status, the status of the end of a run, and the refusal of a text that has
+-- no program.
+use Rattle.std.specs.Prelude.{Bool, true, false, List, Option, Some, None}
+use Rattle.std.specs.List.{list_any}
 use Rattle.ja_grammar.specs.declared.fault.ParseFault.TheVariants as parse_fault
 use Rattle.ja_load.specs.declared.fault.LoadFault.{LoadFault}
 use Rattle.ja_load.specs.declared.fault.LoadFault.TheVariants as fault
 use Rattle.ja_report.specs.declared.refusals.Refusal.{Refusal}
 use Rattle.ja_report.specs.declared.refusals.Refusal.TheVariants as refusal
+use Rattle.ja_rows.specs.declared.table.Warning.{Warning}
+use Rattle.ja_rows.specs.declared.table.WarningKind.{WarningKind}
+use Rattle.ja_rows.specs.declared.table.WarningKind.TheVariants.{NotAFunction, NoObject, UnboundName, ScopeRow}
 use Rattle.ja_run.specs.declared.ended.RunEnd.{RunEnd}
 use Rattle.ja_run.specs.declared.ended.RunEnd.TheVariants as run_end
 use Rattle.ja_top.specs.declared.status.Status.{Status}
 use Rattle.ja_top.specs.declared.status.Status.TheVariants.{Done}
 use Rattle.ja_top.specs.declared.status.Status.TheVariants.{DeviceFault, Left}
 use Rattle.ja_top.specs.declared.status.Status.TheVariants.{Uncaught, StepsSpent}
+
+-- a type fault: the read of a property that is out of the profile is none
+abbrev pub is_fault : WarningKind → Bool
+is_fault NotAFunction = true
+is_fault NoObject = true
+is_fault UnboundName = true
+is_fault ScopeRow = false
+
+abbrev pub has_fault : List Warning → Bool
+has_fault warnings = list_any (λ (w : Warning). is_fault w.kind) warnings
 
 -- the status of the end of a run
 abbrev pub status_of_end : RunEnd → Status

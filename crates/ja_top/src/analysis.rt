@@ -7,12 +7,13 @@ ghost use Rattle.ja_graph.specs.WellFormed.{IsWellFormed};
 ghost use Rattle.ja_rules.specs.Tables.{table_of, Fits};
 ghost use Rattle.ja_top.specs.Analyses.{result_text, Analyses, Reports};
 ghost use Rattle.ja_top.specs.Runs.{signatures_of};
+ghost use Rattle.ja_top.specs.Statuses.{has_fault, is_fault};
 ghost use Rattle.ja_top.specs.code.Statuses.{status_of};
 ghost use Rattle.ja_top.specs.code.Solutions.{IsSolved};
 
 use crate::answer::Answer;
 use crate::refusing::{explain, refuse};
-use crate::request::Request;
+use crate::request::{Form, Request};
 use crate::status::Status;
 use ja_base::Memory;
 use ja_cert::write;
@@ -21,42 +22,60 @@ use ja_graph::Program;
 use ja_load::load;
 use ja_machine::never_stuck;
 use ja_prim::Signature;
-use ja_report::{Refusal, report, spent_text};
-use ja_rows::Warning;
-use ja_rules::{SolveFault, Solved, solve, warnings};
+use ja_report::{Refusal, report, spent_text, summary_text};
+use ja_rows::{Warning, WarningKind};
+use ja_rules::{SolveFault, Solved, solve};
+use ja_warn::warnings;
 use std::alloc::Global;
 use std::str;
 
-/// Done where there is no warning.
-pub(crate) fn judged(warnings: &[Warning]) -> Status
-    ensures { result ≡ status_of warnings.now }
+/// Whether a warning is of a type fault.
+fn is_fault(warning: &Warning) -> bool
+    ensures { result ≡ is_fault warning.now.kind }
 {
-    if warnings.is_empty() {
-        Status::Done
-    } else {
-        Status::Warned
+    match warning.kind {
+        WarningKind::NotAFunction | WarningKind::NoObject | WarningKind::UnboundName => true,
+        WarningKind::ScopeRow => false,
     }
 }
 
-// The report of a solved program, or its certificate.
+/// Whether a warning of a type fault is among some.
+fn has_fault(warnings: &[Warning]) -> bool
+    ensures { result ≡ has_fault warnings.now }
+{
+    warnings.iter().any(|warning| is_fault(warning))
+}
+
+/// Done where there is no warning of a fault.
+pub(crate) fn judged(warnings: &[Warning]) -> Status
+    ensures { result ≡ status_of warnings.now }
+{
+    if has_fault(warnings) {
+        Status::Warned
+    } else {
+        Status::Done
+    }
+}
+
+// What is written of a solved program.
 fn text_of(
     alloc: Global,
     program: &Program,
     solved: &Solved,
-    certifies: bool,
+    form: Form,
     warnings: &[Warning],
 ) -> Result<Vec<u8>, Memory>
     requires program { IsWellFormed program.now }
     requires devices { AreSignatures program.now.signatures }
     requires fits { Fits program.now solved.now.table }
-    ensures { IfOk result (λ text. text.items ≡ result_text certifies program.now
+    ensures { IfOk result (λ text. text.items ≡ result_text form program.now
         (table_of solved.now.table) solved.now.visits warnings.now) }
 {
     let visits = solved.visits.as_slice();
-    if certifies {
-        write(alloc, program, &solved.table, visits)
-    } else {
-        report(alloc, program, &solved.table, visits, warnings)
+    match form {
+        Form::Report => report(alloc, program, &solved.table, visits, true, warnings),
+        Form::Certificate => write(alloc, program, &solved.table, visits),
+        Form::Summary { number } => summary_text(alloc, number, program, &solved.table, warnings),
     }
 }
 
@@ -73,13 +92,7 @@ fn report_of(
     ensures { IfOk result (λ a. Reports request program.now a.status a.text.items) }
 {
     let warnings = warnings(alloc, program, &solved.table)?;
-    let text = text_of(
-        alloc,
-        program,
-        solved,
-        request.certifies,
-        warnings.as_slice(),
-    )?;
+    let text = text_of(alloc, program, solved, request.form, warnings.as_slice())?;
     let status = judged(warnings.as_slice());
     never_stuck();
     Ok(Answer { status, text })
@@ -128,7 +141,8 @@ fn analyse_text(
 /// Analyses the bytes of a text, at most [`MAX_BYTES`](crate::MAX_BYTES) of them, as a program that
 /// may call these devices. None is asked.
 ///
-/// The status is `Done` or `Warned` with a report or a certificate, without or with warnings;
+/// The status is `Done` or `Warned` with a report, a certificate or a summary, without or with a
+/// warning of a fault;
 /// `Spent` with the visits where the budget's visits didn't close the table; and `NotText`,
 /// `Syntax`, `Scope` or `Limit` with the line of a refusal where the bytes aren't UTF-8, no program
 /// (ES3 11 to 14), out of the profile, or past a limit.

@@ -4,10 +4,11 @@ ghost use Rattle.std.specs.Prelude.{◌≡◌, ◌≤◌, IfErr, IfOk, length};
 ghost use Rattle.ja_lex.specs.Spots.{max_bytes};
 ghost use Rattle.ja_device.specs.code.Signatures.{AreSignatures};
 ghost use Rattle.ja_graph.specs.WellFormed.{IsWellFormed};
-ghost use Rattle.ja_top.specs.Findings.{budget, Finds, IsFoundIn, IsUnfoundIn, IsUnfound};
+ghost use Rattle.ja_top.specs.Findings.{Finds, IsFoundIn, IsUnfoundIn, IsUnfound};
 ghost use Rattle.ja_top.specs.Runs.{signatures_of};
 ghost use Rattle.ja_top.specs.code.Solutions.{IsSolved};
 ghost use Rattle.ja_top.specs.declared.finding.FindFault.TheVariants as fault;
+ghost use Rattle.ja_words.specs.Words.{default_budget};
 
 use ja_base::{Memory, Seq};
 use ja_device::{Device, Devices};
@@ -16,13 +17,12 @@ use ja_load::{LoadFault, load};
 use ja_machine::never_stuck;
 use ja_prim::Signature;
 use ja_rows::Warning;
-use ja_rules::{SolveFault, Solved, solve, warnings};
+use ja_rules::{SolveFault, Solved, solve};
+use ja_warn::warnings;
+use ja_words::DEFAULT_BUDGET;
 use std::alloc::Global;
 use std::str;
 use thiserror::Error;
-
-/// The greatest number of visits.
-const BUDGET: u128 = 1_000_000;
 
 /// What the analysis of a text finds: the warnings, those of the text by line, column and kind, and
 /// those of the built-in functions behind them; and how many contexts and call edges the closed
@@ -71,7 +71,7 @@ impl From<LoadFault> for FindFault {
 // What is found of a solved program.
 fn findings_of(alloc: Global, program: &Program, solved: &Solved) -> Result<Findings, Memory>
     requires program { IsWellFormed program.now }
-    requires solved { IsSolved program.now budget solved.now }
+    requires solved { IsSolved program.now default_budget solved.now }
     ensures { IfOk result (IsFoundIn program.now) }
 {
     let warnings = warnings(alloc, program, &solved.table)?;
@@ -90,7 +90,7 @@ fn find_in(alloc: Global, program: &Program) -> Result<Findings, FindFault>
     ensures found { IfOk result (IsFoundIn program.now) }
     ensures fault { IfErr result (IsUnfoundIn program.now) }
 {
-    match solve(alloc, program, BUDGET) {
+    match solve(alloc, program, DEFAULT_BUDGET) {
         Ok(solved) => {
             let findings = findings_of(alloc, program, &solved)?;
             Ok(findings)

@@ -1,5 +1,6 @@
-//! The answers of the analyser: to a text and host devices (`analyse`, `find`, `run`), and to words
-//! and a source (`tajs`). What is proved of each is stated from `specs/Answers.antt` on.
+//! The answers of the analyser: to a text and host devices (`analyse`, `find`, `run`), to a
+//! certificate (`check`), and to words and a source (`tajs`). What is proved of each is stated from
+//! `specs/Answers.antt` on.
 //!
 //! The clause `answered` of `tajs` (`top.rt`), by `IsAnswered` of `specs/Answers.antt`, says of all
 //! words, sources, sinks and lists of devices:
@@ -12,14 +13,20 @@
 //!   with the kind and the place that `ja_grammar` determines; 9 also exactly where it is in the
 //!   language and has more than 4,096 functions, or else its graph and parameters are more than
 //!   65,536 nodes; 10 only where the budget's visits, which are printed, each changed the table and
-//!   the last one isn't closed; 12 to 15 only of a run, by its end.
+//!   the last one isn't closed; 11 only of `check`, with why the bytes are no certificate
+//!   (`ja_cert_read/specs/Certified.antt`), or why its table isn't closed; 12 to 15 only of a run,
+//!   by its end.
 //! - **what was written**: after every status but 4 and 16 the text of that answer, whole, and the
 //!   sink is finished; after 4 the front of the text of another answer whose cause holds; after 16
 //!   nothing.
-//! - **the report** (0 and 1 of `analyse`), or the certificate: that of the program of the bytes
-//!   that were read, of the table that the printed visits build from the opening, each of them
-//!   changing it, of these visits, no more than the budget, and of its warnings. The table is
-//!   closed, the warnings are exactly those of the table, and 1 comes exactly where there is one.
+//! - **the report** (0 and 1 of `analyse`), or the certificate, or the summary of `generate`: that
+//!   of the program of the bytes that were read, or generated, of the table that the printed visits
+//!   build from the opening, each of them changing it, of these visits, no more than the budget, and
+//!   of its warnings. The table is closed, the warnings are exactly those of the table, and 1 comes
+//!   exactly where one of them is of a fault.
+//! - **the report of a certificate** (0 and 1 of `check`): that of the program, the table and the
+//!   visits in it, with whether the visits build the table. The table is closed, and the warnings
+//!   are those of it. Nothing is assumed of the bytes.
 //! - **the theorem** (`CoversRuns`, `WarnsOfFaults` of `ja_sound`): after every list of answers the
 //!   state of the program's run lies in the meaning of the printed state at its node and context;
 //!   an operation that goes wrong in some run has a warning; and no run is stuck (`NeverStuck`).
@@ -40,6 +47,7 @@
 
 mod analysis;
 mod answer;
+mod checking;
 mod finding;
 mod refusing;
 mod request;
@@ -49,8 +57,9 @@ mod top;
 
 pub use analysis::analyse;
 pub use answer::Answer;
+pub use checking::check;
 pub use finding::{FindFault, Findings, find};
-pub use request::Request;
+pub use request::{Form, Request};
 pub use running::run;
 pub use status::Status;
 pub use top::{MAX_BYTES, tajs};

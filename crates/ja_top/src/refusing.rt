@@ -1,19 +1,25 @@
 //! Why there is no answer.
 
 ghost use Rattle.std.specs.Prelude.{◌≡◌, ℕ, List, IfOk};
+ghost use Rattle.ja_cert_read.specs.Certified.{IsNoCertificate};
 ghost use Rattle.ja_load.specs.code.Loading.{HasNone};
 ghost use Rattle.ja_prim.specs.declared.signature.Signature.{Signature};
+ghost use Rattle.ja_report.specs.declared.certificates.CertRefusal.TheVariants as certificate;
 ghost use Rattle.ja_top.specs.Analyses.{Refuses};
+ghost use Rattle.ja_top.specs.Checks.{Checks};
 ghost use Rattle.ja_top.specs.Statuses.{refusal_of};
 ghost use Rattle.ja_top.specs.code.Statuses.{status_of_refusal};
-ghost use Rattle.ja_top.specs.code.Solutions.{IsRefusal};
+ghost use Rattle.ja_top.specs.code.Solutions.{IsCertRefusal, IsOpenRefusal, IsRefusal};
 
 use crate::answer::Answer;
 use crate::status::Status;
 use ja_base::Memory;
+use ja_cert_read::CertFault;
 use ja_grammar::ParseFault;
+use ja_graph::Program;
 use ja_load::LoadFault;
-use ja_report::{Refusal, refusal_text};
+use ja_report::{CertRefusal, Refusal, cert_refusal_text, open_text, refusal_text};
+use ja_rows::Item;
 use std::alloc::Global;
 
 /// The status of a refusal.
@@ -65,5 +71,50 @@ pub(crate) fn explain(alloc: Global, fault: LoadFault) -> Result<Answer, Memory>
     match refusal_of(fault) {
         Some(refusal) => refuse(alloc, refusal),
         None => Err(Memory),
+    }
+}
+
+/// A certificate that isn't accepted, with its line.
+fn refuse_certificate(alloc: Global, refusal: &CertRefusal) -> Result<Answer, Memory>
+    ensures { IfOk result (λ a. IsCertRefusal a refusal.now) }
+{
+    let text = cert_refusal_text(alloc, refusal)?;
+    Ok(Answer {
+        status: Status::CertRefused,
+        text,
+    })
+}
+
+/// Says that the table of a certificate lacks the opening.
+pub(crate) fn explain_opening(alloc: Global) -> Result<Answer, Memory>
+    ensures { IfOk result (λ a. IsCertRefusal a certificate.Opening) }
+{
+    refuse_certificate(alloc, &CertRefusal::Opening)
+}
+
+/// Says that a visit of this item is the first that changes the table of a certificate.
+pub(crate) fn explain_item(alloc: Global, program: &Program, item: Item) -> Result<Answer, Memory>
+    ensures { IfOk result (IsOpenRefusal program.now item) }
+{
+    let text = open_text(alloc, program, item)?;
+    Ok(Answer {
+        status: Status::CertRefused,
+        text,
+    })
+}
+
+/// Says why bytes are no certificate.
+pub(crate) fn explain_certificate(alloc: Global, fault: CertFault) -> Result<Answer, Memory>
+    ensures { IfOk result (λ a. (bytes : List ℕ) → IsNoCertificate bytes fault
+        → Checks bytes a.status a.text.items) }
+{
+    match fault {
+        CertFault::Json => refuse_certificate(alloc, &CertRefusal::Json),
+        CertFault::Shape { item } => refuse_certificate(alloc, &CertRefusal::Shape { item }),
+        CertFault::Load(fault) => match refusal_of(fault) {
+            Some(refusal) => refuse_certificate(alloc, &CertRefusal::Text(refusal)),
+            None => Err(Memory),
+        },
+        CertFault::Memory => Err(Memory),
     }
 }

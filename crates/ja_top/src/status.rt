@@ -3,9 +3,10 @@ ghost use Rattle.std.specs.Prelude.{◌≡◌};
 /// How a call ends. The number of each is the process's exit status.
 #[derive(Clone, Copy, Debug, PartialEq, Eq)]
 pub enum Status {
-    /// A report without a warning was written, or the transcript of a run that came to its end.
+    /// A report without a warning of a fault was written, or a certificate or a summary of such a
+    /// table, or the transcript of a run that came to its end.
     Done = 0,
-    /// A report with a warning was written.
+    /// A report with a warning of a fault was written, or a certificate or a summary of such a table.
     Warned = 1,
     /// The words are no command line.
     Usage = 2,
@@ -25,6 +26,8 @@ pub enum Status {
     Limit = 9,
     /// The visits of the budget are spent, and the table isn't closed.
     Spent = 10,
+    /// The certificate isn't accepted.
+    CertRefused = 11,
     /// The transcript of a run was written that ended at a device that failed.
     DeviceFault = 12,
     /// The transcript of a run that left the profile was written.

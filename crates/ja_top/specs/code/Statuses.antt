@@ -1,18 +1,18 @@
 -- What clauses of the code cite beside `Statuses`, and no believed statement.
-use Rattle.std.specs.Prelude.{ℕ, List, [], ◌∷◌}
+use Rattle.std.specs.Prelude.{ℕ, if◌then◌else◌, List}
 use Rattle.ja_rows.specs.declared.table.Warning.{Warning}
 use Rattle.ja_report.specs.declared.refusals.Refusal.{Refusal}
 use Rattle.ja_report.specs.declared.refusals.Refusal.TheVariants as refusal
+use Rattle.ja_top.specs.Statuses.{has_fault}
 use Rattle.ja_top.specs.declared.status.Status.{Status}
 use Rattle.ja_top.specs.declared.status.Status.TheVariants.{Done, Warned, Usage, ReadFault}
 use Rattle.ja_top.specs.declared.status.Status.TheVariants.{WriteFault, TooLong, NotText, Syntax}
-use Rattle.ja_top.specs.declared.status.Status.TheVariants.{Scope, Limit, Spent, DeviceFault, Left}
+use Rattle.ja_top.specs.declared.status.Status.TheVariants.{Scope, Limit, Spent, CertRefused, DeviceFault, Left}
 use Rattle.ja_top.specs.declared.status.Status.TheVariants.{Uncaught, StepsSpent, Memory}
 
--- a report without a warning is done, and one with a warning is warned
+-- a report with a warning of a fault is warned, and one without is done
 abbrev pub status_of : List Warning → Status
-status_of [] = Done
-status_of (w ∷ ws) = Warned
+status_of warnings = if has_fault warnings then Warned else Done
 
 -- .. and of a refusal
 abbrev pub status_of_refusal : Refusal → Status
@@ -39,6 +39,7 @@ code_of Syntax = 7
 code_of Scope = 8
 code_of Limit = 9
 code_of Spent = 10
+code_of CertRefused = 11
 code_of DeviceFault = 12
 code_of Left = 13
 code_of Uncaught = 14

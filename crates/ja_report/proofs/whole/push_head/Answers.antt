@@ -10,6 +10,7 @@ returns c =
       c.in_ok-push_edges.ensures,
       c.in_ok-push_warnings.ensures,
       c.in_ok-extend_from_slice-2.ensures.items,
+      c.built_text.ensures,
       c.in_ok-push_devices.ensures,
       c.signatures.ensures,
       c.in_ok-extend_from_slice.ensures.items,
