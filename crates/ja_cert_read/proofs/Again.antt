@@ -26,7 +26,7 @@ use Rattle.ja_abstract.specs.Resolved.{Entries}
 use Rattle.ja_abstract.proofs.Keys.{same_key-self, same_key-true}
 use Rattle.ja_abstract.proofs.Labels.{same_label-self, same_label-true}
 use Rattle.ja_report.specs.Lines.{Line, entry, property, register, alloc, entry_line, entry_lines, is_entry, is_undefined, mask_line, mask_lines, object_lines, property_line, property_lines, register_line, register_lines}
-use Rattle.ja_report.proofs.Ascending.{of_member, number_listed}
+use Rattle.ja_rules.proofs.Ascending.{of_member, number_listed}
 use Rattle.ja_cert_parts.specs.declared.listed.EntryAt.{EntryAt}
 use Rattle.ja_cert_parts.specs.declared.listed.MaskAt.{MaskAt}
 use Rattle.ja_cert_parts.specs.declared.listed.PropertyAt.{PropertyAt}
@@ -286,7 +286,8 @@ entry_within p xs e right is l k there =
 -- ---- the whole
 
 pub right_within : (p : Program) (f : FnId) (xs : List RegisterAt) (heap : List PropertyAt)
-    (masks : List MaskAt) → AreRight (register_wrong p f) (register_data p) xs → AreRight (property_wrong p) (property_data p) heap
+    (masks : List MaskAt) → AreRight (register_wrong p f) (register_data p) xs
+    → AreRight (property_wrong p) (property_data p) heap
     → AreRight (mask_wrong p) (mask_data p) masks
     → AreWithin (registers_of p f) (length p.sites) (length p.names) xs heap masks
 right_within p f xs heap masks registers properties made = record {
@@ -302,7 +303,8 @@ right_within p f xs heap masks registers properties made = record {
 }
 
 pub state_is : (p : Program) (f : FnId) (xs : List RegisterAt) (heap : List PropertyAt)
-    (masks : List MaskAt) (s : AState) → AreRight (register_wrong p f) (register_data p) xs → AreRight (property_wrong p) (property_data p) heap
+    (masks : List MaskAt) (s : AState) → AreRight (register_wrong p f) (register_data p) xs
+    → AreRight (property_wrong p) (property_data p) heap
     → AreRight (mask_wrong p) (mask_data p) masks → IsStateOf p (registers_of p f) s
     → state_of s ≡ with_masks masks (with_properties heap (with_registers xs plain_state))
     → IsStateOfParts p f xs heap masks s
@@ -317,7 +319,8 @@ state_is p f xs heap masks s registers properties made shape is = record {
       masks_again p masks (state_of s) made (ap (λ (a : AbstractState). a.mask) is);
 }
 
-pub entries_are : (p : Program) (xs : List EntryAt) (e : DemandedEntries) → AreRight (entry_wrong p) (entry_data p) xs
+pub entries_are : (p : Program) (xs : List EntryAt) (e : DemandedEntries)
+    → AreRight (entry_wrong p) (entry_data p) xs
     → entries_of e ≡ entries_with xs no_entries → AreEntriesOfParts p xs e
 entries_are p xs e right is =
     let each : EntriesAre (entries_of e) xs = λ l k. ap (λ (f : Entries). f l k) is in

@@ -11,8 +11,8 @@ use Rattle.ja_base.specs.declared.ids.Label.{Label}
 use Rattle.ja_graph.specs.declared.program.Program.{Program}
 use Rattle.ja_graph.specs.Program.{nodes_of}
 use Rattle.ja_abstract.specs.AbstractState.{label_number}
-use Rattle.ja_report.proofs.Ascending.{Ascends}
-use Rattle.ja_report.proofs.ContextLemmas.{Comes}
+use Rattle.ja_rules.proofs.Ascending.{Ascends}
+use Rattle.ja_rules.proofs.ListedContexts.{Comes}
 use Rattle.ja_cert_read.specs.declared.contexts.ContextAt.{ContextAt}
 use Rattle.ja_cert_read.specs.declared.points.PointAt.{PointAt}
 use Rattle.ja_cert.specs.Certificate.{label_data, listed, whole}

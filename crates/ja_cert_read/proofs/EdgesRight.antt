@@ -24,8 +24,8 @@ use Rattle.ja_rules.specs.Tables.{table_of, FitsEdge}
 use Rattle.ja_rules.specs.declared.table.ATable.{ATable}
 use Rattle.ja_rules.specs.declared.table.CallEdge.{CallEdge}
 use Rattle.ja_rules.specs.declared.table.ContextTable.{ContextTable}
-use Rattle.ja_report.proofs.Ascending.{Ascends}
-use Rattle.ja_report.proofs.ContextLemmas.{told, Comes}
+use Rattle.ja_rules.proofs.Ascending.{Ascends, told}
+use Rattle.ja_rules.proofs.ListedContexts.{Comes}
 use Rattle.ja_cert_read.specs.declared.contexts.ContextAt.{ContextAt}
 use Rattle.ja_cert.specs.Certificate.{edge_data}
 use Rattle.ja_cert.specs.Wrong as wrong

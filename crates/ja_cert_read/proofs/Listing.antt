@@ -6,7 +6,7 @@ use Rattle.std.proofs.lemmas.List.Concat.{flat_map-append}
 use Rattle.std.proofs.lemmas.List.Folds.{flat_map-map}
 use Rattle.std.proofs.lemmas.List.{map-append}
 use Rattle.ja_abstract.specs.Lists.{Member}
-use Rattle.ja_report.proofs.Ascending.{of_member, Ascends}
+use Rattle.ja_rules.proofs.Ascending.{of_member, Ascends}
 use Rattle.ja_cert_read.specs.code.Building.{first_at}
 use Rattle.ja_cert_read.proofs.Below.{IsBelow, below_one_way}
 
@@ -101,7 +101,8 @@ module _ {X K : Type 0} (place : X → K) (rank : K → List ℕ) where
               ])
               (λ y m. some y (inr m))
               (λ j m missing. none j (inr m) (λ z n same. elim n [
-                | inl e ↦ before_self k j (here ∙ ap place e ∙ same) (of_member (Before k) ks j up.0 m)
+                | inl e ↦ before_self k j (here ∙ ap place e ∙ same)
+                    (of_member (Before k) ks j up.0 m)
                 | inr l ↦ missing z l same
               ])))
           | inr later ↦

@@ -14,7 +14,7 @@ use Rattle.ja_abstract.proofs.Labels.{label_parts, site_labels}
 use Rattle.ja_abstract.proofs.Lists.{member-append_left, member-append_right, member-flat_map, member-map}
 use Rattle.ja_value.specs.Labels.{label_at}
 use Rattle.ja_value.proofs.LabelLemmas.{labels_range, number_label}
-use Rattle.ja_report.proofs.Ascending.{from_map, from_range, number_listed, Ascends, ascends-append, ascends-flat_map, ascends-map, ascends-range}
+use Rattle.ja_rules.proofs.Ascending.{from_map, from_range, number_listed, Ascends, ascends-append, ascends-flat_map, ascends-map, ascends-range}
 use Rattle.ja_cert_read.proofs.Below.{IsBelow, below_first, below_second}
 use Rattle.ja_cert_read.proofs.Listing.{pairs}
 
@@ -28,8 +28,8 @@ pub numbers_ascend : (n : ℕ) → Ascends (λ (i j : ℕ). IsBelow (number_rank
 numbers_ascend n =
     subst (Ascends (λ (i j : ℕ). IsBelow (number_rank i) (number_rank j)))
     (same (range_with_len 0 n))
-    (ascends-map (λ i j. i < j) (λ (i j : ℕ). IsBelow (number_rank i) (number_rank j)) (λ (i : ℕ). i)
-    (λ i j h. below_first i j [] [] h) (range_with_len 0 n) (ascends-range 0 n))
+    (ascends-map (λ i j. i < j) (λ (i j : ℕ). IsBelow (number_rank i) (number_rank j))
+    (λ (i : ℕ). i) (λ i j h. below_first i j [] [] h) (range_with_len 0 n) (ascends-range 0 n))
   where
     same : (xs : List ℕ) → map (λ (i : ℕ). i) xs ≡ xs
     same [] = refl

@@ -16,9 +16,9 @@ use Rattle.ja_abstract.specs.declared.abstraction.Key.TheVariants as key
 use Rattle.ja_abstract.specs.declared.abstraction.Slot.TheVariants as slot
 use Rattle.ja_abstract.specs.AbstractState.{is_key, is_label, label_number}
 use Rattle.ja_value.specs.Value.{property_of}
+use Rattle.ja_rules.proofs.Ascending.{Ascends}
 use Rattle.ja_report.specs.Lines.{is_entry, is_undefined, mask_text}
 use Rattle.ja_report.specs.Texts.{attrs_text}
-use Rattle.ja_report.proofs.Ascending.{Ascends}
 use Rattle.ja_cert_parts.specs.declared.listed.EntryAt.{EntryAt}
 use Rattle.ja_cert_parts.specs.declared.listed.MaskAt.{MaskAt}
 use Rattle.ja_cert_parts.specs.declared.listed.PropertyAt.{PropertyAt}
@@ -30,7 +30,8 @@ use Rattle.ja_cert_read.specs.code.Building.{entry_data, mask_data, property_dat
 use Rattle.ja_cert_read.proofs.Below.{IsBelow}
 use Rattle.ja_cert_read.proofs.Pairs.{key_place, number_rank, pair_rank}
 use Rattle.ja_cert_read.proofs.Plain.{entry_is, mask_is, undefined_is}
-use Rattle.ja_cert_read.proofs.Right.{neither, right_members}
+use Rattle.ja_cert_read.proofs.Right.{right_members}
+use Rattle.ja_cert_read.proofs.Told.{or_else_none}
 
 -- ---- registers
 
@@ -169,7 +170,7 @@ module _ (p : Program) where
       let attrs = string (attrs_text x.key q.attrs) in
       let entry = value_is (codes "entry") (value_data p q.value) in
       let unknown = wrong.is_word (same_text unknown_attrs) attrs in
-      let both = neither (owned_wrong p is_of_property
+      let both = or_else_none (owned_wrong p is_of_property
       (is_above (pair_number p) before (property_data p x)) (property_data p x))
       (here_unless (not (entry && unknown))) none in
       let parts = entry_fields (nat_lt (label_number x.label) (2 * length p.sites))

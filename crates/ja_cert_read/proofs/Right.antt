@@ -6,19 +6,10 @@ use Rattle.std.specs.Option.{option_map}
 use Rattle.std.proofs.lemmas.List.{length-append}
 use Rattle.serde_json.specs.Data.{Data}
 use Rattle.ja_base.proofs.Lists.{all_weaker}
-use Rattle.ja_report.proofs.Ascending.{Ascends}
-use Rattle.ja_cert.specs.Wrong.{Path, MemberWrong, at, is_above, is_behind, is_less, members_wrong, or_else}
+use Rattle.ja_rules.proofs.Ascending.{Ascends}
+use Rattle.ja_cert.specs.Wrong.{MemberWrong, is_above, is_behind, is_less, members_wrong}
 use Rattle.ja_cert_read.proofs.Below.{IsBelow, below_from_test, below_through}
-
--- ---- places
-
-pub neither : (a b : Option Path) → or_else a b ≡ None → (a ≡ None) × (b ≡ None)
-neither None b h = (refl, h)
-neither (Some path) b h = absurd (cc)
-
-pub not_at : (n : ℕ) (wrong : Option Path) → at n wrong ≡ None → wrong ≡ None
-not_at n None h = refl
-not_at n (Some path) h = absurd (cc)
+use Rattle.ja_cert_read.proofs.Orders.{members_parts}
 
 -- ---- the last of a list
 
@@ -26,7 +17,7 @@ place_behind : {X : Type 0} (xs : List X) (x : X) → slice_get (xs ++ x ∷ [])
 place_behind [] x = refl
 place_behind (y ∷ ys) x = place_behind ys x
 
-pub last_is : {X : Type 0} (xs : List X) (x : X)
+last_is : {X : Type 0} (xs : List X) (x : X)
     → slice_get (xs ++ x ∷ []) (length (xs ++ x ∷ []) - 1) ≡ Some x
 last_is xs x =
     let long : length (xs ++ x ∷ []) - 1 ≡ length xs = omega (arith, length-append xs (x ∷ [])) in
@@ -53,13 +44,11 @@ module _ {X : Type 0} (wrong : MemberWrong) (number : Data → List ℕ) (data_o
   behind : (bs : List Data) (x : X) → Holds x → (xs : List X)
       → members_wrong wrong (bs ++ data_of x ∷ []) (map data_of xs) ≡ None
       → AllByRecursion Holds xs × AllByRecursion (Precedes x) xs × Ascends Precedes xs
-  unfolding members_wrong
   behind bs x h [] none = (tt, tt, tt)
   behind bs x h (y ∷ ys) none =
       let seen : List Data = bs ++ data_of x ∷ [] in
-      let parts = neither (at (length seen) (wrong seen (data_of y)))
-      (members_wrong wrong (seen ++ data_of y ∷ []) (map data_of ys)) none in
-      let right = each seen y (not_at (length seen) (wrong seen (data_of y)) parts.0) in
+      let parts = members_parts wrong seen (data_of y) (map data_of ys) none in
+      let right = each seen y parts.0 in
       let later = behind seen y right.0 ys parts.1 in
       let first : Precedes x y = precedes bs x y h right.0 right.1 in (
         (right.0, later.0),
@@ -73,11 +62,9 @@ module _ {X : Type 0} (wrong : MemberWrong) (number : Data → List ℕ) (data_o
 
   pub right_members : (xs : List X) → members_wrong wrong [] (map data_of xs) ≡ None
       → AllByRecursion Holds xs × Ascends Precedes xs
-  unfolding members_wrong
   right_members [] none = (tt, tt)
   right_members (x ∷ xs) none =
-      let parts = neither (at 0 (wrong [] (data_of x)))
-      (members_wrong wrong (data_of x ∷ []) (map data_of xs)) none in
-      let right = each [] x (not_at 0 (wrong [] (data_of x)) parts.0) in
+      let parts = members_parts wrong [] (data_of x) (map data_of xs) none in
+      let right = each [] x parts.0 in
       let later = behind [] x right.0 xs parts.1 in
       ((right.0, later.0), (later.1, later.2))

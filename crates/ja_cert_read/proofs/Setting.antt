@@ -190,8 +190,8 @@ taking_more old before after l first now next x w are last label pushed is = rec
       ∙ (λ i. is i ∷ are.writes_are i);
 }
 
-pub taking_all : (old new : List PropertyAt) (last : PropertyAt) (first now : List Write) (w : Write)
-    → Taking old new last.label first now → first ≡ w ∷ [] → write_of w ≡ setting last
+pub taking_all : (old new : List PropertyAt) (last : PropertyAt) (first now : List Write)
+    (w : Write) → Taking old new last.label first now → first ≡ w ∷ [] → write_of w ≡ setting last
     → AreTaken (old ++ last ∷ []) new last.label (reverse now)
 taking_all old new last first now w are begins is =
     let split : old ++ last ∷ [] ≡ new ++ (are.taken ++ last ∷ []) =
@@ -233,8 +233,8 @@ masks_set xs pairs registers old new are set =
     ap (state_with registers) (set ∙ ap (with_masks_in old) are)
     ∙ (λ i. record (state_with registers old) { mask = λ s. (masks_are xs old.mask s) i })
 
-pub masks_within : (n : ℕ) (xs : List MaskAt) (pairs : List (Site × Mask)) → pairs ≡ map mask_pair xs
-    → AllByRecursion (λ (x : MaskAt). x.site.0 < n) xs
+pub masks_within : (n : ℕ) (xs : List MaskAt) (pairs : List (Site × Mask))
+    → pairs ≡ map mask_pair xs → AllByRecursion (λ (x : MaskAt). x.site.0 < n) xs
     → All (λ (m : Site × Mask). m.0.0 < n) pairs
 masks_within n xs pairs are all =
     let IsWithin : Site × Mask → Type 0 = λ m. m.0.0 < n in

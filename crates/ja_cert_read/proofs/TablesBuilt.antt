@@ -20,8 +20,8 @@ use Rattle.ja_rules.specs.declared.table.ContextTable.{ContextTable}
 use Rattle.ja_rules.specs.declared.table.NodeTable.{NodeTable}
 use Rattle.ja_rules.specs.Tables.{FitsContext, IsContext}
 use Rattle.ja_rules.specs.code.Growing.{no_nodes}
+use Rattle.ja_rules.proofs.Ascending.{Ascends}
 use Rattle.ja_report.specs.Lines.{entry_lines}
-use Rattle.ja_report.proofs.Ascending.{Ascends}
 use Rattle.ja_cert_read.specs.declared.contexts.ContextAt.{ContextAt}
 use Rattle.ja_cert_read.specs.declared.points.PointAt.{PointAt}
 use Rattle.ja_cert.specs.Certificate.{context_data, label_data, line_data, listed, points_data, state_data, whole}
@@ -285,7 +285,9 @@ pub table_fits_context : (p : Program) (x : ContextAt) (c : ContextTable) → c.
     → AreEntriesOfParts p x.entries.items c.entries → FitsContext p c
 table_fits_context p x c same is nodes entries = record {
   context = subst (IsContext p) (sym same) is;
-  nodes = c.nodes.ok.0 ∙ nodes.count ∙ ap (λ (y : Context). length (nodes_of p y.function)) (sym same);
+  nodes =
+      c.nodes.ok.0 ∙ nodes.count
+      ∙ ap (λ (y : Context). length (nodes_of p y.function)) (sym same);
   states =
       λ n s k. subst (λ (y : Context). IsStateOf p (registers_of p y.function) s) (sym same)
       (nodes.states n s k);

@@ -19,9 +19,9 @@ use Rattle.ja_rules.specs.declared.table.CallEdge.{CallEdge}
 use Rattle.ja_rules.specs.declared.table.ContextTable.{ContextTable}
 use Rattle.ja_rules.specs.Order.{AreContextsOrdered, AreEdgesOrdered}
 use Rattle.ja_rules.specs.Tables.{find_context, no_entries, states_in, table_of, FitsContext, FitsEdge}
-use Rattle.ja_report.proofs.Ascending.{ascends-map, Ascends}
-use Rattle.ja_report.proofs.ContextLemmas.{contexts_kept, find_kept, Comes}
-use Rattle.ja_report.proofs.EdgeLemmas.{edges_kept}
+use Rattle.ja_rules.proofs.Ascending.{ascends-map, Ascends}
+use Rattle.ja_rules.proofs.ListedContexts.{contexts_kept, find_kept, Comes}
+use Rattle.ja_rules.proofs.ListedEdges.{edges_kept}
 use Rattle.ja_cert_read.specs.declared.certificate.Certificate.{Certificate}
 use Rattle.ja_cert_read.specs.declared.contexts.ContextAt.{ContextAt}
 use Rattle.ja_cert_read.specs.declared.reading.Body.{Body}
@@ -78,7 +78,8 @@ contexts_written p t each ordered =
 
 contexts_of_data : (xs : List ContextAt) → Ascends ComesBefore xs
     → Ascends Comes (map (λ (x : ContextAt). x.context) xs)
-contexts_of_data xs a = ascends-map ComesBefore Comes (λ (x : ContextAt). x.context) (λ x y h. h) xs a
+contexts_of_data xs a =
+    ascends-map ComesBefore Comes (λ (x : ContextAt). x.context) (λ x y h. h) xs a
 
 pub table_fits : (p : Program) (h : Head) (b : Body) (t : ATable) → IsBodyOf p h b
     → AreTablesOf p b.contexts.items t.contexts.items → t.edges.items ≡ b.edges.items
@@ -139,7 +140,8 @@ unfolding wrong_of
 certificate_read bytes d h b c is early head program signatures late body built edges visits =
     let p = c.program in
     let fits = table_fits p h b c.table body built edges in
-    let written = written_whole p d h b c.table head body built edges fits signatures program.keeps in
+    let written = written_whole p d h b c.table head body built edges fits signatures
+    program.keeps in
     record {
       json = d;
       data_is = record { data_is = is; right = early };

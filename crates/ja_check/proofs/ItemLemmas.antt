@@ -1,11 +1,9 @@
 -- The items of a table that is kept are those of its table, in order: each is an item, and no
 -- other is.
-use Rattle.std.specs.Prelude.{◌≡◌, ◌≢◌, ◌<◌, ◌≤◌, ◌+◌, ◌++◌, ℕ, true, false, IsSome, IsTrue, List, [], ◌∷◌, Option, None, Some, is_some, length, map, take, drop, get_or, slice_get, All}
+use Rattle.std.specs.Prelude.{◌≡◌, ◌≢◌, ◌<◌, ◌≤◌, ◌+◌, ◌++◌, ℕ, IsSome, IsTrue, List, [], ◌∷◌, Some, is_some, length, map, take, drop, get_or, slice_get, All}
 use Rattle.std.specs.List.{flat_map, AllByRecursion}
-use Rattle.std.specs.Option.{option_map}
-use denote.Ref.{Bor}
 use Rattle.std.proofs.Common.{refl, sym, ap, ◌∙◌, subst, inl, inr, arith}
-use Rattle.std.proofs.lemmas.Bool.{cases_Bool, cond_both, cond-false, cond-true, false≢true}
+use Rattle.std.proofs.lemmas.Bool.{cases_Bool, cond_both, false≢true}
 use Rattle.std.proofs.lemmas.List.Elements.{All-from_recursion, recursion_from_All}
 use Rattle.std.proofs.lemmas.List.Folds.{flat_map-map}
 use Rattle.ja_base.specs.declared.ids.Context.{Context}
@@ -21,43 +19,21 @@ use Rattle.ja_rows.specs.declared.table.Item.{Item}
 use Rattle.ja_rows.specs.declared.table.Item.TheVariants.{Open, Step, Fill, Back}
 use Rattle.ja_rows.specs.Listed.{contexts_of, edges_of}
 use Rattle.ja_rows.specs.Table.{Table, node_numbers, same_edge, visited, HasOpening, IsClosed, IsItem}
-use Rattle.ja_astate.specs.declared.state.AState.{AState}
-use Rattle.ja_astate.specs.State.{state_of}
 use Rattle.ja_rules.specs.declared.table.ATable.{ATable}
 use Rattle.ja_rules.specs.declared.table.CallEdge.{CallEdge}
 use Rattle.ja_rules.specs.declared.table.ContextTable.{ContextTable}
-use Rattle.ja_rules.specs.declared.table.NodeTable.{NodeTable}
-use Rattle.ja_rules.specs.Tables.{kept_state, states_in, table_of, Fits}
+use Rattle.ja_rules.specs.Tables.{table_of, Fits}
 use Rattle.ja_rules.proofs.Found.{found_state, unreached_state}
 use Rattle.ja_rules.proofs.NodeFacts.{node_there}
-use Rattle.ja_rules.proofs.Rounds.{edge_there, same_edge-true}
+use Rattle.ja_rules.proofs.Places.{edges_order}
+use Rattle.ja_rules.proofs.Rounds.{edge_there}
 use Rattle.ja_rules.proofs.TableUpdates.{own_found}
-use Rattle.ja_report.proofs.Ascending.{first_kept, number_listed, of_member}
-use Rattle.ja_report.proofs.ContextLemmas.{contexts_listed, kept_is_reached, listed}
-use Rattle.ja_report.proofs.EdgeLemmas.{edges_listed}
+use Rattle.ja_rules.proofs.Ascending.{first_kept, flat_map_each, listed, number_listed, of_member}
+use Rattle.ja_rules.proofs.ListedContexts.{contexts_listed, kept_is_reached}
+use Rattle.ja_rules.proofs.ListedEdges.{edges_listed}
 use Rattle.ja_check.specs.Check.{items_of, step_at, steps_at, steps_of, IsFirstAmong}
 use Rattle.ja_check.specs.code.Checking.{steps_in}
-use Rattle.ja_check.proofs.Lists.{all_flat_map, flat_map_each, parted}
-
--- ---- one step
-
-kept_test : (nodes : List NodeTable) (n : ℕ) (r : Option (Bor AState))
-    → option_map (λ (s : Bor AState). s.now) r ≡ kept_state nodes n
-    → is_some (states_in nodes n) ≡ is_some r
-kept_test nodes n None lent = ap (λ o. is_some (option_map state_of o)) (sym lent)
-kept_test nodes n (Some a) lent = ap (λ o. is_some (option_map state_of o)) (sym lent)
-
-module _ (x : Context) (nodes : List NodeTable) (n : NodeId) (r : Option (Bor AState))
-    (lent : option_map (λ (s : Bor AState). s.now) r ≡ kept_state nodes n.0) where
-  pub step_listed : is_some r ≡ true → step_at x (states_in nodes) n.0 ≡ Step x n ∷ []
-  step_listed some =
-      cond-true (is_some (states_in nodes n.0)) (Step x n ∷ []) []
-      (kept_test nodes n.0 r lent ∙ some)
-
-  pub no_step : is_some r ≡ false → step_at x (states_in nodes) n.0 ≡ []
-  no_step none =
-      cond-false (is_some (states_in nodes n.0)) (Step x n ∷ []) []
-      (kept_test nodes n.0 r lent ∙ none)
+use Rattle.ja_check.proofs.Lists.{all_flat_map, parted}
 
 -- ---- the list
 
@@ -170,7 +146,7 @@ module _ (p : Program) (t : ATable) (fits : Fits p t) where
   along_is f e there =
       member-map f e (edges_of p (table_of t))
       (subst (Member e) (sym (edges_listed p t fits))
-      (listed (λ (d : CallEdge). d.edge) same_edge same_edge-true t.edges.items e there))
+      (listed (λ (d : CallEdge). d.edge) same_edge edges_order.exact t.edges.items e there))
 
   item_listed : (i : Item) → IsOne i → IsListed i
   item_listed Open h = inl refl

@@ -1,5 +1,5 @@
 -- Tests that tell facts, and lists by their elements.
-use Rattle.std.specs.Prelude.{◌≡◌, ◌↔◌, ◌<◌, ◌≤◌, ◌+◌, ◌&&◌, ℕ, suc, Bool, true, false, cond, IsTrue, List, [], ◌∷◌, ◌++◌, length, map, take, drop, find, get_or, Option, None, Some, is_some, slice_get}
+use Rattle.std.specs.Prelude.{◌≡◌, ◌↔◌, ◌<◌, ◌≤◌, ◌+◌, ◌&&◌, ℕ, suc, Bool, true, false, cond, IsTrue, List, [], ◌∷◌, ◌++◌, length, map, take, drop, find, get_or, Option, Some, is_some, slice_get}
 use Rattle.std.specs.List.{flat_map, list_any, range_with_len, AllByRecursion}
 use Rattle.std.specs.Option.{option_map}
 use Rattle.std.proofs.Common.{refl, sym, ap, ◌∙◌, inl, inr, arith, append-nil, append_assoc}
@@ -8,7 +8,6 @@ use Rattle.std.proofs.lemmas.List.{drop_more, length-map, take-append-drop, take
 use Rattle.std.proofs.lemmas.List.Concat.{flat_map-append}
 use Rattle.std.proofs.lemmas.Option.{same_Some}
 use Rattle.ja_base.proofs.Lists.{all_append, within_from_some}
-use Rattle.ja_base.proofs.Options.{none_not_some}
 use Rattle.ja_rules.proofs.NodeFacts.{one_more}
 
 -- ---- tests
@@ -41,15 +40,6 @@ module _ {X : Type 0} (o p : Option X) where
     (λ e. o_is ∙ ap Some (told.0 e) ∙ sym p_is),
     (λ same. told.1 (same_Some a b (sym o_is ∙ same ∙ p_is))),
   )
-
-  pub told_neither : o ≡ None → p ≡ None → IsTrue true ↔ (o ≡ p)
-  told_neither o_is p_is = told_some (o_is ∙ sym p_is)
-
-  pub told_first : (a : X) → o ≡ Some a → p ≡ None → IsTrue false ↔ (o ≡ p)
-  told_first a o_is p_is = told_none (λ same. none_not_some (sym p_is ∙ sym same ∙ o_is))
-
-  pub told_second : (b : X) → o ≡ None → p ≡ Some b → IsTrue false ↔ (o ≡ p)
-  told_second b o_is p_is = told_none (λ same. none_not_some (sym o_is ∙ same ∙ p_is))
 
 -- ---- one element after another
 
@@ -107,14 +97,6 @@ pub all_flat_map : {A B : Type 0} (Q : A → Type 0) (P : B → Type 0) (f : A �
 all_flat_map Q P f h [] all = tt
 all_flat_map Q P f h (x ∷ xs) all =
     all_append P (f x) (flat_map f xs) (h x all.0) (all_flat_map Q P f h xs all.1)
-
-pub flat_map_each : {A B : Type 0} (f g : A → List B) (xs : List A)
-    → AllByRecursion (λ x. f x ≡ g x) xs → flat_map f xs ≡ flat_map g xs
-flat_map_each f g [] all = refl
-flat_map_each f g (x ∷ xs) all =
-    let here = all.0 in
-    let rest = flat_map_each f g xs all.1 in
-    λ i. here i ++ rest i
 
 -- ---- lists that are listed behind a first one
 

@@ -23,8 +23,8 @@ use Rattle.ja_rules.proofs.Found.{found_entry, found_state}
 use Rattle.ja_rules.proofs.Rounds.{same_at}
 use Rattle.ja_rules.proofs.TableLemmas.{table_in}
 use Rattle.ja_rules.proofs.TableUpdates.{own_found}
-use Rattle.ja_report.proofs.ContextLemmas.{contexts_listed}
-use Rattle.ja_report.proofs.EdgeLemmas.{edges_listed}
+use Rattle.ja_rules.proofs.ListedContexts.{contexts_listed}
+use Rattle.ja_rules.proofs.ListedEdges.{edges_listed}
 use Rattle.ja_check.specs.Check.{FitsListed}
 use Rattle.ja_check.specs.code.Checking.{meaning_of, Meaning}
 use Rattle.ja_check.proofs.Lists.{any_mapped, found_mapped, maps_count, maps_same, told_both}
@@ -143,17 +143,6 @@ tables_told p t u fits listed contexts edges h k =
     fits_other same =
         fits_opened p u listed
         (subst (λ (v : Table). IsTrue (v.context root)) same (root_reached p t fits))
-
--- ---- one context
-
-pub meaning_told : (c d : ContextTable) → c.context ≡ d.context → (states entries : Bool)
-    → IsTrue states ↔ (states_in c.nodes.items ≡ states_in d.nodes.items)
-    → IsTrue entries ↔ (entries_of c.entries ≡ entries_of d.entries)
-    → IsTrue (states && entries) ↔ (meaning_of c ≡ meaning_of d)
-meaning_told c d is states entries h k =
-    told_both states entries h k
-    (λ s e i. record { context = is i; states = s i; entries = e i })
-    (ap (λ (m : Meaning). m.states)) (ap (λ (m : Meaning). m.entries))
 
 -- what two tables of a context have at each of their nodes
 pub nodes_same : (p : Program) (c d : ContextTable) → FitsContext p c → FitsContext p d

@@ -19,11 +19,14 @@ use Rattle.ja_astate.specs.declared.state.AState.{AState}
 use Rattle.ja_astate.specs.State.{state_of, HaveOneShape, IsStateOf}
 use Rattle.ja_rules.specs.declared.table.ATable.{ATable}
 use Rattle.ja_rules.specs.declared.table.ContextTable.{ContextTable}
-use Rattle.ja_rules.specs.Order.{below_context, AreContextsOrdered}
+use Rattle.ja_rules.specs.Order.{below_context, context_of, AreContextsOrdered}
 use Rattle.ja_rules.specs.Tables.{find_context, is_of, kept_state, table_of, Fits, FitsContext}
-use Rattle.ja_rules.proofs.ContextOrder.{never_both, ordered_at, place_found}
+use Rattle.ja_rules.proofs.ContextOrder.{place_found}
 use Rattle.ja_rules.proofs.Found.{found_context, found_kept, found_no_state, found_reached, missing_state, unreached_state}
 use Rattle.ja_rules.proofs.JoinedStates.{one_shape}
+use Rattle.ja_rules.proofs.KeyOrders.{one_way}
+use Rattle.ja_rules.proofs.Ordered.{ordered_at}
+use Rattle.ja_rules.proofs.Places.{contexts_order}
 use Rattle.ja_rules.proofs.Tables.{root_found}
 use Rattle.ja_rules.proofs.TableLemmas.{root_first}
 use Rattle.ja_check.specs.Check.{FitsListed}
@@ -47,9 +50,9 @@ module _ (p : Program) (t : ATable) where
   first_is_own ordered (suc place) c c_is is first first_is =
       let before : IsTrue (below_context first.context root) =
       subst (λ (x : Context). IsTrue (below_context first.context x)) is
-      (ordered_at t.contexts.items ordered 0 (suc place) first c (omega arith) first_is c_is) in
+      (ordered_at context_of contexts_order t.contexts.items ordered 0 (suc place) first c (omega arith) first_is c_is) in
       elim (cases_Bool (below_context root first.context)) [
-        | inl behind ↦ absurd (never_both first.context root before behind)
+        | inl behind ↦ absurd (one_way contexts_order first.context root before behind)
         | inr none ↦ root_first first.context none
       ]
 

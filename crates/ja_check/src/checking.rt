@@ -1,7 +1,7 @@
 ghost use Rattle.std.specs.Prelude.{◌≡◌, ◌↔◌, All, IfErr, IfOk, IsTrue, OnOk};
 ghost use Rattle.ja_graph.specs.WellFormed.{IsWellFormed};
 ghost use Rattle.ja_keys.specs.Keys.{IsKeysOf};
-ghost use Rattle.ja_rows.specs.Table.{root, visited, HasOpening, IsClosed, IsItem};
+ghost use Rattle.ja_rows.specs.Table.{visited, HasOpening, IsClosed, IsItem};
 ghost use Rattle.ja_rules.specs.Tables.{table_of, Fits};
 ghost use Rattle.ja_check.specs.Check.{Explains, FitsListed};
 ghost use Rattle.ja_check.specs.code.Checking.{StopsAt};
@@ -10,25 +10,12 @@ use crate::CheckFault;
 use crate::items::items_of;
 use crate::states::is_leq;
 use ja_astate::AState;
-use ja_base::{Context, FnId, Label, Memory, NodeId};
-use ja_graph::{GLOBAL, Program};
+use ja_base::{Memory, NodeId};
+use ja_graph::Program;
 use ja_keys::ProgramKeys;
 use ja_rows::Item;
-use ja_rules::{ATable, visit};
+use ja_rules::{ATable, own_context, visit};
 use std::alloc::Global;
-
-// The program's own context.
-fn own_context() -> Context
-    ensures { result ≡ root }
-{
-    Context {
-        function: FnId(0),
-        receiver: Label {
-            site: GLOBAL,
-            old: false,
-        },
-    }
-}
 
 // Whether a table has the state in which the program begins, or one above it, at the entry of the
 // program's own context.

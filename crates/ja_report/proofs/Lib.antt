@@ -1,4 +1,3 @@
-pub mod Ascending
 pub mod ContextLemmas
 pub mod EdgeLemmas
 pub mod EntryLemmas

@@ -8,9 +8,9 @@ use Rattle.ja_rows.specs.declared.table.Item.{Item}
 use Rattle.ja_rows.specs.declared.table.Warning.{Warning}
 use Rattle.ja_rules.specs.declared.table.ATable.{ATable}
 use Rattle.ja_rules.specs.Tables.{table_of, Fits}
+use Rattle.ja_rules.proofs.ListedContexts.{contexts_count}
 use Rattle.ja_report.specs.Lines.{line_text, table_lines}
 use Rattle.ja_report.specs.Report.{contexts_line, table_sites, report_head, report_text, visits_text}
-use Rattle.ja_report.proofs.ContextLemmas.{contexts_count}
 
 parts : (h c l v e : List ℕ) → (((h ++ c) ++ l) ++ v) ++ e ≡ h ++ (c ++ l) ++ v ++ e
 parts h c l v e = simp append_assoc

@@ -1,16 +1,15 @@
 -- The order of contexts, and their places in it.
 use Rattle.std.specs.Prelude.{◌≡◌, ◌⊎◌, ◌<◌, ◌≤◌, ◌+◌, ◌*◌, ◌==◌, ◌&&◌, ℕ, zero, suc, Bool, true, false, if◌then◌else◌, nat_lt, IsTrue, List, [], ◌∷◌, Some, drop, length, slice_get, take}
 use Rattle.std.specs.List.{list_any, AllByRecursion}
-use Rattle.std.proofs.Common.{refl, sym, subst, ap, inl, inr, arith}
-use Rattle.std.proofs.lemmas.Bool.{and_from, and_parts, cases_lt, eq-eqb, eqb-true, false≢true, lt-ltb, ltb-true, or_cases, or_left, or_right}
+use Rattle.std.proofs.Common.{refl, subst, ap, inl, inr, arith}
+use Rattle.std.proofs.lemmas.Bool.{and_parts, eqb-true, false≢true, ltb-true, or_cases}
 use Rattle.std.proofs.lemmas.Nat.{mul-add-lt}
 use Rattle.std.proofs.lemmas.Option.{same_Some}
 use Rattle.ja_base.specs.declared.ids.Context.{Context}
 use Rattle.ja_base.proofs.Options.{none_not_some}
 use Rattle.ja_graph.specs.declared.program.Program.{Program}
 use Rattle.ja_abstract.specs.AbstractState.{label_number}
-use Rattle.ja_rules.specs.declared.table.ContextTable.{ContextTable}
-use Rattle.ja_rules.specs.Order.{below_context, AreContextsOrdered}
+use Rattle.ja_rules.specs.Order.{below_context}
 use Rattle.ja_rules.specs.Tables.{IsContext}
 
 -- ---- the order
@@ -33,70 +32,6 @@ below_is x y h =
             eqb-true x.function.0 y.function.0 a,
             ltb-true (label_number x.receiver) (label_number y.receiver) b,
           )
-    ]
-
-below_from : (x y : Context) → IsBelow x y → IsTrue (below_context x y)
-below_from x y (inl h) =
-    or_left (nat_lt x.function.0 y.function.0) _ (lt-ltb x.function.0 y.function.0 h)
-below_from x y (inr h) =
-    or_right (nat_lt x.function.0 y.function.0) _
-    (and_from (x.function.0 == y.function.0) _ (eq-eqb x.function.0 y.function.0 h.0)
-    (lt-ltb (label_number x.receiver) (label_number y.receiver) h.1))
-
--- none is below one that is below it
-not_both : (x y : Context) → IsBelow x y → IsBelow y x → ⊥
-not_both x y (inl h) (inl k) = absurd (omega arith)
-not_both x y (inl h) (inr k) = let e = k.0 in absurd (omega (arith, e))
-not_both x y (inr h) (inl k) = let e = h.0 in absurd (omega (arith, e))
-not_both x y (inr h) (inr k) =
-    let a = h.1 in
-    let b = k.1 in
-    absurd (omega (arith, a, b))
-
-pub never_both : (x y : Context) → IsTrue (below_context x y) → IsTrue (below_context y x) → ⊥
-never_both x y h k = not_both x y (below_is x y h) (below_is y x k)
-
--- labels of one number are equal
-same_number : (s t : ℕ) (a b : Bool)
-    → 2 * s + (if a then 1 else 0) ≡ 2 * t + (if b then 1 else 0) → (s ≡ t) × (a ≡ b)
-same_number s t true true e = (omega (arith, e), refl)
-same_number s t true false e = absurd (omega (arith, e))
-same_number s t false true e = absurd (omega (arith, e))
-same_number s t false false e = (omega (arith, e), refl)
-
-same_place : (x y : Context) → x.function.0 ≡ y.function.0
-    → label_number x.receiver ≡ label_number y.receiver → x ≡ y
-same_place x y f r =
-    let (s, o) = same_number x.receiver.site.0 y.receiver.site.0 x.receiver.old y.receiver.old r in
-    λ i. record {
-      function = record { 0 = f i };
-      receiver = record { site = record { 0 = s i }; old = o i };
-    }
-
--- of two contexts one is below the other, or they are the same
-pub record Compared (x y : Context) : Type 0 where
-  pub way : IsTrue (below_context x y) ⊎ ((x ≡ y) ⊎ IsTrue (below_context y x))
-
-by_receiver : (x y : Context) → x.function.0 ≡ y.function.0 → Compared x y
-by_receiver x y f =
-    let m = label_number x.receiver in
-    let n = label_number y.receiver in
-    elim (cases_lt m n) [
-      | inl less ↦ record { way = inl (below_from x y (inr (f, less))) }
-      | inr more ↦ elim (cases_lt n m) [
-        | inl behind ↦ record { way = inr (inr (below_from y x (inr (sym f, behind)))) }
-        | inr no_more ↦ record { way = inr (inl (same_place x y f (omega (arith, more, no_more)))) }
-      ]
-    ]
-
-pub compared : (x y : Context) → Compared x y
-compared x y =
-    elim (cases_lt x.function.0 y.function.0) [
-      | inl less ↦ record { way = inl (below_from x y (inl less)) }
-      | inr more ↦ elim (cases_lt y.function.0 x.function.0) [
-        | inl behind ↦ record { way = inr (inr (below_from y x (inl behind))) }
-        | inr no_more ↦ by_receiver x y (omega (arith, more, no_more))
-      ]
     ]
 
 -- ---- their numbers
@@ -180,16 +115,3 @@ place_found test (x ∷ xs) h =
             passes = rest.passes;
           }
     ]
-
-pub ordered_at : (cs : List ContextTable) → AreContextsOrdered cs → (i j : ℕ)
-    (c d : ContextTable) → i < j → slice_get cs i ≡ Some c → slice_get cs j ≡ Some d
-    → IsTrue (below_context c.context d.context)
-ordered_at [] o i j c d h ci dj = absurd (none_not_some ci)
-ordered_at (b ∷ bs) o i zero c d h ci dj = absurd (omega arith)
-ordered_at (b ∷ bs) o zero (suc j) c d h ci dj =
-    subst (λ (e : ContextTable). IsTrue (below_context e.context d.context))
-    (same_Some b c ci)
-    (all_dropped (λ (e : ContextTable). IsTrue (below_context b.context e.context)) 0 bs o.0 j d
-    (omega arith) dj)
-ordered_at (b ∷ bs) o (suc i) (suc j) c d h ci dj =
-    ordered_at bs o.1 i j c d (omega arith) ci dj

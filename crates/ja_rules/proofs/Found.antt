@@ -1,9 +1,8 @@
 -- A context of a table that is found: what the table has there, and that it fits the program.
-use Rattle.std.specs.Prelude.{◌≡◌, ℕ, Bool, true, false, List, [], ◌∷◌, Option, None, Some, IsTrue, find}
-use Rattle.std.specs.List.{list_any}
+use Rattle.std.specs.Prelude.{◌≡◌, ℕ, Bool, true, false, List, [], ◌∷◌, Option, None, Some, IsTrue, find, is_some}
 use Rattle.std.specs.Option.{option_map, option_map_or, option_and_then}
 use Rattle.std.proofs.Common.{refl, sym, subst, ap, ◌∙◌}
-use Rattle.std.proofs.lemmas.Bool.{false≢true, or_parts}
+use Rattle.std.proofs.lemmas.Bool.{false≢true}
 use denote.Ref.{Bor}
 use Rattle.std.proofs.lemmas.List.Elements.{recursion_from_All}
 use Rattle.std.proofs.lemmas.Option.{same_Some}
@@ -20,6 +19,7 @@ use Rattle.ja_rules.specs.declared.table.ContextTable.{ContextTable}
 use Rattle.ja_rules.specs.declared.table.NodeTable.{NodeTable}
 use Rattle.ja_rules.specs.Order.{AreContextsOrdered}
 use Rattle.ja_rules.specs.Tables.{find_context, is_of, kept_state, no_entries, states_in, table_of, Fits, FitsContext}
+use Rattle.ja_rules.proofs.Ordered.{any_found, none_from_any}
 
 -- ---- in a list
 
@@ -31,17 +31,6 @@ found_passes test (y ∷ ys) x is =
     elim (test y) as (λ b. test y ≡ b → find test (y ∷ ys) ≡ Some x → test x ≡ true) [
       | true ↦ (λ e f. subst (λ z. test z ≡ true) (same_Some y x (rw e at f)) e)
       | false ↦ (λ e f. found_passes test ys x (rw e at f))
-    ] refl is
-
--- .. and so some element does
-found_some : {X : Type 0} (test : X → Bool) (xs : List X) (x : X) → find test xs ≡ Some x
-    → IsTrue (list_any test xs)
-found_some test [] x is = absurd (none_not_some is)
-found_some test (y ∷ ys) x is =
-    elim (test y) as (λ b. test y ≡ b → find test (y ∷ ys) ≡ Some x
-    → IsTrue (list_any test (y ∷ ys))) [
-      | true ↦ (λ e f. rw e refl)
-      | false ↦ (λ e f. rw e (found_some test ys x (rw e at f)))
     ] refl is
 
 -- ---- in a table
@@ -56,7 +45,7 @@ module _ (t : ATable) (x : Context) (c : ContextTable)
       ap (λ o. option_map_or (λ (d : ContextTable). entries_of d.entries) o no_entries) is
 
   pub found_reached : IsTrue ((table_of t).context x)
-  found_reached = found_some (is_of x) t.contexts.items c is
+  found_reached = any_found (is_of x) t.contexts.items ∙ ap is_some is
 
   pub found_context : c.context ≡ x
   found_context =
@@ -83,32 +72,15 @@ missing_state t x n none =
     ap (option_and_then (λ (d : ContextTable). states_in d.nodes.items n)) none
 
 -- .. and isn't reached
-missing : {X : Type 0} (test : X → Bool) (xs : List X) → find test xs ≡ None
-    → list_any test xs ≡ false
-missing test [] none = refl
-missing test (y ∷ ys) none =
-    elim (test y) as (λ b. test y ≡ b → find test (y ∷ ys) ≡ None
-    → list_any test (y ∷ ys) ≡ false) [
-      | true ↦ (λ e f. absurd (none_not_some (sym (rw e at f))))
-      | false ↦ (λ e f. rw e (missing test ys (rw e at f)))
-    ] refl none
-
 pub missing_context : (t : ATable) (x : Context) → find_context x t.contexts.items ≡ None
     → (table_of t).context x ≡ false
-missing_context t x none = missing (is_of x) t.contexts.items none
+missing_context t x none = any_found (is_of x) t.contexts.items ∙ ap is_some none
 
 -- a context that isn't reached has no state
-unfound : {X : Type 0} (test : X → Bool) (xs : List X) → list_any test xs ≡ false
-    → find test xs ≡ None
-unfound test [] h = refl
-unfound test (y ∷ ys) h =
-    let (here, rest) = or_parts (test y) (list_any test ys) h in
-    rw here (unfound test ys rest)
-
 pub unreached_state : (t : ATable) (x : Context) (n : ℕ) → (table_of t).context x ≡ false
     → (table_of t).state x n ≡ None
 unreached_state t x n apart =
-    missing_state t x n (unfound (is_of x) t.contexts.items apart)
+    missing_state t x n (none_from_any (is_of x) t.contexts.items apart)
 
 -- ---- what is lent
 

@@ -1,7 +1,7 @@
 -- Strict orders of keys, with the test by which two keys are the same.
-use Rattle.std.specs.Prelude.{◌≡◌, ◌<◌, ◌==◌, ℕ, Bool, true, false, ◌&&◌, ◌||◌, nat_lt}
-use Rattle.std.proofs.Common.{refl, sym, subst, inl, inr, arith}
-use Rattle.std.proofs.lemmas.Bool.{true≢false, and_parts, and_from, and_right, or_cases, or_parts, or_from, or_left, or_right, ltb-true, ltb-false, lt-ltb, le-ltb, eqb-true, eq-eqb}
+use Rattle.std.specs.Prelude.{◌≡◌, ◌⊎◌, ◌<◌, ◌==◌, ℕ, Bool, true, false, ◌&&◌, ◌||◌, nat_lt}
+use Rattle.std.proofs.Common.{refl, sym, ◌∙◌, ap, subst, inl, inr, arith}
+use Rattle.std.proofs.lemmas.Bool.{cases_Bool, true≢false, false_from_ne_true, true_from_ne_false, and_parts, and_from, and_right, or_cases, or_parts, or_from, or_left, or_right, ltb-true, ltb-false, lt-ltb, le-ltb, eqb-true, eq-eqb}
 
 -- below: a strict order of keys, any two of which are in order or the same
 pub record IsKeyOrder {K : Type 0} (below same : K → K → Bool) : Type 0 where
@@ -10,6 +10,37 @@ pub record IsKeyOrder {K : Type 0} (below same : K → K → Bool) : Type 0 wher
   pub apart : (x : K) → below x x ≡ false
   pub behind : (x y z : K) → below x y ≡ true → below y z ≡ true → below x z ≡ true
   pub either : (x y : K) → below x y ≡ false → below y x ≡ false → same x y ≡ true
+
+module _ {K : Type 0} {below same : K → K → Bool} (o : IsKeyOrder below same) where
+  -- none is below one that is below it
+  pub one_way : (x y : K) → below x y ≡ true → below y x ≡ true → ⊥
+  one_way x y h k = true≢false (sym (o.behind x y x h k) ∙ o.apart x)
+
+  -- one that is below another or above it is another
+  pub below_other : (x y : K) → below x y ≡ true → same x y ≡ false
+  below_other x y h =
+      false_from_ne_true _ (λ s. true≢false (sym h ∙ ap (λ z. below z y) (o.exact x y s)
+      ∙ o.apart y))
+
+  pub above_other : (x y : K) → below y x ≡ true → same x y ≡ false
+  above_other x y h =
+      false_from_ne_true _ (λ s. true≢false (sym h ∙ ap (λ z. below y z) (o.exact x y s)
+      ∙ o.apart y))
+
+  pub above_from : (x y : K) → below y x ≡ false → same y x ≡ false → below x y ≡ true
+  above_from x y b s =
+      true_from_ne_false _ (λ f. true≢false (sym (o.either y x b f) ∙ s))
+
+  -- of two keys one is below the other, or they are the same
+  pub compared : (x y : K) → (below x y ≡ true) ⊎ ((x ≡ y) ⊎ (below y x ≡ true))
+  compared x y =
+      elim (cases_Bool (below x y)) [
+        | inl t ↦ inl t
+        | inr f ↦ elim (cases_Bool (below y x)) [
+          | inl t ↦ inr (inr t)
+          | inr g ↦ inr (inl (o.exact x y (o.either x y f g)))
+        ]
+      ]
 
 -- numbers, and keys by their numbers
 pub numbers_order : IsKeyOrder nat_lt ◌==◌

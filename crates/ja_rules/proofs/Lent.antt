@@ -31,32 +31,32 @@ use Rattle.ja_aheap.specs.Objects.{demands_in}
 use Rattle.ja_astate.specs.declared.state.AState.{AState}
 use Rattle.ja_astate.specs.State.{state_of, HaveOneShape, IsStateOf}
 use Rattle.ja_look.specs.declared.reader.Reader.{Reader}
-use Rattle.ja_look.specs.Looks.{view_of}
+use Rattle.ja_flow.specs.Flow.{caller_view, IsCallerAt}
 use Rattle.ja_flow.specs.code.Pairs.{filled, with_set}
-use Rattle.ja_flow.specs.declared.caller.Caller.{Caller}
 use Rattle.ja_flow.specs.declared.filling.Filled.{Filled}
 use Rattle.ja_rules.specs.declared.table.ATable.{ATable}
 use Rattle.ja_rules.specs.declared.table.CallEdge.{CallEdge}
 use Rattle.ja_rules.specs.declared.table.ContextTable.{ContextTable}
 use Rattle.ja_rules.specs.declared.table.NodeTable.{NodeTable}
+use Rattle.ja_rules.specs.declared.visits.Ends.{Ends}
 use Rattle.ja_rules.specs.declared.visits.Given.{Given}
-use Rattle.ja_flow.specs.Flow.{IsCallerAt}
 use Rattle.ja_rules.specs.Tables.{find_context, kept_state, no_entries, table_of, Fits, FitsEdge}
+use Rattle.ja_rules.specs.code.Ends.{caller_state, AreEnds}
 use Rattle.ja_rules.specs.code.Exits.{has_left, AreAllGiven, IsGivenBack}
-use Rattle.ja_rules.specs.code.Filling.{IsCallingAt, IsFilled}
+use Rattle.ja_rules.specs.code.Filling.{IsFilled}
 use Rattle.ja_rules.proofs.ContextOrder.{place_found}
 use Rattle.ja_rules.proofs.Found.{found_context, found_entry, found_fits, found_kept, found_no_state, found_state, missing_state}
 use Rattle.ja_rules.proofs.NodeFacts.{given_fit, given_nodes, leads, node_there}
 use Rattle.ja_rules.proofs.Tables.{root_found}
 use Rattle.ja_rules.proofs.Targets.{exits_below, AreBelow, LeadsBelow}
-use Rattle.ja_rules.proofs.Rounds.{same_edge-true}
+use Rattle.ja_rules.proofs.Places.{edges_order}
 
 -- an edge of a table that fits the program does so
 pub edge_fits : (p : Program) (t : ATable) (e : Edge) → Fits p t → IsTrue ((table_of t).edge e)
     → FitsEdge p t e
 edge_fits p t e fits there =
     let at = place_found (λ (d : CallEdge). same_edge d.edge e) t.edges.items there in
-    subst (FitsEdge p t) (same_edge-true at.element.edge e at.passes)
+    subst (FitsEdge p t) (edges_order.exact at.element.edge e at.passes)
     (all_at (λ (d : CallEdge). FitsEdge p t d.edge) t.edges.items at.place at.element
     (recursion_from_All (λ (d : CallEdge). FitsEdge p t d.edge) t.edges.items fits.edges)
     at.element_is)
@@ -67,15 +67,65 @@ swapped true false = refl
 swapped false true = refl
 swapped false false = refl
 
-module _ (p : Program) (t : ATable) (e : Edge) (own callee : ContextTable)
-    (own_is : find_context e.caller t.contexts.items ≡ Some own)
-    (callee_is : find_context e.callee t.contexts.items ≡ Some callee) where
+-- a state that is kept is one of the program and of its function
+pub kept_fits : (p : Program) (t : ATable) (x : Context) (own : ContextTable)
+    → find_context x t.contexts.items ≡ Some own → Fits p t → (n : ℕ) (a : AState)
+    → kept_state own.nodes.items n ≡ Some a → IsStateOf p (registers_of p x.function) a
+kept_fits p t x own is fits n a kept =
+    subst (λ (y : Context). IsStateOf p (registers_of p y.function) a)
+    (found_context t x own is) ((found_fits t x own is p fits).states n a kept)
+
+-- the ends of an edge, from what is found of them
+pub are_ends : (p : Program) → IsWellFormed p → (t : ATable) (e : Edge) → Fits p t
+    → (own : ContextTable) → find_context e.caller t.contexts.items ≡ Some own → (r : Reader)
+    → (info : Bor NodeInfo) (callee : Bor ContextTable)
+    → find_context e.callee t.contexts.items ≡ Some callee.now → r.program.now ≡ p
+    → r.entries.now ≡ own.entries → kept_state own.nodes.items e.node.0 ≡ Some r.state.now
+    → node_at p e.caller.function e.node ≡ Some info.now
+    → AreEnds p t e (record {
+      caller = record { reader = r; info = info; edge = e };
+      callee = callee;
+    })
+are_ends p good t e fits own own_is r info callee callee_is program_is entries_are kept info_is =
+    record {
+      caller = subst (λ (q : Program). IsCallerAt q info.now r.state.now e) (sym program_is)
+          (record {
+            at_node = record { well_formed = good; node_is = info_is; state_is = of };
+            callee = subst (λ (y : Context). y.function.0 < length p.functions)
+                (found_context t e.callee callee.now callee_is)
+                (found_fits t e.callee callee.now callee_is p fits).context.function;
+          });
+      program_is = program_is;
+      edge_is = refl;
+      view_is = λ j. record {
+        program = program_is j;
+        state = state_of r.state.now;
+        entries = (ap entries_of entries_are ∙ sym (found_entry t e.caller own own_is)) j;
+      };
+      calling = record {
+        info_is = info_is;
+        state_is = found_kept t e.caller own own_is e.node.0 r.state.now kept;
+      };
+      fits = of;
+      callee_is = callee_is;
+    }
+  where
+    of : IsStateOf p (registers_of p e.caller.function) r.state.now
+    of = kept_fits p t e.caller own own_is fits e.node.0 r.state.now kept
+
+module _ (p : Program) (t : ATable) (e : Edge) (ends : Ends) (h : AreEnds p t e ends) where
+  abbrev callee : ContextTable
+  callee = ends.callee.now
+
+  abbrev info : NodeInfo
+  info = ends.caller.info.now
+
   -- an exit with a state, as it is kept
   pub left_is : has_left p callee
       ≡ list_any (has_exit p (table_of t) e.callee) (node_numbers p e.callee.function)
   left_is =
-      let context_is = found_context t e.callee callee callee_is in
-      let states_are = λ (n : ℕ). sym (found_state t e.callee callee callee_is n) in
+      let context_is = found_context t e.callee callee h.callee_is in
+      let states_are = λ (n : ℕ). sym (found_state t e.callee callee h.callee_is n) in
       (λ j. list_any (λ n. option_map_or (λ (i : NodeInfo). is_exit i.node)
       (node_at p (context_is j).function (record { 0 = n })) false
       && is_some (states_are n j))
@@ -84,69 +134,44 @@ module _ (p : Program) (t : ATable) (e : Edge) (own callee : ContextTable)
       (node_at p e.callee.function (record { 0 = n })) false)
       (is_some ((table_of t).state e.callee n)) j) (node_numbers p e.callee.function))
 
-  module _ (r : Reader) (i : NodeInfo) (a : AState) (program_is : r.program.now ≡ p)
-      (state_is : r.state.now ≡ a) (entries_are : r.entries.now ≡ own.entries)
-      (calling : IsCallingAt p (table_of t) e i (state_of a)) where
-    view_is : view_of r ≡ view_at p (table_of t) e.caller (state_of a)
-    view_is =
-        let same = ap entries_of entries_are ∙ sym (found_entry t e.caller own own_is) in
-        λ j. record { program = program_is j; state = state_of (state_is j); entries = same j }
+  -- what fills the callee's entry
+  abbrev IsFilledBy : Filled → Entries × View × Edge → Type 0
+  IsFilledBy f q =
+      (with_set q.0 f.values.items ≡ filled q.0 (filled_with q.1 q.2 info.node))
+      × (f.values.items ≢ [] → filled q.0 (filled_with q.1 q.2 info.node) ≢ q.0)
+      × (demands_in f.demands ≡ demands_of_fill q.1 q.2 info.node q.0)
 
-    -- what fills the callee's entry
-    pub filled_is : (f : Filled)
-        → with_set (entries_of callee.entries) f.values.items
-        ≡ filled (entries_of callee.entries) (filled_with (view_of r) e i.node)
-        → (f.values.items ≢ [] → filled (entries_of callee.entries)
-        (filled_with (view_of r) e i.node) ≢ entries_of callee.entries)
-        → demands_in f.demands ≡ demands_of_fill (view_of r) e i.node (entries_of callee.entries)
-        → IsFilled p (table_of t) e (Some f)
-    filled_is f set changed demands =
-        let entry_is = sym (found_entry t e.callee callee callee_is) in (
-          i,
-          state_of a,
-          calling,
-          subst (λ (w : View). with_set ((table_of t).entry e.callee) f.values.items
-              ≡ filled ((table_of t).entry e.callee) (filled_with w e i.node)) view_is
-              (subst (λ (en : Entries). with_set en f.values.items
-              ≡ filled en (filled_with (view_of r) e i.node)) entry_is set),
-          subst (λ (w : View). f.values.items ≢ [] → filled ((table_of t).entry e.callee)
-              (filled_with w e i.node) ≢ (table_of t).entry e.callee) view_is
-              (subst (λ (en : Entries). f.values.items ≢ [] → filled en
-              (filled_with (view_of r) e i.node) ≢ en) entry_is changed),
-          subst (λ (w : View). demands_in f.demands
-              ≡ demands_of_fill w e i.node ((table_of t).entry e.callee)) view_is
-              (subst (λ (en : Entries). demands_in f.demands
-              ≡ demands_of_fill (view_of r) e i.node en) entry_is demands),
-        )
+  pub filled_is : (f : Filled)
+      → IsFilledBy f (entries_of callee.entries, caller_view ends.caller, ends.caller.edge)
+      → IsFilled p (table_of t) e (Some f)
+  filled_is f by =
+      let entry_is = sym (found_entry t e.callee callee h.callee_is) in
+      let there = subst (IsFilledBy f) (λ j. (entry_is j, h.view_is j, h.edge_is j)) by in
+      (info, state_of (caller_state ends), h.calling, there.0, there.1, there.2)
 
-    -- what its exits give back
-    pub given_is : (c : Caller) → c.reader ≡ r → c.info.now ≡ i → c.edge ≡ e → (g : Given)
-        → IsStateOf p (registers_of p e.caller.function) a → AreAllGiven c callee g
-        → list_any (has_exit p (table_of t) e.callee) (node_numbers p e.callee.function) ≡ true
-        → IsGivenBack p (table_of t) e (Some g)
-    given_is c reader_is info_is edge_is g fits all left =
-        let context_is = found_context t e.callee callee callee_is in
-        let program_of = ap (λ (x : Reader). x.program.now) reader_is ∙ program_is in
-        let view_of_caller = ap view_of reader_is ∙ view_is in
-        let states_are = λ (n : ℕ). sym (found_state t e.callee callee callee_is n) in (
-          i,
-          state_of a,
-          calling,
-          left,
-          all.states ∙ (λ j. flat_map (λ n. option_map_or (λ (x : AbstractState).
-              option_map_or (λ (at : NodeInfo). given_back (view_of_caller j) (edge_is j)
-              (info_is j) x at.node)
-              (node_at (program_of j) (context_is j).function (record { 0 = n })) [])
-              (states_are n j) [])
-              (node_numbers (program_of j) (context_is j).function)),
-          all.demands_are ∙ (λ j. demands_of_calling (view_of_caller j) (info_is j).node
-              (edge_is j).callee.function.0),
-          given_fit p (registers_of p e.caller.function) a g.states.list.items fits
-              (subst (λ (b : AState). AllByRecursion (λ (s : NodeId × AState). HaveOneShape b s.1)
-              g.states.list.items) (ap (λ (x : Reader). x.state.now) reader_is ∙ state_is)
-              (recursion_from_All (λ (s : NodeId × AState). HaveOneShape c.reader.state.now s.1)
-              g.states.list.items all.fit)),
-        )
+  -- what its exits give back
+  pub given_is : (g : Given) → AreAllGiven ends.caller callee g
+      → list_any (has_exit p (table_of t) e.callee) (node_numbers p e.callee.function) ≡ true
+      → IsGivenBack p (table_of t) e (Some g)
+  given_is g all left =
+      let context_is = found_context t e.callee callee h.callee_is in
+      let states_are = λ (n : ℕ). sym (found_state t e.callee callee h.callee_is n) in (
+        info,
+        state_of (caller_state ends),
+        h.calling,
+        left,
+        all.states ∙ (λ j. flat_map (λ n. option_map_or (λ (x : AbstractState).
+            option_map_or (λ (at : NodeInfo). given_back (h.view_is j) (h.edge_is j) info x at.node)
+            (node_at (h.program_is j) (context_is j).function (record { 0 = n })) [])
+            (states_are n j) [])
+            (node_numbers (h.program_is j) (context_is j).function)),
+        all.demands_are ∙ (λ j. demands_of_calling (h.view_is j) info.node
+            (h.edge_is j).callee.function.0),
+        given_fit p (registers_of p e.caller.function) (caller_state ends) g.states.list.items
+            h.fits (recursion_from_All
+            (λ (s : NodeId × AState). HaveOneShape (caller_state ends) s.1)
+            g.states.list.items all.fit),
+      )
 
 -- the values at the entry of a context are of the program
 pub entry_pairs : (p : Program) (t : ATable) (x : Context) → Fits p t → (l : Label) (k : Key)
@@ -188,30 +213,6 @@ back_nodes p good t e g h =
         (flat_map (exit_at p t e w h.0) ns)
         (one w count h.0 below (t.state e.callee n)
         (node_at p e.callee.function (record { 0 = n }))) (all w count below ns)
-
--- a state that is kept is one of the program and of its function
-pub kept_fits : (p : Program) (t : ATable) (x : Context) (own : ContextTable)
-    → find_context x t.contexts.items ≡ Some own → Fits p t → (n : ℕ) (a : AState)
-    → kept_state own.nodes.items n ≡ Some a → IsStateOf p (registers_of p x.function) a
-kept_fits p t x own is fits n a kept =
-    subst (λ (y : Context). IsStateOf p (registers_of p y.function) a)
-    (found_context t x own is) ((found_fits t x own is p fits).states n a kept)
-
--- the reader of the caller's state is at the edge's node
-pub edge_caller : (p : Program) → IsWellFormed p → (t : ATable) (e : Edge)
-    (callee : ContextTable) → find_context e.callee t.contexts.items ≡ Some callee → Fits p t
-    → (r : Reader) (i : NodeInfo) (a : AState) → r.program.now ≡ p → r.state.now ≡ a
-    → node_at p e.caller.function e.node ≡ Some i
-    → IsStateOf p (registers_of p e.caller.function) a
-    → IsCallerAt r.program.now i r.state.now e
-edge_caller p good t e callee callee_is fits r i a program_is state_is info_is of =
-    subst (λ (q : Program). IsCallerAt q i r.state.now e) (sym program_is)
-    (subst (λ (s : AState). IsCallerAt p i s e) (sym state_is) (record {
-      at_node = record { well_formed = good; node_is = info_is; state_is = of };
-      callee = subst (λ (y : Context). y.function.0 < length p.functions)
-          (found_context t e.callee callee callee_is)
-          (found_fits t e.callee callee callee_is p fits).context.function;
-    }))
 
 -- where the caller has no state at the node, nothing is given back
 pub nothing_kept : (p : Program) (t : Table) (e : Edge) → t.state e.caller e.node.0 ≡ None

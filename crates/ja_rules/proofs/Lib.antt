@@ -1,4 +1,5 @@
 pub mod Applied
+pub mod Ascending
 pub mod ContextOrder
 pub mod Demands
 pub mod DemandsInProgram
@@ -10,6 +11,8 @@ pub mod Grows
 pub mod JoinedStates
 pub mod KeyOrders
 pub mod Lent
+pub mod ListedContexts
+pub mod ListedEdges
 pub mod NodeFacts
 pub mod NodeRegisters
 pub mod Opened

@@ -22,6 +22,7 @@ use Rattle.ja_abstract.specs.Reading.{View}
 use Rattle.ja_astate.specs.declared.state.AState.{AState}
 use Rattle.ja_astate.specs.State.{HaveOneShape, IsStateOf}
 use Rattle.ja_transfer.specs.Outcomes.{given_by}
+use Rattle.ja_rules.proofs.JoinedStates.{of_shape}
 use Rattle.ja_rules.proofs.Targets.{AreBelow, LeadsBelow}
 
 -- ---- nodes
@@ -95,14 +96,6 @@ few_nodes p good f = by (slice_get p.functions f.0) refl
     by (Some fn) e = omega (arith, counted p.functions f.0 fn e, good.few_nodes)
 
 -- ---- states at nodes
-
--- a state of the shape of another is of its program and function
-pub of_shape : (p : Program) (count : ℕ) (a b : AState) → HaveOneShape a b → IsStateOf p count a
-    → IsStateOf p count b
-of_shape p count a b s h = record {
-  heap = record { sites = sym s.sites ∙ h.heap.sites; names = sym s.names ∙ h.heap.names };
-  registers = sym s.registers ∙ h.registers;
-}
 
 pub given_fit : (p : Program) (count : ℕ) (a : AState) (given : List (NodeId × AState))
     → IsStateOf p count a → AllByRecursion (λ (s : NodeId × AState). HaveOneShape a s.1) given

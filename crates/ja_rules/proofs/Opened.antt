@@ -7,7 +7,6 @@ use Rattle.std.proofs.lemmas.Bool.{cases_Bool, false≢true, true≢false, eqb-t
 use Rattle.ja_base.specs.declared.ids.Label.{Label}
 use Rattle.ja_base.specs.declared.ids.NameId.{NameId}
 use Rattle.ja_base.specs.declared.ids.Site.{Site}
-use Rattle.ja_base.proofs.Options.{some_value}
 use Rattle.ja_base.proofs.Lists.{element_within}
 use Rattle.ja_prim.specs.declared.primitive.Primitive.{Primitive}
 use Rattle.ja_graph.specs.declared.program.ObjectSpec.{ObjectSpec}
@@ -170,10 +169,6 @@ module _ (p : Program) (good : IsWellFormed p) where
       ap (λ r. of_content (opening_heap p) (option_map_or
       (λ (q : Object). object_content q (internal s)) r missing)) at ∙ slot_content i o w s
 
-  -- an old label has nothing
-  pub opened_old : (l : Label) (k : Key) → l.old ≡ true → opened p l k ≡ no_property
-  opened_old l k h = cond-true l.old no_property (opened_at p k (first_of l.site)) h
-
   -- a new one has what the object of its site has
   pub opened_some : (l : Label) (k : Key) (o : ObjectSpec) → l.old ≡ false
       → object_spec p l.site.0 ≡ Some o → IsTrue (is_key p k) → opened p l k ≡ opened_property o k
@@ -202,15 +197,4 @@ module _ (p : Program) (good : IsWellFormed p) where
         | inr none ↦ ap (λ r. option_map_or (λ (q : Object).
             of_content (opening_heap p) (key_content p (first_of l.site) k)) r no_property)
             (none_is _ none)
-      ]
-
-  -- a label out of range has nothing
-  pub opened_far : (l : Label) (k : Key) → length p.sites ≤ l.site.0 → opened p l k ≡ no_property
-  opened_far l k far =
-      elim (cases_Bool l.old) [
-        | inl o ↦ opened_old l k o
-        | inr n ↦ opened_none l k n (none_is _
-            (false_from_ne_true _ (λ there. let (o, e) = some_value (object_spec p l.site.0)
-            there in let (i, w, fits) = spec_fits p good l.site.0 o e in
-            let sites : length p.opening ≤ length p.sites = good.sites in absurd (omega arith))))
       ]

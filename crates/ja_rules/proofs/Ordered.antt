@@ -1,16 +1,20 @@
 -- Lists in the order of their keys: the place of a key, an element more, and another one of its key.
-use Rattle.std.specs.Prelude.{◌≡◌, ◌<◌, ◌≤◌, ℕ, zero, suc, ◌+◌, Bool, true, false, not, ◌||◌, cond, if◌then◌else◌, List, [], ◌∷◌, ◌++◌, length, map, take, drop, set, get_or, Option, Some, None, is_some, slice_get, find, insert, IsTrue}
+use Rattle.std.specs.Prelude.{◌≡◌, ◌<◌, ◌≤◌, ℕ, zero, suc, ◌+◌, Bool, true, false, not, ◌||◌, cond, if◌then◌else◌, List, [], ◌∷◌, length, map, take, drop, set, get_or, Option, Some, None, is_some, slice_get, find, insert, IsTrue}
 use Rattle.std.specs.List.{AllByRecursion, AllWithin, list_any}
-use Rattle.std.specs.List.Sorted.{IsPartitionedBy}
+use Rattle.std.specs.List.Sorted.{IsPartitionedBy, IsPartitionPoint}
 use Rattle.std.specs.Option.{IfSome, option_and_then, option_or}
 use Rattle.std.proofs.Common.{refl, sym, ◌∙◌, ap, subst, inl, inr, arith}
-use Rattle.std.proofs.lemmas.Bool.{cases_Bool, cases_lt, true≢false, false_from_ne_true, true_from_ne_false, not-true, or_parts, cond-true, cond-false}
+use Rattle.std.proofs.lemmas.Bool.{cases_Bool, cases_lt, true≢false, false_from_ne_true, not-true, or_parts, cond-true, cond-false}
 use Rattle.std.proofs.lemmas.List.{get_or-take, get_or-drop, length-take-le, length-drop, take-append-drop}
-use Rattle.std.proofs.lemmas.List.Elements.{All-from_recursion, recursion_from_All}
+use Rattle.std.proofs.lemmas.List.Elements.{recursion_from_All}
 use Rattle.std.proofs.lemmas.List.Folds.{find-append}
-use Rattle.std.proofs.lemmas.Option.{same_Some, slice_get-get_or}
-use Rattle.ja_base.proofs.Lists.{element_within}
-use Rattle.ja_rules.proofs.KeyOrders.{IsKeyOrder}
+use Rattle.std.proofs.lemmas.Option.{same_Some, slice_get-get_or, slice_get_past}
+use Rattle.ja_base.proofs.Lists.{all_append, all_at, all_weaker, element_within}
+use Rattle.ja_base.proofs.Options.{none_not_some}
+use Rattle.ja_machine.proofs.Lists.{all_both}
+use Rattle.ja_rules.specs.Order.{AreOrdered}
+use Rattle.ja_rules.specs.code.Places.{IsPlaceAmong}
+use Rattle.ja_rules.proofs.KeyOrders.{above_from, above_other, below_other, IsKeyOrder}
 
 -- ---- lists of any kind
 
@@ -46,42 +50,22 @@ all_fail test (x ∷ xs) h =
       | inr f ↦ (f, all_fail test xs (sym (cond-false (test x) (Some x) (find test xs) f) ∙ h))
     ]
 
-all_mapped : {X : Type 0} (P Q : X → Type 0) → ((x : X) → P x → Q x) → (xs : List X)
-    → AllByRecursion P xs → AllByRecursion Q xs
-all_mapped P Q h [] each = tt
-all_mapped P Q h (x ∷ xs) each = (h x each.0, all_mapped P Q h xs each.1)
-
-all_both : {X : Type 0} (P Q R : X → Type 0) → ((x : X) → P x → Q x → R x) → (xs : List X)
-    → AllByRecursion P xs → AllByRecursion Q xs → AllByRecursion R xs
-all_both P Q R h [] p q = tt
-all_both P Q R h (x ∷ xs) p q = (h x p.0 q.0, all_both P Q R h xs p.1 q.1)
-
-all_joined : {X : Type 0} (P : X → Type 0) (xs ys : List X) → AllByRecursion P xs
-    → AllByRecursion P ys → AllByRecursion P (xs ++ ys)
-all_joined P [] ys left right = right
-all_joined P (x ∷ xs) ys left right = (left.0, all_joined P xs ys left.1 right)
-
-pub all_taken : {X : Type 0} (P : X → Type 0) (n : ℕ) (xs : List X) → AllByRecursion P xs
+all_taken : {X : Type 0} (P : X → Type 0) (n : ℕ) (xs : List X) → AllByRecursion P xs
     → AllByRecursion P (take n xs)
 all_taken P zero xs each = tt
 all_taken P (suc n) [] each = tt
 all_taken P (suc n) (x ∷ xs) each = (each.0, all_taken P n xs each.1)
 
-pub all_dropped : {X : Type 0} (P : X → Type 0) (n : ℕ) (xs : List X) → AllByRecursion P xs
+all_dropped : {X : Type 0} (P : X → Type 0) (n : ℕ) (xs : List X) → AllByRecursion P xs
     → AllByRecursion P (drop n xs)
 all_dropped P zero xs each = each
 all_dropped P (suc n) [] each = tt
 all_dropped P (suc n) (x ∷ xs) each = all_dropped P n xs each.1
 
-pub get_dropped : {X : Type 0} (n : ℕ) (xs : List X) → slice_get xs n ≡ slice_get (drop n xs) 0
+get_dropped : {X : Type 0} (n : ℕ) (xs : List X) → slice_get xs n ≡ slice_get (drop n xs) 0
 get_dropped zero xs = refl
 get_dropped (suc n) [] = refl
 get_dropped (suc n) (x ∷ xs) = get_dropped n xs
-
-pub get_past : {X : Type 0} (xs : List X) (n : ℕ) → length xs ≤ n → slice_get xs n ≡ None
-get_past [] n past = refl
-get_past (x ∷ xs) zero past = absurd (omega arith)
-get_past (x ∷ xs) (suc n) past = get_past xs n (omega arith)
 
 -- ---- the parts of a list that a partition point tells
 
@@ -100,11 +84,12 @@ module _ {X : Type 0} (P : X → Type 0) (xs : List X) (n : ℕ) (within : n ≤
 
 -- ---- elements in the order of their keys
 
-module _ {X K : Type 0} (key : X → K) (below same : K → K → Bool) (o : IsKeyOrder below same) where
-  abbrev pub AreOrdered : List X → Type 0
-  AreOrdered [] = Unit {0}
-  AreOrdered (c ∷ cs) =
-      AllByRecursion (λ (d : X). IsTrue (below (key c) (key d))) cs × AreOrdered cs
+module _ {X K : Type 0} (key : X → K) {below same : K → K → Bool} (o : IsKeyOrder below same) where
+  abbrev InOrder : List X → Type 0
+  InOrder xs = AreOrdered key below xs
+
+  abbrev IsAt : K → List X → ℕ → Type 0
+  IsAt k xs n = IsPlaceAmong key below k xs n
 
   abbrev pub has : K → X → Bool
   has k c = same (key c) k
@@ -114,66 +99,62 @@ module _ {X K : Type 0} (key : X → K) (below same : K → K → Bool) (o : IsK
   if_has k None = None
   if_has k (Some c) = if has k c then Some c else None
 
-  not_below : (k : K) (c : X) → below (key c) k ≡ true → has k c ≡ false
-  not_below k c h =
-      false_from_ne_true _ (λ s. true≢false (sym h
-      ∙ ap (λ j. below j k) (o.exact (key c) k s) ∙ o.apart k))
-
-  not_above : (k : K) (c : X) → below k (key c) ≡ true → has k c ≡ false
-  not_above k c h =
-      false_from_ne_true _ (λ s. true≢false (sym h
-      ∙ ap (λ j. below k j) (o.exact (key c) k s) ∙ o.apart k))
-
-  above_from : (k j : K) → below j k ≡ false → same j k ≡ false → below k j ≡ true
-  above_from k j b s =
-      true_from_ne_false _ (λ f. true≢false (sym (o.either j k b f) ∙ s))
-
   -- ---- places
 
-  ordered_at : (xs : List X) → AreOrdered xs → (i j : ℕ) (d : X) → i < j → j < length xs
-      → below (key (get_or xs i d)) (key (get_or xs j d)) ≡ true
-  ordered_at [] h i j d lt in_it = absurd (omega arith)
-  ordered_at (c ∷ cs) h i zero d lt in_it = absurd (omega arith)
-  ordered_at (c ∷ cs) h zero (suc j) d lt in_it =
-      All-from_recursion (λ (e : X). IsTrue (below (key c) (key e))) cs h.0 j d (omega arith)
-  ordered_at (c ∷ cs) h (suc i) (suc j) d lt in_it =
-      ordered_at cs h.1 i j d (omega arith) (omega arith)
+  pub ordered_at : (xs : List X) → InOrder xs → (i j : ℕ) (c d : X) → i < j
+      → slice_get xs i ≡ Some c → slice_get xs j ≡ Some d → below (key c) (key d) ≡ true
+  ordered_at [] h i j c d lt ci dj = absurd (none_not_some ci)
+  ordered_at (b ∷ bs) h i zero c d lt ci dj = absurd (omega arith)
+  ordered_at (b ∷ bs) h zero (suc j) c d lt ci dj =
+      subst (λ (e : X). below (key e) (key d) ≡ true) (same_Some b c ci)
+      (all_at (λ (e : X). IsTrue (below (key b) (key e))) bs j d h.0 dj)
+  ordered_at (b ∷ bs) h (suc i) (suc j) c d lt ci dj =
+      ordered_at bs h.1 i j c d (omega arith) ci dj
 
-  pub parted_below : (k : K) (xs : List X) → AreOrdered xs
+  ordered_within : (xs : List X) → InOrder xs → (i j : ℕ) (d : X) → i < j → j < length xs
+      → below (key (get_or xs i d)) (key (get_or xs j d)) ≡ true
+  ordered_within xs h i j d lt in_it =
+      ordered_at xs h i j _ _ lt (slice_get-get_or xs i d (omega arith))
+      (slice_get-get_or xs j d in_it)
+
+  pub parted_below : (k : K) (xs : List X) → InOrder xs
       → IsPartitionedBy (λ c. below (key c) k) xs
   parted_below k xs h i j d le in_it t =
       elim (cases_lt i j) [
-        | inl lt ↦ o.behind _ _ k (ordered_at xs h i j d lt in_it) t
+        | inl lt ↦ o.behind _ _ k (ordered_within xs h i j d lt in_it) t
         | inr ge ↦
             let same_place : j ≡ i = omega arith in
             subst (λ n. below (key (get_or xs n d)) k ≡ true) same_place t
       ]
 
-  pub parted_above : (k : K) (xs : List X) → AreOrdered xs
+  pub parted_above : (k : K) (xs : List X) → InOrder xs
       → IsPartitionedBy (λ c. not (below k (key c))) xs
   parted_above k xs h i j d le in_it t =
       elim (cases_lt i j) [
         | inl lt ↦ ap not (false_from_ne_true _ (λ b. true≢false
-            (sym (o.behind k _ _ b (ordered_at xs h i j d lt in_it))
+            (sym (o.behind k _ _ b (ordered_within xs h i j d lt in_it))
             ∙ not-true (below k (key (get_or xs j d))) t)))
         | inr ge ↦
             let same_place : j ≡ i = omega arith in
             subst (λ n. not (below k (key (get_or xs n d))) ≡ true) same_place t
       ]
 
-  -- the elements before the place come before the key, and no other one does
-  pub record IsAt (k : K) (xs : List X) (n : ℕ) : Type 0 where
-    pub before : AllByRecursion (λ (c : X). IsTrue (below (key c) k)) (take n xs)
-    pub behind : AllByRecursion (λ (c : X). below (key c) k ≡ false) (drop n xs)
+  pub place_at : (k : K) (xs : List X) (n : ℕ) → n ≤ length xs
+      → IsPartitionPoint (λ (c : X). below (key c) k ≡ true) (λ (c : X). below (key c) k ≡ false)
+      xs n → IsAt k xs n
+  place_at k xs n within point = record {
+    before = taken_of _ xs n within point.0;
+    behind = dropped_of _ xs n within point.1;
+  }
 
-  pub ordered_dropped : (n : ℕ) (xs : List X) → AreOrdered xs → AreOrdered (drop n xs)
+  pub ordered_dropped : (n : ℕ) (xs : List X) → InOrder xs → InOrder (drop n xs)
   ordered_dropped zero xs h = h
   ordered_dropped (suc n) [] h = tt
   ordered_dropped (suc n) (c ∷ cs) h = ordered_dropped n cs h.1
 
   -- ---- what is found
 
-  found_first : (k : K) (xs : List X) → AreOrdered xs
+  found_first : (k : K) (xs : List X) → InOrder xs
       → AllByRecursion (λ (c : X). below (key c) k ≡ false) xs
       → find (has k) xs ≡ if_has k (slice_get xs 0)
   found_first k [] h behind = refl
@@ -181,10 +162,10 @@ module _ {X K : Type 0} (key : X → K) (below same : K → K → Bool) (o : IsK
       elim (cases_Bool (has k c)) [
         | inl t ↦ cond-true _ (Some c) (find (has k) cs) t ∙ sym (cond-true _ (Some c) None t)
         | inr f ↦
-            let above : below k (key c) ≡ true = above_from k (key c) behind.0 f in
+            let above : below k (key c) ≡ true = above_from o k (key c) behind.0 f in
             cond-false _ (Some c) (find (has k) cs) f
-            ∙ none_found (has k) cs (all_mapped _ (λ (d : X). has k d ≡ false)
-            (λ d b. not_above k d (o.behind k (key c) (key d) above b)) cs h.0)
+            ∙ none_found (has k) cs (all_weaker _ (λ (d : X). has k d ≡ false)
+            (λ d b. above_other o (key d) k (o.behind k (key c) (key d) above b)) cs h.0)
             ∙ sym (cond-false _ (Some c) None f)
       ]
 
@@ -192,8 +173,8 @@ module _ {X K : Type 0} (key : X → K) (below same : K → K → Bool) (o : IsK
       → AllByRecursion (λ (c : X). IsTrue (below (key c) k)) (take n xs)
       → find (has k) (take n xs) ≡ None
   none_before k xs n before =
-      none_found (has k) (take n xs) (all_mapped _ (λ (c : X). has k c ≡ false) (not_below k)
-      (take n xs) before)
+      none_found (has k) (take n xs) (all_weaker _ (λ (c : X). has k c ≡ false)
+      (λ c b. below_other o (key c) k b) (take n xs) before)
 
   find_parts : (k : K) (xs : List X) (n : ℕ)
       → find (has k) xs ≡ option_or (find (has k) (take n xs)) (find (has k) (drop n xs))
@@ -202,7 +183,7 @@ module _ {X K : Type 0} (key : X → K) (below same : K → K → Bool) (o : IsK
       ∙ find-append (has k) (take n xs) (drop n xs)
 
   -- what is found of a key is at its place
-  pub found_at : (k : K) (xs : List X) (n : ℕ) → AreOrdered xs → IsAt k xs n
+  pub found_at : (k : K) (xs : List X) (n : ℕ) → InOrder xs → IsAt k xs n
       → find (has k) xs ≡ if_has k (slice_get xs n)
   found_at k xs n h at =
       find_parts k xs n
@@ -211,7 +192,7 @@ module _ {X K : Type 0} (key : X → K) (below same : K → K → Bool) (o : IsK
       ∙ ap (if_has k) (sym (get_dropped n xs))
 
   -- .. as a look-up of the place in the list tells
-  module _ (k : K) (xs ys : List X) (n : ℕ) (list_is : ys ≡ xs) (h : AreOrdered xs)
+  module _ (k : K) (xs ys : List X) (n : ℕ) (list_is : ys ≡ xs) (h : InOrder xs)
       (at : IsAt k xs n) where
     there : (c : X) → n < length ys → c ≡ get_or ys n c → slice_get xs n ≡ Some c
     there c within is =
@@ -233,21 +214,21 @@ module _ {X K : Type 0} (key : X → K) (below same : K → K → Bool) (o : IsK
     pub found_past : length ys ≤ n → None ≡ find (has k) xs
     found_past past =
         sym (found_at k xs n h at ∙ ap (λ zs. if_has k (slice_get zs n)) (sym list_is)
-        ∙ ap (if_has k) (get_past ys n past))
+        ∙ ap (if_has k) (slice_get_past ys n past))
 
   -- ---- an element more
 
   module _ (c : X) where
-    pub ordered_more : (n : ℕ) (xs : List X) → AreOrdered xs → IsAt (key c) xs n
-        → find (has (key c)) xs ≡ None → AreOrdered (insert xs n c)
+    pub ordered_more : (n : ℕ) (xs : List X) → InOrder xs → IsAt (key c) xs n
+        → find (has (key c)) xs ≡ None → InOrder (insert xs n c)
     ordered_more zero xs h at none = (
       all_both (λ (d : X). below (key d) (key c) ≡ false) (λ (d : X). has (key c) d ≡ false) _
-          (λ d b s. above_from (key c) (key d) b s) xs at.behind (all_fail (has (key c)) xs none),
+          (λ d b s. above_from o (key c) (key d) b s) xs at.behind (all_fail (has (key c)) xs none),
       h,
     )
     ordered_more (suc n) [] h at none = (tt, tt)
     ordered_more (suc n) (d ∷ ds) h at none = (
-      all_joined _ (take n ds) (c ∷ drop n ds) (all_taken _ n ds h.0)
+      all_append _ (take n ds) (c ∷ drop n ds) (all_taken _ n ds h.0)
           (at.before.0, all_dropped _ n ds h.0),
       ordered_more n ds h.1 (record { before = at.before.1; behind = at.behind })
           (none_found (has (key c)) ds (all_fail (has (key c)) (d ∷ ds) none).1),
@@ -308,7 +289,7 @@ module _ {X K : Type 0} (key : X → K) (below same : K → K → Bool) (o : IsK
       let rest : map key ys ≡ map key xs = cc in
       (subst P (sym head) each.0, all_by_keys P xs ys rest each.1)
 
-  pub ordered_by_keys : (xs ys : List X) → map key ys ≡ map key xs → AreOrdered xs → AreOrdered ys
+  pub ordered_by_keys : (xs ys : List X) → map key ys ≡ map key xs → InOrder xs → InOrder ys
   ordered_by_keys xs [] e h = tt
   ordered_by_keys [] (y ∷ ys) e h = absurd (cc)
   ordered_by_keys (x ∷ xs) (y ∷ ys) e h =
@@ -330,14 +311,8 @@ module _ {X K : Type 0} (key : X → K) (below same : K → K → Bool) (o : IsK
       ap (λ j. same j k || list_any (has k) ys) head
       ∙ ap (λ b. same (key x) k || b) (any_by_keys k xs ys rest)
 
-  all_get : (P : X → Type 0) (xs : List X) (n : ℕ) (x : X) → AllByRecursion P xs
-      → slice_get xs n ≡ Some x → P x
-  all_get P [] n x each at = absurd (cc)
-  all_get P (y ∷ ys) zero x each at = subst P (same_Some y x at) each.0
-  all_get P (y ∷ ys) (suc n) x each at = all_get P ys n x each.1 at
-
   -- what is found after a write at a place
-  pub found_set : (k : K) (xs : List X) (n : ℕ) (b c : X) → AreOrdered xs
+  pub found_set : (k : K) (xs : List X) (n : ℕ) (b c : X) → InOrder xs
       → slice_get xs n ≡ Some b → key c ≡ key b
       → find (has k) (set xs n c) ≡ (if same (key c) k then Some c else find (has k) xs)
   found_set k [] n b c h at e = absurd (cc)
@@ -355,7 +330,7 @@ module _ {X K : Type 0} (key : X → K) (below same : K → K → Bool) (o : IsK
       apart : same (key x) k ≡ true → same (key c) k ≡ true → ⊥
       apart s t =
           let less : below (key x) (key b) ≡ true =
-          all_get (λ (d : X). IsTrue (below (key x) (key d))) xs n b h.0 at in
+          all_at (λ (d : X). IsTrue (below (key x) (key d))) xs n b h.0 at in
           let one : key x ≡ key b = o.exact (key x) k s ∙ sym (o.exact (key c) k t) ∙ e in
           true≢false (sym less ∙ ap (λ j. below j (key b)) one ∙ o.apart (key b))
 

@@ -1,22 +1,21 @@
 -- Contexts and call edges in order, and their places.
-use Rattle.std.specs.Prelude.{◌≡◌, ◌≤◌, ◌==◌, ℕ, ◌*◌, ◌+◌, Bool, true, false, not, if◌then◌else◌, nat_lt, List, [], ◌∷◌, length, IsTrue}
-use Rattle.std.specs.List.{AllByRecursion}
+use Rattle.std.specs.Prelude.{◌≡◌, ◌≤◌, ◌==◌, ℕ, ◌*◌, ◌+◌, Bool, true, false, not, if◌then◌else◌, nat_lt, List, length, take, drop}
 use Rattle.std.specs.List.Sorted.{IsPartitionPoint}
 use Rattle.std.proofs.Common.{refl, arith}
 use Rattle.std.proofs.lemmas.Bool.{not-true, not-false}
 use Rattle.ja_base.specs.declared.ids.Context.{Context}
 use Rattle.ja_base.specs.declared.ids.Label.{Label}
+use Rattle.ja_base.proofs.Lists.{all_weaker}
 use Rattle.ja_abstract.specs.AbstractValue.{same_label}
 use Rattle.ja_abstract.specs.AbstractState.{label_number}
 use Rattle.ja_abstract.proofs.Labels.{same_label-true, same_label-self}
 use Rattle.ja_rows.specs.declared.table.Edge.{Edge}
 use Rattle.ja_rows.specs.Table.{same_context, same_edge}
-use Rattle.ja_rules.specs.declared.table.CallEdge.{CallEdge}
 use Rattle.ja_rules.specs.declared.table.ContextTable.{ContextTable}
-use Rattle.ja_rules.specs.Order.{below_context, below_edge, AreContextsOrdered, AreEdgesOrdered}
-use Rattle.ja_rules.specs.code.Places.{IsPlaceOf, IsPlaceBehind, IsPlaceOfEdge}
+use Rattle.ja_rules.specs.Order.{below_context, below_edge}
+use Rattle.ja_rules.specs.code.Places.{IsPlaceBehind}
 use Rattle.ja_rules.proofs.KeyOrders.{IsKeyOrder, numbers_order, numbered_order, parts_order}
-use Rattle.ja_rules.proofs.Ordered.{AreOrdered, IsAt, taken_of, dropped_of}
+use Rattle.ja_rules.proofs.Ordered.{taken_of, dropped_of}
 
 -- ---- the orders
 
@@ -66,88 +65,18 @@ edges_order =
     (parts_order (λ (r : Rest). r.0) (λ (r : Rest). r.1) nat_lt ◌==◌ below_context same_context
     numbers_order contexts_order rest_tells) edge_tells
 
-abbrev pub context_of : ContextTable → Context
-context_of c = c.context
-
-abbrev pub edge_of : CallEdge → Edge
-edge_of d = d.edge
-
--- contexts and edges are in the order of these keys
-abbrev pub InOrder : List ContextTable → Type 0
-InOrder cs = AreOrdered context_of below_context same_context contexts_order cs
-
-abbrev pub EdgesInOrder : List CallEdge → Type 0
-EdgesInOrder ds = AreOrdered edge_of below_edge same_edge edges_order ds
-
-pub in_order : (cs : List ContextTable) → AreContextsOrdered cs → InOrder cs
-in_order cs h = h
-
-pub from_order : (cs : List ContextTable) → InOrder cs → AreContextsOrdered cs
-from_order cs h = h
-
-pub edges_in_order : (ds : List CallEdge) → AreEdgesOrdered ds → EdgesInOrder ds
-edges_in_order ds h = h
-
-pub edges_from_order : (ds : List CallEdge) → EdgesInOrder ds → AreEdgesOrdered ds
-edges_from_order ds h = h
-
--- ---- what is found at a place
-
-abbrev pub IsContextAt : Context → List ContextTable → ℕ → Type 0
-IsContextAt x cs n = IsAt context_of below_context same_context contexts_order x cs n
-
-abbrev pub IsEdgeAt : Edge → List CallEdge → ℕ → Type 0
-IsEdgeAt e ds n = IsAt edge_of below_edge same_edge edges_order e ds n
-
-pub context_at_place : (x : Context) (cs : List ContextTable) (n : ℕ) → IsPlaceOf x cs n
-    → IsContextAt x cs n
-context_at_place x cs n at = record { before = at.before; behind = at.behind }
-
-pub edge_at_place : (e : Edge) (ds : List CallEdge) (n : ℕ) → IsPlaceOfEdge e ds n
-    → IsEdgeAt e ds n
-edge_at_place e ds n at = record { before = at.before; behind = at.behind }
-
--- ---- places by partition points
-
-pub place_of_context : (x : Context) (cs : List ContextTable) (n : ℕ) → n ≤ length cs
-    → IsPartitionPoint (λ (c : ContextTable). below_context c.context x ≡ true)
-    (λ (c : ContextTable). below_context c.context x ≡ false) cs n → IsPlaceOf x cs n
-place_of_context x cs n within point =
-    record {
-      before = taken_of _ cs n within point.0;
-      behind = dropped_of _ cs n within point.1;
-    }
-
-all_not : (test : ContextTable → Bool) (cs : List ContextTable)
-    → AllByRecursion (λ (c : ContextTable). not (test c) ≡ true) cs
-    → AllByRecursion (λ (c : ContextTable). test c ≡ false) cs
-all_not test [] h = tt
-all_not test (c ∷ cs) h = (not-true (test c) h.0, all_not test cs h.1)
-
-all_still : (test : ContextTable → Bool) (cs : List ContextTable)
-    → AllByRecursion (λ (c : ContextTable). not (test c) ≡ false) cs
-    → AllByRecursion (λ (c : ContextTable). IsTrue (test c)) cs
-all_still test [] h = tt
-all_still test (c ∷ cs) h = (not-false (test c) h.0, all_still test cs h.1)
+-- ---- the place behind a context, by a partition point
 
 pub place_behind_context : (x : Context) (cs : List ContextTable) (n : ℕ) → n ≤ length cs
     → IsPartitionPoint (λ (c : ContextTable). not (below_context x c.context) ≡ true)
     (λ (c : ContextTable). not (below_context x c.context) ≡ false) cs n → IsPlaceBehind x cs n
 place_behind_context x cs n within point =
+    let comes : ContextTable → Bool = λ c. below_context x c.context in
     record {
       before =
-          all_not (λ (c : ContextTable). below_context x c.context) _
-          (taken_of _ cs n within point.0);
+          all_weaker (λ c. not (comes c) ≡ true) (λ c. comes c ≡ false)
+          (λ c h. not-true (comes c) h) (take n cs) (taken_of _ cs n within point.0);
       behind =
-          all_still (λ (c : ContextTable). below_context x c.context) _
-          (dropped_of _ cs n within point.1);
-    }
-
-pub place_of_edge : (e : Edge) (ds : List CallEdge) (n : ℕ) → n ≤ length ds
-    → IsPartitionPoint (λ (d : CallEdge). below_edge d.edge e ≡ true)
-    (λ (d : CallEdge). below_edge d.edge e ≡ false) ds n → IsPlaceOfEdge e ds n
-place_of_edge e ds n within point =
-    record {
-      before = taken_of _ ds n within point.0;
-      behind = dropped_of _ ds n within point.1;
+          all_weaker (λ c. not (comes c) ≡ false) (λ c. comes c ≡ true)
+          (λ c h. not-false (comes c) h) (drop n cs) (dropped_of _ cs n within point.1);
     }

@@ -3,7 +3,7 @@ use Rattle.std.specs.Prelude.{◌≡◌, ◌≢◌, ◌<◌, ℕ, IsTrue, List, 
 use Rattle.std.proofs.Common.{refl, sym, ap, ◌∙◌, subst}
 use Rattle.std.proofs.lemmas.Bool.{true≢false}
 use Rattle.std.proofs.lemmas.List.Elements.{All-set}
-use Rattle.std.proofs.lemmas.Option.{slice_get-get_or}
+use Rattle.std.proofs.lemmas.Option.{slice_get_read}
 use Rattle.ja_base.specs.declared.ids.Context.{Context}
 use Rattle.ja_graph.specs.declared.program.Program.{Program}
 use Rattle.ja_abstract.specs.AbstractState.{AbstractState}
@@ -33,9 +33,7 @@ module _ (t : ATable) (x : Context) (place : ℕ) (own : ContextTable)
     → slice_get t.contexts.items place ≡ find_context x t.contexts.items)
     (within : place < vec_len t.contexts) (is : own ≡ get_or t.contexts.items place own) where
   own_at : slice_get t.contexts.items place ≡ Some own
-  own_at =
-      slice_get-get_or t.contexts.items place own
-      (subst (λ n. place < n) t.contexts.ok.0 within) ∙ ap Some (sym is)
+  own_at = slice_get_read t.contexts.items (vec_len t.contexts) place own t.contexts.ok.0 within is
 
   pub own_is : own.context ≡ x
   own_is = found_context t x own (sym (found ordered) ∙ own_at)

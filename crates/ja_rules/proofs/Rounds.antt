@@ -1,10 +1,10 @@
 -- What the visits of the solver build, and rounds that leave a closed table.
-use Rattle.std.specs.Prelude.{◌==◌, ◌≡◌, ◌≢◌, ◌<◌, ◌≤◌, ◌+◌, ◌-◌, ◌*◌, if◌then◌else◌, nat_eq, ℕ, zero, suc, Bool, true, false, IsTrue, List, [], ◌∷◌, ◌++◌, Option, None, Some, Result, Ok, Err, IfErr, OnOk, is_some, length, map, slice_get, vec_len}
-use Rattle.std.specs.List.{list_any}
+use Rattle.std.specs.Prelude.{◌≡◌, ◌≢◌, ◌<◌, ◌≤◌, ◌+◌, ◌-◌, ◌*◌, if◌then◌else◌, nat_eq, ℕ, zero, suc, Bool, true, false, IsTrue, List, [], ◌∷◌, ◌++◌, Option, None, Some, Result, Ok, Err, IfErr, OnOk, is_some, length, map, slice_get, vec_len}
 use Rattle.std.specs.Option.{option_map_or}
 use Rattle.std.proofs.Common.{refl, sym, ◌∙◌, ap, subst, inl, inr, arith, get_or}
-use Rattle.std.proofs.lemmas.Bool.{and_parts, cases_Bool, cases_lt, eq-eqb, eqb-true, false≢true, or_left, or_right, true≢false}
+use Rattle.std.proofs.lemmas.Bool.{cases_Bool, cases_lt, eq-eqb, false≢true, true≢false}
 use Rattle.std.proofs.lemmas.List.{length-map}
+use Rattle.std.proofs.lemmas.Map.Keys.{any_passes_from_place}
 use Rattle.std.proofs.lemmas.List.Elements.{recursion_from_All}
 use Rattle.std.proofs.lemmas.Option.{same_Some, slice_get-get_or, slice_get_past}
 use Rattle.ja_base.specs.declared.ids.Context.{Context}
@@ -16,51 +16,37 @@ use Rattle.ja_machine.proofs.Lists.{is_some_from}
 use Rattle.ja_rows.specs.declared.table.Edge.{Edge}
 use Rattle.ja_rows.specs.declared.table.Item.{Item}
 use Rattle.ja_rows.specs.declared.table.Item.TheVariants.{Open, Step, Fill, Back}
-use Rattle.ja_rows.specs.Table.{Table, opening_table, same_context, same_edge, visited, IsBuilt, IsClosed, IsItem}
+use Rattle.ja_rows.specs.Table.{Table, opening_table, same_edge, visited, IsBuilt, IsClosed, IsItem}
 use Rattle.ja_rows.proofs.Applied.{same_edge-self}
 use Rattle.ja_rows.proofs.Rising.{builds_more, builds_opening}
-use Rattle.ja_rows.proofs.Views.{same_context-true}
 use denote.Ref.{Bor}
+use Rattle.ja_rules.specs.declared.solver.Along.{Along}
+use Rattle.ja_rules.specs.declared.solver.Along.TheVariants as along
 use Rattle.ja_rules.specs.declared.solver.SolveFault.{SolveFault}
 use Rattle.ja_rules.specs.declared.solver.Work.{Work}
 use Rattle.ja_rules.specs.declared.table.ATable.{ATable}
 use Rattle.ja_rules.specs.declared.table.CallEdge.{CallEdge}
 use Rattle.ja_rules.specs.declared.table.ContextTable.{ContextTable}
 use Rattle.ja_rules.specs.Solving.{Explains, WasSpent}
-use Rattle.ja_rules.specs.Order.{below_context, AreContextsOrdered}
+use Rattle.ja_rules.specs.Order.{below_context, context_of, AreContextsOrdered}
 use Rattle.ja_rules.specs.Tables.{is_of, table_of, Fits, FitsContext, IsContext}
 use Rattle.ja_rules.specs.code.Growing.{HasSameEdges, HasSameKeys}
 use Rattle.ja_rules.specs.code.Places.{IsPlaceBehind}
-use Rattle.ja_rules.specs.code.Rounds.{AreFilled, AreGivenBack, AreSettled, AreStepped, AreSteppedAt, GoesOn, IsSettled, IsUnchanged}
+use Rattle.ja_rules.specs.code.Rounds.{item_along, AreSettled, AreSettledAlong, AreStepped, AreSteppedAt, GoesOn, IsSettled, IsUnchanged}
 use Rattle.ja_rules.proofs.Found.{unreached_state}
 use Rattle.ja_rules.proofs.SameMeaning.{keys_both, keys_same}
-use Rattle.ja_rules.proofs.ContextOrder.{all_dropped, all_taken, compared, never_both, ordered_at, place_found, rank, rank_rises, ranks, rank_within}
+use Rattle.ja_rules.proofs.KeyOrders.{compared, one_way}
+use Rattle.ja_rules.proofs.Ordered.{ordered_at}
+use Rattle.ja_rules.proofs.Places.{contexts_order, edges_order}
+use Rattle.ja_rules.proofs.ContextOrder.{all_dropped, all_taken, place_found, rank, rank_rises, ranks, rank_within}
 
--- ---- edges and lists
-
-pub same_edge-true : (d e : Edge) → IsTrue (same_edge d e) → d ≡ e
-same_edge-true d e h =
-    let (caller, rest) = and_parts (same_context d.caller e.caller) _ h in
-    let (node, callee) = and_parts (d.node.0 == e.node.0) (same_context d.callee e.callee) rest in
-    let node_is = eqb-true d.node.0 e.node.0 node in
-    λ i. record {
-      caller = same_context-true d.caller e.caller caller i;
-      node = record { 0 = node_is i };
-      callee = same_context-true d.callee e.callee callee i;
-    }
+-- ---- lists
 
 mapped_at : {X Y : Type 0} (f : X → Y) (xs : List X) (k : ℕ) (x : X) → slice_get xs k ≡ Some x
     → slice_get (map f xs) k ≡ Some (f x)
 mapped_at f [] k x is = absurd (none_not_some is)
 mapped_at f (y ∷ ys) zero x is = ap (λ z. Some (f z)) (same_Some y x is)
 mapped_at f (y ∷ ys) (suc k) x is = mapped_at f ys k x is
-
-any_at : {X : Type 0} (test : X → Bool) (xs : List X) (k : ℕ) (x : X) → slice_get xs k ≡ Some x
-    → IsTrue (test x) → IsTrue (list_any test xs)
-any_at test [] k x is h = absurd (none_not_some is)
-any_at test (y ∷ ys) zero x is h =
-    or_left (test y) _ (subst (λ z. IsTrue (test z)) (sym (same_Some y x is)) h)
-any_at test (y ∷ ys) (suc k) x is h = or_right (test y) _ (any_at test ys k x is h)
 
 -- ---- visits that were added
 
@@ -127,7 +113,7 @@ closed p visits t built settled =
 -- ---- all items
 
 pub all_settled : (p : Program) (t : Table) → IsSettled p t Open → AreStepped p t
-    → AreFilled p t → AreGivenBack p t → AreSettled p t
+    → AreSettledAlong p t along.Fill → AreSettledAlong p t along.Back → AreSettled p t
 all_settled p t opens steps fills backs Open i = opens
 all_settled p t opens steps fills backs (Step x n) i = steps x n i
 all_settled p t opens steps fills backs (Fill e) i = fills e i
@@ -170,21 +156,19 @@ not_before cs ordered place k d h d_is before =
     let (c, c_is) = element_within cs place (omega arith) in
     elim (cases_lt place k) [
       | inl less ↦
-          never_both c.context d.context (ordered_at cs ordered place k c d less c_is d_is)
+          one_way contexts_order c.context d.context
+          (ordered_at context_of contexts_order cs ordered place k c d less c_is d_is)
           (before c c_is)
       | inr more ↦
           let e : place ≡ k = omega arith in
           let here = before d (ap (slice_get cs) e ∙ d_is) in
-          never_both d.context d.context here here
+          one_way contexts_order d.context d.context here here
     ]
 
 -- the contexts before a place are settled
 pub record AreSteppedBefore (p : Program) (t : ATable) (place : ℕ) : Type 0 where
   pub each : (x : Context) → IsTrue ((table_of t).context x)
       → IsBefore t.contexts.items place x → AreSteppedAt p (table_of t) x
-
-context_of : (x : Context) (c : ContextTable) → IsTrue (is_of x c) → c.context ≡ x
-context_of x c h = same_context-true c.context x h
 
 -- none is before the first
 pub none_before : (p : Program) (t : ATable) → Fits p t → AreSteppedBefore p t 0
@@ -193,8 +177,8 @@ none_before p t fits = record {
       λ x reached before.
       let at = place_found (is_of x) t.contexts.items reached in
       absurd (not_before t.contexts.items fits.ordered 0 at.place at.element (omega arith)
-      at.element_is (subst (IsBefore t.contexts.items 0) (sym (context_of x at.element at.passes))
-      before));
+      at.element_is (subst (IsBefore t.contexts.items 0)
+      (sym (contexts_order.exact at.element.context x at.passes)) before));
 }
 
 -- one more is settled
@@ -203,7 +187,7 @@ pub more_before : (p : Program) (t u : ATable) (place next : ℕ) (c : ContextTa
     → AreSteppedBefore p t place → AreSteppedAt p (table_of u) c.context
     → IsPlaceBehind c.context u.contexts.items next → AreSteppedBefore p u next
 more_before p t u place next c fits same c_is h now behind = record {
-  each = λ x reached before. elim (compared x c.context).way [
+  each = λ x reached before. elim (compared contexts_order x c.context) [
     | inl less ↦
         subst (λ (v : Table). AreSteppedAt p v x) (sym same)
         (h.each x (subst (λ (v : Table). IsTrue (v.context x)) same reached)
@@ -212,7 +196,7 @@ more_before p t u place next c fits same c_is h now behind = record {
     | inr (inl is) ↦ subst (AreSteppedAt p (table_of u)) (sym is) now
     | inr (inr more) ↦
         let at = place_found (is_of x) u.contexts.items reached in
-        let is = context_of x at.element at.passes in
+        let is = contexts_order.exact at.element.context x at.passes in
         elim (cases_lt at.place next) [
           | inl less ↦
               absurd (false≢true (sym (subst (λ (y : Context).
@@ -266,15 +250,16 @@ left_falls p cs ds place next c c_is of behind =
 -- ---- the edges in order
 
 -- those before a place are settled
-abbrev pub AreSettledEdges : Program → Table → (Edge → Item) → List CallEdge → ℕ → Type 0
-AreSettledEdges p t item edges n =
-    (k : ℕ) (d : CallEdge) → k < n → slice_get edges k ≡ Some d → IsSettled p t (item d.edge)
+abbrev pub AreSettledEdges : Program → Table → Along → List CallEdge → ℕ → Type 0
+AreSettledEdges p t along edges n =
+    (k : ℕ) (d : CallEdge) → k < n → slice_get edges k ≡ Some d
+    → IsSettled p t (item_along along d.edge)
 
-pub more_edges : (p : Program) (t : Table) (item : Edge → Item) (edges : List CallEdge) (n : ℕ)
-    → AreSettledEdges p t item edges n
-    → ((d : CallEdge) → slice_get edges n ≡ Some d → IsSettled p t (item d.edge))
-    → AreSettledEdges p t item edges (n + 1)
-more_edges p t item edges n below here k d less is =
+pub more_edges : (p : Program) (t : Table) (along : Along) (edges : List CallEdge) (n : ℕ)
+    → AreSettledEdges p t along edges n
+    → ((d : CallEdge) → slice_get edges n ≡ Some d → IsSettled p t (item_along along d.edge))
+    → AreSettledEdges p t along edges (n + 1)
+more_edges p t along edges n below here k d less is =
     elim (cases_lt k n) [
       | inl before ↦ below k d before is
       | inr last ↦
@@ -283,16 +268,17 @@ more_edges p t item edges n below here k d less is =
     ]
 
 -- each edge of a table has a place among those
-pub all_edges : (p : Program) (t : ATable) (u : Table) (item : Edge → Item) (n : ℕ)
-    → vec_len t.edges ≤ n → u ≡ table_of t → AreSettledEdges p u item t.edges.items n
-    → (e : Edge) → IsTrue (u.edge e) → IsSettled p u (item e)
-all_edges p t u item n all same h e there =
+pub all_edges : (p : Program) (t : ATable) (u : Table) (along : Along) (n : ℕ)
+    → vec_len t.edges ≤ n → u ≡ table_of t → AreSettledEdges p u along t.edges.items n
+    → AreSettledAlong p u along
+all_edges p t u along n all same h e there =
     let at = place_found (λ (d : CallEdge). same_edge d.edge e) t.edges.items
     (subst (λ (v : Table). IsTrue (v.edge e)) same there) in
     let within : at.place < length t.edges.items = within_from_some t.edges.items at.place
     (is_some_from _ at.element at.element_is) in
     let long = t.edges.ok.0 in
-    subst (λ (d : Edge). IsSettled p u (item d)) (same_edge-true at.element.edge e at.passes)
+    subst (λ (d : Edge). IsSettled p u (item_along along d))
+    (edges_order.exact at.element.edge e at.passes)
     (h at.place at.element (omega (arith, within, long, all)) at.element_is)
 
 -- an edge at the same place in a table of the same edges is the same
@@ -311,16 +297,26 @@ same_count t u same =
 -- an edge of a table is one of its items
 pub edge_there : (t : ATable) (k : ℕ) (d : CallEdge) → slice_get t.edges.items k ≡ Some d
     → IsTrue ((table_of t).edge d.edge)
-edge_there t k d is = any_at (λ (c : CallEdge). same_edge c.edge d.edge) t.edges.items k d is
+edge_there t k d is =
+    any_passes_from_place (λ (c : CallEdge). same_edge c.edge d.edge) t.edges.items k d is
     (same_edge-self d.edge)
 
--- the edges of a table that is as another in its keys
-pub edges_after : (item : Item) (t u v : ATable) → HasSameKeys t u → HasSameEdges item u v
-    → HasSameEdges item t v
-edges_after Open t u v h k = keys_both t u v h k
-edges_after (Step x n) t u v h k = tt
-edges_after (Fill e) t u v h k = keys_both t u v h k
-edges_after (Back e) t u v h k = keys_both t u v h k
+pub along_there : (p : Program) (t : ATable) (along : Along) (k : ℕ) (d : CallEdge)
+    → slice_get t.edges.items k ≡ Some d → IsItem p (table_of t) (item_along along d.edge)
+along_there p t along.Fill k d is = edge_there t k d is
+along_there p t along.Back k d is = edge_there t k d is
+
+pub along_keys : (along : Along) (e : Edge) (t u : ATable) → HasSameEdges (item_along along e) t u
+    → HasSameKeys t u
+along_keys along.Fill e t u h = h
+along_keys along.Back e t u h = h
+
+-- the edges of tables of the same keys
+pub keys_edges : (item : Item) (t u : ATable) → HasSameKeys t u → HasSameEdges item t u
+keys_edges Open t u h = h
+keys_edges (Step x n) t u h = tt
+keys_edges (Fill e) t u h = h
+keys_edges (Back e) t u h = h
 
 pub edges_both : (item : Item) (t u v : ATable) → HasSameEdges item t u → HasSameEdges item u v
     → HasSameEdges item t v
@@ -328,6 +324,10 @@ edges_both Open t u v h k = keys_both t u v h k
 edges_both (Step x n) t u v h k = tt
 edges_both (Fill e) t u v h k = keys_both t u v h k
 edges_both (Back e) t u v h k = keys_both t u v h k
+
+pub edges_after : (item : Item) (t u v : ATable) → HasSameKeys t u → HasSameEdges item u v
+    → HasSameEdges item t v
+edges_after item t u v h k = edges_both item t u v (keys_edges item t u h) k
 
 pub edges_same : (item : Item) (t : ATable) → HasSameEdges item t t
 edges_same Open t = keys_same t
@@ -348,12 +348,6 @@ edges_later (Fill e) t u clock h = keys_later t u clock h
 edges_later (Back e) t u clock h = keys_later t u clock h
 
 -- ---- one work after another
-
-pub keys_edges : (item : Item) (t u : ATable) → HasSameKeys t u → HasSameEdges item t u
-keys_edges Open t u h = h
-keys_edges (Step x n) t u h = tt
-keys_edges (Fill e) t u h = h
-keys_edges (Back e) t u h = h
 
 pub program_is : (a b : Work) → GoesOn a b → b.program.now ≡ a.program.now
 program_is a b h = ap (λ (q : Bor Program). q.now) h.program
@@ -389,8 +383,8 @@ both_on (Err e) p q h = tt
 pub round_settled : (a b c d e : Work) → GoesOn a b → GoesOn b c → GoesOn c d → GoesOn d e
     → (IsUnchanged a b → IsSettled b.program.now (table_of b.table) Open)
     → (IsUnchanged b c → AreStepped c.program.now (table_of c.table))
-    → (IsUnchanged c d → AreFilled d.program.now (table_of d.table))
-    → (IsUnchanged d e → AreGivenBack e.program.now (table_of e.table))
+    → (IsUnchanged c d → AreSettledAlong d.program.now (table_of d.table) along.Fill)
+    → (IsUnchanged d e → AreSettledAlong e.program.now (table_of e.table) along.Back)
     → IsUnchanged a e → AreSettled e.program.now (table_of e.table)
 round_settled a b c d e first second third fourth opens steps fills backs same =
     let ab : IsUnchanged a b = omega (arith, same, first.more, second.more, third.more, fourth.more)
@@ -405,7 +399,7 @@ round_settled a b c d e first second third fourth opens steps fills backs same =
     all_settled e.program.now (table_of e.table)
     (carried P d e fourth de (carried P c d third cd (carried P b c second bc (opens ab))))
     (carried AreStepped d e fourth de (carried AreStepped c d third cd (steps bc)))
-    (carried AreFilled d e fourth de (fills cd))
+    (carried (λ (p : Program) (t : Table). AreSettledAlong p t along.Fill) d e fourth de (fills cd))
     (backs de)
 
 at_least : (budget before after : ℕ) (each : Bool) → before ≤ after → after ≤ budget

@@ -1,26 +1,26 @@
 -- Tables that differ in times alone, and tables of the same keys.
-use Rattle.std.specs.Prelude.{◌≡◌, ◌<◌, ◌==◌, ℕ, zero, suc, Bool, true, false, cond, if◌then◌else◌, IsTrue, List, [], ◌∷◌, map, set, get_or, Option, Some, slice_get, vec_len, All, find}
+use Rattle.std.specs.Prelude.{◌≡◌, ◌<◌, ◌==◌, ℕ, zero, suc, Bool, true, false, cond, if◌then◌else◌, List, [], ◌∷◌, map, set, get_or, Option, Some, slice_get, vec_len, All, find}
 use Rattle.std.specs.Option.{option_map_or, option_and_then}
 use Rattle.std.proofs.Common.{refl, sym, ap, ◌∙◌, subst}
 use Rattle.std.proofs.lemmas.List.Elements.{All-set}
-use Rattle.std.proofs.lemmas.Option.{same_Some, slice_get-get_or}
+use Rattle.std.proofs.lemmas.Option.{same_Some, slice_get_read}
 use Rattle.ja_base.specs.declared.ids.Context.{Context}
 use Rattle.ja_graph.specs.declared.program.Program.{Program}
 use Rattle.ja_abstract.specs.AbstractState.{AbstractState}
 use Rattle.ja_abstract.proofs.Order.{option_property_same, option_state_same, LeqOptionState}
 use Rattle.ja_rows.specs.declared.table.Edge.{Edge}
-use Rattle.ja_rows.specs.Table.{Table, same_context, same_edge}
+use Rattle.ja_rows.specs.Table.{Table, same_context}
 use Rattle.ja_rows.proofs.Rising.{state-joined}
 use Rattle.ja_aheap.specs.Entries.{entries_of}
 use Rattle.ja_rules.specs.declared.table.ATable.{ATable}
 use Rattle.ja_rules.specs.declared.table.CallEdge.{CallEdge}
 use Rattle.ja_rules.specs.declared.table.ContextTable.{ContextTable}
-use Rattle.ja_rules.specs.Order.{below_context, below_edge}
+use Rattle.ja_rules.specs.Order.{context_of, edge_of}
 use Rattle.ja_rules.specs.Tables.{states_in, no_entries, is_of, table_of, Fits, FitsContext}
 use Rattle.ja_rules.specs.code.Growing.{with_given, with_state_at, HasSameKeys, HasSameMeaning}
 use Rattle.ja_rules.proofs.Grows.{Grows}
 use Rattle.ja_rules.proofs.Ordered.{keys_set, any_by_keys}
-use Rattle.ja_rules.proofs.Places.{context_of, contexts_order, edge_of, edges_order}
+use Rattle.ja_rules.proofs.Places.{contexts_order, edges_order}
 use Rattle.ja_rules.proofs.TableLemmas.{table_in}
 use Rattle.ja_rules.proofs.TableUpdates.{fits_by_keys}
 
@@ -34,12 +34,6 @@ keys_both t u v h k = record {
   contexts = k.contexts ∙ h.contexts;
   edges = k.edges ∙ h.edges;
 }
-
-pub keys_reach : (t u : ATable) (x : Context) → HasSameKeys t u
-    → IsTrue ((table_of t).context x) → IsTrue ((table_of u).context x)
-keys_reach t u x keys h =
-    subst IsTrue (sym (any_by_keys context_of below_context same_context contexts_order x
-    t.contexts.items u.contexts.items keys.contexts)) h
 
 -- a state joined in rises
 pub grows_state : (t u : Table) (x : Context) (n : ℕ) (a : AbstractState)
@@ -95,7 +89,7 @@ same_meaning t u place own new within is same states entries contexts_are edges_
     edges = ap (map (λ (d : CallEdge). d.edge)) edges_are;
   };
   table = (λ i. table_in (contexts_are i) (edges_are i)) ∙ (λ i. record {
-    context = λ y. any_by_keys context_of below_context same_context contexts_order y cs
+    context = λ y. any_by_keys context_of contexts_order y cs
         (set cs place new) keys i;
     state = λ y n. found_alike (is_of y)
         (option_and_then (λ (c : ContextTable). states_in c.nodes.items n)) cs place own new at
@@ -111,12 +105,10 @@ same_meaning t u place own new within is same states entries contexts_are edges_
     cs = t.contexts.items
 
     at : slice_get cs place ≡ Some own
-    at =
-        slice_get-get_or cs place own (subst (λ n. place < n) t.contexts.ok.0 within)
-        ∙ ap Some (sym is)
+    at = slice_get_read cs (vec_len t.contexts) place own t.contexts.ok.0 within is
 
     keys : map context_of (set cs place new) ≡ map context_of cs
-    keys = keys_set context_of below_context same_context contexts_order cs place own new at same
+    keys = keys_set context_of contexts_order cs place own new at same
 
 pub same_meaning_edge : (t u : ATable) (place : ℕ) (old new : CallEdge) → place < vec_len t.edges
     → old ≡ get_or t.edges.items place old → new.edge ≡ old.edge
@@ -128,7 +120,7 @@ same_meaning_edge t u place old new within is same contexts_are edges_are = reco
     edges = ap (λ (xs : List CallEdge). map (λ (d : CallEdge). d.edge) xs) edges_are ∙ keys;
   };
   table = (λ i. table_in (contexts_are i) (edges_are i)) ∙ (λ i. record (table_of t) {
-    edge = λ (e : Edge). any_by_keys edge_of below_edge same_edge edges_order e ds
+    edge = λ (e : Edge). any_by_keys edge_of edges_order e ds
         (set ds place new) keys i;
   });
 }
@@ -137,12 +129,10 @@ same_meaning_edge t u place old new within is same contexts_are edges_are = reco
     ds = t.edges.items
 
     at : slice_get ds place ≡ Some old
-    at =
-        slice_get-get_or ds place old (subst (λ n. place < n) t.edges.ok.0 within)
-        ∙ ap Some (sym is)
+    at = slice_get_read ds (vec_len t.edges) place old t.edges.ok.0 within is
 
     keys : map edge_of (set ds place new) ≡ map edge_of ds
-    keys = keys_set edge_of below_edge same_edge edges_order ds place old new at same
+    keys = keys_set edge_of edges_order ds place old new at same
 
 -- ---- and they fit the program as before
 

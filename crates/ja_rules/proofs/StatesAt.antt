@@ -1,8 +1,6 @@
 -- The states of a context by node, with one joined in.
 use Rattle.std.specs.Prelude.{◌≡◌, ◌≢◌, ◌<◌, ◌==◌, ℕ, true, List, length, set, get_or, Option, Some, None, IfSome, IsSome}
 use Rattle.std.specs.Option.{option_map, option_and_then}
-use Rattle.std.specs.Prelude.{Result, OnOk}
-use Rattle.std.specs.declared.result.Result.TheVariants.{Ok, Err}
 use Rattle.std.proofs.Common.{refl, sym, ◌∙◌, ap, subst, inl, inr}
 use Rattle.std.proofs.lemmas.Bool.{cond-true, cond-false}
 use Rattle.std.proofs.lemmas.Option.{slice_get-get_or}
@@ -96,7 +94,3 @@ pub shape_fits : (p : Program) (count : ℕ) (o : Option AState) (state : AState
     → IsStateOf p count s
 shape_fits p count o state of shape s e =
     of_shape p count state s (subst (λ q. IfSome q (HaveOneShape state)) e shape) of
-
-pub on_ok : {T E P : Type 0} (r : Result T E) → P → OnOk r P
-on_ok (Ok x) h = h
-on_ok (Err e) h = tt

@@ -32,12 +32,12 @@ use Rattle.ja_rules.specs.declared.table.ATable.{ATable}
 use Rattle.ja_rules.specs.declared.table.CallEdge.{CallEdge}
 use Rattle.ja_rules.specs.declared.table.ContextTable.{ContextTable}
 use Rattle.ja_rules.specs.declared.table.NodeTable.{NodeTable}
-use Rattle.ja_rules.specs.Order.{below_context, below_edge, AreContextsOrdered, AreEdgesOrdered}
+use Rattle.ja_rules.specs.Order.{below_context, context_of, edge_of, AreContextsOrdered, AreEdgesOrdered}
 use Rattle.ja_rules.specs.Tables.{kept_state, states_in, no_entries, is_of, find_context, table_of, Fits, FitsContext, FitsEdge, IsContext}
 use Rattle.ja_rules.specs.code.Growing.{no_nodes, with_context, with_edge}
 use Rattle.ja_rules.specs.code.Places.{find_edge, IsPlaceOf, IsPlaceOfEdge}
 use Rattle.ja_rules.proofs.Ordered.{found_more, any_more, told_by, none_from_any, ordered_more}
-use Rattle.ja_rules.proofs.Places.{context_at_place, edge_at_place, context_of, contexts_order, edge_of, edges_order, in_order, from_order, edges_in_order, edges_from_order}
+use Rattle.ja_rules.proofs.Places.{contexts_order, edges_order}
 
 abbrev pub table_in : List ContextTable → List CallEdge → Table
 table_in cs ds = record {
@@ -51,9 +51,6 @@ table_in cs ds = record {
   edge = λ e. list_any (λ (d : CallEdge). same_edge d.edge e) ds;
 }
 
-pub table_of-lists : (t : ATable) → table_of t ≡ table_in t.contexts.items t.edges.items
-table_of-lists t = refl
-
 -- ---- what is there already
 
 -- whether a look-up found a context or an edge tells whether it is there
@@ -63,7 +60,7 @@ pub context_told : (p : Program) (t : ATable) (x : Context) (o : Option ℕ) →
     ≡ find_context x t.contexts.items) → IfSome o (λ n. n < vec_len t.contexts)
     → (table_of t).context x ≡ is_some o
 context_told p t x o fits found within =
-    told_by context_of below_context same_context contexts_order x t.contexts.items o
+    told_by context_of contexts_order x t.contexts.items o
     (vec_len t.contexts) t.contexts.ok.0 (found fits.ordered) within
 
 pub edge_told : (p : Program) (t : ATable) (e : Edge) (o : Option ℕ) → Fits p t
@@ -71,7 +68,7 @@ pub edge_told : (p : Program) (t : ATable) (e : Edge) (o : Option ℕ) → Fits 
     ≡ find_edge e t.edges.items) → IfSome o (λ n. n < vec_len t.edges)
     → (table_of t).edge e ≡ is_some o
 edge_told p t e o fits found within =
-    told_by edge_of below_edge same_edge edges_order e t.edges.items o (vec_len t.edges)
+    told_by edge_of edges_order e t.edges.items o (vec_len t.edges)
     t.edges.ok.0 (found fits.edges_ordered) within
 
 pub context_there : (t : Table) (x : Context) → t.context x ≡ true → t ≡ with_context t x
@@ -98,8 +95,8 @@ pub edge_more : (cs : List ContextTable) (ds : List CallEdge) (n : ℕ) (d : Cal
     → table_in cs (insert ds n d) ≡ with_edge (table_in cs ds) d.edge
 edge_more cs ds n d at =
     λ i. record (table_in cs ds) {
-      edge = λ (k : Edge). any_more edge_of below_edge same_edge edges_order d k n ds
-          (edge_at_place d.edge ds n at) i;
+      edge = λ (k : Edge). any_more edge_of edges_order d k n ds
+          at i;
     }
 
 -- ---- a context more
@@ -119,8 +116,8 @@ module _ (cs : List ContextTable) (ds : List CallEdge) (n : ℕ) (own : ContextT
   found : (y : Context) → find_context y (insert cs n own)
       ≡ (if same_context own.context y then Some own else find_context y cs)
   found y =
-      found_more context_of below_context same_context contexts_order own y n cs
-      (context_at_place own.context cs n at)
+      found_more context_of contexts_order own y n cs
+      at
 
   none_of : (y : Context) → same_context own.context y ≡ true → find_context y cs ≡ None
   none_of y s =
@@ -157,8 +154,8 @@ module _ (cs : List ContextTable) (ds : List CallEdge) (n : ℕ) (own : ContextT
   pub context_more : table_in (insert cs n own) ds ≡ with_context (table_in cs ds) own.context
   context_more =
       λ i. record {
-        context = λ y. any_more context_of below_context same_context contexts_order own y n cs
-            (context_at_place own.context cs n at) i;
+        context = λ y. any_more context_of contexts_order own y n cs
+            at i;
         state = λ y m. state_more y m i;
         entry = λ y. entry_more y i;
         edge = (table_in cs ds).edge;
@@ -203,10 +200,9 @@ edge_added p t u n d fits here contexts_are edges_are at none = record {
       (λ x h. subst (λ (v : List ContextTable). IsTrue (list_any (is_of x) v)) (sym items) h)
       (all_insert (λ (c : CallEdge). FitsEdge p t c.edge) t.edges.items n d fits.edges here));
   edges_ordered =
-      subst AreEdgesOrdered (sym edges_are) (edges_from_order (insert t.edges.items n d)
-      (ordered_more edge_of below_edge same_edge edges_order d n t.edges.items
-      (edges_in_order t.edges.items fits.edges_ordered) (edge_at_place d.edge t.edges.items n at)
-      (none_from_any (λ (c : CallEdge). same_edge c.edge d.edge) t.edges.items none)));
+      subst AreEdgesOrdered (sym edges_are) (ordered_more edge_of edges_order d n
+      t.edges.items fits.edges_ordered at
+      (none_from_any (λ (c : CallEdge). same_edge c.edge d.edge) t.edges.items none));
   first = fits.first;
   first_is = ap (λ (v : List ContextTable). slice_get v 0) items ∙ fits.first_is;
   first_is_root = fits.first_is_root;
@@ -238,11 +234,9 @@ context_added p t u n own fits here contexts_are edges_are at apart = record {
       subst (All (FitsContext p)) (sym contexts_are)
       (all_insert (FitsContext p) t.contexts.items n own fits.each here);
   ordered =
-      subst AreContextsOrdered (sym contexts_are) (from_order (insert t.contexts.items n own)
-      (ordered_more context_of below_context same_context contexts_order own n t.contexts.items
-      (in_order t.contexts.items fits.ordered)
-      (context_at_place own.context t.contexts.items n at)
-      (none_from_any (is_of own.context) t.contexts.items apart)));
+      subst AreContextsOrdered (sym contexts_are) (ordered_more context_of contexts_order own n
+      t.contexts.items fits.ordered at
+      (none_from_any (is_of own.context) t.contexts.items apart));
   edges =
       subst (λ (v : List CallEdge). All (λ (c : CallEdge). FitsEdge p u c.edge) v) (sym items)
       (edges_still p t u t.edges.items stays fits.edges);
@@ -264,8 +258,8 @@ context_added p t u n own fits here contexts_are edges_are at apart = record {
     stays : (x : Context) → IsTrue ((table_of t).context x) → IsTrue ((table_of u).context x)
     stays x h =
         subst (λ (v : List ContextTable). IsTrue (list_any (is_of x) v)) (sym contexts_are)
-        (subst IsTrue (sym (any_more context_of below_context same_context contexts_order own x n
-        t.contexts.items (context_at_place own.context t.contexts.items n at)))
+        (subst IsTrue (sym (any_more context_of contexts_order own x n
+        t.contexts.items at))
         (by (same_context own.context x) ((table_of t).context x) h))
 
 -- ---- a context without a state, and the one in which the solver begins

@@ -8,16 +8,16 @@ use Rattle.ja_base.specs.declared.ids.Context.{Context}
 use Rattle.ja_base.proofs.Lists.{set_same}
 use Rattle.ja_graph.specs.declared.program.Program.{Program}
 use Rattle.ja_abstract.specs.AbstractState.{AbstractState}
-use Rattle.ja_rows.specs.Table.{Table, root, same_context, same_edge}
+use Rattle.ja_rows.specs.Table.{Table, root, same_context}
 use Rattle.ja_aheap.specs.Entries.{entries_of}
 use Rattle.ja_rules.specs.declared.table.ATable.{ATable}
 use Rattle.ja_rules.specs.declared.table.CallEdge.{CallEdge}
 use Rattle.ja_rules.specs.declared.table.ContextTable.{ContextTable}
-use Rattle.ja_rules.specs.Order.{below_context, below_edge, AreContextsOrdered}
+use Rattle.ja_rules.specs.Order.{context_of, edge_of, AreContextsOrdered}
 use Rattle.ja_rules.specs.Tables.{states_in, no_entries, find_context, Fits, FitsContext, FitsEdge}
 use Rattle.ja_rules.specs.code.Growing.{with_entries_at, HasSameKeys}
 use Rattle.ja_rules.proofs.Ordered.{keys_set, all_by_keys, any_by_keys, ordered_by_keys, found_set}
-use Rattle.ja_rules.proofs.Places.{context_of, contexts_order, edge_of, edges_order, in_order, from_order, edges_in_order, edges_from_order}
+use Rattle.ja_rules.proofs.Places.{contexts_order, edges_order}
 use Rattle.ja_rules.proofs.TableLemmas.{table_in, edges_still}
 
 -- ---- of the same keys
@@ -41,20 +41,18 @@ fits_by_keys p t u fits keys each =
     record {
       each = each;
       ordered =
-          from_order u.contexts.items (ordered_by_keys context_of below_context same_context
-          contexts_order t.contexts.items u.contexts.items keys.contexts
-          (in_order t.contexts.items fits.ordered));
+          ordered_by_keys context_of contexts_order t.contexts.items u.contexts.items
+          keys.contexts fits.ordered;
       edges =
           All-from_recursion (λ (d : CallEdge). FitsEdge p u d.edge) u.edges.items
-          (all_by_keys edge_of below_edge same_edge edges_order (FitsEdge p u) t.edges.items
+          (all_by_keys edge_of edges_order (FitsEdge p u) t.edges.items
           u.edges.items keys.edges (recursion_from_All (λ (d : CallEdge). FitsEdge p u d.edge)
           t.edges.items (edges_still p t u t.edges.items (λ x h. subst IsTrue
-          (sym (any_by_keys context_of below_context same_context contexts_order x
+          (sym (any_by_keys context_of contexts_order x
           t.contexts.items u.contexts.items keys.contexts)) h) fits.edges)));
       edges_ordered =
-          edges_from_order u.edges.items (ordered_by_keys edge_of below_edge same_edge edges_order
-          t.edges.items u.edges.items keys.edges (edges_in_order t.edges.items
-          fits.edges_ordered));
+          ordered_by_keys edge_of edges_order t.edges.items u.edges.items keys.edges
+          fits.edges_ordered;
       first = f;
       first_is = at;
       first_is_root = is;
@@ -66,19 +64,19 @@ module _ (cs : List ContextTable) (ds : List CallEdge) (place : ℕ) (own new : 
     (ordered : AreContextsOrdered cs) (at : slice_get cs place ≡ Some own)
     (same : new.context ≡ own.context) where
   pub put_keys : map context_of (set cs place new) ≡ map context_of cs
-  put_keys = keys_set context_of below_context same_context contexts_order cs place own new at same
+  put_keys = keys_set context_of contexts_order cs place own new at same
 
   put_found : (y : Context) → find_context y (set cs place new)
       ≡ (if same_context new.context y then Some new else find_context y cs)
   put_found y =
-      found_set context_of below_context same_context contexts_order y cs place own new
-      (in_order cs ordered) at same
+      found_set context_of contexts_order y cs place own new
+      ordered at same
 
   pub own_found : find_context own.context cs ≡ Some own
   own_found =
       ap (find_context own.context) (sym (set_same cs place own at))
-      ∙ found_set context_of below_context same_context contexts_order own.context cs place own own
-      (in_order cs ordered) at refl
+      ∙ found_set context_of contexts_order own.context cs place own own
+      ordered at refl
       ∙ cond-true _ _ _ (contexts_order.itself own.context)
 
   found_of : (y : Context) → same_context new.context y ≡ true → find_context y cs ≡ Some own
@@ -164,7 +162,7 @@ module _ (cs : List ContextTable) (ds : List CallEdge) (place : ℕ) (own new : 
   context_kept : (y : Context) → (table_in (set cs place new) ds).context y
       ≡ (table_in cs ds).context y
   context_kept y =
-      any_by_keys context_of below_context same_context contexts_order y cs (set cs place new)
+      any_by_keys context_of contexts_order y cs (set cs place new)
       put_keys
 
   -- ---- the table then

@@ -33,7 +33,7 @@ use Rattle.ja_rules.specs.code.Stepping.{with_entered, FitsEntered}
 use Rattle.ja_rules.proofs.VisitEffects.{of_parts, parts_applied}
 use Rattle.ja_rules.proofs.Applied.{context_applied, demands_applied, edge_applied, of_context, of_demands, of_edge, of_given, of_state, of_values, state_applied, states_applied, values_applied}
 use Rattle.ja_rules.proofs.Grows.{grown_by, IsGrown}
-use Rattle.ja_rules.proofs.Rounds.{same_edge-true}
+use Rattle.ja_rules.proofs.Places.{edges_order}
 
 -- ---- what each part tells
 
@@ -87,7 +87,7 @@ edge_grown t u d told is tells =
     ∙ cond-true (same_edge d d) true (t.edge d) (same_edge-self d)))
     (λ e. is ∙ (λ i. record t {
       edge = λ f. stays_true (same_edge d f) (t.edge f)
-          (λ same. subst (λ g. t.edge g ≡ true) (same_edge-true d f same)
+          (λ same. subst (λ g. t.edge g ≡ true) (edges_order.exact d f same)
           (told_same (t.edge d) told tells e)) i;
     }))
 

@@ -23,13 +23,21 @@ below_edge e d =
     below_context e.caller d.caller || (same_context e.caller d.caller
     && (nat_lt e.node.0 d.node.0 || ((e.node.0 == d.node.0) && below_context e.callee d.callee)))
 
+-- each element comes before all later ones, by their keys
+module _ {X K : Type 0} (key : X → K) (below : K → K → Bool) where
+  abbrev pub AreOrdered : List X → Type 0
+  AreOrdered [] = Unit {0}
+  AreOrdered (c ∷ cs) =
+      AllByRecursion (λ (d : X). IsTrue (below (key c) (key d))) cs × AreOrdered cs
+
+abbrev pub context_of : ContextTable → Context
+context_of c = c.context
+
+abbrev pub edge_of : CallEdge → Edge
+edge_of d = d.edge
+
 abbrev pub AreContextsOrdered : List ContextTable → Type 0
-AreContextsOrdered [] = Unit {0}
-AreContextsOrdered (c ∷ cs) =
-    AllByRecursion (λ (d : ContextTable). IsTrue (below_context c.context d.context)) cs
-    × AreContextsOrdered cs
+AreContextsOrdered contexts = AreOrdered context_of below_context contexts
 
 abbrev pub AreEdgesOrdered : List CallEdge → Type 0
-AreEdgesOrdered [] = Unit {0}
-AreEdgesOrdered (e ∷ es) =
-    AllByRecursion (λ (d : CallEdge). IsTrue (below_edge e.edge d.edge)) es × AreEdgesOrdered es
+AreEdgesOrdered edges = AreOrdered edge_of below_edge edges

@@ -1,4 +1,5 @@
 -- What clauses of the code cite, and no believed statement.
+pub mod Ends
 pub mod Entries
 pub mod Exits
 pub mod Filling

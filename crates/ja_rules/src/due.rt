@@ -5,9 +5,18 @@ ghost use Rattle.ja_graph.specs.declared.program.Program.{Program};
 ghost use Rattle.ja_rules.specs.Tables.{Fits};
 ghost use Rattle.ja_rules.specs.code.Growing.{HasSameMeaning};
 
-use crate::table::{ATable, CallEdge, ContextTable};
+use crate::table::{ATable, CallEdge, Changes, ContextTable};
 use ja_base::{Context, NodeId};
 use ja_rows::{Edge, Item};
+
+// What the visits of an edge go by: when they were, when what they read of the caller changed last,
+// and the changes of the callee.
+#[derive(Clone, Copy)]
+struct EdgeTimes {
+    kept: CallEdge,
+    read: u64,
+    callee: Changes,
+}
 
 impl ContextTable {
     // When what the step of a node reads changed last: its state, or a value at entry.
@@ -36,44 +45,16 @@ impl ATable {
         }
     }
 
-    // When what the fill of an edge reads changed last.
-    fn filled_by(&self, kept: &CallEdge) -> u64 {
-        match (self.at(kept.edge.caller), self.at(kept.edge.callee)) {
-            (Some(own), Some(callee)) => {
-                own.read_at(kept.edge.node).max(callee.changes.demanded)
-            }
-            _ => 0,
-        }
-    }
-
-    // When what the back of an edge reads changed last.
-    fn given_back_by(&self, kept: &CallEdge) -> u64 {
-        match (self.at(kept.edge.caller), self.at(kept.edge.callee)) {
-            (Some(own), Some(callee)) => own.read_at(kept.edge.node).max(callee.changes.left),
-            _ => 0,
-        }
-    }
-
-    // Whether the fill of an edge is due.
-    fn is_fill_due(&self, edge: Edge) -> bool {
-        match self.place_of_edge(edge) {
-            Some(place) => {
-                let kept = &self.edges[place];
-                kept.filled < self.filled_by(kept)
-            }
-            None => false,
-        }
-    }
-
-    // Whether the back of an edge is due.
-    fn is_back_due(&self, edge: Edge) -> bool {
-        match self.place_of_edge(edge) {
-            Some(place) => {
-                let kept = &self.edges[place];
-                kept.given_back < self.given_back_by(kept)
-            }
-            None => false,
-        }
+    // What the visits of an edge go by, if it is one of the table.
+    fn edge_times(&self, edge: Edge) -> Option<EdgeTimes> {
+        let place = self.place_of_edge(edge)?;
+        let own = self.at(edge.caller)?;
+        let callee = self.at(edge.callee)?;
+        Some(EdgeTimes {
+            kept: self.edges[place],
+            read: own.read_at(edge.node),
+            callee: callee.changes,
+        })
     }
 
     /// Whether an item is due.
@@ -84,8 +65,14 @@ impl ATable {
                 Some(own) => own.is_step_due(node),
                 None => false,
             },
-            Item::Fill(edge) => self.is_fill_due(edge),
-            Item::Back(edge) => self.is_back_due(edge),
+            Item::Fill(edge) => match self.edge_times(edge) {
+                Some(times) => times.kept.filled < times.read.max(times.callee.demanded),
+                None => false,
+            },
+            Item::Back(edge) => match self.edge_times(edge) {
+                Some(times) => times.kept.given_back < times.read.max(times.callee.left),
+                None => false,
+            },
         }
     }
 

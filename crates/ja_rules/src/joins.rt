@@ -185,7 +185,8 @@ impl ATable {
         Ok(changed)
     }
 
-    /// Sets values of the entry of a context that is reached, and tells whether there are some.
+    /// Sets values of the entry of a context that is reached, and tells whether there are some. After
+    /// `Memory` some of them may have been set.
     pub(crate) fn set_values(
         &mut self,
         alloc: Global,

@@ -17,5 +17,5 @@ mod table;
 mod visits;
 
 pub use solver::{SolveFault, Solved, solve};
-pub use table::{ATable, CallEdge, Changes, ContextTable, NodeTable, opening};
+pub use table::{ATable, CallEdge, Changes, ContextTable, NodeTable, opening, own_context};
 pub use visits::visit;

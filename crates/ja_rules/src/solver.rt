@@ -7,14 +7,14 @@ ghost use Rattle.ja_sound.specs.Sound.{CoversRuns};
 ghost use Rattle.ja_rules.specs.Tables.{table_of, Fits};
 ghost use Rattle.ja_rules.specs.Solving.{Explains};
 ghost use Rattle.ja_rules.specs.code.Growing.{HasSameEdges, HasSameKeys};
-ghost use Rattle.ja_rules.specs.code.Rounds.{AreFilled, AreGivenBack, AreSettled, AreStepped, AreSteppedAt, GoesOn, HasBuilt, IsSettled, IsUnchanged};
+ghost use Rattle.ja_rules.specs.code.Rounds.{item_along, AreSettled, AreSettledAlong, AreStepped, AreSteppedAt, GoesOn, HasBuilt, IsSettled, IsUnchanged};
 ghost use Rattle.ja_rules.specs.declared.solver.SolveFault.TheVariants as fault;
 
 use crate::{ATable, opening, visit};
 use ja_base::{Context, Memory, NodeId, Seq};
 use ja_graph::Program;
 use ja_keys::ProgramKeys;
-use ja_rows::Item;
+use ja_rows::{Edge, Item};
 use ja_sound::closed_covers;
 use std::alloc::{AllocFailed, Global};
 use std::fmt::{self, Debug, Formatter};
@@ -59,6 +59,25 @@ impl<T: Drop> From<AllocFailed<T>> for SolveFault {
 
     fn from(_: AllocFailed<T>) -> Self {
         SolveFault::Memory
+    }
+}
+
+// What goes along an edge: values into the callee's entry, or states back from its exits.
+#[derive(Clone, Copy)]
+enum Along {
+    Fill,
+    Back,
+}
+
+impl Along {
+    // The item of an edge.
+    fn item(self, edge: Edge) -> Item
+        ensures { result ≡ item_along self edge }
+    {
+        match self {
+            Along::Fill => Item::Fill(edge),
+            Along::Back => Item::Back(edge),
+        }
     }
 }
 
@@ -211,34 +230,18 @@ impl Work<'_> {
         Ok(())
     }
 
-    // Settles the fill of each edge.
-    fn settle_fills(&mut self, each: bool) -> Result<(), SolveFault>
+    // Settles the fill or the back of each edge.
+    fn settle_along(&mut self, along: Along, each: bool) -> Result<(), SolveFault>
         requires built { HasBuilt self.old }
         ensures built { OnOk result (HasBuilt self.new) }
         ensures goes_on { OnOk result (GoesOn self.old self.new) }
         ensures settled { OnOk result (each ≡ true → IsUnchanged self.old self.new
-            → AreFilled self.new.program.now (table_of self.new.table)) }
+            → AreSettledAlong self.new.program.now (table_of self.new.table) along) }
         ensures fault { IfErr result (Explains self.old.program.now self.old.budget) }
     {
         for place in 0..self.table.edges.len() {
             let edge = self.table.edges[place].edge;
-            self.settle(Item::Fill(edge), each)?;
-        }
-        Ok(())
-    }
-
-    // Settles the back of each edge.
-    fn settle_backs(&mut self, each: bool) -> Result<(), SolveFault>
-        requires built { HasBuilt self.old }
-        ensures built { OnOk result (HasBuilt self.new) }
-        ensures goes_on { OnOk result (GoesOn self.old self.new) }
-        ensures settled { OnOk result (each ≡ true → IsUnchanged self.old self.new
-            → AreGivenBack self.new.program.now (table_of self.new.table)) }
-        ensures fault { IfErr result (Explains self.old.program.now self.old.budget) }
-    {
-        for place in 0..self.table.edges.len() {
-            let edge = self.table.edges[place].edge;
-            self.settle(Item::Back(edge), each)?;
+            self.settle(along.item(edge), each)?;
         }
         Ok(())
     }
@@ -254,8 +257,8 @@ impl Work<'_> {
     {
         self.settle(Item::Open, each)?;
         self.settle_steps(each)?;
-        self.settle_fills(each)?;
-        self.settle_backs(each)
+        self.settle_along(Along::Fill, each)?;
+        self.settle_along(Along::Back, each)
     }
 
     // Goes round by the items that are due until none changes the table, and then by each.

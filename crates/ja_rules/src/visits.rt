@@ -1,4 +1,4 @@
-ghost use Rattle.std.specs.Prelude.{◌≡◌, ◌≢◌, IfOk, IsSome, IsTrue, OnOk, Some, false, fold, slice_get, true};
+ghost use Rattle.std.specs.Prelude.{◌≡◌, ◌≢◌, IfOk, IsSome, IsTrue, OnOk, Some, false, fold, true};
 ghost use Rattle.std.specs.List.{AllByRecursion};
 ghost use Rattle.ja_graph.specs.Program.{node_at};
 ghost use Rattle.ja_graph.specs.WellFormed.{IsWellFormed};
@@ -10,6 +10,7 @@ ghost use Rattle.ja_flow.specs.Flow.{AreGivenMore, IsCaller};
 ghost use Rattle.ja_flow.specs.code.Calling.{IsCalling};
 ghost use Rattle.ja_rules.specs.Tables.{kept_state, table_of, Fits, FitsContext};
 ghost use Rattle.ja_rules.specs.Visits.{IsVisited};
+ghost use Rattle.ja_rules.specs.code.Ends.{AreEndsOf};
 ghost use Rattle.ja_rules.specs.code.Exits.{given_at, has_left, is_left, AreAllGiven, IsGivenBack};
 ghost use Rattle.ja_rules.specs.code.Filling.{IsFilled};
 ghost use Rattle.ja_rules.specs.code.Growing.{HasSameEdges, HasSameKeys};
@@ -200,14 +201,48 @@ fn visit_step(
     Ok(is_joined | is_demanded | is_taken)
 }
 
+// ---- the ends of an edge
+
+// The caller of an edge, with its state at the edge's node, and the callee.
+#[derive(Clone, Copy)]
+struct Ends<'a> {
+    caller: Caller<'a>,
+    callee: &'a ContextTable,
+}
+
+// The ends of an edge, if the caller has a state at its node.
+fn ends_of<'a>(
+    alloc: Global,
+    program: &'a Program,
+    keys: &'a ProgramKeys,
+    table: &'a ATable,
+    edge: Edge,
+) -> Option<Ends<'a>>
+    requires program { IsWellFormed program.now }
+    requires keys { IsKeysOf program.now keys.now }
+    requires fits { Fits program.now table.now }
+    requires edge { IsTrue ((table_of table.now).edge edge) }
+    ensures { AreEndsOf program.now table.now edge result }
+{
+    let own = table.at(edge.caller)?;
+    let callee = table.at(edge.callee)?;
+    let state = own.state(edge.node)?;
+    let caller = Caller {
+        reader: Reader::new(alloc, program, keys, state, &own.entries),
+        info: node_info(program, edge.caller.function, edge.node),
+        edge,
+    };
+    Some(Ends { caller, callee })
+}
+
 // ---- Fill
 
 // The values of a callee's entry, by the state of its caller.
-fn filled_by(
+fn filled_by<'a>(
     alloc: Global,
-    program: &Program,
-    keys: &ProgramKeys,
-    table: &ATable,
+    program: &'a Program,
+    keys: &'a ProgramKeys,
+    table: &'a ATable,
     edge: Edge,
 ) -> Result<Option<Filled>, Memory>
     requires program { IsWellFormed program.now }
@@ -216,16 +251,8 @@ fn filled_by(
     requires edge { IsTrue ((table_of table.now).edge edge) }
     ensures { IfOk result (IsFilled program.now (table_of table.now) edge) }
 {
-    let (Some(own), Some(callee)) = (table.at(edge.caller), table.at(edge.callee)) else {
+    let Some(Ends { caller, callee }) = ends_of(alloc, program, keys, table, edge) else {
         return Ok(None);
-    };
-    let Some(state) = own.state(edge.node) else {
-        return Ok(None);
-    };
-    let caller = Caller {
-        reader: Reader::new(alloc, program, keys, state, &own.entries),
-        info: node_info(program, edge.caller.function, edge.node),
-        edge,
     };
     let filled = fill(&caller, &callee.entries)?;
     Ok(Some(filled))
@@ -332,11 +359,11 @@ fn all_given(caller: &Caller<'_>, callee: &ContextTable) -> Result<Given, Memory
 }
 
 // What the exits of a callee give its caller, if there is one with a state.
-fn given_by(
+fn given_by<'a>(
     alloc: Global,
-    program: &Program,
-    keys: &ProgramKeys,
-    table: &ATable,
+    program: &'a Program,
+    keys: &'a ProgramKeys,
+    table: &'a ATable,
     edge: Edge,
 ) -> Result<Option<Given>, Memory>
     requires program { IsWellFormed program.now }
@@ -345,20 +372,12 @@ fn given_by(
     requires edge { IsTrue ((table_of table.now).edge edge) }
     ensures { IfOk result (IsGivenBack program.now (table_of table.now) edge) }
 {
-    let (Some(own), Some(callee)) = (table.at(edge.caller), table.at(edge.callee)) else {
-        return Ok(None);
-    };
-    let Some(state) = own.state(edge.node) else {
+    let Some(Ends { caller, callee }) = ends_of(alloc, program, keys, table, edge) else {
         return Ok(None);
     };
     if !has_exit(program, callee) {
         return Ok(None);
     }
-    let caller = Caller {
-        reader: Reader::new(alloc, program, keys, state, &own.entries),
-        info: node_info(program, edge.caller.function, edge.node),
-        edge,
-    };
     let given = all_given(&caller, callee)?;
     Ok(Some(given))
 }

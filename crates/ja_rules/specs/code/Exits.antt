@@ -21,7 +21,7 @@ use Rattle.ja_flow.specs.declared.caller.Caller.{Caller}
 use Rattle.ja_rules.specs.declared.table.ContextTable.{ContextTable}
 use Rattle.ja_rules.specs.declared.visits.Given.{Given}
 use Rattle.ja_rules.specs.Tables.{states_in}
-use Rattle.ja_rules.specs.code.Filling.{IsCallingAt}
+use Rattle.ja_rules.specs.code.Ends.{IsCallingAt}
 
 -- a node is an exit at which a context has a state
 abbrev pub is_left : Program → ContextTable → ℕ → Bool

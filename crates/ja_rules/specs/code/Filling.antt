@@ -2,7 +2,6 @@
 use Rattle.std.specs.Prelude.{◌≡◌, ◌≢◌, [], Option, Some, None}
 use Rattle.ja_graph.specs.declared.node.NodeInfo.{NodeInfo}
 use Rattle.ja_graph.specs.declared.program.Program.{Program}
-use Rattle.ja_graph.specs.Program.{node_at}
 use Rattle.ja_abstract.specs.AbstractState.{AbstractState}
 use Rattle.ja_rows.specs.declared.table.Edge.{Edge}
 use Rattle.ja_rows.specs.Calls.{demands_of_fill, filled_with}
@@ -10,12 +9,7 @@ use Rattle.ja_rows.specs.Table.{Table, view_at}
 use Rattle.ja_aheap.specs.Objects.{demands_in}
 use Rattle.ja_flow.specs.code.Pairs.{filled, with_set}
 use Rattle.ja_flow.specs.declared.filling.Filled.{Filled}
-
--- what the caller has at a node
-pub record IsCallingAt (p : Program) (t : Table) (e : Edge) (i : NodeInfo) (a : AbstractState)
-    : Type 0 where
-  pub info_is : node_at p e.caller.function e.node ≡ Some i
-  pub state_is : t.state e.caller e.node.0 ≡ Some a
+use Rattle.ja_rules.specs.code.Ends.{IsCallingAt}
 
 -- nothing where the caller has no state at the node, and else the values that change
 abbrev pub IsFilled : Program → Table → Edge → Option Filled → Type 0

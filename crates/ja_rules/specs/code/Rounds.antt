@@ -9,6 +9,8 @@ use Rattle.ja_rows.specs.declared.table.Item.{Item}
 use Rattle.ja_rows.specs.declared.table.Item.TheVariants.{Step, Fill, Back}
 use Rattle.ja_rows.specs.Table.{Table, visited, IsItem, IsBuilt}
 use Rattle.ja_keys.specs.Keys.{IsKeysOf}
+use Rattle.ja_rules.specs.declared.solver.Along.{Along}
+use Rattle.ja_rules.specs.declared.solver.Along.TheVariants as along
 use Rattle.ja_rules.specs.declared.solver.Work.{Work}
 use Rattle.ja_rules.specs.Tables.{table_of, Fits}
 
@@ -29,6 +31,11 @@ pub record GoesOn (before after : Work) : Type 0 where
   pub same : vec_len after.visits ≡ vec_len before.visits
       → table_of after.table ≡ table_of before.table
 
+-- the item of an edge
+abbrev pub item_along : Along → Edge → Item
+item_along along.Fill e = Fill e
+item_along along.Back e = Back e
+
 -- no visit was added
 abbrev pub IsUnchanged : Work → Work → Type 0
 IsUnchanged before after = vec_len after.visits ≡ vec_len before.visits
@@ -37,7 +44,8 @@ IsUnchanged before after = vec_len after.visits ≡ vec_len before.visits
 abbrev pub IsSettled : Program → Table → Item → Type 0
 IsSettled p t item = visited p t item ≡ t
 
--- each item of the table is settled; of the steps of a context, of all steps, of fills and of backs
+-- each item of the table is settled; of the steps of a context, of all steps, and of what goes
+-- along edges
 abbrev pub AreSettled : Program → Table → Type 0
 AreSettled p t = (item : Item) → IsItem p t item → IsSettled p t item
 
@@ -47,8 +55,6 @@ AreSteppedAt p t x = (n : NodeId) → IsItem p t (Step x n) → IsSettled p t (S
 abbrev pub AreStepped : Program → Table → Type 0
 AreStepped p t = (x : Context) → AreSteppedAt p t x
 
-abbrev pub AreFilled : Program → Table → Type 0
-AreFilled p t = (e : Edge) → IsTrue (t.edge e) → IsSettled p t (Fill e)
-
-abbrev pub AreGivenBack : Program → Table → Type 0
-AreGivenBack p t = (e : Edge) → IsTrue (t.edge e) → IsSettled p t (Back e)
+abbrev pub AreSettledAlong : Program → Table → Along → Type 0
+AreSettledAlong p t along =
+    (e : Edge) → IsTrue (t.edge e) → IsSettled p t (item_along along e)

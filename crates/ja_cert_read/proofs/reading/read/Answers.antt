@@ -36,10 +36,12 @@ returns-in_err-program-clause-fault c =
 pub returns-in-Err-read_body-clause-fault : goal.returns-in-Err-read_body-clause-fault
 returns-in-Err-read_body-clause-fault c =
     let p = c.in_ok-program.program in
-    late_told c.args.text.now (view c.in_ok-value.value) c.in-Ok.head p c.told-in-Err-read_body.result
+    late_told c.args.text.now (view c.in_ok-value.value) c.in-Ok.head p
+    c.told-in-Err-read_body.result
     (has_data (goal.at.returns-in-Err-read_body-clause-fault c).In-Ok) c.in-Ok.ensures.1
     c.in_ok-program.ensures.program
-    (c.told-in-Err-read_body.ensures (late_fields_wrong p (data_in c.in-Ok.head)) c.in-Err-read_body.ensures)
+    (c.told-in-Err-read_body.ensures (late_fields_wrong p (data_in c.in-Ok.head))
+    c.in-Err-read_body.ensures)
 
 pub table_with-requires-clause-right : goal.table_with-requires-clause-right
 table_with-requires-clause-right c =
@@ -48,7 +50,8 @@ table_with-requires-clause-right c =
 
 pub returns-clause-ok : goal.returns-clause-ok
 returns-clause-ok c =
-    certificate_read c.args.text.now (view c.in_ok-value.value) c.in-Ok.head c.in-Ok-read_body.body _
-    c.in_ok-value.ensures.data c.in-Ok.ensures.0 c.in-Ok.ensures.1 c.in_ok-program.ensures.program
-    c.in_ok-program.ensures.signatures c.in-Ok-read_body.ensures.0 c.in-Ok-read_body.ensures.1
-    c.in_ok-table.ensures.contexts (λ i. (c.in_ok-table.ensures.edges i).items) refl
+    certificate_read c.args.text.now (view c.in_ok-value.value) c.in-Ok.head
+    c.in-Ok-read_body.body _ c.in_ok-value.ensures.data c.in-Ok.ensures.0 c.in-Ok.ensures.1
+    c.in_ok-program.ensures.program c.in_ok-program.ensures.signatures c.in-Ok-read_body.ensures.0
+    c.in-Ok-read_body.ensures.1 c.in_ok-table.ensures.contexts
+    (λ i. (c.in_ok-table.ensures.edges i).items) refl

@@ -35,7 +35,8 @@ returns-in_err-contexts c =
 
 pub returns-in_err-edges : goal.returns-in_err-edges
 returns-in_err-edges c =
-    let p = err_from_is_err_and c.from_residual-in_err-edges.result c.from_residual-in_err-edges.ensures.1 in
+    let p = err_from_is_err_and c.from_residual-in_err-edges.result
+    c.from_residual-in_err-edges.ensures.1 in
     rw (p.1, p.2) (body_told_edges c.args.program.now c.args.head.now _
     (contexts (goal.at.returns-in_err-edges c).After-deref).0
     (rw (between (goal.at.returns-in_err-edges c).After-deref) (inside_err (codes "edges") _ _
@@ -43,7 +44,8 @@ returns-in_err-edges c =
 
 pub returns-in_err-visits : goal.returns-in_err-visits
 returns-in_err-visits c =
-    let p = err_from_is_err_and c.from_residual-in_err-visits.result c.from_residual-in_err-visits.ensures.1 in
+    let p = err_from_is_err_and c.from_residual-in_err-visits.result
+    c.from_residual-in_err-visits.ensures.1 in
     let edges = inside_ok (codes "edges") _ _ c.read_list-2.result c.in_ok-edges.edges
     c.read_list-2.ensures c.in_ok-edges.ensures.same in
     rw (p.1, p.2) (body_told_visits c.args.program.now c.args.head.now _

@@ -28,14 +28,16 @@ returns-in_err-whole c = search (rules, head_told_keys)
 
 pub returns-in_err-under : goal.returns-in_err-under
 returns-in_err-under c =
-    let p = err_from_is_err_and c.from_residual-in_err-under.result c.from_residual-in_err-under.ensures.1 in
+    let p = err_from_is_err_and c.from_residual-in_err-under.result
+    c.from_residual-in_err-under.ensures.1 in
     rw (p.1, p.2) (head_told_version _ c.in_ok-whole.ensures.1 _
     (rw (sym c.is_version.ensures) (inside_err (codes "version") _ _ c.here_unless.result _
     c.here_unless.ensures c.in_err-under.ensures.told)))
 
 pub returns-in_err-text : goal.returns-in_err-text
 returns-in_err-text c =
-    let p = err_from_is_err_and c.from_residual-in_err-text.result c.from_residual-in_err-text.ensures.1 in
+    let p = err_from_is_err_and c.from_residual-in_err-text.result
+    c.from_residual-in_err-text.ensures.1 in
     rw (p.1, p.2) (head_told_text _ c.in_ok-whole.ensures.1 _
     (version (goal.at.returns-in_err-text c).In_ok-under)
     (inside_err (codes "text") _ _ c.read_source.result _ c.read_source.ensures
@@ -43,7 +45,8 @@ returns-in_err-text c =
 
 pub returns-in_err-signatures : goal.returns-in_err-signatures
 returns-in_err-signatures c =
-    let p = err_from_is_err_and c.from_residual-in_err-signatures.result c.from_residual-in_err-signatures.ensures.1 in
+    let p = err_from_is_err_and c.from_residual-in_err-signatures.result
+    c.from_residual-in_err-signatures.ensures.1 in
     rw (p.1, p.2) (head_told_devices _ c.in_ok-whole.ensures.1 _
     (version (goal.at.returns-in_err-signatures c).In_ok-under)
     (text (goal.at.returns-in_err-signatures c).In_ok-text).0

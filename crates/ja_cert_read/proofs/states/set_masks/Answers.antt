@@ -11,7 +11,8 @@ set_masks-requires c =
 
 pub returns-clause-state : goal.returns-clause-state
 returns-clause-state c =
-    masks_set c.args.masks.items _ c.args.state.now.registers.items (heap_of c.args.state.now.heap) _
+    masks_set c.args.masks.items _ c.args.state.now.registers.items
+    (heap_of c.args.state.now.heap) _
     (c.in_ok-pairs.ensures ∙ ap (map mask_pair) c.deref.ensures.value)
     c.in_ok-set_masks.ensures.set
 

@@ -1,7 +1,7 @@
 use Rattle.std.proofs.Common.{◌∙◌}
 use Rattle.ja_rules.specs.Tables.{table_of}
-use Rattle.ja_report.proofs.ContextLemmas.{contexts_count}
-use Rattle.ja_report.proofs.EdgeLemmas.{edges_count}
+use Rattle.ja_rules.proofs.ListedContexts.{contexts_count}
+use Rattle.ja_rules.proofs.ListedEdges.{edges_count}
 use Rattle.ja_top.proofs.finding.findings_of.Goals as goal
 
 pub returns : goal.returns

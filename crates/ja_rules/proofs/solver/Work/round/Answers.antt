@@ -8,35 +8,35 @@ returns-in_err-settle_steps-clause-fault c =
     explains_from c.args.self.now c.settle.new.self c.in_ok-settle.ensures.goes_on _
     (search rules)
 
-pub returns-in_err-settle_fills-clause-fault : goal.returns-in_err-settle_fills-clause-fault
-returns-in_err-settle_fills-clause-fault c =
+pub returns-in_err-settle_along-clause-fault : goal.returns-in_err-settle_along-clause-fault
+returns-in_err-settle_along-clause-fault c =
     explains_from c.args.self.now c.settle_steps.new.self
     (goes_both c.args.self.now c.settle.new.self c.settle_steps.new.self
     c.in_ok-settle.ensures.goes_on c.in_ok-settle_steps.ensures.goes_on) _ (search rules)
 
 pub returns-clause-goes_on : goal.returns-clause-goes_on
 returns-clause-goes_on c =
-    ok_after c.settle_backs.result c.settle_backs.ensures.goes_on
-    (λ last. goes_both c.args.self.now c.settle_fills.new.self c.settle_backs.new.self
-    (goes_both c.args.self.now c.settle_steps.new.self c.settle_fills.new.self
+    ok_after c.settle_along-2.result c.settle_along-2.ensures.goes_on
+    (λ last. goes_both c.args.self.now c.settle_along.new.self c.settle_along-2.new.self
+    (goes_both c.args.self.now c.settle_steps.new.self c.settle_along.new.self
     (goes_both c.args.self.now c.settle.new.self c.settle_steps.new.self
     c.in_ok-settle.ensures.goes_on c.in_ok-settle_steps.ensures.goes_on)
-    c.in_ok-settle_fills.ensures.goes_on) last)
+    c.in_ok-settle_along.ensures.goes_on) last)
 
 pub returns-clause-settled : goal.returns-clause-settled
 returns-clause-settled c =
-    both_on c.settle_backs.result c.settle_backs.ensures.goes_on c.settle_backs.ensures.settled
+    both_on c.settle_along-2.result c.settle_along-2.ensures.goes_on c.settle_along-2.ensures.settled
     (λ last backs each same. round_settled c.args.self.now c.settle.new.self
-    c.settle_steps.new.self c.settle_fills.new.self c.settle_backs.new.self
+    c.settle_steps.new.self c.settle_along.new.self c.settle_along-2.new.self
     c.in_ok-settle.ensures.goes_on c.in_ok-settle_steps.ensures.goes_on
-    c.in_ok-settle_fills.ensures.goes_on last (c.in_ok-settle.ensures.settled each)
-    (c.in_ok-settle_steps.ensures.settled each) (c.in_ok-settle_fills.ensures.settled each)
+    c.in_ok-settle_along.ensures.goes_on last (c.in_ok-settle.ensures.settled each)
+    (c.in_ok-settle_steps.ensures.settled each) (c.in_ok-settle_along.ensures.settled each)
     (backs each) same)
 
 pub returns-clause-fault : goal.returns-clause-fault
 returns-clause-fault c =
-    explains_from c.args.self.now c.settle_fills.new.self
-    (goes_both c.args.self.now c.settle_steps.new.self c.settle_fills.new.self
+    explains_from c.args.self.now c.settle_along.new.self
+    (goes_both c.args.self.now c.settle_steps.new.self c.settle_along.new.self
     (goes_both c.args.self.now c.settle.new.self c.settle_steps.new.self
     c.in_ok-settle.ensures.goes_on c.in_ok-settle_steps.ensures.goes_on)
-    c.in_ok-settle_fills.ensures.goes_on) c.settle_backs.result c.settle_backs.ensures.fault
+    c.in_ok-settle_along.ensures.goes_on) c.settle_along-2.result c.settle_along-2.ensures.fault

@@ -2,10 +2,9 @@ use Rattle.std.proofs.Common.{◌≡◌, true, false, not, List, length, ap, sym
 use Rattle.std.specs.List.Sorted.{IsPartitionedBy, IsPartitionPoint}
 use Rattle.std.proofs.lemmas.List.Sorted.{IsPartitionPoint-from_clause}
 use Rattle.ja_rules.specs.declared.table.ContextTable.{ContextTable}
-use Rattle.ja_rules.specs.Order.{below_context}
-use Rattle.ja_rows.specs.Table.{same_context}
+use Rattle.ja_rules.specs.Order.{below_context, context_of}
 use Rattle.ja_rules.proofs.Ordered.{parted_above}
-use Rattle.ja_rules.proofs.Places.{context_of, contexts_order, in_order, place_behind_context}
+use Rattle.ja_rules.proofs.Places.{contexts_order, place_behind_context}
 use Rattle.ja_rules.proofs.table.ATable.contexts_up_to.Goals as goal
 
 pub returns : goal.returns
@@ -20,5 +19,5 @@ returns c ordered =
     (λ d. before d ≡ false) ds c.partition_point.result) same
     (IsPartitionPoint-from_clause before _ _ c.partition_point.ensures.partitioned
     (subst (IsPartitionedBy before) (sym same)
-    (parted_above context_of below_context same_context contexts_order x cs (in_order cs ordered)))
+    (parted_above context_of contexts_order x cs ordered))
     (λ a r q k. search rules)))

@@ -1,10 +1,14 @@
 -- Strictly ascending lists: two of them with the same elements are equal.
-use Rattle.std.specs.Prelude.{◌≡◌, ◌⊎◌, ◌<◌, ◌≤◌, ◌+◌, ℕ, zero, suc, Bool, true, false, IsTrue, filter, flat_map, map, List, [], ◌∷◌, ◌++◌}
-use Rattle.std.specs.List.{AllByRecursion, range_with_len}
+use Rattle.std.specs.Prelude.{◌≡◌, ◌⊎◌, ◌<◌, ◌≤◌, ◌+◌, ℕ, zero, suc, Bool, true, false, All, IsTrue, filter, flat_map, map, List, [], ◌∷◌, ◌++◌}
+use Rattle.std.specs.List.{list_any, AllByRecursion, range_with_len}
 use Rattle.std.proofs.Common.{cond, refl, sym, subst, ap, ◌∙◌, inl, inr, arith}
+use Rattle.std.proofs.lemmas.Bool.{false≢true, or_cases, or_left, or_right}
+use Rattle.std.proofs.lemmas.List.Elements.{recursion_from_All}
 use Rattle.ja_base.proofs.Lists.{all_append}
+use Rattle.ja_machine.proofs.Lists.{all_map}
 use Rattle.ja_abstract.specs.Lists.{Member}
 use Rattle.ja_abstract.proofs.Lists.{member-range}
+use Rattle.ja_rules.specs.Order.{AreOrdered}
 
 -- ---- what holds of each element
 
@@ -168,3 +172,45 @@ ascends-range a (suc n) = (
       let r = from_range (a + 1) n j m in omega (arith, r.0)),
   ascends-range (a + 1) n,
 )
+
+-- ---- lists by what their elements have
+
+module _ {C X : Type 0} (of : C → X) (same : X → X → Bool) where
+  pub listed : ((x y : X) → IsTrue (same x y) → x ≡ y) → (cs : List C) (x : X)
+      → IsTrue (list_any (λ c. same (of c) x) cs) → Member x (map of cs)
+  listed is [] x h = absurd (false≢true h)
+  listed is (c ∷ cs) x h = elim (or_cases (same (of c) x) _ h) [
+    | inl s ↦ inl (is (of c) x s)
+    | inr r ↦ inr (listed is cs x r)
+  ]
+
+  pub told : ((x : X) → IsTrue (same x x)) → (cs : List C) (x : X) → Member x (map of cs)
+      → IsTrue (list_any (λ c. same (of c) x) cs)
+  told self [] x m = elim m [ ]
+  told self (c ∷ cs) x (inl e) =
+      or_left _ _ (subst (λ z. IsTrue (same (of c) z)) e (self (of c)))
+  told self (c ∷ cs) x (inr m) = or_right (same (of c) x) _ (told self cs x m)
+
+-- what are in order ascend by their keys
+pub keys_ascend : {C X : Type 0} (of : C → X) (below : X → X → Bool) (cs : List C)
+    → AreOrdered of below cs → Ascends (λ x y. IsTrue (below x y)) (map of cs)
+keys_ascend of below [] o = tt
+keys_ascend of below (c ∷ cs) o = (
+  all_map (λ d. IsTrue (below (of c) (of d))) (λ x. IsTrue (below (of c) x)) of (λ d h. h) cs o.0,
+  keys_ascend of below cs o.1,
+)
+
+-- what holds of the key of each holds of each key
+pub of_key : {C X : Type 0} (of : C → X) (P : X → Type 0) (cs : List C)
+    → All (λ c. P (of c)) cs → (x : X) → Member x (map of cs) → P x
+of_key of P cs each x m =
+    of_member P (map of cs) x (all_map (λ c. P (of c)) P of (λ c h. h) cs
+    (recursion_from_All (λ c. P (of c)) cs each)) m
+
+pub flat_map_each : {A B : Type 0} (f g : A → List B) (xs : List A)
+    → AllByRecursion (λ x. f x ≡ g x) xs → flat_map f xs ≡ flat_map g xs
+flat_map_each f g [] all = refl
+flat_map_each f g (x ∷ xs) all =
+    let here = all.0 in
+    let rest = flat_map_each f g xs all.1 in
+    λ i. here i ++ rest i

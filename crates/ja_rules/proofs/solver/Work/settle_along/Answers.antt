@@ -1,14 +1,15 @@
-use Rattle.std.proofs.Common.{arith, rules, subst}
+use Rattle.std.proofs.Common.{arith, rules, subst, sym}
 use Rattle.ja_graph.specs.declared.program.Program.{Program}
 use Rattle.ja_rows.specs.declared.table.Edge.{Edge}
-use Rattle.ja_rows.specs.declared.table.Item.TheVariants.{Fill}
-use Rattle.ja_rows.specs.Table.{Table}
+use Rattle.ja_rows.specs.declared.table.Item.{Item}
+use Rattle.ja_rows.specs.Table.{IsItem, Table}
 use Rattle.ja_rules.specs.declared.table.CallEdge.{CallEdge}
 use Rattle.ja_rules.specs.Tables.{table_of}
-use Rattle.ja_rules.specs.code.Rounds.{IsSettled}
-use Rattle.ja_rules.proofs.Rounds.{all_edges, both_unchanged, carried, edge_there, explains_from, goes_both, goes_same, more_edges, same_at, same_count, slice_at, AreSettledEdges}
+use Rattle.ja_rules.specs.code.Growing.{HasSameEdges}
+use Rattle.ja_rules.specs.code.Rounds.{item_along, IsSettled}
+use Rattle.ja_rules.proofs.Rounds.{all_edges, along_keys, along_there, both_unchanged, carried, explains_from, goes_both, goes_same, more_edges, same_at, same_count, slice_at, AreSettledEdges}
 use Rattle.ja_rules.proofs.SameMeaning.{keys_both, keys_same}
-use Rattle.ja_rules.proofs.solver.Work.settle_fills.Goals as goal
+use Rattle.ja_rules.proofs.solver.Work.settle_along.Goals as goal
 
 pub loop-place-init : goal.loop-place-init
 loop-place-init c = record {
@@ -27,8 +28,10 @@ index-requires c =
 
 pub settle-requires-clause-item : goal.settle-requires-clause-item
 settle-requires-clause-item c =
+    let p = c.loop-place.self.program.now in
     let t = c.loop-place.self.table in
-    edge_there t c.loop-place.place c.index.result.now
+    subst (IsItem p (table_of t)) (sym c.item.ensures)
+    (along_there p t c.args.along c.loop-place.place c.index.result.now
     (slice_at t.edges.items c.loop-place.place c.index.result.now
     (omega (
       arith,
@@ -36,7 +39,7 @@ settle-requires-clause-item c =
       c.loop-place-test.true,
       c.len-place-end.ensures,
       t.edges.ok.0,
-    )) c.index.ensures)
+    )) c.index.ensures))
 
 pub returns-in_err-settle-clause-fault : goal.returns-in_err-settle-clause-fault
 returns-in_err-settle-clause-fault c =
@@ -62,24 +65,28 @@ loop-place-preserved c =
           goes_both first was now c.loop-place.invariant.goes_on c.in_ok-settle.ensures.goes_on;
       keys =
           keys_both first.table was.table now.table c.loop-place.invariant.keys
-          c.in_ok-settle.ensures.edges;
+          (along_keys c.args.along c.index.result.now.edge was.table now.table
+          (subst (λ (i : Item). HasSameEdges i was.table now.table) c.item.ensures
+          c.in_ok-settle.ensures.edges));
       settled =
           λ each same. let u = both_unchanged first was now c.loop-place.invariant.goes_on
           c.in_ok-settle.ensures.goes_on same in
-          more_edges now.program.now (table_of now.table) Fill first.table.edges.items
+          more_edges now.program.now (table_of now.table) c.args.along first.table.edges.items
           c.loop-place.place
-          (carried (λ (p : Program) (t : Table). AreSettledEdges p t Fill
+          (carried (λ (p : Program) (t : Table). AreSettledEdges p t c.args.along
           first.table.edges.items c.loop-place.place) was now c.in_ok-settle.ensures.goes_on
           u.second (c.loop-place.invariant.settled each u.first))
-          (λ d is. subst (λ (e : Edge). IsSettled now.program.now (table_of now.table) (Fill e))
+          (λ d is. subst (λ (e : Edge). IsSettled now.program.now (table_of now.table)
+          (item_along c.args.along e))
           (same_at (λ (f : CallEdge). f.edge) was.table.edges.items first.table.edges.items
           c.loop-place.place c.index.result.now d c.loop-place.invariant.keys.edges at is)
-          (c.in_ok-settle.ensures.settled each u.second));
+          (subst (IsSettled now.program.now (table_of now.table)) c.item.ensures
+          (c.in_ok-settle.ensures.settled each u.second)));
     }
 
 pub returns-clause-settled : goal.returns-clause-settled
 returns-clause-settled c = λ each same.
     all_edges c.loop-place.self.program.now c.args.self.now.table
-    (table_of c.loop-place.self.table) Fill c.loop-place.place
+    (table_of c.loop-place.self.table) c.args.along c.loop-place.place
     (omega (arith, c.loop-place-test.false, c.len-place-end.ensures))
     (c.loop-place.invariant.goes_on.same same) (c.loop-place.invariant.settled each same)

@@ -1,11 +1,10 @@
 -- The edges stay, and where no visit was added those so far are settled.
 use Rattle.std.proofs.Common.{◌≡◌, true}
-use Rattle.ja_rows.specs.declared.table.Item.TheVariants.{Back}
 use Rattle.ja_rules.specs.Tables.{table_of}
 use Rattle.ja_rules.specs.code.Growing.{HasSameKeys}
 use Rattle.ja_rules.specs.code.Rounds.{GoesOn, HasBuilt, IsUnchanged}
 use Rattle.ja_rules.proofs.Rounds.{AreSettledEdges}
-use Rattle.ja_rules.proofs.solver.Work.settle_backs.Given as goal
+use Rattle.ja_rules.proofs.solver.Work.settle_along.Given as goal
 
 abbrev pub invariant-loop-place : goal.invariant-loop-place
 invariant-loop-place l = record {
@@ -13,6 +12,6 @@ invariant-loop-place l = record {
   goes_on : GoesOn l.fn.self l.self;
   keys : HasSameKeys l.fn.self.table l.self.table;
   settled : l.each ≡ true → IsUnchanged l.fn.self l.self
-      → AreSettledEdges l.self.program.now (table_of l.self.table) Back
+      → AreSettledEdges l.self.program.now (table_of l.self.table) l.along
       l.fn.self.table.edges.items l.place;
 }
