@@ -1,0 +1,4 @@
+-- what is shown of messages about a text: read from `Messages` and `Page` on
+pub mod Lines
+pub mod Messages
+pub mod Page

@@ -1,0 +1,77 @@
+-- The lines of a text, and how a place of one is shown: the line, as far as it is near the place,
+-- and a caret below the place.
+use Rattle.std.specs.Prelude.{ℕ, ◌-◌, ◌+◌, Bool, not, ◌||◌, ◌==◌, nat_le, nat_lt, if◌then◌else◌, List, [], ◌∷◌, ◌++◌, take, drop, length, replicate, slice_get, is_some, unwrap_or}
+use Rattle.std.specs.Char.{encode_utf8}
+use Rattle.std.specs.Int.{is_in_range}
+use Rattle.std.specs.List.{flat_map}
+use lib.Chars.{codes}
+use Rattle.unicode_width.specs.Width.{char_width}
+use Rattle.ja_base.specs.declared.ids.Place.{Place}
+use Rattle.ja_lex.specs.Spots.{ends_line}
+
+-- ---- lines
+
+-- a character in front of the first of some lines
+abbrev pub in_first : ℕ → List (List ℕ) → List (List ℕ)
+in_first c [] = (c ∷ []) ∷ []
+in_first c (line ∷ lines) = (c ∷ line) ∷ lines
+
+-- the lines of these characters, without those that end them (ES3 7.3)
+unfoldable pub lines_of : List ℕ → List (List ℕ)
+lines_of [] = [] ∷ []
+lines_of (c ∷ cs) = if ends_line (c ∷ cs) then [] ∷ lines_of cs else in_first c (lines_of cs)
+
+-- the line with this number, from 1
+abbrev pub line_at : List (List ℕ) → ℕ → List ℕ
+line_at lines number = unwrap_or (slice_get lines (number - 1)) []
+
+-- ---- characters
+
+-- a control, and what turns the direction of the characters behind it, isn't shown as it is
+abbrev pub is_hidden : ℕ → Bool
+is_hidden c =
+    not (is_some (char_width false c)) || is_in_range 0x202A 0x202E c
+    || is_in_range 0x2066 0x2069 c
+
+-- the bytes of a character as it is shown: a tab stays, and a CR before its LF takes no room
+unfoldable pub shown : ℕ → List ℕ
+shown c =
+    if c == 9 then 9 ∷ [] else if c == 13 then []
+    else if is_hidden c then encode_utf8 0xFFFD else encode_utf8 c
+
+-- as many blanks as its columns
+unfoldable pub blanks : ℕ → List ℕ
+blanks c =
+    if c == 9 then 9 ∷ [] else if c == 13 then []
+    else if is_hidden c then 32 ∷ [] else replicate (unwrap_or (char_width false c) 1) 32
+
+-- ---- a place of a line
+
+-- At most so many characters of a line are shown; where the column is past the 80th, those from the
+-- 60th before it on.
+abbrev pub most_shown : ℕ
+most_shown = 100
+
+abbrev pub skipped : ℕ → ℕ
+skipped column = if nat_le column 80 then 0 else column - 60
+
+-- dots stand for what is left out
+abbrev pub dots : Bool → List ℕ
+dots some = if some then codes "..." else []
+
+unfoldable pub shown_line : List ℕ → ℕ → List ℕ
+shown_line line column =
+    let first = skipped column in
+    dots (not (first == 0)) ++ flat_map shown (take most_shown (drop first line))
+    ++ dots (nat_lt (first + most_shown) (length line)) ++ codes "\n"
+
+unfoldable pub caret_line : List ℕ → ℕ → List ℕ
+caret_line line column =
+    let first = skipped column in
+    (if first == 0 then [] else codes "   ")
+    ++ flat_map blanks (take (column - 1 - first) (drop first line)) ++ codes "^\n"
+
+unfoldable pub excerpt : List (List ℕ) → Place → List ℕ
+excerpt lines place =
+    let line = line_at lines place.line in
+    shown_line line place.column ++ caret_line line place.column
