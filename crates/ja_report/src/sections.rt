@@ -75,7 +75,8 @@ pub(crate) fn push_devices(text: &mut Vec<u8>, devices: &[Signature]) -> Result<
 
 // ---- warnings
 
-fn kind_text(kind: WarningKind) -> &'static [u8]
+/// What may go wrong, in words.
+pub fn kind_text(kind: WarningKind) -> &'static [u8]
     ensures { result.now ≡ kind_text kind }
 {
     match kind {
@@ -86,7 +87,8 @@ fn kind_text(kind: WarningKind) -> &'static [u8]
     }
 }
 
-fn certainty_text(certain: bool) -> &'static [u8]
+/// Whether it surely does, in a word.
+pub fn certainty_text(certain: bool) -> &'static [u8]
     ensures { result.now ≡ certainty_text certain }
 {
     if certain { b"certain" } else { b"possible" }

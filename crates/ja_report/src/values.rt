@@ -1,6 +1,6 @@
 //! Writers of abstract values.
 
-ghost use Rattle.std.specs.Prelude.{◌≡◌, ◌++◌, [], ◌∷◌, OnOk, List, ℕ, length, map, filter};
+ghost use Rattle.std.specs.Prelude.{◌≡◌, ◌++◌, [], ◌∷◌, OnOk, List, ℕ, length, map, filter, IfOk};
 ghost use Rattle.ja_graph.specs.WellFormed.{IsWellFormed};
 ghost use Rattle.ja_abstract.specs.AbstractState.{labels_of};
 ghost use Rattle.ja_value.specs.Value.{labels_in, value_of};
@@ -174,4 +174,15 @@ pub(crate) fn push_value(
     push_parts(out, alloc, program, value)?;
     close_parts(&mut out.text, start)?;
     Ok(())
+}
+
+/// The text of a value: its parts with bars between them. `Memory` comes where memory was refused.
+pub fn value_text(alloc: Global, program: &Program, value: &AValue) -> Result<Vec<u8>, Memory>
+    requires { IsWellFormed program.now }
+    ensures { IfOk result (λ text. text.items ≡ value_text program.now (value_of value.now)) }
+{
+    let mut out = Output::new(alloc);
+    push_value(&mut out, alloc, program, value)?;
+    let Output { text, named: _ } = out;
+    Ok(text)
 }
