@@ -1,5 +1,5 @@
 -- What is found of the program of a text is found of the text.
-use Rattle.std.specs.Prelude.{List, ℕ, Result, Ok, Err, IfOk, IfErr}
+use Rattle.std.specs.Prelude.{◌≡◌, List, ℕ, Result, Ok, Err, IfOk, IfErr}
 use Rattle.ja_graph.specs.declared.program.Program.{Program}
 use Rattle.ja_load.specs.Loading.{IsProgramOf}
 use Rattle.ja_prim.specs.declared.signature.Signature.{Signature}
@@ -19,7 +19,8 @@ module _ (bytes : List ℕ) (signatures : List Signature) (p : Program)
   -- of what a call gives
   pub finds : (r : Result Findings FindFault) → IfOk r (IsFoundIn p)
       → IfOk r (Finds bytes signatures)
-  finds (Ok found) h = (p, of, h)
+  finds (Ok found) h =
+      (subst (IsProgramOf bytes signatures) (sym h.program) of, subst (λ (q : Program). IsFoundIn q found) (sym h.program) h)
   finds (Err f) h = h
 
   pub finds_none : (r : Result Findings FindFault) → IfErr r (IsUnfoundIn p)

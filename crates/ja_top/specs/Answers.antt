@@ -135,16 +135,16 @@ written_of written finished faults sink sink_after = record {
   faults_after = faults sink_after;
 }
 
--- the text of an answer was appended, and the sink is finished
-abbrev pub IsWritten : Call → Written → Status → Type 0
-IsWritten c w status =
-    (text : List ℕ) × HasCause c status text × Appends w.written w.written_after text
+-- the text of an answer with its cause was appended, and the sink is finished
+abbrev pub IsWritten : (Status → List ℕ → Type 0) → Written → Status → Type 0
+IsWritten Cause w status =
+    (text : List ℕ) × Cause status text × Appends w.written w.written_after text
     × TurnsTo w.finished w.finished_after true
 
--- a front of the text of an answer was appended
-abbrev pub IsBegun : Call → Written → Type 0
-IsBegun c w =
-    (status : Status) × (text : List ℕ) × HasCause c status text
+-- a front of the text of an answer with its cause was appended
+abbrev pub IsBegun : (Status → List ℕ → Type 0) → Written → Type 0
+IsBegun Cause w =
+    (status : Status) × (text : List ℕ) × Cause status text
     × AppendsFront w.written w.written_after text
 
 -- a run of the text that was read was refused memory
@@ -161,7 +161,7 @@ DevicesComeBack c = DevicesStand c ⊎ StopsRun c
 -- the status, its cause, and what the sink holds: after a fault of the sink the front of another
 -- answer's text, and without memory nothing
 abbrev pub IsAnswered : Call → Written → Status → Type 0
-IsAnswered c w WriteFault = Rose w.faults w.faults_after × IsBegun c w
+IsAnswered c w WriteFault = Rose w.faults w.faults_after × IsBegun (HasCause c) w
 IsAnswered c w Memory =
     Keeps w.written w.written_after × Keeps w.finished w.finished_after × DevicesComeBack c
-IsAnswered c w status = IsWritten c w status
+IsAnswered c w status = IsWritten (HasCause c) w status

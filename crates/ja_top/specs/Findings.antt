@@ -1,43 +1,42 @@
 -- What the analysis finds of a text, without a report, and why it finds nothing.
 use Rattle.std.specs.Prelude.{◌≡◌, ◌≤◌, ℕ, List, length}
 use Rattle.std.specs.Str.{IsUtf8}
+use Rattle.std.specs.List.{AllByRecursion}
 use Rattle.std.specs.Str.Lossy.{utf8_valid_len}
 use Rattle.ja_graph.specs.declared.program.Program.{Program}
 use Rattle.ja_load.specs.Loading.{IsProgramOf}
 use Rattle.ja_load.specs.code.Loading.{HasNone}
 use Rattle.ja_machine.specs.Runs.{NeverStuck}
 use Rattle.ja_prim.specs.declared.signature.Signature.{Signature}
-use Rattle.ja_rows.specs.declared.table.Item.{Item}
-use Rattle.ja_rows.specs.Listed.{contexts_of, edges_of}
-use Rattle.ja_rows.specs.Table.{Table, IsBuilt, IsClosed}
+use Rattle.ja_rows.specs.Table.{IsBuilt, IsClosed}
 use Rattle.ja_rows.specs.Warning.{AreWarnings}
 use Rattle.ja_rules.specs.Solving.{WasSpent}
+use Rattle.ja_rules.specs.Tables.{table_of, Fits}
 use Rattle.ja_sound.specs.Sound.{CoversRuns, WarnsOfFaults}
+use Rattle.ja_warn.specs.Told.{warnings_of, IsTold}
 use Rattle.ja_words.specs.Words.{default_budget}
 use Rattle.ja_top.specs.declared.finding.FindFault.{FindFault}
 use Rattle.ja_top.specs.declared.finding.FindFault.TheVariants as fault
 use Rattle.ja_top.specs.declared.finding.Findings.{Findings}
 
--- What is found of a program: the warnings of a table that so many visits build, which is closed,
--- covers every run and has so many contexts and edges. An operation that goes wrong in some run is
--- among the warnings, and no run of the program is stuck.
+-- What is found of a program: a table that the visits build, which is closed and covers every run,
+-- and its warnings, each with the value of what it is about. An operation that goes wrong in some
+-- run is among the warnings, and no run of the program is stuck.
 pub record IsFoundIn (p : Program) (found : Findings) : Type 0 where
-  pub table : Table
-  pub visits : List Item
-  pub built : IsBuilt p visits table
-  pub few : length visits ≤ default_budget
-  pub closed : IsClosed p table
-  pub exact : AreWarnings p table found.warnings
-  pub contexts : found.contexts ≡ length (contexts_of p table)
-  pub edges : found.edges ≡ length (edges_of p table)
-  pub visits_are : found.visits ≡ length visits
-  pub covers : CoversRuns p table
-  pub warned : WarnsOfFaults p found.warnings
+  pub program : found.program ≡ p
+  pub fits : Fits p found.table
+  pub built : IsBuilt p found.visits (table_of found.table)
+  pub few : length found.visits ≤ default_budget
+  pub closed : IsClosed p (table_of found.table)
+  pub exact : AreWarnings p (table_of found.table) (warnings_of found.warnings)
+  pub values : AllByRecursion (IsTold p (table_of found.table)) found.warnings
+  pub covers : CoversRuns p (table_of found.table)
+  pub warned : WarnsOfFaults p (warnings_of found.warnings)
   pub goes_on : NeverStuck p
 
 abbrev pub Finds : List ℕ → List Signature → Findings → Type 0
 Finds bytes signatures found =
-    (p : Program) × IsProgramOf bytes signatures p × IsFoundIn p found
+    IsProgramOf bytes signatures found.program × IsFoundIn found.program found
 
 -- why nothing is found of a program; want of memory is explained by nothing
 abbrev pub IsUnfoundIn : Program → FindFault → Type 0

@@ -1,4 +1,4 @@
-//! What the analysis finds, without a text.
+//! What the analysis finds, as it is, without a text.
 
 ghost use Rattle.std.specs.Prelude.{◌≡◌, ◌≤◌, IfErr, IfOk, length};
 ghost use Rattle.ja_lex.specs.Spots.{max_bytes};
@@ -16,23 +16,23 @@ use ja_graph::Program;
 use ja_load::{LoadFault, load};
 use ja_machine::never_stuck;
 use ja_prim::Signature;
-use ja_rows::Warning;
-use ja_rules::{SolveFault, Solved, solve};
-use ja_warn::warnings;
+use ja_rows::Item;
+use ja_rules::{ATable, SolveFault, Solved, solve};
+use ja_warn::{Told, told};
 use ja_words::DEFAULT_BUDGET;
 use std::alloc::Global;
 use std::str;
 use thiserror::Error;
 
-/// What the analysis of a text finds: the warnings, those of the text by line, column and kind, and
-/// those of the built-in functions behind them; and how many contexts and call edges the closed
-/// table has, and how many visits built it.
+/// What the analysis of a text finds: its program, the closed table, the visits that built it, and
+/// its warnings, those of the text by line, column and kind, and those of the built-in functions
+/// behind them, each with the value of what it is about.
 #[derive(Drop)]
 pub struct Findings {
-    pub warnings: Seq<Warning>,
-    pub contexts: usize,
-    pub edges: usize,
-    pub visits: usize,
+    pub program: Program,
+    pub table: ATable,
+    pub visits: Seq<Item>,
+    pub warnings: Seq<Told>,
 }
 
 /// Why a text isn't analysed.
@@ -69,30 +69,31 @@ impl From<LoadFault> for FindFault {
 }
 
 // What is found of a solved program.
-fn findings_of(alloc: Global, program: &Program, solved: &Solved) -> Result<Findings, Memory>
-    requires program { IsWellFormed program.now }
-    requires solved { IsSolved program.now default_budget solved.now }
-    ensures { IfOk result (IsFoundIn program.now) }
+fn findings_of(alloc: Global, program: Program, solved: Solved) -> Result<Findings, Memory>
+    requires program { IsWellFormed program }
+    requires solved { IsSolved program default_budget solved }
+    ensures { IfOk result (IsFoundIn program) }
 {
-    let warnings = warnings(alloc, program, &solved.table)?;
+    let warnings = told(alloc, &program, &solved.table)?;
     never_stuck();
+    let Solved { table, visits } = solved;
     Ok(Findings {
+        program,
+        table,
+        visits,
         warnings,
-        contexts: solved.table.contexts.len(),
-        edges: solved.table.edges.len(),
-        visits: solved.visits.len(),
     })
 }
 
 // Solves a program.
-fn find_in(alloc: Global, program: &Program) -> Result<Findings, FindFault>
-    requires { IsWellFormed program.now }
-    ensures found { IfOk result (IsFoundIn program.now) }
-    ensures fault { IfErr result (IsUnfoundIn program.now) }
+fn find_in(alloc: Global, program: Program) -> Result<Findings, FindFault>
+    requires { IsWellFormed program }
+    ensures found { IfOk result (IsFoundIn program) }
+    ensures fault { IfErr result (IsUnfoundIn program) }
 {
-    match solve(alloc, program, DEFAULT_BUDGET) {
+    match solve(alloc, &program, DEFAULT_BUDGET) {
         Ok(solved) => {
-            let findings = findings_of(alloc, program, &solved)?;
+            let findings = findings_of(alloc, program, solved)?;
             Ok(findings)
         }
         Err(SolveFault::Spent { .. }) => Err(FindFault::Spent),
@@ -108,14 +109,14 @@ fn find_in_text(alloc: Global, text: &str, signatures: &[Signature]) -> Result<F
     ensures fault { IfErr result (IsUnfound text.now signatures.now) }
 {
     let program = load(alloc, text, signatures)?;
-    find_in(alloc, &program)
+    find_in(alloc, program)
 }
 
 /// Analyses the bytes of a text, at most [`MAX_BYTES`](crate::MAX_BYTES) of them, as a program that
 /// may call these devices, and says what is found, without a report. None of the devices is asked.
 ///
 /// The warnings are those that the report would have: an operation that goes wrong in some run is
-/// among them.
+/// among them, and after any steps of a run its state is in the meaning of the table's.
 ///
 /// # Errors
 ///

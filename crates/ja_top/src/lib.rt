@@ -62,12 +62,15 @@ pub use finding::{FindFault, Findings, find};
 pub use request::{Form, Request};
 pub use running::run;
 pub use status::Status;
-pub use top::{MAX_BYTES, tajs};
+pub use top::{MAX_BYTES, tajs, write_answer};
 
 // what these take and give
 pub use ja_base::{Failed, Memory, MemorySink, MemorySource, Sink, Source, StdSink, StdSource};
 pub use ja_device::{CallFault, Device, Devices, DevicesFault, Heard, Scripted};
 pub use ja_grammar::ParseFault;
+pub use ja_graph::Program;
 pub use ja_load::LoadFault;
 pub use ja_prim::{Int, Kinds, Num, Primitive, Signature, Text16};
 pub use ja_rows::{Item, Warning, WarningKind};
+pub use ja_rules::ATable;
+pub use ja_warn::Told;

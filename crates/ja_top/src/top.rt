@@ -132,8 +132,8 @@ fn answer<S: Source, D: Device>(
     }
 }
 
-// Writes a text whole, and finishes the sink.
-fn write_answer<K: Sink>(sink: &mut K, text: &[u8]) -> Result<(), Failed>
+/// Writes a text whole, and finishes the sink. The error is a fault of the sink.
+pub fn write_answer<K: Sink>(sink: &mut K, text: &[u8]) -> Result<(), Failed>
     ensures written { OnOk result (Appends (K.written sink.old) (K.written sink.new) text.now) }
     ensures finished { OnOk result (TurnsTo (K.finished sink.old) (K.finished sink.new) true) }
     ensures front { OnErr result (AppendsFront (K.written sink.old) (K.written sink.new) text.now) }
