@@ -1,9 +1,9 @@
 //! Runs with the devices of the program, and devices that fail or are refused.
 
-use crate::hosts::{input, number, print, text};
 use crate::tests::{is_answer, repeated, words};
 use ja_base::{Memory, MemorySink, MemorySource};
 use ja_device::{CallFault, Device, Devices, DevicesFault, Scripted};
+use ja_host::{input, number, print, text};
 use ja_prim::{Kinds, Primitive};
 use ja_top::{Status, tajs};
 use std::alloc::Global;

@@ -1,9 +1,9 @@
 //! Texts that are run, each of which a machine that is wrong in one place would end otherwise.
 
-use crate::hosts::print;
 use crate::tests::{answered, is_answer, repeated, words};
 use ja_base::{Memory, MemorySink, MemorySource};
 use ja_device::Devices;
+use ja_host::print;
 use ja_top::{Status, tajs};
 use std::alloc::Global;
 

@@ -1,4 +1,4 @@
-//! The host devices of the program. Each answers from a list, and repeats its last answer.
+//! The host devices of the programs. Each answers from a list, and repeats its last answer.
 
 ghost use Rattle.std.specs.Prelude.{◌≡◌, [], ◌∷◌, ◌++◌, IfOk, true, false, pos};
 ghost use Rattle.std.specs.String.{string_bytes};
@@ -7,11 +7,11 @@ ghost use Rattle.ja_prim.specs.declared.primitive.Num.TheVariants as num;
 ghost use Rattle.ja_prim.specs.declared.primitive.Primitive.TheVariants as primitive;
 
 use ja_base::Memory;
-use ja_device::Scripted;
+use ja_device::{Devices, Scripted};
 use ja_prim::{Int, Kinds, Num, Primitive, Text16};
 use std::alloc::Global;
 
-/// Adds a number to answers.
+// Adds a number to answers.
 fn add_number(answers: &mut Vec<Primitive>, number: u8) -> Result<(), Memory>
     ensures { IfOk result (λ _. answers.new.items ≡ answers.old.items
         ++ primitive.Number (num.Whole (pos number)) ∷ []) }
@@ -69,4 +69,18 @@ pub fn print(alloc: Global) -> Result<Scripted, Memory>
     let mut answers = Vec::new(alloc);
     answers.push(Primitive::Undefined)?;
     Scripted::new(alloc, "print", Kinds::UNDEFINED, answers, Vec::new(alloc))
+}
+
+/// The devices of the programs: `input`, `number`, `text` and `print`, in this order. `Memory` comes
+/// where memory was refused.
+pub fn devices(alloc: Global) -> Result<Devices<Scripted>, Memory> {
+    let mut list = Vec::new(alloc);
+    list.push(input(alloc)?)?;
+    list.push(number(alloc)?)?;
+    list.push(text(alloc)?)?;
+    list.push(print(alloc)?)?;
+    let Ok(devices) = Devices::new(list) else {
+        unreachable!()
+    };
+    Ok(devices)
 }

@@ -1,6 +1,6 @@
 -- The four devices can be a program's.
-use Rattle.ja_tool.proofs.Signatures.{none_refused}
-use Rattle.ja_tool.proofs.answered.Goals as goal
+use Rattle.ja_host.proofs.Signatures.{none_refused}
+use Rattle.ja_host.proofs.answering.devices.Goals as goal
 
 pub unreachable-requires : goal.unreachable-requires
 unreachable-requires c =

@@ -1,7 +1,7 @@
 -- the answers so far are numbers
 use Rattle.std.proofs.Common.{◌≡◌, true, false, length}
 use Rattle.ja_device.specs.code.Scripts.{AreOfKinds}
-use Rattle.ja_tool.proofs.hosts.number.Given as goal
+use Rattle.ja_host.proofs.answering.number.Given as goal
 
 abbrev pub invariant-loop-number : goal.invariant-loop-number
 invariant-loop-number l = record {

@@ -1,0 +1,169 @@
+-- The answers of the program to words and a source: the cause of each status, and the text that is
+-- written with it.
+use Rattle.std.specs.Prelude.{◌≡◌, ◌≤◌, ◌⊎◌, ◌+◌, ℕ, Bool, true, false, if◌then◌else◌, String, List, [], ◌∷◌, ◌++◌, map, length, Option, Some, None, unwrap_or}
+use Rattle.std.specs.Fmt.{decimal}
+use Rattle.std.specs.Str.{IsUtf8, chars}
+use Rattle.std.specs.Str.Lossy.{utf8_valid_len}
+use Rattle.std.specs.String.{string_bytes}
+use Rattle.std.specs.declared.alloc.Global.{Global}
+use lib.Chars.{codes}
+use Rattle.ja_base.specs.declared.ids.Place.{Place}
+use Rattle.ja_base.specs.declared.ids.ScopeKind.{ScopeKind}
+use Rattle.ja_base.specs.Streams.{Rose, Keeps, IsLonger, TakesCount}
+use Rattle.ja_graph.specs.declared.program.Program.{Program}
+use Rattle.ja_grammar.specs.declared.fault.ParseFault.TheVariants as fault
+use Rattle.ja_lex.specs.Spots.{max_bytes}
+use Rattle.ja_load.specs.Loading.{IsProgramOf, HasManyFunctions, HasManyNodes, IsNone}
+use Rattle.ja_machine.specs.Runs.{NeverStuck}
+use Rattle.ja_prim.specs.declared.signature.Signature.{Signature}
+use Rattle.ja_rows.specs.declared.table.Item.{Item}
+use Rattle.ja_rows.specs.declared.table.Warning.{Warning}
+use Rattle.ja_rows.specs.Table.{Table, IsBuilt, IsClosed}
+use Rattle.ja_rows.specs.Warning.{AreWarnings}
+use Rattle.ja_rules.specs.Solving.{WasSpent}
+use Rattle.ja_show.specs.declared.message.Level.TheVariants.{Error}
+use Rattle.ja_show.specs.declared.message.Link.{Link}
+use Rattle.ja_show.specs.declared.message.Message.{Message}
+use Rattle.ja_show.specs.Messages.{messages_text}
+use Rattle.ja_show.specs.Page.{page_text}
+use Rattle.ja_sound.specs.Sound.{CoversRuns, WarnsOfFaults}
+use Rattle.ja_texts.specs.Texts.{scope_name}
+use Rattle.ja_top.specs.Answers.{Call, DevicesStand, IsBegun, IsInput, IsWritten, Written}
+use Rattle.ja_top.specs.Runs.{signatures_of}
+use Rattle.ja_top.specs.Statuses.{has_fault}
+use Rattle.ja_top.specs.declared.status.Status.{Status}
+use Rattle.ja_top.specs.declared.status.Status.TheVariants.{Done, Warned, Usage, ReadFault, WriteFault}
+use Rattle.ja_top.specs.declared.status.Status.TheVariants.{TooLong, NotText, Syntax, Scope, Limit, Spent, Memory}
+use Rattle.ja_words.specs.Words.{default_budget}
+use Rattle.ja_lint_top.specs.Calls.{AreLinks}
+use Rattle.ja_lint_top.specs.Counts.{counts_text}
+use Rattle.ja_lint_top.specs.Telling.{AreTold}
+use Rattle.ja_lint_top.specs.Words.{IsCommandLine}
+
+-- what the words ask for: a page or lines, under the name of a file if one is given
+pub record Asked : Type 0 where
+  pub html : Bool
+  pub name : Option (List ℕ)
+
+-- ---- a text that is analysed
+
+-- the messages of a text, and behind them their counts
+abbrev pub lines_text : Option (List ℕ) → List ℕ → List Message → List Warning → List ℕ
+lines_text name text messages warnings =
+    messages_text name (chars text) messages ++ counts_text warnings ++ codes "\n"
+
+-- a page goes by the name of the file
+abbrev pub title_of : Option (List ℕ) → List ℕ
+title_of name = unwrap_or name (codes "tajs-lint")
+
+abbrev pub shown_text : Asked → List ℕ → List Message → List Link → List Warning → List ℕ
+shown_text asked text messages links warnings =
+    if asked.html then
+    page_text (title_of asked.name) (counts_text warnings) (chars text) messages links
+    else lines_text asked.name text messages warnings
+
+-- What is written of the program of a text, with these warnings: a message for each, once and in
+-- order, and nothing else. They are those of a closed table that covers every run, and an operation
+-- that goes wrong in some run is among them. No run of the program is stuck.
+pub record IsLinted (asked : Asked) (text : List ℕ) (p : Program) (out : List ℕ)
+    (warnings : List Warning) : Type 0 where
+  pub table : Table
+  pub visits : List Item
+  pub messages : List Message
+  pub links : List Link
+  pub printed : out ≡ shown_text asked text messages links warnings
+  pub told : AreTold p table warnings messages
+  pub linked : AreLinks p table links
+  pub built : IsBuilt p visits table
+  pub few : length visits ≤ default_budget
+  pub closed : IsClosed p table
+  pub exact : AreWarnings p table warnings
+  pub covers : CoversRuns p table
+  pub warned : WarnsOfFaults p warnings
+  pub goes_on : NeverStuck p
+
+abbrev pub Lints : Asked → List ℕ → List Signature → List ℕ → List Warning → Type 0
+Lints asked text signatures out warnings =
+    (p : Program) × IsProgramOf text signatures p × IsLinted asked text p out warnings
+
+-- ---- a text that is refused
+
+-- one error, at a place of the text or at none
+abbrev pub error_of : Option Place → List ℕ → Message
+error_of place text =
+    record { level = Error; place = place; text = text; value = []; calls = [] }
+
+abbrev pub error_text : Asked → List ℕ → Option Place → List ℕ → List ℕ
+error_text asked cs place text = messages_text asked.name cs (error_of place text ∷ [])
+
+-- the text nests too deep, or has too many functions, or else too many nodes
+abbrev pub IsPastLimit : Asked → List ℕ → List Signature → List ℕ → Type 0
+IsPastLimit asked text signatures out =
+    ((place : Place) × IsNone text (fault.Depth place)
+    × (out ≡ error_text asked (chars text) (Some place) (codes "nested deeper than 200 levels")))
+    ⊎ ((HasManyFunctions text
+    × (out ≡ error_text asked (chars text) None (codes "more than 4096 functions")))
+    ⊎ (HasManyNodes text signatures
+    × (out ≡ error_text asked (chars text) None (codes "more than 65536 nodes"))))
+
+-- the budget of visits is spent, and the table isn't closed
+abbrev pub IsSpent : Asked → List ℕ → List Signature → List ℕ → Type 0
+IsSpent asked text signatures out =
+    (p : Program) × IsProgramOf text signatures p
+    × ((visits : List Item) × WasSpent p default_budget visits)
+    × (out ≡ error_text asked (chars text) None (codes "not closed after 1000000 visits"))
+
+-- ---- what is written of bytes, by the status
+
+abbrev pub Follows : Asked → List ℕ → List Signature → Status → List ℕ → Type 0
+Follows asked bytes signatures Done out =
+    (ws : List Warning) × (has_fault ws ≡ false) × Lints asked bytes signatures out ws
+Follows asked bytes signatures Warned out =
+    (ws : List Warning) × (has_fault ws ≡ true) × Lints asked bytes signatures out ws
+Follows asked bytes signatures NotText out =
+    (IsUtf8 bytes → ⊥)
+    × (out ≡ error_text asked [] None
+    (codes "no character begins at byte " ++ decimal (utf8_valid_len bytes)))
+Follows asked bytes signatures Syntax out =
+    (place : Place) × IsNone bytes (fault.Syntax place)
+    × (out ≡ error_text asked (chars bytes) (Some place) (codes "syntax error"))
+Follows asked bytes signatures Scope out =
+    (kind : ScopeKind) × (place : Place) × IsNone bytes (fault.Scope kind place)
+    × (out ≡ error_text asked (chars bytes) (Some place)
+    (codes "out of the profile: " ++ scope_name kind))
+Follows asked bytes signatures Limit out = IsPastLimit asked bytes signatures out
+Follows asked bytes signatures Spent out = IsSpent asked bytes signatures out
+Follows asked bytes signatures status out = ⊥
+
+-- ---- the program
+
+abbrev pub Asks : List (String Global) → Asked → Type 0
+Asks words asked = IsCommandLine (map string_bytes words) asked.html asked.name
+
+-- one line, without the name of a file
+abbrev pub refused : List ℕ → List ℕ
+refused text = messages_text None [] (error_of None text ∷ [])
+
+-- the cause of each status that has a text, and the text; no device is asked
+abbrev pub HasCause : Call → Status → List ℕ → Type 0
+HasCause c Usage out =
+    ((asked : Asked) → Asks c.words asked → ⊥) × Keeps c.left c.left_after
+    × (out ≡ codes "usage: tajs-lint [--html] [NAME]\n")
+HasCause c ReadFault out =
+    ((asked : Asked) × Asks c.words asked) × Rose c.faults c.faults_after
+    × (out ≡ refused (codes "the input failed"))
+HasCause c TooLong out =
+    ((asked : Asked) × Asks c.words asked) × IsLonger max_bytes c.left
+    × TakesCount (max_bytes + 1) c.left c.left_after
+    × (out ≡ refused (codes "more than 16777216 bytes"))
+HasCause c status out =
+    (asked : Asked) × Asks c.words asked
+    × ((bytes : List ℕ) × IsInput c bytes
+    × Follows asked bytes (signatures_of c.devices) status out)
+
+-- the status, its cause, and what the sink holds: after a fault of the sink the front of another
+-- answer's text, and without memory nothing
+abbrev pub IsAnswered : Call → Written → Status → Type 0
+IsAnswered c w WriteFault = Rose w.faults w.faults_after × IsBegun (HasCause c) w
+IsAnswered c w Memory = Keeps w.written w.written_after × Keeps w.finished w.finished_after
+IsAnswered c w status = IsWritten (HasCause c) w status

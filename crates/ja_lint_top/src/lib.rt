@@ -1,0 +1,22 @@
+//! The faults of a script at its lines: each warning of its closed table as compilers write theirs,
+//! or on a page with the whole script (`lint`).
+//!
+//! The clause `answered` of `lint` (`lint.rt`), by `IsAnswered` of `specs/Lint.antt`, says of all
+//! words, sources, sinks and lists of devices: each status has its cause, those of the analysis;
+//! and what was written is, whole, a message for each warning of a closed table of the program of
+//! the text, once and in order, at its place (`AreTold`), with the counts, and nothing else; or the
+//! error of a text that is refused, with its line. The table covers every run of the program, and
+//! an operation that goes wrong in some run is among the warnings. A page has the text with each
+//! message at its place, and with a link for each call of a function of the text (`AreLinks`).
+#![tactic(auto)]
+
+mod callers;
+mod counts;
+mod links;
+mod lint;
+mod refusing;
+mod telling;
+mod words;
+
+pub use lint::lint;
+pub use words::{Words, asked};
