@@ -1,14 +1,16 @@
 ghost use Rattle.std.specs.Prelude.{◌≡◌, ◌<◌, IfOk, None, Some, filter, length, map};
-ghost use Rattle.std.specs.BTreeMap.{get, values, IsOrdered};
-ghost use Rattle.std.specs.List.{flat_map};
+ghost use Rattle.std.specs.BTreeMap.{values, IsOrdered};
+ghost use Rattle.std.specs.List.{flat_map, AllByRecursion};
 ghost use Rattle.ja_graph.specs.Program.{node_at, nodes_of};
 ghost use Rattle.ja_graph.specs.WellFormed.{IsWellFormed};
+ghost use Rattle.ja_value.specs.Value.{value_of};
 ghost use Rattle.ja_keys.specs.Keys.{IsKeysOf};
 ghost use Rattle.ja_rows.specs.Table.{IsClosed};
-ghost use Rattle.ja_rows.specs.Warning.{AreWarnings};
+ghost use Rattle.ja_rows.specs.Warning.{AreWarnings, operation_of};
 ghost use Rattle.ja_sound.specs.Sound.{WarnsOfFaults};
 ghost use Rattle.ja_rules.specs.Tables.{table_of, Fits, FitsContext};
-ghost use Rattle.ja_warn.specs.code.Faults.{Spot, held, reached_at, reached_of_context, spot_cmp};
+ghost use Rattle.ja_warn.specs.Told.{warnings_in, IsValueThere};
+ghost use Rattle.ja_warn.specs.code.Faults.{Spot, found_at, held, reached_at, reached_of_context, spot_cmp, told_by};
 ghost use Rattle.ja_warn.specs.declared.reached.Reached.{Reached};
 
 use crate::found::Spot;
@@ -21,8 +23,16 @@ use ja_look::Reader;
 use ja_rows::Warning;
 use ja_rules::{ATable, ContextTable};
 use ja_sound::warned_of_faults;
+use ja_value::AValue;
 use std::alloc::{AllocError, Global};
 use std::collections::BTreeMap;
+
+/// A warning, and the value that the table says of what it is about.
+#[derive(Drop)]
+pub struct Told {
+    pub warning: Warning,
+    pub value: AValue,
+}
 
 // Adds the operations of a node, if the context has a state there.
 fn add_node(
@@ -38,8 +48,8 @@ fn add_node(
     requires keys { IsKeysOf program.now keys.now }
     requires fits { FitsContext program.now own.now }
     requires info { node_at program.now own.now.context.function node ≡ Some info.now }
-    ensures { IfOk result (λ _. (k : Spot) → get spot_cmp found.new k
-        ≡ held k (get spot_cmp found.old k) (reached_at program.now own.now node.0)) }
+    ensures { IfOk result (λ _. (k : Spot) → found_at found.new k
+        ≡ held k (found_at found.old k) (reached_at program.now own.now node.0)) }
 {
     let Some(state) = own.state(node) else {
         return Ok(());
@@ -69,8 +79,8 @@ fn add_context(
     requires program { IsWellFormed program.now }
     requires keys { IsKeysOf program.now keys.now }
     requires fits { FitsContext program.now own.now }
-    ensures { IfOk result (λ _. (k : Spot) → get spot_cmp found.new k
-        ≡ held k (get spot_cmp found.old k) (reached_of_context program.now own.now)) }
+    ensures { IfOk result (λ _. (k : Spot) → found_at found.new k
+        ≡ held k (found_at found.old k) (reached_of_context program.now own.now)) }
 {
     let nodes = nodes(program, own.context.function);
     for node in 0..nodes.len() {
@@ -90,7 +100,7 @@ fn operations_by(
     requires program { IsWellFormed program.now }
     requires keys { IsKeysOf program.now keys.now }
     requires fits { Fits program.now table.now }
-    ensures { IfOk result (λ found. (k : Spot) → get spot_cmp found k
+    ensures { IfOk result (λ found. (k : Spot) → found_at found k
         ≡ held k None (flat_map (reached_of_context program.now) table.now.contexts.items)) }
 {
     let mut found = BTreeMap::new(alloc);
@@ -108,24 +118,51 @@ fn operations(
 ) -> Result<BTreeMap<Spot, Reached>, Memory>
     requires program { IsWellFormed program.now }
     requires fits { Fits program.now table.now }
-    ensures { IfOk result (λ found. (k : Spot) → get spot_cmp found k
+    ensures { IfOk result (λ found. (k : Spot) → found_at found k
         ≡ held k None (flat_map (reached_of_context program.now) table.now.contexts.items)) }
 {
     let keys = ProgramKeys::new(alloc, program)?;
     operations_by(alloc, program, &keys, table)
 }
 
-// The warnings of those operations that may go wrong, in order.
-fn warnings_of(alloc: Global, found: &BTreeMap<Spot, Reached>) -> Result<Vec<Warning>, AllocError>
-    ensures warnings { IfOk result (λ ws. ws.items
-        ≡ map (λ (o : Reached). o.warning) (filter (λ o. o.fault) (values found.now))) }
-    ensures ordered { IsOrdered spot_cmp found.now }
+// The warnings of those operations that may go wrong, in order, each with its value.
+fn told_of(alloc: Global, found: BTreeMap<Spot, Reached>) -> Result<Vec<Told>, AllocError>
+    ensures told { IfOk result (λ ts. ts.items
+        ≡ map told_by (filter (λ (o : Reached). o.fault) (values found))) }
+    ensures ordered { IsOrdered spot_cmp found }
 {
     found
-        .values()
-        .filter(|reached| reached.fault)
-        .map(|reached| reached.warning)
+        .into_iter()
+        .filter(|(_, reached)| reached.fault)
+        .map(|(_, reached)| {
+            let Reached {
+                warning,
+                fault: _,
+                value,
+            } = reached;
+            Told { warning, value }
+        })
         .collect(alloc)
+}
+
+/// The warnings of a table (`warnings`), each with the value that the table says of what it is
+/// about: the least one that has whatever is, in some state there, the callee, what is converted to
+/// an object, the base of the name or the object whose property is read. `Memory` comes where
+/// memory was refused.
+pub fn told(alloc: Global, program: &Program, table: &ATable) -> Result<Seq<Told>, Memory>
+    requires program { IsWellFormed program.now }
+    requires fits { Fits program.now table.now }
+    ensures warnings { IfOk result (λ ts. AreWarnings program.now (table_of table.now)
+        (warnings_in ts)) }
+    ensures values { IfOk result (λ ts. AllByRecursion (λ x. IsValueThere program.now
+        (table_of table.now) (operation_of x.warning) (value_of x.value)) ts) }
+    ensures faults { IfOk result (λ ts. IsClosed program.now (table_of table.now)
+        → WarnsOfFaults program.now (warnings_in ts)) }
+{
+    let found = operations(alloc, program, table)?;
+    let told = told_of(alloc, found)?;
+    warned_of_faults();
+    Ok(Seq::from_vec(told))
 }
 
 /// The warnings of a table, those of the text by line, column and kind, and those of the built-in
@@ -141,8 +178,11 @@ pub fn warnings(alloc: Global, program: &Program, table: &ATable) -> Result<Seq<
     ensures faults { IfOk result (λ ws. IsClosed program.now (table_of table.now)
         → WarnsOfFaults program.now ws) }
 {
-    let found = operations(alloc, program, table)?;
-    let warnings = warnings_of(alloc, &found)?;
-    warned_of_faults();
+    let told = told(alloc, program, table)?;
+    let warnings = told
+        .as_slice()
+        .iter()
+        .map(|told| told.warning)
+        .collect(alloc)?;
     Ok(Seq::from_vec(warnings))
 }

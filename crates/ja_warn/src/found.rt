@@ -1,13 +1,14 @@
-ghost use Rattle.std.specs.Prelude.{◌≡◌, IfOk};
-ghost use Rattle.std.specs.BTreeMap.{get};
-ghost use Rattle.std.specs.Option.{option_copied};
+ghost use Rattle.std.specs.Prelude.{◌≡◌, IfOk, Some};
 ghost use Rattle.ja_rows.specs.Warning as spec;
+ghost use Rattle.ja_value.specs.Value.{value_of};
 ghost use Rattle.ja_warn.specs.code.Faults as code;
-ghost use Rattle.ja_warn.specs.code.Faults.{Spot, spot_cmp, with_reached};
+ghost use Rattle.ja_warn.specs.code.Faults.{Spot, finding, found_at, merged, with_reached};
 
 use crate::reached::Reached;
 use ja_base::{FnId, Memory};
 use ja_rows::{Warning, WarningKind};
+use ja_value::AValue;
+use std::alloc::Global;
 use std::collections::BTreeMap;
 
 /// The numbers by which warnings are in order: of the built-in function, or 0, the line, the column
@@ -48,30 +49,55 @@ fn spot_of(warning: &Warning) -> Spot
     )
 }
 
-// An operation that may have been reached earlier: it may go wrong where either may, and does so
-// certainly where both do.
-fn merged(earlier: Option<&Reached>, more: Reached) -> Reached
-    ensures { result ≡ code.merged (option_copied earlier.entry) more }
-{
-    match earlier {
-        Some(earlier) => Reached {
-            warning: Warning {
-                certain: earlier.warning.certain & more.warning.certain,
-                ..more.warning
-            },
-            fault: earlier.fault | more.fault,
-        },
-        None => more,
+impl Reached {
+    // Takes in one more of the same operation: it may go wrong where either may, does so certainly
+    // where both do, and is about what either is about.
+    fn merge(
+        &mut self,
+        alloc: Global,
+        warning: Warning,
+        fault: bool,
+        value: &AValue,
+    ) -> Result<(), Memory>
+        ensures { IfOk result (λ _. finding self.new ≡ merged (Some (finding self.old))
+            (record { warning = warning; fault = fault; value = value_of value.now })) }
+    {
+        self.value.join(alloc, value)?;
+        self.warning = Warning {
+            certain: self.warning.certain & warning.certain,
+            ..warning
+        };
+        self.fault = self.fault | fault;
+        Ok(())
     }
 }
 
-/// Adds an operation, merged with the one of its numbers.
-pub(crate) fn add(found: &mut BTreeMap<Spot, Reached>, more: Reached) -> Result<(), Memory>
-    ensures { IfOk result (λ _. (k : Spot) → get spot_cmp found.new k
-        ≡ with_reached k (get spot_cmp found.old k) more) }
+/// Adds an operation, merged with what was found of the same one.
+pub(crate) fn add(
+    alloc: Global,
+    found: &mut BTreeMap<Spot, Reached>,
+    warning: Warning,
+    fault: bool,
+    value: &AValue,
+) -> Result<(), Memory>
+    ensures { IfOk result (λ _. (k : Spot) → found_at found.new k
+        ≡ with_reached k (found_at found.old k)
+        (record { warning = warning; fault = fault; value = value_of value.now })) }
 {
-    let spot = spot_of(&more.warning);
-    let merged = merged(found.get(&spot), more);
-    found.insert(spot, merged)?;
-    Ok(())
+    let spot = spot_of(&warning);
+    match found.get_mut(&spot) {
+        Some(earlier) => earlier.merge(alloc, warning, fault, value),
+        None => {
+            let value = value.copy(alloc)?;
+            found.insert(
+                spot,
+                Reached {
+                    warning,
+                    fault,
+                    value,
+                },
+            )?;
+            Ok(())
+        }
+    }
 }

@@ -10,4 +10,4 @@ mod found;
 mod nodes;
 mod reached;
 
-pub use faults::warnings;
+pub use faults::{Told, told, warnings};

@@ -1,18 +1,18 @@
-ghost use Rattle.std.specs.Prelude.{◌≡◌, ◌<◌, IfOk, vec_len};
-ghost use Rattle.std.specs.BTreeMap.{get};
+ghost use Rattle.std.specs.Prelude.{◌≡◌, ◌<◌, IfOk, Some, vec_len};
 ghost use Rattle.std.specs.List.{AllByRecursion};
 ghost use Rattle.ja_base.specs.declared.ids.Reg.{Reg};
 ghost use Rattle.ja_graph.specs.Node.{registers_named};
 ghost use Rattle.ja_look.specs.Looks.{view_of};
 ghost use Rattle.ja_rows.specs.Warning as spec;
 ghost use Rattle.ja_rows.specs.Warning.{Test};
-ghost use Rattle.ja_warn.specs.code.Faults.{Spot, held, reached_by, spot_cmp, tested, with_reached, Says};
+ghost use Rattle.ja_warn.specs.Told.{subject};
+ghost use Rattle.ja_warn.specs.code.Faults.{Spot, found_at, held, reached_by, tested, with_reached, Says};
 
 use crate::found::{Spot, add};
 use crate::reached::{
     Allowed, Reached, no_function, no_object, row_of_name, row_of_property, unbound,
 };
-use ja_base::{FnId, Memory};
+use ja_base::{FnId, Memory, Reg};
 use ja_graph::{Node, NodeInfo, Program};
 use ja_look::Reader;
 use ja_rows::{Warning, WarningKind};
@@ -30,18 +30,20 @@ fn builtin_of(program: &Program, function: FnId) -> Option<FnId>
     }
 }
 
-// Adds the operation of a kind at a node, by what a state allows there.
+// Adds the operation of a kind at a node, which is about a register, by what a state allows there.
 fn add_test(
     reader: &Reader<'_>,
     function: FnId,
     info: &NodeInfo,
     kind: WarningKind,
+    about: Reg,
     allowed: Result<Allowed, Memory>,
     found: &mut BTreeMap<Spot, Reached>,
 ) -> Result<(), Memory>
+    requires { about.0 < vec_len reader.now.state.now.registers }
     ensures { IfOk result (λ _. (test : Test) → test.kind ≡ kind
-        → IfOk allowed (Says test (view_of reader.now)) → (k : Spot) → get spot_cmp found.new k
-        ≡ with_reached k (get spot_cmp found.old k)
+        → subject info.now.node ≡ Some about → IfOk allowed (Says test (view_of reader.now))
+        → (k : Spot) → found_at found.new k ≡ with_reached k (found_at found.old k)
         (tested (view_of reader.now) function info.now test)) }
 {
     let Allowed { fault, more } = allowed?;
@@ -51,7 +53,8 @@ fn add_test(
         builtin: builtin_of(reader.program, function),
         certain: !more,
     };
-    add(found, Reached { warning, fault })
+    let value = reader.state.register(about);
+    add(reader.alloc, found, warning, fault, value)
 }
 
 /// Adds the operations of a node, by a state at it: one for each of its tests.
@@ -63,8 +66,8 @@ pub(crate) fn add_operations(
 ) -> Result<(), Memory>
     requires { AllByRecursion (λ (r : Reg). r.0 < vec_len reader.now.state.now.registers)
         (registers_named info.now.node) }
-    ensures { IfOk result (λ _. (k : Spot) → get spot_cmp found.new k
-        ≡ held k (get spot_cmp found.old k) (reached_by (view_of reader.now) function info.now)) }
+    ensures { IfOk result (λ _. (k : Spot) → found_at found.new k
+        ≡ held k (found_at found.old k) (reached_by (view_of reader.now) function info.now)) }
 {
     match &info.node {
         Node::Call { callee, .. } => add_test(
@@ -72,6 +75,7 @@ pub(crate) fn add_operations(
             function,
             info,
             WarningKind::NotAFunction,
+            *callee,
             no_function(reader, Entry::Call, *callee),
             found,
         ),
@@ -80,6 +84,7 @@ pub(crate) fn add_operations(
             function,
             info,
             WarningKind::NotAFunction,
+            *callee,
             no_function(reader, Entry::Construct, *callee),
             found,
         ),
@@ -88,6 +93,7 @@ pub(crate) fn add_operations(
             function,
             info,
             WarningKind::NoObject,
+            *src,
             Ok(no_object(reader, *src)),
             found,
         ),
@@ -97,6 +103,7 @@ pub(crate) fn add_operations(
                 function,
                 info,
                 WarningKind::UnboundName,
+                *base,
                 Ok(unbound(reader, *base)),
                 found,
             )?;
@@ -105,6 +112,7 @@ pub(crate) fn add_operations(
                 function,
                 info,
                 WarningKind::ScopeRow,
+                *base,
                 row_of_name(reader, *base, *name),
                 found,
             )
@@ -114,6 +122,7 @@ pub(crate) fn add_operations(
             function,
             info,
             WarningKind::ScopeRow,
+            *base,
             row_of_name(reader, *base, *name),
             found,
         ),
@@ -122,6 +131,7 @@ pub(crate) fn add_operations(
             function,
             info,
             WarningKind::ScopeRow,
+            *object,
             row_of_property(reader, *object, *key),
             found,
         ),

@@ -2,22 +2,29 @@
 use Rattle.std.specs.Prelude.{◌≡◌, ℕ, Bool, not, ◌&&◌, ◌||◌, if◌then◌else◌, List, [], map, Option, Some, None}
 use Rattle.std.specs.declared.cmp.Ordering.{Ordering}
 use Rattle.std.specs.List.{flat_map, fold}
-use Rattle.std.specs.Option.{option_map_or}
+use Rattle.std.specs.Option.{option_map, option_map_or}
 use Rattle.std.specs.Ordering.{is_eq, nat_cmp, ordering_then}
+use Rattle.std.specs.BTreeMap.{BTreeMap, get}
 use Rattle.ja_base.specs.declared.ids.FnId.{FnId}
+use Rattle.ja_graph.specs.declared.node.Node.{Node}
 use Rattle.ja_graph.specs.declared.node.NodeInfo.{NodeInfo}
 use Rattle.ja_graph.specs.declared.program.Program.{Program}
 use Rattle.ja_graph.specs.Program.{node_at}
 use Rattle.ja_abstract.specs.declared.abstraction.Key.{Key}
 use Rattle.ja_abstract.specs.AbstractState.{AbstractState}
-use Rattle.ja_abstract.specs.AbstractValue.{Labels}
+use Rattle.ja_abstract.specs.AbstractValue.{AbstractValue, Labels, join, no_value}
 use Rattle.ja_abstract.specs.Resolved.{Entries}
 use Rattle.ja_abstract.specs.Reading.{View}
+use Rattle.ja_rows.specs.declared.table.Warning.{Warning}
+use Rattle.ja_rows.specs.Out.{at}
 use Rattle.ja_rows.specs.Table.{node_numbers}
 use Rattle.ja_rows.specs.Warning.{Test, Operation, operation_of, builtin_of, builtin_number, has_no_row, has_row, kind_number, tests}
+use Rattle.ja_value.specs.Value.{value_of}
 use Rattle.ja_aheap.specs.Entries.{entries_of}
+use Rattle.ja_warn.specs.declared.faults.Told.{Told}
 use Rattle.ja_warn.specs.declared.reached.Allowed.{Allowed}
 use Rattle.ja_warn.specs.declared.reached.Reached.{Reached}
+use Rattle.ja_warn.specs.Told.{subject}
 use Rattle.ja_rules.specs.declared.table.ContextTable.{ContextTable}
 use Rattle.ja_rules.specs.Tables.{states_in}
 
@@ -33,8 +40,19 @@ pub record SaysRow (w : View) (start : Labels) (keys : List Key) (a : Allowed) :
   pub fault : a.fault ≡ has_row w start keys
   pub more : a.more ≡ has_no_row w start keys
 
+-- the value that a node's tests are about
+abbrev pub value_at : View → Node → AbstractValue
+value_at w n = option_map_or (at w) (subject n) no_value
+
+-- what is found of an operation: whether it may go wrong, certainly where nothing else may happen,
+-- and the value that it is about
+pub record Finding : Type 0 where
+  pub warning : Warning
+  pub fault : Bool
+  pub value : AbstractValue
+
 -- what a test says of its operation
-abbrev pub tested : View → FnId → NodeInfo → Test → Reached
+abbrev pub tested : View → FnId → NodeInfo → Test → Finding
 tested w f i test = record {
   warning = record {
     kind = test.kind;
@@ -43,24 +61,25 @@ tested w f i test = record {
     certain = not (test.more w);
   };
   fault = test.fault w;
+  value = value_at w i.node;
 }
 
-abbrev pub reached_by : View → FnId → NodeInfo → List Reached
+abbrev pub reached_by : View → FnId → NodeInfo → List Finding
 reached_by w f i = map (tested w f i) (tests i.node)
 
 -- .. by the state that a table has at the node, if it has one
-abbrev pub reached_in : Program → Entries → FnId → NodeInfo → Option AbstractState → List Reached
+abbrev pub reached_in : Program → Entries → FnId → NodeInfo → Option AbstractState → List Finding
 reached_in p e f i state =
     option_map_or (λ a. reached_by (record { program = p; state = a; entries = e }) f i) state []
 
 -- ---- at all nodes of a context
 
-abbrev pub reached_at : Program → ContextTable → ℕ → List Reached
+abbrev pub reached_at : Program → ContextTable → ℕ → List Finding
 reached_at p c n =
     option_map_or (λ i. reached_in p (entries_of c.entries) c.context.function i
     (states_in c.nodes.items n)) (node_at p c.context.function (record { 0 = n })) []
 
-abbrev pub reached_of_context : Program → ContextTable → List Reached
+abbrev pub reached_of_context : Program → ContextTable → List Finding
 reached_of_context p c = flat_map (reached_at p c) (node_numbers p c.context.function)
 
 -- ---- what is held of them
@@ -77,21 +96,33 @@ spot_cmp x y =
     ordering_then (ordering_then (ordering_then (nat_cmp x.0 y.0) (nat_cmp x.1 y.1))
     (nat_cmp x.2 y.2)) (nat_cmp x.3 y.3)
 
-abbrev pub is_at : Spot → Reached → Bool
+abbrev pub is_at : Spot → Finding → Bool
 is_at k o = is_eq (spot_cmp (spot_of (operation_of o.warning)) k)
 
--- one more of the same operation: it may go wrong where either may, and does so certainly where
--- both do
-abbrev pub merged : Option Reached → Reached → Reached
+-- one more of the same operation: it may go wrong where either may, does so certainly where both
+-- do, and is about what either is about
+abbrev pub merged : Option Finding → Finding → Finding
 merged None o = o
 merged (Some q) o = record {
   warning = record o.warning { certain = q.warning.certain && o.warning.certain };
   fault = q.fault || o.fault;
+  value = join q.value o.value;
 }
 
 -- what is held at a spot, with one more, and of a list
-abbrev pub with_reached : Spot → Option Reached → Reached → Option Reached
+abbrev pub with_reached : Spot → Option Finding → Finding → Option Finding
 with_reached k q o = if is_at k o then Some (merged q o) else q
 
-abbrev pub held : Spot → Option Reached → List Reached → Option Reached
+abbrev pub held : Spot → Option Finding → List Finding → Option Finding
 held k q os = fold (with_reached k) q os
+
+-- what a map of the code holds at a spot
+abbrev pub finding : Reached → Finding
+finding o = record { warning = o.warning; fault = o.fault; value = value_of o.value }
+
+abbrev pub found_at : BTreeMap Spot Reached → Spot → Option Finding
+found_at m k = option_map finding (get spot_cmp m k)
+
+-- .. and what is told of it
+abbrev pub told_by : Reached → Told
+told_by o = record { warning = o.warning; value = o.value }
