@@ -2,7 +2,7 @@
 
 ghost use Rattle.std.specs.Prelude.{◌≡◌, ◌++◌, IfOk, OnOk, length};
 ghost use Rattle.ja_lint_top.specs.Counts as spec;
-ghost use Rattle.ja_warn.specs.Told.{warnings_of};
+ghost use Rattle.ja_warn.specs.Told.{warnings_in};
 
 use ja_base::Memory;
 use ja_rows::WarningKind;
@@ -22,14 +22,14 @@ fn is_fault(told: &Told) -> bool
 
 /// How many warnings are of faults.
 pub(crate) fn faults(warnings: &[Told]) -> usize
-    ensures { result ≡ length (spec.faults_of (warnings_of warnings.now)) }
+    ensures { result ≡ length (spec.faults_of (warnings_in warnings.now)) }
 {
     warnings.iter().filter(|told| is_fault(told)).count()
 }
 
 // How many of those are certain.
 fn certain(warnings: &[Told]) -> usize
-    ensures { result ≡ length (spec.certain_of (warnings_of warnings.now)) }
+    ensures { result ≡ length (spec.certain_of (warnings_in warnings.now)) }
 {
     warnings
         .iter()
@@ -39,14 +39,14 @@ fn certain(warnings: &[Told]) -> usize
 
 // How many warnings are of none.
 fn rows(warnings: &[Told]) -> usize
-    ensures { result ≡ length (spec.rows_of (warnings_of warnings.now)) }
+    ensures { result ≡ length (spec.rows_of (warnings_in warnings.now)) }
 {
     warnings.iter().filter(|told| !is_fault(told)).count()
 }
 
 /// The counts of some warnings.
 pub(crate) fn counts_text(alloc: Global, warnings: &[Told]) -> Result<Vec<u8>, Memory>
-    ensures { IfOk result (λ text. text.items ≡ spec.counts_text (warnings_of warnings.now)) }
+    ensures { IfOk result (λ text. text.items ≡ spec.counts_text (warnings_in warnings.now)) }
 {
     let mut text = Vec::new(alloc);
     text.extend_from_slice(b"faults ")?;

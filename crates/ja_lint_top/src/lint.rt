@@ -51,7 +51,7 @@ fn shown(alloc: Global, words: Words<'_>, text: &str, found: &Findings) -> Resul
 
 // Done where there is no warning of a fault.
 fn judged(warnings: &[Told]) -> Status
-    ensures { result ≡ status_of (warnings_of warnings.now) }
+    ensures { result ≡ status_of (warnings_in warnings.now) }
 {
     if faults(warnings) == 0 {
         Status::Done

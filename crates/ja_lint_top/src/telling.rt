@@ -5,7 +5,7 @@ ghost use Rattle.ja_graph.specs.WellFormed.{IsWellFormed};
 ghost use Rattle.ja_rules.specs.Tables.{table_of, Fits};
 ghost use Rattle.ja_lint_top.specs.Telling as spec;
 ghost use Rattle.ja_lint_top.specs.Telling.{AreTold, Tells};
-ghost use Rattle.ja_warn.specs.Told.{warnings_of, IsTold};
+ghost use Rattle.ja_warn.specs.Told.{warnings_in, IsTold};
 
 use crate::callers::callers;
 use ja_base::{FnId, Memory, Place, Seq};
@@ -113,7 +113,7 @@ pub(crate) fn messages_of(
     requires fits { Fits program.now table.now }
     requires told { AllByRecursion (IsTold program.now (table_of table.now)) warnings.now }
     ensures { IfOk result (λ messages. AreTold program.now (table_of table.now)
-        (warnings_of warnings.now) messages.items) }
+        (warnings_in warnings.now) messages.items) }
 {
     let mut messages = Vec::new(alloc);
     for told in warnings {

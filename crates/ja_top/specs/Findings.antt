@@ -13,7 +13,7 @@ use Rattle.ja_rows.specs.Warning.{AreWarnings}
 use Rattle.ja_rules.specs.Solving.{WasSpent}
 use Rattle.ja_rules.specs.Tables.{table_of, Fits}
 use Rattle.ja_sound.specs.Sound.{CoversRuns, WarnsOfFaults}
-use Rattle.ja_warn.specs.Told.{warnings_of, IsTold}
+use Rattle.ja_warn.specs.Told.{warnings_in, IsTold}
 use Rattle.ja_words.specs.Words.{default_budget}
 use Rattle.ja_top.specs.declared.finding.FindFault.{FindFault}
 use Rattle.ja_top.specs.declared.finding.FindFault.TheVariants as fault
@@ -28,10 +28,10 @@ pub record IsFoundIn (p : Program) (found : Findings) : Type 0 where
   pub built : IsBuilt p found.visits (table_of found.table)
   pub few : length found.visits ≤ default_budget
   pub closed : IsClosed p (table_of found.table)
-  pub exact : AreWarnings p (table_of found.table) (warnings_of found.warnings)
+  pub exact : AreWarnings p (table_of found.table) (warnings_in found.warnings)
   pub values : AllByRecursion (IsTold p (table_of found.table)) found.warnings
   pub covers : CoversRuns p (table_of found.table)
-  pub warned : WarnsOfFaults p (warnings_of found.warnings)
+  pub warned : WarnsOfFaults p (warnings_in found.warnings)
   pub goes_on : NeverStuck p
 
 abbrev pub Finds : List ℕ → List Signature → Findings → Type 0
