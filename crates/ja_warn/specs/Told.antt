@@ -11,7 +11,8 @@ use Rattle.ja_abstract.specs.Reading.{View}
 use Rattle.ja_rows.specs.declared.table.Warning.{Warning}
 use Rattle.ja_rows.specs.Out.{at}
 use Rattle.ja_rows.specs.Table.{Table}
-use Rattle.ja_rows.specs.Warning.{Test, Operation, IsReached}
+use Rattle.ja_rows.specs.Warning.{Test, Operation, IsReached, operation_of}
+use Rattle.ja_value.specs.Value.{value_of}
 use Rattle.ja_warn.specs.declared.faults.Told.{Told}
 
 -- the register whose value the tests of a node are about
@@ -38,3 +39,7 @@ pub record IsValueThere (p : Program) (t : Table) (o : Operation) (v : AbstractV
 -- the warnings alone
 abbrev pub warnings_in : List Told → List Warning
 warnings_in = map (λ x. x.warning)
+
+-- a warning with its value
+abbrev pub IsTold : Program → Table → Told → Type 0
+IsTold p t x = IsValueThere p t (operation_of x.warning) (value_of x.value)
