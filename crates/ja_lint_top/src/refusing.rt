@@ -5,7 +5,7 @@ ghost use Rattle.std.specs.Str.{chars};
 ghost use Rattle.ja_lint_top.specs.Lint.{error_text, Follows};
 
 use crate::words::Words;
-use ja_base::{Memory, Place, Seq};
+use ja_base::{Memory, Place, ScopeKind, Seq};
 use ja_grammar::ParseFault;
 use ja_load::LoadFault;
 use ja_show::{Level, Message, messages_text};
