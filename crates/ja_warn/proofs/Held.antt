@@ -3,10 +3,11 @@ use Rattle.std.specs.Prelude.{◌≡◌, ◌⊎◌, ℕ, zero, suc, ◌+◌, Boo
 use Rattle.std.specs.declared.cmp.Ordering.{Ordering}
 use Rattle.std.specs.declared.cmp.Ordering.TheVariants.{Less, Equal, Greater}
 use Rattle.std.specs.BTreeMap.{BTreeMap, get, Updates}
+use Rattle.std.specs.Option.{option_map}
 use Rattle.std.specs.Cmp.{IsTotalOrder, then_total, on_total}
-use Rattle.std.specs.List.{flat_map, list_any, range_with_len}
+use Rattle.std.specs.List.{AllByRecursion, flat_map, list_any, range_with_len}
 use Rattle.std.specs.Ordering.{is_eq, nat_cmp, ordering_then}
-use Rattle.std.proofs.Common.{refl, sym, ◌∙◌, ap, inl, inr, add-one}
+use Rattle.std.proofs.Common.{refl, sym, ◌∙◌, ap, subst, inl, inr, add-one}
 use Rattle.std.proofs.Math.Bool.{or-false, or_assoc}
 use Rattle.std.proofs.lemmas.Cmp.{nat_cmp_total}
 use Rattle.std.proofs.lemmas.List.{append-nil, take_more}
@@ -18,6 +19,11 @@ use Rattle.std.proofs.lemmas.Option.{same_Some}
 use Rattle.ja_base.specs.declared.ids.FnId.{FnId}
 use Rattle.ja_base.proofs.Options.{none_not_some}
 use Rattle.ja_graph.specs.declared.program.Program.{Program}
+use Rattle.ja_machine.proofs.Lists.{all_of}
+use Rattle.ja_abstract.specs.AbstractValue.{AbstractValue}
+use Rattle.ja_abstract.specs.Order.{LeqValue}
+use Rattle.ja_abstract.proofs.Least.{value-join_right, value_least}
+use Rattle.ja_abstract.proofs.Order.{value-join, value_both, value_same}
 use Rattle.ja_rows.specs.declared.table.WarningKind.{WarningKind}
 use Rattle.ja_rows.specs.declared.table.WarningKind.TheVariants.{NotAFunction, NoObject, UnboundName, ScopeRow}
 use Rattle.ja_rows.specs.Warning.{Operation, operation_of, builtin_number, kind_number, IsBelow}
@@ -25,7 +31,7 @@ use Rattle.ja_aheap.proofs.MapLemmas.{less_than}
 use Rattle.ja_warn.specs.declared.reached.Reached.{Reached}
 use Rattle.ja_rules.specs.declared.table.ContextTable.{ContextTable}
 use Rattle.ja_rules.proofs.NodeFacts.{one_more}
-use Rattle.ja_warn.specs.code.Faults.{Spot, spot_of, spot_cmp, is_at, reached_at, reached_of_context, merged, with_reached, held}
+use Rattle.ja_warn.specs.code.Faults.{Finding, Spot, spot_of, spot_cmp, is_at, reached_at, reached_of_context, merged, with_reached, held, finding, found_at}
 
 -- ---- the order of numbers
 
@@ -139,22 +145,26 @@ same_operation a b e = sym (operation_back a) ∙ ap operation_at e ∙ operatio
 
 -- ---- what is held
 
+-- what is found at the numbers has a property
+abbrev pub AllAt : Spot → (Finding → Type 0) → List Finding → Type 0
+AllAt k P = AllByRecursion (λ o. is_at k o ≡ true → P o)
+
 module _ (k : Spot) where
   -- what is at the numbers has them
-  pub at_spot : (o : Reached) → is_at k o ≡ true → spot_of (operation_of o.warning) ≡ k
+  pub at_spot : (o : Finding) → is_at k o ≡ true → spot_of (operation_of o.warning) ≡ k
   at_spot o here = tells_apart spot_exact (spot_of (operation_of o.warning)) k here
 
   -- what merging takes from both is taken from all that is at the numbers
-  one_tells : (f : Option Reached → Bool) (g : Reached → Bool)
-      → ((q : Option Reached) (o : Reached) → f (Some (merged q o)) ≡ (f q || g o))
-      → (q : Option Reached) (o : Reached) (b : Bool)
+  one_tells : (f : Option Finding → Bool) (g : Finding → Bool)
+      → ((q : Option Finding) (o : Finding) → f (Some (merged q o)) ≡ (f q || g o))
+      → (q : Option Finding) (o : Finding) (b : Bool)
       → f (if b then Some (merged q o) else q) ≡ (f q || (b && g o))
   one_tells f g h q o true = h q o
   one_tells f g h q o false = sym (or-false (f q))
 
-  held_tells : (f : Option Reached → Bool) (g : Reached → Bool)
-      → ((q : Option Reached) (o : Reached) → f (Some (merged q o)) ≡ (f q || g o))
-      → (q : Option Reached) (os : List Reached)
+  held_tells : (f : Option Finding → Bool) (g : Finding → Bool)
+      → ((q : Option Finding) (o : Finding) → f (Some (merged q o)) ≡ (f q || g o))
+      → (q : Option Finding) (os : List Finding)
       → f (held k q os) ≡ (f q || list_any (λ o. is_at k o && g o) os)
   held_tells f g h q [] = sym (or-false (f q))
   held_tells f g h q (o ∷ os) =
@@ -163,61 +173,89 @@ module _ (k : Spot) where
       ∙ ap (λ b. b || rest) (one_tells f g h q o (is_at k o))
       ∙ or_assoc (f q) (is_at k o && g o) rest
 
-  -- what is held is at the numbers
-  held_at : (q : Option Reached) (os : List Reached)
-      → ((r : Reached) → q ≡ Some r → is_at k r ≡ true)
-      → (r : Reached) → held k q os ≡ Some r → is_at k r ≡ true
-  held_at q [] h r is = h r is
-  held_at q (o ∷ os) h r is = held_at (with_reached k q o) os (by (is_at k o) refl) r is
+  -- what holds of all at the numbers, and of two merged, holds of what is held
+  held_all : (P : Finding → Type 0)
+      → ((e o : Finding) → P e → P o → P (merged (Some e) o))
+      → (q : Option Finding) (os : List Finding) → ((s : Finding) → q ≡ Some s → P s)
+      → AllAt k P os → (r : Finding) → held k q os ≡ Some r → P r
+  held_all P both q [] earlier each r is = earlier r is
+  held_all P both q (o ∷ os) earlier each r is =
+      held_all P both (with_reached k q o) os (by (is_at k o) refl) each.1 r is
     where
-      met : (e : Option Reached) → is_at k (merged e o) ≡ is_at k o
-      met None = refl
-      met (Some e) = refl
+      met : (e : Option Finding) → ((s : Finding) → e ≡ Some s → P s) → P o → P (merged e o)
+      met None h more = more
+      met (Some e) h more = both e o (h e refl) more
 
-      by : (b : Bool) → is_at k o ≡ b → (s : Reached)
-          → (if b then Some (merged q o) else q) ≡ Some s → is_at k s ≡ true
-      by true here s e =
-          ap (is_at k) (sym (same_Some (merged q o) s e)) ∙ met q ∙ here
-      by false apart s e = h s e
+      by : (b : Bool) → is_at k o ≡ b → (s : Finding)
+          → (if b then Some (merged q o) else q) ≡ Some s → P s
+      by true here s e = subst P (same_Some (merged q o) s e) (met q earlier (each.0 here))
+      by false apart s e = earlier s e
 
--- one operation more is held
-pub held_added : (m n : BTreeMap Spot Reached) (s : Spot) (earlier : Option Reached)
-    (o now : Reached) → s ≡ spot_of (operation_of o.warning) → earlier ≡ get spot_cmp m s
-    → now ≡ merged earlier o → Updates spot_cmp m n s (Some now)
-    → (k : Spot) → get spot_cmp n k ≡ with_reached k (get spot_cmp m k) o
-held_added m n s earlier o now s_is earlier_is now_is updates k =
-    updates.0 k ∙ by (is_eq (spot_cmp s k)) refl
-    ∙ ap (λ x. if is_eq (spot_cmp x k) then Some (merged (get spot_cmp m k) o)
-    else get spot_cmp m k) s_is
+  -- the value that is held has what was held, and what is at the numbers
+  held_before : (q : Finding) (os : List Finding) (r : Finding) → held k (Some q) os ≡ Some r
+      → LeqValue q.value r.value
+  held_before q [] r is =
+      subst (λ (s : Finding). LeqValue q.value s.value) (same_Some q r is) (value_same q.value)
+  held_before q (o ∷ os) r is = by (is_at k o) is (λ s. held_before s os r)
+    where
+      by : (b : Bool) → held k (if b then Some (merged (Some q) o) else Some q) os ≡ Some r
+          → ((s : Finding) → held k (Some s) os ≡ Some r → LeqValue s.value r.value)
+          → LeqValue q.value r.value
+      by true e behind =
+          value_both q.value (merged (Some q) o).value r.value (value-join q.value o.value)
+          (behind (merged (Some q) o) e)
+      by false e behind = behind q e
+
+  merged_above : (q : Option Finding) (o : Finding) → LeqValue o.value (merged q o).value
+  merged_above None o = value_same o.value
+  merged_above (Some q) o = value-join_right q.value o.value
+
+  held_above : (q : Option Finding) (os : List Finding) (r : Finding) → held k q os ≡ Some r
+      → AllAt k (λ o. LeqValue o.value r.value) os
+  held_above q [] r is = tt
+  held_above q (o ∷ os) r is = (
+    λ here. value_both o.value (merged q o).value r.value (merged_above q o)
+        (held_before (merged q o) os r
+        (sym (ap (λ b. held k (if b then Some (merged q o) else q) os) here) ∙ is)),
+    held_above (with_reached k q o) os r is,
+  )
+
+-- one finding more is held
+pub held_added : (m n : BTreeMap Spot Reached) (s : Spot) (o : Finding) (now : Reached)
+    → s ≡ spot_of (operation_of o.warning) → finding now ≡ merged (found_at m s) o
+    → Updates spot_cmp m n s (Some now)
+    → (k : Spot) → found_at n k ≡ with_reached k (found_at m k) o
+held_added m n s o now s_is now_is updates k =
+    ap (option_map finding) (updates.0 k) ∙ by (is_eq (spot_cmp s k)) refl
+    ∙ ap (λ x. if is_eq (spot_cmp x k) then Some (merged (found_at m k) o) else found_at m k) s_is
   where
     by : (b : Bool) → is_eq (spot_cmp s k) ≡ b
-        → (if b then Some now else get spot_cmp m k)
-        ≡ (if b then Some (merged (get spot_cmp m k) o) else get spot_cmp m k)
+        → option_map finding (if b then Some now else get spot_cmp m k)
+        ≡ (if b then Some (merged (found_at m k) o) else found_at m k)
     by true here =
-        ap Some (now_is ∙ ap (λ e. merged e o) (earlier_is
-        ∙ ap (get spot_cmp m) (tells_apart spot_exact s k here)))
+        ap Some (now_is ∙ ap (λ j. merged (found_at m j) o) (tells_apart spot_exact s k here))
     by false apart = refl
 
 -- .. those of a node more
 pub held_next : (p : Program) (c : ContextTable) (k : Spot) (n : ℕ)
-    (first before after : Option Reached)
+    (first before after : Option Finding)
     → before ≡ held k first (flat_map (reached_at p c) (range_with_len 0 n))
     → after ≡ held k before (reached_at p c n)
     → after ≡ held k first (flat_map (reached_at p c) (range_with_len 0 (n + 1)))
 held_next p c k n first before after before_is after_is =
-    let now : List Reached = flat_map (reached_at p c) (range_with_len 0 n) in
+    let now : List Finding = flat_map (reached_at p c) (range_with_len 0 n) in
     after_is ∙ ap (λ q. held k q (reached_at p c n)) before_is
     ∙ sym (fold-append (with_reached k) first now (reached_at p c n))
     ∙ ap (held k first) (sym (one_more (reached_at p c) n))
 
 -- .. and those of a context more
 pub held_context : (p : Program) (k : Spot) (cs : List ContextTable) (n : ℕ) (c : ContextTable)
-    (before after : Option Reached) → n < length cs → c ≡ get_or cs n c
+    (before after : Option Finding) → n < length cs → c ≡ get_or cs n c
     → before ≡ held k None (flat_map (reached_of_context p) (take n cs))
     → after ≡ held k before (reached_of_context p c)
     → after ≡ held k None (flat_map (reached_of_context p) (take (n + 1) cs))
 held_context p k cs n c before after within is before_is after_is =
-    let now : List Reached = flat_map (reached_of_context p) (take n cs) in
+    let now : List Finding = flat_map (reached_of_context p) (take n cs) in
     after_is ∙ ap (λ q. held k q (reached_of_context p c)) before_is
     ∙ ap (held k (held k None now)) (sym (append-nil (reached_of_context p c)))
     ∙ sym (fold-append (with_reached k) None now (flat_map (reached_of_context p) (c ∷ [])))
@@ -226,15 +264,15 @@ held_context p k cs n c before after within is before_is after_is =
     ∙ sym (take_more cs n c within)))
 
 -- whether it may go wrong, and whether anything else may happen
-abbrev has_fault : Option Reached → Bool
+abbrev has_fault : Option Finding → Bool
 has_fault None = false
 has_fault (Some o) = o.fault
 
-abbrev has_more : Option Reached → Bool
+abbrev has_more : Option Finding → Bool
 has_more None = false
 has_more (Some o) = not o.warning.certain
 
-fault_merged : (q : Option Reached) (o : Reached)
+fault_merged : (q : Option Finding) (o : Finding)
     → has_fault (Some (merged q o)) ≡ (has_fault q || o.fault)
 fault_merged None o = refl
 fault_merged (Some q) o = refl
@@ -243,45 +281,56 @@ not_both : (a b : Bool) → not (a && b) ≡ (not a || not b)
 not_both true b = refl
 not_both false b = refl
 
-more_merged : (q : Option Reached) (o : Reached)
+more_merged : (q : Option Finding) (o : Finding)
     → has_more (Some (merged q o)) ≡ (has_more q || not o.warning.certain)
 more_merged None o = refl
 more_merged (Some q) o = not_both q.warning.certain o.warning.certain
 
 -- the operations at the numbers that may go wrong, and those that allow anything else
-abbrev pub any_fault : Spot → List Reached → Bool
+abbrev pub any_fault : Spot → List Finding → Bool
 any_fault k os = list_any (λ o. is_at k o && o.fault) os
 
-abbrev pub any_more : Spot → List Reached → Bool
+abbrev pub any_more : Spot → List Finding → Bool
 any_more k os = list_any (λ o. is_at k o && not o.warning.certain) os
 
--- what is held at numbers has them, may go wrong where one of them may, and does so certainly where
--- none allows anything else
-pub record IsHeld (k : Spot) (os : List Reached) (q : Reached) : Type 0 where
+-- what is held at numbers has them, may go wrong where one of them may, does so certainly where none
+-- allows anything else, and is about what they are about
+pub record IsHeld (k : Spot) (os : List Finding) (q : Finding) : Type 0 where
   pub at_spot : is_at k q ≡ true
   pub fault_is : q.fault ≡ any_fault k os
   pub more_is : not q.warning.certain ≡ any_more k os
+  pub above : AllAt k (λ o. LeqValue o.value q.value) os
+  pub least : (u : AbstractValue) → AllAt k (λ o. LeqValue o.value u) os → LeqValue q.value u
 
-pub is_held : (k : Spot) (os : List Reached) (q : Reached) → held k None os ≡ Some q
+pub is_held : (k : Spot) (os : List Finding) (q : Finding) → held k None os ≡ Some q
     → IsHeld k os q
 is_held k os q is = record {
-  at_spot = held_at k None os (λ r e. absurd (none_not_some e)) q is;
+  at_spot =
+      held_all k (λ o. is_at k o ≡ true) (λ e o earlier here. here) None os none
+      (all_of (λ o. is_at k o ≡ true → is_at k o ≡ true) (λ o here. here) os) q is;
   fault_is =
       ap has_fault (sym is)
-      ∙ held_tells k has_fault (λ (o : Reached). o.fault) fault_merged None os;
+      ∙ held_tells k has_fault (λ (o : Finding). o.fault) fault_merged None os;
   more_is =
       ap has_more (sym is)
-      ∙ held_tells k has_more (λ (o : Reached). not o.warning.certain) more_merged None os;
+      ∙ held_tells k has_more (λ (o : Finding). not o.warning.certain) more_merged None os;
+  above = held_above k None os q is;
+  least = λ u each.
+      held_all k (λ (o : Finding). LeqValue o.value u)
+      (λ e o earlier more. value_least e.value o.value u earlier more) None os none each q is;
 }
+  where
+    none : {P : Finding → Type 0} (s : Finding) → None ≡ Some s → P s
+    none s e = absurd (none_not_some e)
 
 -- something is held where an operation at the numbers may go wrong
-pub held_from_fault : (k : Spot) (os : List Reached) → any_fault k os ≡ true
-    → (q : Reached) × (held k None os ≡ Some q) × (q.fault ≡ true)
+pub held_from_fault : (k : Spot) (os : List Finding) → any_fault k os ≡ true
+    → (q : Finding) × (held k None os ≡ Some q) × (q.fault ≡ true)
 held_from_fault k os some =
-    found (held k None os) refl (held_tells k has_fault (λ (o : Reached). o.fault) fault_merged
+    found (held k None os) refl (held_tells k has_fault (λ (o : Finding). o.fault) fault_merged
     None os ∙ some)
   where
-    found : (q : Option Reached) → held k None os ≡ q → has_fault q ≡ true
-        → (r : Reached) × (held k None os ≡ Some r) × (r.fault ≡ true)
+    found : (q : Option Finding) → held k None os ≡ q → has_fault q ≡ true
+        → (r : Finding) × (held k None os ≡ Some r) × (r.fault ≡ true)
     found None is fault = absurd (cc)
     found (Some q) is fault = (q, is, fault)

@@ -1,11 +1,13 @@
--- The warnings of what is held of a table's operations are those of the table.
-use Rattle.std.specs.Prelude.{◌≡◌, suc, Bool, true, false, not, ◌&&◌, ◌||◌, cond, IsTrue, List, [], ◌∷◌, map, filter, Some, None, Any, Contains}
+-- The warnings of what is held of a table's operations are those of the table, and their values are
+-- there.
+use Rattle.std.specs.Prelude.{◌≡◌, suc, Bool, true, false, not, ◌&&◌, ◌||◌, cond, IsTrue, List, [], ◌∷◌, map, filter, Option, Some, None, Any, Contains}
 use Rattle.std.specs.declared.cmp.Ordering.TheVariants.{Less}
-use Rattle.std.specs.BTreeMap.{BTreeMap, get, is_at as finds, IsOrdered}
+use Rattle.std.specs.BTreeMap.{BTreeMap, is_at as finds, IsOrdered}
 use Rattle.std.specs.Cmp.{eq_by_cmp_equiv}
 use Rattle.std.specs.List.{AllByRecursion, list_any}
 use Rattle.std.specs.List.Sorted.{IsStrictlySortedBy}
 use Rattle.std.specs.Map.{keys_of, values_of, lookup}
+use Rattle.std.specs.Option.{option_map, option_map_or}
 use Rattle.std.specs.Ordering.{is_eq}
 use Rattle.std.proofs.Common.{refl, sym, ◌∙◌, ap, subst, inl, inr, arith}
 use Rattle.std.proofs.lemmas.Bool.{cases_Bool, true≢false, and_parts, and_from, or_left, or_right}
@@ -13,18 +15,28 @@ use Rattle.std.proofs.lemmas.List.Elements.{All-contains_itself, recursion_from_
 use Rattle.std.proofs.lemmas.Map.Keys.{sorted_tail}
 use Rattle.std.proofs.lemmas.Map.Views.{btree_map_get_iff}
 use Rattle.std.proofs.lemmas.Option.{same_Some}
-use Rattle.ja_base.proofs.Lists.{all_weaker}
+use Rattle.ja_base.specs.declared.ids.Reg.{Reg}
+use Rattle.ja_base.proofs.Lists.{all_weaker, map_after}
 use Rattle.ja_base.proofs.Options.{none_not_some}
 use Rattle.ja_graph.specs.declared.program.Program.{Program}
+use Rattle.ja_machine.proofs.Lists.{all_map}
+use Rattle.ja_abstract.specs.AbstractValue.{AbstractValue, bare, no_value}
+use Rattle.ja_abstract.specs.Order.{LeqValue}
 use Rattle.ja_abstract.specs.Reading.{View}
+use Rattle.ja_abstract.proofs.Least.{no_property-least}
 use Rattle.ja_abstract.proofs.Lists.{Member}
 use Rattle.ja_rows.specs.declared.table.Warning.{Warning}
+use Rattle.ja_rows.specs.Out.{at}
 use Rattle.ja_rows.specs.Table.{Table}
 use Rattle.ja_rows.specs.Warning.{Test, Operation, operation_of, numbers_of, IsBelow, AreOrdered, IsReached, IsWarned, AreWarnings}
+use Rattle.ja_value.specs.Value.{value_of}
+use Rattle.ja_warn.specs.declared.faults.Told.{Told}
 use Rattle.ja_warn.specs.declared.reached.Reached.{Reached}
 use Rattle.ja_rules.specs.declared.table.ATable.{ATable}
 use Rattle.ja_rules.specs.Tables.{table_of, Fits}
-use Rattle.ja_warn.specs.code.Faults.{Spot, spot_of, spot_cmp, is_at, held}
+use Rattle.ja_rules.proofs.Ascending.{of_member}
+use Rattle.ja_warn.specs.Told.{subject, warnings_in, IsAbove, IsValueThere}
+use Rattle.ja_warn.specs.code.Faults.{Finding, Spot, spot_of, spot_cmp, is_at, held, finding, found_at, told_by}
 use Rattle.ja_warn.proofs.Held.{spot_exact, spot_total, spot_below, same_operation, at_spot, any_fault, any_more, IsHeld, is_held, held_from_fault}
 use Rattle.ja_warn.proofs.ReachedLemmas.{IsFrom, IsKept, all_are_from, all_reached, reached_kept}
 
@@ -59,40 +71,53 @@ may_fail o = o.fault
 abbrev warning_of : Reached → Warning
 warning_of o = o.warning
 
+-- those that may go wrong, and their warnings
+abbrev pub failing : List Entry → List Reached
+failing es = filter may_fail (values_of es)
+
 abbrev pub listed : List Entry → List Warning
-listed es = map warning_of (filter may_fail (values_of es))
+listed es = map warning_of (failing es)
 
-abbrev first_and : Bool → Entry → List Entry → List Warning
-first_and b e es =
-    map warning_of (cond b (e.1 ∷ filter may_fail (values_of es)) (filter may_fail (values_of es)))
+abbrev first_and : Bool → Entry → List Entry → List Reached
+first_and b e es = cond b (e.1 ∷ failing es) (failing es)
 
-all_listed : (P : Warning → Type 0) (es : List Entry)
-    → AllByRecursion (λ (e : Entry). e.1.fault ≡ true → P e.1.warning) es
-    → AllByRecursion P (listed es)
-all_listed P [] h = tt
-all_listed P (e ∷ es) h = by e.1.fault refl (all_listed P es h.1)
+all_failing : (P : Reached → Type 0) (es : List Entry)
+    → AllByRecursion (λ (e : Entry). e.1.fault ≡ true → P e.1) es
+    → AllByRecursion P (failing es)
+all_failing P [] h = tt
+all_failing P (e ∷ es) h = by e.1.fault refl (all_failing P es h.1)
   where
-    by : (b : Bool) → e.1.fault ≡ b → AllByRecursion P (listed es)
+    by : (b : Bool) → e.1.fault ≡ b → AllByRecursion P (failing es)
         → AllByRecursion P (first_and b e es)
     by true fault behind = (h.0 fault, behind)
     by false none behind = behind
 
-any_listed : (P : Warning → Type 0) (test : Spot → Bool) (es : List Entry) (q : Reached)
-    → lookup test es ≡ Some q → q.fault ≡ true → P q.warning → Any P (listed es)
+all_listed : (P : Warning → Type 0) (es : List Entry)
+    → AllByRecursion (λ (e : Entry). e.1.fault ≡ true → P e.1.warning) es
+    → AllByRecursion P (listed es)
+all_listed P es h =
+    all_map (λ (o : Reached). P o.warning) P warning_of (λ o holds. holds) (failing es)
+    (all_failing (λ (o : Reached). P o.warning) es h)
+
+any_listed : (P : Warning → Type 0) (test : Spot → Bool) (es : List Entry) (q : Finding)
+    → option_map finding (lookup test es) ≡ Some q → q.fault ≡ true → P q.warning
+    → Any P (listed es)
 any_listed P test [] q is fault holds = absurd (none_not_some is)
 any_listed P test (e ∷ es) q is fault holds =
     by (test e.0) is (λ at. any_listed P test es q at fault holds)
   where
-    behind : (b : Bool) → Any P (listed es) → Any P (first_and b e es)
+    behind : (b : Bool) → Any P (listed es) → Any P (map warning_of (first_and b e es))
     behind true h = (suc h.0, h.1, omega (arith, h.2), h.3, h.4)
     behind false h = h
 
-    by : (b : Bool) → cond b (Some e.1) (lookup test es) ≡ Some q
-        → (lookup test es ≡ Some q → Any P (listed es)) → Any P (first_and e.1.fault e es)
+    by : (b : Bool) → option_map finding (cond b (Some e.1) (lookup test es)) ≡ Some q
+        → (option_map finding (lookup test es) ≡ Some q → Any P (listed es))
+        → Any P (map warning_of (first_and e.1.fault e es))
     by true at rest =
-        let same : e.1 ≡ q = same_Some e.1 q at in
-        subst (λ b. Any P (first_and b e es)) (sym (ap may_fail same ∙ fault))
-        (0, e.1.warning, omega arith, refl, subst (λ (o : Reached). P o.warning) (sym same) holds)
+        let same : finding e.1 ≡ q = same_Some (finding e.1) q at in
+        subst (λ b. Any P (map warning_of (first_and b e es)))
+        (sym (ap (λ (o : Finding). o.fault) same ∙ fault))
+        (0, e.1.warning, omega arith, refl, subst (λ (o : Finding). P o.warning) (sym same) holds)
     by false at rest = behind e.1.fault (rest at)
 
 -- ---- their order
@@ -125,7 +150,7 @@ ordered_listed (e ∷ es) sorted each =
     by e.1.fault
     (ordered_listed es (sorted_tail spot_cmp e.0 (keys_of es) sorted) each.1)
   where
-    by : (b : Bool) → AreOrdered (listed es) → AreOrdered (first_and b e es)
+    by : (b : Bool) → AreOrdered (listed es) → AreOrdered (map warning_of (first_and b e es))
     by true behind = (
       all_listed (λ (w : Warning). IsBelow (numbers_of e.1.warning) (numbers_of w)) es
           (all_below e es each.0 each.1 (sorted_head e.0 (keys_of es) sorted)),
@@ -139,18 +164,28 @@ module _ (p : Program) (u : ATable) (fits : Fits p u) where
   abbrev t : Table
   t = table_of u
 
-  abbrev os : List Reached
+  abbrev os : List Finding
   os = all_reached p u fits
 
-  module _ (k : Spot) (q : Reached) (h : IsHeld k os q) where
+  module _ (k : Spot) (q : Finding) (h : IsHeld k os q) where
+    -- what is at the numbers is of the operation
+    same_spot : (o : Finding) → is_at k o ≡ true
+        → operation_of o.warning ≡ operation_of q.warning
+    same_spot o here =
+        same_operation (operation_of o.warning) (operation_of q.warning)
+        (at_spot k o here ∙ sym (at_spot k q h.at_spot))
+
+    abbrev fails : Finding → Bool
+    fails o = o.fault
+
     -- an operation at the numbers that passes a test, and which is this one
-    record Picked (g : Reached → Bool) : Type 0 where
-      operation : Reached
+    record Picked (g : Finding → Bool) : Type 0 where
+      operation : Finding
       passes : g operation ≡ true
       from : IsFrom p t operation
       same : operation_of operation.warning ≡ operation_of q.warning
 
-    picked : (g : Reached → Bool) → list_any (λ o. is_at k o && g o) os ≡ true → Picked g
+    picked : (g : Finding → Bool) → list_any (λ o. is_at k o && g o) os ≡ true → Picked g
     picked g some =
         let (o, found, from) = pick (λ o. is_at k o && g o) (IsFrom p t) os
         (all_are_from p u fits) some in
@@ -159,12 +194,10 @@ module _ (p : Program) (u : ATable) (fits : Fits p u) where
           operation = o;
           passes = passes;
           from = from;
-          same =
-              same_operation (operation_of o.warning) (operation_of q.warning)
-              (at_spot k o here ∙ sym (at_spot k q h.at_spot));
+          same = same_spot o here;
         }
 
-    picked_reached : (g : Reached → Bool) (x : Picked g)
+    picked_reached : (g : Finding → Bool) (x : Picked g)
         → IsReached p t (operation_of q.warning) x.from.test x.from.view
     picked_reached g x =
         subst (λ (o : Operation). IsReached p t o x.from.test x.from.view) x.same x.from.reached
@@ -172,7 +205,7 @@ module _ (p : Program) (u : ATable) (fits : Fits p u) where
     certain_then : IsTrue q.warning.certain → (s : Test) (v : View)
         → IsReached p t (operation_of q.warning) s v → s.more v ≡ false
     certain_then certain s v r =
-        let m : IsKept p u fits (operation_of q.warning) s v =
+        let m : IsKept p u fits (operation_of q.warning) r.info.node s v =
         reached_kept p u fits (operation_of q.warning) s v r in
         let here : is_at k m.kept ≡ true =
         ap (λ (o : Operation). is_eq (spot_cmp (spot_of o) k)) m.operation_is ∙ h.at_spot in
@@ -191,7 +224,7 @@ module _ (p : Program) (u : ATable) (fits : Fits p u) where
         elim (cases_Bool q.warning.certain) [
           | inl e ↦ e
           | inr e ↦
-              let more : Reached → Bool = λ o. not o.warning.certain in
+              let more : Finding → Bool = λ o. not o.warning.certain in
               let x : Picked more = picked more (sym h.more_is ∙ ap not e) in
               let certain : x.operation.warning.certain ≡ true = sym x.from.certain_is
               ∙ ap not (none x.from.test x.from.view (picked_reached more x)) in
@@ -200,18 +233,56 @@ module _ (p : Program) (u : ATable) (fits : Fits p u) where
 
     warned : q.fault ≡ true → IsWarned p t q.warning
     warned fault =
-        let x : Picked may_fail = picked may_fail (sym h.fault_is ∙ fault) in
+        let x : Picked fails = picked fails (sym h.fault_is ∙ fault) in
         record {
           test = x.from.test;
           view = x.from.view;
-          reached = picked_reached may_fail x;
+          reached = picked_reached fails x;
           fault = x.from.fault_is ∙ x.passes;
           certain = (certain_then, certain_from);
         }
 
+    -- ---- .. and its value is there
+
+    is_above : IsAbove p t (operation_of q.warning) q.value
+    is_above s v r reg is =
+        let m : IsKept p u fits (operation_of q.warning) r.info.node s v =
+        reached_kept p u fits (operation_of q.warning) s v r in
+        let here : is_at k m.kept ≡ true =
+        ap (λ (o : Operation). is_eq (spot_cmp (spot_of o) k)) m.operation_is ∙ h.at_spot in
+        subst (λ x. LeqValue x q.value)
+        (m.value_is ∙ ap (λ x. option_map_or (at v) x no_value) is)
+        (of_member (λ o. is_at k o ≡ true → LeqValue o.value q.value) os m.kept h.above m.member
+        here)
+
+    -- what is above the subject of an operation is above what is found of it
+    finding_below : (o : Finding) (x : AbstractValue) → IsFrom p t o
+        → IsAbove p t (operation_of o.warning) x → LeqValue o.value x
+    finding_below o x from above = by (subject from.reached.info.node) refl
+      where
+        by : (s : Option Reg) → subject from.reached.info.node ≡ s → LeqValue o.value x
+        by None none =
+            subst (λ y. LeqValue y x)
+            (sym (from.value_is ∙ ap (λ s. option_map_or (at from.view) s no_value) none))
+            (no_property-least (bare x)).value
+        by (Some r) some =
+            subst (λ y. LeqValue y x)
+            (sym (from.value_is ∙ ap (λ s. option_map_or (at from.view) s no_value) some))
+            (above from.test from.view from.reached r some)
+
+    is_there : IsValueThere p t (operation_of q.warning) q.value
+    is_there = record {
+      above = is_above;
+      least = λ x above. h.least x (all_weaker (IsFrom p t)
+          (λ o. is_at k o ≡ true → LeqValue o.value x)
+          (λ o from here. finding_below o x from
+          (subst (λ y. IsAbove p t y x) (sym (same_spot o here)) above)) os
+          (all_are_from p u fits));
+    }
+
   -- an operation that may go wrong is held
   record IsFound (o : Operation) : Type 0 where
-    entry : Reached
+    entry : Finding
     held_is : held (spot_of o) None os ≡ Some entry
     fault : entry.fault ≡ true
     same : operation_of entry.warning ≡ o
@@ -220,42 +291,70 @@ module _ (p : Program) (u : ATable) (fits : Fits p u) where
       → IsTrue (test.fault v) → IsFound o
   found o test v r fault =
       let k : Spot = spot_of o in
-      let m : IsKept p u fits o test v = reached_kept p u fits o test v r in
+      let m : IsKept p u fits o r.info.node test v = reached_kept p u fits o test v r in
       let here : is_at k m.kept ≡ true =
       ap (λ (x : Operation). is_eq (spot_cmp (spot_of x) k)) m.operation_is
       ∙ (eq_by_cmp_equiv spot_total).refl k in
       let some : any_fault k os ≡ true =
       member_passes (λ x. is_at k x && x.fault) m.kept os m.member
       (and_from _ _ here (m.fault_is ∙ fault)) in
-      let (q, held_is, fails) = held_from_fault k os some in
+      let (q, held_is, wrong) = held_from_fault k os some in
       record {
         entry = q;
         held_is = held_is;
-        fault = fails;
+        fault = wrong;
         same = same_operation (operation_of q.warning) o
             (at_spot k q (is_held k os q held_is).at_spot);
       }
 
-  -- the warnings of what is held of all nodes are the table's
-  pub are_warnings : (m : BTreeMap Spot Reached) → IsOrdered spot_cmp m
-      → ((k : Spot) → get spot_cmp m k ≡ held k None os) → AreWarnings p t (listed m.entries)
-  are_warnings m sorted are =
-      let es : List Entry = m.entries in
-      let held_at : (e : Entry) → Contains es e → IsHeld e.0 os e.1 =
-      λ e here. is_held e.0 os e.1 (sym (are e.0)
-      ∙ (btree_map_get_iff spot_total spot_exact m sorted e.0 e.1).1 here) in
-      let each : AllByRecursion (Contains es) es =
-      recursion_from_All (Contains es) es (All-contains_itself es) in
-      record {
-        ordered =
-            ordered_listed es sorted (all_weaker (Contains es) HasSpot
-            (λ e here. at_spot e.0 e.1 (held_at e here).at_spot) es each);
-        warned =
-            all_listed (IsWarned p t) es (all_weaker (Contains es)
-            (λ (e : Entry). e.1.fault ≡ true → IsWarned p t e.1.warning)
-            (λ e here. warned e.0 e.1 (held_at e here)) es each);
-        complete = λ o test v r fault.
-            let x : IsFound o = found o test v r fault in
-            any_listed (λ (w : Warning). operation_of w ≡ o) (finds (spot_cmp (spot_of o))) es
-            x.entry (are (spot_of o) ∙ x.held_is) x.fault x.same;
-      }
+  -- what is held of all nodes
+  module _ (m : BTreeMap Spot Reached) (sorted : IsOrdered spot_cmp m)
+      (are : (k : Spot) → found_at m k ≡ held k None os) where
+    abbrev es : List Entry
+    es = m.entries
+
+    entry_held : (e : Entry) → Contains es e → IsHeld e.0 os (finding e.1)
+    entry_held e here =
+        is_held e.0 os (finding e.1) (sym (are e.0) ∙ ap (option_map finding)
+        ((btree_map_get_iff spot_total spot_exact m sorted e.0 e.1).1 here))
+
+    -- what each entry that is held has, the entries have
+    each_held : (P : Entry → Type 0) → ((e : Entry) → IsHeld e.0 os (finding e.1) → P e)
+        → AllByRecursion P es
+    each_held P has =
+        all_weaker (Contains es) P (λ e here. has e (entry_held e here)) es
+        (recursion_from_All (Contains es) es (All-contains_itself es))
+
+    -- its warnings are the table's
+    pub are_warnings : AreWarnings p t (listed es)
+    are_warnings = record {
+      ordered =
+          ordered_listed es sorted (each_held HasSpot (λ e h. at_spot e.0 (finding e.1) h.at_spot));
+      warned =
+          all_listed (IsWarned p t) es
+          (each_held (λ (e : Entry). e.1.fault ≡ true → IsWarned p t e.1.warning)
+          (λ e h. warned e.0 (finding e.1) h));
+      complete = λ o test v r fault.
+          let x : IsFound o = found o test v r fault in
+          any_listed (λ (w : Warning). operation_of w ≡ o) (finds (spot_cmp (spot_of o))) es
+          x.entry (are (spot_of o) ∙ x.held_is) x.fault x.same;
+    }
+
+    -- .. and what is told of them, with the values there
+    pub warnings_told : AreWarnings p t (warnings_in (map told_by (failing es)))
+    warnings_told =
+        subst (AreWarnings p t)
+        (sym (map_after told_by (λ (x : Told). x.warning) warning_of (λ o. refl) (failing es)))
+        are_warnings
+
+    pub values_told : AllByRecursion
+        (λ (x : Told). IsValueThere p t (operation_of x.warning) (value_of x.value))
+        (map told_by (failing es))
+    values_told =
+        all_map (λ (o : Reached). IsValueThere p t (operation_of o.warning) (value_of o.value))
+        (λ (x : Told). IsValueThere p t (operation_of x.warning) (value_of x.value)) told_by
+        (λ o there. there) (failing es) (all_failing (λ (o : Reached). IsValueThere p t
+        (operation_of o.warning) (value_of o.value)) es
+        (each_held (λ (e : Entry). e.1.fault ≡ true → IsValueThere p t
+        (operation_of e.1.warning) (value_of e.1.value))
+        (λ e h fault. is_there e.0 (finding e.1) h)))

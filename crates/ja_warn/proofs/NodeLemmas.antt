@@ -19,8 +19,8 @@ use Rattle.ja_rows.specs.Out.{at}
 use Rattle.ja_rows.specs.Warning.{Test, has_no_row, has_row, keys_if, no_function, one_key, row_of_name, row_of_property, some_entry, tests}
 use Rattle.ja_transfer.proofs.Filters.{any_filter}
 use Rattle.ja_warn.specs.declared.reached.Allowed.{Allowed}
-use Rattle.ja_warn.specs.declared.reached.Reached.{Reached}
-use Rattle.ja_warn.specs.code.Faults.{Spot, Says, SaysRow, tested, reached_by, held, with_reached}
+use Rattle.ja_warn.specs.Told.{subject}
+use Rattle.ja_warn.specs.code.Faults.{Finding, Spot, Says, SaysRow, tested, reached_by, held, with_reached}
 use Rattle.ja_warn.proofs.Rows.{no_row}
 
 -- what a callee allows, by the labels that it has
@@ -43,27 +43,29 @@ says_function w entry r v labels a is are fault more =
     }
 
 -- what is held, with the operation of a node that has one test
-pub one_test : {T : Type 0} (w : View) (f : FnId) (i : NodeInfo) (test : Test)
-    (allowed : Result Allowed Memory) (r : Result T Memory) (before after : Spot → Option Reached)
-    → tests i.node ≡ test ∷ [] → IfOk allowed (Says test w)
-    → IfOk r (λ _. (s : Test) → s.kind ≡ test.kind → IfOk allowed (Says s w) → (k : Spot)
+pub one_test : {T : Type 0} (w : View) (f : FnId) (i : NodeInfo) (test : Test) (about : Reg)
+    (allowed : Result Allowed Memory) (r : Result T Memory) (before after : Spot → Option Finding)
+    → tests i.node ≡ test ∷ [] → subject i.node ≡ Some about → IfOk allowed (Says test w)
+    → IfOk r (λ _. (s : Test) → s.kind ≡ test.kind → subject i.node ≡ Some about
+    → IfOk allowed (Says s w) → (k : Spot)
     → after k ≡ with_reached k (before k) (tested w f i s))
     → IfOk r (λ _. (k : Spot) → after k ≡ held k (before k) (reached_by w f i))
-one_test w f i test allowed r before after are says added =
-    IfOk-weaker r _ _ (λ _ h k. h test refl says k
+one_test w f i test about allowed r before after are about_is says added =
+    IfOk-weaker r _ _ (λ _ h k. h test refl about_is says k
     ∙ ap (λ ts. held k (before k) (map (tested w f i) ts)) (sym are)) added
 
 -- .. and that has two, of which the first was added
 pub two_tests : {T : Type 0} (w : View) (f : FnId) (i : NodeInfo) (first second : Test)
-    (allowed : Result Allowed Memory) (r : Result T Memory)
-    (before between after : Spot → Option Reached) → tests i.node ≡ first ∷ second ∷ []
+    (about : Reg) (allowed : Result Allowed Memory) (r : Result T Memory)
+    (before between after : Spot → Option Finding) → tests i.node ≡ first ∷ second ∷ []
     → ((k : Spot) → between k ≡ with_reached k (before k) (tested w f i first))
-    → IfOk allowed (Says second w)
-    → IfOk r (λ _. (s : Test) → s.kind ≡ second.kind → IfOk allowed (Says s w) → (k : Spot)
+    → subject i.node ≡ Some about → IfOk allowed (Says second w)
+    → IfOk r (λ _. (s : Test) → s.kind ≡ second.kind → subject i.node ≡ Some about
+    → IfOk allowed (Says s w) → (k : Spot)
     → after k ≡ with_reached k (between k) (tested w f i s))
     → IfOk r (λ _. (k : Spot) → after k ≡ held k (before k) (reached_by w f i))
-two_tests w f i first second allowed r before between after are earlier says added =
-    IfOk-weaker r _ _ (λ _ h k. h second refl says k
+two_tests w f i first second about allowed r before between after are earlier about_is says added =
+    IfOk-weaker r _ _ (λ _ h k. h second refl about_is says k
     ∙ ap (λ q. with_reached k q (tested w f i second)) (earlier k)
     ∙ ap (λ ts. held k (before k) (map (tested w f i) ts)) (sym are)) added
 

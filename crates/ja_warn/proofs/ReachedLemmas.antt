@@ -8,6 +8,7 @@ use Rattle.std.proofs.lemmas.List.Elements.{All-contains_itself, recursion_from_
 use Rattle.std.proofs.lemmas.Option.{none-some, same_Some, slice_get_within}
 use Rattle.ja_base.specs.declared.ids.Context.{Context}
 use Rattle.ja_base.proofs.Lists.{all_append}
+use Rattle.ja_graph.specs.declared.node.Node.{Node}
 use Rattle.ja_graph.specs.declared.node.NodeInfo.{NodeInfo}
 use Rattle.ja_graph.specs.declared.program.Program.{Program}
 use Rattle.ja_graph.specs.Program.{node_at, nodes_of}
@@ -18,11 +19,10 @@ use Rattle.ja_abstract.proofs.Lists.{Member, member-flat_map, member-map, member
 use Rattle.ja_rows.specs.Table.{Table, node_numbers}
 use Rattle.ja_rows.specs.Warning.{Test, Operation, operation_of, operation_at, tests, IsReached}
 use Rattle.ja_aheap.specs.Entries.{entries_of}
-use Rattle.ja_warn.specs.declared.reached.Reached.{Reached}
 use Rattle.ja_rules.specs.declared.table.ATable.{ATable}
 use Rattle.ja_rules.specs.declared.table.ContextTable.{ContextTable}
 use Rattle.ja_rules.specs.Tables.{find_context, is_of, states_in, table_of, Fits}
-use Rattle.ja_warn.specs.code.Faults.{tested, reached_by, reached_in, reached_at, reached_of_context}
+use Rattle.ja_warn.specs.code.Faults.{Finding, tested, reached_by, reached_in, reached_at, reached_of_context, value_at}
 use Rattle.ja_rules.proofs.Found.{found_context, found_entry, found_state, missing_state}
 use Rattle.ja_rules.proofs.TableUpdates.{own_found}
 
@@ -54,12 +54,13 @@ found_member test (y ∷ ys) x is =
 -- ---- each of the operations is reached
 
 -- the test and the view that say of an operation what is kept of it
-pub record IsFrom (p : Program) (t : Table) (o : Reached) : Type 0 where
+pub record IsFrom (p : Program) (t : Table) (o : Finding) : Type 0 where
   pub test : Test
   pub view : View
   pub reached : IsReached p t (operation_of o.warning) test view
   pub fault_is : test.fault view ≡ o.fault
   pub certain_is : not (test.more view) ≡ o.warning.certain
+  pub value_is : o.value ≡ value_at view reached.info.node
 
 -- the operations of a node, by the node and the state at a number
 pub reached_is : (p : Program) (c : ContextTable) (n : ℕ) (i : NodeInfo) (a : Option AbstractState)
@@ -74,7 +75,7 @@ reached_is p c n i a info_is state_is =
 -- a table that fits the program, whose contexts are found by their keys
 module _ (p : Program) (t : ATable) (fits : Fits p t) where
   -- the operations of its contexts
-  abbrev pub all_reached : List Reached
+  abbrev pub all_reached : List Finding
   all_reached = flat_map (reached_of_context p) t.contexts.items
 
   module _ (c : ContextTable) (found : find_context c.context t.contexts.items ≡ Some c) where
@@ -106,6 +107,7 @@ module _ (p : Program) (t : ATable) (fits : Fits p t) where
           };
           fault_is = refl;
           certain_is = refl;
+          value_is = refl;
         }) (tests i.node) (recursion_from_All _ _ (All-contains_itself (tests i.node)))
 
     from_node : (n : ℕ) (i : Option NodeInfo)
@@ -136,17 +138,18 @@ module _ (p : Program) (t : ATable) (fits : Fits p t) where
 
   -- ---- what is reached is among the operations
 
-  -- an operation by a test and a view, among those of the contexts
-  pub record IsKept (o : Operation) (test : Test) (w : View) : Type 0 where
-    pub kept : Reached
+  -- an operation by a test of a node and a view, among those of the contexts
+  pub record IsKept (o : Operation) (node : Node) (test : Test) (w : View) : Type 0 where
+    pub kept : Finding
     pub member : Member kept all_reached
     pub operation_is : operation_of kept.warning ≡ o
     pub fault_is : kept.fault ≡ test.fault w
     pub certain_is : kept.warning.certain ≡ not (test.more w)
+    pub value_is : kept.value ≡ value_at w node
 
   module _ (o : Operation) (test : Test) (w : View) (r : IsReached p (table_of t) o test w) where
     kept_in : (c : ContextTable) → find_context r.context t.contexts.items ≡ Some c
-        → IsKept o test w
+        → IsKept o r.info.node test w
     kept_in c found =
         let is : c.context ≡ r.context = found_context t r.context c found in
         let info_is : node_at p c.context.function r.number ≡ Some r.info =
@@ -160,7 +163,7 @@ module _ (p : Program) (t : ATable) (fits : Fits p t) where
           state = r.state;
           entries = found_entry t r.context c found j;
         }) in
-        let kept : Reached = tested v c.context.function r.info test in
+        let kept : Finding = tested v c.context.function r.info test in
         let here : reached_at p c r.number.0 ≡ reached_by v c.context.function r.info =
         reached_is p c r.number.0 r.info (Some r.state) info_is state_is in
         let in_range : r.number.0 < length (nodes_of p c.context.function) =
@@ -183,14 +186,15 @@ module _ (p : Program) (t : ATable) (fits : Fits p t) where
               r.operation_is;
           fault_is = ap test.fault (sym view_is);
           certain_is = ap (λ (u : View). not (test.more u)) (sym view_is);
+          value_is = ap (λ (u : View). value_at u r.info.node) (sym view_is);
         }
 
     by_context : (c : Option ContextTable) → find_context r.context t.contexts.items ≡ c
-        → IsKept o test w
+        → IsKept o r.info.node test w
     by_context None none =
         absurd (none-some r.state (sym (missing_state t r.context r.number.0 none) ∙ r.state_is))
     by_context (Some c) found = kept_in c found
 
     -- what is reached is kept
-    pub reached_kept : IsKept o test w
+    pub reached_kept : IsKept o r.info.node test w
     reached_kept = by_context (find_context r.context t.contexts.items) refl

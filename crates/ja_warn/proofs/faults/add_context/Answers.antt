@@ -1,11 +1,10 @@
 use Rattle.std.proofs.Common.{◌≡◌, length, sym, ◌∙◌, ap, arith}
 use Rattle.std.specs.Prelude.{Some, slice_get}
-use Rattle.std.specs.BTreeMap.{get}
 use Rattle.std.specs.List.{flat_map, range_with_len}
 use Rattle.std.proofs.lemmas.Option.{slice_get-get_or}
 use Rattle.ja_graph.specs.Program.{nodes_of}
 use Rattle.ja_rules.proofs.NodeFacts.{few_nodes}
-use Rattle.ja_warn.specs.code.Faults.{held, reached_at, spot_cmp}
+use Rattle.ja_warn.specs.code.Faults.{found_at, held, reached_at}
 use Rattle.ja_warn.proofs.Held.{held_next}
 use Rattle.ja_warn.proofs.faults.add_context.Goals as goal
 
@@ -28,7 +27,7 @@ add_node-requires-clause-info c =
 pub loop-node-preserved : goal.loop-node-preserved
 loop-node-preserved c =
     λ k. held_next c.args.program.now c.args.own.now k c.loop-node.node
-    (get spot_cmp c.args.found.now k) _ _ (c.loop-node.invariant k) (c.in_ok-add_node.ensures k)
+    (found_at c.args.found.now k) _ _ (c.loop-node.invariant k) (c.in_ok-add_node.ensures k)
 
 pub returns : goal.returns
 returns c =
@@ -36,5 +35,5 @@ returns c =
     let f = own.context.function in
     let count : c.loop-node.node ≡ length (nodes_of c.args.program.now f) =
     omega (arith, ap length c.nodes-nodes.ensures) in
-    λ k. c.loop-node.invariant k ∙ ap (λ n. held k (get spot_cmp c.args.found.now k)
+    λ k. c.loop-node.invariant k ∙ ap (λ n. held k (found_at c.args.found.now k)
     (flat_map (reached_at c.args.program.now own) (range_with_len 0 n))) count

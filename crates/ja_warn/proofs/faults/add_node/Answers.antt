@@ -1,6 +1,5 @@
 use Rattle.std.proofs.Common.{◌≡◌, ◌<◌, vec_len, sym, ◌∙◌, ap, subst}
 use Rattle.std.specs.Prelude.{None, Some}
-use Rattle.std.specs.BTreeMap.{get}
 use Rattle.std.specs.List.{AllByRecursion}
 use Rattle.std.specs.Option.{option_map}
 use Rattle.std.proofs.lemmas.Result.{IfOk-weaker}
@@ -13,7 +12,7 @@ use Rattle.ja_astate.specs.State.{state_of}
 use Rattle.ja_look.specs.Looks.{view_of}
 use Rattle.ja_rules.proofs.Found.{state_none, state_some}
 use Rattle.ja_rules.proofs.NodeFacts.{named_registers}
-use Rattle.ja_warn.specs.code.Faults.{held, reached_by, spot_cmp}
+use Rattle.ja_warn.specs.code.Faults.{found_at, held, reached_by}
 use Rattle.ja_warn.proofs.ReachedLemmas.{reached_is}
 use Rattle.ja_warn.proofs.faults.add_node.Goals as goal
 
@@ -21,7 +20,7 @@ pub returns-in_default : goal.returns-in_default
 returns-in_default c =
     let own = c.args.own.now in
     let n = c.args.node.0 in
-    λ k. ap (held k (get spot_cmp c.args.found.now k))
+    λ k. ap (held k (found_at c.args.found.now k))
     (sym (reached_is c.args.program.now own n c.args.info.now None c.requires.info
     (ap (option_map state_of)
     (state_none own.nodes.items n c.state.result c.state.ensures c.in_default.is))))
@@ -64,6 +63,6 @@ returns c =
       entries = entries_of (c.new-reader.ensures.entries j);
     } in
     IfOk-weaker c.add_operations.result _ _ (λ _ added k. added k
-    ∙ ap (held k (get spot_cmp c.args.found.now k)) (ap (λ v. reached_by v f i) view_is
+    ∙ ap (held k (found_at c.args.found.now k)) (ap (λ v. reached_by v f i) view_is
     ∙ sym (reached_is p own n i (Some (state_of a)) c.requires.info
     (ap (option_map state_of) kept)))) c.add_operations.ensures
