@@ -31,6 +31,7 @@ li.possible { border-color: var(--possible); }
 ol { border-top: 1px solid var(--edge); font: 13px/1.6 ui-monospace, monospace;
   padding: 0.6rem 0 0 6ch; }
 ol li::marker { color: var(--row); }
+ol li:last-child:has(> code:empty) { display: none; }
 ol li:target { background: var(--target); }
 mark { border-bottom: 2px solid var(--row); background: var(--row-back); color: inherit;
   cursor: help; padding: 0 1px; }
