@@ -1,5 +1,5 @@
-ghost use Rattle.std.specs.Prelude.{◌≡◌, ◌<◌, IfOk, None, Some, filter, length, map};
-ghost use Rattle.std.specs.BTreeMap.{values, IsOrdered};
+ghost use Rattle.std.specs.Prelude.{◌≡◌, ◌<◌, IfOk, None, Some, length};
+ghost use Rattle.std.specs.BTreeMap.{IsOrdered};
 ghost use Rattle.std.specs.List.{flat_map, AllByRecursion};
 ghost use Rattle.ja_graph.specs.Program.{node_at, nodes_of};
 ghost use Rattle.ja_graph.specs.WellFormed.{IsWellFormed};
@@ -10,8 +10,7 @@ ghost use Rattle.ja_rows.specs.Warning.{AreWarnings, operation_of};
 ghost use Rattle.ja_sound.specs.Sound.{WarnsOfFaults};
 ghost use Rattle.ja_rules.specs.Tables.{table_of, Fits, FitsContext};
 ghost use Rattle.ja_warn.specs.Told.{warnings_in, IsValueThere};
-ghost use Rattle.ja_warn.specs.code.Faults.{Spot, found_at, held, reached_at, reached_of_context, spot_cmp, told_by};
-ghost use Rattle.ja_warn.specs.declared.reached.Reached.{Reached};
+ghost use Rattle.ja_warn.specs.code.Faults.{Spot, found_at, held, reached_at, reached_of_context, spot_cmp, told_in};
 
 use crate::found::Spot;
 use crate::nodes::add_operations;
@@ -127,8 +126,7 @@ fn operations(
 
 // The warnings of those operations that may go wrong, in order, each with its value.
 fn told_of(alloc: Global, found: BTreeMap<Spot, Reached>) -> Result<Vec<Told>, AllocError>
-    ensures told { IfOk result (λ ts. ts.items
-        ≡ map told_by (filter (λ (o : Reached). o.fault) (values found))) }
+    ensures told { IfOk result (λ ts. ts.items ≡ told_in found) }
     ensures ordered { IsOrdered spot_cmp found }
 {
     found
