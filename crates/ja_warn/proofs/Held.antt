@@ -293,8 +293,8 @@ any_fault k os = list_any (λ o. is_at k o && o.fault) os
 abbrev pub any_more : Spot → List Finding → Bool
 any_more k os = list_any (λ o. is_at k o && not o.warning.certain) os
 
--- what is held at numbers has them, may go wrong where one of them may, does so certainly where none
--- allows anything else, and is about what they are about
+-- what is held at numbers has them, may go wrong where one of them may, does so certainly where
+-- none allows anything else, and is about what they are about
 pub record IsHeld (k : Spot) (os : List Finding) (q : Finding) : Type 0 where
   pub at_spot : is_at k q ≡ true
   pub fault_is : q.fault ≡ any_fault k os

@@ -202,18 +202,26 @@ module _ (p : Program) (u : ATable) (fits : Fits p u) where
     picked_reached g x =
         subst (λ (o : Operation). IsReached p t o x.from.test x.from.view) x.same x.from.reached
 
+    -- what is reached of the operation, as it is kept at the numbers
+    kept_of : (s : Test) (v : View) (r : IsReached p t (operation_of q.warning) s v)
+        → IsKept p u fits (operation_of q.warning) r.info.node s v
+    kept_of s v r = reached_kept p u fits (operation_of q.warning) s v r
+
+    kept_here : (s : Test) (v : View) (r : IsReached p t (operation_of q.warning) s v)
+        → is_at k (kept_of s v r).kept ≡ true
+    kept_here s v r =
+        ap (λ (o : Operation). is_eq (spot_cmp (spot_of o) k)) (kept_of s v r).operation_is
+        ∙ h.at_spot
+
     certain_then : IsTrue q.warning.certain → (s : Test) (v : View)
         → IsReached p t (operation_of q.warning) s v → s.more v ≡ false
     certain_then certain s v r =
-        let m : IsKept p u fits (operation_of q.warning) r.info.node s v =
-        reached_kept p u fits (operation_of q.warning) s v r in
-        let here : is_at k m.kept ≡ true =
-        ap (λ (o : Operation). is_eq (spot_cmp (spot_of o) k)) m.operation_is ∙ h.at_spot in
+        let m = kept_of s v r in
         elim (cases_Bool (s.more v)) [
           | inl e ↦
               let some : any_more k os ≡ true =
               member_passes (λ o. is_at k o && not o.warning.certain) m.kept os m.member
-              (and_from _ _ here (ap not m.certain_is ∙ ap (λ b. not (not b)) e)) in
+              (and_from _ _ (kept_here s v r) (ap not m.certain_is ∙ ap (λ b. not (not b)) e)) in
               absurd (true≢false (sym (h.more_is ∙ some) ∙ ap not certain))
           | inr e ↦ e
         ]
@@ -246,14 +254,11 @@ module _ (p : Program) (u : ATable) (fits : Fits p u) where
 
     is_above : IsAbove p t (operation_of q.warning) q.value
     is_above s v r reg is =
-        let m : IsKept p u fits (operation_of q.warning) r.info.node s v =
-        reached_kept p u fits (operation_of q.warning) s v r in
-        let here : is_at k m.kept ≡ true =
-        ap (λ (o : Operation). is_eq (spot_cmp (spot_of o) k)) m.operation_is ∙ h.at_spot in
+        let m = kept_of s v r in
         subst (λ x. LeqValue x q.value)
         (m.value_is ∙ ap (λ x. option_map_or (at v) x no_value) is)
         (of_member (λ o. is_at k o ≡ true → LeqValue o.value q.value) os m.kept h.above m.member
-        here)
+        (kept_here s v r))
 
     -- what is above the subject of an operation is above what is found of it
     finding_below : (o : Finding) (x : AbstractValue) → IsFrom p t o
