@@ -222,10 +222,10 @@ module _ (k : Spot) where
 
 -- one finding more is held
 pub held_added : (m n : BTreeMap Spot Reached) (s : Spot) (o : Finding) (now : Reached)
-    → s ≡ spot_of (operation_of o.warning) → finding now ≡ merged (found_at m s) o
-    → Updates spot_cmp m n s (Some now)
+    → s ≡ spot_of (operation_of o.warning) → Updates spot_cmp m n s (Some now)
+    → finding now ≡ merged (found_at m s) o
     → (k : Spot) → found_at n k ≡ with_reached k (found_at m k) o
-held_added m n s o now s_is now_is updates k =
+held_added m n s o now s_is updates now_is k =
     ap (option_map finding) (updates.0 k) ∙ by (is_eq (spot_cmp s k)) refl
     ∙ ap (λ x. if is_eq (spot_cmp x k) then Some (merged (found_at m k) o) else found_at m k) s_is
   where

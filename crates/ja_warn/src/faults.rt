@@ -163,6 +163,13 @@ pub fn told(alloc: Global, program: &Program, table: &ATable) -> Result<Seq<Told
     Ok(Seq::from_vec(told))
 }
 
+// The warnings alone.
+fn warnings_in(alloc: Global, told: &[Told]) -> Result<Vec<Warning>, AllocError>
+    ensures { IfOk result (λ ws. ws.items ≡ warnings_in told.now) }
+{
+    told.iter().map(|told| told.warning).collect(alloc)
+}
+
 /// The warnings of a table, those of the text by line, column and kind, and those of the built-in
 /// functions behind them: one for each operation at which a state of some context allows what goes
 /// wrong: a callee that runs no function (ES3 11.2.3, 11.2.2), the object of undefined or null
@@ -177,10 +184,6 @@ pub fn warnings(alloc: Global, program: &Program, table: &ATable) -> Result<Seq<
         → WarnsOfFaults program.now ws) }
 {
     let told = told(alloc, program, table)?;
-    let warnings = told
-        .as_slice()
-        .iter()
-        .map(|told| told.warning)
-        .collect(alloc)?;
+    let warnings = warnings_in(alloc, told.as_slice())?;
     Ok(Seq::from_vec(warnings))
 }
