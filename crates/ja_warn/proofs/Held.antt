@@ -306,7 +306,7 @@ pub is_held : (k : Spot) (os : List Finding) (q : Finding) → held k None os �
     → IsHeld k os q
 is_held k os q is = record {
   at_spot =
-      held_all k (λ o. is_at k o ≡ true) (λ e o earlier here. here) None os none
+      held_all k (λ o. is_at k o ≡ true) (λ e o earlier here. here) None os (none _)
       (all_of (λ o. is_at k o ≡ true → is_at k o ≡ true) (λ o here. here) os) q is;
   fault_is =
       ap has_fault (sym is)
@@ -317,11 +317,12 @@ is_held k os q is = record {
   above = held_above k None os q is;
   least = λ u each.
       held_all k (λ (o : Finding). LeqValue o.value u)
-      (λ e o earlier more. value_least e.value o.value u earlier more) None os none each q is;
+      (λ e o earlier more. value_least e.value o.value u earlier more) None os
+      (none _) each q is;
 }
   where
-    none : {P : Finding → Type 0} (s : Finding) → None ≡ Some s → P s
-    none s e = absurd (none_not_some e)
+    none : (P : Finding → Type 0) (s : Finding) → None ≡ Some s → P s
+    none P s e = absurd (none_not_some e)
 
 -- something is held where an operation at the numbers may go wrong
 pub held_from_fault : (k : Spot) (os : List Finding) → any_fault k os ≡ true
