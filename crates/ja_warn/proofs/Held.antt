@@ -222,10 +222,10 @@ module _ (k : Spot) where
 
 -- one finding more is held
 pub held_added : (m n : BTreeMap Spot Reached) (s : Spot) (o : Finding) (now : Reached)
-    → s ≡ spot_of (operation_of o.warning) → finding now ≡ merged (found_at m s) o
-    → Updates spot_cmp m n s (Some now)
+    → s ≡ spot_of (operation_of o.warning) → Updates spot_cmp m n s (Some now)
+    → finding now ≡ merged (found_at m s) o
     → (k : Spot) → found_at n k ≡ with_reached k (found_at m k) o
-held_added m n s o now s_is now_is updates k =
+held_added m n s o now s_is updates now_is k =
     ap (option_map finding) (updates.0 k) ∙ by (is_eq (spot_cmp s k)) refl
     ∙ ap (λ x. if is_eq (spot_cmp x k) then Some (merged (found_at m k) o) else found_at m k) s_is
   where
@@ -293,8 +293,8 @@ any_fault k os = list_any (λ o. is_at k o && o.fault) os
 abbrev pub any_more : Spot → List Finding → Bool
 any_more k os = list_any (λ o. is_at k o && not o.warning.certain) os
 
--- what is held at numbers has them, may go wrong where one of them may, does so certainly where none
--- allows anything else, and is about what they are about
+-- what is held at numbers has them, may go wrong where one of them may, does so certainly where
+-- none allows anything else, and is about what they are about
 pub record IsHeld (k : Spot) (os : List Finding) (q : Finding) : Type 0 where
   pub at_spot : is_at k q ≡ true
   pub fault_is : q.fault ≡ any_fault k os
@@ -306,7 +306,7 @@ pub is_held : (k : Spot) (os : List Finding) (q : Finding) → held k None os �
     → IsHeld k os q
 is_held k os q is = record {
   at_spot =
-      held_all k (λ o. is_at k o ≡ true) (λ e o earlier here. here) None os none
+      held_all k (λ o. is_at k o ≡ true) (λ e o earlier here. here) None os (none _)
       (all_of (λ o. is_at k o ≡ true → is_at k o ≡ true) (λ o here. here) os) q is;
   fault_is =
       ap has_fault (sym is)
@@ -317,11 +317,12 @@ is_held k os q is = record {
   above = held_above k None os q is;
   least = λ u each.
       held_all k (λ (o : Finding). LeqValue o.value u)
-      (λ e o earlier more. value_least e.value o.value u earlier more) None os none each q is;
+      (λ e o earlier more. value_least e.value o.value u earlier more) None os
+      (none _) each q is;
 }
   where
-    none : {P : Finding → Type 0} (s : Finding) → None ≡ Some s → P s
-    none s e = absurd (none_not_some e)
+    none : (P : Finding → Type 0) (s : Finding) → None ≡ Some s → P s
+    none P s e = absurd (none_not_some e)
 
 -- something is held where an operation at the numbers may go wrong
 pub held_from_fault : (k : Spot) (os : List Finding) → any_fault k os ≡ true

@@ -6,7 +6,7 @@ use Rattle.std.specs.BTreeMap.{BTreeMap, is_at as finds, IsOrdered}
 use Rattle.std.specs.Cmp.{eq_by_cmp_equiv}
 use Rattle.std.specs.List.{AllByRecursion, list_any}
 use Rattle.std.specs.List.Sorted.{IsStrictlySortedBy}
-use Rattle.std.specs.Map.{keys_of, values_of, lookup}
+use Rattle.std.specs.Map.{keys_of, lookup}
 use Rattle.std.specs.Option.{option_map, option_map_or}
 use Rattle.std.specs.Ordering.{is_eq}
 use Rattle.std.proofs.Common.{refl, sym, ◌∙◌, ap, subst, inl, inr, arith}
@@ -29,6 +29,7 @@ use Rattle.ja_rows.specs.declared.table.Warning.{Warning}
 use Rattle.ja_rows.specs.Out.{at}
 use Rattle.ja_rows.specs.Table.{Table}
 use Rattle.ja_rows.specs.Warning.{Test, Operation, operation_of, numbers_of, IsBelow, AreOrdered, IsReached, IsWarned, AreWarnings}
+use Rattle.ja_value.specs.declared.value.AValue.{AValue}
 use Rattle.ja_value.specs.Value.{value_of}
 use Rattle.ja_warn.specs.declared.faults.Told.{Told}
 use Rattle.ja_warn.specs.declared.reached.Reached.{Reached}
@@ -36,7 +37,7 @@ use Rattle.ja_rules.specs.declared.table.ATable.{ATable}
 use Rattle.ja_rules.specs.Tables.{table_of, Fits}
 use Rattle.ja_rules.proofs.Ascending.{of_member}
 use Rattle.ja_warn.specs.Told.{subject, warnings_in, IsAbove, IsValueThere}
-use Rattle.ja_warn.specs.code.Faults.{Finding, Spot, spot_of, spot_cmp, is_at, held, finding, found_at, told_by}
+use Rattle.ja_warn.specs.code.Faults.{Finding, Spot, spot_of, spot_cmp, is_at, held, finding, found_at, told_by, told_in}
 use Rattle.ja_warn.proofs.Held.{spot_exact, spot_total, spot_below, same_operation, at_spot, any_fault, any_more, IsHeld, is_held, held_from_fault}
 use Rattle.ja_warn.proofs.ReachedLemmas.{IsFrom, IsKept, all_are_from, all_reached, reached_kept}
 
@@ -65,25 +66,24 @@ member_passes test x (y ∷ ys) (inr m) passes =
 abbrev Entry : Type 0
 Entry = Spot × Reached
 
-abbrev may_fail : Reached → Bool
-may_fail o = o.fault
+abbrev may_fail : Entry → Bool
+may_fail e = e.1.fault
 
-abbrev warning_of : Reached → Warning
-warning_of o = o.warning
+abbrev warning_of : Entry → Warning
+warning_of e = e.1.warning
 
 -- those that may go wrong, and their warnings
-abbrev pub failing : List Entry → List Reached
-failing es = filter may_fail (values_of es)
+abbrev failing : List Entry → List Entry
+failing es = filter may_fail es
 
-abbrev pub listed : List Entry → List Warning
+abbrev listed : List Entry → List Warning
 listed es = map warning_of (failing es)
 
-abbrev first_and : Bool → Entry → List Entry → List Reached
-first_and b e es = cond b (e.1 ∷ failing es) (failing es)
+abbrev first_and : Bool → Entry → List Entry → List Entry
+first_and b e es = cond b (e ∷ failing es) (failing es)
 
-all_failing : (P : Reached → Type 0) (es : List Entry)
-    → AllByRecursion (λ (e : Entry). e.1.fault ≡ true → P e.1) es
-    → AllByRecursion P (failing es)
+all_failing : (P : Entry → Type 0) (es : List Entry)
+    → AllByRecursion (λ (e : Entry). e.1.fault ≡ true → P e) es → AllByRecursion P (failing es)
 all_failing P [] h = tt
 all_failing P (e ∷ es) h = by e.1.fault refl (all_failing P es h.1)
   where
@@ -96,8 +96,8 @@ all_listed : (P : Warning → Type 0) (es : List Entry)
     → AllByRecursion (λ (e : Entry). e.1.fault ≡ true → P e.1.warning) es
     → AllByRecursion P (listed es)
 all_listed P es h =
-    all_map (λ (o : Reached). P o.warning) P warning_of (λ o holds. holds) (failing es)
-    (all_failing (λ (o : Reached). P o.warning) es h)
+    all_map (λ (e : Entry). P e.1.warning) P warning_of (λ e holds. holds) (failing es)
+    (all_failing (λ (e : Entry). P e.1.warning) es h)
 
 any_listed : (P : Warning → Type 0) (test : Spot → Bool) (es : List Entry) (q : Finding)
     → option_map finding (lookup test es) ≡ Some q → q.fault ≡ true → P q.warning
@@ -202,18 +202,26 @@ module _ (p : Program) (u : ATable) (fits : Fits p u) where
     picked_reached g x =
         subst (λ (o : Operation). IsReached p t o x.from.test x.from.view) x.same x.from.reached
 
+    -- what is reached of the operation, as it is kept at the numbers
+    kept_of : (s : Test) (v : View) (r : IsReached p t (operation_of q.warning) s v)
+        → IsKept p u fits (operation_of q.warning) r.info.node s v
+    kept_of s v r = reached_kept p u fits (operation_of q.warning) s v r
+
+    kept_here : (s : Test) (v : View) (r : IsReached p t (operation_of q.warning) s v)
+        → is_at k (kept_of s v r).kept ≡ true
+    kept_here s v r =
+        ap (λ (o : Operation). is_eq (spot_cmp (spot_of o) k)) (kept_of s v r).operation_is
+        ∙ h.at_spot
+
     certain_then : IsTrue q.warning.certain → (s : Test) (v : View)
         → IsReached p t (operation_of q.warning) s v → s.more v ≡ false
     certain_then certain s v r =
-        let m : IsKept p u fits (operation_of q.warning) r.info.node s v =
-        reached_kept p u fits (operation_of q.warning) s v r in
-        let here : is_at k m.kept ≡ true =
-        ap (λ (o : Operation). is_eq (spot_cmp (spot_of o) k)) m.operation_is ∙ h.at_spot in
+        let m = kept_of s v r in
         elim (cases_Bool (s.more v)) [
           | inl e ↦
               let some : any_more k os ≡ true =
               member_passes (λ o. is_at k o && not o.warning.certain) m.kept os m.member
-              (and_from _ _ here (ap not m.certain_is ∙ ap (λ b. not (not b)) e)) in
+              (and_from _ _ (kept_here s v r) (ap not m.certain_is ∙ ap (λ b. not (not b)) e)) in
               absurd (true≢false (sym (h.more_is ∙ some) ∙ ap not certain))
           | inr e ↦ e
         ]
@@ -246,14 +254,11 @@ module _ (p : Program) (u : ATable) (fits : Fits p u) where
 
     is_above : IsAbove p t (operation_of q.warning) q.value
     is_above s v r reg is =
-        let m : IsKept p u fits (operation_of q.warning) r.info.node s v =
-        reached_kept p u fits (operation_of q.warning) s v r in
-        let here : is_at k m.kept ≡ true =
-        ap (λ (o : Operation). is_eq (spot_cmp (spot_of o) k)) m.operation_is ∙ h.at_spot in
+        let m = kept_of s v r in
         subst (λ x. LeqValue x q.value)
         (m.value_is ∙ ap (λ x. option_map_or (at v) x no_value) is)
         (of_member (λ o. is_at k o ≡ true → LeqValue o.value q.value) os m.kept h.above m.member
-        here)
+        (kept_here s v r))
 
     -- what is above the subject of an operation is above what is found of it
     finding_below : (o : Finding) (x : AbstractValue) → IsFrom p t o
@@ -326,7 +331,7 @@ module _ (p : Program) (u : ATable) (fits : Fits p u) where
         (recursion_from_All (Contains es) es (All-contains_itself es))
 
     -- its warnings are the table's
-    pub are_warnings : AreWarnings p t (listed es)
+    are_warnings : AreWarnings p t (listed es)
     are_warnings = record {
       ordered =
           ordered_listed es sorted (each_held HasSpot (λ e h. at_spot e.0 (finding e.1) h.at_spot));
@@ -340,21 +345,20 @@ module _ (p : Program) (u : ATable) (fits : Fits p u) where
           x.entry (are (spot_of o) ∙ x.held_is) x.fault x.same;
     }
 
-    -- .. and what is told of them, with the values there
-    pub warnings_told : AreWarnings p t (warnings_in (map told_by (failing es)))
+    -- .. and what is told of them has these, and the values there
+    pub warnings_told : AreWarnings p t (warnings_in (told_in m))
     warnings_told =
         subst (AreWarnings p t)
-        (sym (map_after told_by (λ (x : Told). x.warning) warning_of (λ o. refl) (failing es)))
+        (sym (map_after told_by (λ (x : Told). x.warning) warning_of (λ e. refl) (failing es)))
         are_warnings
 
-    pub values_told : AllByRecursion
-        (λ (x : Told). IsValueThere p t (operation_of x.warning) (value_of x.value))
-        (map told_by (failing es))
+    abbrev IsThere : Warning → AValue → Type 0
+    IsThere w v = IsValueThere p t (operation_of w) (value_of v)
+
+    pub values_told : AllByRecursion (λ (x : Told). IsThere x.warning x.value) (told_in m)
     values_told =
-        all_map (λ (o : Reached). IsValueThere p t (operation_of o.warning) (value_of o.value))
-        (λ (x : Told). IsValueThere p t (operation_of x.warning) (value_of x.value)) told_by
-        (λ o there. there) (failing es) (all_failing (λ (o : Reached). IsValueThere p t
-        (operation_of o.warning) (value_of o.value)) es
-        (each_held (λ (e : Entry). e.1.fault ≡ true → IsValueThere p t
-        (operation_of e.1.warning) (value_of e.1.value))
+        all_map (λ (e : Entry). IsThere e.1.warning e.1.value)
+        (λ (x : Told). IsThere x.warning x.value) told_by (λ e there. there) (failing es)
+        (all_failing (λ (e : Entry). IsThere e.1.warning e.1.value) es
+        (each_held (λ (e : Entry). e.1.fault ≡ true → IsThere e.1.warning e.1.value)
         (λ e h fault. is_there e.0 (finding e.1) h)))

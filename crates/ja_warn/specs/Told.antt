@@ -1,5 +1,5 @@
--- The value that a table says of what an operation is about: of a callee, of what is converted to an
--- object, of the base of a name, of the object whose property is read.
+-- The value that a table says of what an operation is about: of a callee, of what is converted to
+-- an object, of the base of a name, of the object whose property is read.
 use Rattle.std.specs.Prelude.{◌≡◌, List, map, Option, Some, None}
 use Rattle.ja_base.specs.declared.ids.Reg.{Reg}
 use Rattle.ja_graph.specs.declared.node.Node.{Node}

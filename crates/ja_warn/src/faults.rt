@@ -1,5 +1,5 @@
-ghost use Rattle.std.specs.Prelude.{◌≡◌, ◌<◌, IfOk, None, Some, filter, length, map};
-ghost use Rattle.std.specs.BTreeMap.{values, IsOrdered};
+ghost use Rattle.std.specs.Prelude.{◌≡◌, ◌<◌, IfOk, None, Some, length};
+ghost use Rattle.std.specs.BTreeMap.{IsOrdered};
 ghost use Rattle.std.specs.List.{flat_map, AllByRecursion};
 ghost use Rattle.ja_graph.specs.Program.{node_at, nodes_of};
 ghost use Rattle.ja_graph.specs.WellFormed.{IsWellFormed};
@@ -10,8 +10,7 @@ ghost use Rattle.ja_rows.specs.Warning.{AreWarnings, operation_of};
 ghost use Rattle.ja_sound.specs.Sound.{WarnsOfFaults};
 ghost use Rattle.ja_rules.specs.Tables.{table_of, Fits, FitsContext};
 ghost use Rattle.ja_warn.specs.Told.{warnings_in, IsValueThere};
-ghost use Rattle.ja_warn.specs.code.Faults.{Spot, found_at, held, reached_at, reached_of_context, spot_cmp, told_by};
-ghost use Rattle.ja_warn.specs.declared.reached.Reached.{Reached};
+ghost use Rattle.ja_warn.specs.code.Faults.{Spot, found_at, held, reached_at, reached_of_context, spot_cmp, told_in};
 
 use crate::found::Spot;
 use crate::nodes::add_operations;
@@ -127,8 +126,7 @@ fn operations(
 
 // The warnings of those operations that may go wrong, in order, each with its value.
 fn told_of(alloc: Global, found: BTreeMap<Spot, Reached>) -> Result<Vec<Told>, AllocError>
-    ensures told { IfOk result (λ ts. ts.items
-        ≡ map told_by (filter (λ (o : Reached). o.fault) (values found))) }
+    ensures told { IfOk result (λ ts. ts.items ≡ told_in found) }
     ensures ordered { IsOrdered spot_cmp found }
 {
     found
@@ -165,6 +163,13 @@ pub fn told(alloc: Global, program: &Program, table: &ATable) -> Result<Seq<Told
     Ok(Seq::from_vec(told))
 }
 
+// The warnings alone.
+fn warnings_in(alloc: Global, told: &[Told]) -> Result<Vec<Warning>, AllocError>
+    ensures { IfOk result (λ ws. ws.items ≡ warnings_in told.now) }
+{
+    told.iter().map(|told| told.warning).collect(alloc)
+}
+
 /// The warnings of a table, those of the text by line, column and kind, and those of the built-in
 /// functions behind them: one for each operation at which a state of some context allows what goes
 /// wrong: a callee that runs no function (ES3 11.2.3, 11.2.2), the object of undefined or null
@@ -179,10 +184,6 @@ pub fn warnings(alloc: Global, program: &Program, table: &ATable) -> Result<Seq<
         → WarnsOfFaults program.now ws) }
 {
     let told = told(alloc, program, table)?;
-    let warnings = told
-        .as_slice()
-        .iter()
-        .map(|told| told.warning)
-        .collect(alloc)?;
+    let warnings = warnings_in(alloc, told.as_slice())?;
     Ok(Seq::from_vec(warnings))
 }

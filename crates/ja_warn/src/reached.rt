@@ -17,8 +17,8 @@ use ja_rows::Warning;
 use ja_transfer::{Entry, entry_at, some_without};
 use ja_value::{AProp, AValue, LabelSet};
 
-/// An operation that a table reaches, whether a state there allows it to go wrong, and the value that
-/// it is about. It is certain where none allows anything else.
+/// An operation that a table reaches, whether a state there allows it to go wrong, and the value
+/// that it is about. It is certain where none allows anything else.
 #[derive(Drop)]
 pub(crate) struct Reached {
     pub warning: Warning,

@@ -1,5 +1,5 @@
 -- The operations that a table reaches, and what is held of them by their numbers.
-use Rattle.std.specs.Prelude.{◌≡◌, ℕ, Bool, not, ◌&&◌, ◌||◌, if◌then◌else◌, List, [], map, Option, Some, None}
+use Rattle.std.specs.Prelude.{◌≡◌, ℕ, Bool, not, ◌&&◌, ◌||◌, if◌then◌else◌, List, [], filter, map, Option, Some, None}
 use Rattle.std.specs.declared.cmp.Ordering.{Ordering}
 use Rattle.std.specs.List.{flat_map, fold}
 use Rattle.std.specs.Option.{option_map, option_map_or}
@@ -123,6 +123,9 @@ finding o = record { warning = o.warning; fault = o.fault; value = value_of o.va
 abbrev pub found_at : BTreeMap Spot Reached → Spot → Option Finding
 found_at m k = option_map finding (get spot_cmp m k)
 
--- .. and what is told of it
-abbrev pub told_by : Reached → Told
-told_by o = record { warning = o.warning; value = o.value }
+-- what is told of what may go wrong
+abbrev pub told_by : Spot × Reached → Told
+told_by e = record { warning = e.1.warning; value = e.1.value }
+
+abbrev pub told_in : BTreeMap Spot Reached → List Told
+told_in m = map told_by (filter (λ e. e.1.fault) m.entries)
