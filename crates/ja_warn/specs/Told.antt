@@ -12,7 +12,7 @@ use Rattle.ja_rows.specs.declared.table.Warning.{Warning}
 use Rattle.ja_rows.specs.Out.{at}
 use Rattle.ja_rows.specs.Table.{Table}
 use Rattle.ja_rows.specs.Warning.{Test, Operation, IsReached}
-use Rattle.ja_warn.specs.declared.faults.Told.{Told}
+use Rattle.ja_warn.specs.declared.reached.Told.{Told}
 
 -- the register whose value the tests of a node are about
 abbrev pub subject : Node → Option Reg
