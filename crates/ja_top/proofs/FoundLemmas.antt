@@ -1,5 +1,6 @@
 -- What is found of the program of a text is found of the text.
 use Rattle.std.specs.Prelude.{◌≡◌, List, ℕ, Result, Ok, Err, IfOk, IfErr}
+use Rattle.std.proofs.Common.{subst, sym}
 use Rattle.ja_graph.specs.declared.program.Program.{Program}
 use Rattle.ja_load.specs.Loading.{IsProgramOf}
 use Rattle.ja_prim.specs.declared.signature.Signature.{Signature}
@@ -20,7 +21,9 @@ module _ (bytes : List ℕ) (signatures : List Signature) (p : Program)
   pub finds : (r : Result Findings FindFault) → IfOk r (IsFoundIn p)
       → IfOk r (Finds bytes signatures)
   finds (Ok found) h =
-      (subst (IsProgramOf bytes signatures) (sym h.program) of, subst (λ (q : Program). IsFoundIn q found) (sym h.program) h)
+      let same = sym h.program in
+      (subst (IsProgramOf bytes signatures) same of,
+      subst (λ (q : Program). IsFoundIn q found) same h)
   finds (Err f) h = h
 
   pub finds_none : (r : Result Findings FindFault) → IfErr r (IsUnfoundIn p)

@@ -4,10 +4,12 @@ use Rattle.std.specs.Str.{IsUtf8}
 use Rattle.std.specs.List.{AllByRecursion}
 use Rattle.std.specs.Str.Lossy.{utf8_valid_len}
 use Rattle.ja_graph.specs.declared.program.Program.{Program}
+use Rattle.ja_graph.specs.WellFormed.{IsWellFormed}
 use Rattle.ja_load.specs.Loading.{IsProgramOf}
 use Rattle.ja_load.specs.code.Loading.{HasNone}
 use Rattle.ja_machine.specs.Runs.{NeverStuck}
 use Rattle.ja_prim.specs.declared.signature.Signature.{Signature}
+use Rattle.ja_rows.specs.declared.table.Item.{Item}
 use Rattle.ja_rows.specs.Table.{IsBuilt, IsClosed}
 use Rattle.ja_rows.specs.Warning.{AreWarnings}
 use Rattle.ja_rules.specs.Solving.{WasSpent}
@@ -19,11 +21,12 @@ use Rattle.ja_top.specs.declared.finding.FindFault.{FindFault}
 use Rattle.ja_top.specs.declared.finding.FindFault.TheVariants as fault
 use Rattle.ja_top.specs.declared.finding.Findings.{Findings}
 
--- What is found of a program: a table that the visits build, which is closed and covers every run,
--- and its warnings, each with the value of what it is about. An operation that goes wrong in some
--- run is among the warnings, and no run of the program is stuck.
+-- What is found of a program, which is well formed: a table that the visits build, which is closed
+-- and covers every run, and its warnings, each with the value of what it is about. An operation that
+-- goes wrong in some run is among the warnings, and no run of the program is stuck.
 pub record IsFoundIn (p : Program) (found : Findings) : Type 0 where
   pub program : found.program ≡ p
+  pub formed : IsWellFormed p
   pub fits : Fits p found.table
   pub built : IsBuilt p found.visits (table_of found.table)
   pub few : length found.visits ≤ default_budget

@@ -29,8 +29,8 @@ use ja_warn::warnings;
 use std::alloc::Global;
 use std::str;
 
-/// Whether a warning is of a type fault.
-fn is_fault(warning: &Warning) -> bool
+/// Whether a warning is of a type fault: the read of a property that is out of the profile is none.
+pub fn is_fault(warning: &Warning) -> bool
     ensures { result ≡ is_fault warning.now.kind }
 {
     match warning.kind {

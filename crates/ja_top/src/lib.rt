@@ -55,7 +55,7 @@ mod running;
 mod status;
 mod top;
 
-pub use analysis::analyse;
+pub use analysis::{analyse, is_fault};
 pub use answer::Answer;
 pub use checking::check;
 pub use finding::{FindFault, Findings, find};

@@ -31,7 +31,7 @@ use Rattle.ja_rows.specs.Table.{Table}
 use Rattle.ja_rows.specs.Warning.{Test, Operation, operation_of, numbers_of, IsBelow, AreOrdered, IsReached, IsWarned, AreWarnings}
 use Rattle.ja_value.specs.declared.value.AValue.{AValue}
 use Rattle.ja_value.specs.Value.{value_of}
-use Rattle.ja_warn.specs.declared.faults.Told.{Told}
+use Rattle.ja_warn.specs.declared.reached.Told.{Told}
 use Rattle.ja_warn.specs.declared.reached.Reached.{Reached}
 use Rattle.ja_rules.specs.declared.table.ATable.{ATable}
 use Rattle.ja_rules.specs.Tables.{table_of, Fits}

@@ -13,7 +13,7 @@ use Rattle.ja_rows.specs.Out.{at}
 use Rattle.ja_rows.specs.Table.{Table}
 use Rattle.ja_rows.specs.Warning.{Test, Operation, IsReached, operation_of}
 use Rattle.ja_value.specs.Value.{value_of}
-use Rattle.ja_warn.specs.declared.faults.Told.{Told}
+use Rattle.ja_warn.specs.declared.reached.Told.{Told}
 
 -- the register whose value the tests of a node are about
 abbrev pub subject : Node → Option Reg

@@ -14,7 +14,7 @@ ghost use Rattle.ja_warn.specs.code.Faults.{Spot, found_at, held, reached_at, re
 
 use crate::found::Spot;
 use crate::nodes::add_operations;
-use crate::reached::Reached;
+use crate::reached::{Reached, Told};
 use ja_base::{FnId, Memory, NodeId, Seq};
 use ja_graph::{NodeInfo, Program};
 use ja_keys::ProgramKeys;
@@ -22,16 +22,8 @@ use ja_look::Reader;
 use ja_rows::Warning;
 use ja_rules::{ATable, ContextTable};
 use ja_sound::warned_of_faults;
-use ja_value::AValue;
 use std::alloc::{AllocError, Global};
 use std::collections::BTreeMap;
-
-/// A warning, and the value that the table says of what it is about.
-#[derive(Drop)]
-pub struct Told {
-    pub warning: Warning,
-    pub value: AValue,
-}
 
 // Adds the operations of a node, if the context has a state there.
 fn add_node(

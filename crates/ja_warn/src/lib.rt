@@ -10,4 +10,5 @@ mod found;
 mod nodes;
 mod reached;
 
-pub use faults::{Told, told, warnings};
+pub use faults::{told, warnings};
+pub use reached::Told;

@@ -26,6 +26,13 @@ pub(crate) struct Reached {
     pub value: AValue,
 }
 
+/// A warning, and the value that the table says of what it is about.
+#[derive(Drop)]
+pub struct Told {
+    pub warning: Warning,
+    pub value: AValue,
+}
+
 /// What a state allows: that an operation goes wrong, and anything else.
 #[derive(Clone, Copy)]
 pub(crate) struct Allowed {

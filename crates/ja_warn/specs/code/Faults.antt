@@ -21,7 +21,7 @@ use Rattle.ja_rows.specs.Table.{node_numbers}
 use Rattle.ja_rows.specs.Warning.{Test, Operation, operation_of, builtin_of, builtin_number, has_no_row, has_row, kind_number, tests}
 use Rattle.ja_value.specs.Value.{value_of}
 use Rattle.ja_aheap.specs.Entries.{entries_of}
-use Rattle.ja_warn.specs.declared.faults.Told.{Told}
+use Rattle.ja_warn.specs.declared.reached.Told.{Told}
 use Rattle.ja_warn.specs.declared.reached.Allowed.{Allowed}
 use Rattle.ja_warn.specs.declared.reached.Reached.{Reached}
 use Rattle.ja_warn.specs.Told.{subject}

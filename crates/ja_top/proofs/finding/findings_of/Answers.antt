@@ -5,6 +5,7 @@ pub returns : goal.returns
 returns c =
     let solved = c.requires.solved in record {
       program = refl;
+      formed = c.requires.program;
       fits = solved.fits;
       built = solved.built;
       few = solved.few;

@@ -5,7 +5,7 @@ use Rattle.ja_rows.specs.Warning.{AreWarnings, operation_of}
 use Rattle.ja_sound.specs.Sound.{WarnsOfFaults}
 use Rattle.ja_value.specs.Value.{value_of}
 use Rattle.ja_rules.specs.Tables.{table_of}
-use Rattle.ja_warn.specs.declared.faults.Told.{Told}
+use Rattle.ja_warn.specs.declared.reached.Told.{Told}
 use Rattle.ja_warn.specs.Told.{warnings_in, IsValueThere}
 use Rattle.ja_warn.specs.code.Faults.{told_in}
 use Rattle.ja_warn.proofs.Listed.{values_told, warnings_told}
