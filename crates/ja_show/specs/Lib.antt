@@ -1,4 +1,7 @@
 -- what is shown of messages about a text: read from `Messages` and `Page` on
+pub mod Laws
 pub mod Lines
 pub mod Messages
 pub mod Page
+pub mod Untagged
+pub mod code

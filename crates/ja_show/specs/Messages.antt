@@ -28,16 +28,17 @@ spot_text name place =
     ++ (if is_some name || is_some place then codes " " else [])
 
 -- the places from which calls lead to what the message is about
+abbrev pub next_call : Place → List ℕ
+next_call at = codes ", " ++ place_text at
+
 unfoldable pub calls_text : List Place → List ℕ
 calls_text [] = []
-calls_text (at ∷ places) =
-    codes ", called at " ++ place_text at
-    ++ flat_map (λ (next : Place). codes ", " ++ place_text next) places
+calls_text (at ∷ places) = codes ", called at " ++ place_text at ++ flat_map next_call places
 
 unfoldable pub message_text : Option (List ℕ) → List (List ℕ) → Message → List ℕ
 message_text name lines m =
-    spot_text name m.place ++ level_word m.level ++ codes ": " ++ m.text.items
-    ++ calls_text m.calls.items ++ codes "\n" ++ option_map_or (excerpt lines) m.place []
+    spot_text name m.place ++ level_word m.level ++ codes ": " ++ m.text
+    ++ calls_text m.calls ++ codes "\n" ++ option_map_or (excerpt lines) m.place []
 
 -- those about a text of these characters
 unfoldable pub messages_text : Option (List ℕ) → List ℕ → List Message → List ℕ

@@ -1,8 +1,8 @@
 -- A page with a text in which what messages are about is marked, in HTML: a list of the messages,
 -- and the text, line by line, with what is found at a place on hover, and with links along calls.
-use Rattle.std.specs.Prelude.{◌≡◌, ◌⊎◌, ◌<◌, ◌≤◌, ℕ, ◌+◌, Bool, true, false, not, ◌&&◌, ◌||◌, ◌==◌, if◌then◌else◌, List, [], ◌∷◌, ◌++◌, filter, map, Option, Some, None}
+use Rattle.std.specs.Prelude.{◌≡◌, ◌⊎◌, ◌<◌, ◌≤◌, ℕ, ◌+◌, Bool, false, not, ◌&&◌, ◌||◌, ◌==◌, if◌then◌else◌, List, [], ◌∷◌, ◌++◌, length, filter, Option, Some, None}
 use Rattle.std.specs.Fmt.{decimal}
-use Rattle.std.specs.List.{flat_map, list_any, AllByRecursion}
+use Rattle.std.specs.List.{flat_map, AllByRecursion}
 use Rattle.std.specs.Option.{option_map_or}
 use lib.Chars.{codes}
 use Rattle.ja_base.specs.declared.ids.Place.{Place}
@@ -34,11 +34,13 @@ place_link at =
     codes "<a href=\"#L" ++ decimal at.line ++ codes "\">" ++ place_text at ++ codes "</a>"
 
 -- what is called at a place, behind which it stands
+abbrev pub next_link : Link → List ℕ
+next_link link = codes " " ++ place_link link.to
+
 unfoldable pub links_text : List Link → List ℕ
 links_text [] = []
 links_text (link ∷ links) =
-    codes "<sup>" ++ place_link link.to
-    ++ flat_map (λ (next : Link). codes " " ++ place_link next.to) links ++ codes "</sup>"
+    codes "<sup>" ++ place_link link.to ++ flat_map next_link links ++ codes "</sup>"
 
 -- ---- messages
 
@@ -50,20 +52,25 @@ level_class Row = codes "row"
 
 -- what is told, and what is found there
 unfoldable pub hint : Message → List ℕ
-hint m = escaped m.text.items ++ codes ": " ++ escaped m.value.items
+hint m = escaped m.text ++ codes ": " ++ escaped m.value
+
+abbrev pub item_place : Option Place → List ℕ
+item_place None = []
+item_place (Some at) = place_link at ++ codes " "
+
+abbrev pub next_call : Place → List ℕ
+next_call at = codes ", " ++ place_link at
 
 unfoldable pub calls_links : List Place → List ℕ
 calls_links [] = []
 calls_links (at ∷ places) =
-    codes ", called at " ++ place_link at
-    ++ flat_map (λ (next : Place). codes ", " ++ place_link next) places
+    codes ", called at " ++ place_link at ++ flat_map next_call places
 
 unfoldable pub message_item : Message → List ℕ
 message_item m =
-    codes "<li class=\"" ++ level_class m.level ++ codes "\">"
-    ++ option_map_or (λ (at : Place). place_link at ++ codes " ") m.place []
-    ++ escaped m.text.items ++ calls_links m.calls.items ++ codes " <code>"
-    ++ escaped m.value.items ++ codes "</code></li>\n"
+    codes "<li class=\"" ++ level_class m.level ++ codes "\">" ++ item_place m.place
+    ++ escaped m.text ++ calls_links m.calls ++ codes " <code>" ++ escaped m.value
+    ++ codes "</code></li>\n"
 
 -- ---- marks
 
@@ -77,11 +84,14 @@ abbrev pub is_from : Place → Link → Bool
 is_from at link = same_place at link.from
 
 -- a mark begins at a place that messages are about
+abbrev pub next_hint : Message → List ℕ
+next_hint m = codes "&#10;" ++ hint m
+
 unfoldable pub mark_start : List Message → List ℕ
 mark_start [] = []
 mark_start (m ∷ ms) =
     codes "<mark class=\"" ++ level_class m.level ++ codes "\" title=\"" ++ hint m
-    ++ flat_map (λ (next : Message). codes "&#10;" ++ hint next) ms ++ codes "\">"
+    ++ flat_map next_hint ms ++ codes "\">"
 
 abbrev pub mark_end : Bool → List ℕ
 mark_end marked = if marked then codes "</mark>" else []
@@ -100,11 +110,11 @@ line_end = codes "</code></li>\n"
 
 -- What is left of a text from a place on, where `marked` says that a mark may go on with the next
 -- character: the links and the mark that begin there, the character, and the rest.
-pub source_text : List Message → List Link → Place → Bool → List ℕ → List ℕ
+unfoldable pub source_text : List Message → List Link → Place → Bool → List ℕ → List ℕ
 source_text ms links at marked [] = mark_end marked ++ line_end
 source_text ms links at marked (c ∷ cs) =
     let here = filter (is_about at) ms in
-    let begins = list_any (is_about at) ms in
+    let begins = not (length here == 0) in
     let stays = marked && is_part c && not begins in
     let within = begins || stays in
     mark_end (marked && not stays) ++ links_text (filter (is_from at) links) ++ mark_start here
@@ -120,10 +130,10 @@ source_text ms links at marked (c ∷ cs) =
 -- the page of a text of these characters, under a title and with a line of counts
 unfoldable pub page_text : List ℕ → List ℕ → List ℕ → List Message → List Link → List ℕ
 page_text title counts cs messages links =
-    HEAD ++ escaped title ++ STYLE ++ escaped title ++ codes "</h1>\n<p>" ++ escaped counts
-    ++ codes "</p>\n<ul>\n" ++ flat_map message_item messages ++ codes "</ul>\n<ol>\n"
-    ++ line_start 1 ++ source_text messages links (place_at 1 1) false cs
-    ++ codes "</ol>\n</body>\n</html>\n"
+    HEAD.now ++ escaped title ++ STYLE.now ++ escaped title ++ codes "</h1>\n<p>"
+    ++ escaped counts ++ codes "</p>\n<ul>\n" ++ flat_map message_item messages
+    ++ codes "</ul>\n<ol>\n" ++ line_start 1
+    ++ source_text messages links (place_at 1 1) false cs ++ codes "</ol>\n</body>\n</html>\n"
 
 -- ---- order
 
@@ -136,12 +146,14 @@ Precedes (Some a) (Some b) = IsUpTo a b
 Precedes None (Some b) = ⊥
 Precedes o None = Unit {0}
 
+-- things stand in order of their places
+abbrev pub AreOrdered : {X : Type 0} → (X → Option Place) → List X → Type 0
+AreOrdered place [] = Unit {0}
+AreOrdered place (x ∷ xs) =
+    AllByRecursion (λ (y : _). Precedes (place x) (place y)) xs × AreOrdered place xs
+
 abbrev pub AreMessagesOrdered : List Message → Type 0
-AreMessagesOrdered [] = Unit {0}
-AreMessagesOrdered (m ∷ ms) =
-    AllByRecursion (λ (n : Message). Precedes m.place n.place) ms × AreMessagesOrdered ms
+AreMessagesOrdered ms = AreOrdered (λ (m : Message). m.place) ms
 
 abbrev pub AreLinksOrdered : List Link → Type 0
-AreLinksOrdered [] = Unit {0}
-AreLinksOrdered (k ∷ ks) =
-    AllByRecursion (λ (n : Link). IsUpTo k.from n.from) ks × AreLinksOrdered ks
+AreLinksOrdered links = AreOrdered (λ (link : Link). Some link.from) links

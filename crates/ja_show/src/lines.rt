@@ -1,17 +1,26 @@
 //! The lines of a text, and what is shown of one.
 
-ghost use Rattle.std.specs.Prelude.{◌≡◌, ◌++◌, [], ◌∷◌, IfOk, OnOk, drop, map};
+ghost use Rattle.std.specs.Prelude.{◌≡◌, ◌<◌, ◌++◌, IfOk, OnOk, drop, length, map, take};
 ghost use Rattle.std.specs.List.{flat_map};
+ghost use Rattle.std.specs.Str.{chars};
 ghost use Rattle.ja_lex.specs.Spots as spots;
 ghost use Rattle.ja_prim.specs.Characters as characters;
 ghost use Rattle.ja_show.specs.Lines as spec;
 
 use ja_base::{Memory, Place};
-use std::alloc::Global;
+use std::alloc::{AllocError, Global};
 use unicode_width::UnicodeWidthChar;
 
 // The most characters of a line that are shown.
 const MOST_SHOWN: usize = 100;
+
+/// The characters of a text.
+pub(crate) fn characters_of(alloc: Global, text: &str) -> Result<Vec<char>, AllocError>
+    ensures { IfOk result (λ characters. characters.items ≡ chars text.now) }
+{
+    let characters: Vec<char> = text.chars().collect(alloc)?;
+    Ok(characters)
+}
 
 // The character at an index, or U+0000 where there is none.
 fn char_at(text: &[char], index: usize) -> char
@@ -21,13 +30,15 @@ fn char_at(text: &[char], index: usize) -> char
 }
 
 /// Whether the character at an index ends its line.
+#[tactic(auto, unfolding(ja_lex::specs::Spots::ends_line, ja_prim::specs::Characters::is_terminator))]
 pub(crate) fn ends_line(text: &[char], index: usize) -> bool
     requires { index < length text.now }
     ensures { result ≡ spots.ends_line (drop index text.now) }
 {
-    match char_at(text, index) {
+    let rest = &text[index..];
+    match char_at(rest, 0) {
         '\n' | '\u{2028}' | '\u{2029}' => true,
-        '\r' => char_at(text, index + 1) != '\n',
+        '\r' => char_at(rest, 1) != '\n',
         _ => false,
     }
 }
@@ -58,6 +69,7 @@ fn is_hidden(c: char) -> bool
 }
 
 /// The bytes of a character as it is shown.
+#[tactic(auto, unfolding(crate::specs::Lines::shown))]
 pub(crate) fn shown<'a>(c: char, buffer: &'a mut [u8; 4]) -> &'a [u8]
     ensures { result.now ≡ spec.shown c }
 {
@@ -72,6 +84,7 @@ pub(crate) fn shown<'a>(c: char, buffer: &'a mut [u8; 4]) -> &'a [u8]
 }
 
 // Adds some characters as they are shown.
+#[tactic(auto, using(ja_texts::proofs::Rulesets::for_push_plain))]
 fn push_shown(out: &mut Vec<u8>, characters: &[char]) -> Result<(), Memory>
     ensures { OnOk result (out.new.items ≡ out.old.items ++ flat_map spec.shown characters.now) }
 {
@@ -83,6 +96,7 @@ fn push_shown(out: &mut Vec<u8>, characters: &[char]) -> Result<(), Memory>
 }
 
 // The blanks below a character.
+#[tactic(auto, unfolding(crate::specs::Lines::blanks))]
 fn blanks(c: char) -> &'static [u8]
     ensures { result.now ≡ spec.blanks c }
 {
@@ -102,6 +116,7 @@ fn blanks(c: char) -> &'static [u8]
 }
 
 // Adds the blanks below some characters.
+#[tactic(auto, using(ja_texts::proofs::Rulesets::for_push_plain))]
 fn push_blanks(out: &mut Vec<u8>, characters: &[char]) -> Result<(), Memory>
     ensures { OnOk result (out.new.items ≡ out.old.items ++ flat_map spec.blanks characters.now) }
 {
@@ -112,10 +127,14 @@ fn push_blanks(out: &mut Vec<u8>, characters: &[char]) -> Result<(), Memory>
 }
 
 // How many characters of a line aren't shown in front of those that are.
-fn skipped(column: usize) -> usize
+fn skipped(column: u32) -> usize
     ensures { result ≡ spec.skipped column }
 {
-    if column <= 80 { 0 } else { column - 60 }
+    if column <= 80 {
+        0
+    } else {
+        (column - 60) as usize
+    }
 }
 
 // Some elements, but for so many in front, and no more than so many.
@@ -128,7 +147,8 @@ fn part(line: &[char], first: usize, most: usize) -> &[char]
 }
 
 // Adds the line as it is shown.
-fn push_line(out: &mut Vec<u8>, line: &[char], column: usize) -> Result<(), Memory>
+#[tactic(auto, unfolding(crate::specs::Lines::shown_line))]
+fn push_line(out: &mut Vec<u8>, line: &[char], column: u32) -> Result<(), Memory>
     ensures { OnOk result (out.new.items ≡ out.old.items ++ spec.shown_line line.now column) }
 {
     let first = skipped(column);
@@ -144,22 +164,22 @@ fn push_line(out: &mut Vec<u8>, line: &[char], column: usize) -> Result<(), Memo
 }
 
 // Adds the line with the caret.
-fn push_caret(out: &mut Vec<u8>, line: &[char], column: usize) -> Result<(), Memory>
+#[tactic(auto, unfolding(crate::specs::Lines::caret_line))]
+fn push_caret(out: &mut Vec<u8>, line: &[char], column: u32) -> Result<(), Memory>
     ensures { OnOk result (out.new.items ≡ out.old.items ++ spec.caret_line line.now column) }
 {
     let first = skipped(column);
     if first != 0 {
         out.extend_from_slice(b"   ")?;
     }
-    push_blanks(
-        out,
-        part(line, first, column.saturating_sub(1).saturating_sub(first)),
-    )?;
+    let before = (column as usize).saturating_sub(1).saturating_sub(first);
+    push_blanks(out, part(line, first, before))?;
     out.extend_from_slice(b"^\n")?;
     Ok(())
 }
 
 /// Adds the line of a place, as far as it is near the place, and a caret below it.
+#[tactic(auto, unfolding(crate::specs::Lines::excerpt))]
 pub(crate) fn push_excerpt(out: &mut Vec<u8>, lines: &[&[char]], place: Place) -> Result<(), Memory>
     ensures { OnOk result (out.new.items ≡ out.old.items
         ++ spec.excerpt (map (λ line. line.now) lines.now) place) }
@@ -169,6 +189,6 @@ pub(crate) fn push_excerpt(out: &mut Vec<u8>, lines: &[&[char]], place: Place) -
         Some(line) => line,
         None => &[],
     };
-    push_line(out, line, place.column as usize)?;
-    push_caret(out, line, place.column as usize)
+    push_line(out, line, place.column)?;
+    push_caret(out, line, place.column)
 }

@@ -1,11 +1,12 @@
 //! Messages as lines that editors read.
 
-ghost use Rattle.std.specs.Prelude.{◌≡◌, ◌++◌, IfOk, OnOk, map};
-ghost use Rattle.std.specs.List.{flat_map};
+ghost use Rattle.std.specs.Prelude.{◌≡◌, ◌++◌, [], IfOk, OnOk, map, option_map};
+ghost use Rattle.std.specs.Option.{option_map_or};
 ghost use Rattle.std.specs.Str.{chars};
+ghost use Rattle.ja_show.specs.Lines.{excerpt};
 ghost use Rattle.ja_show.specs.Messages as spec;
 
-use crate::lines::{lines_of, push_excerpt};
+use crate::lines::{characters_of, lines_of, push_excerpt};
 use crate::message::{Level, Message};
 use ja_base::{Memory, Place};
 use ja_texts::push_place;
@@ -22,9 +23,10 @@ fn level_word(level: Level) -> &'static [u8]
 }
 
 // Adds the name of the file and the place.
+#[tactic(auto, unfolding(crate::specs::Messages::spot_text))]
 fn push_spot(out: &mut Vec<u8>, name: Option<&[u8]>, place: Option<Place>) -> Result<(), Memory>
     ensures { OnOk result (out.new.items ≡ out.old.items
-        ++ spec.spot_text (option_map (λ n. n.now) name) place) }
+        ++ spec.spot_text (option_map (λ n. n.now) name.entry) place) }
 {
     if let Some(name) = name {
         out.extend_from_slice(name)?;
@@ -41,6 +43,7 @@ fn push_spot(out: &mut Vec<u8>, name: Option<&[u8]>, place: Option<Place>) -> Re
 }
 
 // Adds the places that call.
+#[tactic(auto, using(ja_texts::proofs::Rulesets::for_push_plain), unfolding(crate::specs::Messages::calls_text))]
 fn push_calls(out: &mut Vec<u8>, calls: &[Place]) -> Result<(), Memory>
     ensures { OnOk result (out.new.items ≡ out.old.items ++ spec.calls_text calls.now) }
 {
@@ -56,7 +59,19 @@ fn push_calls(out: &mut Vec<u8>, calls: &[Place]) -> Result<(), Memory>
     Ok(())
 }
 
+// Adds the line of a place, if there is one.
+fn push_excerpt_of(out: &mut Vec<u8>, lines: &[&[char]], place: Option<Place>) -> Result<(), Memory>
+    ensures { OnOk result (out.new.items ≡ out.old.items
+        ++ option_map_or (excerpt (map (λ line. line.now) lines.now)) place []) }
+{
+    match place {
+        Some(place) => push_excerpt(out, lines, place),
+        None => Ok(()),
+    }
+}
+
 // Adds a message.
+#[tactic(auto, unfolding(crate::specs::Messages::message_text))]
 fn push_message(
     out: &mut Vec<u8>,
     name: Option<&[u8]>,
@@ -64,7 +79,7 @@ fn push_message(
     message: &Message,
 ) -> Result<(), Memory>
     ensures { OnOk result (out.new.items ≡ out.old.items
-        ++ spec.message_text (option_map (λ n. n.now) name) (map (λ line. line.now) lines.now)
+        ++ spec.message_text (option_map (λ n. n.now) name.entry) (map (λ line. line.now) lines.now)
         message.now) }
 {
     push_spot(out, name, message.place)?;
@@ -73,14 +88,12 @@ fn push_message(
     out.extend_from_slice(message.text.as_slice())?;
     push_calls(out, message.calls.as_slice())?;
     out.push(b'\n')?;
-    match message.place {
-        Some(place) => push_excerpt(out, lines, place),
-        None => Ok(()),
-    }
+    push_excerpt_of(out, lines, message.place)
 }
 
 /// The messages about a text, each on a line with its place, behind the name of the file if one is
 /// given, and below it the line of the text with a caret. `Memory` comes where memory was refused.
+#[tactic(auto, using(ja_texts::proofs::Rulesets::for_push_plain), unfolding(crate::specs::Messages::messages_text))]
 pub fn messages_text(
     alloc: Global,
     name: Option<&[u8]>,
@@ -88,9 +101,9 @@ pub fn messages_text(
     messages: &[Message],
 ) -> Result<Vec<u8>, Memory>
     ensures { IfOk result (λ out. out.items
-        ≡ spec.messages_text (option_map (λ n. n.now) name) (chars text.now) messages.now) }
+        ≡ spec.messages_text (option_map (λ n. n.now) name.entry) (chars text.now) messages.now) }
 {
-    let characters: Vec<char> = text.chars().collect(alloc)?;
+    let characters = characters_of(alloc, text)?;
     let lines = lines_of(alloc, &characters)?;
     let mut out = Vec::new(alloc);
     for message in messages {

@@ -1,0 +1,9 @@
+pub mod Counted
+pub mod Escapes
+pub mod Fronts
+pub mod Listed
+pub mod Parts
+pub mod Placed
+pub mod Places
+pub mod Source
+pub mod Tags

@@ -1,0 +1,16 @@
+use Rattle.std.proofs.Common.{ℕ, ◌∙◌, ap, take, rules, tests}
+use Rattle.std.proofs.lemmas.Iterator.{YieldsList-from_slice}
+use Rattle.std.proofs.lemmas.Iterator.Consumers.{count_from_yields_List}
+use Rattle.std.proofs.lemmas.Iterator.Search.{YieldsList-from_take_while}
+use Rattle.std.proofs.lemmas.List.Folds.{length-prefix_len}
+use Rattle.ja_show.specs.Page.{is_about}
+use Rattle.ja_show.proofs.page.messages_at.Goals as goal
+
+pub returns : goal.returns
+returns c =
+    let xs = c.args.messages.now in
+    let p = is_about c.args.place in
+    ap (λ (n : ℕ). take n xs)
+    (count_from_yields_List c.take_while.result _ c.count-here.ensures.ran
+    (YieldsList-from_take_while _ p (YieldsList-from_slice xs cc) c.take_while.ensures.closure
+    c.take_while.ensures.done (λ x b q k. search (rules, tests))) ∙ length-prefix_len p xs)
