@@ -34,8 +34,10 @@ front here called marked c =
 pub step : List Message → List Link → Place → Bool → ℕ → Bool → List ℕ → List ℕ → List ℕ
 step here called at marked c ends below behind =
     front here called marked c
-    ++ (if ends then mark_end (within here marked c) ++ line_end ++ line_start (at.line + 1) ++ below
-    else escaped (shown c) ++ mark_end (within here marked c && not (goes_on c)) ++ behind)
+    ++ (if ends then
+    mark_end (within here marked c) ++ line_end ++ line_start (at.line + 1) ++ below
+    else
+    escaped (shown c) ++ mark_end (within here marked c && not (goes_on c)) ++ behind)
 
 abbrev pub below : List Message → List Link → Place → List ℕ → List ℕ
 below ms links at cs = source_text ms links (place_at (at.line + 1) 1) false cs
@@ -69,8 +71,7 @@ goes_is : (here : List Message) (marked : Bool) (c : ℕ)
 unfolding goes
 goes_is here marked c = refl
 
--- the same messages and links stand at each place from one on
-
+-- a step of equal parts
 same_step : {here there : List Message} {called over : List Link} (at : Place) (marked : Bool)
     (c : ℕ) (ends : Bool) {low down same other : List ℕ} → there ≡ here → over ≡ called
     → down ≡ low → other ≡ same

@@ -33,10 +33,10 @@ unfoldable pub place_link : Place → List ℕ
 place_link at =
     codes "<a href=\"#L" ++ decimal at.line ++ codes "\">" ++ place_text at ++ codes "</a>"
 
--- what is called at a place, behind which it stands
 abbrev pub next_link : Link → List ℕ
 next_link link = codes " " ++ place_link link.to
 
+-- what is called at a place, in front of which it stands
 unfoldable pub links_text : List Link → List ℕ
 links_text [] = []
 links_text (link ∷ links) =
@@ -83,10 +83,10 @@ is_about at m = option_map_or (same_place at) m.place false
 abbrev pub is_from : Place → Link → Bool
 is_from at link = same_place at link.from
 
--- a mark begins at a place that messages are about
 abbrev pub next_hint : Message → List ℕ
 next_hint m = codes "&#10;" ++ hint m
 
+-- a mark begins at a place that messages are about
 unfoldable pub mark_start : List Message → List ℕ
 mark_start [] = []
 mark_start (m ∷ ms) =

@@ -1,11 +1,13 @@
--- What is left of a page without its tags, and the text that it shows: laws say that they are equal.
+-- What is left of a page without its tags, and the text that it shows: a law says that they are
+-- equal.
 use Rattle.std.specs.Prelude.{ℕ, Bool, true, false, ◌==◌, if◌then◌else◌, List, [], ◌∷◌, ◌++◌}
 use lib.Chars.{codes}
 use Rattle.ja_lex.specs.Spots.{ends_line}
 use Rattle.ja_show.specs.Lines.{shown}
 use Rattle.ja_show.specs.Page.{escaped}
 
--- the bytes but for those from a `<` to a `>`, where `inside` says that the first stand behind a `<`
+-- the bytes but for those from a `<` to a `>`, where `inside` says that the first ones stand behind
+-- a `<`
 unfoldable pub untagged : Bool → List ℕ → List ℕ
 untagged inside [] = []
 untagged inside (b ∷ bs) =

@@ -57,6 +57,14 @@ fn push_link(out: &mut Vec<u8>, place: Place) -> Result<(), Memory>
     Ok(())
 }
 
+// Adds a call that isn't the first one at its place.
+fn push_next_link(out: &mut Vec<u8>, link: Link) -> Result<(), Memory>
+    ensures { OnOk result (out.new.items ≡ out.old.items ++ spec.next_link link) }
+{
+    out.push(b' ')?;
+    push_link(out, link.to)
+}
+
 // Adds what else is called at a place.
 #[tactic(auto, using(ja_texts::proofs::Rulesets::for_push_plain))]
 fn push_next_links(out: &mut Vec<u8>, links: &[Link]) -> Result<(), Memory>
@@ -66,13 +74,6 @@ fn push_next_links(out: &mut Vec<u8>, links: &[Link]) -> Result<(), Memory>
         push_next_link(out, *link)?;
     }
     Ok(())
-}
-
-fn push_next_link(out: &mut Vec<u8>, link: Link) -> Result<(), Memory>
-    ensures { OnOk result (out.new.items ≡ out.old.items ++ spec.next_link link) }
-{
-    out.push(b' ')?;
-    push_link(out, link.to)
 }
 
 // Adds what is called at a place.
@@ -125,6 +126,7 @@ fn push_item_place(out: &mut Vec<u8>, place: Option<Place>) -> Result<(), Memory
     Ok(())
 }
 
+// Adds a place that calls and isn't the first one.
 fn push_next_call(out: &mut Vec<u8>, place: Place) -> Result<(), Memory>
     ensures { OnOk result (out.new.items ≡ out.old.items ++ spec.next_call place) }
 {
@@ -187,6 +189,7 @@ fn push_items(out: &mut Vec<u8>, messages: &[Message]) -> Result<(), Memory>
 
 // ---- marks
 
+// Adds what a message tells that isn't the first one at its place.
 fn push_next_hint(out: &mut Vec<u8>, message: &Message) -> Result<(), Memory>
     ensures { OnOk result (out.new.items ≡ out.old.items ++ spec.next_hint message.now) }
 {

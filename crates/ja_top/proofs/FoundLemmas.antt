@@ -21,9 +21,10 @@ module _ (bytes : List ℕ) (signatures : List Signature) (p : Program)
   pub finds : (r : Result Findings FindFault) → IfOk r (IsFoundIn p)
       → IfOk r (Finds bytes signatures)
   finds (Ok found) h =
-      let same = sym h.program in
-      (subst (IsProgramOf bytes signatures) same of,
-      subst (λ (q : Program). IsFoundIn q found) same h)
+      let same = sym h.program in (
+        subst (IsProgramOf bytes signatures) same of,
+        subst (λ (q : Program). IsFoundIn q found) same h,
+      )
   finds (Err f) h = h
 
   pub finds_none : (r : Result Findings FindFault) → IfErr r (IsUnfoundIn p)

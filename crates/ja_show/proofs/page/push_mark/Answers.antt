@@ -7,7 +7,8 @@ use Rattle.ja_show.proofs.page.push_mark.Goals as goal
 pub returns-in_default : goal.returns-in_default
 unfolding mark_start
 returns-in_default c =
-    added_nothing mark_start c.args.messages.now c.args.out.now.items c.in_default.ensures.cases refl
+    added_nothing mark_start c.args.messages.now c.args.out.now.items c.in_default.ensures.cases
+    refl
 
 pub returns : goal.returns
 unfolding mark_start
