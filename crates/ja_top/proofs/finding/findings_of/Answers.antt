@@ -10,9 +10,9 @@ returns c =
       built = solved.built;
       few = solved.few;
       closed = solved.closed;
-      exact = c.in_ok-told.ensures.warnings;
-      values = c.in_ok-told.ensures.values;
+      exact = c.in_ok-warnings.ensures.warnings;
+      values = c.in_ok-warnings.ensures.values;
       covers = solved.covers;
-      warned = c.in_ok-told.ensures.faults solved.closed;
+      warned = c.in_ok-warnings.ensures.faults solved.closed;
       goes_on = c.never_stuck.ensures c.args.program c.requires.program;
     }
