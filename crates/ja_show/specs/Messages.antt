@@ -27,18 +27,23 @@ spot_text name place =
     ++ option_map_or (λ (at : Place). followed (place_text at)) place []
     ++ (if is_some name || is_some place then codes " " else [])
 
--- the places from which calls lead to what the message is about
+-- a place that calls, behind another one
 abbrev pub next_call : Place → List ℕ
 next_call at = codes ", " ++ place_text at
 
+-- the places from which calls lead to what the message is about
 unfoldable pub calls_text : List Place → List ℕ
 calls_text [] = []
 calls_text (at ∷ places) = codes ", called at " ++ place_text at ++ flat_map next_call places
 
+-- the line of its own
+unfoldable pub heading : Option (List ℕ) → Message → List ℕ
+heading name m =
+    spot_text name m.place ++ level_word m.level ++ codes ": " ++ m.text ++ calls_text m.calls
+    ++ codes "\n"
+
 unfoldable pub message_text : Option (List ℕ) → List (List ℕ) → Message → List ℕ
-message_text name lines m =
-    spot_text name m.place ++ level_word m.level ++ codes ": " ++ m.text
-    ++ calls_text m.calls ++ codes "\n" ++ option_map_or (excerpt lines) m.place []
+message_text name lines m = heading name m ++ option_map_or (excerpt lines) m.place []
 
 -- those about a text of these characters
 unfoldable pub messages_text : Option (List ℕ) → List ℕ → List Message → List ℕ

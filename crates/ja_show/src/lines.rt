@@ -178,17 +178,23 @@ fn push_caret(out: &mut Vec<u8>, line: &[char], column: u32) -> Result<(), Memor
     Ok(())
 }
 
+// The line with a number, from 1, or an empty one where there is none.
+fn line_at<'a>(lines: &[&'a [char]], number: u32) -> &'a [char]
+    ensures { result.now ≡ spec.line_at (map (λ line. line.now) lines.now) number }
+{
+    match lines.get((number as usize).saturating_sub(1)) {
+        Some(line) => line,
+        None => &[],
+    }
+}
+
 /// Adds the line of a place, as far as it is near the place, and a caret below it.
 #[tactic(auto, unfolding(crate::specs::Lines::excerpt))]
 pub(crate) fn push_excerpt(out: &mut Vec<u8>, lines: &[&[char]], place: Place) -> Result<(), Memory>
     ensures { OnOk result (out.new.items ≡ out.old.items
         ++ spec.excerpt (map (λ line. line.now) lines.now) place) }
 {
-    let number = (place.line as usize).saturating_sub(1);
-    let line: &[char] = match lines.get(number) {
-        Some(line) => line,
-        None => &[],
-    };
+    let line = line_at(lines, place.line);
     push_line(out, line, place.column)?;
     push_caret(out, line, place.column)
 }

@@ -1,9 +1,7 @@
 //! Messages as lines that editors read.
 
-ghost use Rattle.std.specs.Prelude.{◌≡◌, ◌++◌, [], IfOk, OnOk, map, option_map};
-ghost use Rattle.std.specs.Option.{option_map_or};
+ghost use Rattle.std.specs.Prelude.{◌≡◌, ◌++◌, IfOk, OnOk, map, option_map};
 ghost use Rattle.std.specs.Str.{chars};
-ghost use Rattle.ja_show.specs.Lines.{excerpt};
 ghost use Rattle.ja_show.specs.Messages as spec;
 
 use crate::lines::{characters_of, lines_of, push_excerpt};
@@ -59,18 +57,22 @@ fn push_calls(out: &mut Vec<u8>, calls: &[Place]) -> Result<(), Memory>
     Ok(())
 }
 
-// Adds the line of a place, if there is one.
-fn push_excerpt_of(out: &mut Vec<u8>, lines: &[&[char]], place: Option<Place>) -> Result<(), Memory>
+// Adds the line of a message.
+#[tactic(auto, unfolding(crate::specs::Messages::heading))]
+fn push_heading(out: &mut Vec<u8>, name: Option<&[u8]>, message: &Message) -> Result<(), Memory>
     ensures { OnOk result (out.new.items ≡ out.old.items
-        ++ option_map_or (excerpt (map (λ line. line.now) lines.now)) place []) }
+        ++ spec.heading (option_map (λ n. n.now) name.entry) message.now) }
 {
-    match place {
-        Some(place) => push_excerpt(out, lines, place),
-        None => Ok(()),
-    }
+    push_spot(out, name, message.place)?;
+    out.extend_from_slice(level_word(message.level))?;
+    out.extend_from_slice(b": ")?;
+    out.extend_from_slice(message.text.as_slice())?;
+    push_calls(out, message.calls.as_slice())?;
+    out.push(b'\n')?;
+    Ok(())
 }
 
-// Adds a message.
+// Adds a message, with the line of its place, if it has one.
 #[tactic(auto, unfolding(crate::specs::Messages::message_text))]
 fn push_message(
     out: &mut Vec<u8>,
@@ -82,18 +84,16 @@ fn push_message(
         ++ spec.message_text (option_map (λ n. n.now) name.entry) (map (λ line. line.now) lines.now)
         message.now) }
 {
-    push_spot(out, name, message.place)?;
-    out.extend_from_slice(level_word(message.level))?;
-    out.extend_from_slice(b": ")?;
-    out.extend_from_slice(message.text.as_slice())?;
-    push_calls(out, message.calls.as_slice())?;
-    out.push(b'\n')?;
-    push_excerpt_of(out, lines, message.place)
+    push_heading(out, name, message)?;
+    if let Some(place) = message.place {
+        push_excerpt(out, lines, place)?;
+    }
+    Ok(())
 }
 
 /// The messages about a text, each on a line with its place, behind the name of the file if one is
 /// given, and below it the line of the text with a caret. `Memory` comes where memory was refused.
-#[tactic(auto, using(ja_texts::proofs::Rulesets::for_push_plain), unfolding(crate::specs::Messages::messages_text))]
+#[tactic(auto, using(ja_texts::proofs::Rulesets::for_push_plain))]
 pub fn messages_text(
     alloc: Global,
     name: Option<&[u8]>,

@@ -6,13 +6,13 @@ use Rattle.ja_lex.specs.Spots.{ends_line}
 use Rattle.ja_prim.specs.Characters.{is_terminator}
 use Rattle.ja_texts.specs.Texts.{place_text}
 use Rattle.ja_show.specs.Lines.{blanks, caret_line, excerpt, lines_of, shown, shown_line}
-use Rattle.ja_show.specs.Messages.{calls_text, message_text, messages_text, spot_text}
+use Rattle.ja_show.specs.Messages.{calls_text, heading, message_text, messages_text, spot_text}
 use Rattle.ja_show.proofs.laws.examples_of_messages.Goals as goal
 
 -- with it unfolded, `refl` computes the text of messages
 unfoldable messages : Unit {0}
-unfolding messages_text message_text spot_text place_text calls_text digits excerpt shown_line
-    caret_line shown blanks lines_of ends_line is_terminator unicode_width
+unfolding messages_text message_text heading spot_text place_text calls_text digits excerpt
+    shown_line caret_line shown blanks lines_of ends_line is_terminator unicode_width
 messages = tt
 
 pub returns-clause-at_a_place : goal.returns-clause-at_a_place
