@@ -1,6 +1,6 @@
 -- The answers of the program to words and a source: the cause of each status, and the text that is
 -- written with it.
-use Rattle.std.specs.Prelude.{◌≡◌, ◌≤◌, ◌⊎◌, ◌+◌, ℕ, Bool, true, false, if◌then◌else◌, String, List, [], ◌∷◌, ◌++◌, map, length, Option, Some, None, unwrap_or}
+use Rattle.std.specs.Prelude.{◌≡◌, ◌≤◌, ◌⊎◌, ◌+◌, ℕ, Bool, true, false, String, List, [], ◌∷◌, ◌++◌, map, length, Option, Some, None, unwrap_or}
 use Rattle.std.specs.Fmt.{decimal}
 use Rattle.std.specs.Str.{IsUtf8, chars}
 use Rattle.std.specs.Str.Lossy.{utf8_valid_len}
@@ -56,11 +56,15 @@ lines_text name text messages warnings =
 abbrev pub title_of : Option (List ℕ) → List ℕ
 title_of name = unwrap_or name (codes "tajs-lint")
 
-abbrev pub shown_text : Asked → List ℕ → List Message → List Link → List Warning → List ℕ
-shown_text asked text messages links warnings =
-    if asked.html then
-    page_text (title_of asked.name) (counts_text warnings) (chars text) messages links
-    else lines_text asked.name text messages warnings
+-- What is shown of messages, by whether a page is asked for. It has the links too, one for each call
+-- of a function of the text.
+abbrev pub IsShown : Bool → Option (List ℕ) → List ℕ → Program → Table → List Message
+    → List Warning → List ℕ → Type 0
+IsShown true name text p t messages warnings out =
+    (links : List Link) × AreLinks p t links
+    × (out ≡ page_text (title_of name) (counts_text warnings) (chars text) messages links)
+IsShown false name text p t messages warnings out =
+    out ≡ lines_text name text messages warnings
 
 -- What is written of the program of a text, with these warnings: a message for each, once and in
 -- order, and nothing else. They are those of a closed table that covers every run, and an operation
@@ -70,10 +74,8 @@ pub record IsLinted (asked : Asked) (text : List ℕ) (p : Program) (out : List 
   pub table : Table
   pub visits : List Item
   pub messages : List Message
-  pub links : List Link
-  pub printed : out ≡ shown_text asked text messages links warnings
   pub told : AreTold p table warnings messages
-  pub linked : AreLinks p table links
+  pub shown : IsShown asked.html asked.name text p table messages warnings out
   pub built : IsBuilt p visits table
   pub few : length visits ≤ default_budget
   pub closed : IsClosed p table

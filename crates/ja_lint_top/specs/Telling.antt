@@ -40,12 +40,9 @@ told_text p w =
     ++ within_text p w.builtin
 
 -- a warning in a built-in function has no place of the text, but those that call the function
-abbrev pub IsStanding : Program → Table → Warning → Option Place → List Place → Type 0
-IsStanding p t w place calls = by w.builtin
-  where
-    by : Option FnId → Type 0
-    by None = (place ≡ Some w.place) × (calls ≡ [])
-    by (Some f) = (place ≡ None) × AreCallers p t f calls
+abbrev pub IsStanding : Program → Table → Option FnId → Place → Option Place → List Place → Type 0
+IsStanding p t None at place calls = (place ≡ Some at) × (calls ≡ [])
+IsStanding p t (Some f) at place calls = (place ≡ None) × AreCallers p t f calls
 
 -- the message of a warning, with what the table says of the value there
 pub record Tells (p : Program) (t : Table) (w : Warning) (m : Message) : Type 0 where
@@ -54,7 +51,7 @@ pub record Tells (p : Program) (t : Table) (w : Warning) (m : Message) : Type 0 
   pub value : AbstractValue
   pub there : IsValueThere p t (operation_of w) value
   pub value_is : m.value ≡ value_text p value
-  pub standing : IsStanding p t w m.place m.calls
+  pub standing : IsStanding p t w.builtin w.place m.place m.calls
 
 -- one for each warning, in the order of the warnings
 abbrev pub AreTold : Program → Table → List Warning → List Message → Type 0

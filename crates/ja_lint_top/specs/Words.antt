@@ -1,5 +1,5 @@
 -- The command lines of the program. A word is its bytes.
-use Rattle.std.specs.Prelude.{◌≡◌, ◌≢◌, ℕ, Bool, List, [], ◌∷◌, slice_get, Option, Some, None}
+use Rattle.std.specs.Prelude.{◌≡◌, ◌≢◌, Bool, List, [], ◌∷◌, slice_get, Option, Some, None}
 use lib.Chars.{codes}
 use Rattle.ja_words.specs.Words.{Word, AreBoth, IsFlag}
 

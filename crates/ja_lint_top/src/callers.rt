@@ -1,16 +1,39 @@
-//! The places of the text that call a built-in function.
+//! The places of the text that call a function.
 
-ghost use Rattle.std.specs.Prelude.{◌≡◌, ◌<◌, ◌↔◌, IfOk, length};
-ghost use Rattle.ja_graph.specs.WellFormed.{IsWellFormed};
+ghost use Rattle.std.specs.Prelude.{◌≡◌, ◌↔◌, IfOk, IsTrue, map};
+ghost use Rattle.std.specs.BTreeSet.{IsFromIterResult};
+ghost use Rattle.std.specs.List.{filter_map};
 ghost use Rattle.ja_rules.specs.Tables.{table_of, Fits};
-ghost use Rattle.ja_lint_top.specs.Calls.{AreCallers};
+ghost use Rattle.ja_rules.specs.declared.table.CallEdge.{CallEdge as Kept};
+ghost use Rattle.ja_lint_top.specs.Calls.{AreCallers, IsOfText};
+ghost use Rattle.ja_lint_top.specs.code.Calls.{alone, edge_place, is_marked, place_at, spot_cmp, spot_into, spot_of, Adds, AreLeading, Grows};
 
 use ja_base::{FnId, Memory, Place, Seq};
 use ja_graph::Program;
 use ja_rows::Edge;
-use ja_rules::{ATable, CallEdge};
-use std::alloc::Global;
+use ja_rules::ATable;
+use std::alloc::{AllocError, Global};
 use std::collections::BTreeSet;
+
+/// A place by its numbers: its line and its column.
+pub(crate) type Spot = (u32, u32);
+
+/// The numbers of a place.
+pub(crate) fn spot_of(place: Place) -> Spot
+    ensures { result ≡ spot_of place }
+{
+    (place.line, place.column)
+}
+
+/// The place of some numbers.
+pub(crate) fn place_at(spot: Spot) -> Place
+    ensures { result ≡ place_at spot }
+{
+    Place {
+        line: spot.0,
+        column: spot.1,
+    }
+}
 
 /// Whether a function is one of the text.
 pub(crate) fn is_of_text(program: &Program, function: FnId) -> bool
@@ -21,8 +44,7 @@ pub(crate) fn is_of_text(program: &Program, function: FnId) -> bool
 
 /// The place of the node from which an edge leads.
 pub(crate) fn place_of(program: &Program, edge: Edge) -> Option<Place>
-    ensures { result ≡ option_map (λ i. i.place)
-        (node_at program.now edge.caller.function edge.node) }
+    ensures { result ≡ edge_place program.now edge }
 {
     let function = program
         .functions
@@ -32,72 +54,98 @@ pub(crate) fn place_of(program: &Program, edge: Edge) -> Option<Place>
     Some(info.place)
 }
 
-// Whether a function is among some that are told by number.
-fn is_among(leading: &[bool], function: FnId) -> bool
-    ensures { result ≡ unwrap_or (slice_get leading.now function.0) false }
+// Whether a function is marked.
+fn is_marked(marks: &[bool], function: FnId) -> bool
+    ensures { result ≡ is_marked marks.now function }
 {
-    leading.get(function.0 as usize).copied().unwrap_or(false)
+    marks.get(function.0 as usize).copied().unwrap_or(false)
 }
 
-// Adds the built-in functions that call one of those that lead to a function, and tells whether
-// there are more.
-fn add_callers(program: &Program, edges: &[CallEdge], leading: &mut [bool]) -> bool {
+// Marks the caller of an edge too, where it is built in and the callee is marked, and tells whether
+// it wasn't yet.
+fn add_caller(program: &Program, edge: Edge, marks: &mut [bool]) -> bool
+    ensures { Adds program.now edge marks.old marks.new result }
+{
+    let caller = edge.caller.function;
+    let number = caller.0 as usize;
+    let is_next = !is_of_text(program, caller) && is_marked(marks, edge.callee.function);
+    let adds = is_next && number < marks.len() && !marks[number];
+    if adds {
+        marks[number] = true;
+    }
+    adds
+}
+
+// Marks the built-in functions that call one that is marked, and tells whether there are more.
+fn add_callers(program: &Program, table: &ATable, marks: &mut [bool]) -> bool
+    ensures { Grows program.now (table_of table.now) table.now.edges.items marks.old marks.new
+        result }
+{
     let mut grows = false;
-    for call in edges {
-        let caller = call.edge.caller.function;
-        if is_among(leading, call.edge.callee.function)
-            && !is_of_text(program, caller)
-            && !is_among(leading, caller)
-        {
-            if let Some(flag) = leading.get_mut(caller.0 as usize) {
-                *flag = true;
-                grows = true;
-            }
-        }
+    for call in &table.edges {
+        grows |= add_caller(program, call.edge, marks);
     }
     grows
 }
 
-// The functions from which calls of built-in functions alone lead to one, by their numbers.
+// One function of a program alone, marked by its number.
+fn alone(alloc: Global, program: &Program, function: FnId) -> Result<Vec<bool>, AllocError>
+    ensures { IfOk result (λ marks. marks.items ≡ alone program.now function) }
+{
+    (0..program.functions.len())
+        .map(|number| number == function.0 as usize)
+        .collect(alloc)
+}
+
+// The functions from which calls of built-in functions alone lead to one, marked by their numbers.
 fn leading_to(
     alloc: Global,
     program: &Program,
     table: &ATable,
     function: FnId,
 ) -> Result<Vec<bool>, Memory>
-    requires program { IsWellFormed program.now }
-    requires fits { Fits program.now table.now }
-    ensures { IfOk result (λ leading. (g : FnId) → IsTrue (unwrap_or (slice_get leading.items g.0) false)
-        ↔ ((n : ℕ) × Leads program.now (table_of table.now) n g function)) }
+    requires { Fits program.now table.now }
+    ensures { IfOk result (λ marks. AreLeading program.now (table_of table.now) function
+        marks.items) }
 {
-    let mut leading = Vec::new(alloc);
-    for number in 0..program.functions.len() {
-        leading.push(number == function.0 as usize)?;
-    }
-    let mut grows = true;
-    while grows {
-        grows = add_callers(program, &table.edges, &mut leading);
-    }
-    Ok(leading)
+    let mut marks = alone(alloc, program, function)?;
+    while add_callers(program, table, &mut marks) {}
+    Ok(marks)
 }
 
-// The places of the text from which edges lead to these functions.
-fn places_into(
+// The numbers of the place of the text from which an edge leads to a function that is marked.
+fn spot_into(program: &Program, marks: &[bool], edge: Edge) -> Option<Spot>
+    ensures { result ≡ spot_into program.now marks.now edge }
+{
+    if !is_of_text(program, edge.caller.function) || !is_marked(marks, edge.callee.function) {
+        return None;
+    }
+    let place = place_of(program, edge)?;
+    Some(spot_of(place))
+}
+
+// Those of all edges.
+fn spots_into(
     alloc: Global,
     program: &Program,
     table: &ATable,
-    leading: &[bool],
-) -> Result<BTreeSet<(u32, u32)>, Memory> {
-    let mut places = BTreeSet::new(alloc);
-    for call in &table.edges {
-        let edge = call.edge;
-        if is_of_text(program, edge.caller.function) && is_among(leading, edge.callee.function) {
-            if let Some(place) = place_of(program, edge) {
-                places.insert((place.line, place.column))?;
-            }
-        }
-    }
-    Ok(places)
+    marks: &[bool],
+) -> Result<BTreeSet<Spot>, AllocError>
+    ensures { IfOk result (IsFromIterResult spot_cmp
+        (filter_map (λ (d : Kept). spot_into program.now marks.now d.edge) table.now.edges.items)) }
+{
+    table
+        .edges
+        .iter()
+        .filter_map(|call| spot_into(program, marks, call.edge))
+        .collect(alloc)
+}
+
+// The places at some numbers.
+fn places_at(alloc: Global, spots: BTreeSet<Spot>) -> Result<Vec<Place>, AllocError>
+    ensures { IfOk result (λ places. places.items ≡ map place_at spots.keys) }
+{
+    spots.into_iter().map(place_at).collect(alloc)
 }
 
 /// The places of the text that call a function, itself or through built-in functions, in order.
@@ -107,18 +155,11 @@ pub(crate) fn callers(
     table: &ATable,
     function: FnId,
 ) -> Result<Seq<Place>, Memory>
-    requires program { IsWellFormed program.now }
-    requires fits { Fits program.now table.now }
+    requires { Fits program.now table.now }
     ensures { IfOk result (AreCallers program.now (table_of table.now) function) }
 {
-    let leading = leading_to(alloc, program, table, function)?;
-    let set = places_into(alloc, program, table, &leading)?;
-    let mut places = Vec::new(alloc);
-    for (line, column) in &set {
-        places.push(Place {
-            line: *line,
-            column: *column,
-        })?;
-    }
+    let marks = leading_to(alloc, program, table, function)?;
+    let spots = spots_into(alloc, program, table, &marks)?;
+    let places = places_at(alloc, spots)?;
     Ok(Seq::from_vec(places))
 }

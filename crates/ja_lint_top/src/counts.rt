@@ -1,47 +1,45 @@
 //! The counts behind the messages.
 
-ghost use Rattle.std.specs.Prelude.{◌≡◌, ◌++◌, IfOk, OnOk, length};
-ghost use Rattle.ja_lint_top.specs.Counts as spec;
+ghost use Rattle.std.specs.Prelude.{◌≡◌, ◌&&◌, not, filter, IfOk, length};
+ghost use Rattle.ja_top.specs.Statuses.{is_fault};
 ghost use Rattle.ja_warn.specs.Told.{warnings_in};
+ghost use Rattle.ja_lint_top.specs.Counts as spec;
 
 use ja_base::Memory;
-use ja_rows::WarningKind;
 use ja_texts::push_number;
+use ja_top::is_fault;
 use ja_warn::Told;
 use std::alloc::Global;
 
-// Whether a warning is of a type fault.
-fn is_fault(told: &Told) -> bool
-    ensures { result ≡ is_fault told.now.warning.kind }
+// How many warnings are of faults.
+fn faults(warnings: &[Told]) -> usize
+    ensures { result ≡ length (filter (λ x. is_fault x.warning.kind) warnings.now) }
 {
-    match told.warning.kind {
-        WarningKind::NotAFunction | WarningKind::NoObject | WarningKind::UnboundName => true,
-        WarningKind::ScopeRow => false,
-    }
-}
-
-/// How many warnings are of faults.
-pub(crate) fn faults(warnings: &[Told]) -> usize
-    ensures { result ≡ length (spec.faults_of (warnings_in warnings.now)) }
-{
-    warnings.iter().filter(|told| is_fault(told)).count()
+    warnings
+        .iter()
+        .filter(|told| is_fault(&told.warning))
+        .count()
 }
 
 // How many of those are certain.
 fn certain(warnings: &[Told]) -> usize
-    ensures { result ≡ length (spec.certain_of (warnings_in warnings.now)) }
+    ensures { result
+        ≡ length (filter (λ x. is_fault x.warning.kind && x.warning.certain) warnings.now) }
 {
     warnings
         .iter()
-        .filter(|told| is_fault(told) && told.warning.certain)
+        .filter(|told| is_fault(&told.warning) && told.warning.certain)
         .count()
 }
 
 // How many warnings are of none.
 fn rows(warnings: &[Told]) -> usize
-    ensures { result ≡ length (spec.rows_of (warnings_in warnings.now)) }
+    ensures { result ≡ length (filter (λ x. not (is_fault x.warning.kind)) warnings.now) }
 {
-    warnings.iter().filter(|told| !is_fault(told)).count()
+    warnings
+        .iter()
+        .filter(|told| !is_fault(&told.warning))
+        .count()
 }
 
 /// The counts of some warnings.

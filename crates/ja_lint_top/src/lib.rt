@@ -1,7 +1,7 @@
 //! The faults of a script at its lines: each warning of its closed table as compilers write theirs,
 //! or on a page with the whole script (`lint`).
 //!
-//! The clause `answered` of `lint` (`lint.rt`), by `IsAnswered` of `specs/Lint.antt`, says of all
+//! The clause `answered` of `lint` (`top.rt`), by `IsAnswered` of `specs/Lint.antt`, says of all
 //! words, sources, sinks and lists of devices: each status has its cause, those of the analysis;
 //! and what was written is, whole, a message for each warning of a closed table of the program of
 //! the text, once and in order, at its place (`AreTold`), with the counts, and nothing else; or the
@@ -10,13 +10,19 @@
 //! message at its place, and with a link for each call of a function of the text (`AreLinks`).
 #![tactic(auto)]
 
+mod call_laws;
 mod callers;
 mod counts;
+mod laws;
 mod links;
-mod lint;
 mod refusing;
 mod telling;
+mod top;
 mod words;
 
-pub use lint::lint;
+pub use call_laws::{
+    calls_are_followed, calls_have_one_list, examples_of_messages, warnings_have_messages,
+};
+pub use laws::{examples_of_words, words_ask_for_one_thing};
+pub use top::lint;
 pub use words::{Words, asked};

@@ -1,8 +1,17 @@
 //! Why a text isn't analysed.
 
-ghost use Rattle.std.specs.Prelude.{◌≡◌, IfOk};
+ghost use Rattle.std.specs.Prelude.{◌≡◌, ◌++◌, ◌∷◌, [], codes, IfOk, List, None, Some};
+ghost use Rattle.std.specs.Fmt.{decimal};
+ghost use Rattle.std.specs.Option.{option_map};
 ghost use Rattle.std.specs.Str.{chars};
-ghost use Rattle.ja_lint_top.specs.Lint.{error_text, Follows};
+ghost use Rattle.ja_load.specs.Loading.{IsNone};
+ghost use Rattle.ja_load.specs.code.Loading.{HasNone};
+ghost use Rattle.ja_prim.specs.declared.signature.Signature.{Signature};
+ghost use Rattle.ja_show.specs.Messages as show;
+ghost use Rattle.ja_texts.specs.Texts as texts;
+ghost use Rattle.ja_top.specs.Findings.{IsUnfound};
+ghost use Rattle.ja_lint_top.specs.Lint.{error_of, Follows};
+ghost use Rattle.ja_lint_top.specs.code.Answers.{asked_of, IsRefusal};
 
 use crate::words::Words;
 use ja_base::{Memory, Place, ScopeKind, Seq};
@@ -29,7 +38,11 @@ fn error(
     text: &str,
     place: Option<Place>,
     words: Vec<u8>,
-) -> Result<Vec<u8>, Memory> {
+) -> Result<Vec<u8>, Memory>
+    ensures { IfOk result (λ out. out.items
+        ≡ show.messages_text (option_map (λ name. name.now) name.entry) (chars text.now)
+        (error_of place words.items ∷ [])) }
+{
     let message = Message {
         level: Level::Error,
         place,
@@ -43,7 +56,7 @@ fn error(
 
 /// The line of a refusal that is of no text.
 pub(crate) fn refuse(alloc: Global, status: Status, words: &[u8]) -> Result<Answer, Memory>
-    ensures { IfOk result (λ a. (a.status ≡ status) × (a.text.items ≡ refused words.now)) }
+    ensures { IfOk result (IsRefusal None [] status None words.now) }
 {
     let text = error(alloc, None, "", None, text_of(alloc, words)?)?;
     Ok(Answer { status, text })
@@ -54,7 +67,10 @@ pub(crate) fn refuse_bytes(
     alloc: Global,
     name: Option<&str>,
     offset: usize,
-) -> Result<Answer, Memory> {
+) -> Result<Answer, Memory>
+    ensures { IfOk result (IsRefusal (option_map (λ name. name.now) name.entry) []
+        Status.NotText None (codes "no character begins at byte " ++ decimal offset)) }
+{
     let mut words = text_of(alloc, b"no character begins at byte ")?;
     push_number(&mut words, offset as u64)?;
     let text = error(alloc, name, "", None, words)?;
@@ -72,7 +88,10 @@ fn answer(
     status: Status,
     place: Option<Place>,
     words: &[u8],
-) -> Result<Answer, Memory> {
+) -> Result<Answer, Memory>
+    ensures { IfOk result (IsRefusal (option_map (λ name. name.now) name.entry) (chars text.now)
+        status place words.now) }
+{
     let text = error(alloc, name, text, place, text_of(alloc, words)?)?;
     Ok(Answer { status, text })
 }
@@ -84,7 +103,10 @@ fn refuse_scope(
     text: &str,
     kind: ScopeKind,
     place: Place,
-) -> Result<Answer, Memory> {
+) -> Result<Answer, Memory>
+    ensures { IfOk result (IsRefusal (option_map (λ name. name.now) name.entry) (chars text.now)
+        Status.Scope (Some place) (codes "out of the profile: " ++ texts.scope_name kind)) }
+{
     let mut words = text_of(alloc, b"out of the profile: ")?;
     words.extend_from_slice(scope_name(kind))?;
     let text = error(alloc, name, text, Some(place), words)?;
@@ -94,57 +116,54 @@ fn refuse_scope(
     })
 }
 
+// Why a text is none of the language.
+fn explain_parse(
+    alloc: Global,
+    words: Words<'_>,
+    text: &str,
+    fault: ParseFault,
+) -> Result<Answer, Memory>
+    ensures { IfOk result (λ a. (signatures : List Signature) → IsNone text.now fault
+        → Follows (asked_of words.entry) text.now signatures a.status a.text.items) }
+{
+    let name = words.name;
+    match fault {
+        ParseFault::Syntax { place } => {
+            let words = b"syntax error";
+            answer(alloc, name, text, Status::Syntax, Some(place), words)
+        }
+        ParseFault::Scope { kind, place } => refuse_scope(alloc, name, text, kind, place),
+        ParseFault::Depth { place } => {
+            let words = b"nested deeper than 200 levels";
+            answer(alloc, name, text, Status::Limit, Some(place), words)
+        }
+        ParseFault::Memory => Err(Memory),
+    }
+}
+
 // Why a text has no program.
 fn explain_load(
     alloc: Global,
-    name: Option<&str>,
+    words: Words<'_>,
     text: &str,
     fault: LoadFault,
-) -> Result<Answer, Memory> {
+) -> Result<Answer, Memory>
+    ensures { IfOk result (λ a. (signatures : List Signature) → HasNone text.now signatures fault
+        → Follows (asked_of words.entry) text.now signatures a.status a.text.items) }
+{
+    let name = words.name;
     match fault {
-        LoadFault::Parse(ParseFault::Syntax { place }) => {
-            answer(
-                alloc,
-                name,
-                text,
-                Status::Syntax,
-                Some(place),
-                b"syntax error",
-            )
-        }
-        LoadFault::Parse(ParseFault::Scope { kind, place }) => {
-            refuse_scope(alloc, name, text, kind, place)
-        }
-        LoadFault::Parse(ParseFault::Depth { place }) => answer(
-            alloc,
-            name,
-            text,
-            Status::Limit,
-            Some(place),
-            b"nested deeper than 200 levels",
-        ),
+        LoadFault::Parse(fault) => explain_parse(alloc, words, text, fault),
         LoadFault::Functions => {
-            answer(
-                alloc,
-                name,
-                text,
-                Status::Limit,
-                None,
-                b"more than 4096 functions",
-            )
+            let words = b"more than 4096 functions";
+            answer(alloc, name, text, Status::Limit, None, words)
         }
         LoadFault::Nodes => {
-            answer(
-                alloc,
-                name,
-                text,
-                Status::Limit,
-                None,
-                b"more than 65536 nodes",
-            )
+            let words = b"more than 65536 nodes";
+            answer(alloc, name, text, Status::Limit, None, words)
         }
         // no status has too many names as its cause: see docs/DECISIONS.md
-        LoadFault::Parse(ParseFault::Memory) | LoadFault::Names => Err(Memory),
+        LoadFault::Names => Err(Memory),
     }
 }
 
@@ -156,19 +175,16 @@ pub(crate) fn explain(
     fault: FindFault,
 ) -> Result<Answer, Memory>
     ensures { IfOk result (λ a. (signatures : List Signature) → IsUnfound text.now signatures fault
-        → Follows (asked_of words) text.now signatures a.status a.text.items) }
+        → Follows (asked_of words.entry) text.now signatures a.status a.text.items) }
 {
+    let name = words.name;
     match fault {
-        FindFault::NotText { offset } => refuse_bytes(alloc, words.name, offset),
-        FindFault::Load(fault) => explain_load(alloc, words.name, text, fault),
-        FindFault::Spent => answer(
-            alloc,
-            words.name,
-            text,
-            Status::Spent,
-            None,
-            b"not closed after 1000000 visits",
-        ),
+        FindFault::NotText { offset } => refuse_bytes(alloc, name, offset),
+        FindFault::Load(fault) => explain_load(alloc, words, text, fault),
+        FindFault::Spent => {
+            let words = b"not closed after 1000000 visits";
+            answer(alloc, name, text, Status::Spent, None, words)
+        }
         FindFault::Memory => Err(Memory),
     }
 }

@@ -1,6 +1,7 @@
 //! The messages of warnings.
 
 ghost use Rattle.std.specs.Prelude.{◌≡◌, ◌++◌, IfOk, OnOk};
+ghost use Rattle.std.specs.List.{AllByRecursion};
 ghost use Rattle.ja_graph.specs.WellFormed.{IsWellFormed};
 ghost use Rattle.ja_rules.specs.Tables.{table_of, Fits};
 ghost use Rattle.ja_lint_top.specs.Telling as spec;
@@ -46,6 +47,7 @@ fn push_function(text: &mut Vec<u8>, program: &Program, function: FnId) -> Resul
 }
 
 // What is told of a warning.
+#[tactic(auto, unfolding(crate::specs::Telling::told_text))]
 fn told_text(alloc: Global, program: &Program, warning: Warning) -> Result<Vec<u8>, Memory>
     ensures { IfOk result (λ text. text.items ≡ spec.told_text program.now warning) }
 {
@@ -68,9 +70,9 @@ fn standing(
     table: &ATable,
     warning: Warning,
 ) -> Result<(Option<Place>, Seq<Place>), Memory>
-    requires program { IsWellFormed program.now }
-    requires fits { Fits program.now table.now }
-    ensures { IfOk result (λ s. spec.IsStanding program.now (table_of table.now) warning s.0 s.1) }
+    requires { Fits program.now table.now }
+    ensures { IfOk result (λ s. spec.IsStanding program.now (table_of table.now)
+        warning.builtin warning.place s.0 s.1) }
 {
     match warning.builtin {
         None => Ok((Some(warning.place), Seq::new(alloc))),

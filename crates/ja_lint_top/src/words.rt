@@ -1,8 +1,9 @@
 //! What the words ask for.
 
-ghost use Rattle.std.specs.Prelude.{◌≡◌, IfSome, map, option_map};
+ghost use Rattle.std.specs.Prelude.{◌≡◌, ◌≢◌, ◌↔◌, ◌∷◌, [], ℕ, Bool, IfSome, IsTrue, List};
+ghost use Rattle.std.specs.Prelude.{Option, codes, map, option_map, slice_get};
 ghost use Rattle.std.specs.String.{string_bytes};
-ghost use Rattle.ja_lint_top.specs.Words.{IsCommandLine};
+ghost use Rattle.ja_lint_top.specs.Words.{IsCommandLine, IsName};
 
 /// What the words ask for: a page in place of lines, and the name of the file.
 #[derive(Clone, Copy, Debug, PartialEq, Eq)]
@@ -62,7 +63,11 @@ pub fn asked<'a>(words: &'a [String]) -> Option<Words<'a>>
 }
 
 // What is asked for with a file's name.
-fn named<'a>(html: bool, name: &'a str) -> Option<Words<'a>> {
+fn named<'a>(html: bool, name: &'a str) -> Option<Words<'a>>
+    ensures named { IfSome result (λ w. (w.html ≡ html)
+        × IsName (option_map (λ name. name.now) w.name) (name.now ∷ [])) }
+    ensures none { result ≡ None → slice_get name.now 0 ≡ Some 45 }
+{
     if is_name(name) {
         Some(Words {
             html,

@@ -1,21 +1,33 @@
 //! The answer to words and a source.
 
-ghost use Rattle.std.specs.Prelude.{◌≡◌, ◌≤◌, IfOk, length};
+ghost use Rattle.std.specs.Prelude.{◌≡◌, ◌≤◌, ◌++◌, codes, IfOk, List, String, length};
+ghost use Rattle.std.specs.List.{list_any, AllByRecursion};
+ghost use Rattle.std.specs.Option.{option_map};
+ghost use Rattle.std.specs.Str.{chars};
+ghost use Rattle.std.specs.declared.alloc.Global.{Global};
+ghost use Rattle.ja_base.specs.Streams.{NeverFalls};
+ghost use Rattle.ja_graph.specs.WellFormed.{IsWellFormed};
 ghost use Rattle.ja_lex.specs.Spots.{max_bytes};
-ghost use Rattle.ja_lint_top.specs.Lint.{Follows, HasCause, IsAnswered};
+ghost use Rattle.ja_rows.specs.Warning.{AreOrdered};
+ghost use Rattle.ja_rules.specs.Tables.{table_of, Fits};
+ghost use Rattle.ja_show.specs.Messages as show;
 ghost use Rattle.ja_top.specs.Answers.{call_of, written_of};
 ghost use Rattle.ja_top.specs.Runs.{signatures_of};
+ghost use Rattle.ja_top.specs.Statuses.{is_fault};
+ghost use Rattle.ja_top.specs.code.Statuses.{status_of};
+ghost use Rattle.ja_warn.specs.Told.{warnings_in, IsTold};
+ghost use Rattle.ja_lint_top.specs.Lint.{Asks, Follows, HasCause, IsAnswered};
+ghost use Rattle.ja_lint_top.specs.code.Answers.{asked_of, Shows};
 
-use crate::counts::{counts_text, faults};
+use crate::counts::counts_text;
 use crate::links::links;
 use crate::refusing::{explain, refuse, refuse_bytes};
 use crate::telling::messages_of;
 use crate::words::{Words, asked};
 use ja_base::{Failed, Memory, ReadFault, Sink, Source, read_all};
 use ja_device::{Device, Devices};
-use ja_rules::ATable;
 use ja_show::{Message, messages_text, page_text};
-use ja_top::{Answer, Findings, MAX_BYTES, Status, find, write_answer};
+use ja_top::{Answer, Findings, MAX_BYTES, Status, find, is_fault, write_answer};
 use ja_warn::Told;
 use std::alloc::Global;
 use std::str;
@@ -27,7 +39,11 @@ fn lines_text(
     text: &str,
     messages: &[Message],
     counts: &[u8],
-) -> Result<Vec<u8>, Memory> {
+) -> Result<Vec<u8>, Memory>
+    ensures { IfOk result (λ out. out.items
+        ≡ show.messages_text (option_map (λ name. name.now) name.entry) (chars text.now)
+        messages.now ++ counts.now ++ codes "\n") }
+{
     let name = name.map(|name| name.as_bytes());
     let mut out = messages_text(alloc, name, text, messages)?;
     out.extend_from_slice(counts)?;
@@ -36,7 +52,15 @@ fn lines_text(
 }
 
 // What is written of what was found.
-fn shown(alloc: Global, words: Words<'_>, text: &str, found: &Findings) -> Result<Vec<u8>, Memory> {
+fn shown(alloc: Global, words: Words<'_>, text: &str, found: &Findings) -> Result<Vec<u8>, Memory>
+    requires within { length text.now ≤ max_bytes }
+    requires program { IsWellFormed found.now.program }
+    requires fits { Fits found.now.program found.now.table }
+    requires told { AllByRecursion (IsTold found.now.program (table_of found.now.table))
+        found.now.warnings }
+    requires ordered { AreOrdered (warnings_in found.now.warnings) }
+    ensures { IfOk result (λ out. Shows (asked_of words.entry) text.now found.now out.items) }
+{
     let warnings = found.warnings.as_slice();
     let messages = messages_of(alloc, &found.program, &found.table, warnings)?;
     let counts = counts_text(alloc, warnings)?;
@@ -49,14 +73,21 @@ fn shown(alloc: Global, words: Words<'_>, text: &str, found: &Findings) -> Resul
     }
 }
 
+// Whether a warning of a fault is among some.
+fn has_fault(warnings: &[Told]) -> bool
+    ensures { result ≡ list_any (λ x. is_fault x.warning.kind) warnings.now }
+{
+    warnings.iter().any(|told| is_fault(&told.warning))
+}
+
 // Done where there is no warning of a fault.
 fn judged(warnings: &[Told]) -> Status
     ensures { result ≡ status_of (warnings_in warnings.now) }
 {
-    if faults(warnings) == 0 {
-        Status::Done
-    } else {
+    if has_fault(warnings) {
         Status::Warned
+    } else {
+        Status::Done
     }
 }
 
@@ -66,7 +97,11 @@ fn lint_text<D: Device>(
     words: Words<'_>,
     text: &str,
     devices: &Devices<D>,
-) -> Result<Answer, Memory> {
+) -> Result<Answer, Memory>
+    requires { length text.now ≤ max_bytes }
+    ensures { IfOk result (λ a. Follows (asked_of words.entry) text.now
+        (signatures_of devices.now) a.status a.text.items) }
+{
     match find(alloc, text.as_bytes(), devices) {
         Ok(found) => {
             let status = judged(found.warnings.as_slice());
@@ -85,8 +120,8 @@ fn follow<D: Device>(
     devices: &Devices<D>,
 ) -> Result<Answer, Memory>
     requires { length bytes.now ≤ max_bytes }
-    ensures { IfOk result (λ a. Follows (asked_of words) bytes.now (signatures_of devices.now)
-        a.status a.text.items) }
+    ensures { IfOk result (λ a. Follows (asked_of words.entry) bytes.now
+        (signatures_of devices.now) a.status a.text.items) }
 {
     match str::from_utf8(bytes) {
         Ok(text) => lint_text(alloc, words, text, devices),
@@ -94,13 +129,19 @@ fn follow<D: Device>(
     }
 }
 
-// The answer to what the words ask for and the source, before it is written.
+// The answer to the source, before it is written: of any words that ask for this.
 fn answer_of<S: Source, D: Device>(
     alloc: Global,
     words: Words<'_>,
     source: &mut S,
     devices: &Devices<D>,
-) -> Result<Answer, Memory> {
+) -> Result<Answer, Memory>
+    ensures count { NeverFalls (S.faults source.old) (S.faults source.new) }
+    ensures cause { IfOk result
+        (λ a. (line : List (String Global)) → Asks line (asked_of words.entry) → HasCause
+        (call_of S.left S.faults line source.old source.new devices.now devices.now)
+        a.status a.text.items) }
+{
     match read_all(alloc, source, MAX_BYTES) {
         Ok(bytes) => {
             let answer = follow(alloc, words, &bytes, devices)?;
@@ -110,6 +151,19 @@ fn answer_of<S: Source, D: Device>(
         Err(ReadFault::TooLong) => refuse(alloc, Status::TooLong, b"more than 16777216 bytes"),
         Err(ReadFault::Memory) => Err(Memory),
     }
+}
+
+// The answer where the words are no command line.
+fn usage(alloc: Global) -> Result<Answer, Memory>
+    ensures { IfOk result (λ a. (a.status ≡ Status.Usage)
+        × (a.text.items ≡ codes "usage: tajs-lint [--html] [NAME]\n")) }
+{
+    let mut text = Vec::new(alloc);
+    text.extend_from_slice(b"usage: tajs-lint [--html] [NAME]\n")?;
+    Ok(Answer {
+        status: Status::Usage,
+        text,
+    })
 }
 
 // The answer to the words and the source, before it is written.
@@ -126,14 +180,7 @@ fn answer<S: Source, D: Device>(
 {
     match asked(words) {
         Some(words) => answer_of(alloc, words, source, devices),
-        None => {
-            let mut text = Vec::new(alloc);
-            text.extend_from_slice(b"usage: tajs-lint [--html] [NAME]\n")?;
-            Ok(Answer {
-                status: Status::Usage,
-                text,
-            })
-        }
+        None => usage(alloc),
     }
 }
 
@@ -142,6 +189,7 @@ fn answer<S: Source, D: Device>(
 /// none of which is asked; and writes each warning of its closed table at its line, or the page of
 /// the text with them, whole to the sink, which is finished last. The status says which answer it
 /// was: those of an analysis.
+#[tactic(auto, using(crate::proofs::Answering::answered))]
 pub fn lint<S: Source, K: Sink, D: Device>(
     alloc: Global,
     words: &[String],

@@ -1,0 +1,13 @@
+pub mod Answering
+pub mod CallLaws
+pub mod Called
+pub mod Collected
+pub mod CommandLines
+pub mod Edges
+pub mod Leading
+pub mod Linked
+pub mod Orders
+pub mod Refusals
+pub mod Spots
+pub mod Told
+pub mod Warnings

@@ -1,0 +1,11 @@
+-- A text without bytes has no characters.
+use Rattle.std.proofs.Common.{◌∙◌, ◌++◌, ap, refl}
+use Rattle.std.specs.Fmt.{decimal}
+use Rattle.std.proofs.lemmas.Str.{chars-nil}
+use Rattle.ja_lint_top.proofs.Refusals.{refusal}
+use Rattle.ja_lint_top.proofs.refusing.refuse_bytes.Goals as goal
+
+pub returns : goal.returns
+returns c =
+    refusal _ _ _ _ _ _ _ _ refl c.in_ok-text.ensures chars-nil
+    (c.in_ok-push_number.ensures ∙ ap (λ w. w ++ decimal c.args.offset) c.in_ok-words.ensures)
