@@ -8,8 +8,9 @@ use Rattle.serde_json.specs.Data.{Data, null, boolean, number, string, array, ob
 use Rattle.serde_json.specs.Find.{as_array}
 use Rattle.std.specs.Prelude.{String, string_bytes}
 use Rattle.std.specs.declared.alloc.Global.{Global}
-use Rattle.serde_json.specs.declared.value.Value.{Value}
-use Rattle.serde_json.specs.View.{items_of, members_view, view}
+use Rattle.ja_cert_json.specs.declared.value.Json.{Json}
+use Rattle.serde_json.specs.View.{items_of}
+use Rattle.ja_cert_json.specs.View.{members_view, view}
 use Rattle.ja_prim.specs.Texts.{same_text}
 use Rattle.ja_cert.specs.Certificate.{listed}
 use Rattle.ja_cert.specs.Wrong.{Path, MemberWrong, at, here, here_unless, or_else, list_in, list_of, list_wrong, members_in, members_wrong}
@@ -178,32 +179,32 @@ read_none f g ms none =
 
 -- ---- the members of an object
 
-pub lacks_member : (names : List (List ℕ)) (i : ℕ) (es : List (String Global × Value))
+pub lacks_member : (names : List (List ℕ)) (i : ℕ) (es : List (String Global × Json))
     (whole : Option (List Data)) (front : List Data) → i < length names → es ≡ []
     → whole ≡ option_map (λ (ds : List Data). front ++ ds)
     (members_in (drop i names) (members_view es)) → is_some whole ≡ false
 lacks_member names i es whole front within none so_far =
     let e : members_in (drop i names) (members_view es) ≡ None =
     ap (λ (ns : List (List ℕ)). members_in ns (members_view es)) (drop_more names i [] within)
-    ∙ ap (λ (fs : List (String Global × Value)).
+    ∙ ap (λ (fs : List (String Global × Json)).
     members_in (get_or names i [] ∷ drop (i + 1) names) (members_view fs)) none in
     ap is_some (so_far ∙ ap (option_map (λ (ds : List Data). front ++ ds)) e)
 
-named_next : (names : List (List ℕ)) (i : ℕ) (es rest : List (String Global × Value))
-    (k : String Global) (v : Value) (b : Bool) → i < length names → es ≡ (k, v) ∷ rest
+named_next : (names : List (List ℕ)) (i : ℕ) (es rest : List (String Global × Json))
+    (k : String Global) (v : Json) (b : Bool) → i < length names → es ≡ (k, v) ∷ rest
     → same_text (string_bytes k) (get_or names i []) ≡ b
     → members_in (drop i names) (members_view es)
     ≡ cond b (option_map (λ (ds : List Data). view v ∷ ds)
     (members_in (drop (i + 1) names) (members_view rest))) None
 named_next names i es rest k v b within next is =
     ap (λ (ns : List (List ℕ)). members_in ns (members_view es)) (drop_more names i [] within)
-    ∙ ap (λ (fs : List (String Global × Value)).
+    ∙ ap (λ (fs : List (String Global × Json)).
     members_in (get_or names i [] ∷ drop (i + 1) names) (members_view fs)) next
     ∙ ap (λ (t : Bool). cond t (option_map (λ (ds : List Data). view v ∷ ds)
     (members_in (drop (i + 1) names) (members_view rest))) None) is
 
-pub other_member : (names : List (List ℕ)) (i : ℕ) (es rest : List (String Global × Value))
-    (k : String Global) (v : Value) (whole : Option (List Data)) (front : List Data)
+pub other_member : (names : List (List ℕ)) (i : ℕ) (es rest : List (String Global × Json))
+    (k : String Global) (v : Json) (whole : Option (List Data)) (front : List Data)
     → i < length names → es ≡ (k, v) ∷ rest
     → same_text (string_bytes k) (get_or names i []) ≡ false
     → whole ≡ option_map (λ (ds : List Data). front ++ ds)
@@ -220,7 +221,7 @@ behind_more front d (Some ds) =
     ap (λ (es : List Data). Some es) (sym (append_assoc front (d ∷ []) ds))
 
 pub next_member : {B : Type 0} (g : B → Data) (names : List (List ℕ)) (i : ℕ)
-    (es rest : List (String Global × Value)) (k : String Global) (v : Value)
+    (es rest : List (String Global × Json)) (k : String Global) (v : Json)
     (whole : Option (List Data)) (bs all : List B) (b : B) → i < length names
     → es ≡ (k, v) ∷ rest → same_text (string_bytes k) (get_or names i []) ≡ true
     → all ≡ bs ++ b ∷ [] → g b ≡ view v

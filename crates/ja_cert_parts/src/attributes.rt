@@ -2,7 +2,7 @@
 
 ghost use Rattle.std.specs.Prelude.{◌≡◌, ◌∷◌, [], MatchOption, false, true};
 ghost use Rattle.serde_json.specs.Data.{string};
-ghost use Rattle.serde_json.specs.View.{view};
+ghost use Rattle.ja_cert_json.specs.View.{view};
 ghost use Rattle.ja_report.specs.Texts.{attr_text, attrs_text};
 ghost use Rattle.ja_cert.specs.Certificate.{key_data};
 ghost use Rattle.ja_cert.specs.Wrong.{are_attrs, attrs_wrong, is_attr};
@@ -11,9 +11,9 @@ ghost use Rattle.ja_cert_parts.specs.code.Reading.{Reads};
 
 use crate::fault::{Fault, here};
 use ja_abstract::{AAttrs, Key, May};
+use ja_cert_json::Json;
 use ja_graph::Program;
 use ja_value::unknown_attrs;
-use serde_json::Value;
 use std::alloc::Global;
 
 /// What is known of an attribute, by its letter where it is set.
@@ -67,12 +67,7 @@ fn attrs_at(key: Key, text: &[u8]) -> Option<AAttrs>
 }
 
 /// Reads the attributes of a property at a key.
-pub fn read_attrs(
-    alloc: Global,
-    program: &Program,
-    key: Key,
-    value: &Value,
-) -> Result<AAttrs, Fault>
+pub fn read_attrs(alloc: Global, program: &Program, key: Key, value: &Json) -> Result<AAttrs, Fault>
     ensures { Reads (attrs_wrong program.now (key_data key) (view value.now))
         (λ attrs. string (attrs_text key attrs) ≡ view value.now) result }
 {

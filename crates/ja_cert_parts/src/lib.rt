@@ -14,7 +14,7 @@ mod within;
 mod words;
 
 pub use fault::{Fault, Step, at, here, here_unless, under};
-pub use listed::{EntryAt, MaskAt, PropertyAt, RegisterAt};
+pub use listed::{EntryAt, MaskAt, Pair, PropertyAt, RegisterAt};
 pub use members::{Member, list, read_list};
 pub use numbers::{read_function, read_label, read_node, read_word};
 pub use objects::{Four, Six, four_members, six_members};

@@ -3,7 +3,7 @@
 ghost use Rattle.std.specs.Prelude.{◌≡◌, ◌-◌, ◌∷◌, [], is_some, length, slice_get};
 ghost use Rattle.std.specs.Option.{option_map};
 ghost use Rattle.serde_json.specs.Data.{string};
-ghost use Rattle.serde_json.specs.View.{view};
+ghost use Rattle.ja_cert_json.specs.View.{view};
 ghost use Rattle.ja_prim.specs.Texts.{same_text};
 ghost use Rattle.ja_graph.specs.WellFormed.{IsWellFormed};
 ghost use Rattle.ja_report.specs.Lines.{mask_text, property};
@@ -24,9 +24,9 @@ use crate::values::read_value;
 use crate::within::{InFunction, InProgram};
 use ja_abstract::{Key, Mask};
 use ja_base::{Label, Site};
+use ja_cert_json::Json;
 use ja_graph::Program;
 use ja_value::{AProp, AValue, label_number};
-use serde_json::Value;
 use std::alloc::Global;
 
 /// The value at entry of a label and a key.
@@ -87,7 +87,7 @@ fn read_owned(
     rule: &InProgram,
     role: Role,
     last: Option<Pair>,
-    value: &Value,
+    value: &Json,
 ) -> Result<PropertyAt, Fault>
     requires { IsWellFormed rule.now.program.now }
     ensures { let p = rule.now.program.now in let d = view value.now in
@@ -112,7 +112,7 @@ fn read_owned(
 }
 
 /// Whether a value is the list of one word.
-fn value_is(word: &str, value: &Value) -> bool
+fn value_is(word: &str, value: &Json) -> bool
     ensures { result ≡ value_is word.now (view value.now) }
 {
     match value.as_array() {
@@ -122,7 +122,7 @@ fn value_is(word: &str, value: &Value) -> bool
 }
 
 /// Whether a value is a word.
-fn is_word(word: &str, value: &Value) -> bool
+fn is_word(word: &str, value: &Json) -> bool
     ensures { result ≡ is_word (same_text word.now) (view value.now) }
 {
     match value.as_str() {
@@ -132,7 +132,7 @@ fn is_word(word: &str, value: &Value) -> bool
 }
 
 /// Whether a property is just as at entry.
-fn is_entry(value: &Value) -> bool
+fn is_entry(value: &Json) -> bool
     ensures { result ≡ is_entry (view value.now) }
 {
     match value.as_array() {
@@ -170,7 +170,9 @@ impl<'a> Member<InProgram<'a>> for EntryAt {
     ghost data = { λ rule e.
         line_data rule.program.now (entry e.label e.key (property_of e.property)) };
 
-    fn read(rule: &InProgram<'a>, before: &[EntryAt], value: &Value) -> Result<EntryAt, Fault> {
+    ghost holds = { λ rule member. Unit {0} };
+
+    fn read(rule: &InProgram<'a>, before: &[EntryAt], value: &Json) -> Result<EntryAt, Fault> {
         let read = read_owned(rule, Role::Entry, last_entry(before), value)?;
         Ok(EntryAt {
             label: read.label,
@@ -204,10 +206,12 @@ impl<'a> Member<InProgram<'a>> for PropertyAt {
     ghost data = { λ rule q.
         line_data rule.program.now (property q.label q.key (property_of q.property)) };
 
+    ghost holds = { λ rule member. Unit {0} };
+
     fn read(
         rule: &InProgram<'a>,
         before: &[PropertyAt],
-        value: &Value,
+        value: &Json,
     ) -> Result<PropertyAt, Fault> {
         let read = read_owned(rule, Role::Property, last_property(before), value)?;
         here_unless(rule.alloc, !is_entry(value))?;
@@ -240,10 +244,12 @@ impl<'a> Member<InFunction<'a>> for RegisterAt {
     ghost data = { λ rule r.
         line_data rule.program.now (register 0 r.register (value_of r.value)) };
 
+    ghost holds = { λ rule member. Unit {0} };
+
     fn read(
         rule: &InFunction<'a>,
         before: &[RegisterAt],
-        value: &Value,
+        value: &Json,
     ) -> Result<RegisterAt, Fault> {
         let alloc = rule.alloc;
         let fields = list_of_two(alloc, value)?;
@@ -262,7 +268,7 @@ impl<'a> Member<InFunction<'a>> for RegisterAt {
 }
 
 /// Reads a mask: some objects were made, or maybe some.
-fn read_mask(alloc: Global, value: &Value) -> Result<Mask, Fault>
+fn read_mask(alloc: Global, value: &Json) -> Result<Mask, Fault>
     ensures { Reads (here_unless (is_some (position_of mask_words (view value.now))))
         (λ m. string (mask_text m) ≡ view value.now) result }
 {
@@ -296,7 +302,9 @@ impl<'a> Member<InProgram<'a>> for MaskAt {
 
     ghost data = { λ rule m. line_data rule.program.now (alloc m.site m.mask) };
 
-    fn read(rule: &InProgram<'a>, before: &[MaskAt], value: &Value) -> Result<MaskAt, Fault> {
+    ghost holds = { λ rule member. Unit {0} };
+
+    fn read(rule: &InProgram<'a>, before: &[MaskAt], value: &Json) -> Result<MaskAt, Fault> {
         let fields = list_of_two(rule.alloc, value)?;
         let site = at(read_site(rule.alloc, rule.program, fields.first), 0)?;
         here_unless(rule.alloc, is_site_behind(before, site))?;

@@ -2,7 +2,7 @@
 
 ghost use Rattle.std.specs.Prelude.{◌≡◌, ◌+◌, ◌*◌, ◌<◌, [], Some, is_some, length, map, slice_index_or};
 ghost use Rattle.serde_json.specs.Data.{string};
-ghost use Rattle.serde_json.specs.View.{view};
+ghost use Rattle.ja_cert_json.specs.View.{view};
 ghost use Rattle.ja_graph.specs.declared.program.Program.{Program};
 ghost use Rattle.ja_graph.specs.Program.{nodes_of};
 ghost use Rattle.ja_graph.specs.WellFormed.{IsWellFormed};
@@ -17,13 +17,13 @@ use crate::fault::{Fault, here, here_unless};
 use crate::words::position;
 use ja_abstract::{Key, Slot};
 use ja_base::{FnId, Label, NameId, NodeId, Site};
+use ja_cert_json::Json;
 use ja_graph::Program;
 use ja_value::label_at;
-use serde_json::Value;
 use std::alloc::Global;
 
 /// Reads a number below a bound.
-pub fn read_below(alloc: Global, bound: u64, value: &Value) -> Result<u64, Fault>
+pub fn read_below(alloc: Global, bound: u64, value: &Json) -> Result<u64, Fault>
     ensures { Reads (here_unless (is_below bound (view value.now)))
         (λ n. (whole n ≡ view value.now) × (n < bound)) result }
 {
@@ -56,7 +56,7 @@ fn register_count(program: &Program, function: FnId) -> u32
 
 /// Reads a function's number.
 #[tactic(auto, using(crate::proofs::NumberLemmas::few_functions))]
-pub fn read_function(alloc: Global, program: &Program, value: &Value) -> Result<FnId, Fault>
+pub fn read_function(alloc: Global, program: &Program, value: &Json) -> Result<FnId, Fault>
     requires { IsWellFormed program.now }
     ensures { Reads (here_unless (is_function program.now (view value.now)))
         (λ f. (whole f.0 ≡ view value.now) × (f.0 < length program.now.functions)) result }
@@ -71,7 +71,7 @@ pub fn read_node(
     alloc: Global,
     program: &Program,
     function: FnId,
-    value: &Value,
+    value: &Json,
 ) -> Result<NodeId, Fault>
     requires { IsWellFormed program.now }
     ensures { Reads (here_unless (is_below (length (nodes_of program.now function))
@@ -87,7 +87,7 @@ pub fn read_register(
     alloc: Global,
     program: &Program,
     function: FnId,
-    value: &Value,
+    value: &Json,
 ) -> Result<u32, Fault>
     ensures { Reads (here_unless (is_below (registers_of program.now function) (view value.now)))
         (λ r. (whole r ≡ view value.now) × (r < registers_of program.now function)) result }
@@ -97,7 +97,7 @@ pub fn read_register(
 }
 
 /// Reads a site's number.
-pub fn read_site(alloc: Global, program: &Program, value: &Value) -> Result<Site, Fault>
+pub fn read_site(alloc: Global, program: &Program, value: &Json) -> Result<Site, Fault>
     requires { IsWellFormed program.now }
     ensures { Reads (here_unless (is_below (length program.now.sites) (view value.now)))
         (λ s. (whole s.0 ≡ view value.now) × (s.0 < length program.now.sites)) result }
@@ -107,7 +107,7 @@ pub fn read_site(alloc: Global, program: &Program, value: &Value) -> Result<Site
 }
 
 /// Reads a label's number.
-pub fn read_label(alloc: Global, program: &Program, value: &Value) -> Result<Label, Fault>
+pub fn read_label(alloc: Global, program: &Program, value: &Json) -> Result<Label, Fault>
     requires { IsWellFormed program.now }
     ensures { Reads (here_unless (is_label program.now (view value.now)))
         (λ l. (label_data l ≡ view value.now)
@@ -118,7 +118,7 @@ pub fn read_label(alloc: Global, program: &Program, value: &Value) -> Result<Lab
 }
 
 /// Reads a word by its position among some.
-pub fn read_word(alloc: Global, words: &[&'static str], value: &Value) -> Result<usize, Fault>
+pub fn read_word(alloc: Global, words: &[&'static str], value: &Json) -> Result<usize, Fault>
     ensures { let words = map (λ w. w.now) words.now in
         Reads (here_unless (is_some (position_of words (view value.now))))
         (λ n. position_of words (view value.now) ≡ Some n) result }
@@ -172,7 +172,7 @@ fn key_at(place: usize) -> Key
 }
 
 /// Reads a key: the number of a name, or a word.
-pub fn read_key(alloc: Global, program: &Program, value: &Value) -> Result<Key, Fault>
+pub fn read_key(alloc: Global, program: &Program, value: &Json) -> Result<Key, Fault>
     requires { IsWellFormed program.now }
     ensures { Reads (here_unless (is_some (key_rank program.now (view value.now))))
         (λ k. (key_data k ≡ view value.now)

@@ -2,7 +2,7 @@
 
 ghost use Rattle.std.specs.Prelude.{◌≡◌, ◌+◌, ◌<◌, ◌∷◌, [], slice_index_or};
 ghost use Rattle.serde_json.specs.Data.{string};
-ghost use Rattle.serde_json.specs.View.{view};
+ghost use Rattle.ja_cert_json.specs.View.{view};
 ghost use Rattle.ja_graph.specs.WellFormed.{IsWellFormed};
 ghost use Rattle.ja_abstract.specs.AbstractState.{label_number};
 ghost use Rattle.ja_cert.specs.Certificate.{number_words, text_words};
@@ -15,9 +15,9 @@ use crate::numbers::read_label;
 use crate::words::{position, read_number, read_text};
 use ja_abstract::{NumberPart, TextPart};
 use ja_base::Label;
+use ja_cert_json::Json;
 use ja_graph::Program;
 use ja_value::label_number;
-use serde_json::Value;
 use std::alloc::Global;
 
 /// A flag of a value.
@@ -196,7 +196,7 @@ fn read_word_part(alloc: Global, word: &str) -> Result<Part, Fault>
 }
 
 /// Reads a part.
-fn read_part(alloc: Global, program: &Program, value: &Value) -> Result<Part, Fault>
+fn read_part(alloc: Global, program: &Program, value: &Json) -> Result<Part, Fault>
     requires { IsWellFormed program.now }
     ensures { ReadsPart (part_rank program.now (view value.now)) (view value.now) result }
 {
@@ -235,7 +235,9 @@ impl<'a> Member<OfValue<'a>> for Part {
 
     ghost data = { λ rule. part_data };
 
-    fn read(rule: &OfValue<'a>, before: &[Part], value: &Value) -> Result<Part, Fault> {
+    ghost holds = { λ rule member. Unit {0} };
+
+    fn read(rule: &OfValue<'a>, before: &[Part], value: &Json) -> Result<Part, Fault> {
         let part = read_part(rule.alloc, rule.program, value)?;
         here_unless(rule.alloc, may_follow(rule.role, before, rank(&part)))?;
         Ok(part)

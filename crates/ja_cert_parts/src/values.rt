@@ -2,7 +2,7 @@
 
 ghost use Rattle.std.specs.Prelude.{◌≡◌, suc, map, IfOk};
 ghost use Rattle.std.specs.List.{list_any};
-ghost use Rattle.serde_json.specs.View.{view};
+ghost use Rattle.ja_cert_json.specs.View.{view};
 ghost use Rattle.ja_graph.specs.declared.program.Program.{Program};
 ghost use Rattle.ja_graph.specs.WellFormed.{IsWellFormed};
 ghost use Rattle.ja_abstract.specs.AbstractValue.{same_label};
@@ -18,9 +18,9 @@ use crate::members::read_list;
 use crate::parts::{Flag, OfValue, Part, Role, flag_rank, rank};
 use ja_abstract::{Flags, NumberPart, TextPart};
 use ja_base::Memory;
+use ja_cert_json::Json;
 use ja_graph::Program;
 use ja_value::{AValue, LabelSet, copy_text_part};
-use serde_json::Value;
 use std::alloc::Global;
 
 // ---- the parts of a value, taken one after another
@@ -131,7 +131,7 @@ pub fn read_value(
     alloc: Global,
     program: &Program,
     role: Role,
-    value: &Value,
+    value: &Json,
 ) -> Result<AValue, Fault>
     requires { IsWellFormed program.now }
     ensures { Reads (value_wrong program.now (allowed_of role) (view value.now))

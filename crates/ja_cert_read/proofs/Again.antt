@@ -35,6 +35,7 @@ use Rattle.ja_cert.specs.Certificate.{line_data}
 use Rattle.ja_cert.specs.Wrong.{entry_wrong, mask_wrong, property_wrong, register_wrong}
 use Rattle.ja_cert_read.specs.code.Building.{entry_data, mask_data, property_data, register_data, entry_value, first_at, is_entry_at, is_mask, is_property, is_register, mask_value, property_in, register_value, entries_with, plain_state, with_masks, with_properties, with_registers, AreEntriesOfParts, AreRight, AreWithin, IsPlaced, IsStateOfParts}
 use Rattle.ja_cert_read.proofs.Listing.{first_at-found, first_at-none, flat_map_pairs, listed_again, map_flat_map, pairs}
+use Rattle.ja_cert_read.proofs.Apart.{apart_in_order}
 use Rattle.ja_cert_read.proofs.Parts.{RightEntry, RightMask, RightProperty, RightRegister, right_entries, right_masks, right_properties, right_registers}
 use Rattle.ja_cert_read.proofs.Pairs.{number_rank, numbers_ascend, pair_listed, pair_rank, pairs_ascend}
 
@@ -297,6 +298,7 @@ right_within p f xs heap masks registers properties made = record {
   heap_within =
       all_weaker (RightProperty p) (IsPlaced (length p.sites) (length p.names))
       (λ x h. record { label = h.0; key = h.1 }) heap (right_properties p heap properties).0;
+  apart = apart_in_order (length p.names) heap (right_properties p heap properties).1;
   masks_within =
       all_weaker (RightMask p) (λ (x : MaskAt). x.site.0 < length p.sites) (λ x h. h.0) masks
       (right_masks p masks made).0;

@@ -13,13 +13,19 @@ use Rattle.ja_graph.specs.Program.{nodes_of}
 use Rattle.ja_abstract.specs.AbstractState.{label_number}
 use Rattle.ja_rules.proofs.Ascending.{Ascends}
 use Rattle.ja_rules.proofs.ListedContexts.{Comes}
+use Rattle.ja_astate.specs.declared.state.AState.{AState}
+use Rattle.ja_astate.specs.State.{state_of}
+use Rattle.ja_rules.specs.Tables.{IsContext}
+use Rattle.ja_cert_parts.specs.declared.listed.MaskAt.{MaskAt}
+use Rattle.ja_cert_parts.specs.declared.listed.PropertyAt.{PropertyAt}
+use Rattle.ja_cert_parts.specs.declared.listed.RegisterAt.{RegisterAt}
 use Rattle.ja_cert_read.specs.declared.contexts.ContextAt.{ContextAt}
 use Rattle.ja_cert_read.specs.declared.points.PointAt.{PointAt}
-use Rattle.ja_cert.specs.Certificate.{label_data, listed, whole}
+use Rattle.ja_cert.specs.Certificate.{label_data, listed, state_data, whole}
 use Rattle.ja_cert.specs.Wrong as wrong
-use Rattle.ja_cert.specs.Wrong.{MemberWrong, context_number, context_wrong, is_above, is_less, list_wrong, members_of, members_wrong, point_number, point_wrong, whole_of}
-use Rattle.ja_cert_read.specs.code.Building.{entry_data, mask_data, property_data, register_data, AreRight}
-use Rattle.ja_cert_read.specs.code.Contexts.{listed_data, point_data, IsContextAt, IsPoint}
+use Rattle.ja_cert.specs.Wrong.{MemberWrong, context_number, context_wrong, entry_wrong, is_above, is_less, list_wrong, members_of, members_wrong, point_number, point_wrong, whole_of}
+use Rattle.ja_cert_read.specs.code.Building.{entry_data, mask_data, property_data, register_data, AreRight, IsStateOfParts}
+use Rattle.ja_cert_read.specs.code.Contexts.{listed_data, point_data, HasOwnState, HaveOwnStates, IsContextAt}
 use Rattle.ja_cert_read.specs.code.Orders.{comes_behind, context_at_rank, context_rank, node_rank}
 use Rattle.ja_cert_read.proofs.ObjectLemmas.{list_in_items, object_is}
 use Rattle.ja_cert_read.proofs.Orders.{above_behind, ascends_mapped, each_right, less_first, less_one, rises}
@@ -32,23 +38,12 @@ list_right f ds h = sym (ap (members_wrong f []) (list_in_items ds)) ∙ h
 
 -- ---- nodes
 
-point_is : (p : Program) (f : FnId) (before : List Data) (x : PointAt)
-    → point_wrong p f before (point_data p x) ≡ None
-    → IsPoint p f x × (x.node.0 < length (nodes_of p f))
-unfolding point_data point_wrong
-point_is p f before x h =
-    let a = or_else_none _ _ h in
-    let b = or_else_none _ _ a.1 in
-    let c = or_else_none _ _ b.1 in
-    let d = or_else_none _ _ c.1 in
-    let e = or_else_none _ _ d.1 in (
-      record {
-        registers = list_right _ _ (under_none _ _ c.0);
-        heap = list_right _ _ (under_none _ _ d.0);
-        masks = list_right _ _ (under_none _ _ e.0);
-      },
-      ltb-true x.node.0 (length (nodes_of p f)) (holds_here _ (under_none _ _ a.0)),
-    )
+point_within : (p : Program) (f : FnId) (before : List Data) (x : PointAt)
+    → point_wrong p f before (point_data p f x) ≡ None → x.node.0 < length (nodes_of p f)
+unfolding state_data point_wrong
+point_within p f before x h =
+    ltb-true x.node.0 (length (nodes_of p f))
+    (holds_here _ (under_none _ _ (or_else_none _ _ h).0))
 
 point_fields_ascend : (p : Program) (f : FnId) (ascends : Bool) (ds : List Data)
     → wrong.point_fields_wrong p f ascends ds ≡ None → ascends ≡ true
@@ -73,27 +68,43 @@ abbrev pub NodeBefore : PointAt → PointAt → Type 0
 NodeBefore x y = x.node.0 < y.node.0
 
 pub points_ascend : (p : Program) (f : FnId) (xs : List PointAt)
-    → AreRight (point_wrong p f) (point_data p) xs → Ascends NodeBefore xs
-unfolding point_data
+    → AreRight (point_wrong p f) (point_data p f) xs → Ascends NodeBefore xs
+unfolding state_data
 points_ascend p f xs h =
-    ascends_mapped (point_data p) _ NodeBefore (λ x y k. less_one x.node.0 y.node.0 k) xs
-    (rises (point_wrong p f) point_number (point_ascends p f) (map (point_data p) xs) h)
+    ascends_mapped (point_data p f) _ NodeBefore (λ x y k. less_one x.node.0 y.node.0 k) xs
+    (rises (point_wrong p f) point_number (point_ascends p f) (map (point_data p f) xs) h)
 
 abbrev pub IsPlaced : Program → FnId → PointAt → Type 0
-IsPlaced p f x = IsPoint p f x × (x.node.0 < length (nodes_of p f))
+IsPlaced p f x = HasOwnState p f x × (x.node.0 < length (nodes_of p f))
+
+all_both : {X : Type 0} (P Q R : X → Type 0) → ((x : X) → P x → Q x → R x) → (xs : List X)
+    → AllByRecursion P xs → AllByRecursion Q xs → AllByRecursion R xs
+all_both P Q R into [] p q = tt
+all_both P Q R into (x ∷ xs) p q = (into x p.0 q.0, all_both P Q R into xs p.1 q.1)
 
 pub points_placed : (p : Program) (f : FnId) (xs : List PointAt)
-    → AreRight (point_wrong p f) (point_data p) xs → AllByRecursion (IsPlaced p f) xs
-points_placed p f xs h =
-    each_right (point_wrong p f) (point_data p) (IsPlaced p f) (point_is p f) [] xs h
+    → AreRight (point_wrong p f) (point_data p f) xs → AllByRecursion (HasOwnState p f) xs
+    → AllByRecursion (IsPlaced p f) xs
+points_placed p f xs h have =
+    all_both (λ (x : PointAt). x.node.0 < length (nodes_of p f)) (HasOwnState p f) (IsPlaced p f)
+    (λ x n s. (s, n)) xs
+    (each_right (point_wrong p f) (point_data p f)
+    (λ (x : PointAt). x.node.0 < length (nodes_of p f)) (point_within p f) [] xs h) have
 
 -- ---- contexts
 
 site_below : (l : Label) (n : ℕ) → label_number l < 2 * n → l.site.0 < n
 site_below l n h = omega (arith, h)
 
+-- what is right of a context, but for its states
+record IsListed (p : Program) (x : ContextAt) : Type 0 where
+  context : IsContext p x.context
+  entries : AreRight (entry_wrong p) (entry_data p) x.entries.items
+  points : AreRight (point_wrong p x.context.function) (point_data p x.context.function)
+      x.points.items
+
 context_is : (p : Program) (before : List Data) (x : ContextAt)
-    → context_wrong p before (listed_data p x) ≡ None → IsContextAt p x
+    → context_wrong p before (listed_data p x) ≡ None → IsListed p x
 unfolding listed_data context_wrong
 context_is p before x h =
     let a = or_else_none _ _ h in
@@ -153,9 +164,15 @@ contexts_ascend p xs h =
     (rises (context_wrong p) context_number (context_ascends p) (map (listed_data p) xs) h)
 
 pub contexts_placed : (p : Program) (xs : List ContextAt)
-    → AreRight (context_wrong p) (listed_data p) xs → AllByRecursion (IsContextAt p) xs
-contexts_placed p xs h =
-    each_right (context_wrong p) (listed_data p) (IsContextAt p) (context_is p) [] xs h
+    → AreRight (context_wrong p) (listed_data p) xs → AllByRecursion (HaveOwnStates p) xs
+    → AllByRecursion (IsContextAt p) xs
+contexts_placed p xs h have =
+    all_both (IsListed p) (HaveOwnStates p) (IsContextAt p) (λ x is states. record {
+      context = is.context;
+      entries = is.entries;
+      points = is.points;
+      states = states;
+    }) xs (each_right (context_wrong p) (listed_data p) (IsListed p) (context_is p) [] xs h) have
 
 -- ---- the numbers of what is read
 
@@ -178,12 +195,13 @@ module _ (d : Data) (a b c e : Data) (n : ℕ) where
       ∷ option_map_or (λ (k : ℕ). k) (whole_of e) 0 ∷ []) (sym function)
       ∙ ap (λ x. n ∷ option_map_or (λ (k : ℕ). k) (whole_of x) 0 ∷ []) (sym receiver)
 
-pub above_points : (p : Program) (before : List PointAt) (d : Data) (n : ℕ)
+pub above_points : (p : Program) (f : FnId) (before : List PointAt) (d : Data) (n : ℕ)
     → point_number d ≡ n ∷ []
-    → is_above point_number (map (point_data p) before) d ≡ comes_behind node_rank before (n ∷ [])
-unfolding point_data
-above_points p before d n here =
-    above_behind (point_data p) point_number node_rank (λ x. refl) before d (n ∷ []) here
+    → is_above point_number (map (point_data p f) before) d
+    ≡ comes_behind node_rank before (n ∷ [])
+unfolding state_data
+above_points p f before d n here =
+    above_behind (point_data p f) point_number node_rank (λ x. refl) before d (n ∷ []) here
 
 pub above_contexts : (p : Program) (before : List ContextAt) (d : Data) (x : Context)
     → context_number d ≡ context_rank x
@@ -196,21 +214,24 @@ above_contexts p before d x here =
 
 -- ---- what is read is written so
 
-pub point_written : (p : Program) (d : Data) (x : PointAt) (masks heap node registers : Data)
+pub point_written : (p : Program) (f : FnId) (d : Data) (n : ℕ) (s : AState)
+    (xs : List RegisterAt) (ys : List PropertyAt) (zs : List MaskAt)
+    (masks heap node registers : Data)
     → members_of wrong.point_keys d ≡ Some (masks ∷ heap ∷ node ∷ registers ∷ [])
-    → listed (map (mask_data p) x.masks.items) ≡ masks
-    → listed (map (property_data p) x.heap.items) ≡ heap → whole x.node.0 ≡ node
-    → listed (map (register_data p) x.registers.items) ≡ registers → point_data p x ≡ d
-unfolding point_data
-point_written p d x masks heap node registers found m h n r =
-    rw (m, h, n, r) (sym (object_is wrong.point_keys d
-    (masks ∷ heap ∷ node ∷ registers ∷ []) found))
+    → listed (map (mask_data p) zs) ≡ masks → listed (map (property_data p) ys) ≡ heap
+    → whole n ≡ node → listed (map (register_data p) xs) ≡ registers
+    → IsStateOfParts p f xs ys zs s → state_data p f n (state_of s) ≡ d
+unfolding state_data
+point_written p f d n s xs ys zs masks heap node registers found m h number r is =
+    rw (is.masks_listed, is.heap_listed, is.registers_listed)
+    (rw (m, h, number, r) (sym (object_is wrong.point_keys d
+    (masks ∷ heap ∷ node ∷ registers ∷ []) found)))
 
 pub context_written : (p : Program) (d : Data) (x : ContextAt)
     (entries function points receiver : Data)
     → members_of wrong.context_keys d ≡ Some (entries ∷ function ∷ points ∷ receiver ∷ [])
     → listed (map (entry_data p) x.entries.items) ≡ entries → whole x.context.function.0 ≡ function
-    → listed (map (point_data p) x.points.items) ≡ points
+    → listed (map (point_data p x.context.function) x.points.items) ≡ points
     → label_data x.context.receiver ≡ receiver → listed_data p x ≡ d
 unfolding listed_data
 context_written p d x entries function points receiver found e f n r =

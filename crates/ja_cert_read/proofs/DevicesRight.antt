@@ -6,8 +6,9 @@ use Rattle.std.proofs.Common.{refl, sym, subst, ap, ◌∙◌, inl, inr, arith, 
 use Rattle.std.proofs.lemmas.Bool.{and_from, and_parts, cases_Bool, cases_order, eq-eqb, eqb-true, false≢true, ltb-true, cond-false, cond-true, not-true, or_cases, or_left, or_parts, or_right}
 use Rattle.serde_json.specs.Data.{Data, string}
 use Rattle.serde_json.specs.Find.{as_array, as_str}
-use Rattle.serde_json.specs.declared.value.Value.{Value}
-use Rattle.serde_json.specs.View.{items_of, view}
+use Rattle.ja_cert_json.specs.declared.value.Json.{Json}
+use Rattle.serde_json.specs.View.{items_of}
+use Rattle.ja_cert_json.specs.View.{view}
 use Rattle.std.proofs.lemmas.List.{length-map, length_push}
 use Rattle.ja_base.proofs.Lists.{all_at, map_after}
 use Rattle.ja_prim.specs.declared.signature.Kinds.{Kinds}
@@ -26,7 +27,7 @@ use Rattle.ja_cert_read.specs.declared.devices.Kind.{Kind}
 use Rattle.ja_cert_read.specs.declared.devices.Kind.TheVariants.{Undefined, Null, Boolean, Number, Text}
 use Rattle.ja_cert.specs.Certificate.{device_data, listed}
 use Rattle.ja_cert.specs.Wrong as wrong
-use Rattle.ja_cert.specs.Wrong.{device_wrong, is_above, is_less, kind_number, kind_wrong, kind_words, members_wrong, position, position_of}
+use Rattle.ja_cert.specs.Wrong.{device_wrong, is_above, kind_number, kind_wrong, kind_words, members_wrong, position, position_of}
 use Rattle.ja_cert_read.specs.code.Building.{AreRight}
 use Rattle.ja_cert_read.specs.code.Orders.{comes_behind}
 use Rattle.ja_cert_parts.specs.code.Reading.{Tells}
@@ -404,7 +405,7 @@ unfolding device_data
 device_written s d name kinds is a b = rw (a, b) is
 
 -- whether a list that is found has no element
-pub empty_list : (d : Data) (vs : List Value) → Some (items_of (map view vs)) ≡ as_array d
+pub empty_list : (d : Data) (vs : List Json) → Some (items_of (map view vs)) ≡ as_array d
     → wrong.is_empty_list d ≡ (length vs == 0)
 empty_list d vs found =
     ap (λ o. option_map_or (λ (ds : List Data). length ds == 0) (option_map wrong.list_in o) false)

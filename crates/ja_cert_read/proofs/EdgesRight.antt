@@ -29,7 +29,7 @@ use Rattle.ja_rules.proofs.ListedContexts.{Comes}
 use Rattle.ja_cert_read.specs.declared.contexts.ContextAt.{ContextAt}
 use Rattle.ja_cert.specs.Certificate.{edge_data}
 use Rattle.ja_cert.specs.Wrong as wrong
-use Rattle.ja_cert.specs.Wrong.{MemberWrong, context_number, edge_number, edge_wrong, is_above, is_less, members_wrong}
+use Rattle.ja_cert.specs.Wrong.{edge_number, edge_wrong, is_above, is_less}
 use Rattle.ja_cert_read.specs.code.Building.{AreRight}
 use Rattle.ja_cert_read.specs.code.Contexts.{listed_data}
 use Rattle.ja_cert_read.specs.code.Orders.{context_at_rank, context_rank, edge_rank}

@@ -5,8 +5,8 @@ use Rattle.std.proofs.Common.{refl, sym, ap, arith, ◌∙◌}
 use Rattle.std.proofs.lemmas.Bool.{cond-false, ne_eqb}
 use lib.Chars.{codes}
 use Rattle.serde_json.specs.Data.{Data, string}
-use Rattle.serde_json.specs.View.{view}
-use Rattle.serde_json.specs.declared.value.Value.{Value}
+use Rattle.ja_cert_json.specs.View.{view}
+use Rattle.ja_cert_json.specs.declared.value.Json.{Json}
 use Rattle.ja_base.specs.declared.ids.Context.{Context}
 use Rattle.ja_base.specs.declared.ids.NodeId.{NodeId}
 use Rattle.ja_graph.specs.declared.program.Program.{Program}
@@ -108,7 +108,7 @@ behind_along p zero ds a b = absurd (a refl)
 behind_along p (suc zero) ds a b = absurd (b refl)
 behind_along p (suc (suc n)) ds a b = refl
 
-pub open_is : (vs : List Value) (b : Bool) → b ≡ (length vs == 0)
+pub open_is : (vs : List Json) (b : Bool) → b ≡ (length vs == 0)
     → open_wrong (map view vs) ≡ here_unless b
 open_is [] b is = ap here_unless (sym is)
 open_is (v ∷ vs) b is =
@@ -175,7 +175,7 @@ pub item_told_list : (p : Program) (before : List Data) (d : Data) (e : Fault)
 unfolding item_wrong
 item_told_list p before d e told = tells_missing (list_of d) (item_fields_wrong p) e told
 
-pub item_told_empty : (p : Program) (before : List Data) (d : Data) (vs : List Value) (e : Fault)
+pub item_told_empty : (p : Program) (before : List Data) (d : Data) (vs : List Json) (e : Fault)
     → list_of d ≡ Some (map view vs) → length vs ≡ 0 → Tells here e
     → Tells (item_wrong p before d) e
 unfolding item_wrong

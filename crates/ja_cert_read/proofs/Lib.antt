@@ -21,3 +21,7 @@ pub mod Right
 pub mod Parts
 pub mod Again
 pub mod Setting
+-- of what is listed again, and of objects of which each key is listed
+pub mod Apart
+pub mod Starting
+pub mod Wholes

@@ -44,7 +44,7 @@ module _ {X K : Type 0} (place : X → K) (rank : K → List ℕ) where
   abbrev pub Earlier : X → X → Type 0
   Earlier x y = IsBelow (rank (place x)) (rank (place y))
 
-  before_self : (j k : K) → j ≡ k → Before j k → ⊥
+  pub before_self : (j k : K) → j ≡ k → Before j k → ⊥
   before_self j k same h =
       let self : Before j j = subst (Before j) (sym same) h in
       below_one_way (rank j) (rank j) self self

@@ -14,7 +14,7 @@ use Rattle.ja_graph.specs.Program.{nodes_of}
 use Rattle.ja_machine.specs.Frames.{registers_of}
 use Rattle.ja_aheap.specs.Entries.{entries_of}
 use Rattle.ja_astate.specs.declared.state.AState.{AState}
-use Rattle.ja_astate.specs.State.{state_of, IsStateOf}
+use Rattle.ja_astate.specs.State.{IsStateOf}
 use Rattle.ja_rows.specs.Table.{node_numbers}
 use Rattle.ja_rules.specs.declared.table.ContextTable.{ContextTable}
 use Rattle.ja_rules.specs.declared.table.NodeTable.{NodeTable}
@@ -24,19 +24,11 @@ use Rattle.ja_rules.proofs.Ascending.{Ascends}
 use Rattle.ja_report.specs.Lines.{entry_lines}
 use Rattle.ja_cert_read.specs.declared.contexts.ContextAt.{ContextAt}
 use Rattle.ja_cert_read.specs.declared.points.PointAt.{PointAt}
-use Rattle.ja_cert.specs.Certificate.{context_data, label_data, line_data, listed, points_data, state_data, whole}
+use Rattle.ja_cert.specs.Certificate.{context_data, label_data, line_data, listed, points_data, whole}
 use Rattle.ja_cert.specs.Wrong.{point_wrong}
-use Rattle.ja_cert_read.specs.code.Building.{entry_data, AreEntriesOfParts, AreRight, IsStateOfParts}
-use Rattle.ja_cert_read.specs.code.Contexts.{listed_data, node_state, own_data, point_data, AreNodesOf, AreTablesOf, IsContextAt}
+use Rattle.ja_cert_read.specs.code.Building.{entry_data, AreEntriesOfParts, AreRight}
+use Rattle.ja_cert_read.specs.code.Contexts.{listed_data, node_state, own_data, point_data, AreNodesOf, AreTablesOf, HasOwnState, IsContextAt}
 use Rattle.ja_cert_read.proofs.ContextsRight.{points_ascend, points_placed, IsPlaced, NodeBefore}
-
--- ---- one state
-
-pub state_listed : (p : Program) (f : FnId) (x : PointAt) (s : AState)
-    → IsStateOfParts p f x.registers.items x.heap.items x.masks.items s
-    → state_data p f x.node.0 (state_of s) ≡ point_data p x
-unfolding state_data point_data
-state_listed p f x s is = rw (is.masks_listed, is.heap_listed, is.registers_listed) refl
 
 -- ---- the nodes of a function, one after another
 
@@ -100,7 +92,7 @@ HasState p f t = (s : AState) → t.state ≡ Some s → IsStateOf p (registers_
 -- the nodes up to the next one that is listed
 pub record IsFront (p : Program) (f : FnId) (all rest : List PointAt) (nodes : List NodeTable) :
     Type 0 where
-  pub written : nodes_from p f 0 nodes ++ map (point_data p) rest ≡ map (point_data p) all
+  pub written : nodes_from p f 0 nodes ++ map (point_data p f) rest ≡ map (point_data p f) all
   pub states : AllByRecursion (HasState p f) nodes
   pub ahead : AllByRecursion (λ (x : PointAt). length nodes ≤ x.node.0) rest
   pub placed : AllByRecursion (IsPlaced p f) rest
@@ -120,23 +112,25 @@ each_ahead [] = tt
 each_ahead (x ∷ xs) = (omega arith, each_ahead xs)
 
 pub front_start : (p : Program) (f : FnId) (all : List PointAt)
-    → AreRight (point_wrong p f) (point_data p) all → IsFront p f all all []
-front_start p f all right = record {
+    → AreRight (point_wrong p f) (point_data p f) all → AllByRecursion (HasOwnState p f) all
+    → IsFront p f all all []
+front_start p f all right have = record {
   written = refl;
   states = tt;
   ahead = each_ahead all;
-  placed = points_placed p f all right;
+  placed = points_placed p f all right have;
   ascends = points_ascend p f all right;
   within = omega arith;
 }
 
 pub front_more : (p : Program) (f : FnId) (all : List PointAt) (x : PointAt) (rest : List PointAt)
-    (nodes filled more : List NodeTable) (s : AState) (t : NodeTable)
-    → IsFront p f all (x ∷ rest) nodes → filled ≡ nodes ++ no_nodes (x.node.0 - length nodes)
-    → IsStateOf p (registers_of p f) s → state_data p f x.node.0 (state_of s) ≡ point_data p x
-    → t ≡ record { state = Some s; changed = 0; stepped = 0 } → more ≡ filled ++ t ∷ []
+    (nodes filled more : List NodeTable) (t : NodeTable) → IsFront p f all (x ∷ rest) nodes
+    → filled ≡ nodes ++ no_nodes (x.node.0 - length nodes)
+    → t ≡ record { state = Some x.state; changed = 0; stepped = 0 } → more ≡ filled ++ t ∷ []
     → IsFront p f all rest more
-front_more p f all x rest nodes filled more s t was filling fits data_is is adding =
+front_more p f all x rest nodes filled more t was filling is adding =
+    let s : AState = x.state in
+    let fits : IsStateOf p (registers_of p f) s = was.placed.0.0.fits in
     let gap : List NodeTable = no_nodes (x.node.0 - length nodes) in
     let reached : length nodes ≤ x.node.0 = was.ahead.0 in
     let count : length filled ≡ x.node.0 =
@@ -150,11 +144,10 @@ front_more p f all x rest nodes filled more s t was filling fits data_is is addi
     let here : nodes_from p f 0 filled ≡ nodes_from p f 0 nodes =
     ap (nodes_from p f 0) filling ∙ nodes_filled p f nodes (x.node.0 - length nodes) in
     let number : 0 + length filled ≡ x.node.0 = omega (arith, count) in
-    let one : nodes_from p f (0 + length filled) (t ∷ []) ≡ point_data p x ∷ [] =
+    let one : nodes_from p f (0 + length filled) (t ∷ []) ≡ point_data p f x ∷ [] =
     ap (λ k. nodes_from p f k (t ∷ [])) number
-    ∙ ap (λ (u : NodeTable). node_state p f x.node.0 (Some u) ++ []) is
-    ∙ ap (λ d. d ∷ []) data_is in
-    let whole : nodes_from p f 0 more ≡ nodes_from p f 0 nodes ++ point_data p x ∷ [] =
+    ∙ ap (λ (u : NodeTable). node_state p f x.node.0 (Some u) ++ []) is in
+    let whole : nodes_from p f 0 more ≡ nodes_from p f 0 nodes ++ point_data p f x ∷ [] =
     ap (nodes_from p f 0) adding ∙ nodes_append p f 0 filled (t ∷ [])
     ∙ ap (λ r. r ++ nodes_from p f (0 + length filled) (t ∷ [])) here
     ∙ ap (λ r. nodes_from p f 0 nodes ++ r) one in
@@ -162,8 +155,8 @@ front_more p f all x rest nodes filled more s t was filling fits data_is is addi
     omega (arith, ap length adding, length_push filled t, count) in
     record {
       written =
-          ap (λ r. r ++ map (point_data p) rest) whole
-          ∙ append_assoc (nodes_from p f 0 nodes) (point_data p x ∷ []) (map (point_data p) rest)
+          ap (λ r. r ++ map (point_data p f) rest) whole
+          ∙ append_assoc (nodes_from p f 0 nodes) (point_data p f x ∷ []) (map (point_data p f) rest)
           ∙ was.written;
       states =
           subst (AllByRecursion (HasState p f)) (sym (adding ∙ ap (λ l. l ++ t ∷ []) filling))
@@ -200,10 +193,10 @@ front_end p f all rest nodes filled count was none filling count_is =
     ) in
     let have : AllByRecursion (HasState p f) filled = subst (AllByRecursion (HasState p f))
     (sym filling) (all_append (HasState p f) nodes gap was.states (none_have p f _)) in
-    let written : nodes_from p f 0 filled ≡ map (point_data p) all =
+    let written : nodes_from p f 0 filled ≡ map (point_data p f) all =
     ap (nodes_from p f 0) filling ∙ nodes_filled p f nodes (count - length nodes)
     ∙ sym (append-nil (nodes_from p f 0 nodes))
-    ∙ ap (λ xs. nodes_from p f 0 nodes ++ map (point_data p) xs) (sym none) ∙ was.written in
+    ∙ ap (λ xs. nodes_from p f 0 nodes ++ map (point_data p f) xs) (sym none) ∙ was.written in
     record {
       count = size;
       states = λ n s k. kept_has p f filled n s (slice_get filled n) have refl k;
@@ -298,11 +291,12 @@ table_fits_context p x c same is nodes entries = record {
 -- ---- by what an iterator has left
 
 pub front_begin : (p : Program) (f : FnId) (all rest : List PointAt) (nodes : List NodeTable)
-    → AreRight (point_wrong p f) (point_data p) all → rest ≡ all → nodes ≡ []
-    → IsFront p f all rest nodes
-front_begin p f all rest nodes right left none =
+    → AreRight (point_wrong p f) (point_data p f) all → AllByRecursion (HasOwnState p f) all
+    → rest ≡ all → nodes ≡ [] → IsFront p f all rest nodes
+front_begin p f all rest nodes right have left none =
     subst (λ (ts : List NodeTable). IsFront p f all rest ts) (sym none)
-    (subst (λ (xs : List PointAt). IsFront p f all xs []) (sym left) (front_start p f all right))
+    (subst (λ (xs : List PointAt). IsFront p f all xs []) (sym left)
+    (front_start p f all right have))
 
 pub front_next : (p : Program) (f : FnId) (all old : List PointAt) (x : PointAt)
     (rest : List PointAt) (nodes : List NodeTable) → IsFront p f all old nodes → old ≡ x ∷ rest

@@ -7,7 +7,7 @@ use Rattle.std.proofs.Common.{refl, sym, subst, ap, ◌∙◌}
 use Rattle.std.proofs.lemmas.List.Elements.{All-from_recursion}
 use Rattle.serde_json.specs.Data.{Data, string}
 use Rattle.serde_json.specs.Read.{read}
-use Rattle.serde_json.specs.View.{view}
+use Rattle.ja_cert_json.specs.View.{view}
 use Rattle.ja_base.proofs.Lists.{all_weaker, map_after}
 use Rattle.ja_graph.specs.declared.program.Program.{Program}
 use Rattle.ja_load.specs.Loading.{IsProgramOf}

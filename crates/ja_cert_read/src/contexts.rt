@@ -6,12 +6,12 @@ ghost use Rattle.ja_cert_read.specs.code.Orders.{comes_behind, context_at_rank, 
 
 use crate::points::PointAt;
 use ja_base::Context;
+use ja_cert_json::Json;
 use ja_cert_parts::{
     EntryAt, Fault, InFunction, InProgram, Member, four_members, here_unless, read_function,
     read_label, read_list, under,
 };
 use ja_value::label_number;
-use serde_json::Value;
 use std::cmp::Ordering;
 
 /// A context, with its values at entry and its nodes that have a state.
@@ -55,7 +55,7 @@ pub(crate) fn context_numbers(context: Context) -> [u64; 2]
 impl<'a> Member<InProgram<'a>> for ContextAt {
     ghost use Rattle.ja_graph.specs.WellFormed.{IsWellFormed};
     ghost use Rattle.ja_cert.specs.Wrong.{context_wrong};
-    ghost use Rattle.ja_cert_read.specs.code.Contexts.{listed_data};
+    ghost use Rattle.ja_cert_read.specs.code.Contexts.{listed_data, HaveOwnStates};
 
     ghost can = { λ rule. IsWellFormed rule.program.now };
 
@@ -63,7 +63,9 @@ impl<'a> Member<InProgram<'a>> for ContextAt {
 
     ghost data = { λ rule. listed_data rule.program.now };
 
-    fn read(rule: &InProgram<'a>, before: &[ContextAt], value: &Value) -> Result<ContextAt, Fault> {
+    ghost holds = { λ rule. HaveOwnStates rule.program.now };
+
+    fn read(rule: &InProgram<'a>, before: &[ContextAt], value: &Json) -> Result<ContextAt, Fault> {
         let alloc = rule.alloc;
         let program = rule.program;
         let own = four_members(alloc, &CONTEXT_KEYS, value)?;

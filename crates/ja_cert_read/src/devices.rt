@@ -3,7 +3,7 @@
 ghost use Rattle.std.specs.Prelude.{◌≡◌, [], ◌∷◌, not, map};
 ghost use Rattle.std.specs.List.{list_all, list_any};
 ghost use Rattle.serde_json.specs.Data.{string};
-ghost use Rattle.serde_json.specs.View.{view};
+ghost use Rattle.ja_cert_json.specs.View.{view};
 ghost use Rattle.ja_prim.specs.Characters.{is_part as is_part_spec};
 ghost use Rattle.ja_prim.specs.Texts.{same_text};
 ghost use Rattle.ja_device.specs.code.Signatures as signatures;
@@ -14,10 +14,10 @@ ghost use Rattle.ja_cert_read.specs.code.Devices.{has_kind as has_kind_spec, kin
 ghost use Rattle.ja_cert_read.specs.code.Orders.{comes_behind};
 ghost use Rattle.ja_cert_parts.specs.code.Reading.{Reads};
 
+use ja_cert_json::Json;
 use ja_cert_parts::{Fault, Member, at, here, here_unless, list, read_list, read_word};
 use ja_graph::MAX_DEVICES;
 use ja_prim::{Kinds, Signature, Text16};
-use serde_json::Value;
 use std::alloc::Global;
 
 // ---- kinds
@@ -81,7 +81,9 @@ impl Member<Global> for Kind {
 
     ghost data = { λ rule. kind_data };
 
-    fn read(rule: &Global, before: &[Kind], value: &Value) -> Result<Kind, Fault> {
+    ghost holds = { λ rule member. Unit {0} };
+
+    fn read(rule: &Global, before: &[Kind], value: &Json) -> Result<Kind, Fault> {
         let place = read_word(*rule, &KIND_WORDS, value)?;
         let kind = kind_at(place);
         here_unless(*rule, is_behind(before, kind))?;
@@ -110,7 +112,7 @@ fn kinds_of(list: &[Kind]) -> Kinds
 }
 
 /// Whether a value is an empty list.
-fn is_empty_list(value: &Value) -> bool
+fn is_empty_list(value: &Json) -> bool
     ensures { result ≡ is_empty_list (view value.now) }
 {
     match value.as_array() {
@@ -120,7 +122,7 @@ fn is_empty_list(value: &Value) -> bool
 }
 
 /// Reads kinds of answers, which aren't none.
-fn read_kinds(alloc: Global, value: &Value) -> Result<Kinds, Fault>
+fn read_kinds(alloc: Global, value: &Json) -> Result<Kinds, Fault>
     ensures { Reads (or_else (here_unless (not (is_empty_list (view value.now))))
         (list_wrong kind_wrong (view value.now)))
         (λ kinds. listed (map string (kind_parts kinds)) ≡ view value.now) result }
@@ -172,7 +174,7 @@ fn has_name(before: &[Signature], name: &Text16) -> bool
 }
 
 /// Reads the name of a device, which none of those before it has.
-fn read_name(alloc: Global, before: &[Signature], value: &Value) -> Result<Text16, Fault>
+fn read_name(alloc: Global, before: &[Signature], value: &Json) -> Result<Text16, Fault>
     ensures { Reads (here_unless (is_word (device_name_is (map device_data before.now))
         (view value.now))) (λ name. string name ≡ view value.now) result }
 {
@@ -205,7 +207,9 @@ impl Member<Devices> for Signature {
 
     ghost data = { λ rule. device_data };
 
-    fn read(rule: &Devices, before: &[Signature], value: &Value) -> Result<Signature, Fault> {
+    ghost holds = { λ rule member. Unit {0} };
+
+    fn read(rule: &Devices, before: &[Signature], value: &Json) -> Result<Signature, Fault> {
         let alloc = rule.alloc;
         here_unless(alloc, before.len() < MAX_DEVICES)?;
         let [name, kinds] = list(alloc, value)? else {

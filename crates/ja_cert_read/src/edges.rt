@@ -2,7 +2,7 @@
 
 ghost use Rattle.std.specs.Prelude.{◌≡◌, false};
 ghost use Rattle.std.specs.Option.{option_map_or};
-ghost use Rattle.serde_json.specs.View.{view};
+ghost use Rattle.ja_cert_json.specs.View.{view};
 ghost use Rattle.ja_graph.specs.Program.{node_at};
 ghost use Rattle.ja_graph.specs.WellFormed.{IsWellFormed};
 ghost use Rattle.ja_cert.specs.Certificate.{edge_data};
@@ -14,6 +14,7 @@ ghost use Rattle.ja_cert_parts.specs.code.Reading.{Reads};
 use crate::contexts::{ContextAt, context_numbers, is_less};
 use crate::tables::NEVER;
 use ja_base::{Context, FnId, NodeId};
+use ja_cert_json::Json;
 use ja_cert_parts::{
     Fault, Member, at, here, here_unless, list, read_function, read_label, read_node,
 };
@@ -21,7 +22,6 @@ use ja_graph::{Node, Program};
 use ja_rows::Edge;
 use ja_rules::CallEdge;
 use ja_value::label_number;
-use serde_json::Value;
 use std::alloc::Global;
 
 /// In a program, between contexts that are listed.
@@ -33,7 +33,7 @@ pub(crate) struct Among<'a> {
 }
 
 /// Reads the five numbers of an edge.
-pub(crate) fn read_edge(alloc: Global, program: &Program, value: &Value) -> Result<Edge, Fault>
+pub(crate) fn read_edge(alloc: Global, program: &Program, value: &Json) -> Result<Edge, Fault>
     requires { IsWellFormed program.now }
     ensures { Reads (edge_shape_wrong program.now (view value.now))
         (λ e. edge_data e ≡ view value.now) result }
@@ -127,7 +127,9 @@ impl<'a> Member<Among<'a>> for CallEdge {
 
     ghost data = { λ rule d. edge_data d.edge };
 
-    fn read(rule: &Among<'a>, before: &[CallEdge], value: &Value) -> Result<CallEdge, Fault> {
+    ghost holds = { λ rule member. Unit {0} };
+
+    fn read(rule: &Among<'a>, before: &[CallEdge], value: &Json) -> Result<CallEdge, Fault> {
         let edge = read_edge(rule.alloc, rule.program, value)?;
         here_unless(rule.alloc, is_behind(before, edge))?;
         here_unless(rule.alloc, is_between(rule, edge))?;

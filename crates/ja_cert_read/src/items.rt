@@ -2,7 +2,7 @@
 
 ghost use Rattle.std.specs.Prelude.{◌≡◌, [], ◌∷◌, Some, map};
 ghost use Rattle.serde_json.specs.Data.{string};
-ghost use Rattle.serde_json.specs.View.{view};
+ghost use Rattle.ja_cert_json.specs.View.{view};
 ghost use Rattle.ja_graph.specs.WellFormed.{IsWellFormed};
 ghost use Rattle.ja_cert.specs.Certificate.{edge_data, item_data, label_data, listed, whole};
 ghost use Rattle.ja_cert.specs.Wrong.{along_wrong, behind_word_wrong, step_wrong};
@@ -11,12 +11,12 @@ ghost use Rattle.ja_cert_parts.specs.code.Reading.{Reads};
 
 use crate::edges::read_edge;
 use ja_base::{Context, NodeId};
+use ja_cert_json::Json;
 use ja_cert_parts::{
     Fault, Member, at, here, here_unless, list, read_function, read_label, read_node, read_word,
 };
 use ja_graph::Program;
 use ja_rows::{Edge, Item};
-use serde_json::Value;
 use std::alloc::Global;
 
 /// The list of visits of a program.
@@ -30,7 +30,7 @@ pub(crate) struct Visits<'a> {
 const ITEM_WORDS: [&str; 4] = ["open", "step", "fill", "back"];
 
 /// Reads what is behind the word of a step: a node of a context.
-fn read_step(alloc: Global, program: &Program, values: &[Value]) -> Result<(Context, NodeId), Fault>
+fn read_step(alloc: Global, program: &Program, values: &[Json]) -> Result<(Context, NodeId), Fault>
     requires { IsWellFormed program.now }
     ensures { Reads (step_wrong program.now (map view values.now))
         (λ s. whole s.0.function.0 ∷ label_data s.0.receiver ∷ whole s.1.0 ∷ []
@@ -46,7 +46,7 @@ fn read_step(alloc: Global, program: &Program, values: &[Value]) -> Result<(Cont
 }
 
 /// Reads what is behind the word of a visit along an edge.
-fn read_along(alloc: Global, program: &Program, values: &[Value]) -> Result<Edge, Fault>
+fn read_along(alloc: Global, program: &Program, values: &[Json]) -> Result<Edge, Fault>
     requires { IsWellFormed program.now }
     ensures { Reads (along_wrong program.now (map view values.now))
         (λ e. edge_data e ∷ [] ≡ map view values.now) result }
@@ -62,7 +62,7 @@ fn read_behind(
     alloc: Global,
     program: &Program,
     place: usize,
-    values: &[Value],
+    values: &[Json],
 ) -> Result<Item, Fault>
     requires { IsWellFormed program.now }
     ensures { Reads (behind_word_wrong program.now (Some place) (map view values.now))
@@ -99,7 +99,9 @@ impl<'a> Member<Visits<'a>> for Item {
 
     ghost data = { λ rule. item_data };
 
-    fn read(rule: &Visits<'a>, _before: &[Item], value: &Value) -> Result<Item, Fault> {
+    ghost holds = { λ rule member. Unit {0} };
+
+    fn read(rule: &Visits<'a>, _before: &[Item], value: &Json) -> Result<Item, Fault> {
         let Some((word, values)) = list(rule.alloc, value)?.split_first() else {
             return Err(here(rule.alloc));
         };

@@ -7,9 +7,11 @@ mod contexts;
 mod devices;
 mod edges;
 mod items;
+mod objects;
 mod places;
 mod points;
 mod reading;
+mod starts;
 mod states;
 mod tables;
 

@@ -1,22 +1,29 @@
-//! Nodes of a function, with what is listed of their states.
+//! Nodes of a function, with their states. Each state is built where it is read, so that what is
+//! listed of it needn't stand beside that of all others.
 
-ghost use Rattle.std.specs.Prelude.{◌≡◌, [], ◌∷◌};
+ghost use Rattle.std.specs.Prelude.{◌≡◌, [], ◌∷◌, IfSome};
+ghost use Rattle.std.specs.List.{AllByRecursion};
+ghost use Rattle.ja_base.specs.declared.ids.FnId.{FnId};
+ghost use Rattle.ja_graph.specs.declared.program.Program.{Program};
+ghost use Rattle.ja_cert_read.specs.code.Building.{IsBefore};
+ghost use Rattle.ja_cert_read.specs.code.Contexts.{HasOwnState};
 ghost use Rattle.ja_cert_read.specs.code.Orders.{comes_behind, node_rank};
 
+use crate::starts::{Before, Listed, listing};
+use crate::states::state_of_parts;
+use ja_astate::AState;
 use ja_base::NodeId;
+use ja_cert_json::Json;
 use ja_cert_parts::{
-    Fault, InFunction, InProgram, MaskAt, Member, PropertyAt, RegisterAt, four_members,
-    here_unless, read_list, read_node, under,
+    Fault, InFunction, InProgram, Member, four_members, here_unless, read_list, read_node, under,
 };
-use serde_json::Value;
 
-/// A node, with the registers, properties and masks of its state.
+/// A node, with its state and what is listed of it.
 #[derive(Drop)]
 pub(crate) struct PointAt {
     pub node: NodeId,
-    pub registers: Vec<RegisterAt>,
-    pub heap: Vec<PropertyAt>,
-    pub masks: Vec<MaskAt>,
+    pub state: AState,
+    pub listed: Listed,
 }
 
 /// Its members.
@@ -32,18 +39,31 @@ fn is_behind(before: &[PointAt], node: NodeId) -> bool
     }
 }
 
+/// The state of the last node, if there is one.
+fn last_state(before: &[PointAt]) -> Option<Before<'_>>
+    ensures { (p : Program) (f : FnId) → AllByRecursion (HasOwnState p f) before.now
+        → IfSome result (IsBefore p f) }
+{
+    before.last().map(|last| Before {
+        state: &last.state,
+        listed: &last.listed,
+    })
+}
+
 impl<'a> Member<InFunction<'a>> for PointAt {
     ghost use Rattle.ja_graph.specs.WellFormed.{IsWellFormed};
     ghost use Rattle.ja_cert.specs.Wrong.{point_wrong};
-    ghost use Rattle.ja_cert_read.specs.code.Contexts.{point_data};
+    ghost use Rattle.ja_cert_read.specs.code.Contexts.{point_data, HasOwnState};
 
     ghost can = { λ rule. IsWellFormed rule.program.now };
 
     ghost wrong = { λ rule. point_wrong rule.program.now rule.function };
 
-    ghost data = { λ rule. point_data rule.program.now };
+    ghost data = { λ rule. point_data rule.program.now rule.function };
 
-    fn read(rule: &InFunction<'a>, before: &[PointAt], value: &Value) -> Result<PointAt, Fault> {
+    ghost holds = { λ rule. HasOwnState rule.program.now rule.function };
+
+    fn read(rule: &InFunction<'a>, before: &[PointAt], value: &Json) -> Result<PointAt, Fault> {
         let alloc = rule.alloc;
         let program = rule.program;
         let within = InProgram { alloc, program };
@@ -56,11 +76,20 @@ impl<'a> Member<InFunction<'a>> for PointAt {
         let registers = under(read_list(alloc, rule, point.fourth), "registers")?;
         let heap = under(read_list(alloc, &within, point.second), "heap")?;
         let masks = under(read_list(alloc, &within, point.first), "alloc")?;
-        Ok(PointAt {
-            node,
+        let listed = listing(alloc, &heap, &masks)?;
+        let state = state_of_parts(
+            alloc,
+            program,
+            rule.function,
+            last_state(before),
             registers,
             heap,
             masks,
+        )?;
+        Ok(PointAt {
+            node,
+            state,
+            listed,
         })
     }
 }

@@ -1,10 +1,10 @@
 //! Reading certificates.
 
-ghost use Rattle.std.specs.Prelude.{◌≡◌, ◌≤◌, Some, IfOk, IfErr, length, map};
+ghost use Rattle.std.specs.Prelude.{◌≡◌, ◌≤◌, Some, IfOk, IfErr, length};
 ghost use Rattle.std.specs.List.{AllByRecursion};
 ghost use Rattle.serde_json.specs.Data.{string};
 ghost use Rattle.serde_json.specs.Read.{read as read_bytes};
-ghost use Rattle.serde_json.specs.View.{view};
+ghost use Rattle.ja_cert_json.specs.View.{view};
 ghost use Rattle.ja_lex.specs.Spots.{max_bytes};
 ghost use Rattle.ja_device.specs.code.Signatures.{AreSignatures};
 ghost use Rattle.ja_graph.specs.WellFormed.{IsWellFormed};
@@ -23,6 +23,7 @@ use crate::items::Visits;
 use crate::places::told;
 use crate::tables::{NEVER, tables_of};
 use ja_base::Memory;
+use ja_cert_json::{Json, JsonFault, read as read_text};
 use ja_cert_parts::{Fault, InProgram, here, here_unless, read_list, six_members, under};
 use ja_grammar::ParseFault;
 use ja_graph::Program;
@@ -30,7 +31,6 @@ use ja_load::{LoadFault, load};
 use ja_prim::Signature;
 use ja_rows::Item;
 use ja_rules::{ATable, CallEdge};
-use serde_json::Value;
 use std::alloc::Global;
 
 /// The most bytes that the text of a program may have.
@@ -44,9 +44,9 @@ const CERTIFICATE_KEYS: [&str; 6] = ["contexts", "devices", "edges", "text", "ve
 pub(crate) struct Head<'a> {
     pub text: &'a str,
     pub signatures: Vec<Signature>,
-    pub contexts: &'a Value,
-    pub edges: &'a Value,
-    pub visits: &'a Value,
+    pub contexts: &'a Json,
+    pub edges: &'a Json,
+    pub visits: &'a Json,
 }
 
 /// What is seen with the program.
@@ -58,19 +58,19 @@ pub(crate) struct Body {
 }
 
 /// Reads JSON.
-fn read_json(alloc: Global, text: &str) -> Result<Value, CertFault>
+fn read_json(alloc: Global, text: &str) -> Result<Json, CertFault>
     ensures data { IfOk result (λ value. read_bytes text.now ≡ Some (view value)) }
     ensures fault { IfErr result (IsUnread text.now) }
 {
-    match Value::from_str(alloc, text) {
+    match read_text(alloc, text) {
         Ok(value) => Ok(value),
-        Err(error) if error.is_memory() => Err(CertFault::Memory),
-        Err(_) => Err(CertFault::Json),
+        Err(JsonFault::Json) => Err(CertFault::Json),
+        Err(JsonFault::Memory) => Err(CertFault::Memory),
     }
 }
 
 /// Whether a value is the version's number.
-fn is_version(value: &Value) -> bool
+fn is_version(value: &Json) -> bool
     ensures { result ≡ is_version (view value.now) }
 {
     match value.as_u64() {
@@ -80,7 +80,7 @@ fn is_version(value: &Value) -> bool
 }
 
 /// Reads the text of a program.
-fn read_source(alloc: Global, value: &Value) -> Result<&str, Fault>
+fn read_source(alloc: Global, value: &Json) -> Result<&str, Fault>
     ensures { Reads (here_unless (is_word is_text (view value.now)))
         (λ text. (string text.now ≡ view value.now) × (length text.now ≤ max_bytes)) result }
 {
@@ -91,7 +91,7 @@ fn read_source(alloc: Global, value: &Value) -> Result<&str, Fault>
 }
 
 /// Reads what is seen before the text is loaded.
-fn read_head(alloc: Global, value: &Value) -> Result<Head<'_>, Fault>
+fn read_head(alloc: Global, value: &Json) -> Result<Head<'_>, Fault>
     ensures { Reads (wrong_before_loading (view value.now)) (IsHeadOf (view value.now)) result }
 {
     let whole = six_members(alloc, &CERTIFICATE_KEYS, value)?;

@@ -1,65 +1,29 @@
 //! States and values at entry, built of what is listed of them.
 
-ghost use Rattle.std.specs.Prelude.{◌≡◌, ◌<◌, ◌++◌, [], ◌∷◌, IfOk, MatchOption, length, map, vec_len};
+ghost use Rattle.std.specs.Prelude.{◌≡◌, ◌<◌, IfOk, IfSome, IsTrue, length, map, vec_len};
 ghost use Rattle.std.specs.List.{AllByRecursion};
 ghost use Rattle.ja_graph.specs.WellFormed.{IsWellFormed};
 ghost use Rattle.ja_machine.specs.Frames.{registers_of};
-ghost use Rattle.ja_abstract.specs.AbstractValue.{same_label, undefined_value};
 ghost use Rattle.ja_aheap.specs.Entries.{entries_of};
 ghost use Rattle.ja_aheap.specs.Heap.{heap_of};
-ghost use Rattle.ja_aheap.specs.Objects.{write_of};
-ghost use Rattle.ja_astate.specs.State.{state_of, register_in, HaveOneShape, IsStateOf};
+ghost use Rattle.ja_astate.specs.State.{state_of, HaveOneShape, IsStateOf};
 ghost use Rattle.ja_rules.specs.Tables.{no_entries};
 ghost use Rattle.ja_cert.specs.Wrong.{entry_wrong, mask_wrong, property_wrong, register_wrong};
-ghost use Rattle.ja_cert_read.specs.code.Building.{entries_with, entry_data, mask_data, mask_pair, plain_state, property_data, register_data, setting, with_masks, with_properties, with_registers, AreEntriesOfParts, AreRight, AreTaken, AreWithin, IsPlaced, IsStateOfParts};
+ghost use Rattle.ja_cert_read.specs.code.Building.{entries_with, entry_data, mask_data, mask_pair, mask_sites, plain_state, property_data, property_pairs, register_data, with_masks, with_properties, with_registers, AreEntriesOfParts, AreRight, AreWithin, IsBefore, IsStateOfParts, SaysAll};
 ghost use Rattle.ja_cert_parts.specs.declared.listed.MaskAt.{MaskAt};
 ghost use Rattle.ja_cert_parts.specs.declared.listed.RegisterAt.{RegisterAt};
 
+use crate::objects::set_properties;
+use crate::starts::{Before, start};
 use ja_abstract::Mask;
-use ja_aheap::{DemandedEntries, Write, Writes};
+use ja_aheap::DemandedEntries;
 use ja_astate::AState;
-use ja_base::{FnId, Label, Memory, Reg, Site};
+use ja_base::{FnId, Memory, Reg, Site};
 use ja_cert_parts::{EntryAt, MaskAt, PropertyAt, RegisterAt};
 use ja_graph::Program;
-use ja_value::AValue;
 use std::alloc::Global;
 
 // ---- registers
-
-/// How many registers a function has.
-fn register_count(program: &Program, function: FnId) -> u32
-    ensures { result ≡ registers_of program.now function }
-{
-    match program.functions.as_slice().get(function.0 as usize) {
-        Some(function) => function.registers,
-        None => 0,
-    }
-}
-
-/// So many values, each undefined.
-fn undefined_values(alloc: Global, count: u32) -> Result<Vec<AValue>, Memory>
-    ensures values { IfOk result (λ v. register_in v.items ≡ (λ r. undefined_value)) }
-    ensures len { IfOk result (λ v. vec_len v ≡ count) }
-{
-    let mut values = Vec::new(alloc);
-    for _register in 0..count {
-        values.push(AValue::undefined(alloc))?;
-    }
-    Ok(values)
-}
-
-/// The state of a function of which nothing is listed.
-fn plain_state(alloc: Global, program: &Program, function: FnId) -> Result<AState, Memory>
-    requires { IsWellFormed program.now }
-    ensures state { IfOk result (λ s. state_of s ≡ plain_state) }
-    ensures shape { IfOk result (IsStateOf program.now (registers_of program.now function)) }
-{
-    let registers = undefined_values(alloc, register_count(program, function))?;
-    let sites = program.sites.len() as u32;
-    let names = program.names.len() as u32;
-    let state = AState::entry(alloc, registers, sites, names)?;
-    Ok(state)
-}
 
 /// Sets registers of a state.
 fn set_registers(state: &mut AState, registers: Vec<RegisterAt>)
@@ -72,77 +36,6 @@ fn set_registers(state: &mut AState, registers: Vec<RegisterAt>)
     while let Some(listed) = registers.pop() {
         state.set_register(Reg(listed.register), listed.value);
     }
-}
-
-// ---- properties
-
-/// Whether two labels are the same.
-fn same_label(a: Label, b: Label) -> bool
-    ensures { result ≡ same_label a b }
-{
-    a.site.0 == b.site.0 && a.old == b.old
-}
-
-/// Takes the last property out of a list, if it is of this label.
-fn pop_of(heap: &mut Vec<PropertyAt>, label: Label) -> Option<PropertyAt>
-    ensures { MatchOption result (heap.new.items ≡ heap.old.items)
-        (λ x. (heap.old.items ≡ heap.new.items ++ x ∷ []) × (x.label ≡ label)) }
-{
-    match heap.last() {
-        Some(last) if same_label(last.label, label) => heap.pop(),
-        _ => None,
-    }
-}
-
-/// The write that sets a property.
-fn setting(listed: PropertyAt) -> Write
-    ensures { write_of result ≡ setting listed }
-{
-    Write {
-        key: listed.key,
-        property: listed.property,
-        joins: false,
-    }
-}
-
-/// Takes the properties of the label of the last one out of a list, of which that one is taken
-/// already, as writes.
-fn take_object(
-    alloc: Global,
-    heap: &mut Vec<PropertyAt>,
-    last: PropertyAt,
-) -> Result<Writes, Memory>
-    ensures { IfOk result (λ w. AreTaken (heap.old.items ++ last ∷ []) heap.new.items last.label
-        w.list.items) }
-{
-    let label = last.label;
-    let mut list = Vec::new(alloc);
-    let first = setting(last);
-    list.push(first)?;
-    while let Some(listed) = pop_of(heap, label) {
-        let write = setting(listed);
-        list.push(write)?;
-    }
-    list.reverse();
-    Ok(Writes { list })
-}
-
-/// Sets properties of a state, those of one label behind one another together, so that each object
-/// is written to once.
-fn set_properties(state: &mut AState, alloc: Global, heap: Vec<PropertyAt>) -> Result<(), Memory>
-    requires { AllByRecursion (IsPlaced (heap_of state.old.heap).sites
-        (heap_of state.old.heap).names) heap.items }
-    ensures state { IfOk result (λ _. state_of state.new
-        ≡ with_properties heap.items (state_of state.old)) }
-    ensures shape { IfOk result (λ _. HaveOneShape state.old state.new) }
-{
-    let mut heap = heap;
-    while let Some(last) = heap.pop() {
-        let label = last.label;
-        let writes = take_object(alloc, &mut heap, last)?;
-        state.strongly(alloc, label, writes)?;
-    }
-    Ok(())
 }
 
 // ---- masks
@@ -158,6 +51,26 @@ fn mask_pairs(alloc: Global, masks: &[MaskAt]) -> Result<Vec<(Site, Mask)>, Memo
     Ok(pairs)
 }
 
+/// Whether a state has a mask already.
+fn has_mask(state: &AState, listed: &MaskAt) -> bool
+    ensures { IsTrue result
+        → (heap_of state.now.heap).mask listed.now.site.0 ≡ listed.now.mask }
+{
+    state.heap.mask(listed.site) == listed.mask
+}
+
+/// Whether a state has these masks already.
+fn has_masks(state: &AState, masks: &[MaskAt]) -> bool
+    ensures { IsTrue result → with_masks masks.now (state_of state.now) ≡ state_of state.now }
+{
+    for listed in masks {
+        if !has_mask(state, listed) {
+            return false;
+        }
+    }
+    true
+}
+
 /// Sets masks of a state.
 fn set_masks(state: &mut AState, alloc: Global, masks: Vec<MaskAt>) -> Result<(), Memory>
     requires { AllByRecursion (λ (x : MaskAt). x.site.0 < (heap_of state.old.heap).sites)
@@ -166,6 +79,9 @@ fn set_masks(state: &mut AState, alloc: Global, masks: Vec<MaskAt>) -> Result<()
         ≡ with_masks masks.items (state_of state.old)) }
     ensures shape { IfOk result (λ _. HaveOneShape state.old state.new) }
 {
+    if has_masks(state, &masks) {
+        return Ok(());
+    }
     let pairs = mask_pairs(alloc, &masks)?;
     state.heap.set_masks(alloc, pairs)?;
     Ok(())
@@ -173,23 +89,26 @@ fn set_masks(state: &mut AState, alloc: Global, masks: Vec<MaskAt>) -> Result<()
 
 // ---- the whole
 
-/// The state of a function with these registers, properties and masks, where they are its own.
+/// The state of a function with these registers, properties and masks, where they are its own. It
+/// shares with the one before it, if there is one, what both have.
 fn built_state(
     alloc: Global,
     program: &Program,
     function: FnId,
+    before: Option<Before<'_>>,
     registers: Vec<RegisterAt>,
     heap: Vec<PropertyAt>,
     masks: Vec<MaskAt>,
 ) -> Result<AState, Memory>
     requires program { IsWellFormed program.now }
+    requires before { IfSome before (IsBefore program.now function) }
     requires within { AreWithin (registers_of program.now function) (length program.now.sites)
         (length program.now.names) registers.items heap.items masks.items }
     ensures state { IfOk result (λ s. state_of s ≡ with_masks masks.items
         (with_properties heap.items (with_registers registers.items plain_state))) }
     ensures shape { IfOk result (IsStateOf program.now (registers_of program.now function)) }
 {
-    let mut state = plain_state(alloc, program, function)?;
+    let mut state = start(alloc, program, function, before, &heap, &masks)?;
     set_registers(&mut state, registers);
     set_properties(&mut state, alloc, heap)?;
     set_masks(&mut state, alloc, masks)?;
@@ -197,24 +116,29 @@ fn built_state(
 }
 
 /// The state of a function with these registers, properties and masks. Each other register is
-/// undefined, each other property as at entry, and at no other site was something made.
+/// undefined, each other property as at entry, and at no other site was something made. It shares
+/// with the one before it, if there is one, what both have.
 pub(crate) fn state_of_parts(
     alloc: Global,
     program: &Program,
     function: FnId,
+    before: Option<Before<'_>>,
     registers: Vec<RegisterAt>,
     heap: Vec<PropertyAt>,
     masks: Vec<MaskAt>,
 ) -> Result<AState, Memory>
     requires program { IsWellFormed program.now }
+    requires before { IfSome before (IsBefore program.now function) }
     requires registers { AreRight (register_wrong program.now function)
         (register_data program.now) registers.items }
     requires heap { AreRight (property_wrong program.now) (property_data program.now) heap.items }
     requires masks { AreRight (mask_wrong program.now) (mask_data program.now) masks.items }
-    ensures { IfOk result (IsStateOfParts program.now function registers.items heap.items
+    ensures parts { IfOk result (IsStateOfParts program.now function registers.items heap.items
         masks.items) }
+    ensures all { IfOk result (λ s. SaysAll (property_pairs heap.items) (mask_sites masks.items)
+        (state_of s)) }
 {
-    let state = built_state(alloc, program, function, registers, heap, masks)?;
+    let state = built_state(alloc, program, function, before, registers, heap, masks)?;
     Ok(state)
 }
 

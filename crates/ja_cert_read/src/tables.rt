@@ -1,21 +1,18 @@
 //! Tables of contexts, built of what is listed of them.
 
-ghost use Rattle.std.specs.Prelude.{◌≡◌, ◌++◌, ◌-◌, ◌≤◌, IfOk, OnOk, length};
+ghost use Rattle.std.specs.Prelude.{◌≡◌, ◌++◌, ◌-◌, IfOk, OnOk, length};
 ghost use Rattle.std.specs.List.{AllByRecursion};
 ghost use Rattle.ja_graph.specs.Program.{nodes_of};
 ghost use Rattle.ja_graph.specs.WellFormed.{IsWellFormed};
-ghost use Rattle.ja_machine.specs.Frames.{registers_of};
-ghost use Rattle.ja_astate.specs.State.{state_of, IsStateOf};
 ghost use Rattle.ja_rules.specs.Tables.{FitsContext};
 ghost use Rattle.ja_rules.specs.code.Growing.{no_nodes};
-ghost use Rattle.ja_cert.specs.Certificate.{state_data};
 ghost use Rattle.ja_cert.specs.Wrong.{point_wrong};
 ghost use Rattle.ja_cert_read.specs.code.Building.{AreRight};
-ghost use Rattle.ja_cert_read.specs.code.Contexts.{listed_data, own_data, point_data, AreNodesOf, AreTablesOf, IsContextAt, IsPoint};
+ghost use Rattle.ja_cert_read.specs.code.Contexts.{listed_data, own_data, point_data, AreNodesOf, AreTablesOf, HasOwnState, IsContextAt};
 
 use crate::contexts::ContextAt;
 use crate::points::PointAt;
-use crate::states::{entries_of_parts, state_of_parts};
+use crate::states::entries_of_parts;
 use ja_astate::AState;
 use ja_base::{FnId, Memory};
 use ja_graph::Program;
@@ -46,30 +43,6 @@ fn node_count(program: &Program, function: FnId) -> usize
     }
 }
 
-/// The state that is listed of a node.
-fn state_at(
-    alloc: Global,
-    program: &Program,
-    function: FnId,
-    point: PointAt,
-) -> Result<AState, Memory>
-    requires program { IsWellFormed program.now }
-    requires right { IsPoint program.now function point }
-    ensures fits { IfOk result (IsStateOf program.now (registers_of program.now function)) }
-    ensures listed { IfOk result (λ s. state_data program.now function point.node.0 (state_of s)
-        ≡ point_data program.now point) }
-{
-    let state = state_of_parts(
-        alloc,
-        program,
-        function,
-        point.registers,
-        point.heap,
-        point.masks,
-    )?;
-    Ok(state)
-}
-
 /// Adds nodes without a state until there are so many.
 fn fill_up(nodes: &mut Vec<NodeTable>, count: usize) -> Result<(), Memory>
     ensures { OnOk result (nodes.new.items
@@ -90,15 +63,15 @@ fn nodes_of(
     points: Vec<PointAt>,
 ) -> Result<Vec<NodeTable>, Memory>
     requires program { IsWellFormed program.now }
-    requires right { AreRight (point_wrong program.now function) (point_data program.now)
+    requires right { AreRight (point_wrong program.now function) (point_data program.now function)
         points.items }
+    requires states { AllByRecursion (HasOwnState program.now function) points.items }
     ensures { IfOk result (λ nodes. AreNodesOf program.now function points.items nodes.items) }
 {
     let mut nodes = Vec::new(alloc);
     for point in points {
         fill_up(&mut nodes, point.node.0 as usize)?;
-        let state = state_at(alloc, program, function, point)?;
-        nodes.push(node(Some(state)))?;
+        nodes.push(node(Some(point.state)))?;
     }
     fill_up(&mut nodes, node_count(program, function))?;
     Ok(nodes)

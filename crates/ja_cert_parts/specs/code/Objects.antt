@@ -2,7 +2,7 @@
 use Rattle.std.specs.Prelude.{ℕ, ◌==◌, Bool, false, List, [], ◌∷◌, length}
 use Rattle.std.specs.Option.{option_map_or}
 use Rattle.serde_json.specs.Data.{Data}
-use Rattle.serde_json.specs.View.{view}
+use Rattle.ja_cert_json.specs.View.{view}
 use Rattle.ja_cert.specs.Wrong.{list_of}
 use Rattle.ja_cert_parts.specs.declared.objects.Two.{Two}
 use Rattle.ja_cert_parts.specs.declared.objects.Four.{Four}

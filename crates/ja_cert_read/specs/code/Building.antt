@@ -1,6 +1,6 @@
 -- What is built of what a certificate lists of a context.
-use Rattle.std.specs.Prelude.{◌≡◌, ◌==◌, ◌&&◌, ℕ, Bool, IsSome, IsTrue, if◌then◌else◌, nat_lt, ◌<◌, List, [], ◌∷◌, ◌++◌, map, length, Option, Some, None}
-use Rattle.std.specs.List.{AllByRecursion}
+use Rattle.std.specs.Prelude.{◌≡◌, ◌==◌, ◌&&◌, ◌+◌, ◌-◌, ◌⊎◌, ℕ, Bool, false, IsSome, IsTrue, if◌then◌else◌, nat_lt, ◌<◌, List, [], ◌∷◌, ◌++◌, map, length, Option, Some, None}
+use Rattle.std.specs.List.{list_any, AllByRecursion}
 use Rattle.serde_json.specs.Data.{Data}
 use Rattle.ja_base.specs.declared.ids.FnId.{FnId}
 use Rattle.ja_base.specs.declared.ids.Label.{Label}
@@ -9,8 +9,8 @@ use Rattle.ja_graph.specs.declared.program.Program.{Program}
 use Rattle.ja_machine.specs.Frames.{registers_of}
 use Rattle.ja_abstract.specs.declared.abstraction.Key.{Key}
 use Rattle.ja_abstract.specs.declared.abstraction.Mask.{Mask}
-use Rattle.ja_abstract.specs.AbstractValue.{AbstractValue, AbstractProperty, same_label, undefined_value, entry_property}
-use Rattle.ja_abstract.specs.AbstractState.{AbstractState, same_key, is_key, is_label, exactly_none}
+use Rattle.ja_abstract.specs.AbstractValue.{AbstractValue, AbstractProperty, absent_property, same_label, undefined_value, entry_property}
+use Rattle.ja_abstract.specs.AbstractState.{AbstractState, key_number, same_key, is_key, is_label, exactly_none}
 use Rattle.ja_abstract.specs.Resolved.{Entries}
 use Rattle.ja_abstract.specs.Writes as abstract
 use Rattle.ja_value.specs.Value.{value_of, property_of}
@@ -23,9 +23,12 @@ use Rattle.ja_astate.specs.declared.state.AState.{AState}
 use Rattle.ja_astate.specs.State.{state_of, IsStateOf}
 use Rattle.ja_report.specs.Lines.{Line, entry, register, property, alloc, entry_lines, register_lines, property_lines, mask_lines}
 use Rattle.ja_cert_parts.specs.declared.listed.EntryAt.{EntryAt}
+use Rattle.ja_cert_parts.specs.code.Ranks.{property_pair}
+use Rattle.ja_cert_parts.specs.declared.listed.Pair.{Pair}
 use Rattle.ja_cert_parts.specs.declared.listed.PropertyAt.{PropertyAt}
 use Rattle.ja_cert_parts.specs.declared.listed.RegisterAt.{RegisterAt}
 use Rattle.ja_cert_parts.specs.declared.listed.MaskAt.{MaskAt}
+use Rattle.ja_cert_read.specs.declared.starts.Before.{Before}
 use Rattle.ja_cert.specs.Certificate.{line_data}
 use Rattle.ja_cert.specs.Wrong.{MemberWrong, members_wrong}
 
@@ -118,6 +121,67 @@ with_masks xs a = record a { mask = first_at is_mask mask_value a.mask xs }
 abbrev pub entries_with : List EntryAt → Entries → Entries
 entries_with xs e l k = first_at is_entry_at entry_value (λ pair. e pair.0 pair.1) xs (l, k)
 
+-- the same registers as where nothing is listed, and the heap of another state
+abbrev pub with_heap_of : AbstractState → AbstractState
+with_heap_of a = record plain_state { property = a.property; mask = a.mask }
+
+-- ---- what is listed
+
+abbrev pub lists_pair : List PropertyAt → Pair → Bool
+lists_pair xs pair = list_any (λ (x : PropertyAt). is_property x (pair.label, pair.key)) xs
+
+abbrev pub lists_site : List MaskAt → Site → Bool
+lists_site xs s = list_any (λ (x : MaskAt). is_mask x s.0) xs
+
+abbrev pub property_pairs : List PropertyAt → List Pair
+property_pairs xs = map property_pair xs
+
+abbrev pub mask_sites : List MaskAt → List Site
+mask_sites xs = map (λ (x : MaskAt). x.site) xs
+
+abbrev pub is_pair : Pair → Label → Key → Bool
+is_pair pair l k = same_label pair.label l && same_key pair.key k
+
+-- beside these labels with keys, and these sites, nothing is to be listed of a state
+pub record SaysAll (pairs : List Pair) (sites : List Site) (a : AbstractState) : Type 0 where
+  pub properties : (l : Label) (k : Key) → list_any (λ pair. is_pair pair l k) pairs ≡ false
+      → a.property l k ≡ entry_property
+  pub masks : (s : ℕ) → list_any (λ (t : Site). t.0 == s) sites ≡ false
+      → a.mask s ≡ exactly_none
+
+-- a state of the function, with all that is listed of it
+pub record IsBefore (p : Program) (f : FnId) (b : Before) : Type 0 where
+  pub fits : IsStateOf p (registers_of p f) b.state.now
+  pub all : SaysAll b.listed.now.pairs.items b.listed.now.sites.items (state_of b.state.now)
+
+-- no two are of one label and key
+abbrev pub AreApart : List PropertyAt → Type 0
+AreApart [] = Unit {0}
+AreApart (x ∷ xs) =
+    AllByRecursion (λ (y : PropertyAt). is_property y (x.label, x.key) ≡ false) xs × AreApart xs
+
+-- ---- objects
+
+-- the number of the key at a place in the order of keys: names, and then the others
+abbrev pub number_at : ℕ → ℕ → ℕ
+number_at names n =
+    if nat_lt n names then 6 + n else if nat_lt n (names + 2) then 4 + (n - names)
+    else n - names - 2
+
+-- writes that set the keys from a place on, one after another and up to the last
+abbrev pub IsWhole : ℕ → ℕ → List abstract.Write → Type 0
+IsWhole names n [] = n ≡ names + 6
+IsWhole names n (w ∷ ws) =
+    (w.joins ≡ false) × (key_number w.key ≡ number_at names n) × IsWhole names (n + 1) ws
+
+-- what is written, without some of what is exactly absent
+abbrev pub LeavesOut : List abstract.Write → List (Key × AbstractProperty) → Type 0
+LeavesOut [] listed = listed ≡ []
+LeavesOut (w ∷ ws) listed =
+    ((w.property ≡ absent_property) × LeavesOut ws listed)
+    ⊎ ((rest : List (Key × AbstractProperty)) × (listed ≡ (w.key, w.property) ∷ rest)
+    × LeavesOut ws rest)
+
 -- a label and a key of a program with so many sites and names
 pub record IsPlaced (sites names : ℕ) (x : PropertyAt) : Type 0 where
   pub label : IsTrue (nat_lt x.label.site.0 sites)
@@ -128,6 +192,7 @@ pub record AreWithin (registers sites names : ℕ) (xs : List RegisterAt) (heap 
     (masks : List MaskAt) : Type 0 where
   pub registers_within : AllByRecursion (λ (x : RegisterAt). x.register < registers) xs
   pub heap_within : AllByRecursion (IsPlaced sites names) heap
+  pub apart : AreApart heap
   pub masks_within : AllByRecursion (λ (x : MaskAt). x.site.0 < sites) masks
 
 -- the write that sets a property

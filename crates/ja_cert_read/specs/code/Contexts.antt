@@ -23,37 +23,38 @@ use Rattle.ja_rules.specs.Tables.{kept_state, states_in, FitsContext, IsContext}
 use Rattle.ja_cert_read.specs.declared.contexts.ContextAt.{ContextAt}
 use Rattle.ja_cert_read.specs.declared.points.PointAt.{PointAt}
 use Rattle.ja_cert.specs.Certificate.{context_data, label_data, listed, state_data, whole}
-use Rattle.ja_cert.specs.Wrong.{calls, entry_wrong, mask_wrong, point_wrong, property_wrong, register_wrong}
+use Rattle.ja_cert.specs.Wrong.{calls, entry_wrong, point_wrong}
 use Rattle.ja_cert_read.specs.code.Orders.{context_at_rank, context_rank}
-use Rattle.ja_cert_read.specs.code.Building.{entry_data, mask_data, property_data, register_data, AreRight}
+use Rattle.ja_cert_read.specs.code.Building.{entry_data, AreRight, SaysAll}
 
 -- ---- what is listed
 
-unfoldable pub point_data : Program → PointAt → Data
-point_data p x =
-    object (member (codes "alloc") (listed (map (mask_data p) x.masks.items))
-    (member (codes "heap") (listed (map (property_data p) x.heap.items))
-    (member (codes "node") (whole x.node.0)
-    (member (codes "registers") (listed (map (register_data p) x.registers.items)) no_members))))
+abbrev pub point_data : Program → FnId → PointAt → Data
+point_data p f x = state_data p f x.node.0 (state_of x.state)
 
 unfoldable pub listed_data : Program → ContextAt → Data
 listed_data p x =
     object (member (codes "entries") (listed (map (entry_data p) x.entries.items))
     (member (codes "function") (whole x.context.function.0)
-    (member (codes "points") (listed (map (point_data p) x.points.items))
+    (member (codes "points") (listed (map (point_data p x.context.function) x.points.items))
     (member (codes "receiver") (label_data x.context.receiver) no_members))))
 
 -- ---- what isn't wrong of it
 
-pub record IsPoint (p : Program) (f : FnId) (x : PointAt) : Type 0 where
-  pub registers : AreRight (register_wrong p f) (register_data p) x.registers.items
-  pub heap : AreRight (property_wrong p) (property_data p) x.heap.items
-  pub masks : AreRight (mask_wrong p) (mask_data p) x.masks.items
+-- a state of the function stands at the node, with all that is listed of it
+pub record HasOwnState (p : Program) (f : FnId) (x : PointAt) : Type 0 where
+  pub fits : IsStateOf p (registers_of p f) x.state
+  pub all : SaysAll x.listed.pairs.items x.listed.sites.items (state_of x.state)
+
+abbrev pub HaveOwnStates : Program → ContextAt → Type 0
+HaveOwnStates p x = AllByRecursion (HasOwnState p x.context.function) x.points.items
 
 pub record IsContextAt (p : Program) (x : ContextAt) : Type 0 where
   pub context : IsContext p x.context
   pub entries : AreRight (entry_wrong p) (entry_data p) x.entries.items
-  pub points : AreRight (point_wrong p x.context.function) (point_data p) x.points.items
+  pub points : AreRight (point_wrong p x.context.function) (point_data p x.context.function)
+      x.points.items
+  pub states : HaveOwnStates p x
 
 -- ---- contexts that are listed
 
@@ -93,7 +94,7 @@ pub record AreNodesOf (p : Program) (f : FnId) (points : List PointAt) (nodes : 
   pub states : (n : ℕ) (s : AState) → kept_state nodes n ≡ Some s
       → IsStateOf p (registers_of p f) s
   pub listed : flat_map (λ n. node_state p f n (slice_get nodes n)) (node_numbers p f)
-      ≡ map (point_data p) points
+      ≡ map (point_data p f) points
 
 -- the tables of contexts, in their order
 pub record AreTablesOf (p : Program) (contexts : List ContextAt) (tables : List ContextTable) :

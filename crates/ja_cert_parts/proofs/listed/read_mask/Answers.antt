@@ -1,7 +1,7 @@
 use Rattle.std.proofs.Common.{◌≡◌, ℕ, zero, suc, [], ◌<◌, cond, nat_eq, get_or, refl, ◌∙◌, ap, arith}
 use lib.Chars.{codes}
 use Rattle.serde_json.specs.Data.{string}
-use Rattle.serde_json.specs.View.{view}
+use Rattle.ja_cert_json.specs.View.{view}
 use Rattle.ja_cert.specs.Wrong.{mask_words}
 use Rattle.ja_cert_parts.proofs.WordLemmas.{word_is}
 use Rattle.ja_cert_parts.proofs.listed.read_mask.Goals as goal

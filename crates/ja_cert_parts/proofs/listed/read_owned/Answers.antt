@@ -1,5 +1,5 @@
 use Rattle.std.proofs.lemmas.Result.{err_from_is_err_and}
-use Rattle.serde_json.specs.View.{view}
+use Rattle.ja_cert_json.specs.View.{view}
 use Rattle.ja_value.specs.Value.{property_of}
 use Rattle.ja_cert.specs.Wrong.{owned_wrong}
 use Rattle.ja_cert_parts.proofs.FaultLemmas.{passes, read_ok, tells_first}

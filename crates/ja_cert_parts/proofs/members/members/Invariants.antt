@@ -1,7 +1,7 @@
 use Rattle.std.proofs.Common.{◌≡◌, List, ◌++◌, drop, length, map}
 use Rattle.std.specs.Option.{option_map}
 use Rattle.serde_json.specs.Data.{Data}
-use Rattle.serde_json.specs.View.{members_view, view}
+use Rattle.ja_cert_json.specs.View.{members_view, view}
 use Rattle.ja_cert.specs.Wrong.{members_in, members_of}
 use Rattle.ja_cert_parts.proofs.members.members.Given as goal
 

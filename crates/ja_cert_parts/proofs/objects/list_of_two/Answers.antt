@@ -1,5 +1,5 @@
 use Rattle.std.proofs.lemmas.Result.{err_from_is_err_and}
-use Rattle.serde_json.specs.View.{view}
+use Rattle.ja_cert_json.specs.View.{view}
 use Rattle.ja_cert_parts.proofs.ListLemmas.{told_list}
 use Rattle.ja_cert_parts.proofs.objects.list_of_two.Goals as goal
 

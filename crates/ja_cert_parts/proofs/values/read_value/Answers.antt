@@ -1,5 +1,5 @@
 use Rattle.std.proofs.lemmas.Result.{err_from_is_err_and}
-use Rattle.serde_json.specs.View.{view}
+use Rattle.ja_cert_json.specs.View.{view}
 use Rattle.ja_value.specs.Value.{value_of}
 use Rattle.ja_cert.specs.Wrong.{value_wrong}
 use Rattle.ja_cert_parts.specs.code.Parts.{allowed_of}
@@ -19,6 +19,6 @@ returns c =
       c.in_ok-parts.ensures.0,
       read_written p (allowed_of c.args.role) (value_of c.in_ok-value.value)
           (view c.args.value.now) c.in_ok-parts.parts.items c.deref.result.now
-          c.in_ok-parts.ensures.0 c.in_ok-parts.ensures.1 c.deref.ensures.value
+          c.in_ok-parts.ensures.0 c.in_ok-parts.ensures.1.0 c.deref.ensures.value
           (c.in_ok-value.ensures p),
     )

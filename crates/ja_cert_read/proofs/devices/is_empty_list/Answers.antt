@@ -1,10 +1,9 @@
-use Rattle.std.proofs.Common.{◌∙◌, ◌==◌, ap, sym}
-use Rattle.serde_json.specs.View.{view}
+use Rattle.std.proofs.Common.{◌∙◌, sym}
+use Rattle.ja_cert_json.specs.View.{view}
 use Rattle.ja_cert_read.proofs.DevicesRight.{empty_list}
 use Rattle.ja_cert_read.proofs.devices.is_empty_list.Goals as goal
 
 pub returns-in-Some : goal.returns-in-Some
 returns-in-Some c =
-    let values = c.in-Some.values.now in
-    c.is_empty.ensures ∙ ap (λ n. n == 0) values.ok.0
-    ∙ sym (empty_list (view c.args.value.now) values.items c.in-Some.ensures)
+    c.is_empty.ensures
+    ∙ sym (empty_list (view c.args.value.now) c.in-Some.values.now c.in-Some.ensures)

@@ -1,6 +1,6 @@
 use Rattle.std.proofs.Common.{◌≡◌, ap, not, None}
 use Rattle.std.proofs.lemmas.Result.{err_from_is_err_and}
-use Rattle.serde_json.specs.View.{view}
+use Rattle.ja_cert_json.specs.View.{view}
 use Rattle.ja_cert.specs.Wrong.{here_unless, is_empty_list, kind_wrong, list_wrong}
 use Rattle.ja_cert_read.proofs.DevicesRight.{kinds_of_list}
 use Rattle.ja_cert_read.proofs.Told.{or_both, right_test, tells_first, tells_later, tells_test}
@@ -33,5 +33,6 @@ returns c =
       or_both (here_unless (not (is_empty_list (view c.args.value.now))))
           (list_wrong kind_wrong (view c.args.value.now)) (some at) c.in_ok-kinds.ensures.0,
       kinds_of_list _ c.in_ok-kinds.kinds.items c.deref.result.now c.kinds_of.result
-          c.deref.ensures.value c.kinds_of.ensures c.in_ok-kinds.ensures.0 c.in_ok-kinds.ensures.1,
+          c.deref.ensures.value c.kinds_of.ensures c.in_ok-kinds.ensures.0
+          c.in_ok-kinds.ensures.1.0,
     )

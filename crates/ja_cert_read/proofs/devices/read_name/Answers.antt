@@ -1,7 +1,7 @@
 use Rattle.std.proofs.Common.{◌∙◌, ap, not, sym}
 use Rattle.std.proofs.lemmas.Result.{err_from_is_err_and}
 use Rattle.serde_json.specs.Data.{string}
-use Rattle.serde_json.specs.View.{view}
+use Rattle.ja_cert_json.specs.View.{view}
 use Rattle.ja_cert_read.proofs.DevicesRight.{name_read}
 use Rattle.ja_cert_read.proofs.ObjectLemmas.{text_is}
 use Rattle.ja_cert_read.proofs.Told.{right_test, tells_memory, tells_test}

@@ -3,7 +3,7 @@ use Rattle.std.proofs.lemmas.Bool.{ltb-false, ltb-true}
 use Rattle.std.proofs.lemmas.List.{length-map}
 use Rattle.std.specs.Fmt.{decimal}
 use Rattle.serde_json.specs.Data.{Data}
-use Rattle.serde_json.specs.View.{view}
+use Rattle.ja_cert_json.specs.View.{view}
 use Rattle.ja_cert_read.proofs.ItemsRight.{along_is, along_told_count}
 use Rattle.ja_cert_read.proofs.ObjectLemmas.{one_read}
 use Rattle.ja_cert_read.proofs.Told.{reads_as, reads_inside}

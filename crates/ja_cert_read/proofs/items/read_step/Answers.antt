@@ -3,7 +3,7 @@ use Rattle.std.proofs.lemmas.Bool.{ltb-false, ltb-true}
 use Rattle.std.proofs.lemmas.List.{length-map}
 use Rattle.std.proofs.lemmas.Result.{err_from_is_err_and}
 use Rattle.std.specs.Fmt.{decimal}
-use Rattle.serde_json.specs.View.{view}
+use Rattle.ja_cert_json.specs.View.{view}
 use Rattle.ja_cert.specs.Certificate.{label_data, whole}
 use Rattle.ja_cert.specs.Wrong.{at, here_unless, is_function, is_label}
 use Rattle.ja_cert_read.proofs.EdgeSteps.{node_of}

@@ -1,6 +1,6 @@
 use Rattle.std.proofs.Common.{refl}
 use Rattle.std.proofs.lemmas.Result.{err_from_is_err_and}
-use Rattle.serde_json.specs.View.{view}
+use Rattle.ja_cert_json.specs.View.{view}
 use Rattle.ja_cert_read.specs.Certified.{HasData}
 use Rattle.ja_cert.specs.Wrong.{late_fields_wrong, wrong_before_loading}
 use Rattle.ja_cert_read.specs.code.Whole.{data_in}
@@ -46,7 +46,7 @@ returns-in-Err-read_body-clause-fault c =
 pub table_with-requires-clause-right : goal.table_with-requires-clause-right
 table_with-requires-clause-right c =
     contexts_placed c.in_ok-program.program c.in-Ok-read_body.body.contexts.items
-    c.in-Ok-read_body.ensures.1.contexts_right
+    c.in-Ok-read_body.ensures.1.contexts_right c.in-Ok-read_body.ensures.1.contexts_have
 
 pub returns-clause-ok : goal.returns-clause-ok
 returns-clause-ok c =

@@ -1,18 +1,20 @@
 use Rattle.std.proofs.Common.{◌≡◌, ◌∙◌, None, ap, map, sym}
 use Rattle.std.proofs.lemmas.Result.{err_from_is_err_and}
+use Rattle.std.specs.List.{AllByRecursion}
 use lib.Chars.{codes}
-use Rattle.serde_json.specs.View.{view}
+use Rattle.ja_cert_json.specs.View.{view}
 use Rattle.ja_cert.specs.Certificate.{listed}
 use Rattle.ja_cert.specs.Wrong.{context_wrong, edge_wrong, list_wrong, under}
-use Rattle.ja_cert_read.specs.code.Contexts.{listed_data}
+use Rattle.ja_cert_read.specs.code.Contexts.{listed_data, HaveOwnStates}
 use Rattle.ja_cert_read.proofs.Told.{inside_err, inside_ok, under_none}
 use Rattle.ja_cert_read.proofs.WholeSteps.{body_right, body_told_contexts, body_told_edges, body_told_visits, contexts_wrong, edges_among, edges_wrong, listed_right}
 use Rattle.ja_cert_read.proofs.reading.read_body.Goals as goal
 use Rattle.ja_cert_read.proofs.reading.read_body.Goals.{After-deref}
 
 contexts : (c : After-deref) → (contexts_wrong c.args.program.now c.args.head.now ≡ None)
-    × (listed (map (listed_data c.args.program.now) c.in_ok-contexts.contexts.items)
+    × ((listed (map (listed_data c.args.program.now) c.in_ok-contexts.contexts.items)
     ≡ view c.args.head.now.contexts.now)
+    × AllByRecursion (HaveOwnStates c.args.program.now) c.in_ok-contexts.contexts.items)
 contexts c =
     inside_ok (codes "contexts") _ _ c.read_list.result c.in_ok-contexts.contexts
     c.read_list.ensures c.in_ok-contexts.ensures.same
@@ -24,7 +26,7 @@ between : (c : After-deref) → edges_wrong c.args.program.now c.args.head.now
 between c =
     let p = c.args.program.now in
     edges_among p c.args.head.now (map (listed_data p) c.deref.result.now)
-    (ap (λ xs. listed (map (listed_data p) xs)) c.deref.ensures.value ∙ (contexts c).1)
+    (ap (λ xs. listed (map (listed_data p) xs)) c.deref.ensures.value ∙ (contexts c).1.0)
 
 pub returns-in_err-contexts : goal.returns-in_err-contexts
 returns-in_err-contexts c =
@@ -66,13 +68,14 @@ returns c =
     let deref = ap (map (listed_data p)) c.deref.ensures.value in (
       body_right p h read.0 (rw (between (goal.at.returns c).After-deref) edges.0) visits.0,
       record {
-        contexts_are = read.1;
-        contexts_right = listed_right (context_wrong p) _ _ read.1
+        contexts_are = read.1.0;
+        contexts_right = listed_right (context_wrong p) _ _ read.1.0
             (under_none (codes "contexts") _ read.0);
-        edges_are = edges.1;
+        contexts_have = read.1.1;
+        edges_are = edges.1.0;
         edges_right =
             rw (sym deref) (listed_right (edge_wrong p (map (listed_data p) c.deref.result.now)) _ _
-            edges.1 (under_none (codes "edges") _ edges.0));
-        visits_are = visits.1;
+            edges.1.0 (under_none (codes "edges") _ edges.0));
+        visits_are = visits.1.0;
       },
     )

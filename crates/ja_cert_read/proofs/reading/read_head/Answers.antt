@@ -2,7 +2,7 @@ use Rattle.std.proofs.Common.{◌≡◌, ◌≤◌, None, length, rules, sym}
 use Rattle.std.proofs.lemmas.Result.{err_from_is_err_and}
 use lib.Chars.{codes}
 use Rattle.serde_json.specs.Data.{string}
-use Rattle.serde_json.specs.View.{view}
+use Rattle.ja_cert_json.specs.View.{view}
 use Rattle.ja_lex.specs.Spots.{max_bytes}
 use Rattle.ja_cert.specs.Wrong.{device_wrong, is_version}
 use Rattle.ja_cert_read.proofs.DevicesRight.{devices_right}
@@ -63,10 +63,10 @@ returns c =
     c.read_list.ensures c.in_ok-signatures.ensures.same in (
       head_right _ found right read.0 devices.0,
       record {
-        members = head_members (view c.args.value.now) found _ _ _ devices.1 read.1.0
+        members = head_members (view c.args.value.now) found _ _ _ devices.1.0 read.1.0
             (version_is number (holds_here (is_version number) (under_none _ _ right)));
         text = read.1.1;
-        devices = devices_right _ (listed_right device_wrong _ _ devices.1
+        devices = devices_right _ (listed_right device_wrong _ _ devices.1.0
             (under_none (codes "devices") _ devices.0));
       },
     )

@@ -7,24 +7,18 @@ use Rattle.ja_cert_read.proofs.tables.nodes_of.Goals as goal
 pub loop-point-init : goal.loop-point-init
 loop-point-init c =
     front_begin c.args.program.now c.args.function c.args.points.items _ _ c.requires.right
-    c.into_iter-point-iterator.ensures.into_iter_gives.0 c.new-nodes.ensures.items
-
-pub state_at-requires-clause-right : goal.state_at-requires-clause-right
-state_at-requires-clause-right c =
-    (front_next c.args.program.now c.args.function c.args.points.items _ c.in-Some.point
-    (into_iter_items c.next.new.self) c.loop-point.nodes.items c.loop-point.invariant
-    c.in-Some.ensures.steps.0).placed.0.0
+    c.requires.states c.into_iter-point-iterator.ensures.into_iter_gives.0
+    c.new-nodes.ensures.items
 
 pub loop-point-preserved : goal.loop-point-preserved
 loop-point-preserved c =
     front_more c.args.program.now c.args.function c.args.points.items c.in-Some.point
     (into_iter_items c.next.new.self) c.loop-point.nodes.items c.fill_up.new.nodes.items
-    c.push.new.self.items c.in_ok-state.state _
+    c.push.new.self.items _
     (front_next c.args.program.now c.args.function c.args.points.items _ c.in-Some.point
     (into_iter_items c.next.new.self) c.loop-point.nodes.items c.loop-point.invariant
     c.in-Some.ensures.steps.0)
-    c.in_ok-fill_up.ensures c.in_ok-state.ensures.fits c.in_ok-state.ensures.listed c.node.ensures
-    c.in_ok-push.ensures.items
+    c.in_ok-fill_up.ensures c.node.ensures c.in_ok-push.ensures.items
 
 pub returns : goal.returns
 returns c =

@@ -1,6 +1,6 @@
 use Rattle.std.proofs.Common.{◌∙◌}
 use Rattle.std.proofs.lemmas.Result.{err_from_is_err_and}
-use Rattle.serde_json.specs.View.{view}
+use Rattle.ja_cert_json.specs.View.{view}
 use Rattle.ja_value.specs.Value.{property_of}
 use Rattle.ja_cert_parts.proofs.ListedLemmas.{entry_is, entry_written}
 use Rattle.ja_cert_parts.proofs.listed.EntryAtMemberInProgram.read.Goals as goal
@@ -19,6 +19,9 @@ returns c =
     c.last_entry.result c.last_entry.ensures in
     let read = c.in_ok-read.read in (
       rw is c.in_ok-read.ensures.0,
-      entry_written c.args.rule.now.program.now read.label read.key (property_of read.property)
-          ∙ c.in_ok-read.ensures.1,
+      (
+        entry_written c.args.rule.now.program.now read.label read.key (property_of read.property)
+            ∙ c.in_ok-read.ensures.1,
+        tt,
+      ),
     )

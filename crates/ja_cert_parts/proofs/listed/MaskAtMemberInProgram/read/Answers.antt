@@ -1,5 +1,5 @@
 use Rattle.std.proofs.lemmas.Result.{err_from_is_err_and}
-use Rattle.serde_json.specs.View.{view}
+use Rattle.ja_cert_json.specs.View.{view}
 use Rattle.ja_cert.specs.Wrong.{mask_wrong}
 use Rattle.ja_cert_parts.proofs.FaultLemmas.{passes, read_ok, tells_first}
 use Rattle.ja_cert_parts.proofs.ListLemmas.{told_fields}
@@ -54,6 +54,9 @@ returns c =
     is site.1.0 c.is_site_behind.ensures in
     let mask = read_ok _ _ _ _ c.in_ok-mask.ensures.same c.read_mask.ensures in (
       rw (mask_is _ _ _ _ _ is, site.0, above, c.in_ok-here_unless.ensures.0, mask.0),
-      mask_written c.args.rule.now.program.now (view c.args.value.now) _ _ c.in_ok-site.site
-          c.in_ok-mask.mask is site.1.0 mask.1,
+      (
+        mask_written c.args.rule.now.program.now (view c.args.value.now) _ _ c.in_ok-site.site
+            c.in_ok-mask.mask is site.1.0 mask.1,
+        tt,
+      ),
     )

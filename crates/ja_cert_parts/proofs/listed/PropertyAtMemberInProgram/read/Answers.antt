@@ -1,5 +1,5 @@
 use Rattle.std.proofs.lemmas.Result.{err_from_is_err_and}
-use Rattle.serde_json.specs.View.{view}
+use Rattle.ja_cert_json.specs.View.{view}
 use Rattle.ja_cert_parts.proofs.FaultLemmas.{tells_first}
 use Rattle.ja_cert_parts.proofs.ListedLemmas.{property_is}
 use Rattle.ja_cert_parts.proofs.listed.PropertyAtMemberInProgram.read.Goals as goal
@@ -25,5 +25,5 @@ returns c =
     let is = property_is c.args.rule.now.program.now c.args.before.now (view c.args.value.now)
     c.last_property.result c.last_property.ensures in (
       rw (is, c.in_ok-read.ensures.0, ← c.is_entry.ensures, c.in_ok-here_unless.ensures.0),
-      c.in_ok-read.ensures.1,
+      (c.in_ok-read.ensures.1, tt),
     )

@@ -1,5 +1,5 @@
 use Rattle.std.proofs.lemmas.Result.{err_from_is_err_and}
-use Rattle.serde_json.specs.View.{view}
+use Rattle.ja_cert_json.specs.View.{view}
 use Rattle.ja_value.specs.Value.{value_of}
 use Rattle.ja_cert.specs.Wrong.{register_wrong}
 use Rattle.ja_cert_parts.proofs.FaultLemmas.{passes, read_ok, tells_first}
@@ -84,6 +84,9 @@ returns c =
         ← c.value_is.ensures,
         c.in_ok-here_unless-2.ensures.0,
       ),
-      register_written c.args.rule.now.program.now (view c.args.value.now) _ _
-          c.in_ok-register.register (value_of c.in_ok-value.value) is number.1.0 value.1,
+      (
+        register_written c.args.rule.now.program.now (view c.args.value.now) _ _
+            c.in_ok-register.register (value_of c.in_ok-value.value) is number.1.0 value.1,
+        tt,
+      ),
     )

@@ -1,6 +1,6 @@
 use Rattle.std.proofs.Common.{sym, ◌∙◌}
 use Rattle.std.proofs.lemmas.Result.{err_from_is_err_and}
-use Rattle.serde_json.specs.View.{view}
+use Rattle.ja_cert_json.specs.View.{view}
 use Rattle.ja_cert_parts.specs.code.Parts.{allowed_of, rank_of}
 use Rattle.ja_cert_parts.proofs.FaultLemmas.{tells_same}
 use Rattle.ja_cert_parts.proofs.PartLemmas.{told_next, wrong_next}
@@ -27,5 +27,5 @@ returns c = (
       c.args.before.now (view c.args.value.now) (rank_of c.in_ok-part.part) c.rank.result
       c.may_follow.result c.requires.right c.in_ok-part.ensures.1.1 c.rank.ensures
       c.may_follow.ensures) ∙ c.in_ok-here_unless.ensures.0,
-  c.in_ok-part.ensures.1.0,
+  (c.in_ok-part.ensures.1.0, tt),
 )

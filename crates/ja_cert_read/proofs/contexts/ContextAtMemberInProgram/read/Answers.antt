@@ -1,7 +1,7 @@
 use Rattle.std.proofs.Common.{◌≡◌, ◌∙◌, map, None, rules, sym}
 use Rattle.std.proofs.lemmas.Result.{err_from_is_err_and}
 use lib.Chars.{codes}
-use Rattle.serde_json.specs.View.{view}
+use Rattle.ja_cert_json.specs.View.{view}
 use Rattle.ja_abstract.specs.AbstractState.{label_number}
 use Rattle.ja_cert.specs.Certificate.{label_data, whole}
 use Rattle.ja_cert.specs.Wrong.{context_number, here_unless, is_above, is_function, is_label, under}
@@ -116,6 +116,9 @@ returns c =
     c.read_list-2.ensures c.in_ok-points.ensures.same in
     let within = function_is _ c.in_ok-function.function known.1 in (
       context_right _ _ _ found known.0 label.0 placed entries.0 (rw within points.0),
-      context_written c.args.rule.now.program.now (view c.args.value.now) _ _ _ _ _ found entries.1
-          known.1 points.1 label.1,
+      (
+        context_written c.args.rule.now.program.now (view c.args.value.now) _ _ _ _ _ found
+            entries.1.0 known.1 points.1.0 label.1,
+        points.1.1,
+      ),
     )

@@ -1,6 +1,6 @@
 use Rattle.std.proofs.Common.{◌≡◌, ◌∙◌, ap, map, sym}
 use Rattle.std.proofs.lemmas.Result.{err_from_is_err_and}
-use Rattle.serde_json.specs.View.{view}
+use Rattle.ja_cert_json.specs.View.{view}
 use Rattle.ja_cert.specs.Wrong.{is_above, kind_number, kind_wrong}
 use Rattle.ja_cert_read.specs.code.Devices.{kind_data}
 use Rattle.ja_cert_read.proofs.DevicesRight.{above_kinds, both_here, kind_is, tells_left, tells_right}
@@ -39,5 +39,5 @@ returns c =
     let at = (goal.at.returns c).After-is_behind in (
       both_here _ _ (holds_here _ c.in_ok-place.ensures.0)
           (right_test c.is_behind.result _ (order at) c.in_ok-here_unless.ensures.0),
-      is at,
+      (is at, tt),
     )

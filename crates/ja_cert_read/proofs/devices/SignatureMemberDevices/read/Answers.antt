@@ -3,7 +3,7 @@ use Rattle.std.proofs.lemmas.Bool.{ltb-false, ltb-true}
 use Rattle.std.proofs.lemmas.List.{length-map}
 use Rattle.std.proofs.lemmas.Result.{err_from_is_err_and}
 use Rattle.std.specs.Fmt.{decimal}
-use Rattle.serde_json.specs.View.{view}
+use Rattle.ja_cert_json.specs.View.{view}
 use Rattle.ja_cert.specs.Certificate.{listed}
 use Rattle.ja_cert.specs.Wrong.{list_of}
 use Rattle.ja_cert_read.proofs.DevicesRight.{device_right, device_told_count, device_told_kinds, device_told_list, device_told_many, device_told_name, device_written}
@@ -70,5 +70,5 @@ returns c =
     let kinds = inside_ok (decimal 1) _ _ c.read_kinds.result c.in_ok-kinds.kinds
     c.read_kinds.ensures c.in_ok-kinds.ensures.same in (
       device_right _ _ c.in_ok-here_unless.ensures.0 all.0 name.0 kinds.0,
-      device_written _ _ _ _ all.1 name.1 kinds.1,
+      (device_written _ _ _ _ all.1 name.1 kinds.1, tt),
     )

@@ -1,6 +1,6 @@
 use Rattle.std.proofs.Common.{◌≡◌, ◌&&◌, ◌∙◌, map, rules, sym}
 use Rattle.std.proofs.lemmas.Result.{err_from_is_err_and}
-use Rattle.serde_json.specs.View.{view}
+use Rattle.ja_cert_json.specs.View.{view}
 use Rattle.ja_cert.specs.Wrong.{are_listed, edge_number, is_above, is_calling}
 use Rattle.ja_cert_read.specs.code.Contexts.{listed_data}
 use Rattle.ja_cert_read.specs.code.Whole.{call_edge_data}
@@ -56,5 +56,5 @@ returns c =
     let joined = right_test c.is_between.result _ (between at.After-is_between)
     c.in_ok-here_unless-2.ensures.0 in (
       call_edge_right _ _ _ _ c.in_ok-edge.ensures.0 placed joined,
-      c.in_ok-edge.ensures.1,
+      (c.in_ok-edge.ensures.1, tt),
     )

@@ -1,7 +1,7 @@
 use Rattle.std.proofs.Common.{◌≡◌, ◌∷◌, ◌∙◌, ap, map, rules, sym, Some}
 use Rattle.std.proofs.lemmas.Result.{err_from_is_err_and}
 use Rattle.std.specs.Fmt.{decimal}
-use Rattle.serde_json.specs.View.{view}
+use Rattle.ja_cert_json.specs.View.{view}
 use Rattle.ja_cert.specs.Certificate.{listed}
 use Rattle.ja_cert.specs.Wrong.{list_of}
 use Rattle.ja_cert_read.proofs.ItemsRight.{behind_is, item_told_empty, item_told_list, item_told_word, item_written}
@@ -40,4 +40,4 @@ returns c =
     let place = inside_ok (decimal 0) _ _ c.read_word.result c.in_ok-place.place
     c.read_word.ensures c.in_ok-place.ensures.same in
     reads_as _ _ _ _ c.read_behind.result (behind_is _ _ _ all.0 _ place.1)
-    (λ i written. item_written i _ _ _ _ all.1 place.1 written) c.read_behind.ensures
+    (λ i written. (item_written i _ _ _ _ all.1 place.1 written, tt)) c.read_behind.ensures

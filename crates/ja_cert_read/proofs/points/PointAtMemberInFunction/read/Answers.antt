@@ -1,14 +1,19 @@
-use Rattle.std.proofs.Common.{◌≡◌, ◌∙◌, length, map, None, rules, sym}
+use Rattle.std.proofs.Common.{◌≡◌, ◌∙◌, ap, length, map, None, rules, sym}
 use Rattle.std.proofs.lemmas.Result.{err_from_is_err_and}
 use lib.Chars.{codes}
-use Rattle.serde_json.specs.View.{view}
+use Rattle.ja_cert_json.specs.View.{view}
 use Rattle.ja_graph.specs.Program.{nodes_of}
 use Rattle.ja_cert.specs.Certificate.{whole}
 use Rattle.ja_cert.specs.Wrong.{here_unless, is_above, is_below, point_number, under}
+use Rattle.ja_astate.specs.State.{state_of}
+use Rattle.ja_cert_parts.specs.code.Reading.{Tells}
+use Rattle.ja_cert_read.specs.code.Building.{mask_sites, property_pairs}
 use Rattle.ja_cert_read.specs.code.Contexts.{point_data}
 use Rattle.ja_cert_read.proofs.ContextsRight.{above_points, point_number_is, point_written}
+use Rattle.ja_cert_read.proofs.Starting.{own_says}
 use Rattle.ja_cert_read.proofs.PointSteps.{point_right, point_told_heap, point_told_keys, point_told_masks, point_told_number, point_told_order, point_told_registers}
-use Rattle.ja_cert_read.proofs.Told.{inside_err, inside_ok, right_test, tells_test}
+use Rattle.ja_cert_read.proofs.Told.{inside_err, inside_ok, right_test, tells_test, under_none}
+use Rattle.ja_cert_read.proofs.WholeSteps.{listed_right}
 use Rattle.ja_cert_read.proofs.points.PointAtMemberInFunction.read.Goals as goal
 use Rattle.ja_cert_read.proofs.points.PointAtMemberInFunction.read.Goals.{After-is_behind}
 
@@ -23,14 +28,15 @@ number c =
     (h.0, h.1.0)
 
 order : (c : After-is_behind)
-    → c.is_behind.result ≡ is_above point_number (map (point_data c.args.rule.now.program.now)
-    c.args.before.now) (view c.args.value.now)
+    → c.is_behind.result ≡ is_above point_number (map (point_data c.args.rule.now.program.now
+    c.args.rule.now.function) c.args.before.now) (view c.args.value.now)
 order c =
     let n = c.in_ok-node.node.0 in
     let is = point_number_is (view c.args.value.now) _ _ _ _ n c.in_ok-point.ensures.1
     (number c).1 in
     c.is_behind.ensures
-    ∙ sym (above_points c.args.rule.now.program.now c.args.before.now (view c.args.value.now) n is)
+    ∙ sym (above_points c.args.rule.now.program.now c.args.rule.now.function c.args.before.now
+    (view c.args.value.now) n is)
 
 pub returns-in_err-point : goal.returns-in_err-point
 returns-in_err-point c = search (rules, point_told_keys)
@@ -87,6 +93,20 @@ returns-in_err-masks c =
     registers.0 heap.0 (inside_err (codes "alloc") _ _ c.read_list-3.result _ c.read_list-3.ensures
     c.in_err-masks.ensures.told))
 
+pub returns-in_err-listed : goal.returns-in_err-listed
+unfolding Tells
+returns-in_err-listed c =
+    let p = err_from_is_err_and c.from_residual-in_err-listed.result
+    c.from_residual-in_err-listed.ensures.1 in
+    rw (p.1, p.2) tt
+
+pub returns-in_err-state : goal.returns-in_err-state
+unfolding Tells
+returns-in_err-state c =
+    let p = err_from_is_err_and c.from_residual-in_err-state.result
+    c.from_residual-in_err-state.ensures.1 in
+    rw (p.1, p.2) tt
+
 pub returns : goal.returns
 returns c =
     let at = (goal.at.returns c).After-is_behind in
@@ -99,6 +119,37 @@ returns c =
     let masks = inside_ok (codes "alloc") _ _ c.read_list-3.result c.in_ok-masks.masks
     c.read_list-3.ensures c.in_ok-masks.ensures.same in (
       point_right _ _ _ _ found (number at).0 placed registers.0 heap.0 masks.0,
-      point_written c.args.rule.now.program.now (view c.args.value.now) _ _ _ _ _ found masks.1
-          heap.1 (number at).1 registers.1,
+      (
+        point_written c.args.rule.now.program.now c.args.rule.now.function (view c.args.value.now) _
+            c.in_ok-state.state c.in_ok-registers.registers.items c.in_ok-heap.heap.items
+            c.in_ok-masks.masks.items _ _ _ _ found masks.1.0 heap.1.0 (number at).1 registers.1.0
+            c.in_ok-state.ensures.parts,
+        record {
+          fits = c.in_ok-state.ensures.parts.state;
+          all = own_says c.in_ok-heap.heap.items c.in_ok-masks.masks.items _ _
+              (state_of c.in_ok-state.state)
+              (c.in_ok-listed.ensures.pairs ∙ ap property_pairs c.deref.ensures.value)
+              (c.in_ok-listed.ensures.sites ∙ ap mask_sites c.deref-2.ensures.value)
+              c.in_ok-state.ensures.all;
+        },
+      ),
     )
+
+-- what is listed of the state is right
+pub state_of_parts-requires-clause-registers : goal.state_of_parts-requires-clause-registers
+state_of_parts-requires-clause-registers c =
+    let registers = inside_ok (codes "registers") _ _ c.read_list.result c.in_ok-registers.registers
+    c.read_list.ensures c.in_ok-registers.ensures.same in
+    listed_right _ _ _ registers.1.0 (under_none (codes "registers") _ registers.0)
+
+pub state_of_parts-requires-clause-heap : goal.state_of_parts-requires-clause-heap
+state_of_parts-requires-clause-heap c =
+    let heap = inside_ok (codes "heap") _ _ c.read_list-2.result c.in_ok-heap.heap
+    c.read_list-2.ensures c.in_ok-heap.ensures.same in
+    listed_right _ _ _ heap.1.0 (under_none (codes "heap") _ heap.0)
+
+pub state_of_parts-requires-clause-masks : goal.state_of_parts-requires-clause-masks
+state_of_parts-requires-clause-masks c =
+    let masks = inside_ok (codes "alloc") _ _ c.read_list-3.result c.in_ok-masks.masks
+    c.read_list-3.ensures c.in_ok-masks.ensures.same in
+    listed_right _ _ _ masks.1.0 (under_none (codes "alloc") _ masks.0)

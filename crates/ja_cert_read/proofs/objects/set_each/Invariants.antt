@@ -3,7 +3,7 @@ use Rattle.std.specs.List.{AllByRecursion}
 use Rattle.ja_aheap.specs.Heap.{heap_of}
 use Rattle.ja_astate.specs.State.{state_of, HaveOneShape}
 use Rattle.ja_cert_read.specs.code.Building.{with_properties, IsPlaced}
-use Rattle.ja_cert_read.proofs.states.set_properties.Given as goal
+use Rattle.ja_cert_read.proofs.objects.set_each.Given as goal
 
 abbrev pub invariant-loop-last : goal.invariant-loop-last
 invariant-loop-last l = record {

@@ -1,6 +1,6 @@
 use Rattle.std.proofs.Common.{◌∙◌}
 use Rattle.ja_cert_read.specs.code.Building.{plain_state}
-use Rattle.ja_cert_read.proofs.states.plain_state.Goals as goal
+use Rattle.ja_cert_read.proofs.starts.plain_state.Goals as goal
 
 pub returns-clause-state : goal.returns-clause-state
 returns-clause-state c =

@@ -1,6 +1,6 @@
 use Rattle.std.proofs.Common.{vec_len}
 use Rattle.ja_cert_read.proofs.Setting.{Taking}
-use Rattle.ja_cert_read.proofs.states.take_object.Given as goal
+use Rattle.ja_cert_read.proofs.objects.take_object.Given as goal
 
 abbrev pub invariant-loop-listed : goal.invariant-loop-listed
 invariant-loop-listed l =

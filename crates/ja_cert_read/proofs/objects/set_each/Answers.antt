@@ -9,18 +9,18 @@ use Rattle.ja_astate.specs.State.{state_of}
 use Rattle.ja_cert_parts.specs.declared.listed.PropertyAt.{PropertyAt}
 use Rattle.ja_cert_read.specs.code.Building.{with_properties, IsPlaced}
 use Rattle.ja_cert_read.proofs.Setting.{but_last, keys_placed, left_placed, one_shape, properties_turn}
-use Rattle.ja_cert_read.proofs.states.set_properties.Goals as goal
+use Rattle.ja_cert_read.proofs.objects.set_each.Goals as goal
 
-pub strongly-requires-clause-label : goal.strongly-requires-clause-label
-strongly-requires-clause-label c =
+pub write_object-requires-clause-label : goal.write_object-requires-clause-label
+write_object-requires-clause-label c =
     let h = heap_of c.args.state.now.heap in
     let own = but_last (IsPlaced h.sites h.names) c.loop-last.heap.items c.pop.new.self.items
     c.in-Some.last c.in-Some.ensures.items c.loop-last.invariant.placed in
     subst (λ (n : ℕ). IsTrue (nat_lt c.in-Some.last.label.site.0 n))
     c.loop-last.invariant.shape.sites own.1.label
 
-pub strongly-requires-clause-keys : goal.strongly-requires-clause-keys
-strongly-requires-clause-keys c =
+pub write_object-requires-clause-keys : goal.write_object-requires-clause-keys
+write_object-requires-clause-keys c =
     let h = heap_of c.args.state.now.heap in
     let writes = c.in_ok-writes.writes.list.items in
     let HasKey : ℕ → Write → Type 0 = λ n w. IsTrue (is_key_below n w.key) in
@@ -35,12 +35,12 @@ loop-last-preserved c =
     let h = heap_of c.args.state.now.heap in
     record {
       state =
-          properties_turn _ _ _ _ (state_of c.loop-last.state) (state_of c.strongly.new.self)
-          c.in_ok-writes.ensures c.in_ok-strongly.ensures.state
+          properties_turn _ _ _ _ (state_of c.loop-last.state) (state_of c.write_object.new.state)
+          c.in_ok-writes.ensures c.in_ok-write_object.ensures.state
           ∙ ap (λ (xs : List PropertyAt). with_properties xs (state_of c.loop-last.state))
           (sym c.in-Some.ensures.items)
           ∙ c.loop-last.invariant.state;
-      shape = one_shape _ _ _ c.loop-last.invariant.shape c.in_ok-strongly.ensures.shape;
+      shape = one_shape _ _ _ c.loop-last.invariant.shape c.in_ok-write_object.ensures.shape;
       placed =
           left_placed h.sites h.names _ _ _ _ c.in_ok-writes.ensures
           (subst (AllByRecursion (IsPlaced h.sites h.names)) c.in-Some.ensures.items

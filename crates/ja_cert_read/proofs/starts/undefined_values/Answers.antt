@@ -2,7 +2,7 @@ use Rattle.std.proofs.Common.{ap, length, rules, arith}
 use Rattle.std.proofs.lemmas.List.{length-append}
 use Rattle.ja_value.specs.declared.value.AValue.{AValue}
 use Rattle.ja_cert_read.proofs.Setting.{undefined_more}
-use Rattle.ja_cert_read.proofs.states.undefined_values.Goals as goal
+use Rattle.ja_cert_read.proofs.starts.undefined_values.Goals as goal
 
 pub loop-register-preserved : goal.loop-register-preserved
 loop-register-preserved c = record {

@@ -3,7 +3,7 @@ use Rattle.ja_aheap.specs.declared.writes.Write.{Write}
 use Rattle.ja_cert_parts.specs.declared.listed.PropertyAt.{PropertyAt}
 use Rattle.ja_cert_read.specs.code.Building.{AreTaken}
 use Rattle.ja_cert_read.proofs.Setting.{taking_all, taking_more, taking_none}
-use Rattle.ja_cert_read.proofs.states.take_object.Goals as goal
+use Rattle.ja_cert_read.proofs.objects.take_object.Goals as goal
 
 pub loop-listed-init : goal.loop-listed-init
 loop-listed-init c = taking_none _ _ _

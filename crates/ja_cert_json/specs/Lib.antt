@@ -1,0 +1,2 @@
+-- the data that a value stands for
+pub mod View
