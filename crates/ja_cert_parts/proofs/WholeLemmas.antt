@@ -1,9 +1,11 @@
--- The text of a whole number is short.
-use Rattle.std.proofs.Common.{◌≡◌, ℕ, zero, suc, ◌+◌, ◌*◌, ◌/◌, ◌%◌, ◌^◌, ◌<◌, ◌≤◌, ◌==◌, Bool, true, false, cond, nat_lt, List, length, Result, Ok, Err, refl, ap, arith}
-use Rattle.std.specs.Prelude.{ℤ, pos, drop}
+-- The text of a whole number is short, and says that number alone.
+use Rattle.std.proofs.Common.{◌≡◌, ℕ, zero, suc, ◌+◌, ◌*◌, ◌/◌, ◌%◌, ◌^◌, ◌<◌, ◌≤◌, ◌==◌, Bool, true, false, cond, nat_lt, List, [], ◌∷◌, length, Result, Ok, Err, decimal as digits_text, refl, ap, arith}
+use Rattle.std.specs.Prelude.{ℤ, pos, negsuc, drop}
+use Rattle.std.specs.Fmt.{digit_glyph, digits, digits_onto, signed_decimal}
 use Rattle.std.specs.Int.Signed.{mag}
 use Rattle.std.specs.Str.Parse.{digits_value}
-use Rattle.std.proofs.lemmas.Bool.{ltb-false}
+use Rattle.std.proofs.lemmas.Bool.{ltb-false, ltb-true, ne_eqb}
+use Rattle.std.proofs.lemmas.Fmt.{length_signed_le}
 use Rattle.std.proofs.Math.Nat.{div-le_of_le-mul}
 use Rattle.ja_prim.specs.declared.primitive.Num.{Num}
 use Rattle.ja_prim.specs.declared.primitive.Num.TheVariants.{NaN, Whole}
@@ -96,3 +98,74 @@ long_not_so (Err stop) t small long = refl
 
 pub whole_text_short : (t : List ℕ) → max_units < length t → is_whole_text t ≡ false
 whole_text_short t long = long_not_so (text_to_number t) t (number_small t) long
+
+-- ---- a long number has a long text
+
+le_either : (b : Bool) (n : ℕ) (xs ys : List ℕ) → n ≤ length xs → n ≤ length ys
+    → n ≤ length (cond b xs ys)
+le_either true n xs ys h k = h
+le_either false n xs ys h k = k
+
+keeps_length : (k n : ℕ) (behind : List ℕ)
+    → length behind ≤ length (digits_onto k 10 false n behind)
+keeps_length zero n behind = omega arith
+keeps_length (suc k) n behind =
+    let last : ℕ = digit_glyph false (n % 10) in
+    let more : List ℕ = digits_onto k 10 false (n / 10) (last ∷ behind) in
+    le_either (n / 10 == 0) (length behind) (last ∷ behind) more (omega arith)
+    (omega (arith, keeps_length k (n / 10) (last ∷ behind)))
+
+abbrev power : ℕ → ℕ
+power zero = 1
+power (suc j) = 10 * power j
+
+power_some : (j : ℕ) → 1 ≤ power j
+power_some zero = omega arith
+power_some (suc j) = omega (arith, power_some j)
+
+digits_long : (j k n : ℕ) (behind : List ℕ) → j < k → power j ≤ n
+    → suc j + length behind ≤ length (digits_onto k 10 false n behind)
+digits_long j zero n behind below big = absurd (omega arith)
+digits_long zero (suc k) n behind below big =
+    let last : ℕ = digit_glyph false (n % 10) in
+    let more : List ℕ = digits_onto k 10 false (n / 10) (last ∷ behind) in
+    le_either (n / 10 == 0) (suc zero + length behind) (last ∷ behind) more (omega arith)
+    (omega (arith, keeps_length k (n / 10) (last ∷ behind)))
+digits_long (suc j) (suc k) n behind below big =
+    let last : ℕ = digit_glyph false (n % 10) in
+    let front : power j ≤ n / 10 = omega arith in
+    let more = digits_long j k (n / 10) (last ∷ behind) (omega arith) front in
+    rw (ne_eqb (n / 10) 0 (λ none. omega (arith, none, front, power_some j)))
+    (omega (arith, more))
+
+decimal_long : (n : ℕ) → power 18 ≤ n → 19 ≤ length (digits_text n)
+unfolding digits
+decimal_long n big = omega (arith, digits_long 18 64 n [] (omega arith) big)
+
+signed_long : (z : ℤ) → 2 ^ 63 ≤ mag z → 19 ≤ length (signed_decimal z)
+signed_long (pos n) big = decimal_long n (omega arith)
+signed_long (negsuc n) big = omega (arith, decimal_long (suc n) (omega arith))
+
+-- ---- a number of which the text says a number of the profile
+
+said_small : (r : Result Num Stop) (z : ℤ) → is_small r → is_written_so r (whole_text z) ≡ true
+    → length (signed_decimal z) ≤ 17
+said_small (Ok NaN) z small so = absurd (cc)
+said_small (Ok (Whole w)) z small so =
+    omega (
+      arith,
+      length_signed_le 16 w (omega arith) (omega arith),
+      ap length (text_same (whole_text w) (whole_text z) so),
+    )
+said_small (Err stop) z small so = absurd (cc)
+
+small_by : (z : ℤ) (b : Bool) → nat_lt (mag z) (2 ^ 63) ≡ b → length (signed_decimal z) ≤ 17
+    → mag z < 2 ^ 63
+small_by z true is short = ltb-true (mag z) (2 ^ 63) is
+small_by z false is short =
+    absurd (omega (arith, signed_long z (ltb-false (mag z) (2 ^ 63) is), short))
+
+pub whole_text_small : (z : ℤ) → is_whole_text (whole_text z) ≡ true → mag z < 2 ^ 63
+whole_text_small z so =
+    small_by z (nat_lt (mag z) (2 ^ 63)) refl
+    (said_small (text_to_number (whole_text z)) z (number_small (whole_text z)) so)

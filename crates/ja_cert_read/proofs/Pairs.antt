@@ -11,10 +11,11 @@ use Rattle.ja_abstract.specs.declared.abstraction.Slot.TheVariants as slot
 use Rattle.ja_abstract.specs.AbstractState.{label_number, labels_of, labels_below, keys_of, keys_below, name_key, is_key, is_label}
 use Rattle.ja_abstract.specs.Lists.{Member}
 use Rattle.ja_abstract.proofs.Labels.{label_parts, site_labels}
+use Rattle.ja_abstract.proofs.WritesInProgram.{labels_are_labels}
 use Rattle.ja_abstract.proofs.Lists.{member-append_left, member-append_right, member-flat_map, member-map}
 use Rattle.ja_value.specs.Labels.{label_at}
 use Rattle.ja_value.proofs.LabelLemmas.{labels_range, number_label}
-use Rattle.ja_rules.proofs.Ascending.{from_map, from_range, number_listed, Ascends, ascends-append, ascends-flat_map, ascends-map, ascends-range}
+use Rattle.ja_rules.proofs.Ascending.{of_member, from_map, from_range, number_listed, Ascends, ascends-append, ascends-flat_map, ascends-map, ascends-range}
 use Rattle.ja_cert_read.proofs.Below.{IsBelow, below_first, below_second}
 use Rattle.ja_cert_read.proofs.Listing.{pairs}
 
@@ -37,17 +38,17 @@ numbers_ascend n =
 
 -- ---- labels
 
-abbrev label_before : Label → Label → Type 0
+abbrev pub label_before : Label → Label → Type 0
 label_before l m = label_number l < label_number m
 
-labels_ascend : (n : ℕ) → Ascends label_before (labels_below n)
+pub labels_ascend : (n : ℕ) → Ascends label_before (labels_below n)
 labels_ascend n =
     subst (Ascends label_before) (sym (labels_range n))
     (ascends-map (λ i j. i < j) label_before label_at
     (λ i j h. rw (number_label i, number_label j) h) (range_with_len 0 (2 * n))
     (ascends-range 0 (2 * n)))
 
-label_listed : (p : Program) (l : Label) → IsTrue (is_label p l) → Member l (labels_of p)
+pub label_listed : (p : Program) (l : Label) → IsTrue (is_label p l) → Member l (labels_of p)
 label_listed p l h =
     member-flat_map site_labels l.site.0 l (range_with_len 0 (length p.sites))
     (number_listed (length p.sites) l.site.0 (ltb-true l.site.0 (length p.sites) h))
@@ -55,6 +56,10 @@ label_listed p l h =
       | inl e ↦ inr (inl (sym e))
       | inr e ↦ inl (sym e)
     ])
+
+pub labels_are : (p : Program) (l : Label) → Member l (labels_of p) → IsTrue (is_label p l)
+labels_are p l m =
+    of_member (λ (m : Label). IsTrue (is_label p m)) (labels_of p) l (labels_are_labels p) m
 
 -- ---- keys: names by their numbers, and then the others
 
@@ -112,7 +117,7 @@ keys_ascend n =
     (ascends-range 0 n)) (others_ascend n)
     (λ j k l m. omega (arith, names_before n j l, others_behind n k m))
 
-key_listed : (p : Program) (k : Key) → IsTrue (is_key p k) → Member k (keys_of p)
+pub key_listed : (p : Program) (k : Key) → IsTrue (is_key p k) → Member k (keys_of p)
 key_listed p (key.Name n) h =
     member-append_left (key.Name n) (map name_key (range_with_len 0 (length p.names))) other_keys
     (member-map name_key n.0 (range_with_len 0 (length p.names))

@@ -122,7 +122,7 @@ label_within p l h =
     ltb-true (label_number l) (2 * length p.sites) h in
     lt-ltb l.site.0 (length p.sites) (omega (arith, below))
 
-abbrev rank_or_none : Option ℕ → ℕ
+abbrev pub rank_or_none : Option ℕ → ℕ
 rank_or_none o = option_map_or (λ (n : ℕ). n) o 0
 
 name_within : (n : ℕ) (b : Bool) → is_some (if b then Some n else None) ≡ true
@@ -188,7 +188,7 @@ module _ (p : Program) where
         parts.2,
       )
 
-  pair_numbered : (l : Label) (k : Key) → IsTrue (is_key p k)
+  pub pair_numbered : (l : Label) (k : Key) → IsTrue (is_key p k)
       → rank_or_none (key_rank p (key_data k)) ≡ key_place (length p.names) k
   unfolding position
   pair_numbered l (key.Name n) h = rw h refl

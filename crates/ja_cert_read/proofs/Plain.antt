@@ -60,11 +60,11 @@ data_by f n t ls =
     listed (map string (flag_words f ++ number_words n ++ text_words t) ++ map label_data ls)
 
 -- the parts are no other
-record HasOnly (p : Program) (v : AbstractValue) (f : Flags) : Type 0 where
-  flags : v.flags ≡ f
-  number : v.number ≡ number_part.Nothing
-  text : v.text ≡ text_part.Nothing
-  labels : value_labels p v ≡ []
+pub record HasOnly (p : Program) (v : AbstractValue) (f : Flags) : Type 0 where
+  pub flags : v.flags ≡ f
+  pub number : v.number ≡ number_part.Nothing
+  pub text : v.text ≡ text_part.Nothing
+  pub labels : value_labels p v ≡ []
 
 by_parts : (p : Program) (v : AbstractValue) (f : Flags) (word : List ℕ) → HasOnly p v f
     → value_is word (data_by f number_part.Nothing text_part.Nothing []) ≡ true
@@ -108,19 +108,26 @@ no_part p v h =
       labels = none_kept v.label (labels_of p) labels.1;
     }
 
-pub undefined_is : (p : Program) (v : AbstractValue) → is_undefined p v ≡ true
-    → value_is (codes "undefined") (value_data p v) ≡ true
-unfolding is_undefined data_by property_parts
-undefined_is p v h =
+pub only_undefined : (p : Program) (v : AbstractValue) → is_undefined p v ≡ true
+    → HasOnly p v (record no_flags { undefined = true })
+unfolding is_undefined
+only_undefined p v h =
     let more : AbstractValue = record v { flags = record v.flags { undefined = false } } in
     let both = and_parts v.flags.undefined (not (has_part (labels_of p) more)) h in
     let only = no_part p more (not_true (has_part (labels_of p) more) both.1) in
-    by_parts p v (record no_flags { undefined = true }) (codes "undefined") (record {
+    record {
       flags = λ i. record (only.flags i) { undefined = both.0 i };
       number = only.number;
       text = only.text;
       labels = only.labels;
-    }) refl
+    }
+
+pub undefined_is : (p : Program) (v : AbstractValue) → is_undefined p v ≡ true
+    → value_is (codes "undefined") (value_data p v) ≡ true
+unfolding data_by property_parts
+undefined_is p v h =
+    by_parts p v (record no_flags { undefined = true }) (codes "undefined") (only_undefined p v h)
+    refl
 
 -- ---- properties that are just as at entry
 
@@ -145,24 +152,38 @@ attrs_plain key.OtherIndex a h = unknown_attrs_of a h
 attrs_plain key.OtherName a h = unknown_attrs_of a h
 attrs_plain (key.Slot s) a h = refl
 
-pub entry_is : (p : Program) (k : Key) (q : AbstractProperty) → is_entry p q ≡ true
-    → (value_is (codes "entry") (value_data p q.value) ≡ true)
-    × (is_word (same_text unknown_attrs) (string (attrs_text k q.attrs)) ≡ true)
-unfolding is_entry data_by property_parts
-entry_is p k q h =
+-- a property that is just as at entry has no other part and no attribute that is known
+pub record IsJustEntry (p : Program) (q : AbstractProperty) : Type 0 where
+  pub only : HasOnly p q.value (record no_flags { entry = true })
+  pub attrs : has_attrs q.attrs ≡ false
+
+pub just_entry : (p : Program) (q : AbstractProperty) → is_entry p q ≡ true → IsJustEntry p q
+unfolding is_entry
+just_entry p q h =
     let v : AbstractValue = q.value in
     let more : AbstractValue = record v { flags = record v.flags { entry = false } } in
     let some : Bool = has_part (labels_of p) more in
     let both = and_parts (v.flags.entry && not some) (not (has_attrs q.attrs)) h in
     let entry = and_parts v.flags.entry (not some) both.0 in
-    let only = no_part p more (not_true some entry.1) in (
-      by_parts p v (record no_flags { entry = true }) (codes "entry") (record {
+    let only = no_part p more (not_true some entry.1) in
+    record {
+      only = record {
         flags = λ i. record (only.flags i) { entry = entry.0 i };
         number = only.number;
         text = only.text;
         labels = only.labels;
-      }) refl,
-      ap (same_text unknown_attrs) (attrs_plain k q.attrs (not_true (has_attrs q.attrs) both.1)),
+      };
+      attrs = not_true (has_attrs q.attrs) both.1;
+    }
+
+pub entry_is : (p : Program) (k : Key) (q : AbstractProperty) → is_entry p q ≡ true
+    → (value_is (codes "entry") (value_data p q.value) ≡ true)
+    × (is_word (same_text unknown_attrs) (string (attrs_text k q.attrs)) ≡ true)
+unfolding data_by property_parts
+entry_is p k q h =
+    let entry = just_entry p q h in (
+      by_parts p q.value (record no_flags { entry = true }) (codes "entry") entry.only refl,
+      ap (same_text unknown_attrs) (attrs_plain k q.attrs entry.attrs),
     )
 
 -- ---- masks

@@ -1,0 +1,2 @@
+-- what is written as a certificate is read back
+pub mod Back
