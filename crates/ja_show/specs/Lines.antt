@@ -27,11 +27,11 @@ line_at lines number = unwrap_or (slice_get lines (number - 1)) []
 
 -- ---- characters
 
--- a control, and what turns the direction of the characters behind it, isn't shown as it is
+-- a control, and what marks or turns the direction of characters (UAX 9), isn't shown as it is
 abbrev pub is_hidden : ℕ → Bool
 is_hidden c =
-    not (is_some (char_width false c)) || is_in_range 0x202A 0x202E c
-    || is_in_range 0x2066 0x2069 c
+    not (is_some (char_width false c)) || (c == 0x061C) || is_in_range 0x200E 0x200F c
+    || is_in_range 0x202A 0x202E c || is_in_range 0x2066 0x2069 c
 
 -- the bytes of a character as it is shown: a tab stays, and a CR before its LF takes no room
 unfoldable pub shown : ℕ → List ℕ

@@ -64,6 +64,8 @@ fn is_hidden(c: char) -> bool
     ensures { result ≡ spec.is_hidden c }
 {
     c.width().is_none()
+        || c == '\u{61c}'
+        || ('\u{200e}' <= c && c <= '\u{200f}')
         || ('\u{202a}' <= c && c <= '\u{202e}')
         || ('\u{2066}' <= c && c <= '\u{2069}')
 }
