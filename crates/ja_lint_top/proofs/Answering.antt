@@ -1,7 +1,7 @@
 -- What the answers to a text come to.
 use Rattle.std.specs.Prelude.{◌≡◌, ◌+◌, [], List, ℕ, Option, Bool, true, false, unwrap_or, Some, None, option_map}
 use Rattle.std.specs.Str.{chars}
-use Rattle.std.proofs.Common.{◌∙◌, ap, codes, refl, subst, sym, Bor}
+use Rattle.std.proofs.Common.{codes, refl, subst, sym, Bor}
 use Rattle.ja_base.specs.Streams.{Appends, IsLonger, Keeps, Rose, TakesCount, TurnsTo}
 use Rattle.ja_lex.specs.Spots.{max_bytes}
 use Rattle.ja_prim.specs.declared.signature.Signature.{Signature}

@@ -1,5 +1,5 @@
 -- The counts behind the messages.
-use Rattle.std.specs.Prelude.{ℕ, ◌&&◌, not, List, ◌++◌, filter, length}
+use Rattle.std.specs.Prelude.{ℕ, not, List, ◌++◌, filter, length}
 use Rattle.std.specs.Fmt.{decimal}
 use lib.Chars.{codes}
 use Rattle.ja_rows.specs.declared.table.Warning.{Warning}

@@ -28,7 +28,7 @@ use Rattle.ja_show.specs.Messages.{messages_text}
 use Rattle.ja_show.specs.Page.{page_text}
 use Rattle.ja_sound.specs.Sound.{CoversRuns, WarnsOfFaults}
 use Rattle.ja_texts.specs.Texts.{scope_name}
-use Rattle.ja_top.specs.Answers.{Call, DevicesStand, IsBegun, IsInput, IsWritten, Written}
+use Rattle.ja_top.specs.Answers.{Call, IsBegun, IsInput, IsWritten, Written}
 use Rattle.ja_top.specs.Runs.{signatures_of}
 use Rattle.ja_top.specs.Statuses.{has_fault}
 use Rattle.ja_top.specs.declared.status.Status.{Status}

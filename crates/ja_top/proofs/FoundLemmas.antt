@@ -1,5 +1,5 @@
 -- What is found of the program of a text is found of the text.
-use Rattle.std.specs.Prelude.{◌≡◌, List, ℕ, Result, Ok, Err, IfOk, IfErr}
+use Rattle.std.specs.Prelude.{List, ℕ, Result, Ok, Err, IfOk, IfErr}
 use Rattle.std.proofs.Common.{subst, sym}
 use Rattle.ja_graph.specs.declared.program.Program.{Program}
 use Rattle.ja_load.specs.Loading.{IsProgramOf}

@@ -1,10 +1,9 @@
 -- Some warning is of a fault where the test finds one.
-use Rattle.std.proofs.Common.{◌≡◌, ◌∙◌, ap, cond, sym}
+use Rattle.std.proofs.Common.{◌∙◌, ap, cond, sym}
 use Rattle.clap.proofs.WalkLemmas.{list_any-map}
 use Rattle.ja_rows.specs.declared.table.Warning.{Warning}
 use Rattle.ja_warn.specs.declared.reached.Told.{Told}
 use Rattle.ja_top.specs.Statuses.{has_fault, is_fault}
-use Rattle.ja_warn.specs.Told.{warnings_in}
 use Rattle.ja_top.specs.declared.status.Status.TheVariants.{Done, Warned}
 use Rattle.ja_lint_top.proofs.top.judged.Goals as goal
 
