@@ -18,7 +18,9 @@ module _ (p : Program) (s : String Global) where
   other = record p { text = s }
 
   pub own_same : (c : ContextTable) → own_data other c ≡ own_data p c
-  unfolding own_data context_data points_data state_data line_data value_data entry_lines register_lines register_line is_undefined property_lines object_lines property_line lines.is_entry mask_lines
+  unfolding own_data context_data points_data state_data line_data value_data
+      entry_lines register_lines register_line is_undefined
+      property_lines object_lines property_line lines.is_entry mask_lines
   own_same c = refl
 
   pub fits_same : (c : ContextTable) → FitsContext other c → FitsContext p c
@@ -36,5 +38,7 @@ module _ (p : Program) (s : String Global) where
   }
 
   pub wrong_same : (d : Data) → wrong_of other d ≡ wrong_of p d
-  unfolding along_wrong attrs_wrong behind_word_wrong context_wrong edge_shape_wrong edge_wrong entry_wrong item_wrong mask_wrong owned_wrong part_wrong point_wrong property_wrong register_wrong step_wrong value_wrong wrong_of
+  unfolding along_wrong attrs_wrong behind_word_wrong context_wrong edge_shape_wrong edge_wrong
+      entry_wrong item_wrong mask_wrong owned_wrong part_wrong point_wrong
+      property_wrong register_wrong step_wrong value_wrong wrong_of
   wrong_same d = refl
