@@ -1,6 +1,6 @@
 //! JSON (RFC 8259) as certificates are read from it. A value is read beside one that stood near by,
 //! and shares with it what both have, since the states of a program repeat nearly all that they
-//! list: a certificate takes less memory so than its text does.
+//! list.
 //!
 //! Contracts see the data that a value is (`view`), which is that of the toolchain's `serde_json`:
 //! a text is read to exactly the data that it has there (`read`).
