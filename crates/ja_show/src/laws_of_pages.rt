@@ -4,11 +4,22 @@ ghost use Rattle.std.specs.Prelude.{◌≡◌, ◌≢◌, ◌≤◌, ◌++◌, �
 ghost use Rattle.std.specs.Prelude.{false, length};
 ghost use Rattle.std.specs.List.{AllByRecursion};
 ghost use Rattle.ja_lex.specs.Spots.{max_bytes, place_at};
-ghost use Rattle.ja_show.specs.Page.{escaped, line_start, source_text};
+ghost use Rattle.ja_show.specs.Page.{escaped, line_start, page_text, source_text};
 ghost use Rattle.ja_show.specs.Untagged.{plain_lines, untagged};
 ghost use Rattle.ja_show.specs.declared.message.Level.TheVariants.{Certain, Possible};
 ghost use Rattle.ja_show.specs.declared.message.Link.{Link as Call};
 ghost use Rattle.ja_show.specs.declared.message.Message.{Message as About};
+
+/// Whatever a page shows, it begins with its encoding and with a policy by which a browser fetches
+/// nothing, runs no script, and follows no style but the page's own (Content Security Policy): both
+/// stand before all that it has of a text, the title too.
+pub fn pages_fetch_nothing()
+    ensures { (title counts cs : List ℕ) (messages : List About) (links : List Call) →
+        (rest : List ℕ) × (page_text title counts cs messages links
+        ≡ codes "<!DOCTYPE html>\n<html lang=\"en\">\n<head>\n<meta charset=\"utf-8\">\n"
+        ++ codes "<meta http-equiv=\"Content-Security-Policy\" content=\""
+        ++ codes "default-src 'none'; style-src 'unsafe-inline'\">\n" ++ rest) }
+{}
 
 /// A text in HTML begins and ends no tag, and no attribute.
 pub fn escaped_texts_are_plain()
