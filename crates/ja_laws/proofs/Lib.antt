@@ -15,4 +15,5 @@ pub mod Properties
 pub mod Scopes
 pub mod SmallProgram
 pub mod SmallSteps
+pub mod Walks
 pub mod Writes

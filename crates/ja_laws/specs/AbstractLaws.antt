@@ -78,6 +78,21 @@ pub record IsThere (w : View) (q : AbstractProperty) : Type 0 where
   pub not_absent : q.value.flags.absent ≡ false
   pub not_entry : q.value.flags.entry ≡ false
 
+-- ---- walks
+
+-- the set has what a walk starts with, and with each label of the list those to which it leads
+pub record HasWalk (next : Label → Labels) (labels : List Label) (start set : Labels) : Type 0 where
+  pub starts : (l : Label) → IsTrue (start l) → IsTrue (set l)
+  pub follows : (l m : Label) → IsTrue (list_any (same_label l) labels) → IsTrue (set l)
+      → IsTrue (next l m) → IsTrue (set m)
+
+-- .. and no label that another such set lacks
+pub record IsLeastWalk (next : Label → Labels) (labels : List Label) (start set : Labels)
+    : Type 0 where
+  pub has : HasWalk next labels start set
+  pub least : (other : Labels) → HasWalk next labels start other → (l : Label) → IsTrue (set l)
+      → IsTrue (other l)
+
 -- ---- an object more
 
 -- a value after an object was made at a site: what was new there is old, and all else as it was

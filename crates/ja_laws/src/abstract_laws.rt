@@ -18,12 +18,13 @@ ghost use Rattle.ja_abstract.specs.AbstractValue.{of_primitive};
 ghost use Rattle.ja_abstract.specs.Composed.{composed, composed_mask};
 ghost use Rattle.ja_abstract.specs.Keys.{is_among_keys, is_text_key, keys_of_value, text_key};
 ghost use Rattle.ja_laws.specs.AbstractLaws.{ChangesNothing, HasNone, IsLeastProperty, IsLeastState};
-ghost use Rattle.ja_laws.specs.AbstractLaws.{IsLeastValue, IsMade, IsOfOneObject, IsSameAtKeys, Replaces};
-ghost use Rattle.ja_laws.specs.AbstractLaws.{IsPlainPut, IsTarget, IsThere, Keep, PutInto};
+ghost use Rattle.ja_laws.specs.AbstractLaws.{IsLeastValue, IsLeastWalk, IsMade, IsOfOneObject};
+ghost use Rattle.ja_laws.specs.AbstractLaws.{IsPlainPut, IsSameAtKeys, IsTarget, IsThere, Keep};
+ghost use Rattle.ja_laws.specs.AbstractLaws.{PutInto, Replaces};
 ghost use Rattle.ja_abstract.specs.Made.{Own, own_of, with_object};
 ghost use Rattle.ja_abstract.specs.Primitives.{of_text_part};
 ghost use Rattle.ja_abstract.specs.Reading.{View, get, one_label};
-ghost use Rattle.ja_abstract.specs.Resolved.{Entries, known_part, renamed, resolved};
+ghost use Rattle.ja_abstract.specs.Resolved.{Entries, known_part, reached, renamed, resolved};
 ghost use Rattle.ja_abstract.specs.Order.{LeqProperty};
 ghost use Rattle.ja_abstract.specs.Writes.{defined, one_target, put_states, sets_at, strong_at};
 ghost use Rattle.ja_abstract.specs.Writes.{strong_update};
@@ -74,6 +75,14 @@ pub fn known_reads()
     ensures { (w : View) (l : Label) (k : Key) → IsTarget w (one_label l) l
         → IsThere w (w.state.property l k)
         → get w (one_label l) (k ∷ []) ≡ w.state.property l k }
+{}
+
+/// A walk, as along prototypes or scopes, reaches the least set of labels that has those that it
+/// starts with and, with each label of its list, those to which its step leads: as many rounds as
+/// the list has labels are enough.
+pub fn walks_are_least()
+    ensures { (next : Label → Labels) (labels : List Label) (start : Labels)
+        → IsLeastWalk next labels start (reached next labels start) }
 {}
 
 /// When an object is made at a site, no register and no other object's property has the new label
