@@ -8,7 +8,7 @@ use Rattle.std.proofs.lemmas.Option.{slice_get_read}
 use Rattle.ja_base.proofs.Lists.{all_at}
 use Rattle.ja_prim.specs.Characters.{is_part}
 use Rattle.ja_prim.specs.declared.signature.Signature.{Signature}
-use Rattle.ja_device.specs.code.Signatures.{is_fit, AreSignatures}
+use Rattle.ja_device.specs.Signatures.{is_fit, AreSignatures}
 
 part_small : (c : ℕ) → is_part c ≡ true → c < 128
 unfolding is_part

@@ -12,7 +12,7 @@ use Rattle.serde_json.specs.Find.{as_array, as_number, as_object, as_str, as_u64
 use Rattle.ja_base.specs.declared.ids.FnId.{FnId}
 use Rattle.ja_prim.specs.Texts.{same_text, max_units}
 use Rattle.ja_lex.specs.Spots.{max_bytes}
-use Rattle.ja_device.specs.code.Signatures.{is_identifier}
+use Rattle.ja_device.specs.Signatures.{is_identifier}
 use Rattle.ja_graph.specs.declared.node.Node.{Node}
 use Rattle.ja_graph.specs.declared.node.Node.TheVariants as node
 use Rattle.ja_graph.specs.declared.node.NodeInfo.{NodeInfo}

@@ -3,7 +3,7 @@
 ghost use Rattle.std.specs.Prelude.{◌≡◌, ◌++◌, OnOk, IfOk, map};
 ghost use Rattle.serde_json.specs.Written.{compact_text};
 ghost use Rattle.ja_graph.specs.WellFormed.{IsWellFormed};
-ghost use Rattle.ja_device.specs.code.Signatures.{AreSignatures};
+ghost use Rattle.ja_device.specs.Signatures.{AreSignatures};
 ghost use Rattle.ja_rows.specs.Listed.{edges_of};
 ghost use Rattle.ja_rules.specs.declared.table.CallEdge.{CallEdge as Kept};
 ghost use Rattle.ja_rules.specs.Tables.{table_of, Fits};

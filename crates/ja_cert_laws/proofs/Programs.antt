@@ -9,8 +9,7 @@ use Rattle.ja_grammar.proofs.Theorem.{refused_none}
 use Rattle.ja_graph.specs.WellFormed.{IsWellFormed}
 use Rattle.ja_graph.specs.declared.program.Program.{Program}
 use Rattle.ja_lex.specs.Tokens.{tokens}
-use Rattle.ja_load.specs.Loading.{names_before, program_of, IsProgramOf, IsTextOf}
-use Rattle.ja_load.specs.code.Loading.{HasNone}
+use Rattle.ja_load.specs.Loading.{names_before, program_of, IsProgramOf, IsTextOf, HasNone}
 use Rattle.ja_load.specs.declared.fault.LoadFault.{LoadFault}
 use Rattle.ja_load.specs.declared.fault.LoadFault.TheVariants as load
 use Rattle.ja_lower.specs.Limits.{IsWithin}

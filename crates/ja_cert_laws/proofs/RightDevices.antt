@@ -13,7 +13,7 @@ use Rattle.ja_prim.specs.declared.signature.Kinds.{Kinds}
 use Rattle.ja_prim.specs.declared.signature.Signature.{Signature}
 use Rattle.ja_graph.specs.declared.program.TheConstants.{MAX_DEVICES}
 use Rattle.ja_abstract.proofs.Texts.{text_same}
-use Rattle.ja_device.specs.code.Signatures.{has_kind, is_fit, is_identifier, AreDistinct, AreSignatures}
+use Rattle.ja_device.specs.Signatures.{has_kind, is_fit, is_identifier, AreDistinct, AreSignatures}
 use Rattle.ja_report.specs.Report.{kind_parts}
 use Rattle.ja_report.specs.Texts.{part}
 use Rattle.ja_cert.specs.Certificate.{device_data, listed}

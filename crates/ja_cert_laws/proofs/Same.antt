@@ -16,8 +16,7 @@ use Rattle.ja_prim.specs.declared.signature.Signature.{Signature}
 use Rattle.ja_graph.specs.WellFormed.{IsWellFormed}
 use Rattle.ja_graph.specs.declared.program.Program.{Program}
 use Rattle.ja_aheap.specs.Entries.{entries_of}
-use Rattle.ja_load.specs.Loading.{IsProgramOf}
-use Rattle.ja_load.specs.code.Loading.{HasNone}
+use Rattle.ja_load.specs.Loading.{IsProgramOf, HasNone}
 use Rattle.ja_rules.specs.Tables.{FitsContext}
 use Rattle.ja_rules.specs.declared.table.CallEdge.{CallEdge}
 use Rattle.ja_rules.specs.declared.table.ContextTable.{ContextTable}

@@ -29,7 +29,7 @@ use Rattle.ja_rows.specs.Table.{Table, IsBuilt}
 use Rattle.ja_rules.specs.Tables.{table_of, Fits, IsContext}
 use Rattle.ja_cert.specs.Wrong.{calls}
 use Rattle.std.specs.String.{string_bytes}
-use Rattle.ja_device.specs.code.Signatures.{AreSignatures}
+use Rattle.ja_device.specs.Signatures.{AreSignatures}
 use Rattle.ja_graph.specs.WellFormed.{IsWellFormed}
 use Rattle.ja_grammar.specs.declared.fault.ParseFault.TheVariants as parse
 use Rattle.ja_lex.specs.Spots.{max_bytes}

@@ -16,8 +16,8 @@ use Rattle.ja_prim.specs.declared.signature.Signature.{Signature}
 use Rattle.ja_prim.specs.Texts.{same_text}
 use Rattle.ja_abstract.proofs.Texts.{same_text_refl}
 use Rattle.ja_abstract.specs.Lists.{Member}
-use Rattle.ja_device.specs.code.Signatures as device
-use Rattle.ja_device.specs.code.Signatures.{AreSignatures, is_fit, is_identifier}
+use Rattle.ja_device.specs.Signatures as device
+use Rattle.ja_device.specs.Signatures.{AreSignatures, is_fit, is_identifier}
 use Rattle.ja_graph.specs.declared.program.TheConstants.{MAX_DEVICES}
 use Rattle.ja_report.specs.Report.{kind_parts}
 use Rattle.ja_report.specs.Texts.{part}

@@ -7,8 +7,7 @@ use Rattle.serde_json.specs.Data.{Data, string}
 use Rattle.serde_json.specs.Read.{read}
 use Rattle.ja_prim.specs.declared.signature.Signature.{Signature}
 use Rattle.ja_graph.specs.declared.program.Program.{Program}
-use Rattle.ja_load.specs.Loading.{IsProgramOf}
-use Rattle.ja_load.specs.code.Loading.{HasNone}
+use Rattle.ja_load.specs.Loading.{IsProgramOf, HasNone}
 use Rattle.ja_rules.specs.Tables.{table_of}
 use Rattle.ja_check.specs.Check.{FitsListed}
 use Rattle.ja_cert.specs.Certificate.{certificate_data, device_data, listed, whole}

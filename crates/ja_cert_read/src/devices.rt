@@ -6,7 +6,7 @@ ghost use Rattle.serde_json.specs.Data.{string};
 ghost use Rattle.ja_cert_json.specs.View.{view};
 ghost use Rattle.ja_prim.specs.Characters.{is_part as is_part_spec};
 ghost use Rattle.ja_prim.specs.Texts.{same_text};
-ghost use Rattle.ja_device.specs.code.Signatures as signatures;
+ghost use Rattle.ja_device.specs.Signatures as signatures;
 ghost use Rattle.ja_report.specs.Report.{kind_parts};
 ghost use Rattle.ja_cert.specs.Certificate.{device_data, listed};
 ghost use Rattle.ja_cert.specs.Wrong.{device_name_is, here_unless, is_empty_list, is_word, kind_wrong, list_wrong, or_else};

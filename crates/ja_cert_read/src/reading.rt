@@ -6,7 +6,7 @@ ghost use Rattle.serde_json.specs.Data.{string};
 ghost use Rattle.serde_json.specs.Read.{read as read_bytes};
 ghost use Rattle.ja_cert_json.specs.View.{view};
 ghost use Rattle.ja_lex.specs.Spots.{max_bytes};
-ghost use Rattle.ja_device.specs.code.Signatures.{AreSignatures};
+ghost use Rattle.ja_device.specs.Signatures.{AreSignatures};
 ghost use Rattle.ja_graph.specs.WellFormed.{IsWellFormed};
 ghost use Rattle.ja_load.specs.Loading.{IsProgramOf};
 ghost use Rattle.ja_cert_read.specs.Certified.{IsCertificate, IsNoCertificate};

@@ -15,7 +15,8 @@ use Rattle.ja_prim.specs.declared.signature.Kinds.{Kinds}
 use Rattle.ja_prim.specs.declared.signature.Signature.{Signature}
 use Rattle.ja_machine.proofs.Lists.{all_from, all_at, all_append}
 use Rattle.ja_device.specs.Devices.{Seen, signature_of, IsCalled, IsAsked, failed_after}
-use Rattle.ja_device.specs.code.Signatures.{is_fit, is_identifier, has_kind, AreSignatures, IsFirstAt, IsRefused, IsPosition, IsFaultBehind}
+use Rattle.ja_device.specs.Signatures.{is_fit, is_identifier, has_kind, AreSignatures, IsFirstAt, IsRefused, IsPosition}
+use Rattle.ja_device.specs.code.Signatures.{IsFaultBehind}
 use Rattle.ja_device.specs.declared.fault.CallFault.{CallFault}
 use Rattle.ja_device.specs.declared.fault.CallFault.TheVariants as call
 use Rattle.ja_device.specs.declared.fault.DevicesFault.{DevicesFault}

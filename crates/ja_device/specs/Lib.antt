@@ -1,2 +1,5 @@
 pub mod Devices
+pub mod Signatures
+pub mod Scripts
+-- what the functions inside the crate promise each other
 pub mod code

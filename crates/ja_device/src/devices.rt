@@ -1,6 +1,6 @@
 ghost use Rattle.std.specs.Prelude.{◌≡◌, ◌<◌, ◌+◌, ◌++◌, map, length, take, drop, IfOk, IfErr};
 ghost use Rattle.ja_device.specs.Devices.{signature_of, failed_after as failed_after_spec, IsAsked};
-ghost use Rattle.ja_device.specs.code.Signatures.{AreSignatures, IsRefused, IsPosition};
+ghost use Rattle.ja_device.specs.Signatures.{AreSignatures, IsRefused, IsPosition};
 
 use crate::device::Device;
 use crate::fault::{CallFault, DevicesFault};
@@ -22,7 +22,7 @@ pub struct Devices<D: Device> {
 impl<D: Device> Model for Devices<D> {
     ghost use Rattle.std.specs.Prelude.{map};
     ghost use Rattle.ja_device.specs.Devices.{AllSeen, signature_of};
-    ghost use Rattle.ja_device.specs.code.Signatures.{AreSignatures};
+    ghost use Rattle.ja_device.specs.Signatures.{AreSignatures};
 
     ghost Value = { AllSeen };
 

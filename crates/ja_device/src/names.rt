@@ -3,7 +3,7 @@
 ghost use Rattle.std.specs.Prelude.{◌≡◌};
 ghost use Rattle.std.specs.List.{list_all};
 ghost use Rattle.ja_prim.specs.Characters.{is_part as is_part_spec};
-ghost use Rattle.ja_device.specs.code.Signatures as spec;
+ghost use Rattle.ja_device.specs.Signatures as spec;
 
 use ja_prim::Kinds;
 

@@ -2,7 +2,8 @@
 
 ghost use Rattle.std.specs.Prelude.{map};
 ghost use Rattle.ja_device.specs.Devices.{signature_of};
-ghost use Rattle.ja_device.specs.code.Signatures.{IsPosition, IsFaultBehind, IsJudged};
+ghost use Rattle.ja_device.specs.Signatures.{IsPosition};
+ghost use Rattle.ja_device.specs.code.Signatures.{IsFaultBehind, IsJudged};
 
 use crate::device::Device;
 use crate::fault::DevicesFault;

@@ -2,7 +2,7 @@ ghost use Rattle.std.specs.Prelude.{◌≡◌, ◌<◌, ◌↔◌, [], Some, Err
 ghost use Rattle.std.specs.String.{string_bytes};
 ghost use Rattle.ja_device.specs.Devices.{IsCalled, failed_after};
 ghost use Rattle.ja_device.specs.declared.fault.CallFault.TheVariants as fault;
-ghost use Rattle.ja_device.specs.code.Scripts.{AreOfKinds, answer_index, call_number};
+ghost use Rattle.ja_device.specs.Scripts.{AreOfKinds, answer_index, call_number};
 
 use crate::copies::copies;
 use crate::device::Device;

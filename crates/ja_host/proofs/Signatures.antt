@@ -9,7 +9,7 @@ use Rattle.ja_prim.specs.Characters.{is_part}
 use Rattle.ja_prim.specs.declared.signature.Signature.{Signature}
 use Rattle.ja_machine.proofs.Lists.{all_at}
 use Rattle.ja_device.specs.Devices.{Seen, signature_of}
-use Rattle.ja_device.specs.code.Signatures.{is_fit, has_kind, AreSignatures, IsFirstAt, IsRefused}
+use Rattle.ja_device.specs.Signatures.{is_fit, has_kind, AreSignatures, IsFirstAt, IsRefused}
 use Rattle.ja_device.specs.declared.fault.DevicesFault.{DevicesFault}
 use Rattle.ja_device.specs.declared.fault.DevicesFault.TheVariants.{TooMany, BadName, NoKinds, Twice}
 

@@ -8,10 +8,9 @@ use Rattle.ja_base.specs.declared.ids.Place.{Place}
 use Rattle.ja_base.specs.declared.ids.ScopeKind.{ScopeKind}
 use Rattle.ja_grammar.specs.declared.fault.ParseFault.{ParseFault}
 use Rattle.ja_grammar.specs.declared.fault.ParseFault.TheVariants as parse_fault
-use Rattle.ja_load.specs.Loading.{IsNone}
+use Rattle.ja_load.specs.Loading.{IsNone, HasNone}
 use Rattle.ja_load.specs.declared.fault.LoadFault.{LoadFault}
 use Rattle.ja_load.specs.declared.fault.LoadFault.TheVariants as load_fault
-use Rattle.ja_load.specs.code.Loading.{HasNone}
 use Rattle.ja_prim.specs.declared.signature.Signature.{Signature}
 use Rattle.ja_show.specs.Messages.{messages_text}
 use Rattle.ja_texts.specs.Texts.{scope_name}

@@ -4,8 +4,7 @@ ghost use Rattle.std.specs.Prelude.{◌≡◌, ◌++◌, ◌∷◌, [], codes, I
 ghost use Rattle.std.specs.Fmt.{decimal};
 ghost use Rattle.std.specs.Option.{option_map};
 ghost use Rattle.std.specs.Str.{chars};
-ghost use Rattle.ja_load.specs.Loading.{IsNone};
-ghost use Rattle.ja_load.specs.code.Loading.{HasNone};
+ghost use Rattle.ja_load.specs.Loading.{IsNone, HasNone};
 ghost use Rattle.ja_prim.specs.declared.signature.Signature.{Signature};
 ghost use Rattle.ja_show.specs.Messages as show;
 ghost use Rattle.ja_texts.specs.Texts as texts;

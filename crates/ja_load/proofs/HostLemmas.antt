@@ -10,7 +10,7 @@ use Rattle.std.proofs.lemmas.Option.{slice_get_within, same_Some}
 use Rattle.ja_base.specs.declared.ids.Site.{Site}
 use Rattle.ja_base.proofs.Lists.{all_append, all_at, element_within}
 use Rattle.ja_graph.specs.declared.attrs.TheConstants.{ALL_ATTRS}
-use Rattle.ja_device.specs.code.Signatures.{AreDistinct}
+use Rattle.ja_device.specs.Signatures.{AreDistinct}
 use Rattle.ja_graph.specs.declared.builtins.TheConstants.{BUILTIN_CLASSES, FUNCTION_PROTOTYPE, GLOBAL, LENGTH}
 use Rattle.ja_graph.specs.declared.program.Class.{Class}
 use Rattle.ja_graph.specs.declared.program.ObjectSpec.{ObjectSpec}

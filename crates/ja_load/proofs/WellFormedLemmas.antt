@@ -5,7 +5,7 @@ use Rattle.std.specs.Prelude.{String}
 use Rattle.std.specs.List.{AllByRecursion, slice_get, range_with_len}
 use Rattle.std.specs.declared.alloc.Global.{Global}
 use Rattle.ja_base.proofs.Lists.{all_append, all_at, first_element}
-use Rattle.ja_device.specs.code.Signatures.{AreSignatures}
+use Rattle.ja_device.specs.Signatures.{AreSignatures}
 use Rattle.ja_lower_names.specs.TextOrder.{Named, names_in}
 use Rattle.ja_lower_expressions.specs.Specials.{is_name}
 use Rattle.ja_graph.specs.declared.program.Function.{Function}

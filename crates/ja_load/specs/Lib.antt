@@ -1,3 +1,4 @@
 pub mod Hosts
 pub mod Loading
+-- what the functions inside the crate promise each other
 pub mod code

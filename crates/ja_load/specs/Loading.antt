@@ -1,18 +1,20 @@
 -- The program of a text, and why a text has none.
-use Rattle.std.specs.Prelude.{◌≡◌, ◌<◌, ◌≤◌, ◌+◌, ℕ, String, List, ◌++◌, length}
+use Rattle.std.specs.Prelude.{◌≡◌, ◌<◌, ◌≤◌, ◌+◌, ℕ, false, String, List, ◌++◌, length}
 use Rattle.std.specs.Str.{IsUtf8}
 use Rattle.std.specs.String.{string_bytes}
 use Rattle.std.specs.declared.alloc.Global.{Global}
 use Rattle.ja_grammar.specs.Language.{Spells, Explains, max_levels}
 use Rattle.ja_grammar.specs.declared.fault.ParseFault.{ParseFault}
-use Rattle.ja_graph.specs.WellFormed.{builtin_names}
+use Rattle.ja_graph.specs.WellFormed.{builtin_names, max_names}
 use Rattle.ja_graph.specs.declared.builtins.TheConstants.{BUILTIN_CLASSES}
 use Rattle.ja_graph.specs.declared.program.Program.{Program}
 use Rattle.ja_lex.specs.Tokens.{tokens}
 use Rattle.ja_load.specs.Hosts.{device_sites, opening_with}
+use Rattle.ja_load.specs.declared.fault.LoadFault.{LoadFault}
+use Rattle.ja_load.specs.declared.fault.LoadFault.TheVariants as fault
 use Rattle.ja_lower.specs.Limits.{max_functions, max_size, function_count, size_of, IsWithin}
 use Rattle.ja_lower.specs.declared.lowered.Lowered.{Lowered}
-use Rattle.ja_lower.specs.Lowering.{first_names, lowered_with_prelude}
+use Rattle.ja_lower.specs.Lowering.{first_names, lowered_with_prelude, names_of}
 use Rattle.ja_prelude.specs.Prelude.{prelude_paths, prelude_statements}
 use Rattle.ja_prelude.specs.Table.{builtin_sites}
 use Rattle.ja_prelude.specs.declared.texts.TheConstants.{TEXT_FIRST, VALUE_FIRST}
@@ -85,3 +87,18 @@ HasManyNodes bytes signatures =
 -- (`refused_once` in ja_grammar) and said of no text of the language (`refused_is_none`)
 abbrev pub IsNone : List ℕ → ParseFault → Type 0
 IsNone bytes f = IsUtf8 bytes × Explains (tokens bytes) f
+
+-- it is within both limits, but its program has too many names
+abbrev pub HasManyNames : List ℕ → List Signature → Type 0
+HasManyNames bytes signatures =
+    (statements : List Statement)
+    × IsTextOf bytes statements
+    × IsWithin (names_before signatures) statements
+    × (max_names < length (names_of false (names_before signatures) statements))
+
+-- why a text has no program
+abbrev pub HasNone : List ℕ → List Signature → LoadFault → Type 0
+HasNone bytes signatures (fault.Parse f) = IsNone bytes f
+HasNone bytes signatures fault.Functions = HasManyFunctions bytes
+HasNone bytes signatures fault.Nodes = HasManyNodes bytes signatures
+HasNone bytes signatures fault.Names = HasManyNames bytes signatures

@@ -1,3 +1,2 @@
 -- What clauses of the code cite, and no believed statement.
 pub mod Explaining
-pub mod Loading

@@ -2,13 +2,12 @@ ghost use Rattle.std.specs.Prelude.{◌≡◌, ◌<◌, ◌≤◌, ◌+◌, ◌+
 ghost use Rattle.std.specs.List.{AllByRecursion};
 ghost use Rattle.std.specs.String.{string_bytes};
 ghost use Rattle.ja_lex.specs.Spots.{max_bytes};
-ghost use Rattle.ja_device.specs.code.Signatures.{AreSignatures};
+ghost use Rattle.ja_device.specs.Signatures.{AreSignatures};
 ghost use Rattle.ja_graph.specs.WellFormed as graph;
 ghost use Rattle.ja_graph.specs.declared.program.TheConstants.{MAX_DEVICES};
 ghost use Rattle.ja_load.specs.code.Explaining.{Explains};
 ghost use Rattle.ja_load.specs.Hosts.{device_sites};
-ghost use Rattle.ja_load.specs.Loading.{IsProgramOf, names_before, program_of, program_with, sites_before};
-ghost use Rattle.ja_load.specs.code.Loading.{HasNone};
+ghost use Rattle.ja_load.specs.Loading.{IsProgramOf, names_before, program_of, program_with, sites_before, HasNone};
 ghost use Rattle.ja_lower.specs.Limits.{IsWithin, max_functions};
 ghost use Rattle.ja_lower.specs.Lowering.{behind_devices, device_names, followed_by, lowered, lowered_prelude};
 ghost use Rattle.ja_prelude.specs.Prelude as spec;

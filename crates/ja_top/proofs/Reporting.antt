@@ -6,7 +6,6 @@ use Rattle.ja_graph.specs.declared.program.Program.{Program}
 use Rattle.ja_grammar.specs.declared.fault.ParseFault.TheVariants as parse_fault
 use Rattle.ja_load.specs.declared.fault.LoadFault.{LoadFault}
 use Rattle.ja_load.specs.declared.fault.LoadFault.TheVariants as fault
-use Rattle.ja_load.specs.code.Loading.{HasNone}
 use Rattle.ja_rows.specs.declared.table.Warning.{Warning}
 use Rattle.ja_prim.specs.declared.signature.Signature.{Signature}
 use Rattle.ja_report.specs.Refusals.{refusal_text}
@@ -19,7 +18,7 @@ use Rattle.ja_top.specs.declared.status.Status.TheVariants.{Done, Warned, Usage,
 use Rattle.ja_top.specs.declared.status.Status.TheVariants.{WriteFault, TooLong, NotText, Syntax}
 use Rattle.ja_top.specs.declared.status.Status.TheVariants.{Scope, Limit, Spent, CertRefused, DeviceFault, Left}
 use Rattle.ja_top.specs.declared.status.Status.TheVariants.{Uncaught, StepsSpent, Memory}
-use Rattle.ja_load.specs.Loading.{IsProgramOf}
+use Rattle.ja_load.specs.Loading.{IsProgramOf, HasNone}
 use Rattle.ja_top.specs.Analyses.{IsAnalysed, Reports, Refuses, Analyses}
 use Rattle.ja_top.specs.Answers.{Call, AnswersBytes, Asks, Follows, HasCause, IsGiven, IsInput, request_of, summing}
 use Rattle.ja_top.specs.Checks.{Checks}

@@ -4,8 +4,7 @@ use Rattle.std.proofs.Common.{◌∙◌, inr, ap, refl, sym, subst}
 use Rattle.ja_base.specs.declared.ids.Memory.{Memory}
 use Rattle.ja_device.specs.Devices.{AllSeen}
 use Rattle.ja_graph.specs.declared.program.Program.{Program}
-use Rattle.ja_load.specs.Loading.{IsProgramOf}
-use Rattle.ja_load.specs.code.Loading.{HasNone}
+use Rattle.ja_load.specs.Loading.{IsProgramOf, HasNone}
 use Rattle.ja_load.specs.declared.fault.LoadFault.{LoadFault}
 use Rattle.ja_prim.specs.declared.signature.Signature.{Signature}
 use Rattle.ja_run.specs.declared.ended.RunEnd.{RunEnd}

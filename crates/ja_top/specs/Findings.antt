@@ -5,8 +5,7 @@ use Rattle.std.specs.List.{AllByRecursion}
 use Rattle.std.specs.Str.Lossy.{utf8_valid_len}
 use Rattle.ja_graph.specs.declared.program.Program.{Program}
 use Rattle.ja_graph.specs.WellFormed.{IsWellFormed}
-use Rattle.ja_load.specs.Loading.{IsProgramOf}
-use Rattle.ja_load.specs.code.Loading.{HasNone}
+use Rattle.ja_load.specs.Loading.{IsProgramOf, HasNone}
 use Rattle.ja_machine.specs.Runs.{NeverStuck}
 use Rattle.ja_prim.specs.declared.signature.Signature.{Signature}
 use Rattle.ja_rows.specs.declared.table.Item.{Item}

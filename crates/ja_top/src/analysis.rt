@@ -2,7 +2,7 @@
 
 ghost use Rattle.std.specs.Prelude.{◌≡◌, ◌≤◌, IfOk, length};
 ghost use Rattle.ja_lex.specs.Spots.{max_bytes};
-ghost use Rattle.ja_device.specs.code.Signatures.{AreSignatures};
+ghost use Rattle.ja_device.specs.Signatures.{AreSignatures};
 ghost use Rattle.ja_graph.specs.WellFormed.{IsWellFormed};
 ghost use Rattle.ja_rules.specs.Tables.{table_of, Fits};
 ghost use Rattle.ja_top.specs.Analyses.{result_text, Analyses, Reports};

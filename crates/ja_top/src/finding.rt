@@ -2,7 +2,7 @@
 
 ghost use Rattle.std.specs.Prelude.{◌≡◌, ◌≤◌, IfErr, IfOk, length};
 ghost use Rattle.ja_lex.specs.Spots.{max_bytes};
-ghost use Rattle.ja_device.specs.code.Signatures.{AreSignatures};
+ghost use Rattle.ja_device.specs.Signatures.{AreSignatures};
 ghost use Rattle.ja_graph.specs.WellFormed.{IsWellFormed};
 ghost use Rattle.ja_top.specs.Findings.{Finds, IsFoundIn, IsUnfoundIn, IsUnfound};
 ghost use Rattle.ja_top.specs.Runs.{signatures_of};

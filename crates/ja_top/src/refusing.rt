@@ -2,7 +2,7 @@
 
 ghost use Rattle.std.specs.Prelude.{◌≡◌, ℕ, List, IfOk};
 ghost use Rattle.ja_cert_read.specs.Certified.{IsNoCertificate};
-ghost use Rattle.ja_load.specs.code.Loading.{HasNone};
+ghost use Rattle.ja_load.specs.Loading.{HasNone};
 ghost use Rattle.ja_prim.specs.declared.signature.Signature.{Signature};
 ghost use Rattle.ja_report.specs.declared.certificates.CertRefusal.TheVariants as certificate;
 ghost use Rattle.ja_top.specs.Analyses.{Refuses};

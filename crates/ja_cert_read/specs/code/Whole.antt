@@ -7,8 +7,8 @@ use Rattle.ja_cert_json.specs.View.{view}
 use Rattle.ja_prim.specs.declared.signature.Signature.{Signature}
 use Rattle.ja_graph.specs.declared.program.Program.{Program}
 use Rattle.ja_lex.specs.Spots.{max_bytes}
-use Rattle.ja_device.specs.code.Signatures.{AreSignatures}
-use Rattle.ja_load.specs.code.Loading.{HasNone}
+use Rattle.ja_device.specs.Signatures.{AreSignatures}
+use Rattle.ja_load.specs.Loading.{HasNone}
 use Rattle.ja_rules.specs.declared.table.CallEdge.{CallEdge}
 use Rattle.ja_cert_read.specs.declared.certificate.CertFault.{CertFault}
 use Rattle.ja_cert_read.specs.declared.certificate.CertFault.TheVariants as fault

@@ -4,7 +4,8 @@ use Rattle.std.proofs.Common.{◌≡◌, true, map, ap, sym, ◌∙◌, subst}
 use Rattle.std.proofs.lemmas.List.{length-map}
 use Rattle.ja_prim.specs.declared.signature.Signature.{Signature}
 use Rattle.ja_device.specs.Devices.{signature_of}
-use Rattle.ja_device.specs.code.Signatures.{is_fit, is_identifier, has_kind, IsFaultBehind}
+use Rattle.ja_device.specs.Signatures.{is_fit, is_identifier, has_kind}
+use Rattle.ja_device.specs.code.Signatures.{IsFaultBehind}
 use Rattle.ja_device.proofs.Signing.{seen_through, fit_by, stands_behind, twice_behind}
 use Rattle.ja_device.proofs.refusing.fault_behind.Given.{Over}
 use Rattle.ja_device.proofs.refusing.fault_behind.Goals as goal

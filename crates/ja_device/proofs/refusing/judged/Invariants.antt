@@ -1,7 +1,7 @@
 -- those so far can be a program's, and there are at most 64
 use Rattle.std.proofs.Common.{◌≤◌, length, map, take}
 use Rattle.ja_device.specs.Devices.{signature_of}
-use Rattle.ja_device.specs.code.Signatures.{AreSignatures}
+use Rattle.ja_device.specs.Signatures.{AreSignatures}
 use Rattle.ja_device.proofs.refusing.judged.Given as goal
 
 abbrev pub invariant-loop-index : goal.invariant-loop-index

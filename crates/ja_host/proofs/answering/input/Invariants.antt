@@ -1,6 +1,6 @@
 -- the answers so far are booleans
 use Rattle.std.proofs.Common.{◌≡◌, true, false, length}
-use Rattle.ja_device.specs.code.Scripts.{AreOfKinds}
+use Rattle.ja_device.specs.Scripts.{AreOfKinds}
 use Rattle.ja_host.proofs.answering.input.Given as goal
 
 abbrev pub invariant-loop-truth : goal.invariant-loop-truth

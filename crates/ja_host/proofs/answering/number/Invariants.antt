@@ -1,6 +1,6 @@
 -- the answers so far are numbers
 use Rattle.std.proofs.Common.{◌≡◌, true, false, length}
-use Rattle.ja_device.specs.code.Scripts.{AreOfKinds}
+use Rattle.ja_device.specs.Scripts.{AreOfKinds}
 use Rattle.ja_host.proofs.answering.number.Given as goal
 
 abbrev pub invariant-loop-number : goal.invariant-loop-number

@@ -1,7 +1,7 @@
 -- The fault is one of the language, or the text passes a limit.
 use Rattle.std.proofs.Common.{subst}
 use Rattle.std.proofs.lemmas.Result.{IfOk-weaker}
-use Rattle.ja_load.specs.code.Loading.{HasNone}
+use Rattle.ja_load.specs.Loading.{HasNone}
 use Rattle.ja_lint_top.specs.code.Answers.{asked_of}
 use Rattle.ja_lint_top.proofs.Refusals.{many_functions, many_nodes}
 use Rattle.ja_lint_top.proofs.refusing.explain_load.Goals as goal

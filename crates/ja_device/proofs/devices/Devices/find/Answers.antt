@@ -1,7 +1,7 @@
 -- The names of what is seen of the devices are those of the devices.
 use Rattle.std.proofs.Common.{ap, ◌∙◌, map, subst}
 use Rattle.ja_device.specs.Devices.{Seen, AllSeen}
-use Rattle.ja_device.specs.code.Signatures.{IsPosition}
+use Rattle.ja_device.specs.Signatures.{IsPosition}
 use Rattle.ja_device.proofs.Signing.{seen_through}
 use Rattle.ja_device.proofs.devices.Devices.find.Goals as goal
 

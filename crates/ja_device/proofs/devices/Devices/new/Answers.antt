@@ -1,6 +1,6 @@
 -- What is judged is what is seen of the list.
 use Rattle.std.proofs.Common.{subst}
-use Rattle.ja_device.specs.code.Signatures.{AreSignatures, IsRefused}
+use Rattle.ja_device.specs.Signatures.{AreSignatures, IsRefused}
 use Rattle.ja_device.proofs.Signing.{signatures_seen}
 use Rattle.ja_device.proofs.devices.Devices.new.Goals as goal
 

@@ -1,7 +1,7 @@
 -- What is seen of the devices that are left is what was seen of all, with one taken out.
 use Rattle.std.proofs.Common.{◌++◌, suc, sym, ap, ◌∙◌, take, drop, subst, add-one}
 use Rattle.ja_device.specs.Devices.{AllSeen, signature_of}
-use Rattle.ja_device.specs.code.Signatures.{AreSignatures}
+use Rattle.ja_device.specs.Signatures.{AreSignatures}
 use Rattle.ja_device.proofs.Signing.{one_fewer, one_fewer_seen}
 use Rattle.ja_device.proofs.devices.Devices.retire.Goals as goal
 

@@ -1,7 +1,7 @@
 -- The next signature is that of the next device, and its name is short.
 use Rattle.std.proofs.Common.{◌≤◌, ap, sym, ◌∙◌, length, map, subst, arith}
 use Rattle.ja_device.specs.Devices.{signature_of}
-use Rattle.ja_device.specs.code.Signatures.{AreSignatures}
+use Rattle.ja_device.specs.Signatures.{AreSignatures}
 use Rattle.ja_device.proofs.Signing.{short_seen, next_signature}
 use Rattle.ja_device.proofs.devices.Devices.signatures.Goals as goal
 
