@@ -217,6 +217,16 @@ module _ (p : Program) (t : Table) (closed : IsClosed p t) where
       (transfer w (point x n j))) d e)) ∙ closed.settled (Step x n)
       (subst (λ r. IsSome r) (sym d) refl, some-is (t.state x n.0) a e)
 
+  -- what a node demands is there, where it has a state
+  pub demands_filled : (x : Context) (n : NodeId) (i : NodeInfo) (a : AbstractState)
+      → node_at p x.function n ≡ Some i → t.state x n.0 ≡ Some a
+      → IsFilled (t.entry x) (transfer (view_at p t x a) (point x n i)).demands
+  demands_filled x n i a d e l k h =
+      let w = view_at p t x a in
+      settled-demand t (effects_step w (point x n i) (transfer w (point x n i)))
+      (step_same x n i a d e) (demands_at_context x (transfer w (point x n i)).demands) l k
+      (inl refl) h
+
   fill_same : (g : Edge) (i : NodeInfo) (a : AbstractState) → t.edge g ≡ true
       → node_at p g.caller.function g.node ≡ Some i → t.state g.caller g.node.0 ≡ Some a
       → applied t (effects_fill t g (view_at p t g.caller a) i) ≡ t
@@ -266,9 +276,7 @@ module _ (p : Program) (t : Table) (closed : IsClosed p t) where
       stays = step_same ctx cov.top.node i cov.state info_is cov.state_is
 
       step_filled : IsFilled w.entries (transfer w x).demands
-      step_filled l k h =
-          settled-demand t (effects_step w x (transfer w x)) stays
-          (demands_at_context ctx (transfer w x).demands) l k (inl refl) h
+      step_filled = demands_filled ctx cov.top.node i cov.state info_is cov.state_is
 
       module _ (a : Answer) (d : Conf) (next : step p c a ≡ Some (event.Next d)) where
         known_after : IsState p d

@@ -1,9 +1,11 @@
 pub mod Assembled
 pub mod AtCovered
 pub mod AtNode
+pub mod AtOperation
 pub mod CallNodes
 pub mod Callables
 pub mod Called
+pub mod Certain
 pub mod Constructed
 pub mod ControlNodes
 pub mod Covering
@@ -18,11 +20,14 @@ pub mod IntoSound
 pub mod Left
 pub mod ObjectNodes
 pub mod Opening
+pub mod OneKey
 pub mod OperationLists
 pub mod OperationRows
 pub mod PropertyNodes
 pub mod Registers
 pub mod Returned
+pub mod RowReads
+pub mod RowsWarned
 pub mod SoundSteps
 pub mod Stacked
 pub mod Steps

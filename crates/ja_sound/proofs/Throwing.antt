@@ -82,7 +82,7 @@ frames_after (event.Next d) = d.frames
 frames_after (event.End e d) = d.frames
 
 -- what holds of all is held by one of them
-contained : {X : Type 0} (P : X → Type 0) (xs : List X) (x : X) → AllByRecursion P xs
+pub contained : {X : Type 0} (P : X → Type 0) (xs : List X) (x : X) → AllByRecursion P xs
     → Contains xs x → P x
 contained P [] x all (k, l, e) = absurd (omega arith)
 contained P (y ∷ ys) x all (zero, l, e) = subst P e all.0

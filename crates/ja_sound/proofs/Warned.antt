@@ -3,7 +3,7 @@
 use Rattle.std.specs.Prelude.{◌≡◌, not, IsTrue, List, Option, Some, None, is_some, Any, Contains}
 use Rattle.std.specs.List.{AllByRecursion}
 use Rattle.std.specs.Option.{option_map}
-use Rattle.std.proofs.Common.{refl, sym, subst, ap, ◌∙◌, arith}
+use Rattle.std.proofs.Common.{refl, sym, ap, ◌∙◌, arith}
 use Rattle.std.proofs.lemmas.Bool.{false≢true, or_left, or_right}
 use Rattle.std.proofs.lemmas.Option.{none-some, same_Some, option_and_then_some}
 use Rattle.ja_base.specs.declared.ids.Reg.{Reg}

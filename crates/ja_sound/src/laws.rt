@@ -6,7 +6,7 @@ ghost use Rattle.ja_graph.specs.WellFormed.{IsWellFormed};
 ghost use Rattle.ja_rows.specs.declared.table.Warning.{Warning};
 ghost use Rattle.ja_rows.specs.Table.{Table, IsClosed};
 ghost use Rattle.ja_rows.specs.Warning.{AreWarnings};
-ghost use Rattle.ja_sound.specs.Sound.{CoversRuns, WarnsOfFaults};
+ghost use Rattle.ja_sound.specs.Sound.{CoversRuns, FailsWhereCertain, WarnsOfFaults, WarnsOfRows};
 ghost use Rattle.ja_sound.specs.Statements.{SoundWithin, SoundInto, SoundOutOf};
 ghost use Rattle.ja_sound.specs.Throws.{FaultsThrow};
 
@@ -55,6 +55,30 @@ pub fn warned_of_faults()
         → AreWarnings p t ws → WarnsOfFaults p ws }
 {
     closed_covers();
+    states_are_kept();
+    objects_stay();
+}
+
+/// A certain warning is certain: a run that comes to its operation goes wrong there. What is called
+/// or constructed runs no function, what a property is asked of is undefined or null, no object of
+/// the scope chain has the name, or what is read is a built-in that isn't there. At the last two the
+/// run may also leave the profile, where a register holds a value that its node doesn't take.
+pub fn fails_where_certain()
+    ensures { (p : Program) (t : Table) (ws : List Warning) → IsWellFormed p → IsClosed p t
+        → AreWarnings p t ws → FailsWhereCertain p ws }
+{
+    closed_covers();
+    states_are_kept();
+    objects_stay();
+}
+
+/// A built-in that isn't there is read nowhere without a warning: where a run leaves the profile at
+/// the read of a name, or of a property whose key is one text in the table's state there, the
+/// warnings of a closed table have that operation.
+pub fn warned_of_rows()
+    ensures { (p : Program) (t : Table) (ws : List Warning) → IsWellFormed p → IsClosed p t
+        → AreWarnings p t ws → WarnsOfRows p t ws }
+{
     states_are_kept();
     objects_stay();
 }
