@@ -1,5 +1,5 @@
--- Where a state that a table covers stands at an operation: the table has a view there, and what the
--- node demands is there.
+-- Where a state that a table covers stands at an operation: the table has a view there, and what
+-- the node demands is there.
 use Rattle.std.specs.Prelude.{◌≡◌, List, ◌∷◌, Some, Contains}
 use Rattle.std.proofs.Common.{refl, sym, subst, ap, ◌∙◌}
 use Rattle.ja_base.specs.declared.ids.Context.{Context}
@@ -29,8 +29,9 @@ first_same : (f g : Frame) (fs gs : List Frame) → f ∷ fs ≡ g ∷ gs → f 
 first_same f g fs gs e = cc
 
 module _ (p : Program) (t : Table) (closed : IsClosed p t) (states : AreStates p)
-    (grows : GrowsAlong p) (answers : List Answer) (c : Conf) (reached : state_of p answers ≡ Some c)
-    (cov : IsCovered p t answers c) (o : Operation) (stands : StandsAt p c o) where
+    (grows : GrowsAlong p) (answers : List Answer) (c : Conf)
+    (reached : state_of p answers ≡ Some c) (cov : IsCovered p t answers c) (o : Operation)
+    (stands : StandsAt p c o) where
   abbrev pub entry_heap : Heap
   entry_heap = cov.at_entry.heap
 

@@ -117,6 +117,9 @@ module _ (e : Heap) (c : Conf) (top : Frame) (below : List Frame) (x : Point) (w
   out : (kind : ScopeKind) → Ends (Some (left_scope s kind)) kind
   out kind = (record c { steps = c.steps + 1 }, refl)
 
+  no_value : Ends (Some (left_scope s scope_kind.Register)) scope_kind.Register
+  no_value = out scope_kind.Register
+
   abbrev pub FailsAt : Node → WarningKind → Type 0
   FailsAt n NotAFunction = fault_at p top n ≡ Some NotAFunction
   FailsAt n NoObject = fault_at p top n ≡ Some NoObject
@@ -139,7 +142,8 @@ module _ (e : Heap) (c : Conf) (top : Frame) (below : List Frame) (x : Point) (w
       → IsObjectOf c.heap a → IsTrue (test (label_of c.heap a))
       → IsTrue (some_label w test)
   some-object test a o h =
-      some_among test (labels_of p) (label_of c.heap a) (label_of-among p c.heap at.known.heap a o) h
+      some_among test (labels_of p) (label_of c.heap a)
+      (label_of-among p c.heap at.known.heap a o) h
 
   called_none : (v : AbstractValue) (u : Value) → IsValueOf c.heap u
       → IsTrue (has_value c.heap v u) → some_entry w (calls_at p) v ≡ false
@@ -201,10 +205,10 @@ module _ (e : Heap) (c : Conf) (top : Frame) (below : List Frame) (x : Point) (w
       absurd (both_ways (has_labels w v) none (some-object v.label a o told))
   unbound_held dst name error v (value.Primitive primitive.Null) o told none = inl refl
   unbound_held dst name error v (value.Primitive primitive.Undefined) o told none =
-      inr (out scope_kind.Register)
-  unbound_held dst name error v (value.Primitive (primitive.Bool b)) o told none = inr (out scope_kind.Register)
-  unbound_held dst name error v (value.Primitive (primitive.Number n)) o told none = inr (out scope_kind.Register)
-  unbound_held dst name error v (value.Primitive (primitive.Text t)) o told none = inr (out scope_kind.Register)
+      inr no_value
+  unbound_held dst name error v (value.Primitive (primitive.Bool b)) o told none = inr no_value
+  unbound_held dst name error v (value.Primitive (primitive.Number n)) o told none = inr no_value
+  unbound_held dst name error v (value.Primitive (primitive.Text t)) o told none = inr no_value
 
   -- ---- rows
 
@@ -237,10 +241,10 @@ module _ (e : Heap) (c : Conf) (top : Frame) (below : List Frame) (x : Point) (w
       ref_row error (value.Object a) o told no_null none = name_row a o told none
       ref_row error (value.Primitive primitive.Null) o told no_null none =
           absurd (both_ways v.flags.null no_null told)
-      ref_row error (value.Primitive primitive.Undefined) o told no_null none = inr (out scope_kind.Register)
-      ref_row error (value.Primitive (primitive.Bool b)) o told no_null none = inr (out scope_kind.Register)
-      ref_row error (value.Primitive (primitive.Number z)) o told no_null none = inr (out scope_kind.Register)
-      ref_row error (value.Primitive (primitive.Text t)) o told no_null none = inr (out scope_kind.Register)
+      ref_row error (value.Primitive primitive.Undefined) o told no_null none = inr no_value
+      ref_row error (value.Primitive (primitive.Bool b)) o told no_null none = inr no_value
+      ref_row error (value.Primitive (primitive.Number z)) o told no_null none = inr no_value
+      ref_row error (value.Primitive (primitive.Text t)) o told no_null none = inr no_value
 
       soft_row : (u : Value) → IsValueOf c.heap u → IsTrue (has_value c.heap v u)
           → v.flags.null ≡ false → has_no_row w v.label (name_keys name) ≡ false
@@ -248,10 +252,10 @@ module _ (e : Heap) (c : Conf) (top : Frame) (below : List Frame) (x : Point) (w
       soft_row (value.Object a) o told no_null none = name_row a o told none
       soft_row (value.Primitive primitive.Null) o told no_null none =
           absurd (both_ways v.flags.null no_null told)
-      soft_row (value.Primitive primitive.Undefined) o told no_null none = inr (out scope_kind.Register)
-      soft_row (value.Primitive (primitive.Bool b)) o told no_null none = inr (out scope_kind.Register)
-      soft_row (value.Primitive (primitive.Number z)) o told no_null none = inr (out scope_kind.Register)
-      soft_row (value.Primitive (primitive.Text t)) o told no_null none = inr (out scope_kind.Register)
+      soft_row (value.Primitive primitive.Undefined) o told no_null none = inr no_value
+      soft_row (value.Primitive (primitive.Bool b)) o told no_null none = inr no_value
+      soft_row (value.Primitive (primitive.Number z)) o told no_null none = inr no_value
+      soft_row (value.Primitive (primitive.Text t)) o told no_null none = inr no_value
 
   module _ (dst object key : Reg) (l : IsRegister fr.function object)
       (m : IsRegister fr.function key) (filled : IsFilled w.entries
@@ -268,7 +272,7 @@ module _ (e : Heap) (c : Conf) (top : Frame) (below : List Frame) (x : Point) (w
     prop_row : (k : Key) → one_key w kv ≡ Some k → has_no_row w ov.label (k ∷ []) ≡ false
         → (u : Value) → IsValueOf c.heap u → IsTrue (has_value c.heap ov u)
         → EndsOut (Some (step_with u (key_text (register_of top key))))
-    prop_row k one none (value.Primitive q) o told = inr (out scope_kind.Register)
+    prop_row k one none (value.Primitive q) o told = inr no_value
     prop_row k one none (value.Object a) o told =
         let (t, text_is, key_is) =
         text_held w good kv k one c.heap at.known.heap (register_of top key) (there key m)

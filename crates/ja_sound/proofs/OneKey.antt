@@ -65,8 +65,8 @@ number_rest_none p n none k = absurd (false≢true (sym none))
 
 twice : (q : AbstractProperty) → join_properties q q ≡ q
 twice q =
-    property_equal (join_properties q q) q (property_least q q q (property_same q) (property_same q))
-    (property-join q q)
+    property_equal (join_properties q q) q
+    (property_least q q q (property_same q) (property_same q)) (property-join q q)
 
 join_same : (f : Key → AbstractProperty) (k : Key) (js : List Key)
     → AllByRecursion (λ (j : Key). j ≡ k) js → IsTrue (is_among_keys js k)

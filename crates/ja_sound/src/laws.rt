@@ -6,7 +6,8 @@ ghost use Rattle.ja_graph.specs.WellFormed.{IsWellFormed};
 ghost use Rattle.ja_rows.specs.declared.table.Warning.{Warning};
 ghost use Rattle.ja_rows.specs.Table.{Table, IsClosed};
 ghost use Rattle.ja_rows.specs.Warning.{AreWarnings};
-ghost use Rattle.ja_sound.specs.Sound.{CoversRuns, FailsWhereCertain, WarnsOfFaults, WarnsOfRows};
+ghost use Rattle.ja_sound.specs.Sound.{CoversRuns, FailsWhereCertain, WarnsOfFaults};
+ghost use Rattle.ja_sound.specs.Sound.{WarnsOfRows};
 ghost use Rattle.ja_sound.specs.Statements.{SoundWithin, SoundInto, SoundOutOf};
 ghost use Rattle.ja_sound.specs.Throws.{FaultsThrow};
 
@@ -61,8 +62,8 @@ pub fn warned_of_faults()
 
 /// A certain warning is certain: a run that comes to its operation goes wrong there. What is called
 /// or constructed runs no function, what a property is asked of is undefined or null, no object of
-/// the scope chain has the name, or what is read is a built-in that isn't there. At the last two the
-/// run may also leave the profile, where a register holds a value that its node doesn't take.
+/// the scope chain has the name, or what is read is a built-in that isn't there. At the last two
+/// the run may also leave the profile, where a register holds a value that its node doesn't take.
 pub fn fails_where_certain()
     ensures { (p : Program) (t : Table) (ws : List Warning) → IsWellFormed p → IsClosed p t
         → AreWarnings p t ws → FailsWhereCertain p ws }

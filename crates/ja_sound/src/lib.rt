@@ -4,10 +4,11 @@
 //! Laws, of every well-formed program: a step within an activation is sound, of each kind of node
 //! (`steps_sound`), and so are a step into a function (`entries_sound`) and one out of it
 //! (`returns_sound`); so a closed table covers every run (`closed_covers`), and its warnings have
-//! each operation that goes wrong in some run (`warned_of_faults`), and each read of a built-in that
-//! isn't there (`warned_of_rows`). Where a warning is certain, each run that comes to its operation
-//! fails there (`fails_where_certain`). What goes wrong is what throws (`faults_throw`). The
-//! abstract operations of the built-in functions cover the machine's (`operations_cover`).
+//! each operation that goes wrong in some run (`warned_of_faults`), and each read of a name or a
+//! known property that is a built-in that isn't there (`warned_of_rows`). Where a warning is
+//! certain, each run that comes to its operation fails there (`fails_where_certain`). What goes
+//! wrong is what throws (`faults_throw`). The abstract operations of the built-in functions cover
+//! the machine's (`operations_cover`).
 #![tactic(auto)]
 
 mod laws;
