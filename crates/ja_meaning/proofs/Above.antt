@@ -79,14 +79,12 @@ holds-above p e c f a b l h = record {
     some = λ t k. sym (ap (λ (m : Mask). m.some) (l.mask t.0)) ∙ or_left _ _ (h.heap.some t k);
     none = λ t k. sym (ap (λ (m : Mask). m.none) (l.mask t.0)) ∙ or_left _ _ (h.heap.none t k);
   };
-  frame = record {
-    registers =
-        λ r v k. leq_has_value c (a.register r) (b.register r) v (l.register r)
-        (h.frame.registers r v k);
-    rest =
-        λ i v more k. leq_has_value c (a.register (rest_of p f)) (b.register (rest_of p f)) v
-        (l.register (rest_of p f)) (h.frame.rest i v more k);
-  };
+  registers =
+      λ r v k. leq_has_value c (a.register r) (b.register r) v (l.register r)
+      (h.registers r v k);
+  rest =
+      λ i v more k. leq_has_value c (a.register (rest_of p f)) (b.register (rest_of p f)) v
+      (l.register (rest_of p f)) (h.rest i v more k);
 }
 
 -- ---- what a join keeps
@@ -101,14 +99,12 @@ holds-join_left p e c f a b h = record {
     some = λ t l. or_left _ _ (h.heap.some t l);
     none = λ t l. or_left _ _ (h.heap.none t l);
   };
-  frame = record {
-    registers =
-        λ r v k. has_value-join_left c (a.register r) (b.register r) v (h.frame.registers r v k);
-    rest =
-        λ i v more is. has_value-join_left c (a.register
-        (rest_register (parameters_of p f.function)))
-        (b.register (rest_register (parameters_of p f.function))) v (h.frame.rest i v more is);
-  };
+  registers =
+      λ r v k. has_value-join_left c (a.register r) (b.register r) v (h.registers r v k);
+  rest =
+      λ i v more is. has_value-join_left c (a.register
+      (rest_register (parameters_of p f.function)))
+      (b.register (rest_register (parameters_of p f.function))) v (h.rest i v more is);
 }
 
 pub holds-join_right : (p : Program) (e c : Heap) (f : Frame) (a b : AbstractState)
@@ -121,12 +117,10 @@ holds-join_right p e c f a b h = record {
     some = λ t l. or_right (a.mask t.0).some (b.mask t.0).some (h.heap.some t l);
     none = λ t l. or_right (a.mask t.0).none (b.mask t.0).none (h.heap.none t l);
   };
-  frame = record {
-    registers =
-        λ r v k. has_value-join_right c (a.register r) (b.register r) v (h.frame.registers r v k);
-    rest =
-        λ i v more is. has_value-join_right c (a.register
-        (rest_register (parameters_of p f.function)))
-        (b.register (rest_register (parameters_of p f.function))) v (h.frame.rest i v more is);
-  };
+  registers =
+      λ r v k. has_value-join_right c (a.register r) (b.register r) v (h.registers r v k);
+  rest =
+      λ i v more is. has_value-join_right c (a.register
+      (rest_register (parameters_of p f.function)))
+      (b.register (rest_register (parameters_of p f.function))) v (h.rest i v more is);
 }

@@ -24,7 +24,8 @@ use Rattle.ja_abstract.specs.Keys.{Spot, key_of}
 use Rattle.ja_abstract.specs.Made.{Own, rest_register, at_keys_of, with_own, with_object, with_objects}
 use Rattle.ja_abstract.proofs.Labels.{same_label-self, label_parts, other_site, new_not_old}
 use Rattle.ja_abstract.proofs.AtKeys.{at_key}
-use Rattle.ja_meaning.specs.Meaning.{knows, IsOfHeap, Grows, Tells, HoldsOf, HoldsOfHeap, HoldsOfFrame}
+use Rattle.ja_meaning.specs.Meaning.{knows, IsOfHeap, Grows, Tells}
+use Rattle.ja_meaning.proofs.Held.{HoldsOf, HoldsOfAll, HoldsOfFrame}
 use Rattle.ja_meaning.proofs.Contents
 use Rattle.ja_meaning.proofs.Aged.{aged_has, aged_knows}
 use Rattle.ja_meaning.proofs.Tells.{tells-join_left, tells-join_right}
@@ -170,7 +171,7 @@ IsMade p now o own = (x : Spot) → IsTrue (knows now (own (key_of p x)) (object
 
 module _ (p : Program) (e h : Heap) (s : Site) (o : Object) (row : s.0 < length h.objects)
     (a : AbstractState) (grown : Grows e h) (of_heap : (b : Addr) (x : Spot) → IsObjectOf h b
-    → IsOfHeap h (content h b x)) (holds : HoldsOfHeap p e h a) (own : AbstractState → Own)
+    → IsOfHeap h (content h b x)) (holds : HoldsOfAll p e h a) (own : AbstractState → Own)
     (made : IsMade p (with_new h s o) o (own (with_made a s))) where
   abbrev now : Heap
   now = with_new h s o
@@ -199,7 +200,7 @@ module _ (p : Program) (e h : Heap) (s : Site) (o : Object) (row : s.0 < length 
       subst (λ d. Tells e now d x ((with_object p a s own).property (label_of now d) (key_of p x)))
       (sym is) (new_told x)
 
-  pub with_object_holds : HoldsOfHeap p e now (with_object p a s own)
+  pub with_object_holds : HoldsOfAll p e now (with_object p a s own)
   with_object_holds = record {
     objects = λ b x there. told_by b x (Heaps.old_or_new h s o row b there);
     some = others.some;
@@ -233,7 +234,7 @@ of_grown h now grows (present_row attrs) there = tt
 module _ (p : Program) (e h : Heap) (s t : Site) (o q : Object) (row : s.0 < length h.objects)
     (row_too : t.0 < length (with_new h s o).objects) (apart : s.0 ≢ t.0) (a : AbstractState)
     (grown : Grows e h) (of_heap : (b : Addr) (x : Spot) → IsObjectOf h b
-    → IsOfHeap h (content h b x)) (holds : HoldsOfHeap p e h a) where
+    → IsOfHeap h (content h b x)) (holds : HoldsOfAll p e h a) where
   abbrev middle : Heap
   middle = with_new h s o
 
@@ -348,7 +349,7 @@ module _ (p : Program) (e h : Heap) (s t : Site) (o q : Object) (row : s.0 < len
         subst (λ d. Tells e two d x (both_state.property (label_of two d) (key_of p x))) (sym is)
         (second_told x)
 
-    pub with_objects_holds : HoldsOfHeap p e two both_state
+    pub with_objects_holds : HoldsOfAll p e two both_state
     with_objects_holds = record {
       objects = λ b x there. told_two b x (Heaps.old_or_new middle t q row_too b there);
       some = twice.some;

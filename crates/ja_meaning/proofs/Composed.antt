@@ -19,7 +19,8 @@ use Rattle.ja_abstract.specs.Contents.{held, content, label_of}
 use Rattle.ja_abstract.specs.Composed.{renamed_value, all_of, composed}
 use Rattle.ja_abstract.proofs.Labels.{IsAmong}
 use Rattle.ja_abstract.proofs.AtKeys.{at_key}
-use Rattle.ja_meaning.specs.Meaning.{knows, has_value, IsAsAtEntry, Grows, Tells, HoldsOfHeap}
+use Rattle.ja_meaning.specs.Meaning.{knows, has_value, IsAsAtEntry, Grows, Tells}
+use Rattle.ja_meaning.proofs.Held.{HoldsOfAll}
 use Rattle.ja_meaning.proofs.Inside.{inside}
 use Rattle.ja_meaning.proofs.Parts.{knows-known_part}
 use Rattle.ja_meaning.proofs.Resolved.{IsAged, knows-renamed, origins-has}
@@ -32,7 +33,7 @@ pub has-renamed : (m c : Heap) (x : AbstractState) → IsAged m c x.mask
 has-renamed m c x aged v u there has = knows-renamed m c x.mask aged (bare v) (held u) there has
 
 module _ (p : Program) (e m c : Heap) (known : IsHeap p m) (up : Grows e m) (on : Grows m c)
-    (a x : AbstractState) (first : HoldsOfHeap p e m a) (second : HoldsOfHeap p m c x) where
+    (a x : AbstractState) (first : HoldsOfAll p e m a) (second : HoldsOfAll p m c x) where
   aged : IsAged m c x.mask
   aged = record { grows = on; some = second.some; none = second.none }
 
@@ -98,7 +99,7 @@ module _ (p : Program) (e m c : Heap) (known : IsHeap p m) (up : Grows e m) (on 
       (λ no. absurd (false≢true (sym no ∙ k.0)))
 
   -- the composed state holds of the first and the last moment
-  pub composed_holds : HoldsOfHeap p e c (composed p a x)
+  pub composed_holds : HoldsOfAll p e c (composed p a x)
   composed_holds = record {
     objects =
         λ b y there. subst (Tells e c b y) (sym (at_key p (resolved x (all_of a) (label_of c b)) y))

@@ -38,7 +38,8 @@ use Rattle.ja_abstract.proofs.Keys.{text_of_key, same_key-true, same_key-self}
 use Rattle.ja_abstract.proofs.Lists.{Member, member-append_left, member-append_right}
 use Rattle.ja_abstract.proofs.Joins.{and_three_parts}
 use Rattle.ja_abstract.proofs.Among.{some_key, among-filter}
-use Rattle.ja_meaning.specs.Meaning.{has_value, knows, IsOfHeap, Tells, HoldsOfHeap}
+use Rattle.ja_meaning.specs.Meaning.{has_value, knows, IsOfHeap, Tells}
+use Rattle.ja_meaning.proofs.Held.{HoldsOfAll, all_of}
 use Rattle.ja_meaning.proofs.Contents
 use Rattle.ja_meaning.proofs.Contents.{named_cases}
 use Rattle.ja_meaning.proofs.Inside.{inside}
@@ -52,8 +53,8 @@ use Rattle.ja_meaning.proofs.Written.{Wrote, tells-now, written-knows, weak_upda
 
 -- where nothing of an object changes the state holds as it is
 pub same_holds : (p : Program) (e c now : Heap) (a : Addr) (wrote : Wrote c now a)
-    (s : AbstractState) → HoldsOfHeap p e c s → ((y : Spot) → content now a y ≡ content c a y)
-    → HoldsOfHeap p e now s
+    (s : AbstractState) → HoldsOfAll p e c s → ((y : Spot) → content now a y ≡ content c a y)
+    → HoldsOfAll p e now s
 same_holds p e c now a wrote s holds same = record {
   objects =
       λ b y there. subst (λ l. Tells e now b y (s.property l (key_of p y))) (sym (wrote.labels b))
@@ -100,7 +101,7 @@ pub record IsDeleted (e c : Heap) (w : View) (a : Addr) (now : Heap) (b : Bool)
   pub among : Member {X = Deletion} (value, state) results
   pub has : IsTrue (has_value now value (bool_value b))
   pub registers : state.register ≡ w.state.register
-  pub heap : HoldsOfHeap w.program e now state
+  pub heap : HoldsOfAll w.program e now state
   pub wrote : Wrote c now a
 
 module _ (e c : Heap) (w : View) (r : Reads e c w) (good : IsWellFormed w.program) (target : Labels)
@@ -123,8 +124,8 @@ module _ (e c : Heap) (w : View) (r : Reads e c w) (good : IsWellFormed w.progra
   of_program : IsTrue (is_label p l)
   of_program = label-of_program e c w r a is_object
 
-  holds : HoldsOfHeap p e c w.state
-  holds = r.holds
+  holds : HoldsOfAll p e c w.state
+  holds = all_of r.holds
 
   filled_own : IsFilled w.entries (demands_of w.state l k)
   filled_own m j d =
@@ -163,8 +164,8 @@ module _ (e c : Heap) (w : View) (r : Reads e c w) (good : IsWellFormed w.progra
       (x_has : IsTrue (has_value now v (bool_value b)))
       (x_registers : x.register ≡ w.state.register)
       (x_holds : ((y : Spot) → IsTrue (same_key k (key_of p y)) → y ≡ named t) → l.old ≡ false
-      → HoldsOfHeap p e now x) (weak_has : IsTrue (has_value now weak_value (bool_value b)))
-      (weak : HoldsOfHeap p e now (weak_update p w.state target (delete_list w keys))) where
+      → HoldsOfAll p e now x) (weak_has : IsTrue (has_value now weak_value (bool_value b)))
+      (weak : HoldsOfAll p e now (weak_update p w.state target (delete_list w keys))) where
     deleted_by : (s : Option (Label × Key)) → strong_at w target keys ≡ s
         → IsDeleted e c w a now b (option_map_or (λ (s : Label × Key). strong_delete w s.0 s.1) s
         (weak_delete w target keys))

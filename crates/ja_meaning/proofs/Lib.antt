@@ -13,6 +13,7 @@ pub mod Found
 pub mod Frames
 pub mod Gets
 pub mod Grown
+pub mod Held
 pub mod Inside
 pub mod KeyTexts
 pub mod Labelled

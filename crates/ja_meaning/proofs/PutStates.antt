@@ -36,7 +36,8 @@ use Rattle.ja_abstract.proofs.Lists.{Member, member-append_left, member-append_r
 use Rattle.ja_abstract.proofs.Rounds.{reached-start}
 use Rattle.ja_abstract.proofs.Joins.{and_three, and_three_parts}
 use Rattle.ja_abstract.proofs.Among.{some_key}
-use Rattle.ja_meaning.specs.Meaning.{has_value, knows, HoldsOfHeap}
+use Rattle.ja_meaning.specs.Meaning.{has_value, knows}
+use Rattle.ja_meaning.proofs.Held.{HoldsOfAll, all_of}
 use Rattle.ja_meaning.proofs.Parts.{allows_attrs-known}
 use Rattle.ja_meaning.proofs.Moments.{Reads}
 use Rattle.ja_meaning.proofs.Gets.{some_label-object, label-of_program, get_known}
@@ -114,7 +115,7 @@ pub record IsLeft (e c : Heap) (w : View) (a : Addr) (now : Heap)
   pub state : AbstractState
   pub among : Member state states
   pub registers : state.register ≡ w.state.register
-  pub heap : HoldsOfHeap w.program e now state
+  pub heap : HoldsOfAll w.program e now state
   pub wrote : Wrote c now a
 
 module _ (e c : Heap) (w : View) (r : Reads e c w) (good : IsWellFormed w.program) (target : Labels)
@@ -138,8 +139,8 @@ module _ (e c : Heap) (w : View) (r : Reads e c w) (good : IsWellFormed w.progra
   of_program : IsTrue (is_label p l)
   of_program = label-of_program e c w r a is_object
 
-  holds : HoldsOfHeap p e c w.state
-  holds = r.holds
+  holds : HoldsOfAll p e c w.state
+  holds = all_of r.holds
 
   filled_put : IsFilled w.entries (demands_of_put w l k)
   filled_put m j d =
@@ -175,8 +176,8 @@ module _ (e c : Heap) (w : View) (r : Reads e c w) (good : IsWellFormed w.progra
   module _ (now : Heap) (wrote : Wrote c now a) (x : AbstractState)
       (x_among : Member x (strong_put w l k u)) (x_registers : x.register ≡ w.state.register)
       (x_holds : ((y : Spot) → IsTrue (same_key k (key_of p y)) → y ≡ named t) → l.old ≡ false
-      → HoldsOfHeap p e now x) (something : IsTrue (puts_something w l k u))
-      (weak : HoldsOfHeap p e now (weak_update p w.state target (put_list w keys u))) where
+      → HoldsOfAll p e now x) (something : IsTrue (puts_something w l k u))
+      (weak : HoldsOfAll p e now (weak_update p w.state target (put_list w keys u))) where
     left_by : (s : Option (Label × Key)) → strong_at w target keys ≡ s
         → IsLeft e c w a now (option_map_or (λ (s : Label × Key). strong_put w s.0 s.1 u) s
         (weak_put w target keys u))

@@ -22,7 +22,8 @@ use Rattle.ja_abstract.specs.Keys.{Spot, named, key_of}
 use Rattle.ja_abstract.specs.Writes.{Write, sets_at, joined_at, replaced_at, strong_update, weak_update}
 use Rattle.ja_abstract.proofs.Labels.{same_label-self, same_label-true}
 use Rattle.ja_abstract.proofs.Lists.{Member}
-use Rattle.ja_meaning.specs.Meaning.{has_value, knows, Tells, HoldsOfHeap}
+use Rattle.ja_meaning.specs.Meaning.{has_value, knows, Tells}
+use Rattle.ja_meaning.proofs.Held.{HoldsOfAll}
 use Rattle.ja_meaning.proofs.Contents
 use Rattle.ja_meaning.proofs.Values.{knows-join_left, knows-join_right}
 use Rattle.ja_meaning.proofs.Contents.{label_of-new}
@@ -89,7 +90,7 @@ module _ (c now : Heap) (a : Addr) (wrote : Wrote c now a) where
 -- ---- weak and strong
 
 module _ (p : Program) (e c now : Heap) (a : Addr) (wrote : Wrote c now a) (s : AbstractState)
-    (holds : HoldsOfHeap p e c s) where
+    (holds : HoldsOfAll p e c s) where
   masks_some : (t : Site) → count e t < count now t → IsTrue (s.mask t.0).some
   masks_some t l = let u : count now t ≡ count c t = wrote.counts t in holds.some t (omega arith)
 
@@ -151,7 +152,7 @@ module _ (p : Program) (e c now : Heap) (a : Addr) (wrote : Wrote c now a) (s : 
         (λ out. by.1 (λ is. false≢true (sym out ∙ (ap (λ m. is_label p m && target m)
         (ap (label_of now) is ∙ wrote.labels a) ∙ and_from _ _ of_program among))))
 
-    pub weak_update_holds : HoldsOfHeap p e now (weak_update p s target writes)
+    pub weak_update_holds : HoldsOfAll p e now (weak_update p s target writes)
     weak_update_holds = record { objects = weak_tells; some = masks_some; none = masks_none }
 
   -- at the one object of a new label each spot is told of by what replaces the property there
@@ -180,7 +181,7 @@ module _ (p : Program) (e c now : Heap) (a : Addr) (wrote : Wrote c now a) (s : 
         (ap (label_of now) is ∙ (wrote.labels a ∙ label_is))) (same_label-self l))))
         (old_tells b x there))
 
-    pub strong_update_holds : HoldsOfHeap p e now (strong_update s l writes)
+    pub strong_update_holds : HoldsOfAll p e now (strong_update s l writes)
     strong_update_holds = record { objects = strong_tells; some = masks_some; none = masks_none }
 
 -- ---- the value of a name is put on an object that is no array
@@ -199,7 +200,7 @@ module _ (p : Program) (e c : Heap) (a : Addr) (o : Object) (there : object_at c
         λ b x other. Contents.content-with_object_other c a o there t v b x (λ both. other both.0);
   }
 
-  module _ (s : AbstractState) (holds : HoldsOfHeap p e c s) (k : Key) (q : AbstractProperty)
+  module _ (s : AbstractState) (holds : HoldsOfAll p e c s) (k : Key) (q : AbstractProperty)
       (known : IsTrue (knows now q (content now a (named t))))
       (same : IsTrue (same_key k (key_of p (named t)))) where
     abbrev one : List Write
@@ -233,7 +234,7 @@ module _ (p : Program) (e c : Heap) (a : Addr) (o : Object) (there : object_at c
           (sym is) same))) (holds.objects a x (subst (λ z. IsSome z) (sym there) refl)))
 
       pub strong_put_holds : (l : Label) → label_of c a ≡ l → l.old ≡ false
-          → HoldsOfHeap p e now (strong_update s l one)
+          → HoldsOfAll p e now (strong_update s l one)
       strong_put_holds l is new =
           strong_update_holds p e c now a wrote_value s holds l is new one
           (λ x. subst (λ m. Tells e now a x (replaced_at one (s.property m (key_of p x))

@@ -20,7 +20,6 @@ use Rattle.ja_abstract.specs.Resolved.{Entries}
 use Rattle.ja_abstract.specs.Parts.{has_primitive, allows_attrs}
 use Rattle.ja_abstract.specs.Keys.{Spot, key_of}
 use Rattle.ja_abstract.specs.Contents.{label_of, missing, present_row, SpotContent, held, present, content}
-use Rattle.ja_abstract.specs.declared.abstraction.Mask.{Mask}
 use Rattle.ja_abstract.specs.Made.{rest_register}
 
 -- the value has the part of a value of the heap
@@ -35,7 +34,7 @@ knows h q (held v) = has_value h q.value v
 knows h q (present v attrs) = has_value h q.value v && allows_attrs q.attrs attrs
 knows h q (present_row attrs) = q.value.flags.row && allows_attrs q.attrs attrs
 
--- ---- states
+-- ---- as at entry
 
 -- the object was there at the entry, and has now what it had there
 pub record IsAsAtEntry (at_entry now : Heap) (a : Addr) (x : Spot) : Type 0 where
@@ -70,41 +69,26 @@ Tells at_entry now a x q =
     IsTrue (knows now q (content now a x)) ⊎ (IsTrue q.value.flags.entry
     × IsAsAtEntry at_entry now a x)
 
-abbrev pub Properties : Type 0
-Properties = Label → Key → AbstractProperty
+-- ---- states
 
--- What the properties and the masks of a state say of the objects of a set. It takes them apart, so
--- that it is the same of a state with another register.
-pub record HoldsOfParts (p : Program) (There : Addr → Type 0) (at_entry now : Heap)
-    (property : Properties) (mask : ℕ → Mask) : Type 0 where
-  pub objects : (a : Addr) (x : Spot) → There a
-      → Tells at_entry now a x (property (label_of now a) (key_of p x))
-  pub some : (t : Site) → count at_entry t < count now t → IsTrue (mask t.0).some
-  pub none : (t : Site) → count at_entry t ≡ count now t → IsTrue (mask t.0).none
+-- A state holds of a heap: its properties say of each object what it has, and its masks at which
+-- sites objects were made since the entry, and at which none was.
+pub record HoldsOfHeap (p : Program) (at_entry now : Heap) (s : AbstractState) : Type 0 where
+  pub objects : (a : Addr) (x : Spot) → IsObjectOf now a
+      → Tells at_entry now a x (s.property (label_of now a) (key_of p x))
+  pub some : (t : Site) → count at_entry t < count now t → IsTrue (s.mask t.0).some
+  pub none : (t : Site) → count at_entry t ≡ count now t → IsTrue (s.mask t.0).none
 
-abbrev pub HoldsOf : Program → (Addr → Type 0) → Heap → Heap → AbstractState → Type 0
-HoldsOf p There at_entry now s = HoldsOfParts p There at_entry now s.property s.mask
-
--- .. of a heap
-abbrev pub HoldsOfHeap : Program → Heap → Heap → AbstractState → Type 0
-HoldsOfHeap p at_entry now s = HoldsOf p (IsObjectOf now) at_entry now s
-
--- .. of a frame: its registers, and its arguments past the parameters
+-- the register of the arguments past the parameters
 abbrev pub rest_of : Program → Frame → ℕ
 rest_of p f = rest_register (parameters_of p f.function)
 
-pub record HoldsOfRegisters (p : Program) (now : Heap) (f : Frame)
-    (register : ℕ → AbstractValue) : Type 0 where
-  pub registers : (r : ℕ) (v : Value) → slice_get f.registers r ≡ Some v
-      → IsTrue (has_value now (register r) v)
-  pub rest : (i : ℕ) (v : Value) → parameters_of p f.function ≤ i → slice_get f.arguments i ≡ Some v
-      → IsTrue (has_value now (register (rest_of p f)) v)
-
-abbrev pub HoldsOfFrame : Program → Heap → Frame → AbstractState → Type 0
-HoldsOfFrame p now f s = HoldsOfRegisters p now f s.register
-
--- an abstract state holds of a heap and a frame, where at_entry is the heap when the frame was
--- entered
+-- A state holds of a heap and a frame, where at_entry is the heap when the frame was entered: its
+-- registers have what those of the frame hold, and the last of them the arguments past the
+-- parameters.
 pub record Holds (p : Program) (at_entry now : Heap) (f : Frame) (s : AbstractState) : Type 0 where
   pub heap : HoldsOfHeap p at_entry now s
-  pub frame : HoldsOfFrame p now f s
+  pub registers : (r : ℕ) (v : Value) → slice_get f.registers r ≡ Some v
+      → IsTrue (has_value now (s.register r) v)
+  pub rest : (i : ℕ) (v : Value) → parameters_of p f.function ≤ i → slice_get f.arguments i ≡ Some v
+      → IsTrue (has_value now (s.register (rest_of p f)) v)

@@ -41,6 +41,7 @@ use Rattle.ja_abstract.proofs.Keys.{same_key_from, key_of-name, text_of_key}
 use Rattle.ja_abstract.proofs.Labels.{same_label_from}
 use Rattle.ja_abstract.proofs.Lists.{Member}
 use Rattle.ja_meaning.specs.Meaning.{has_value, Holds}
+use Rattle.ja_meaning.proofs.Held.{all_of, frame_of, holding}
 use Rattle.ja_meaning.proofs.Contents
 use Rattle.ja_meaning.proofs.Frames.{register_of_heap, register_held}
 use Rattle.ja_meaning.proofs.Inside.{inside}
@@ -97,7 +98,7 @@ module _ (e : Heap) (c : Conf) (top : Frame) (below : List Frame) (x : Point) (w
 
   pub has : (r : Reg) → IsRegister fr.function r
       → IsTrue (has_value c.heap (abstract.at w r) (register_of top r))
-  has r l = at.holds.frame.registers r.0 (register_of top r) (register_held top r (fits r l))
+  has r l = at.holds.registers r.0 (register_of top r) (register_held top r (fits r l))
 
   pub of_heap : (r : Reg) → IsRegister fr.function r → IsValueOf c.heap (register_of top r)
   of_heap r l = register_of_heap p c.heap top r fr (fits r l)
@@ -166,15 +167,14 @@ module _ (e : Heap) (c : Conf) (top : Frame) (below : List Frame) (x : Point) (w
         frames_are = refl;
         state = abstract.makes w dst t own;
         among = among;
-        holds = record {
-          heap =
-              with_object_holds p e c.heap t o (row t site) w.state at.grows
-              (λ b y there. inside p c.heap at.known.heap b y) at.holds.heap own (made_ after.heap);
-          frame =
-              frame_with_result p now top (with_object w.program w.state t own) dst
-              (value.Object a) u n d told (frame_aged p c.heap t o
-              (row t site) top w.state fr.values fr.arguments at.holds.frame);
-        };
+        holds =
+            holding
+            (with_object_holds p e c.heap t o (row t site) w.state at.grows
+            (λ b y there. inside p c.heap at.known.heap b y) (all_of at.holds.heap) own
+            (made_ after.heap))
+            (frame_with_result p now top (with_object w.program w.state t own) dst
+            (value.Object a) u n d told (frame_aged p c.heap t o
+            (row t site) top w.state fr.values fr.arguments (frame_of at.holds)));
       }
 
   -- what a register is set to, anywhere
@@ -189,9 +189,6 @@ module _ (e : Heap) (c : Conf) (top : Frame) (below : List Frame) (x : Point) (w
     state = with_register w.state dst u;
     among = among (is_present-has_value p c.heap at.known.heap u v there told);
     holds =
-        record {
-          heap = at.holds.heap;
-          frame = frame_with_result p c.heap top w.state dst v u n d
-              told at.holds.frame;
-        };
+        holding (all_of at.holds.heap)
+        (frame_with_result p c.heap top w.state dst v u n d told (frame_of at.holds));
   }

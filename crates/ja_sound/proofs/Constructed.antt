@@ -38,6 +38,7 @@ use Rattle.ja_abstract.proofs.Keys.{no_slot_of_text, same_key-true, same_key-sel
 use Rattle.ja_abstract.proofs.Labels.{same_label_from}
 use Rattle.ja_abstract.proofs.Atoms.{has_atoms-from}
 use Rattle.ja_meaning.specs.Meaning.{has_value, knows, Holds}
+use Rattle.ja_meaning.proofs.Held.{all_of, frame_of, holding}
 use Rattle.ja_meaning.proofs.Inside.{inside}
 use Rattle.ja_meaning.proofs.Aged.{aged_has}
 use Rattle.ja_meaning.proofs.Values.{has_value-join_left, has_value-join_right}
@@ -147,13 +148,9 @@ module _ (e : Heap) (c : Conf) (top : Frame) (below : List Frame) (x : Point) (w
       aged_has c.heap site (constructed_object proto) row (prototype_value w n f)
       (value.Object proto) proto_there (proto_has filled) in
       let fr : IsFrame w.program c.heap top = frame e c top below x w at in
-      record {
-        heap =
-            with_object_holds w.program e c.heap site
-            (constructed_object proto) row w.state at.grows
-            (λ b y o. inside w.program c.heap at.known.heap b y) at.holds.heap
-            (λ s. constructed_own v) (constructed_made w.program now v proto has);
-        frame =
-            frame_aged w.program c.heap site (constructed_object proto) row top w.state fr.values
-            fr.arguments at.holds.frame;
-      }
+      holding
+      (with_object_holds w.program e c.heap site (constructed_object proto) row w.state at.grows
+      (λ b y o. inside w.program c.heap at.known.heap b y) (all_of at.holds.heap)
+      (λ s. constructed_own v) (constructed_made w.program now v proto has))
+      (frame_aged w.program c.heap site (constructed_object proto) row top w.state fr.values
+      fr.arguments (frame_of at.holds))

@@ -65,6 +65,7 @@ use Rattle.ja_abstract.proofs.Parts.{of_primitive_has}
 use Rattle.ja_abstract.proofs.Atoms.{has_atoms-from}
 use Rattle.ja_abstract.proofs.Keys.{same_key-self}
 use Rattle.ja_meaning.specs.Meaning.{has_value, knows}
+use Rattle.ja_meaning.proofs.Held.{all_of, frame_of, holding}
 use Rattle.ja_meaning.proofs.Parts.{is_present-has_value}
 use Rattle.ja_meaning.proofs.Gets.{get_known, some_label-object}
 use Rattle.ja_meaning.proofs.Ancestors.{inherits-known}
@@ -170,11 +171,8 @@ module _ (e : Heap) (c : Conf) (top : Frame) (below : List Frame) (x : Point) (w
       rows.leaves e c top below x w at good given n c.heap top w.state m
       (record {
         heap = at.holds.heap;
-        frame = record {
-          registers = at.holds.frame.registers;
-          rest =
-              at.holds.frame.rest;
-        };
+        registers = at.holds.registers;
+        rest = at.holds.rest;
       })
 
   some-object : (test : Labels) (a : Addr) → IsObjectOf c.heap a → IsTrue (test (label_of c.heap a))
@@ -273,11 +271,8 @@ module _ (e : Heap) (c : Conf) (top : Frame) (below : List Frame) (x : Point) (w
         holds =
             record {
               heap = at.holds.heap;
-              frame = record {
-                registers = at.holds.frame.registers;
-                rest =
-                    at.holds.frame.rest;
-              };
+              registers = at.holds.registers;
+              rest = at.holds.rest;
             };
       }
   names_gives list object (value.Primitive q) there told = tt
@@ -290,7 +285,7 @@ module _ (e : Heap) (c : Conf) (top : Frame) (below : List Frame) (x : Point) (w
       let v : Value = value.Primitive (primitive.Text t) in
       let f =
       frame_with_result p c.heap top w.state dst v u i.next
-      (rows.dest e c top below x w at good dst d) told at.holds.frame in
+      (rows.dest e c top below x w at good dst d) told (frame_of at.holds) in
       record {
         top =
             moved_to (Rattle.ja_machine.specs.Frames.with_register
@@ -304,10 +299,8 @@ module _ (e : Heap) (c : Conf) (top : Frame) (below : List Frame) (x : Point) (w
             among _ (member-sets w w.state dst u i.next
             (is_present-has_value p c.heap at.known.heap u v tt told));
         holds =
-            record {
-              heap = at.holds.heap;
-              frame = record { registers = f.registers; rest = f.rest };
-            };
+            holding (all_of at.holds.heap)
+            (record { registers = f.registers; rest = f.rest });
       }
 
   pub pick_gives : (list dst object : Reg) → IsDest dst

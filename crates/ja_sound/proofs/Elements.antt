@@ -55,7 +55,8 @@ use Rattle.ja_abstract.proofs.Among.{among-filter, text_among}
 use Rattle.ja_abstract.proofs.Converted.{count-has}
 use Rattle.ja_abstract.proofs.IndexTexts.{index_of_text}
 use Rattle.ja_abstract.proofs.Keys.{same_key_from}
-use Rattle.ja_meaning.specs.Meaning.{has_value, knows, HoldsOfFrame}
+use Rattle.ja_meaning.specs.Meaning.{has_value, knows}
+use Rattle.ja_meaning.proofs.Held.{HoldsOfFrame}
 use Rattle.ja_meaning.proofs.Gets.{get_known, some_label-object}
 use Rattle.ja_meaning.proofs.Grown.{value_is}
 use Rattle.ja_meaning.proofs.Moments.{Reads}

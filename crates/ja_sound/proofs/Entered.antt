@@ -126,7 +126,8 @@ module _ (h : Heap) (p : Program) (steps : ℕ) (f : FnId) (receiver : Addr) (ca
       some = λ t l. absurd (omega arith);
       none = λ t e. refl;
     };
-    frame = record { registers = register_has; rest = rest_has };
+    registers = register_has;
+    rest = rest_has;
   }
 
 -- ---- registers as arguments

@@ -60,6 +60,7 @@ use Rattle.ja_abstract.proofs.Atoms.{has_atoms-from}
 use Rattle.ja_abstract.proofs.Labels.{same_label_from}
 use Rattle.ja_abstract.proofs.Lists.{Member}
 use Rattle.ja_meaning.specs.Meaning.{has_value, Grows, Holds}
+use Rattle.ja_meaning.proofs.Held.{frame_of}
 use Rattle.ja_meaning.proofs.Builtins.{global_fits}
 use Rattle.ja_meaning.proofs.Contents
 use Rattle.ja_meaning.proofs.Frames.{register_held}
@@ -209,7 +210,7 @@ module _ (e : Heap) (c : Conf) (top : Frame) (below : List Frame) (x : Point) (w
         subst (λ (f : FnId). AreGiven c.heap parameters arguments (rows.tail w f))
         (sym (ap (λ (y : _). y.function) at.context))
         (subst (λ vs. AreGiven c.heap parameters vs (rows.tail w top.function)) same
-        (tail_given c.heap w at.known.heap top fr at.holds.frame few parameters))
+        (tail_given c.heap w at.known.heap top fr (frame_of at.holds) few parameters))
 
     module _ (callee_fits : IsReg callee) (receiver_fits : IsReg receiver)
         (list_fits : AllByRecursion IsReg (argument_registers list))
@@ -313,7 +314,7 @@ module _ (e : Heap) (c : Conf) (top : Frame) (below : List Frame) (x : Point) (w
       held_now : (r : Reg) → IsReg r → IsTrue
           (has_value (now a) (abstract.at v r) (register_of top r))
       held_now r l =
-          holds.frame.registers r.0 (register_of top r)
+          holds.registers r.0 (register_of top r)
           (register_held top r (nodes.fits e c top below x w at good r l))
 
       listed_now : (arguments : List Value) → register_values top list ≡ Ok arguments

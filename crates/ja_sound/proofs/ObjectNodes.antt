@@ -78,7 +78,8 @@ use Rattle.ja_abstract.proofs.Lists.{Member, member-append_left, member-append_r
 use Rattle.ja_abstract.proofs.Labels
 use Rattle.ja_abstract.proofs.Parts.{of_attrs_allows}
 use Rattle.ja_abstract.proofs.Keys.{same_key-true, key_of-name}
-use Rattle.ja_meaning.specs.Meaning.{has_value, knows, Tells, HoldsOfFrame, HoldsOfHeap}
+use Rattle.ja_meaning.specs.Meaning.{has_value, knows, Tells}
+use Rattle.ja_meaning.proofs.Held.{HoldsOfFrame, HoldsOfAll, all_of, frame_of, holding}
 use Rattle.ja_meaning.proofs.Parts.{has_part-has_value, is_present-has_value, is_present-known}
 use Rattle.ja_meaning.proofs.Aged.{aged_has}
 use Rattle.ja_meaning.proofs.Gets.{some_label-object, label-of_program}
@@ -323,7 +324,7 @@ module _ (e : Heap) (c : Conf) (top : Frame) (below : List Frame) (x : Point) (w
         (value.Object (new_address c.heap t)) n ∷ below))
     two_gives d made made_too among after =
         let f : HoldsOfFrame p middle top (with_made w.state t) =
-        frame_aged p c.heap t o (row t l) top w.state fr.values fr.arguments at.holds.frame in
+        frame_aged p c.heap t o (row t l) top w.state fr.values fr.arguments (frame_of at.holds) in
         let g : HoldsOfFrame p two top both =
         frame_aged p middle u q row_too top (with_made w.state t)
         (λ r v is. Heaps.value_grows c.heap middle grown v (fr.values r v is))
@@ -334,16 +335,14 @@ module _ (e : Heap) (c : Conf) (top : Frame) (below : List Frame) (x : Point) (w
           state =
               with_register (with_objects w.program w.state t own_ u other) dst (of_label (new t));
           among = among;
-          holds = record {
-            heap =
-                with_objects_holds p e c.heap t u o q (row t l) row_too apart w.state at.grows
-                (λ b y there. inside p c.heap at.known.heap b y) at.holds.heap own_ other
-                (made after.heap) (made_too after.heap);
-            frame =
-                frame_with_result p two top (with_objects w.program w.state t own_ u other) dst
-                (value.Object (new_address c.heap t)) (of_label (new t)) n d
-                (same_label_from (new t) (label_of two (new_address c.heap t)) (sym first_is)) g;
-          };
+          holds =
+              holding
+              (with_objects_holds p e c.heap t u o q (row t l) row_too apart w.state at.grows
+              (λ b y there. inside p c.heap at.known.heap b y) (all_of at.holds.heap) own_ other
+              (made after.heap) (made_too after.heap))
+              (frame_with_result p two top (with_objects w.program w.state t own_ u other) dst
+              (value.Object (new_address c.heap t)) (of_label (new t)) n d
+              (same_label_from (new t) (label_of two (new_address c.heap t)) (sym first_is)) g);
         }
 
   pub make_function_gives : (dst : Reg) (function : FnId) (site proto_site : Site) → IsDest dst
@@ -411,7 +410,7 @@ module _ (e : Heap) (c : Conf) (top : Frame) (below : List Frame) (x : Point) (w
           (weak_update p w.state target writes)
 
       abbrev Fits : AbstractState → Type 0
-      Fits state = HoldsOfHeap p e defined_heap state × (state.register ≡ w.state.register)
+      Fits state = HoldsOfAll p e defined_heap state × (state.register ≡ w.state.register)
 
       by_target : (g : Option Label) → one_target w target ≡ g
           → Fits (option_map_or (λ (l : Label). strong_update w.state l sets_it) g
@@ -419,8 +418,8 @@ module _ (e : Heap) (c : Conf) (top : Frame) (below : List Frame) (x : Point) (w
       by_target (Some l) is =
           let (l_is, l_new) =
           target-is e c.heap w (rd e c top below x w at good) target a there in_ l is in (
-            strong_update_holds p e c.heap defined_heap a suits.wrote w.state at.holds.heap l
-                (sym l_is) (ap (λ (z : Label). z.old) l_is ∙ l_new) sets_it
+            strong_update_holds p e c.heap defined_heap a suits.wrote w.state
+                (all_of at.holds.heap) l (sym l_is) (ap (λ (z : Label). z.old) l_is ∙ l_new) sets_it
                 (λ y. subst (λ k. Tells e defined_heap a y
                 (replaced_at (sets_at k q ∷ []) (w.state.property l (meaning_keys.key_of p y))
                 (meaning_keys.key_of p y))) key_is
@@ -432,8 +431,8 @@ module _ (e : Heap) (c : Conf) (top : Frame) (below : List Frame) (x : Point) (w
             refl,
           )
       by_target None is = (
-        weak_update_holds p e c.heap defined_heap a suits.wrote w.state at.holds.heap target writes
-            (label-of_program e c.heap w (rd e c top below x w at good) a there) in_
+        weak_update_holds p e c.heap defined_heap a suits.wrote w.state (all_of at.holds.heap)
+            target writes (label-of_program e c.heap w (rd e c top below x w at good) a there) in_
             (λ y. elim (suits.weak y) [
               | inl same ↦ inl same
               | inr told ↦
@@ -535,8 +534,8 @@ module _ (e : Heap) (c : Conf) (top : Frame) (below : List Frame) (x : Point) (w
           (some-object (λ l. chain l && has_present w (own_at w l k).value) a there
           (and_from _ _ told some)))) (record {
             heap = at.holds.heap;
-            frame =
-                record { registers = at.holds.frame.registers; rest = at.holds.frame.rest };
+            registers = at.holds.registers;
+            rest = at.holds.rest;
           })
       declare_by None is =
           let absent : IsTrue own_u.value.flags.absent =
@@ -593,14 +592,14 @@ module _ (e : Heap) (c : Conf) (top : Frame) (below : List Frame) (x : Point) (w
   -- what a register holds
   at_register : (r : ℕ) (v : Value) → slice_get top.registers r ≡ Some v
       → IsValueOf c.heap v × IsTrue (has_value c.heap (w.state.register r) v)
-  at_register r v is = (fr.values r v is, at.holds.frame.registers r v is)
+  at_register r v is = (fr.values r v is, at.holds.registers r v is)
 
   scope_goes : (outer : Addr) → IsObjectOf c.heap outer
       → IsTrue (has_value c.heap (abstract_out.at w scope) (value.Object outer))
       → IsTrue (has_some_part w (w.state.register count_register))
   scope_goes outer there told =
       has_part-has_value p c.heap at.known.heap (w.state.register count_register)
-      (whole_number (length top.arguments)) tt (at.holds.frame.registers 4
+      (whole_number (length top.arguments)) tt (at.holds.registers 4
       (whole_number (length top.arguments)) fr.count_is)
 
   -- in the context of the frame's function
@@ -702,7 +701,7 @@ module _ (e : Heap) (c : Conf) (top : Frame) (below : List Frame) (x : Point) (w
         (argument_is top.arguments n v is) (two_register (5 + n) (argument top.arguments n)
         (parameter_has n (subst (λ ns. n < length ns) (sym ids_are) (omega arith)))))
         (λ more. two_register (rest_register (parameters_of p f)) v
-        (fr.arguments n v is, at.holds.frame.rest n v (ltb-false n (parameters_of p f) more) is))
+        (fr.arguments n v is, at.holds.rest n v (ltb-false n (parameters_of p f) more) is))
 
     listed_enter : Gives g (enter s site outer names_in (Some list))
     listed_enter =

@@ -59,7 +59,8 @@ use Rattle.ja_abstract.specs.Values.{as_read, value_if}
 use Rattle.ja_abstract.specs.Writes.{put_states, put_may_throw, demands_of_puts, or_global, delete_states, demands_of_delete, Deletion}
 use Rattle.ja_abstract.proofs.Labels.{same_label_from}
 use Rattle.ja_abstract.proofs.Lists.{Member, member-append_left, member-append_right, member-map}
-use Rattle.ja_meaning.specs.Meaning.{has_value, knows, IsOfHeap, HoldsOfFrame, HoldsOfHeap}
+use Rattle.ja_meaning.specs.Meaning.{has_value, knows, IsOfHeap}
+use Rattle.ja_meaning.proofs.Held.{HoldsOfFrame, HoldsOfAll, of_all, holding}
 use Rattle.ja_meaning.proofs.Builtins.{global_fits}
 use Rattle.ja_meaning.proofs.Parts.{is_present-has_value, is_present-known, has_as_read}
 use Rattle.ja_meaning.proofs.Putting.{IsBase, write_by}
@@ -204,16 +205,16 @@ module _ (e : Heap) (c : Conf) (top : Frame) (below : List Frame) (x : Point) (w
     registers =
         λ r v at_r. subst (λ g. IsTrue (has_value now (g r) v)) (sym is)
         (knows-now c.heap now a wrote (bare (w.state.register r)) (held v)
-        (at.holds.frame.registers r v at_r));
+        (at.holds.registers r v at_r));
     rest =
         λ j v more at_j. let r = rest_register (Rattle.ja_machine.specs.Frames.parameters_of p
         top.function) in subst (λ g. IsTrue (has_value now (g r) v)) (sym is)
         (knows-now c.heap now a wrote (bare (w.state.register r)) (held v)
-        (at.holds.frame.rest j v more at_j));
+        (at.holds.rest j v more at_j));
   }
 
   pub written_gives : (given : Given) (a : Addr) (now : Heap) (state : AbstractState)
-      → Wrote c.heap now a → state.register ≡ w.state.register → HoldsOfHeap p e now state
+      → Wrote c.heap now a → state.register ≡ w.state.register → HoldsOfAll p e now state
       → Member {X = ℕ × AbstractState} (i.next.0, state) given → Gives given (goes_on s now)
   written_gives given a now state wrote is holds among =
       let f = frame_written a now wrote state is in
@@ -224,9 +225,9 @@ module _ (e : Heap) (c : Conf) (top : Frame) (below : List Frame) (x : Point) (w
         among =
             among;
         holds = record {
-          heap = holds;
-          frame =
-              record { registers = f.registers; rest = f.rest };
+          heap = of_all p e now state holds;
+          registers = f.registers;
+          rest = f.rest;
         };
       }
 
@@ -472,12 +473,9 @@ module _ (e : Heap) (c : Conf) (top : Frame) (below : List Frame) (x : Point) (w
               (delete_states w target keys) h.among (is_present-has_value p now after.heap h.value
               (bool_value b) tt h.has));
           holds =
-              record {
-                heap = h.heap;
-                frame = frame_with_result p now top h.state dst
-                    (bool_value b) h.value i.next
-                    (rows.dest e c top below x w at good dst d) h.has f;
-              };
+              holding h.heap
+              (frame_with_result p now top h.state dst (bool_value b) h.value i.next
+              (rows.dest e c top below x w at good dst d) h.has f);
         }
 
     pub deletes_gives : (a : Addr) (t : List ℕ) → IsObjectOf c.heap a

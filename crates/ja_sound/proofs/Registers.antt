@@ -16,7 +16,8 @@ use Rattle.ja_machine.specs.State.{IsFrame}
 use Rattle.ja_abstract.specs.AbstractValue.{AbstractValue}
 use Rattle.ja_abstract.specs.AbstractState.{AbstractState, with_register}
 use Rattle.ja_abstract.specs.Made.{rest_register}
-use Rattle.ja_meaning.specs.Meaning.{has_value, HoldsOfFrame}
+use Rattle.ja_meaning.specs.Meaning.{has_value}
+use Rattle.ja_meaning.proofs.Held.{HoldsOfFrame}
 use Rattle.ja_meaning.proofs.Frames.{registers_with_result}
 
 pub record IsDestinationOf (p : Program) (f : Frame) (dst : Reg) : Type 0 where

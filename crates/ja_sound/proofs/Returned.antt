@@ -36,7 +36,8 @@ use Rattle.ja_abstract.specs.Composed.{composed, renamed_value}
 use Rattle.ja_abstract.proofs.Labels.{same_label-self}
 use Rattle.ja_abstract.proofs.Lists.{Member}
 use Rattle.ja_abstract.proofs.Atoms.{has_atoms-from}
-use Rattle.ja_meaning.specs.Meaning.{has_value, HoldsOfHeap, Holds}
+use Rattle.ja_meaning.specs.Meaning.{has_value, Holds}
+use Rattle.ja_meaning.proofs.Held.{HoldsOfAll, all_of, frame_of, holding}
 use Rattle.ja_meaning.proofs.Parts.{is_present-has_value}
 use Rattle.ja_meaning.proofs.Values.{has_value-join_left, has_value-join_right}
 use Rattle.ja_meaning.proofs.Frames.{register_of_heap, register_held}
@@ -88,21 +89,20 @@ module _ (p : Program) (fit : DestinationsFit p) (e m : Heap) (c d : Conf)
 
   -- the composed state holds of the caller as it stands
   back_holds : Holds p e c.heap caller back
-  back_holds = record {
-    heap =
-        subst (λ q. HoldsOfHeap p e c.heap (composed q cs exit.state)) (sym calling.program)
-        (composed_holds p e m c.heap calling.heap calling.grows at.grows cs exit.state
-        calling.holds.heap at.holds.heap);
-    frame = record {
-      registers =
-          λ r v is. has-renamed m c.heap exit.state aged (cs.register r) v
-          (calling.frame.values r v is) (calling.holds.frame.registers r v is);
-      rest =
-          λ i v more is. has-renamed m c.heap exit.state aged
-          (cs.register (rest_register (parameters_of p caller.function))) v
-          (calling.frame.arguments i v is) (calling.holds.frame.rest i v more is);
-    };
-  }
+  back_holds =
+      holding
+      (subst (λ q. HoldsOfAll p e c.heap (composed q cs exit.state)) (sym calling.program)
+      (composed_holds p e m c.heap calling.heap calling.grows at.grows cs exit.state
+      (all_of calling.holds.heap) (all_of at.holds.heap)))
+      (record {
+        registers =
+            λ r v is. has-renamed m c.heap exit.state aged (cs.register r) v
+            (calling.frame.values r v is) (calling.holds.registers r v is);
+        rest =
+            λ i v more is. has-renamed m c.heap exit.state aged
+            (cs.register (rest_register (parameters_of p caller.function))) v
+            (calling.frame.arguments i v is) (calling.holds.rest i v more is);
+      })
 
   -- .. and with a result of it
   given_with : (given : Given) (dst : Reg) (v : Value) (u : AbstractValue) (next : NodeId)
@@ -123,11 +123,8 @@ module _ (p : Program) (fit : DestinationsFit p) (e m : Heap) (c d : Conf)
         among (subst (λ q. IsTrue (is_present (labels_of q) u)) (sym calling.program)
         (is_present-has_value p c.heap at.known.heap u v there has));
     holds =
-        record {
-          heap = back_holds.heap;
-          frame = frame_with_result p c.heap caller back dst v u next
-              dest has back_holds.frame;
-        };
+        holding (all_of back_holds.heap)
+        (frame_with_result p c.heap caller back dst v u next dest has (frame_of back_holds));
   }
 
   -- ---- what a construction gives
@@ -220,7 +217,7 @@ module _ (p : Program) (fit : DestinationsFit p) (e m : Heap) (c d : Conf)
       (next : step p c answer ≡ Some (event.Next d)) (after : d.frames ≡ moved ∷ below) where
     held : (r : Reg) → r.0 < length top.registers
         → IsTrue (has_value c.heap (exit.state.register r.0) (register_of top r))
-    held r l = at.holds.frame.registers r.0 (register_of top r) (register_held top r l)
+    held r l = at.holds.registers r.0 (register_of top r) (register_held top r l)
 
     there_is : (r : Reg) → r.0 < length top.registers → IsValueOf c.heap (register_of top r)
     there_is r l = register_of_heap p c.heap top r frames_known.0 l
