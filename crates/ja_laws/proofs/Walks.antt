@@ -1,4 +1,4 @@
--- What a walk reaches is the least set of labels that has its start and that its step doesn't leave.
+-- What a walk reaches is the least set of labels that has its start and is kept by its step.
 use Rattle.std.specs.Prelude.{◌≡◌, ◌⊎◌, ◌≤◌, ◌+◌, ◌&&◌, Bool, true, false, ℕ, zero, suc, length, IsTrue, List, [], ◌∷◌}
 use Rattle.std.specs.List.{list_any}
 use Rattle.std.proofs.Common.{refl, sym, subst, arith, inl, inr}

@@ -1,5 +1,5 @@
--- The parts of a state that holds, as proofs take them: what its properties and its masks say of the
--- objects of a set, whatever its registers are, and what its registers say, whatever the rest is.
+-- The parts of a state that holds, as proofs take them: what its properties and its masks say of
+-- the objects of a set, whatever its registers are, and what its registers say, whatever the rest.
 use Rattle.std.specs.Prelude.{◌≡◌, ◌<◌, ◌≤◌, ℕ, IsTrue, Some, slice_get}
 use Rattle.ja_base.specs.declared.ids.Label.{Label}
 use Rattle.ja_base.specs.declared.ids.Site.{Site}
