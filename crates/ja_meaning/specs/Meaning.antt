@@ -84,7 +84,7 @@ abbrev pub rest_of : Program → Frame → ℕ
 rest_of p f = rest_register (parameters_of p f.function)
 
 -- A state holds of a heap and a frame, where at_entry is the heap when the frame was entered: its
--- registers have what those of the frame hold, and the last of them the arguments past the
+-- registers have what those of the frame hold, and that of the rest its arguments past the
 -- parameters.
 pub record Holds (p : Program) (at_entry now : Heap) (f : Frame) (s : AbstractState) : Type 0 where
   pub heap : HoldsOfHeap p at_entry now s
