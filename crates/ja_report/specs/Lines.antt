@@ -61,15 +61,18 @@ line_text p (register parameters r v) =
 line_text p (property l k q) = property_text p l k q
 line_text p (alloc s m) = codes "alloc " ++ site_text p s ++ codes " " ++ mask_text m ++ codes "\n"
 
--- the sites of labels, of a value's labels, and those that a line names
+-- the sites of labels, of a value's labels, of a context, and those that a line names
 abbrev pub label_sites : List Label → List ℕ
 label_sites labels = map (λ (l : Label). l.site.0) labels
 
 abbrev pub value_sites : Program → AbstractValue → List ℕ
 value_sites p v = label_sites (value_labels p v)
 
+abbrev pub context_sites : Context → List ℕ
+context_sites x = x.receiver.site.0 ∷ []
+
 unfoldable pub line_sites : Program → Line → List ℕ
-line_sites p (head x n) = x.receiver.site.0 ∷ []
+line_sites p (head x n) = context_sites x
 line_sites p (entry l k q) = l.site.0 ∷ value_sites p q.value
 line_sites p (point n) = []
 line_sites p (register parameters r v) = value_sites p v

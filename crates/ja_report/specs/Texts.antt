@@ -11,6 +11,7 @@ use Rattle.ja_prim.specs.declared.signature.Signature.{Signature}
 use Rattle.ja_graph.specs.declared.builtins.TheConstants.{BUILTIN_CLASSES}
 use Rattle.ja_graph.specs.declared.program.Program.{Program}
 use Rattle.ja_graph.specs.declared.program.SiteInfo.{SiteInfo}
+use Rattle.ja_graph.specs.declared.registers.TheConstants.{CALLEE_REGISTER, COUNT, REST, SCOPE, THIS, THROWN}
 use Rattle.ja_machine.specs.Nodes as machine
 use Rattle.ja_abstract.specs.declared.abstraction.Flags.{Flags}
 use Rattle.ja_abstract.specs.declared.abstraction.NumberPart.{NumberPart}
@@ -98,9 +99,9 @@ later_register_text parameters n =
 -- a register of a function with so many parameters
 unfoldable pub register_text : ℕ → ℕ → List ℕ
 register_text parameters r =
-    if r == 0 then codes "thrown" else if r == 1 then codes "this" else if r == 2 then codes "scope"
-    else if r == 3 then codes "callee" else if r == 4 then codes "count"
-    else later_register_text parameters (r - 5)
+    if r == THROWN.0 then codes "thrown" else if r == THIS.0 then codes "this"
+    else if r == SCOPE.0 then codes "scope" else if r == CALLEE_REGISTER.0 then codes "callee"
+    else if r == COUNT.0 then codes "count" else later_register_text parameters (r - REST.0)
 
 -- ---- values
 

@@ -8,6 +8,7 @@
 
 mod certificates;
 mod lines;
+mod naming;
 mod output;
 mod refusals;
 mod sections;

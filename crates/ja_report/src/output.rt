@@ -2,7 +2,7 @@ ghost use Rattle.std.specs.Prelude.{◌≡◌, []};
 
 use std::alloc::Global;
 
-/// The lines of a table that are written, and the sites that they name, as often as they name them.
+/// The lines of a table that are written, and the sites that are named, as often as they are named.
 #[derive(Drop)]
 pub struct Output {
     pub text: Vec<u8>,

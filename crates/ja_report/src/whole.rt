@@ -6,8 +6,9 @@ ghost use Rattle.std.specs.List.{flat_map};
 ghost use Rattle.ja_graph.specs.WellFormed.{IsWellFormed};
 ghost use Rattle.ja_rules.specs.Tables.{table_of, Fits};
 ghost use Rattle.ja_report.specs.Lines.{line_text, table_lines};
-ghost use Rattle.ja_report.specs.Report.{built_text, contexts_line, table_sites, report_head, report_text, spent_text, summary_text};
+ghost use Rattle.ja_report.specs.Report.{built_text, contexts_line, report_sites, report_head, report_text, spent_text, summary_text};
 
+use crate::naming::{name_edges, name_items};
 use crate::output::Output;
 use crate::sections::{
     push_devices, push_edges, push_items, push_sites, push_visits, push_warnings,
@@ -61,22 +62,30 @@ fn push_context_count(text: &mut Vec<u8>, contexts: usize) -> Result<(), Memory>
     Ok(())
 }
 
-/// The lines of a table, and the sites that they name.
-fn lines_of(alloc: Global, program: &Program, table: &ATable) -> Result<Output, Memory>
+/// The lines of a table, and the sites that its report names with these visits.
+fn lines_of(
+    alloc: Global,
+    program: &Program,
+    table: &ATable,
+    visits: &[Item],
+) -> Result<Output, Memory>
     requires program { IsWellFormed program.now }
     requires fits { Fits program.now table.now }
     ensures text { IfOk result (λ lines. lines.text.items
         ≡ flat_map (line_text program.now) (table_lines program.now (table_of table.now))) }
     ensures named { IfOk result (λ lines. lines.named.items
-        ≡ table_sites program.now (table_of table.now)) }
+        ≡ report_sites program.now (table_of table.now) visits.now) }
 {
     let mut lines = Output::new(alloc);
+    name_edges(&mut lines.named, &table.edges)?;
     push_contexts(&mut lines, alloc, program, table)?;
+    name_items(&mut lines.named, visits)?;
     Ok(lines)
 }
 
 /// The report of a table: the devices of its program, whether the visits build it, its warnings, its
-/// call edges, the sites that are named, its contexts with their states, and the visits.
+/// call edges, the sites that edges, contexts and visits name, its contexts with their states, and
+/// the visits.
 #[tactic(auto, unfolding(crate::specs::Report::report_text))]
 pub fn report(
     alloc: Global,
@@ -91,7 +100,7 @@ pub fn report(
     ensures { IfOk result (λ text. text.items
         ≡ report_text program.now (table_of table.now) visits.now built warnings.now) }
 {
-    let Output { text: lines, named } = lines_of(alloc, program, table)?;
+    let Output { text: lines, named } = lines_of(alloc, program, table, visits)?;
     let mut text = Vec::new(alloc);
     push_head(&mut text, alloc, program, table, built, warnings, &named)?;
     drop(named);
