@@ -147,8 +147,13 @@ key_rank p d =
     if is_below (length p.names) d then whole_of d
     else option_map (λ (n : ℕ). length p.names + n) (position_of key_words d)
 
+-- the position of the first of them that is the word of an internal property
+abbrev pub prototype_rank : ℕ
+prototype_rank = 2
+
 abbrev pub is_slot : Program → Data → Bool
-is_slot p d = option_map_or (λ (n : ℕ). nat_le (length p.names + 2) n) (key_rank p d) false
+is_slot p d =
+    option_map_or (λ (n : ℕ). nat_le (length p.names + prototype_rank) n) (key_rank p d) false
 
 -- ---- values
 
@@ -191,13 +196,32 @@ is_text_word w =
     is_some (position text_classes w)
     || ((option_map_or (λ (c : ℕ). c == 39) (slice_get w 0) false) && are_units (drop 1 w))
 
--- the place of a part in the order of parts: flags, the number, the text, and labels, if it is one
+-- the places of parts in their order: flags by the positions of their words, and behind them the
+-- number, the text, and labels
+abbrev pub entry_rank : ℕ
+entry_rank = 1
+
+abbrev pub undefined_rank : ℕ
+undefined_rank = 3
+
+abbrev pub number_rank : ℕ
+number_rank = 8
+
+abbrev pub text_rank : ℕ
+text_rank = 9
+
+abbrev pub first_label_rank : ℕ
+first_label_rank = 10
+
+-- the place of a part, if it is one
 abbrev pub word_rank : List ℕ → Option ℕ
 word_rank w =
-    if is_number_word w then Some 8 else if is_text_word w then Some 9 else position flag_words w
+    if is_number_word w then Some number_rank else if is_text_word w then Some text_rank
+    else position flag_words w
 
 abbrev pub label_rank : Program → Data → Option ℕ
-label_rank p d = if is_label p d then option_map (λ (n : ℕ). 10 + n) (whole_of d) else None
+label_rank p d =
+    if is_label p d then option_map (λ (n : ℕ). first_label_rank + n) (whole_of d) else None
 
 abbrev pub part_rank : Program → Data → Option ℕ
 part_rank p d = option_map_or word_rank (as_str d) (label_rank p d)
@@ -213,12 +237,13 @@ part_wrong p allowed before d =
 unfoldable pub value_wrong : Program → (ℕ → Bool) → Data → Option Path
 value_wrong p allowed d = list_wrong (part_wrong p allowed) d
 
--- a register has no part of a property, and a value at entry isn't as at entry
+-- a register has no part of a property, which stand before `undefined`, and a value at entry isn't
+-- as at entry
 abbrev pub is_of_register : ℕ → Bool
-is_of_register rank = nat_le 3 rank
+is_of_register rank = nat_le undefined_rank rank
 
 abbrev pub is_of_entry : ℕ → Bool
-is_of_entry rank = not (rank == 1)
+is_of_entry rank = not (rank == entry_rank)
 
 abbrev pub is_of_property : ℕ → Bool
 is_of_property rank = true
@@ -319,8 +344,12 @@ member_number keys i d =
     (option_and_then whole_of
     (option_and_then (λ (ds : List Data). slice_get ds i) (members_of keys d))) 0
 
+-- the position of the node among these keys
+abbrev pub node_position : ℕ
+node_position = 2
+
 abbrev pub point_number : Data → List ℕ
-point_number d = member_number point_keys 2 d ∷ []
+point_number d = member_number point_keys node_position d ∷ []
 
 abbrev pub point_fields_wrong : Program → FnId → Bool → List Data → Option Path
 point_fields_wrong p f ascends (masks ∷ heap ∷ node ∷ registers ∷ []) =
@@ -340,8 +369,17 @@ abbrev pub context_keys : List (List ℕ)
 context_keys =
     codes "entries" ∷ codes "function" ∷ codes "points" ∷ codes "receiver" ∷ []
 
+-- the positions of the function and of the receiver among these keys
+abbrev pub function_position : ℕ
+function_position = 1
+
+abbrev pub receiver_position : ℕ
+receiver_position = 3
+
 abbrev pub context_number : Data → List ℕ
-context_number d = member_number context_keys 1 d ∷ member_number context_keys 3 d ∷ []
+context_number d =
+    member_number context_keys function_position d
+    ∷ member_number context_keys receiver_position d ∷ []
 
 abbrev pub context_fields_wrong : Program → Bool → List Data → Option Path
 context_fields_wrong p ascends (entries ∷ function ∷ points ∷ receiver ∷ []) =
