@@ -7,11 +7,14 @@ use Rattle.std.proofs.lemmas.Bool.{false≢true}
 use Rattle.std.proofs.lemmas.Option.{same_Some}
 use Rattle.ja_prim.specs.Characters.{is_part}
 use Rattle.ja_prim.specs.declared.signature.Signature.{Signature}
+use Rattle.ja_prim.specs.declared.signature.TheConstants.Kinds.{BOOLEAN, NUMBER, TEXT, UNDEFINED}
 use Rattle.ja_machine.proofs.Lists.{all_at}
-use Rattle.ja_device.specs.Devices.{Seen, signature_of}
+use Rattle.ja_device.specs.Devices.{AllSeen, Seen, signature_of}
 use Rattle.ja_device.specs.Signatures.{is_fit, has_kind, AreSignatures, IsFirstAt, IsRefused}
 use Rattle.ja_device.specs.declared.fault.DevicesFault.{DevicesFault}
 use Rattle.ja_device.specs.declared.fault.DevicesFault.TheVariants.{TooMany, BadName, NoKinds, Twice}
+use Rattle.ja_device.specs.declared.scripted.Scripted.{Scripted}
+use Rattle.ja_host.specs.Scripts.{AreScripts, seen_of, the_devices}
 
 -- devices that can be a program's aren't refused
 not_refused : (ss : List Signature) → AreSignatures ss → (fault : DevicesFault) → IsRefused ss fault
@@ -33,57 +36,17 @@ not_refused ss are = of
 
 -- ---- the devices of the program
 
-abbrev pub input : Signature
-input =
-    record {
-      name = codes "input";
-      kinds = record {
-        undefined = false;
-        null = false;
-        boolean = true;
-        number = false;
-        text = false;
-      };
-    }
+abbrev input : Signature
+input = record { name = codes "input"; kinds = BOOLEAN }
 
-abbrev pub number : Signature
-number =
-    record {
-      name = codes "number";
-      kinds = record {
-        undefined = false;
-        null = false;
-        boolean = false;
-        number = true;
-        text = false;
-      };
-    }
+abbrev number : Signature
+number = record { name = codes "number"; kinds = NUMBER }
 
-abbrev pub text : Signature
-text =
-    record {
-      name = codes "text";
-      kinds = record {
-        undefined = false;
-        null = false;
-        boolean = false;
-        number = false;
-        text = true;
-      };
-    }
+abbrev text : Signature
+text = record { name = codes "text"; kinds = TEXT }
 
-abbrev pub print : Signature
-print =
-    record {
-      name = codes "print";
-      kinds = record {
-        undefined = true;
-        null = false;
-        boolean = false;
-        number = false;
-        text = false;
-      };
-    }
+abbrev print : Signature
+print = record { name = codes "print"; kinds = UNDEFINED }
 
 abbrev hosts : List Signature
 hosts = input ∷ number ∷ text ∷ print ∷ []
@@ -110,17 +73,19 @@ are_signatures = record {
 }
 
 -- .. so what is seen of a list of them isn't refused
-pub none_refused : {D : Type 0} (seen : D → Seen) (a b c d : D) → signature_of (seen a) ≡ input
-    → signature_of (seen b) ≡ number → signature_of (seen c) ≡ text → signature_of (seen d) ≡ print
-    → (none one two three four : List D) → none ≡ [] → one ≡ none ++ a ∷ [] → two ≡ one ++ b ∷ []
-    → three ≡ two ++ c ∷ [] → four ≡ three ++ d ∷ [] → (fault : DevicesFault)
-    → IsRefused (map signature_of (map seen four)) fault → ⊥
-none_refused seen a b c d as_input as_number as_text as_print none one two three four none_is one_is
-    two_is three_is four_is fault refused =
-    let all : four ≡ a ∷ b ∷ c ∷ d ∷ [] = four_is
-    ∙ ap (λ ds. ds ++ d ∷ []) (three_is ∙ ap (λ ds. ds ++ c ∷ [])
-    (two_is ∙ ap (λ ds. ds ++ b ∷ []) (one_is ∙ ap (λ ds. ds ++ a ∷ []) none_is))) in
-    let same : map signature_of (map seen four)
-    ≡ hosts = ap (λ ds. map signature_of (map seen ds)) all
-    ∙ (λ j. as_input j ∷ as_number j ∷ as_text j ∷ as_print j ∷ []) in
-    not_refused hosts are_signatures fault (subst (λ ss. IsRefused ss fault) same refused)
+module _ (scripts : List Scripted) (are : AreScripts scripts) where
+  seen_as : map seen_of scripts ≡ the_devices.devices
+  seen_as =
+      ap (map seen_of) are.listed
+      ∙ (λ j. are.is_input.seen j ∷ are.is_number.seen j ∷ are.is_text.seen j
+      ∷ are.is_print.seen j ∷ [])
+
+  pub none_refused : (fault : DevicesFault)
+      → IsRefused (map signature_of (map seen_of scripts)) fault → ⊥
+  none_refused fault refused =
+      not_refused hosts are_signatures fault
+      (subst (λ (ds : List Seen). IsRefused (map signature_of ds) fault) seen_as refused)
+
+  pub all_seen : (d : AllSeen) → d ≡ record { devices = map seen_of scripts; failed = 0 }
+      → d ≡ the_devices
+  all_seen d is = is ∙ (λ j. record { devices = seen_as j; failed = 0 })

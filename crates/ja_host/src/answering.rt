@@ -1,85 +1,100 @@
 //! The host devices of the programs. Each answers from a list, and repeats its last answer.
 
-ghost use Rattle.std.specs.Prelude.{◌≡◌, [], ◌∷◌, ◌++◌, IfOk, true, false, pos};
-ghost use Rattle.std.specs.String.{string_bytes};
-ghost use lib.Chars.{codes};
+ghost use Rattle.std.specs.Prelude.{◌≡◌, ◌<◌, IfOk, length, pos};
+ghost use Rattle.ja_device.specs.Scripts.{AreOfKinds};
 ghost use Rattle.ja_prim.specs.declared.primitive.Num.TheVariants as num;
 ghost use Rattle.ja_prim.specs.declared.primitive.Primitive.TheVariants as primitive;
+ghost use Rattle.ja_host.specs.Scripts.{AreScripts, IsInput, IsNumber, IsPrint, IsScript, IsText, the_devices};
 
 use ja_base::Memory;
 use ja_device::{Devices, Scripted};
 use ja_prim::{Int, Kinds, Num, Primitive, Text16};
 use std::alloc::Global;
 
-// Adds a number to answers.
-fn add_number(answers: &mut Vec<Primitive>, number: u8) -> Result<(), Memory>
-    ensures { IfOk result (λ _. answers.new.items ≡ answers.old.items
-        ++ primitive.Number (num.Whole (pos number)) ∷ []) }
+// A device that gives these answers, was not called yet, and fails at no call.
+fn script(
+    alloc: Global,
+    name: &str,
+    kinds: Kinds,
+    answers: Vec<Primitive>,
+) -> Result<Scripted, Memory>
+    requires some { 0 < length answers.items }
+    requires fit { AreOfKinds kinds answers.items }
+    ensures { IfOk result (IsScript name.now kinds answers.items) }
 {
-    let number = Num::Whole(Int::new(number as i64).unwrap());
-    answers.push(Primitive::Number(number))?;
-    Ok(())
+    Scripted::new(alloc, name, kinds, answers, Vec::new(alloc))
 }
 
-/// `input` answers true three times, and then false.
-pub fn input(alloc: Global) -> Result<Scripted, Memory>
-    ensures name { IfOk result (λ s. string_bytes s.name ≡ codes "input") }
-    ensures kinds { IfOk result (λ s. s.kinds
-        ≡ record { undefined = false; null = false; boolean = true; number = false; text = false }) }
+fn whole(number: u8) -> Primitive
+    ensures { result ≡ primitive.Number (num.Whole (pos number)) }
 {
-    let mut answers = Vec::new(alloc);
-    for truth in [true, true, true, false] {
-        answers.push(Primitive::Bool(truth))?;
-    }
-    Scripted::new(alloc, "input", Kinds::BOOLEAN, answers, Vec::new(alloc))
+    Primitive::Number(Num::Whole(Int::new(i64::from(number)).unwrap()))
+}
+
+/// `input` answers true three times, and then false. `Memory` comes where memory was refused, here
+/// and below.
+pub fn input(alloc: Global) -> Result<Scripted, Memory>
+    ensures { IfOk result IsInput }
+{
+    let answers = vec![in alloc;
+        Primitive::Bool(true),
+        Primitive::Bool(true),
+        Primitive::Bool(true),
+        Primitive::Bool(false),
+    ]?;
+    script(alloc, "input", Kinds::BOOLEAN, answers)
 }
 
 /// `number` answers 0, 1, 2, 3, 5 and 8.
 pub fn number(alloc: Global) -> Result<Scripted, Memory>
-    ensures name { IfOk result (λ s. string_bytes s.name ≡ codes "number") }
-    ensures kinds { IfOk result (λ s. s.kinds
-        ≡ record { undefined = false; null = false; boolean = false; number = true; text = false }) }
+    ensures { IfOk result IsNumber }
 {
-    let mut answers = Vec::new(alloc);
-    for number in [0, 1, 2, 3, 5, 8] {
-        add_number(&mut answers, number)?;
-    }
-    Scripted::new(alloc, "number", Kinds::NUMBER, answers, Vec::new(alloc))
+    let answers = vec![in alloc; whole(0), whole(1), whole(2), whole(3), whole(5), whole(8)]?;
+    script(alloc, "number", Kinds::NUMBER, answers)
 }
 
 /// `text` answers "a", "b" and the empty text.
 pub fn text(alloc: Global) -> Result<Scripted, Memory>
-    ensures name { IfOk result (λ s. string_bytes s.name ≡ codes "text") }
-    ensures kinds { IfOk result (λ s. s.kinds
-        ≡ record { undefined = false; null = false; boolean = false; number = false; text = true }) }
+    ensures { IfOk result IsText }
 {
-    let mut answers = Vec::new(alloc);
-    answers.push(Primitive::Text(Text16::from_ascii(alloc, b"a")?))?;
-    answers.push(Primitive::Text(Text16::from_ascii(alloc, b"b")?))?;
-    answers.push(Primitive::Text(Text16::from_ascii(alloc, b"")?))?;
-    Scripted::new(alloc, "text", Kinds::TEXT, answers, Vec::new(alloc))
+    let first = Text16::from_ascii(alloc, b"a")?;
+    let second = Text16::from_ascii(alloc, b"b")?;
+    let empty = Text16::from_ascii(alloc, b"")?;
+    let answers = vec![in alloc;
+        Primitive::Text(first),
+        Primitive::Text(second),
+        Primitive::Text(empty),
+    ]?;
+    script(alloc, "text", Kinds::TEXT, answers)
 }
 
 /// `print` answers undefined.
 pub fn print(alloc: Global) -> Result<Scripted, Memory>
-    ensures name { IfOk result (λ s. string_bytes s.name ≡ codes "print") }
-    ensures kinds { IfOk result (λ s. s.kinds
-        ≡ record { undefined = true; null = false; boolean = false; number = false; text = false }) }
+    ensures { IfOk result IsPrint }
 {
-    let mut answers = Vec::new(alloc);
-    answers.push(Primitive::Undefined)?;
-    Scripted::new(alloc, "print", Kinds::UNDEFINED, answers, Vec::new(alloc))
+    let answers = vec![in alloc; Primitive::Undefined]?;
+    script(alloc, "print", Kinds::UNDEFINED, answers)
 }
 
-/// The devices of the programs: `input`, `number`, `text` and `print`, in this order. `Memory` comes
-/// where memory was refused.
-pub fn devices(alloc: Global) -> Result<Devices<Scripted>, Memory> {
-    let mut list = Vec::new(alloc);
-    list.push(input(alloc)?)?;
-    list.push(number(alloc)?)?;
-    list.push(text(alloc)?)?;
-    list.push(print(alloc)?)?;
-    let Ok(devices) = Devices::new(list) else {
+/// `input`, `number`, `text` and `print`, in this order.
+pub fn scripts(alloc: Global) -> Result<Vec<Scripted>, Memory>
+    ensures { IfOk result (λ scripts. AreScripts scripts.items) }
+{
+    let input = input(alloc)?;
+    let number = number(alloc)?;
+    let text = text(alloc)?;
+    let print = print(alloc)?;
+    let scripts = vec![in alloc; input, number, text, print]?;
+    Ok(scripts)
+}
+
+/// The devices of the programs, which answer from [`scripts`]: `input`, `number`, `text` and
+/// `print`, in this order.
+pub fn devices(alloc: Global) -> Result<Devices<Scripted>, Memory>
+    ensures { IfOk result (λ devices. devices ≡ the_devices) }
+{
+    let scripts = scripts(alloc)?;
+    let Ok(devices) = Devices::new(scripts) else {
         unreachable!()
     };
     Ok(devices)

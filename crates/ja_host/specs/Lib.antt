@@ -1,0 +1,3 @@
+pub mod Scripts
+-- what the functions inside the crate promise each other
+pub mod code
