@@ -1,7 +1,7 @@
 -- What the answers to a text come to.
 use Rattle.std.specs.Prelude.{◌≡◌, ◌+◌, [], List, ℕ, Option, Bool, true, false, unwrap_or, Some, None, option_map}
 use Rattle.std.specs.Str.{chars}
-use Rattle.std.proofs.Common.{codes, refl, subst, sym, Bor}
+use Rattle.std.proofs.Common.{◌∙◌, ap, codes, refl, subst, sym, Bor}
 use Rattle.ja_base.specs.Streams.{Appends, IsLonger, Keeps, Rose, TakesCount, TurnsTo}
 use Rattle.ja_lex.specs.Spots.{max_bytes}
 use Rattle.ja_prim.specs.declared.signature.Signature.{Signature}
@@ -24,9 +24,10 @@ use Rattle.ja_top.specs.declared.status.Status.TheVariants.{Uncaught, StepsSpent
 use Rattle.ja_top.proofs.Reporting.{by_faults}
 use Rattle.ja_lint_top.specs.Calls.{AreLinks}
 use Rattle.ja_lint_top.specs.Counts.{counts_text}
-use Rattle.ja_lint_top.specs.Lint.{Asked, Asks, Follows, HasCause, IsAnswered, IsShown, Lints, lines_text, title_of}
+use Rattle.ja_lint_top.specs.Lint.{Asked, Asks, Follows, HasCause, IsAnswered, IsShown, Lints, lines_text, refused, title_of}
 use Rattle.ja_lint_top.specs.Telling.{AreTold}
 use Rattle.ja_lint_top.specs.code.Answers.{IsRefusal, Shows}
+use Rattle.ja_lint_top.proofs.Limits.{length_written}
 
 -- ---- what is shown
 
@@ -74,11 +75,7 @@ module _ (asked : Asked) (text : List ℕ) (signatures : List Signature) (found 
       shown = shows.shown;
       built = finds.1.built;
       few = finds.1.few;
-      closed = finds.1.closed;
-      exact = finds.1.exact;
-      covers = finds.1.covers;
-      warned = finds.1.warned;
-      goes_on = finds.1.goes_on;
+      sound = finds.1.sound;
     },
   )
 
@@ -137,7 +134,12 @@ module _ (c : Call) (a : Answer) where
       → IsRefusal None [] TooLong None (codes "more than 16777216 bytes") a
       → HasCause c a.status a.text.items
   too_long asked asks longer takes refusal =
-      of_status TooLong refusal.status_is ((asked, asks), longer, takes, refusal.text_is)
+      of_status TooLong refusal.status_is (
+        (asked, asks),
+        longer,
+        takes,
+        refusal.text_is ∙ ap refused length_written,
+      )
 
 -- an answer with its cause that was written is answered
 pub answered : (c : Call) (w : Written) (status : Status) (out : List ℕ) → HasCause c status out

@@ -5,6 +5,7 @@ pub mod Collected
 pub mod CommandLines
 pub mod Edges
 pub mod Leading
+pub mod Limits
 pub mod Linked
 pub mod Orders
 pub mod Refusals

@@ -20,8 +20,9 @@ use Rattle.ja_top.specs.declared.finding.FindFault.{FindFault}
 use Rattle.ja_top.specs.declared.finding.FindFault.TheVariants as fault
 use Rattle.ja_top.specs.declared.status.Status.{Status}
 use Rattle.ja_top.specs.declared.status.Status.TheVariants.{NotText, Syntax, Scope, Limit, Spent}
-use Rattle.ja_lint_top.specs.Lint.{Asked, error_of, Follows}
+use Rattle.ja_lint_top.specs.Lint.{Asked, error_of, error_text, Follows}
 use Rattle.ja_lint_top.specs.code.Answers.{IsRefusal}
+use Rattle.ja_lint_top.proofs.Limits.{depth_written, functions_written, nodes_written, spent_written}
 
 -- an answer is a refusal by its status and its text, whatever the characters and the words are
 -- given as
@@ -41,6 +42,13 @@ module _ (asked : Asked) (bytes : List ℕ) (signatures : List Signature) (a : A
       → Follows asked bytes signatures a.status a.text.items
   of_status status is h =
       subst (λ (s : Status). Follows asked bytes signatures s a.text.items) (sym is) h
+
+  -- the words of the code are those of the definition
+  in_words : (status : Status) (place : Option Place) (words said : List ℕ) → words ≡ said
+      → IsRefusal asked.name (chars bytes) status place words a
+      → a.text.items ≡ error_text asked (chars bytes) place said
+  in_words status place words said same r =
+      r.text_is ∙ ap (λ w. messages_text asked.name (chars bytes) (error_of place w ∷ [])) same
 
   pub no_text : (offset : ℕ)
       → IsRefusal asked.name [] NotText None (codes "no character begins at byte " ++ decimal offset) a
@@ -73,23 +81,38 @@ module _ (asked : Asked) (bytes : List ℕ) (signatures : List Signature) (a : A
       (codes "nested deeper than 200 levels") a
       → IsNone bytes f → Follows asked bytes signatures a.status a.text.items
   too_deep place f is r h =
-      of_status Limit r.status_is (inl (place, subst (IsNone bytes) is h, r.text_is))
+      of_status Limit r.status_is (inl (
+        place,
+        subst (IsNone bytes) is h,
+        in_words Limit (Some place) _ _ depth_written r,
+      ))
 
   pub many_functions : (f : LoadFault) → f ≡ load_fault.Functions
       → IsRefusal asked.name (chars bytes) Limit None (codes "more than 4096 functions") a
       → HasNone bytes signatures f → Follows asked bytes signatures a.status a.text.items
   many_functions f is r h =
-      of_status Limit r.status_is (inr (inl (subst (HasNone bytes signatures) is h, r.text_is)))
+      of_status Limit r.status_is (inr (inl (
+        subst (HasNone bytes signatures) is h,
+        in_words Limit None _ _ functions_written r,
+      )))
 
   pub many_nodes : (f : LoadFault) → f ≡ load_fault.Nodes
       → IsRefusal asked.name (chars bytes) Limit None (codes "more than 65536 nodes") a
       → HasNone bytes signatures f → Follows asked bytes signatures a.status a.text.items
   many_nodes f is r h =
-      of_status Limit r.status_is (inr (inr (subst (HasNone bytes signatures) is h, r.text_is)))
+      of_status Limit r.status_is (inr (inr (
+        subst (HasNone bytes signatures) is h,
+        in_words Limit None _ _ nodes_written r,
+      )))
 
   pub spent : (f : FindFault) → f ≡ fault.Spent
       → IsRefusal asked.name (chars bytes) Spent None (codes "not closed after 1000000 visits") a
       → IsUnfound bytes signatures f → Follows asked bytes signatures a.status a.text.items
   spent f is r h =
       let unfound = subst (IsUnfound bytes signatures) is h in
-      of_status Spent r.status_is (unfound.0, unfound.1, unfound.2, r.text_is)
+      of_status Spent r.status_is (
+        unfound.0,
+        unfound.1,
+        unfound.2,
+        in_words Spent None _ _ spent_written r,
+      )

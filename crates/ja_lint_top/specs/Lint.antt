@@ -11,24 +11,24 @@ use Rattle.ja_base.specs.declared.ids.Place.{Place}
 use Rattle.ja_base.specs.declared.ids.ScopeKind.{ScopeKind}
 use Rattle.ja_base.specs.Streams.{Rose, Keeps, IsLonger, TakesCount}
 use Rattle.ja_graph.specs.declared.program.Program.{Program}
+use Rattle.ja_grammar.specs.Language.{max_levels}
 use Rattle.ja_grammar.specs.declared.fault.ParseFault.TheVariants as fault
 use Rattle.ja_lex.specs.Spots.{max_bytes}
 use Rattle.ja_load.specs.Loading.{IsProgramOf, HasManyFunctions, HasManyNodes, IsNone}
-use Rattle.ja_machine.specs.Runs.{NeverStuck}
+use Rattle.ja_lower.specs.Limits.{max_functions, max_size}
 use Rattle.ja_prim.specs.declared.signature.Signature.{Signature}
 use Rattle.ja_rows.specs.declared.table.Item.{Item}
 use Rattle.ja_rows.specs.declared.table.Warning.{Warning}
-use Rattle.ja_rows.specs.Table.{Table, IsBuilt, IsClosed}
-use Rattle.ja_rows.specs.Warning.{AreWarnings}
+use Rattle.ja_rows.specs.Table.{Table, IsBuilt}
 use Rattle.ja_rules.specs.Solving.{WasSpent}
 use Rattle.ja_show.specs.declared.message.Level.TheVariants.{Error}
 use Rattle.ja_show.specs.declared.message.Link.{Link}
 use Rattle.ja_show.specs.declared.message.Message.{Message}
 use Rattle.ja_show.specs.Messages.{messages_text}
 use Rattle.ja_show.specs.Page.{page_text}
-use Rattle.ja_sound.specs.Sound.{CoversRuns, WarnsOfFaults}
 use Rattle.ja_texts.specs.Texts.{scope_name}
 use Rattle.ja_top.specs.Answers.{Call, IsBegun, IsInput, IsWritten, Written}
+use Rattle.ja_top.specs.Promises.{IsSound}
 use Rattle.ja_top.specs.Runs.{signatures_of}
 use Rattle.ja_top.specs.Statuses.{has_fault}
 use Rattle.ja_top.specs.declared.status.Status.{Status}
@@ -67,8 +67,8 @@ IsShown false name text p t messages warnings out =
     out ≡ lines_text name text messages warnings
 
 -- What is written of the program of a text, with these warnings: a message for each, once and in
--- order, and nothing else. They are those of a closed table that covers every run, and an operation
--- that goes wrong in some run is among them. No run of the program is stuck.
+-- order, and nothing else. They are those of a table that some visits build, and of which all is
+-- promised.
 pub record IsLinted (asked : Asked) (text : List ℕ) (p : Program) (out : List ℕ)
     (warnings : List Warning) : Type 0 where
   pub table : Table
@@ -78,11 +78,7 @@ pub record IsLinted (asked : Asked) (text : List ℕ) (p : Program) (out : List 
   pub shown : IsShown asked.html asked.name text p table messages warnings out
   pub built : IsBuilt p visits table
   pub few : length visits ≤ default_budget
-  pub closed : IsClosed p table
-  pub exact : AreWarnings p table warnings
-  pub covers : CoversRuns p table
-  pub warned : WarnsOfFaults p warnings
-  pub goes_on : NeverStuck p
+  pub sound : IsSound p table warnings
 
 abbrev pub Lints : Asked → List ℕ → List Signature → List ℕ → List Warning → Type 0
 Lints asked text signatures out warnings =
@@ -98,22 +94,38 @@ error_of place text =
 abbrev pub error_text : Asked → List ℕ → Option Place → List ℕ → List ℕ
 error_text asked cs place text = messages_text asked.name cs (error_of place text ∷ [])
 
+-- the limits that a text may pass
+abbrev pub length_words : List ℕ
+length_words = codes "more than " ++ decimal max_bytes ++ codes " bytes"
+
+abbrev pub depth_words : List ℕ
+depth_words = codes "nested deeper than " ++ decimal max_levels ++ codes " levels"
+
+abbrev pub functions_words : List ℕ
+functions_words = codes "more than " ++ decimal max_functions ++ codes " functions"
+
+abbrev pub nodes_words : List ℕ
+nodes_words = codes "more than " ++ decimal max_size ++ codes " nodes"
+
+abbrev pub spent_words : List ℕ
+spent_words = codes "not closed after " ++ decimal default_budget ++ codes " visits"
+
 -- the text nests too deep, or has too many functions, or else too many nodes
 abbrev pub IsPastLimit : Asked → List ℕ → List Signature → List ℕ → Type 0
 IsPastLimit asked text signatures out =
     ((place : Place) × IsNone text (fault.Depth place)
-    × (out ≡ error_text asked (chars text) (Some place) (codes "nested deeper than 200 levels")))
+    × (out ≡ error_text asked (chars text) (Some place) depth_words))
     ⊎ ((HasManyFunctions text
-    × (out ≡ error_text asked (chars text) None (codes "more than 4096 functions")))
+    × (out ≡ error_text asked (chars text) None functions_words))
     ⊎ (HasManyNodes text signatures
-    × (out ≡ error_text asked (chars text) None (codes "more than 65536 nodes"))))
+    × (out ≡ error_text asked (chars text) None nodes_words)))
 
 -- the budget of visits is spent, and the table isn't closed
 abbrev pub IsSpent : Asked → List ℕ → List Signature → List ℕ → Type 0
 IsSpent asked text signatures out =
     (p : Program) × IsProgramOf text signatures p
     × ((visits : List Item) × WasSpent p default_budget visits)
-    × (out ≡ error_text asked (chars text) None (codes "not closed after 1000000 visits"))
+    × (out ≡ error_text asked (chars text) None spent_words)
 
 -- ---- what is written of bytes, by the status
 
@@ -157,7 +169,7 @@ HasCause c ReadFault out =
 HasCause c TooLong out =
     ((asked : Asked) × Asks c.words asked) × IsLonger max_bytes c.left
     × TakesCount (max_bytes + 1) c.left c.left_after
-    × (out ≡ refused (codes "more than 16777216 bytes"))
+    × (out ≡ refused length_words)
 HasCause c status out =
     (asked : Asked) × Asks c.words asked
     × ((bytes : List ℕ) × IsInput c bytes

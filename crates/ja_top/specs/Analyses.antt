@@ -7,18 +7,16 @@ use Rattle.ja_base.specs.declared.ids.ScopeKind.{ScopeKind}
 use Rattle.ja_graph.specs.declared.program.Program.{Program}
 use Rattle.ja_grammar.specs.declared.fault.ParseFault.TheVariants as fault
 use Rattle.ja_load.specs.Loading.{IsProgramOf, HasManyFunctions, HasManyNodes, IsNone}
-use Rattle.ja_machine.specs.Runs.{NeverStuck}
 use Rattle.ja_rows.specs.declared.table.Item.{Item}
 use Rattle.ja_rows.specs.declared.table.Warning.{Warning}
-use Rattle.ja_rows.specs.Table.{Table, IsBuilt, IsClosed}
-use Rattle.ja_rows.specs.Warning.{AreWarnings}
-use Rattle.ja_sound.specs.Sound.{CoversRuns, WarnsOfFaults}
+use Rattle.ja_rows.specs.Table.{Table, IsBuilt}
 use Rattle.ja_prim.specs.declared.signature.Signature.{Signature}
 use Rattle.ja_report.specs.declared.refusals.Refusal.TheVariants as refusal
 use Rattle.ja_report.specs.Refusals.{refusal_text}
 use Rattle.ja_report.specs.Report.{report_text, spent_text, summary_text}
 use Rattle.ja_cert.specs.Certificate.{certificate_text}
 use Rattle.ja_rules.specs.Solving.{WasSpent}
+use Rattle.ja_top.specs.Promises.{IsSound}
 use Rattle.ja_top.specs.Statuses.{has_fault}
 use Rattle.ja_top.specs.declared.request.Form.{Form}
 use Rattle.ja_top.specs.declared.request.Form.TheVariants as form
@@ -33,9 +31,8 @@ result_text form.Report p t visits warnings = report_text p t visits true warnin
 result_text form.Certificate p t visits warnings = certificate_text p t visits
 result_text (form.Summary number) p t visits warnings = summary_text number p t warnings
 
--- What is printed of a program, with these warnings: the table that the printed visits build, which
--- is closed and covers every run; an operation that goes wrong in some run is among the warnings.
--- No run of the program is stuck.
+-- What is printed of a program, with these warnings: a table that the printed visits build, and of
+-- which all is promised.
 pub record IsAnalysed (request : Request) (p : Program) (text : List ℕ) (warnings : List Warning)
     : Type 0 where
   pub table : Table
@@ -43,11 +40,7 @@ pub record IsAnalysed (request : Request) (p : Program) (text : List ℕ) (warni
   pub printed : text ≡ result_text request.form p table visits warnings
   pub built : IsBuilt p visits table
   pub few : length visits ≤ request.budget
-  pub closed : IsClosed p table
-  pub exact : AreWarnings p table warnings
-  pub covers : CoversRuns p table
-  pub warned : WarnsOfFaults p warnings
-  pub goes_on : NeverStuck p
+  pub sound : IsSound p table warnings
 
 -- what is written of a program, by the status
 abbrev pub Reports : Request → Program → Status → List ℕ → Type 0

@@ -8,7 +8,6 @@ use Rattle.ja_cert_read.specs.declared.certificate.Certificate.{Certificate}
 use Rattle.ja_cert_read.specs.declared.certificate.CertFault.{CertFault}
 use Rattle.ja_cert_read.specs.declared.certificate.CertFault.TheVariants as cert_fault
 use Rattle.ja_check.specs.Check.{IsFirstOpen}
-use Rattle.ja_machine.specs.Runs.{NeverStuck}
 use Rattle.ja_report.specs.Refusals.{cert_refusal_text, open_text, refusal_text}
 use Rattle.ja_report.specs.Report.{report_text}
 use Rattle.ja_report.specs.declared.certificates.CertRefusal.TheVariants as certificate
@@ -16,27 +15,21 @@ use Rattle.ja_report.specs.declared.refusals.Refusal.{Refusal}
 use Rattle.ja_report.specs.declared.refusals.Refusal.TheVariants as refusal
 use Rattle.ja_rows.specs.declared.table.Item.{Item}
 use Rattle.ja_rows.specs.declared.table.Warning.{Warning}
-use Rattle.ja_rows.specs.Table.{HasOpening, IsBuilt, IsClosed, Table}
-use Rattle.ja_rows.specs.Warning.{AreWarnings}
+use Rattle.ja_rows.specs.Table.{HasOpening, IsBuilt, Table}
 use Rattle.ja_rules.specs.Tables.{table_of}
-use Rattle.ja_sound.specs.Sound.{CoversRuns, WarnsOfFaults}
+use Rattle.ja_top.specs.Promises.{IsSound}
 use Rattle.ja_top.specs.Statuses.{has_fault, refusal_of}
 use Rattle.ja_top.specs.declared.status.Status.{Status}
 use Rattle.ja_top.specs.declared.status.Status.TheVariants.{Done, Warned, NotText, CertRefused}
 
--- What is printed of a table and visits, with these warnings: the report of the table, which is
--- closed and covers every run of the program; whether the visits build it; an operation that goes
--- wrong in some run is among the warnings. No run of the program is stuck.
+-- What is printed of a table and visits, with these warnings: the report of the table, with whether
+-- the visits build it. All is promised of the table, built or not.
 pub record IsAccepted (p : Program) (t : Table) (visits : List Item) (text : List ℕ)
     (warnings : List Warning) : Type 0 where
   pub built : Bool
   pub built_is : IsTrue built ↔ IsBuilt p visits t
   pub printed : text ≡ report_text p t visits built warnings
-  pub closed : IsClosed p t
-  pub exact : AreWarnings p t warnings
-  pub covers : CoversRuns p t
-  pub warned : WarnsOfFaults p warnings
-  pub goes_on : NeverStuck p
+  pub sound : IsSound p t warnings
 
 -- the same of a certificate
 abbrev pub IsChecked : List ℕ → List ℕ → List Warning → Type 0

@@ -3,6 +3,7 @@ pub mod Answers
 pub mod Analyses
 pub mod Checks
 pub mod Findings
+pub mod Promises
 pub mod Runs
 pub mod Statuses
 -- what the functions inside the crate promise each other

@@ -17,11 +17,13 @@ returns c =
       printed = cc (c.in_ok-text.ensures, c.as_slice.ensures);
       built = c.requires.solved.built;
       few = c.requires.solved.few;
-      closed = c.requires.solved.closed;
-      exact = c.in_ok-warnings.ensures.warnings;
-      covers = c.requires.solved.covers;
-      warned = c.in_ok-warnings.ensures.faults c.requires.solved.closed;
-      goes_on = c.never_stuck.ensures p c.requires.program;
+      sound = record {
+        closed = c.requires.solved.closed;
+        exact = c.in_ok-warnings.ensures.warnings;
+        covers = c.requires.solved.covers;
+        warned = c.in_ok-warnings.ensures.faults c.requires.solved.closed;
+        goes_on = c.never_stuck.ensures p c.requires.program;
+      };
     } in
     let same : status_of ws ≡ c.judged-status.result =
     cc (c.judged-status.ensures, c.as_slice-2.ensures) in

@@ -16,10 +16,12 @@ returns c =
         built = c.in_ok-is_built.is_built;
         built_is = c.in_ok-is_built.ensures;
         printed = cc (c.in_ok-text.ensures, c.as_slice.ensures);
-        closed = c.requires.closed;
-        exact = c.in_ok-warnings.ensures.warnings;
-        covers = c.closed_covers.ensures p t c.requires.program c.requires.closed;
-        warned = c.in_ok-warnings.ensures.faults c.requires.closed;
-        goes_on = c.never_stuck.ensures p c.requires.program;
+        sound = record {
+          closed = c.requires.closed;
+          exact = c.in_ok-warnings.ensures.warnings;
+          covers = c.closed_covers.ensures p t c.requires.program c.requires.closed;
+          warned = c.in_ok-warnings.ensures.faults c.requires.closed;
+          goes_on = c.never_stuck.ensures p c.requires.program;
+        };
       },
     )

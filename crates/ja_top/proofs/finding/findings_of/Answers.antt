@@ -9,10 +9,12 @@ returns c =
       fits = solved.fits;
       built = solved.built;
       few = solved.few;
-      closed = solved.closed;
-      exact = c.in_ok-warnings.ensures.warnings;
       values = c.in_ok-warnings.ensures.values;
-      covers = solved.covers;
-      warned = c.in_ok-warnings.ensures.faults solved.closed;
-      goes_on = c.never_stuck.ensures c.args.program c.requires.program;
+      sound = record {
+        closed = solved.closed;
+        exact = c.in_ok-warnings.ensures.warnings;
+        covers = solved.covers;
+        warned = c.in_ok-warnings.ensures.faults solved.closed;
+        goes_on = c.never_stuck.ensures c.args.program c.requires.program;
+      };
     }
