@@ -20,12 +20,11 @@ use Rattle.ja_top.specs.declared.status.Status.TheVariants.{Scope, Limit, Spent,
 use Rattle.ja_top.specs.declared.status.Status.TheVariants.{Uncaught, StepsSpent, Memory}
 use Rattle.ja_load.specs.Loading.{IsProgramOf, HasNone}
 use Rattle.ja_top.specs.Analyses.{IsAnalysed, Reports, Refuses, Analyses}
-use Rattle.ja_top.specs.Answers.{Call, AnswersBytes, Asks, Follows, HasCause, IsGiven, IsInput, request_of, summing}
+use Rattle.ja_top.specs.Answers.{Call, AnswersBytes, Asks, Follows, HasCause, IsGiven, IsInput, IsReading, request_of, summing}
 use Rattle.ja_top.specs.Checks.{Checks}
 use Rattle.ja_top.specs.Answers.{Written, IsAnswered}
 use Rattle.ja_top.specs.Runs.{Runs, signatures_of}
 use Rattle.ja_top.specs.Statuses.{has_fault, refusal_of}
-use Rattle.ja_top.specs.code.Commands.{IsReading}
 use Rattle.ja_top.specs.code.Solutions.{IsRefusal}
 use Rattle.ja_top.specs.code.Statuses.{status_of, status_of_refusal}
 use Rattle.ja_base.specs.Streams.{Appends, TurnsTo}

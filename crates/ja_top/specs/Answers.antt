@@ -62,6 +62,11 @@ pub record IsInput (c : Call) (bytes : List ℕ) : Type 0 where
 abbrev pub Asks : List (String Global) → Command → Type 0
 Asks words asked = IsCommandLine (map string_bytes words) asked
 
+-- a command that reads: all but `generate` do
+abbrev pub IsReading : Command → Type 0
+IsReading (command.Generate number) = ⊥
+IsReading asked = Unit {0}
+
 -- what bytes are analysed, checked or run: of `generate` those of its own program, and nothing is
 -- read; of the others all that was left
 abbrev pub IsGiven : Command → Call → List ℕ → Type 0
@@ -91,6 +96,10 @@ Follows (command.Generate number) bytes before after status text =
 abbrev pub IsAsked : Call → Type 0
 IsAsked c = (asked : Command) × Asks c.words asked
 
+-- .. and for one that reads
+abbrev pub IsAskedToRead : Call → Type 0
+IsAskedToRead c = (asked : Command) × Asks c.words asked × IsReading asked
+
 -- the bytes that are given are answered by the command that the words ask for
 abbrev pub AnswersBytes : Call → Status → List ℕ → Type 0
 AnswersBytes c status text =
@@ -104,11 +113,12 @@ HasCause c Usage text =
     (IsAsked c → ⊥) × Keeps c.left c.left_after × DevicesStand c
     × (text ≡ refusal_text refusal.Usage)
 HasCause c ReadFault text =
-    IsAsked c × Rose c.faults c.faults_after × DevicesStand c
+    IsAskedToRead c × Rose c.faults c.faults_after × DevicesStand c
     × (text ≡ refusal_text refusal.ReadFault)
 HasCause c TooLong text =
-    IsAsked c × IsLonger max_bytes c.left × TakesCount (max_bytes + 1) c.left c.left_after
-    × DevicesStand c × (text ≡ refusal_text refusal.TooLong)
+    IsAskedToRead c × IsLonger max_bytes c.left
+    × TakesCount (max_bytes + 1) c.left c.left_after × DevicesStand c
+    × (text ≡ refusal_text refusal.TooLong)
 HasCause c WriteFault text = ⊥
 HasCause c Memory text = ⊥
 HasCause c status text = AnswersBytes c status text

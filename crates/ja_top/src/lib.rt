@@ -6,16 +6,16 @@
 //! words, sources, sinks and lists of devices:
 //!
 //! - **each status has its cause**. Want of memory (16) alone is free, and 3 and 4 come only where
-//!   the source's or the sink's count of faults rose in this call. Where none of these comes, it is
-//!   2 exactly where the words are no command line (`ja_words/specs/Words.antt`); 5 where more than
-//!   16,777,216 bytes were left; 6 exactly where the bytes are no UTF-8, with the offset of the
-//!   first byte that begins no character; 7, 8 and 9 exactly where the text isn't in the language,
-//!   with the kind and the place that `ja_grammar` determines; 9 also exactly where it is in the
-//!   language and has more than 4,096 functions, or else its graph and parameters are more than
-//!   65,536 nodes; 10 only where the budget's visits, which are printed, each changed the table and
-//!   the last one isn't closed; 11 only of `check`, with why the bytes are no certificate
-//!   (`ja_cert_read/specs/Certified.antt`), or why its table isn't closed; 12 to 15 only of a run,
-//!   by its end.
+//!   the source's or the sink's count of faults rose in this call; 3 and 5 only where the words ask
+//!   for a command that reads, as all but `generate` do. Where none of these comes, it is 2 exactly
+//!   where the words are no command line (`ja_words/specs/Words.antt`); 5 where more than 16,777,216
+//!   bytes were left; 6 exactly where the bytes are no UTF-8, with the offset of the first byte that
+//!   begins no character; 7, 8 and 9 exactly where the text isn't in the language, with the kind and
+//!   the place that `ja_grammar` determines; 9 also exactly where it is in the language and has more
+//!   than 4,096 functions, or else its graph and parameters are more than 65,536 nodes; 10 only where
+//!   the budget's visits, which are printed, each changed the table and the last one isn't closed; 11
+//!   only of `check`, with why the bytes are no certificate (`ja_cert_read/specs/Certified.antt`), or
+//!   why its table isn't closed; 12 to 15 only of a run, by its end.
 //! - **what was written**: after every status but 4 and 16 the text of that answer, whole, and the
 //!   sink is finished; after 4 the front of the text of another answer whose cause holds; after 16
 //!   nothing.
@@ -49,6 +49,7 @@ mod analysis;
 mod answer;
 mod checking;
 mod finding;
+mod laws;
 mod refusing;
 mod request;
 mod running;
@@ -59,6 +60,7 @@ pub use analysis::{analyse, is_fault};
 pub use answer::Answer;
 pub use checking::check;
 pub use finding::{FindFault, Findings, find};
+pub use laws::limits_are_told;
 pub use request::{Form, Request};
 pub use running::run;
 pub use status::Status;

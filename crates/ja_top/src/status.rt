@@ -41,7 +41,7 @@ pub enum Status {
 }
 
 impl Status {
-    ghost use Rattle.ja_top.specs.code.Statuses.{code_of};
+    ghost use Rattle.ja_top.specs.Statuses.{code_of};
 
     /// The exit status.
     pub fn code(self) -> u8

@@ -8,10 +8,10 @@ ghost use Rattle.ja_base.specs.Streams.{HasCause as StreamCause};
 ghost use Rattle.ja_lex.specs.Spots.{max_bytes};
 ghost use Rattle.ja_gen.specs.Generated.{generated_text, max_number};
 ghost use Rattle.ja_top.specs.Analyses.{Analyses};
-ghost use Rattle.ja_top.specs.Answers.{Asks, DevicesComeBack, Follows, HasCause, IsAnswered};
+ghost use Rattle.ja_top.specs.Answers.{Asks, DevicesComeBack, Follows, HasCause, IsAnswered, IsReading};
 ghost use Rattle.ja_top.specs.Answers.{call_of, request_of, summing, written_of};
 ghost use Rattle.ja_top.specs.Runs.{signatures_of};
-ghost use Rattle.ja_top.specs.code.Commands.{IsReading, StopsShort};
+ghost use Rattle.ja_top.specs.code.Commands.{StopsShort};
 
 use crate::analysis::analyse;
 use crate::answer::Answer;

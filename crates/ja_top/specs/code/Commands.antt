@@ -1,14 +1,9 @@
--- Which commands read, and what is left where memory is refused.
+-- What is left where memory is refused.
 use Rattle.std.specs.Prelude.{◌≡◌, ℕ, List}
 use Rattle.ja_device.specs.Devices.{AllSeen}
 use Rattle.ja_top.specs.Runs.{MayBeLeftByText}
 use Rattle.ja_words.specs.declared.command.Command.{Command}
 use Rattle.ja_words.specs.declared.command.Command.TheVariants as command
-
--- a command that reads its bytes
-abbrev pub IsReading : Command → Type 0
-IsReading (command.Generate number) = ⊥
-IsReading asked = Unit {0}
 
 -- the devices where memory was refused to a command that answers bytes
 abbrev pub StopsShort : Command → List ℕ → AllSeen → AllSeen → Type 0
