@@ -1,5 +1,5 @@
 -- What the definitions of abstract primitives give, computed.
-use Rattle.std.specs.Prelude.{◌≡◌, ℕ, pos, negsuc, true, false, List, [], ◌∷◌, map}
+use Rattle.std.specs.Prelude.{◌≡◌, ℕ, pos, negsuc, Bool, true, false, List, [], ◌∷◌, map}
 use Rattle.std.specs.Fmt.{digits as decimal_digits}
 use Rattle.std.proofs.Common.{refl}
 use lib.Chars.{codes}
@@ -13,10 +13,11 @@ use Rattle.ja_prim.specs.Numerals as numerals
 use Rattle.ja_prim.specs.TextToNumber as spec
 use Rattle.ja_graph.specs.declared.node.BinaryOp.{BinaryOp}
 use Rattle.ja_graph.specs.declared.node.BinaryOp.TheVariants as op
+use Rattle.ja_abstract.specs.declared.abstraction.NumberPart.{NumberPart}
 use Rattle.ja_abstract.specs.declared.abstraction.NumberPart.TheVariants as number_part
 use Rattle.ja_abstract.specs.declared.abstraction.TextPart.TheVariants as text_part
 use Rattle.ja_abstract.specs.AbstractValue.{AbstractValue, of_primitive, join, null_value, undefined_value, no_value}
-use Rattle.ja_abstract.specs.Keys.{is_whole_text}
+use Rattle.ja_abstract.specs.Keys.{is_whole_text, number_text_has}
 use Rattle.ja_abstract.specs.Operations.{digits_atoms}
 use Rattle.ja_abstract.specs.Primitives.{Abstracted, abstract_unary, to_bool_atom, to_text_atom, on_operand, of_operand, over_pairs, atoms, gives, gives_or_stops, abstract_binary, operator, finished, of_number_part, of_text_part, of_bools, to_num, to_uint32, whole_value, nan_value}
 
@@ -316,6 +317,30 @@ unfolding texts spec.text_to_number spec.literal spec.is_hexadecimal spec.signed
     numerals.decimal_value numerals.placed behind_blanks before_blanks is_white is_terminator
     decimal_digits
 whole_texts = refl
+
+-- .. and of which class of numbers each is the text: 4294967294 is the greatest index (15.4)
+
+texts_of_class : NumberPart → List Bool
+texts_of_class n =
+    map (number_text_has n) (codes "4294967294" ∷ codes "4294967295" ∷ codes "-12" ∷ codes "0" ∷
+    codes "-0" ∷ codes "007" ∷ [])
+
+texts_of_index :
+    texts_of_class number_part.Index ≡ true ∷ false ∷ false ∷ true ∷ false ∷ false ∷ []
+unfolding texts_of_class decimal_digits
+texts_of_index = refl
+
+texts_of_classes :
+    map texts_of_class (number_part.OtherWhole ∷ number_part.Whole ∷ number_part.Nothing ∷ [])
+    ≡ (false ∷ true ∷ true ∷ false ∷ false ∷ false ∷ [])
+    ∷ (true ∷ true ∷ true ∷ true ∷ false ∷ false ∷ [])
+    ∷ (false ∷ false ∷ false ∷ false ∷ false ∷ false ∷ []) ∷ []
+unfolding texts_of_class spec.text_to_number spec.literal spec.is_hexadecimal spec.signed_literal
+    spec.unsigned spec.decimal numerals.digits numerals.behind_digits numerals.fraction
+    numerals.behind_fraction numerals.exponent numerals.behind_exponent numerals.behind_decimal
+    numerals.decimal_value numerals.placed behind_blanks before_blanks is_white is_terminator
+    decimal_digits
+texts_of_classes = refl
 
 -- ---- digits by a radix: of a class any text, of two constants the machine's or none
 
