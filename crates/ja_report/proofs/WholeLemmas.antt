@@ -37,8 +37,6 @@ module _ (p : Program) (t : ATable) (visits : List Item) (fits : Fits p t) where
       edges_is ∙ ap (λ (l : List ℕ). l ++ kept_sites) none_is ∙ edges_named in
       all_is ∙ ap (λ (l : List ℕ). l ++ flat_map item_sites visits)
       (lines_is ∙ ap (λ (l : List ℕ). l ++ its_sites) first)
-      ∙ append_assoc (flat_map edge_sites (edges_of p (table_of t))) its_sites
-      (flat_map item_sites visits)
 
 parts : (h c l v e : List ℕ) → (((h ++ c) ++ l) ++ v) ++ e ≡ h ++ (c ++ l) ++ v ++ e
 parts h c l v e = simp append_assoc
