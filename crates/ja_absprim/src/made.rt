@@ -50,18 +50,14 @@ pub fn undefined(alloc: Global) -> AValue
 pub fn of_number_part(alloc: Global, part: NumberPart) -> AValue
     ensures { value_of result ≡ of_number_part part }
 {
-    let mut value = AValue::empty(alloc);
-    value.number = part;
-    value
+    AValue::of_number_part(alloc, part)
 }
 
 /// The texts of a part.
 pub fn of_text_part(alloc: Global, part: TextPart) -> AValue
     ensures { value_of result ≡ of_text_part part }
 {
-    let mut value = AValue::empty(alloc);
-    value.text = part;
-    value
+    AValue::of_text_part(alloc, part)
 }
 
 /// Exactly NaN.

@@ -115,9 +115,9 @@ binary w op a b =
     finished op (join of_objects (abstract_binary (operator op) a b).value)
 
 -- undefined or null is among it
-abbrev pub is_nothing : AbstractValue → Bool
-is_nothing v = v.flags.undefined || v.flags.null
+abbrev pub has_nullish : AbstractValue → Bool
+has_nullish v = v.flags.undefined || v.flags.null
 
 -- what isn't an object: absent and a row too
-abbrev pub has_no_object : AbstractValue → Bool
-has_no_object v = v.flags.absent || (v.flags.row || has_atoms v)
+abbrev pub has_non_object : AbstractValue → Bool
+has_non_object v = v.flags.absent || (v.flags.row || has_atoms v)

@@ -12,3 +12,4 @@ pub mod ComposedLemmas
 pub mod KeptLemmas
 pub mod ComposingLemmas
 pub mod HeapLaws
+pub mod ProfileLemmas

@@ -1,4 +1,4 @@
-ghost use Rattle.std.specs.Prelude.{◌≡◌, ◌<◌, ◌≤◌, ◌*◌, ◌↔◌, IfOk, OnErr, IsTrue, false, filter};
+ghost use Rattle.std.specs.Prelude.{◌≡◌, ◌<◌, ◌≤◌, ◌+◌, ◌*◌, ◌↔◌, IfOk, OnErr, IsTrue, false, filter};
 ghost use Rattle.ja_abstract.specs.declared.abstraction.Key.{Key};
 ghost use Rattle.ja_abstract.specs.AbstractValue.{entry_property, join_properties};
 ghost use Rattle.ja_abstract.specs.AbstractState.{sites_below};
@@ -176,18 +176,28 @@ impl AHeap {
     }
 
     /// A site at or behind `site`, before which each label from `site` on is as at entry. So far
-    /// this tells it in a few steps, however many sites that are: where `site` itself comes, its
-    /// labels have to be looked at.
+    /// this tells it in a few steps, however many sites that are. Of a site of the program `site`
+    /// itself comes exactly where one of its labels isn't as at entry.
     pub fn untouched_to(&self, site: Site) -> Site
         ensures ahead { site.0 ≤ result.0 }
         ensures untouched { AreUntouched (heap_of self.now) site.0 result.0 }
+        ensures further { site.0 < (heap_of self.now).sites
+            → AreUntouched (heap_of self.now) site.0 (site.0 + 1) → site.0 < result.0 }
     {
-        let label = Label { site, old: false };
-        if site.0 >= self.sites || !self.is_as_at_entry(label) {
+        if site.0 >= self.sites || !self.is_untouched(site) {
             return site;
         }
-        let end = self.objects.run_end(label_number(label) as u32);
-        Site(end / 2)
+        let new = label_number(Label { site, old: false });
+        let end = self.objects.run_end(new as u32);
+        Site((end / 2).max(site.0 + 1))
+    }
+
+    /// Whether both labels of a site are as at entry.
+    fn is_untouched(&self, site: Site) -> bool
+        ensures { IsTrue result ↔ AreUntouched (heap_of self.now) site.0 (site.0 + 1) }
+    {
+        self.is_as_at_entry(Label { site, old: false })
+            && self.is_as_at_entry(Label { site, old: true })
     }
 
     /// Whether the mask of a site isn't exactly none.

@@ -13,7 +13,7 @@ use ja_prim::{Int, Text16};
 use ja_report::{Refusal, refusal_text, report, spent_text};
 use ja_rows::{Edge, Item};
 use ja_rules::{ATable, ContextTable, opening};
-use ja_value::{AProp, AValue};
+use ja_value::{AProp, AValue, number_of_profile, text_of_profile};
 use std::{mem, str};
 
 /// Bytes, which are a text, in lines of their own.
@@ -56,10 +56,10 @@ fn value(out: &Out) -> AValue {
     value.flags.undefined = true;
     value.flags.nan = true;
     if let Some(number) = Int::new(-5) {
-        value.number = NumberPart::One(number);
+        value.number = number_of_profile(NumberPart::One(number));
     }
     if let Ok(text) = Text16::from_str(out.alloc, "a\"\\\u{e9}\n\u{ffff}") {
-        value.text = TextPart::One(text);
+        value.text = text_of_profile(TextPart::One(text));
     }
     value
 }

@@ -6,7 +6,7 @@ ghost use Rattle.ja_abstract.specs.AbstractState.{aged, new};
 ghost use Rattle.ja_abstract.specs.AbstractValue.{join, of_label, of_labels, same_label};
 ghost use Rattle.ja_abstract.specs.Made.{constructed_own};
 ghost use Rattle.ja_abstract.specs.Reading.{demands_of_get, get};
-ghost use Rattle.ja_abstract.specs.Values.{has_no_object, value_if};
+ghost use Rattle.ja_abstract.specs.Values.{has_non_object, value_if};
 ghost use Rattle.ja_rows.specs.Calls as spec;
 ghost use Rattle.ja_rows.specs.Edges.{runs};
 ghost use Rattle.ja_rows.specs.Properties.{prototype_keys};
@@ -158,11 +158,11 @@ fn prototype_of(reader: &Reader<'_>, functions: &LabelSet) -> Result<Looked, Mem
 /// from where it may be none.
 fn inherited(alloc: Global, prototype: &AValue) -> Result<AValue, Memory>
     ensures { IfOk result (λ v. value_of v ≡ join
-        (value_if (has_no_object (value_of prototype.now))
+        (value_if (has_non_object (value_of prototype.now))
         (of_label (new builtins.OBJECT_PROTOTYPE))) (of_labels (value_of prototype.now).label)) }
 {
     let objects = AValue::of_labels(alloc, prototype.labels.copy()?);
-    if !prototype.has_no_object() {
+    if !prototype.has_non_object() {
         return Ok(objects);
     }
     let label = Label {

@@ -12,7 +12,7 @@ use crate::lists::keys_of_class;
 use ja_abstract::{Key, NumberPart, TextPart};
 use ja_base::Memory;
 use ja_graph::Program;
-use ja_value::{AValue, copy_text_part};
+use ja_value::{AValue, copy_text_part, number_of_profile};
 use std::alloc::Global;
 
 /// The keys of a class of texts, alone and with each class of numbers.
@@ -32,7 +32,7 @@ fn of_parts(alloc: Global, text: &TextPart, number: NumberPart) -> Result<AValue
     ensures { IfOk result (λ v. value_of v ≡ of_parts text.now number) }
 {
     let mut value = AValue::of_text_part(alloc, copy_text_part(alloc, text)?);
-    value.number = number;
+    value.number = number_of_profile(number);
     Ok(value)
 }
 

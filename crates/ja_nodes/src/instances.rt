@@ -128,7 +128,7 @@ pub(crate) fn instance_of(
     stepper.type_error(&mut states, is_other, not_function, NO_FUNCTION)?;
     stepper.type_error(
         &mut states,
-        prototype.has_no_object(),
+        prototype.has_non_object(),
         not_object,
         NO_PROTOTYPE,
     )?;

@@ -186,7 +186,7 @@ pub(crate) fn to_object(
         numbers,
     )?;
     wraps_text(stepper, &mut states, dst, sites.text, &value.text)?;
-    stepper.type_error(&mut states, value.is_nothing(), error, NOTHING)?;
+    stepper.type_error(&mut states, value.has_nullish(), error, NOTHING)?;
     Ok(stepper.outcome(states, DemandList::new(alloc)))
 }
 

@@ -24,7 +24,7 @@ use Rattle.ja_abstract.specs.Primitives.{to_num, to_uint32, whole_value}
 use Rattle.ja_abstract.specs.Reading.{View, some_label, no_demands, both, demands_at, slot, get, demands_of_get}
 use Rattle.ja_abstract.specs.Made.{length_key, scope_key, whole_constant, one_number, rest_register, count_register, constructed_own, with_object}
 use Rattle.ja_abstract.specs.Writes.{has_some_part}
-use Rattle.ja_abstract.specs.Values.{has_atoms, has_labels, value_if, primitives_of, as_read, has_no_object}
+use Rattle.ja_abstract.specs.Values.{has_atoms, has_labels, value_if, primitives_of, as_read, has_non_object}
 use Rattle.ja_abstract.specs.Composed.{renamed_value, composed}
 use Rattle.ja_rows.specs.declared.table.Edge.{Edge}
 use Rattle.ja_rows.specs.Out.{at, Given, sets_in}
@@ -45,7 +45,7 @@ callees p a n f l = false
 abbrev pub prototype_value : View → Node → ℕ → AbstractValue
 prototype_value w n f =
     let v = (get w (callees w.program w.state n f) (prototype_keys w.program)).value in
-    join (value_if (has_no_object v) (of_label (new builtins.OBJECT_PROTOTYPE))) (of_labels v.label)
+    join (value_if (has_non_object v) (of_label (new builtins.OBJECT_PROTOTYPE))) (of_labels v.label)
 
 -- the caller's state at the node; of a construction the one after its object is made
 abbrev pub calling_state : View → Node → ℕ → AbstractState

@@ -22,7 +22,7 @@ use Rattle.ja_machine.specs.Machine.{class_of_site}
 use Rattle.ja_abstract.specs.AbstractValue.{Labels, AbstractValue, same_label, join, of_labels}
 use Rattle.ja_abstract.specs.AbstractState.{new, labels_of}
 use Rattle.ja_abstract.specs.Reading.{View, some_label, no_demands}
-use Rattle.ja_abstract.specs.Values.{has_atoms, has_labels, value_if, primitives_of, is_nothing}
+use Rattle.ja_abstract.specs.Values.{has_atoms, has_labels, value_if, primitives_of, has_nullish}
 use Rattle.ja_rows.specs.declared.table.Edge.{Edge}
 use Rattle.ja_rows.specs.Out.{Out, Point, sets, type_error, at}
 
@@ -79,7 +79,7 @@ some_runs w entry v f = some_label w (λ l. v.label l && runs entry f l)
 
 abbrev pub is_kept : View → Option Reg → Bool
 is_kept w None = false
-is_kept w (Some other) = has_labels w (at w other) || is_nothing (at w other)
+is_kept w (Some other) = has_labels w (at w other) || has_nullish (at w other)
 
 abbrev pub is_converted : View → Option Reg → Bool
 is_converted w None = true

@@ -15,7 +15,7 @@ use Rattle.ja_abstract.specs.AbstractState.{AbstractState, new, with_register}
 use Rattle.ja_abstract.specs.Primitives.{of_bools}
 use Rattle.ja_abstract.specs.Reading.{View, has_present, no_demands}
 use Rattle.ja_abstract.specs.Made.{empty_own, wrapper_own, text_own, function_own, prototype_own, with_objects}
-use Rattle.ja_abstract.specs.Values.{has_atoms, has_labels, is_nothing}
+use Rattle.ja_abstract.specs.Values.{has_atoms, has_labels, has_nullish}
 use Rattle.ja_rows.specs.Out.{Out, Given, out, goes, sets, type_error, makes, makes_if, at}
 
 -- ToObject of the primitives of a kind
@@ -40,7 +40,7 @@ transfer_to_object w i dst src sites error =
     ++ (wraps w dst sites.boolean builtins.BOOLEAN_PROTOTYPE (bools_of v) i.next
     ++ (wraps w dst sites.number builtins.NUMBER_PROTOTYPE (numbers_of v) i.next
     ++ (wraps_text w dst sites.text v i.next
-    ++ type_error w (is_nothing v) i error nothing_message)))) no_demands
+    ++ type_error w (has_nullish v) i error nothing_message)))) no_demands
 
 -- what is no object throws a TypeError (11.8.7)
 abbrev pub transfer_need_object : View → NodeInfo → Reg → Site → Out

@@ -13,7 +13,7 @@ use Rattle.ja_abstract.specs.Keys.{text_key}
 use Rattle.ja_abstract.specs.Primitives.{of_bools}
 use Rattle.ja_abstract.specs.Reading.{View, some_label, both, demands_if, get, demands_of_get, may_have, may_lack, proper_ancestors, demands_of_ancestors}
 use Rattle.ja_abstract.specs.Writes.{put_states, put_may_throw, demands_of_puts, delete_states, demands_of_delete}
-use Rattle.ja_abstract.specs.Values.{has_atoms, has_labels, value_if, is_function_label, has_no_object}
+use Rattle.ja_abstract.specs.Values.{has_atoms, has_labels, value_if, is_function_label, has_non_object}
 use Rattle.ja_rows.specs.Out.{Out, out, all_go, sets, sets_results, throws, type_error, at, keys_in, reads}
 
 -- ---- `instanceof` (11.8.6, 15.3.5.3)
@@ -78,7 +78,7 @@ transfer_instance_of w i dst left right not_function not_object =
     let is_other =
     has_atoms r || some_label w (λ l. r.label l && not (is_function_label w.program l)) in
     let no_function = type_error w is_other i not_function no_function_message in
-    let no_prototype = type_error w (has_no_object q) i not_object no_prototype_message in
+    let no_prototype = type_error w (has_non_object q) i not_object no_prototype_message in
     let of_prototype = demands_of_get w (functions_in w r) (prototype_keys w.program) in
     let of_chain = demands_of_ancestors w v.label in
     out (no_function ++ (no_prototype ++ sets w dst (instance_value w left right) i.next))

@@ -1,5 +1,5 @@
 -- The warnings of a table: what may go wrong at the operations of a program.
-use Rattle.std.specs.Prelude.{◌≡◌, ◌⊎◌, ◌<◌, ◌↔◌, ℕ, Bool, true, false, not, ◌&&◌, ◌||◌, ◌+◌, if◌then◌else◌, nat_lt, IsTrue, List, [], ◌∷◌, Option, Some, None, is_some, Any, Contains}
+use Rattle.std.specs.Prelude.{◌≡◌, ◌⊎◌, ◌<◌, ◌↔◌, ℕ, Bool, false, not, ◌&&◌, ◌||◌, ◌+◌, if◌then◌else◌, nat_lt, IsTrue, List, [], ◌∷◌, Option, Some, None, is_some, Any, Contains}
 use Rattle.std.specs.List.{AllByRecursion}
 use Rattle.std.specs.Option.{option_map}
 use Rattle.ja_base.specs.declared.ids.Context.{Context}
@@ -20,7 +20,7 @@ use Rattle.ja_abstract.specs.AbstractValue.{Labels, AbstractValue, has_part}
 use Rattle.ja_abstract.specs.AbstractState.{AbstractState, labels_of}
 use Rattle.ja_abstract.specs.Keys.{text_key}
 use Rattle.ja_abstract.specs.Reading.{View, some_label, get}
-use Rattle.ja_abstract.specs.Values.{is_nothing, has_labels}
+use Rattle.ja_abstract.specs.Values.{has_nullish, has_labels}
 use Rattle.ja_rows.specs.declared.table.Warning.{Warning}
 use Rattle.ja_rows.specs.declared.table.WarningKind.{WarningKind}
 use Rattle.ja_rows.specs.declared.table.WarningKind.TheVariants.{NotAFunction, NoObject, UnboundName, ScopeRow}
@@ -53,8 +53,8 @@ has_something w v =
 abbrev pub has_row : View → Labels → List Key → Bool
 has_row w start keys = (get w start keys).value.flags.row
 
-abbrev pub has_no_row : View → Labels → List Key → Bool
-has_no_row w start keys =
+abbrev pub has_non_row : View → Labels → List Key → Bool
+has_non_row w start keys =
     let v = (get w start keys).value in
     has_part (labels_of w.program) (record v { flags = record v.flags { row = false } })
 
@@ -76,7 +76,7 @@ abbrev pub row_of_name : Reg → List Key → Test
 row_of_name base keys = record {
   kind = ScopeRow;
   fault = λ w. has_row w (at w base).label keys;
-  more = λ w. (at w base).flags.null || has_no_row w (at w base).label keys;
+  more = λ w. (at w base).flags.null || has_non_row w (at w base).label keys;
 }
 
 abbrev pub row_of_property : Reg → Reg → Test
@@ -84,7 +84,7 @@ row_of_property object k = record {
   kind = ScopeRow;
   fault = λ w. has_row w (at w object).label (keys_if (one_key w (at w k)));
   more =
-      λ w. not (is_some (one_key w (at w k))) || has_no_row w (at w object).label
+      λ w. not (is_some (one_key w (at w k))) || has_non_row w (at w object).label
       (keys_if (one_key w (at w k)));
 }
 
@@ -108,7 +108,7 @@ abbrev pub no_object : Reg → Test
 no_object src =
     record {
       kind = NoObject;
-      fault = λ w. is_nothing (at w src);
+      fault = λ w. has_nullish (at w src);
       more = λ w. has_something w
           (at w src);
     }

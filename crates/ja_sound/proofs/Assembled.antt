@@ -1,7 +1,7 @@
 -- One step within an activation, from the rows of all kinds of nodes.
 use Rattle.std.specs.Prelude.{◌≡◌, ℕ, suc, true, IsTrue, List, ◌∷◌, Option, Some, None}
 use Rattle.std.specs.List.{AllByRecursion}
-use Rattle.std.specs.Option.{option_and_then, option_to_list}
+use Rattle.std.specs.Option.{option_to_list}
 use Rattle.std.proofs.Common.{refl, sym, subst, ap, ◌∙◌, inl, inr, arith}
 use Rattle.std.proofs.lemmas.Bool.{cases_Bool, cond-false}
 use Rattle.std.proofs.lemmas.Option.{none-some}

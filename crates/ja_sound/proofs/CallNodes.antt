@@ -55,7 +55,7 @@ use Rattle.ja_abstract.specs.Parts.{has_primitive}
 use Rattle.ja_abstract.specs.Parts as meaning
 use Rattle.ja_abstract.specs.Resolved.{IsFilled}
 use Rattle.ja_abstract.specs.Reading.{View, some_label}
-use Rattle.ja_abstract.specs.Values.{value_if, has_atoms, has_labels, primitives_of, is_nothing}
+use Rattle.ja_abstract.specs.Values.{value_if, has_atoms, has_labels, primitives_of, has_nullish}
 use Rattle.ja_abstract.specs.Operations.{operation}
 use Rattle.ja_abstract.proofs.Lists.{Member}
 use Rattle.ja_meaning.specs.Meaning.{has_value}
@@ -216,7 +216,7 @@ module _ (e : Heap) (c : Conf) (top : Frame) (below : List Frame) (x : Point) (w
 
     value_kept : (u : AbstractValue) (y : Value) → IsValueOf c.heap y
         → IsTrue (has_value c.heap u y) → stays (Some y) ≡ true
-        → IsTrue (has_labels w u || is_nothing u)
+        → IsTrue (has_labels w u || has_nullish u)
     value_kept u (value.Object a) there told is = or_left _ _ (some-object u.label a there told)
     value_kept u (value.Primitive primitive.Undefined) there told is =
         or_right (has_labels w u) _ (or_left _ _ told)

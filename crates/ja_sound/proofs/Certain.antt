@@ -59,7 +59,7 @@ use Rattle.ja_rows.specs.Out.{Point, name_keys, keys_in}
 use Rattle.ja_rows.specs.Out as abstract
 use Rattle.ja_rows.specs.Table.{Table, IsClosed}
 use Rattle.ja_rows.specs.Transfer.{transfer_node}
-use Rattle.ja_rows.specs.Warning.{Test, Operation, operation_at, operation_of, tests, some_entry, has_something, has_no_row, one_key, keys_if, no_function, no_object, unbound, row_of_name, row_of_property, IsWarned, AreWarnings}
+use Rattle.ja_rows.specs.Warning.{Test, Operation, operation_at, operation_of, tests, some_entry, has_something, has_non_row, one_key, keys_if, no_function, no_object, unbound, row_of_name, row_of_property, IsWarned, AreWarnings}
 use Rattle.ja_sound.specs.Faults.{is_nothing_value, is_null, if_so, fault_at, fault_of, fault_of_frames, kinds, Fails}
 use Rattle.ja_sound.specs.Sound.{IsCovered, CoversRuns, FailsWhereCertain}
 use Rattle.ja_sound.specs.Statements.{IsAt}
@@ -228,7 +228,7 @@ module _ (e : Heap) (c : Conf) (top : Frame) (below : List Frame) (x : Point) (w
       v = abstract.at w base
 
       name_row : (a : Addr) → IsObjectOf c.heap a
-          → IsTrue (v.label (label_of c.heap a)) → has_no_row w v.label (name_keys name) ≡ false
+          → IsTrue (v.label (label_of c.heap a)) → has_non_row w v.label (name_keys name) ≡ false
           → EndsOut (Some (sets_content s dst (read c.heap a (name_text p name))))
       name_row a o told none =
           row_read dst (read c.heap a (name_text p name))
@@ -236,7 +236,7 @@ module _ (e : Heap) (c : Conf) (top : Frame) (below : List Frame) (x : Point) (w
           (name_text p name) (nodes.name_among e c top below x w at good name n) a o told none)
 
       ref_row : (error : Site) (u : Value) → IsValueOf c.heap u → IsTrue (has_value c.heap v u)
-          → v.flags.null ≡ false → has_no_row w v.label (name_keys name) ≡ false
+          → v.flags.null ≡ false → has_non_row w v.label (name_keys name) ≡ false
           → EndsOut (Some (read_ref_step p s dst name error u))
       ref_row error (value.Object a) o told no_null none = name_row a o told none
       ref_row error (value.Primitive primitive.Null) o told no_null none =
@@ -247,7 +247,7 @@ module _ (e : Heap) (c : Conf) (top : Frame) (below : List Frame) (x : Point) (w
       ref_row error (value.Primitive (primitive.Text t)) o told no_null none = inr no_value
 
       soft_row : (u : Value) → IsValueOf c.heap u → IsTrue (has_value c.heap v u)
-          → v.flags.null ≡ false → has_no_row w v.label (name_keys name) ≡ false
+          → v.flags.null ≡ false → has_non_row w v.label (name_keys name) ≡ false
           → EndsOut (Some (read_soft_step p s dst name u))
       soft_row (value.Object a) o told no_null none = name_row a o told none
       soft_row (value.Primitive primitive.Null) o told no_null none =
@@ -269,7 +269,7 @@ module _ (e : Heap) (c : Conf) (top : Frame) (below : List Frame) (x : Point) (w
     abbrev step_with : Value → Option (List ℕ) → Event
     step_with u t = on_property s (λ a name. sets_content s dst (read s.conf.heap a name)) u t
 
-    prop_row : (k : Key) → one_key w kv ≡ Some k → has_no_row w ov.label (k ∷ []) ≡ false
+    prop_row : (k : Key) → one_key w kv ≡ Some k → has_non_row w ov.label (k ∷ []) ≡ false
         → (u : Value) → IsValueOf c.heap u → IsTrue (has_value c.heap ov u)
         → EndsOut (Some (step_with u (key_text (register_of top key))))
     prop_row k one none (value.Primitive q) o told = inr no_value
@@ -287,7 +287,7 @@ module _ (e : Heap) (c : Conf) (top : Frame) (below : List Frame) (x : Point) (w
         (or_left _ _ (same_key_from k (key_of p (named t)) (sym key_is))) a o told none))
 
     prop_row_by : (o : Option Key) → one_key w kv ≡ o
-        → (not (is_some o) || has_no_row w ov.label (keys_if o)) ≡ false
+        → (not (is_some o) || has_non_row w ov.label (keys_if o)) ≡ false
         → EndsOut (Some (step_with (register_of top object) (key_text (register_of top key))))
     prop_row_by None is none = absurd (false≢true (sym none))
     prop_row_by (Some k) is none =

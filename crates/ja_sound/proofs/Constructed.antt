@@ -33,7 +33,7 @@ use Rattle.ja_abstract.specs.Contents.{missing, object_content, property_content
 use Rattle.ja_abstract.specs.Parts.{has_primitive}
 use Rattle.ja_abstract.specs.Made.{constructed_own}
 use Rattle.ja_abstract.specs.Reading.{View, get}
-use Rattle.ja_abstract.specs.Values.{has_no_object, value_if}
+use Rattle.ja_abstract.specs.Values.{has_non_object, value_if}
 use Rattle.ja_abstract.proofs.Keys.{no_slot_of_text, same_key-true, same_key-self}
 use Rattle.ja_abstract.proofs.Labels.{same_label_from}
 use Rattle.ja_abstract.proofs.Atoms.{has_atoms-from}
@@ -76,18 +76,18 @@ module _ (p : Program) (now : Heap) (v : AbstractValue) (proto : Addr)
 module _ (h : Heap) (default_is : label_of h (first_of builtins.OBJECT_PROTOTYPE)
     ≡ new builtins.OBJECT_PROTOTYPE) (q : AbstractProperty) where
   abbrev other : AbstractValue
-  other = value_if (has_no_object q.value) (of_label (new builtins.OBJECT_PROTOTYPE))
+  other = value_if (has_non_object q.value) (of_label (new builtins.OBJECT_PROTOTYPE))
 
   abbrev whole : AbstractValue
   whole = join other (of_labels q.value.label)
 
-  default_has : IsTrue (has_no_object q.value)
+  default_has : IsTrue (has_non_object q.value)
       → IsTrue (has_value h whole (value.Object (first_of builtins.OBJECT_PROTOTYPE)))
   default_has e =
       has_value-join_left h other (of_labels q.value.label)
       (value.Object (first_of builtins.OBJECT_PROTOTYPE))
       (subst (λ v. IsTrue (has_value h v (value.Object (first_of builtins.OBJECT_PROTOTYPE))))
-      (sym (cond-true (has_no_object q.value) (of_label (new builtins.OBJECT_PROTOTYPE)) no_value
+      (sym (cond-true (has_non_object q.value) (of_label (new builtins.OBJECT_PROTOTYPE)) no_value
       e)) (same_label_from (new builtins.OBJECT_PROTOTYPE)
       (label_of h (first_of builtins.OBJECT_PROTOTYPE)) (sym default_is)))
 

@@ -59,7 +59,7 @@ use Rattle.ja_abstract.specs.Keys as meaning
 use Rattle.ja_abstract.specs.Resolved.{IsFilled}
 use Rattle.ja_abstract.specs.Reading.{View, get, demands_of_get, some_label, proper_ancestors}
 use Rattle.ja_abstract.specs.Reading as reading
-use Rattle.ja_abstract.specs.Values.{has_atoms, has_labels, primitives_of, is_function_label, is_function_class, has_no_object}
+use Rattle.ja_abstract.specs.Values.{has_atoms, has_labels, primitives_of, is_function_label, is_function_class, has_non_object}
 use Rattle.ja_abstract.proofs.Lists.{Member, member-append_left, member-append_right}
 use Rattle.ja_abstract.proofs.Parts.{of_primitive_has}
 use Rattle.ja_abstract.proofs.Atoms.{has_atoms-from}
@@ -355,7 +355,7 @@ module _ (e : Heap) (c : Conf) (top : Frame) (below : List Frame) (x : Point) (w
     first = abstract.type_error w no_function i not_function no_function_message
 
     abbrev second : Given
-    second = abstract.type_error w (has_no_object q) i not_object no_prototype_message
+    second = abstract.type_error w (has_non_object q) i not_object no_prototype_message
 
     gives_value : (b : Bool) → IsTrue (has_value c.heap (instance_value w left right)
         (bool_value b)) → Gives given (machine.sets s dst (bool_value b))
@@ -389,12 +389,12 @@ module _ (e : Heap) (c : Conf) (top : Frame) (below : List Frame) (x : Point) (w
             (codes "prototype") (or_left _ _ (same_key-self
             (meaning.key_of p (named (codes "prototype"))))) a there in_functions
 
-        no_object : IsTrue (has_no_object g.value)
+        no_object : IsTrue (has_non_object g.value)
             → Gives given (machine.throws s not_object builtins.TYPE_ERROR_PROTOTYPE
             no_prototype_message)
         no_object e_is =
-            throws_g given (has_no_object q) not_object error_kind.TypeError no_prototype_message
-            site_too (subst (λ z. IsTrue (has_no_object z)) (sym q_is) e_is)
+            throws_g given (has_non_object q) not_object error_kind.TypeError no_prototype_message
+            site_too (subst (λ z. IsTrue (has_non_object z)) (sym q_is) e_is)
             (λ y m. member-append_right y first _ (member-append_left y second _ m))
 
         some : IsTrue (some_label w (functions_in w r))

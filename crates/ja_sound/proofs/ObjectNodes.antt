@@ -61,14 +61,14 @@ use Rattle.ja_abstract.specs.declared.abstraction.Key.{Key}
 use Rattle.ja_abstract.specs.AbstractValue.{Labels, AbstractValue, AbstractProperty, undefined_value, of_labels, of_label, of_attrs, has_text}
 use Rattle.ja_abstract.specs.AbstractState.{AbstractState, new, with_register, with_made}
 use Rattle.ja_abstract.specs.Contents.{label_of, property_content, content_of, content}
-use Rattle.ja_abstract.specs.Keys.{named, Spot, internal}
+use Rattle.ja_abstract.specs.Keys.{named}
 use Rattle.ja_abstract.specs.Parts.{has_primitive}
 use Rattle.ja_abstract.specs.Parts as meaning
 use Rattle.ja_abstract.specs.Keys as meaning_keys
 use Rattle.ja_abstract.specs.Resolved.{IsFilled, demands_of}
 use Rattle.ja_abstract.specs.Made.{rest_register, empty_own, wrapper_own, text_own, scope_own, Own, with_objects, function_own, prototype_own, activation_own, arguments_own, parameter_ids, parameter_register, count_register}
 use Rattle.ja_abstract.specs.Reading.{View, has_present, some_label}
-use Rattle.ja_abstract.specs.Values.{has_labels, is_nothing}
+use Rattle.ja_abstract.specs.Values.{has_labels, has_nullish}
 use Rattle.ja_abstract.specs.declared.abstraction.Key.TheVariants as key
 use Rattle.ja_abstract.specs.declared.abstraction.TextPart.{TextPart}
 use Rattle.ja_abstract.specs.declared.abstraction.TextPart.TheVariants as text_part
@@ -191,11 +191,11 @@ module _ (e : Heap) (c : Conf) (top : Frame) (below : List Frame) (x : Point) (w
     abbrev g_text : Given
     g_text = abstract.wraps_text w dst sites.text v i.next
 
-    nothing : IsTrue (is_nothing v) → Gives given
+    nothing : IsTrue (has_nullish v) → Gives given
         (machine.throws s error builtins.TYPE_ERROR_PROTOTYPE nothing_message)
     nothing e_is =
         throws_gives e c top below x w at good given
-        (is_nothing v) error error_kind.TypeError nothing_message l_error e_is
+        (has_nullish v) error error_kind.TypeError nothing_message l_error e_is
         (λ y m. member-append_right y g_object _ (member-append_right y g_bool _
         (member-append_right y g_number _ (member-append_right y g_text _ m))))
 

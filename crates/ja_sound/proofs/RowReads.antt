@@ -31,7 +31,7 @@ use Rattle.ja_meaning.specs.Meaning.{has_value, knows}
 use Rattle.ja_meaning.proofs.Gets.{get_known}
 use Rattle.ja_meaning.proofs.Moments.{Reads}
 use Rattle.ja_meaning.proofs.Parts.{has_part-has_value}
-use Rattle.ja_rows.specs.Warning.{has_row, has_no_row}
+use Rattle.ja_rows.specs.Warning.{has_row, has_non_row}
 
 -- a value without its row
 abbrev pub rowless : AbstractValue → AbstractValue
@@ -90,10 +90,10 @@ module _ (e c : Heap) (w : View) (r : Reads e c w) where
     pub row_told : read c a t ≡ contents.Row → IsTrue (has_row w start keys)
     row_told is = row_found c (get w start keys) (heap.get c a t) known is
 
-    only_found : has_no_row w start keys ≡ false → (g : Option Property) → heap.get c a t ≡ g
+    only_found : has_non_row w start keys ≡ false → (g : Option Property) → heap.get c a t ≡ g
         → IsTrue (knows c (get w start keys) (property_content g)) → found_content g ≡ contents.Row
     only_found none None is known_ =
-        absurd (both_ways (has_no_row w start keys) none
+        absurd (both_ways (has_non_row w start keys) none
         (absent_part (labels_of p) (rowless (get w start keys).value) known_))
     only_found none (Some q) is known_ =
         only_content (get w start keys) none q.content q.attrs
@@ -101,5 +101,5 @@ module _ (e c : Heap) (w : View) (r : Reads e c w) where
         (ap (option_map (λ (x : Property). x.content)) is)) known_
 
     -- where the abstract reading has nothing else, a row is read
-    pub row_is : has_no_row w start keys ≡ false → read c a t ≡ contents.Row
+    pub row_is : has_non_row w start keys ≡ false → read c a t ≡ contents.Row
     row_is none = only_found none (heap.get c a t) refl known

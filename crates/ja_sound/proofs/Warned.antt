@@ -28,13 +28,13 @@ use Rattle.ja_machine.specs.Runs.{AreStates}
 use Rattle.ja_machine.specs.State.{IsFrame, IsValueOf}
 use Rattle.ja_abstract.specs.AbstractValue.{AbstractValue}
 use Rattle.ja_abstract.specs.Reading.{View}
-use Rattle.ja_abstract.specs.Values.{is_nothing}
+use Rattle.ja_abstract.specs.Values.{has_nullish}
 use Rattle.ja_meaning.specs.Meaning.{has_value, context_of}
 use Rattle.ja_rows.specs.declared.table.Warning.{Warning}
 use Rattle.ja_rows.specs.declared.table.WarningKind.{WarningKind}
 use Rattle.ja_rows.specs.declared.table.WarningKind.TheVariants.{NotAFunction, NoObject, UnboundName}
 use Rattle.ja_rows.specs.Edges.{calls_at, constructs_at}
-use Rattle.ja_rows.specs.Out.{Point, name_keys}
+use Rattle.ja_rows.specs.Out.{Point}
 use Rattle.ja_rows.specs.Out as abstract
 use Rattle.ja_rows.specs.Table.{Table, view_at, point}
 use Rattle.ja_rows.specs.Warning.{Test, Operation, operation_at, operation_of, tests, no_function, no_object, unbound, AreWarnings}
@@ -72,7 +72,7 @@ module _ (e : Heap) (c : Conf) (top : Frame) (below : List Frame) (x : Point) (w
   there r l = nodes.of_heap e c top below x w at good r l
 
   nothing_told : (v : AbstractValue) (u : Value) → IsTrue (has_value c.heap v u)
-      → IsTrue (is_nothing_value u) → IsTrue (is_nothing v)
+      → IsTrue (is_nothing_value u) → IsTrue (has_nullish v)
   nothing_told v (value.Primitive primitive.Undefined) told k = or_left _ _ told
   nothing_told v (value.Primitive primitive.Null) told k = or_right v.flags.undefined _ told
   nothing_told v (value.Primitive (primitive.Bool b)) told k = absurd (false≢true k)

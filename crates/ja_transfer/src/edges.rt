@@ -43,7 +43,7 @@ impl Stepper<'_> {
             None => false,
             Some(other) => {
                 let other = self.reader.state.register(other);
-                other.has_labels(self.reader.sites) | other.is_nothing()
+                other.has_labels(self.reader.sites) | other.has_nullish()
             }
         }
     }

@@ -9,6 +9,10 @@ use Rattle.ja_abstract.specs.AbstractValue.{Labels, AbstractValue, AbstractPrope
 pub by_way_of : {A B C : Type 0} → A ↔ B → C ↔ B → A ↔ C
 by_way_of h k = ((λ a. k.1 (h.0 a)), (λ c. h.1 (k.0 c)))
 
+-- one fact after another
+pub through : {A B C : Type 0} → A ↔ B → B ↔ C → A ↔ C
+through h k = ((λ a. k.0 (h.0 a)), (λ c. h.1 (k.1 c)))
+
 or_within : (x y : Bool) → (IsTrue y → IsTrue x) → (x || y) ≡ x
 or_within true y h = refl
 or_within false true h = sym (h refl)

@@ -153,8 +153,8 @@ impl LabelSet {
 
     /// Whether each label of another set is in this one.
     pub fn covers(&self, other: &LabelSet) -> bool
-        ensures { result ≡ true → (λ l. labels_in self.now l || labels_in other.now l)
-            ≡ labels_in self.now }
+        ensures { IsTrue result ↔ ((λ l. labels_in self.now l || labels_in other.now l)
+            ≡ labels_in self.now) }
     {
         other.is_subset(self)
     }

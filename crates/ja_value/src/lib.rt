@@ -16,12 +16,14 @@ mod label_set;
 mod makers;
 mod numbers;
 mod parts;
+mod profile;
 mod property;
 mod texts;
 mod value;
 
 pub use label_set::{LabelSet, label_at, label_number, mask_at};
 pub use numbers::{is_index, join_numbers, number_class, same_numbers, widen_number};
+pub use profile::{number_of_profile, text_of_profile};
 pub use property::{AProp, exact_attrs, join_attrs, same_attrs, unknown_attrs, widen_attrs};
 pub use texts::{copy_text_part, is_index_text, join_texts, same_text, same_texts, text_class};
 pub use value::{AValue, join_flags, same_flags, widen_flags};

@@ -5,6 +5,7 @@ ghost use Rattle.ja_abstract.specs.AbstractValue.{no_value, of_flags, row_value,
 ghost use Rattle.ja_abstract.specs.Made.{whole_constant};
 ghost use Rattle.ja_abstract.specs.Primitives.{of_bools, of_number_part, of_text_part, nan_value};
 
+use crate::profile::{number_of_profile, text_of_profile};
 use crate::value::NO_FLAGS;
 use crate::{AValue, LabelSet};
 use ja_abstract::{Flags, NumberPart, TextPart};
@@ -40,7 +41,7 @@ impl AValue {
     {
         AValue {
             flags: NO_FLAGS,
-            number,
+            number: number_of_profile(number),
             text: TextPart::Nothing,
             labels: LabelSet::new(alloc),
         }
@@ -53,7 +54,7 @@ impl AValue {
         AValue {
             flags: NO_FLAGS,
             number: NumberPart::Nothing,
-            text,
+            text: text_of_profile(text),
             labels: LabelSet::new(alloc),
         }
     }

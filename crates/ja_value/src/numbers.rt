@@ -1,11 +1,13 @@
-ghost use Rattle.std.specs.Prelude.{◌≡◌, ◌≢◌, ◌≤◌, ◌↔◌, IsTrue, true, false};
+ghost use Rattle.std.specs.Prelude.{◌≡◌, ◌≢◌, ◌≤◌, ◌↔◌, ℤ, IsTrue, true, false};
 ghost use Rattle.ja_prim.specs.Index.{is_index};
 ghost use Rattle.ja_abstract.specs.AbstractValue.{has_number, number_class, join_classes, join_numbers};
 ghost use Rattle.ja_abstract.specs.Made.{number_alone};
 ghost use Rattle.ja_abstract.specs.Parts.{number_has};
+ghost use Rattle.ja_abstract.specs.Profile.{IsNumberOfProfile};
 ghost use Rattle.ja_abstract.specs.Rank.{number_rank};
 ghost use Rattle.ja_abstract.specs.declared.abstraction.NumberPart.TheVariants as number_part;
 
+use crate::profile::number_of_profile;
 use ja_abstract::NumberPart;
 use ja_prim::Int;
 
@@ -147,9 +149,10 @@ pub fn widen_number(part: &mut NumberPart, other: NumberPart) -> bool
     ensures joined { part.new ≡ join_numbers part.old other }
     ensures changed { result ≡ true → part.new ≢ part.old }
     ensures same { result ≡ false → part.new ≡ part.old }
+    ensures profile { (z : ℤ) → part.new ≡ number_part.One z → IsNumberOfProfile z }
 {
     let joined = join_numbers(*part, other);
     let same = same_numbers(&joined, part);
-    *part = joined;
+    *part = number_of_profile(joined);
     !same
 }

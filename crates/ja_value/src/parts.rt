@@ -6,7 +6,7 @@ ghost use Rattle.ja_abstract.specs.AbstractState.{labels_below};
 ghost use Rattle.ja_abstract.specs.Made.{one_number};
 ghost use Rattle.ja_abstract.specs.Parts.{has_primitive};
 ghost use Rattle.ja_abstract.specs.Rank.{flag_rank, flags_rank, rank};
-ghost use Rattle.ja_abstract.specs.Values.{has_atoms, is_nothing, has_no_object};
+ghost use Rattle.ja_abstract.specs.Values.{has_atoms, has_nullish, has_non_object};
 
 use crate::AValue;
 use crate::numbers::{has_number, number_alone, number_has, number_rank};
@@ -102,15 +102,15 @@ impl AValue {
     }
 
     /// Whether undefined or null is among the value.
-    pub fn is_nothing(&self) -> bool
-        ensures { result ≡ is_nothing (value_of self.now) }
+    pub fn has_nullish(&self) -> bool
+        ensures { result ≡ has_nullish (value_of self.now) }
     {
         self.flags.undefined | self.flags.null
     }
 
     /// Whether something that isn't an object is among the value: absent and a row too.
-    pub fn has_no_object(&self) -> bool
-        ensures { result ≡ has_no_object (value_of self.now) }
+    pub fn has_non_object(&self) -> bool
+        ensures { result ≡ has_non_object (value_of self.now) }
     {
         self.flags.absent | self.flags.row | self.has_atoms()
     }

@@ -158,8 +158,8 @@ impl AProp {
 
     /// Whether this property holds another, so that a join changes nothing.
     pub fn covers(&self, other: &AProp) -> bool
-        ensures { result ≡ true → join_properties (property_of self.now) (property_of other.now)
-            ≡ property_of self.now }
+        ensures { IsTrue result ↔ (join_properties (property_of self.now)
+            (property_of other.now) ≡ property_of self.now) }
     {
         other.leq(self)
     }

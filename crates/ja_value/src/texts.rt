@@ -1,10 +1,12 @@
-ghost use Rattle.std.specs.Prelude.{◌≡◌, ◌≢◌, ◌≤◌, ◌↔◌, IsTrue, IfOk, IfSome, is_some, unwrap_or, true, false};
+ghost use Rattle.std.specs.Prelude.{◌≡◌, ◌≢◌, ◌≤◌, ◌↔◌, ℕ, List, IsTrue, IfOk, IfSome, is_some, unwrap_or, true, false};
 ghost use Rattle.ja_prim.specs.Index.{is_index_text};
 ghost use Rattle.ja_abstract.specs.AbstractValue.{has_text, text_class, join_text_classes, join_texts};
 ghost use Rattle.ja_abstract.specs.Parts.{text_has};
+ghost use Rattle.ja_abstract.specs.Profile.{IsTextOfProfile};
 ghost use Rattle.ja_abstract.specs.Rank.{text_rank};
 ghost use Rattle.ja_abstract.specs.declared.abstraction.TextPart.TheVariants as text_part;
 
+use crate::profile::text_of_profile;
 use ja_abstract::TextPart;
 use ja_base::Memory;
 use ja_prim::{Text16, array_index};
@@ -201,10 +203,12 @@ pub fn changed_text(
 pub fn replace_text(part: &mut TextPart, new: Option<TextPart>) -> bool
     ensures replaced { part.new ≡ unwrap_or new part.old }
     ensures told { result ≡ is_some new }
+    ensures profile { ((t : List ℕ) → part.old ≡ text_part.One t → IsTextOfProfile t)
+        → (t : List ℕ) → part.new ≡ text_part.One t → IsTextOfProfile t }
 {
     match new {
         Some(new) => {
-            *part = new;
+            *part = text_of_profile(new);
             true
         }
         None => false,

@@ -1,7 +1,10 @@
-ghost use Rattle.std.specs.Prelude.{◌≡◌, ◌≢◌, ◌↔◌, IfOk, OnErr, IsTrue, true, false};
+ghost use Rattle.std.specs.Prelude.{◌≡◌, ◌≢◌, ◌↔◌, ℕ, ℤ, List, IfOk, OnErr, IsTrue, true, false};
+ghost use Rattle.ja_abstract.specs.declared.abstraction.NumberPart.TheVariants as number_part;
+ghost use Rattle.ja_abstract.specs.declared.abstraction.TextPart.TheVariants as text_part;
 ghost use Rattle.ja_abstract.specs.AbstractValue.{join, join_flags, present_part};
 ghost use Rattle.ja_abstract.specs.AbstractState.{aged};
 ghost use Rattle.ja_abstract.specs.Order.{LeqValue};
+ghost use Rattle.ja_abstract.specs.Profile.{IsNumberOfProfile, IsTextOfProfile};
 ghost use Rattle.ja_abstract.specs.Resolved.{renamed_labels};
 ghost use Rattle.ja_abstract.specs.Values.{primitives_of, as_read};
 ghost use Rattle.ja_value.specs.Labels.{mask_in};
@@ -15,12 +18,14 @@ use std::alloc::Global;
 use std::collections::BTreeMap;
 
 /// An abstract value (Jensen, Møller and Thiemann, SAS 2009). Its text shares its units with the
-/// other values that have it.
+/// other values that have it. The one number and the one text that it may be are of the profile.
 pub struct AValue {
     pub flags: Flags,
     pub number: NumberPart,
     pub text: TextPart,
     pub labels: LabelSet,
+    pub ghost number_of_profile: { (z : ℤ) → number ≡ number_part.One z → IsNumberOfProfile z },
+    pub ghost text_of_profile: { (t : List ℕ) → text ≡ text_part.One t → IsTextOfProfile t },
 }
 
 impl Drop for AValue {
@@ -119,8 +124,8 @@ impl AValue {
 
     /// Whether this value holds another, so that a join changes nothing.
     pub fn covers(&self, other: &AValue) -> bool
-        ensures { result ≡ true → join (value_of self.now) (value_of other.now)
-            ≡ value_of self.now }
+        ensures { IsTrue result ↔ (join (value_of self.now) (value_of other.now)
+            ≡ value_of self.now) }
     {
         other.leq(self)
     }

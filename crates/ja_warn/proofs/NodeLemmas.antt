@@ -16,7 +16,7 @@ use Rattle.ja_abstract.specs.Reading.{View}
 use Rattle.ja_abstract.specs.Values.{has_atoms}
 use Rattle.ja_rows.specs.Edges.{has_other}
 use Rattle.ja_rows.specs.Out.{at}
-use Rattle.ja_rows.specs.Warning.{Test, has_no_row, has_row, keys_if, no_function, one_key, row_of_name, row_of_property, some_entry, tests}
+use Rattle.ja_rows.specs.Warning.{Test, has_non_row, has_row, keys_if, no_function, one_key, row_of_name, row_of_property, some_entry, tests}
 use Rattle.ja_transfer.proofs.Filters.{any_filter}
 use Rattle.ja_warn.specs.declared.reached.Allowed.{Allowed}
 use Rattle.ja_warn.specs.Told.{subject}
@@ -80,7 +80,7 @@ says_name w r keys v read a is says fault more = record {
       fault ∙ says.fault ∙ ap (λ (u : AbstractValue). has_row w u.label keys) is;
   more =
       more ∙ ap (λ b. v.flags.null || b) says.more
-      ∙ ap (λ (u : AbstractValue). u.flags.null || has_no_row w u.label keys) is;
+      ∙ ap (λ (u : AbstractValue). u.flags.null || has_non_row w u.label keys) is;
 }
 
 -- what a property that is read allows, by its key
@@ -92,8 +92,8 @@ says_key w r key v k a is key_is says = record {
       says.fault ∙ ap (λ (u : AbstractValue). has_row w u.label (k ∷ [])) is
       ∙ ap (λ o. has_row w (at w r).label (keys_if o)) (sym key_is);
   more =
-      says.more ∙ ap (λ (u : AbstractValue). has_no_row w u.label (k ∷ [])) is
-      ∙ ap (λ o. not (is_some o) || has_no_row w (at w r).label (keys_if o)) (sym key_is);
+      says.more ∙ ap (λ (u : AbstractValue). has_non_row w u.label (k ∷ [])) is
+      ∙ ap (λ o. not (is_some o) || has_non_row w (at w r).label (keys_if o)) (sym key_is);
 }
 
 -- .. and without one
@@ -105,5 +105,5 @@ says_no_key w r key a no_key fault more = record {
       ∙ ap (λ o. has_row w (at w r).label (keys_if o)) (sym no_key);
   more =
       more
-      ∙ ap (λ o. not (is_some o) || has_no_row w (at w r).label (keys_if o)) (sym no_key);
+      ∙ ap (λ o. not (is_some o) || has_non_row w (at w r).label (keys_if o)) (sym no_key);
 }

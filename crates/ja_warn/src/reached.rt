@@ -121,7 +121,7 @@ pub(crate) fn no_object(reader: &Reader<'_>, src: Reg) -> Allowed
         ..value.flags
     };
     Allowed {
-        fault: value.is_nothing(),
+        fault: value.has_nullish(),
         more: has_part_with(reader, value, others),
     }
 }

@@ -16,7 +16,6 @@ use Rattle.ja_abstract.specs.Made.{Own}
 use Rattle.ja_abstract.specs.Resolved.{renamed, known_part, join_all, origins}
 use Rattle.ja_value.specs.declared.property.AProp.{AProp}
 use Rattle.ja_value.specs.Labels.{label_at, mask_in}
-use Rattle.ja_value.specs.Value.{property_of}
 use Rattle.ja_aheap.specs.declared.object.AObject.{AObject}
 use Rattle.ja_aheap.specs.declared.sources.Sources.{Sources}
 use Rattle.ja_aheap.specs.Heap.{is_key_below}

@@ -18,7 +18,7 @@ use Rattle.ja_abstract.specs.Reading.{View}
 use Rattle.ja_rows.specs.declared.table.Warning.{Warning}
 use Rattle.ja_rows.specs.Out.{at}
 use Rattle.ja_rows.specs.Table.{node_numbers}
-use Rattle.ja_rows.specs.Warning.{Test, Operation, operation_of, builtin_of, builtin_number, has_no_row, has_row, kind_number, tests}
+use Rattle.ja_rows.specs.Warning.{Test, Operation, operation_of, builtin_of, builtin_number, has_non_row, has_row, kind_number, tests}
 use Rattle.ja_value.specs.Value.{value_of}
 use Rattle.ja_aheap.specs.Entries.{entries_of}
 use Rattle.ja_warn.specs.declared.reached.Told.{Told}
@@ -38,7 +38,7 @@ pub record Says (test : Test) (w : View) (a : Allowed) : Type 0 where
 -- .. and what a reading says: a row, and anything else
 pub record SaysRow (w : View) (start : Labels) (keys : List Key) (a : Allowed) : Type 0 where
   pub fault : a.fault ≡ has_row w start keys
-  pub more : a.more ≡ has_no_row w start keys
+  pub more : a.more ≡ has_non_row w start keys
 
 -- the value that a node's tests are about
 abbrev pub value_at : View → Node → AbstractValue

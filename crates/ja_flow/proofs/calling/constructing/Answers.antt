@@ -4,7 +4,7 @@ use Rattle.ja_abstract.specs.AbstractState.{aged, new}
 use Rattle.ja_abstract.specs.AbstractValue.{AbstractProperty, AbstractValue, Labels, join, of_label, of_labels}
 use Rattle.ja_abstract.specs.Made.{Own, constructed_own, with_object}
 use Rattle.ja_abstract.specs.Reading.{get, demands_of_get}
-use Rattle.ja_abstract.specs.Values.{has_no_object, value_if}
+use Rattle.ja_abstract.specs.Values.{has_non_object, value_if}
 use Rattle.ja_rows.specs.Calls.{prototype_value}
 use Rattle.ja_rows.specs.Properties.{prototype_keys}
 use Rattle.ja_look.specs.Looks.{view_of}
@@ -17,7 +17,7 @@ returns c =
     let w = view_of r in
     let keys = prototype_keys w.program in
     let over : AbstractProperty → AbstractValue = λ q.
-    join (value_if (has_no_object q.value) (of_label (new builtins.OBJECT_PROTOTYPE)))
+    join (value_if (has_non_object q.value) (of_label (new builtins.OBJECT_PROTOTYPE)))
     (of_labels q.value.label) in
     let value_is : value_of c.in_ok-prototype.prototype
     ≡ prototype_value w c.args.node.now c.args.function.0 =

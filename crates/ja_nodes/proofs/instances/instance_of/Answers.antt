@@ -5,7 +5,7 @@ use Rattle.ja_abstract.specs.AbstractValue.{Labels, AbstractValue}
 use Rattle.ja_abstract.specs.AbstractState.{labels_of, labels_below}
 use Rattle.ja_abstract.specs.Primitives.{of_bools}
 use Rattle.ja_abstract.specs.Reading.{some_label, both, demands_if, get, demands_of_get, proper_ancestors, demands_of_ancestors}
-use Rattle.ja_abstract.specs.Values.{has_atoms, has_labels, has_no_object, is_function_label, value_if}
+use Rattle.ja_abstract.specs.Values.{has_atoms, has_labels, has_non_object, is_function_label, value_if}
 use Rattle.ja_rows.specs.Out.{out, sets, type_error, at}
 use Rattle.ja_rows.specs.Properties.{functions_in, prototype_keys}
 use Rattle.ja_value.specs.Value.{value_of, labels_in}
@@ -35,7 +35,7 @@ returns c =
     let above = some_label w (λ l. proper_ancestors w a.label l && x.label l) in
     let is_none = (some_label w (functions_in w b) && has_atoms a) || has_labels w x in
     let other = has_atoms b || some_label w (λ l. b.label l && not (test l)) in
-    out (no_function other ++ (no_prototype (has_no_object x) ++ set_to (of_bools above is_none)))
+    out (no_function other ++ (no_prototype (has_non_object x) ++ set_to (of_bools above is_none)))
     (both (demands_if (has_labels w a) (demands_of_get w (functions_in w b) keys))
     (demands_if (has_labels w x) (demands_of_ancestors w a.label))) in
     let asked = λ (a b : AbstractValue).
@@ -77,7 +77,7 @@ returns c =
     c.in_ok-type_error.ensures)
     (added_both s _ _ c.type_error.new.states c.type_error-2.new.states c.sets.new.states
     (added_as s _ _ c.type_error.new.states c.type_error-2.new.states
-    (ap no_prototype c.has_no_object.ensures) c.in_ok-type_error-2.ensures)
+    (ap no_prototype c.has_non_object.ensures) c.in_ok-type_error-2.ensures)
     (added_as s _ _ c.type_error-2.new.states c.sets.new.states (ap set_to value_is)
     c.in_ok-sets.ensures)))) demands_are c.outcome.ensures in
     subst (λ (a : AbstractValue). IsOutcome s (told a (at w c.args.right)

@@ -3,7 +3,7 @@ use Rattle.ja_graph.specs.declared.builtins.TheConstants as builtins
 use Rattle.ja_machine.specs.Events.{nothing_message}
 use Rattle.ja_abstract.specs.AbstractValue.{AbstractValue, Labels, of_labels}
 use Rattle.ja_abstract.specs.Reading.{no_demands}
-use Rattle.ja_abstract.specs.Values.{is_nothing}
+use Rattle.ja_abstract.specs.Values.{has_nullish}
 use Rattle.ja_rows.specs.Objects.{wraps, wraps_text, bools_of, numbers_of}
 use Rattle.ja_rows.specs.Out.{out, sets, type_error}
 use Rattle.ja_value.specs.Value.{value_of}
@@ -27,7 +27,7 @@ returns c =
     let thrown = λ (b : Bool). type_error w b i c.args.error nothing_message in
     let told = λ (v : AbstractValue). out (set_to (of_labels v.label) ++ (bools_to (bools_of v)
     ++ (numbers_to (numbers_of v) ++ (wraps_text w dst c.args.sites.text v i.next
-    ++ thrown (is_nothing v))))) no_demands in
+    ++ thrown (has_nullish v))))) no_demands in
     let first = c.new-states.result in
     let set = c.sets.new.states in
     let bools = c.wraps.new.states in
@@ -46,5 +46,5 @@ returns c =
     (added_as s _ _ bools numbers (ap numbers_to c.numbers_of-numbers.ensures)
     c.in_ok-wraps-2.ensures)
     (added_both s _ _ numbers texts all c.in_ok-wraps_text.ensures
-    (added_as s _ _ texts all (ap thrown c.is_nothing.ensures) c.in_ok-type_error.ensures))))))
+    (added_as s _ _ texts all (ap thrown c.has_nullish.ensures) c.in_ok-type_error.ensures))))))
     c.new.ensures c.outcome.ensures)

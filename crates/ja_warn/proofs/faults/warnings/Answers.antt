@@ -1,4 +1,4 @@
-use Rattle.std.proofs.Common.{◌≡◌, sym, ◌∙◌, ap, subst}
+use Rattle.std.proofs.Common.{sym, ◌∙◌, ap, subst}
 use Rattle.ja_rows.specs.Warning.{AreWarnings}
 use Rattle.ja_sound.specs.Sound.{WarnsOfFaults}
 use Rattle.ja_rules.specs.Tables.{table_of}

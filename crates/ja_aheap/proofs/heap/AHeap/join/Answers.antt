@@ -3,10 +3,8 @@ use Rattle.std.specs.Option.{option_map_or}
 use Rattle.ja_abstract.specs.AbstractState.{join_masks}
 use Rattle.ja_value.specs.Labels.{mask_in}
 use Rattle.ja_trie.specs.Nodes.{ArePaths}
-use Rattle.ja_abstract.proofs.Least.{property_by_join}
-use Rattle.ja_aheap.specs.Heap.{HeapMap, LeqHeap, heap_of, property_at}
+use Rattle.ja_aheap.specs.Heap.{HeapMap, heap_of, property_at}
 use Rattle.ja_aheap.proofs.HeapLemmas.{heap_same, joined_by_label, differs_at_label}
-use Rattle.ja_aheap.proofs.MaskLemmas.{turned}
 use Rattle.ja_aheap.proofs.heap.AHeap.join.Goals as goal
 
 pub returns-in_err-put-clause-nodes : goal.returns-in_err-put-clause-nodes

@@ -4,7 +4,7 @@ use Rattle.ja_abstract.specs.AbstractValue.{AbstractValue, Labels}
 use Rattle.ja_abstract.specs.Writes.{or_global, put_states, demands_of_puts}
 use Rattle.ja_rows.specs.Names.{without_arrays}
 use Rattle.ja_rows.specs.Out.{out, all_go, at, name_keys}
-use Rattle.ja_value.specs.Value.{value_of, labels_in}
+use Rattle.ja_value.specs.Value.{labels_in}
 use Rattle.ja_transfer.specs.Outcomes.{at_view, IsOutcome}
 use Rattle.ja_transfer.proofs.GivenLemmas.{given_first, outcome_of}
 use Rattle.ja_transfer.proofs.stepper.Stepper.write_ref.Goals as goal

@@ -4,7 +4,7 @@ use Rattle.ja_value.specs.Value.{labels_in}
 use Rattle.ja_value.proofs.label_set.LabelSet.join.Goals as goal
 
 pub returns-then-covers-clause-joined : goal.returns-then-covers-clause-joined
-returns-then-covers-clause-joined c = sym (c.covers.ensures c.if-covers.true)
+returns-then-covers-clause-joined c = sym (c.covers.ensures.0 c.if-covers.true)
 
 pub returns-clause-joined : goal.returns-clause-joined
 returns-clause-joined c =
