@@ -1,6 +1,6 @@
 -- The items of a table that is kept are those of its table, in order: each is an item, and no
 -- other is.
-use Rattle.std.specs.Prelude.{◌≡◌, ◌≢◌, ◌<◌, ◌≤◌, ◌+◌, ◌++◌, ℕ, IsSome, IsTrue, List, [], ◌∷◌, Some, is_some, length, map, take, drop, get_or, slice_get, All}
+use Rattle.std.specs.Prelude.{◌≡◌, ◌≢◌, ◌<◌, ◌≤◌, ◌+◌, ◌++◌, ℕ, IsSome, IsTrue, List, [], ◌∷◌, Some, Result, Ok, Err, IfErr, is_some, length, map, take, drop, get_or, slice_get, All}
 use Rattle.std.specs.List.{flat_map, AllByRecursion}
 use Rattle.std.proofs.Common.{refl, sym, ap, ◌∙◌, subst, inl, inr, arith}
 use Rattle.std.proofs.lemmas.Bool.{cases_Bool, cond_both, false≢true}
@@ -31,8 +31,10 @@ use Rattle.ja_rules.proofs.TableUpdates.{own_found}
 use Rattle.ja_rules.proofs.Ascending.{first_kept, flat_map_each, listed, number_listed, of_member}
 use Rattle.ja_rules.proofs.ListedContexts.{contexts_listed, kept_is_reached}
 use Rattle.ja_rules.proofs.ListedEdges.{edges_listed}
-use Rattle.ja_check.specs.Check.{items_of, step_at, steps_at, steps_of, IsFirstAmong}
-use Rattle.ja_check.specs.code.Checking.{steps_in}
+use Rattle.ja_check.specs.declared.fault.CheckFault.{CheckFault}
+use Rattle.ja_check.specs.declared.fault.CheckFault.TheVariants.{NotOpen, NotClosed, Memory}
+use Rattle.ja_check.specs.Check.{items_of, step_at, steps_at, steps_of, Explains, IsFirstAmong}
+use Rattle.ja_check.specs.code.Checking.{steps_in, StopsAt}
 use Rattle.ja_check.proofs.Lists.{all_flat_map, parted}
 
 -- ---- the list
@@ -179,19 +181,6 @@ module _ (p : Program) (t : ATable) (fits : Fits p t) where
         (subst (Member i) (sym is) (item_listed i one));
   }
 
--- ---- visits of one after another
-
--- a visit that left a table as it was, and one that didn't
-pub settled_by : (p : Program) (t u v : Table) (item : Item) → u ≡ t → visited p u item ≡ v → v ≡ u
-    → visited p t item ≡ t
-settled_by p t u v item same is kept =
-    subst (λ (w : Table). visited p w item ≡ w) same (is ∙ kept)
-
-pub changed_by : (p : Program) (t u v : Table) (item : Item) → u ≡ t → visited p u item ≡ v → v ≢ u
-    → visited p t item ≢ t
-changed_by p t u v item same is changed =
-    subst (λ (w : Table). visited p w item ≢ w) same (λ e. changed (sym is ∙ e))
-
 -- ---- the first that isn't settled
 
 pub first_among : (p : Program) (t : Table) (items : List Item) (k : ℕ) (d : Item)
@@ -204,3 +193,13 @@ first_among p t items k d within settled changes = record {
   settled = settled;
   changes = changes;
 }
+
+-- why a table isn't told to be closed, by why its items weren't gone through
+pub explained_by : {T : Type 0} → (p : Program) (t : Table) → HasOpening p t → (items : List Item)
+    → items ≡ items_of p t → (r : Result T CheckFault) → IfErr r (StopsAt p t items)
+    → IfErr r (Explains p t)
+explained_by p t opening items is (Ok x) h = tt
+explained_by p t opening items is (Err NotOpen) h = absurd h
+explained_by p t opening items is (Err (NotClosed item)) h =
+    (opening, subst (λ (xs : List Item). IsFirstAmong p t xs item) is h)
+explained_by p t opening items is (Err Memory) h = tt

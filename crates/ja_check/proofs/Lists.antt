@@ -1,37 +1,16 @@
--- Tests that tell facts, and lists by their elements.
-use Rattle.std.specs.Prelude.{◌≡◌, ◌↔◌, ◌<◌, ◌≤◌, ◌+◌, ◌&&◌, ℕ, suc, Bool, true, false, cond, IsTrue, List, [], ◌∷◌, ◌++◌, length, map, take, drop, find, get_or, Option, Some, is_some, slice_get}
+-- Lists by their elements, and tests of these.
+use Rattle.std.specs.Prelude.{◌≡◌, ◌↔◌, ◌<◌, ◌≤◌, ◌+◌, ℕ, suc, Bool, true, false, cond, IsTrue, List, [], ◌∷◌, ◌++◌, length, map, take, drop, find, get_or, Option, Some, is_some, slice_get}
 use Rattle.std.specs.List.{flat_map, list_any, range_with_len, AllByRecursion}
 use Rattle.std.specs.Option.{option_map}
 use Rattle.std.proofs.Common.{refl, sym, ap, ◌∙◌, inl, inr, arith, append-nil, append_assoc}
-use Rattle.std.proofs.lemmas.Bool.{and_from, and_parts, cases_Bool, cases_lt, false≢true}
+use Rattle.std.proofs.lemmas.Bool.{cases_lt}
 use Rattle.std.proofs.lemmas.List.{drop_more, length-map, take-append-drop, take_more}
 use Rattle.std.proofs.lemmas.List.Concat.{flat_map-append}
 use Rattle.std.proofs.lemmas.Option.{same_Some}
 use Rattle.ja_base.proofs.Lists.{all_append, within_from_some}
 use Rattle.ja_rules.proofs.NodeFacts.{one_more}
 
--- ---- tests
-
-pub told_by : {P : Type 0} → (b : Bool) → (b ≡ true → P) → (b ≡ false → P → ⊥) → IsTrue b ↔ P
-told_by b then otherwise = (
-  then,
-  (λ h. elim (cases_Bool b) [ inl e ↦ e | inr e ↦ absurd (otherwise e h) ]),
-)
-
-pub told_some : {P : Type 0} → P → IsTrue true ↔ P
-told_some holds = ((λ e. holds), (λ h. refl))
-
-pub told_none : {P : Type 0} → (P → ⊥) → IsTrue false ↔ P
-told_none never = ((λ e. absurd (false≢true e)), (λ h. absurd (never h)))
-
-pub told_both : {P Q R : Type 0} → (a b : Bool) → IsTrue a ↔ P → IsTrue b ↔ Q → (P → Q → R)
-    → (R → P) → (R → Q) → IsTrue (a && b) ↔ R
-told_both a b h k from left right = (
-  (λ t. let parts = and_parts a b t in from (h.0 parts.0) (k.0 parts.1)),
-  (λ r. and_from a b (h.1 (left r)) (k.1 (right r))),
-)
-
--- of what may not be there
+-- ---- tests of what may not be there
 
 module _ {X : Type 0} (o p : Option X) where
   pub told_options : (a b : X) → o ≡ Some a → p ≡ Some b → (t : Bool) → IsTrue t ↔ (a ≡ b)

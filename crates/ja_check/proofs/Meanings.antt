@@ -27,7 +27,8 @@ use Rattle.ja_rules.proofs.ListedContexts.{contexts_listed}
 use Rattle.ja_rules.proofs.ListedEdges.{edges_listed}
 use Rattle.ja_check.specs.Check.{FitsListed}
 use Rattle.ja_check.specs.code.Checking.{meaning_of, Meaning}
-use Rattle.ja_check.proofs.Lists.{any_mapped, found_mapped, maps_count, maps_same, told_both}
+use Rattle.ja_rules.proofs.Told.{told_both}
+use Rattle.ja_check.proofs.Lists.{any_mapped, found_mapped, maps_count, maps_same}
 use Rattle.ja_check.proofs.Opening.{fits_opened, root_reached}
 
 -- ---- a table by what its contexts stand for

@@ -1,31 +1,12 @@
--- Abstract states, compared by joins.
-use Rattle.std.specs.Prelude.{◌≡◌, ◌≢◌, ◌↔◌, ◌&&◌, Bool, true, false, not, IsTrue}
-use Rattle.std.proofs.Common.{sym, ◌∙◌, subst}
-use Rattle.std.proofs.lemmas.Bool.{not-false, not-true}
-use Rattle.ja_abstract.specs.AbstractState.{AbstractState, join_states}
+-- Abstract states that are the same, and of one shape.
+use Rattle.std.specs.Prelude.{◌≡◌, ◌↔◌, ◌&&◌, Bool, IsTrue}
+use Rattle.std.proofs.Common.{sym, subst}
+use Rattle.ja_abstract.specs.AbstractState.{AbstractState}
 use Rattle.ja_abstract.specs.Order.{LeqState}
-use Rattle.ja_abstract.proofs.Least.{state_least, state-join_right}
-use Rattle.ja_abstract.proofs.Order.{state_equal, state_same, state-join}
+use Rattle.ja_abstract.proofs.Order.{state_equal, state_same}
 use Rattle.ja_astate.specs.declared.state.AState.{AState}
 use Rattle.ja_astate.specs.State.{HaveOneShape}
-use Rattle.ja_check.proofs.Lists.{told_both, told_by}
-
--- what is below another is what a join into it doesn't change
-pub state_by_join : (a b : AbstractState) → LeqState a b ↔ (join_states b a ≡ b)
-state_by_join a b = (
-  (λ h. state_equal (join_states b a) b (state_least b a b (state_same b) h) (state-join b a)),
-  (λ e. subst (LeqState a) e (state-join_right b a)),
-)
-
--- so it is told by a join into a copy
-pub leq_told : (a b f j : AbstractState) (changed : Bool) → f ≡ b → j ≡ join_states f a
-    → (changed ≡ true → j ≢ f) → (changed ≡ false → j ≡ f) → IsTrue (not changed) ↔ LeqState a b
-leq_told a b f j changed f_is j_is other same =
-    let holds : AbstractState → Type 0 = λ s. join_states s a ≡ s in
-    told_by (not changed)
-    (λ t. (state_by_join a b).1 (subst holds f_is (sym j_is ∙ same (not-true changed t))))
-    (λ t leq. other (not-false changed t)
-    (j_is ∙ subst holds (sym f_is) ((state_by_join a b).0 leq)))
+use Rattle.ja_rules.proofs.Told.{told_both}
 
 pub same_told : (a b : AbstractState) (below above : Bool) → IsTrue below ↔ LeqState a b
     → IsTrue above ↔ LeqState b a → IsTrue (below && above) ↔ (a ≡ b)
@@ -33,15 +14,7 @@ same_told a b below above h k =
     told_both below above h k (state_equal a b) (λ e. subst (LeqState a) e (state_same a))
     (λ e. subst (λ s. LeqState s a) e (state_same a))
 
--- ---- shapes
-
+-- a shape is the same from both sides
 pub shape_turned : (a b : AState) → HaveOneShape a b → HaveOneShape b a
 shape_turned a b h =
     record { sites = sym h.sites; names = sym h.names; registers = sym h.registers }
-
-pub shape_between : (a b c : AState) → HaveOneShape a b → HaveOneShape a c → HaveOneShape b c
-shape_between a b c h k = record {
-  sites = sym h.sites ∙ k.sites;
-  names = sym h.names ∙ k.names;
-  registers = sym h.registers ∙ k.registers;
-}

@@ -48,11 +48,11 @@ pub record IsFirstAmong (p : Program) (t : Table) (items : List Item) (item : It
   pub settled : All (λ (i : Item). visited p t i ≡ t) before
   pub changes : visited p t item ≢ t
 
-abbrev pub IsFirstOpen : Program → Table → Item → Type 0
-IsFirstOpen p t item = IsFirstAmong p t (items_of p t) item
+abbrev pub IsFirstUnsettled : Program → Table → Item → Type 0
+IsFirstUnsettled p t item = IsFirstAmong p t (items_of p t) item
 
 -- the cause of each fault
 abbrev pub Explains : Program → Table → CheckFault → Type 0
 Explains p t NotOpen = HasOpening p t → ⊥
-Explains p t (NotClosed item) = HasOpening p t × IsFirstOpen p t item
+Explains p t (NotClosed item) = HasOpening p t × IsFirstUnsettled p t item
 Explains p t Memory = Unit {0}

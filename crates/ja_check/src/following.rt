@@ -1,6 +1,5 @@
 ghost use Rattle.std.specs.Prelude.{◌≡◌, ◌↔◌, IfOk, IsTrue, OnOk, false, true};
 ghost use Rattle.ja_graph.specs.WellFormed.{IsWellFormed};
-ghost use Rattle.ja_keys.specs.Keys.{IsKeysOf};
 ghost use Rattle.ja_rows.specs.declared.table.Item.TheVariants as items;
 ghost use Rattle.ja_rows.specs.Table.{Builds, IsBuilt, IsItem, Table};
 ghost use Rattle.ja_rules.specs.Tables.{table_of, Fits};
@@ -9,9 +8,8 @@ ghost use Rattle.ja_check.specs.Check.{FitsListed};
 use crate::same_tables::is_same_table;
 use ja_base::{Context, Memory, NodeId};
 use ja_graph::Program;
-use ja_keys::ProgramKeys;
 use ja_rows::Item;
-use ja_rules::{ATable, opening, visit};
+use ja_rules::{ATable, Analysis, opening};
 use std::alloc::Global;
 
 // Whether a context has a state at a node.
@@ -41,27 +39,20 @@ fn is_item(program: &Program, table: &ATable, item: Item) -> bool
 
 // Follows visits, each of an item of the table as it stands then, and tells whether each changed
 // it.
-fn follow(
-    alloc: Global,
-    program: &Program,
-    keys: &ProgramKeys,
-    visits: &[Item],
-    table: &mut ATable,
-) -> Result<bool, Memory>
-    requires program { IsWellFormed program.now }
-    requires keys { IsKeysOf program.now keys.now }
-    requires fits { Fits program.now table.old }
+fn follow(analysis: &Analysis<'_>, visits: &[Item], table: &mut ATable) -> Result<bool, Memory>
+    requires program { IsWellFormed analysis.now.program.now }
+    requires fits { Fits analysis.now.program.now table.old }
     ensures built { IfOk result (λ b. b ≡ true
-        → Builds program.now (table_of table.old) visits.now (table_of table.new)) }
+        → Builds analysis.now.program.now (table_of table.old) visits.now (table_of table.new)) }
     ensures other { IfOk result (λ b. b ≡ false → (t : Table)
-        → Builds program.now (table_of table.old) visits.now t → ⊥) }
-    ensures fits { OnOk result (Fits program.now table.new) }
+        → Builds analysis.now.program.now (table_of table.old) visits.now t → ⊥) }
+    ensures fits { OnOk result (Fits analysis.now.program.now table.new) }
 {
     for item in visits {
-        if !is_item(program, table, *item) {
+        if !is_item(analysis.program, table, *item) {
             return Ok(false);
         }
-        let changed = visit(alloc, program, keys, table, *item)?;
+        let changed = analysis.visit(table, *item)?;
         if !changed {
             return Ok(false);
         }
@@ -83,9 +74,9 @@ pub fn built(
     ensures { IfOk result (λ b. IsTrue b
         ↔ IsBuilt program.now visits.now (table_of table.now)) }
 {
-    let keys = ProgramKeys::new(alloc, program)?;
+    let analysis = Analysis::new(alloc, program)?;
     let mut own = opening(alloc, program)?;
-    let followed = follow(alloc, program, &keys, visits, &mut own)?;
+    let followed = follow(&analysis, visits, &mut own)?;
     if !followed {
         return Ok(false);
     }

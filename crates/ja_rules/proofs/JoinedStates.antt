@@ -21,3 +21,11 @@ one_shape p count a b h k = record {
   names = h.heap.names ∙ sym k.heap.names;
   registers = h.registers ∙ sym k.registers;
 }
+
+-- what has the shape of one state has that of another of its shape
+pub shape_between : (a b c : AState) → HaveOneShape a b → HaveOneShape a c → HaveOneShape b c
+shape_between a b c h k = record {
+  sites = sym h.sites ∙ k.sites;
+  names = sym h.names ∙ k.names;
+  registers = sym h.registers ∙ k.registers;
+}

@@ -20,6 +20,7 @@ use Rattle.ja_rows.specs.Table.{Table, opening_table, same_edge, visited, IsBuil
 use Rattle.ja_rows.proofs.Applied.{same_edge-self}
 use Rattle.ja_rows.proofs.Rising.{builds_more, builds_opening}
 use denote.Ref.{Bor}
+use Rattle.ja_rules.specs.declared.analysis.Analysis.{Analysis}
 use Rattle.ja_rules.specs.declared.solver.Along.{Along}
 use Rattle.ja_rules.specs.declared.solver.Along.TheVariants as along
 use Rattle.ja_rules.specs.declared.solver.SolveFault.{SolveFault}
@@ -32,7 +33,7 @@ use Rattle.ja_rules.specs.Order.{below_context, context_of, AreContextsOrdered}
 use Rattle.ja_rules.specs.Tables.{is_of, table_of, Fits, FitsContext, IsContext}
 use Rattle.ja_rules.specs.code.Growing.{HasSameEdges, HasSameKeys}
 use Rattle.ja_rules.specs.code.Places.{IsPlaceBehind}
-use Rattle.ja_rules.specs.code.Rounds.{item_along, AreSettled, AreSettledAlong, AreStepped, AreSteppedAt, GoesOn, IsSettled, IsUnchanged}
+use Rattle.ja_rules.specs.code.Rounds.{item_along, program_of, AreSettled, AreSettledAlong, AreStepped, AreSteppedAt, GoesOn, IsSettled, IsUnchanged}
 use Rattle.ja_rules.proofs.Found.{unreached_state}
 use Rattle.ja_rules.proofs.SameMeaning.{keys_both, keys_same}
 use Rattle.ja_rules.proofs.KeyOrders.{compared, one_way}
@@ -52,8 +53,7 @@ mapped_at f (y ∷ ys) (suc k) x is = mapped_at f ys k x is
 
 pub goes_same : (a : Work) → GoesOn a a
 goes_same a = record {
-  program = refl;
-  keys = refl;
+  analysis = refl;
   budget = refl;
   more = omega arith;
   same = λ e. refl;
@@ -61,8 +61,7 @@ goes_same a = record {
 
 pub goes_both : (a b c : Work) → GoesOn a b → GoesOn b c → GoesOn a c
 goes_both a b c h k = record {
-  program = k.program ∙ h.program;
-  keys = k.keys ∙ h.keys;
+  analysis = k.analysis ∙ h.analysis;
   budget = k.budget ∙ h.budget;
   more = omega arith;
   same = λ e. k.same (omega arith) ∙ h.same (omega arith);
@@ -349,29 +348,32 @@ edges_later (Back e) t u clock h = keys_later t u clock h
 
 -- ---- one work after another
 
-pub program_is : (a b : Work) → GoesOn a b → b.program.now ≡ a.program.now
-program_is a b h = ap (λ (q : Bor Program). q.now) h.program
+pub program_now : {a b : Bor Analysis} → a ≡ b → a.now.program.now ≡ b.now.program.now
+program_now e = ap (λ (q : Bor Analysis). q.now.program.now) e
+
+pub program_is : (a b : Work) → GoesOn a b → (program_of b) ≡ (program_of a)
+program_is a b h = program_now h.analysis
 
 -- a fault of the later one is explained by the earlier one
 pub explains_from : {T : Type 0} → (a b : Work) → GoesOn a b → (r : Result T SolveFault)
-    → IfErr r (Explains b.program.now b.budget) → IfErr r (Explains a.program.now a.budget)
+    → IfErr r (Explains (program_of b) b.budget) → IfErr r (Explains (program_of a) a.budget)
 explains_from a b h (Ok x) e = tt
 explains_from a b h (Err f) e =
     subst (λ (q : Program). Explains q a.budget f) (program_is a b h)
-    (subst (λ n. Explains b.program.now n f) h.budget e)
+    (subst (λ n. Explains (program_of b) n f) h.budget e)
 
 -- where no visit was added, what held of the table still does
 pub carried : (P : Program → Table → Type 0) → (a b : Work) → GoesOn a b → IsUnchanged a b
-    → P a.program.now (table_of a.table) → P b.program.now (table_of b.table)
+    → P (program_of a) (table_of a.table) → P (program_of b) (table_of b.table)
 carried P a b h same p =
     subst (λ (q : Program). P q (table_of b.table)) (sym (program_is a b h))
-    (subst (P a.program.now) (sym (h.same same)) p)
+    (subst (P (program_of a)) (sym (h.same same)) p)
 
 -- .. and did
 pub carried_back : (P : Program → Table → Type 0) → (a b : Work) → GoesOn a b
-    → IsUnchanged a b → P b.program.now (table_of b.table) → P a.program.now (table_of a.table)
+    → IsUnchanged a b → P (program_of b) (table_of b.table) → P (program_of a) (table_of a.table)
 carried_back P a b h same p =
-    subst (P a.program.now) (h.same same)
+    subst (P (program_of a)) (h.same same)
     (subst (λ (q : Program). P q (table_of b.table)) (program_is a b h) p)
 
 pub both_on : {T E P Q R : Type 0} → (r : Result T E) → OnOk r P → OnOk r Q → (P → Q → R)
@@ -381,11 +383,11 @@ both_on (Err e) p q h = tt
 
 -- a round
 pub round_settled : (a b c d e : Work) → GoesOn a b → GoesOn b c → GoesOn c d → GoesOn d e
-    → (IsUnchanged a b → IsSettled b.program.now (table_of b.table) Open)
-    → (IsUnchanged b c → AreStepped c.program.now (table_of c.table))
-    → (IsUnchanged c d → AreSettledAlong d.program.now (table_of d.table) along.Fill)
-    → (IsUnchanged d e → AreSettledAlong e.program.now (table_of e.table) along.Back)
-    → IsUnchanged a e → AreSettled e.program.now (table_of e.table)
+    → (IsUnchanged a b → IsSettled (program_of b) (table_of b.table) Open)
+    → (IsUnchanged b c → AreStepped (program_of c) (table_of c.table))
+    → (IsUnchanged c d → AreSettledAlong (program_of d) (table_of d.table) along.Fill)
+    → (IsUnchanged d e → AreSettledAlong (program_of e) (table_of e.table) along.Back)
+    → IsUnchanged a e → AreSettled (program_of e) (table_of e.table)
 round_settled a b c d e first second third fourth opens steps fills backs same =
     let ab : IsUnchanged a b = omega (arith, same, first.more, second.more, third.more, fourth.more)
     in
@@ -396,7 +398,7 @@ round_settled a b c d e first second third fourth opens steps fills backs same =
     let de : IsUnchanged d e = omega (arith, same, first.more, second.more, third.more, fourth.more)
     in
     let P = λ (p : Program) (t : Table). IsSettled p t Open in
-    all_settled e.program.now (table_of e.table)
+    all_settled (program_of e) (table_of e.table)
     (carried P d e fourth de (carried P c d third cd (carried P b c second bc (opens ab))))
     (carried AreStepped d e fourth de (carried AreStepped c d third cd (steps bc)))
     (carried (λ (p : Program) (t : Table). AreSettledAlong p t along.Fill) d e fourth de (fills cd))
@@ -454,6 +456,3 @@ budget_falls budget other before after m k each e more few m_is k_is last =
     subst (λ b. 2 * (other - after) + (if nat_eq m k then 0 else 1)
     < 2 * (b - before) + (if each then 0 else 1)) e
     (rounds_fall other before after m k each more few m_is k_is last)
-
-pub now_is : {a b : Bor Program} → a ≡ b → a.now ≡ b.now
-now_is e = ap (λ (q : Bor Program). q.now) e

@@ -18,7 +18,7 @@ use Rattle.ja_rows.specs.declared.table.Item.TheVariants.{Back, Fill}
 use Rattle.ja_rows.specs.declared.table.Item.TheVariants as items
 use Rattle.ja_rows.specs.Calls.{filled_with}
 use Rattle.ja_rows.specs.Out.{Out}
-use Rattle.ja_rows.specs.Table.{applied, point, view_at, Table}
+use Rattle.ja_rows.specs.Table.{applied, point, view_at, visited, Table}
 use Rattle.ja_rows.specs.Transfer.{transfer}
 use Rattle.ja_rows.proofs.StepEdges.{IsFrom}
 use Rattle.ja_rows.proofs.TablesInProgram.{has_length}
@@ -95,16 +95,20 @@ module _ (p : Program) (good : IsWellFormed p) (own : ContextTable) (n : NodeId)
       (subst (AllByRecursion (IsInto w (point x n h.info))) (sym h.entered.edges_are) steps.into)
       h.entered.entered
 
-  pub step_done : (t u v z : Table) (b c d : Bool) → t.entry x ≡ entries_of own.entries
+  entered_in : (v : Table) → fold with_entered v step.entries.items
+      ≡ applied v (of_edges w x h.info (map (λ (y : Entry). y.edge) step.entries.items))
+  entered_in v =
+      entries_applied p good w refl x n h.info h.info_is v step.entries.items
+      (subst (AllByRecursion (IsFrom x n)) (sym h.entered.edges_are) steps.from)
+      h.entered.entered
+
+  -- the table that is visited, by its parts
+  pub step_is : (t u v z : Table) → t.entry x ≡ entries_of own.entries
       → t.state x n.0 ≡ Some (state_of h.state)
       → u ≡ with_states_at t x (map given_by step.outcome.states.list.items)
-      → (b ≡ true → u ≢ t) → (b ≡ false → u ≡ t)
       → v ≡ with_demands_at u x (demands_in step.outcome.demands)
-      → (c ≡ true → v ≢ u) → (c ≡ false → v ≡ u)
-      → z ≡ fold with_entered v step.entries.items → (d ≡ true → z ≢ v) → (d ≡ false → z ≡ v)
-      → IsVisited p (items.Step x n) t z ((b || c) || d)
-  step_done t u v z b c d entry_is state_is u_is u_other u_same v_is v_other v_same z_is z_other
-      z_same =
+      → z ≡ fold with_entered v step.entries.items → visited p t (items.Step x n) ≡ z
+  step_is t u v z entry_is state_is u_is v_is z_is =
       let o : Out = record {
         states = map given_by step.outcome.states.list.items;
         demands = demands_in step.outcome.demands;
@@ -117,22 +121,32 @@ module _ (p : Program) (good : IsWellFormed p) (own : ContextTable) (n : NodeId)
       }) (sym entry_is) in
       let joined : v ≡ with_demands_at (with_states_at t x o.states) x o.demands =
       v_is ∙ ap (λ (s : Table). with_demands_at s x o.demands) u_is in
-      let entered = entries_applied p good w refl x n h.info h.info_is v step.entries.items
-      (subst (AllByRecursion (IsFrom x n)) (sym h.entered.edges_are) steps.from)
-      h.entered.entered in
-      visit_is p (items.Step x n) t z ((b || c) || d)
-      (step_visited p t z x n h.info (state_of h.state) o h.info_is state_is
+      step_visited p t z x n h.info (state_of h.state) o h.info_is state_is
       (h.outcome ∙ ap (λ (y : View). transfer y (point x n h.info)) view_is)
-      (z_is ∙ entered
+      (z_is ∙ entered_in v
       ∙ ap (λ (es : List Edge). applied v (of_edges w x h.info es)) h.entered.edges_are
       ∙ ap (λ (y : View). applied v (of_edges y x h.info o.edges)) view_is
       ∙ ap (λ (s : Table). applied s (of_edges (view_at p t x (state_of h.state)) x h.info
-      o.edges)) joined))
+      o.edges)) joined)
+
+  pub step_done : (t u v z : Table) (b c d : Bool) → t.entry x ≡ entries_of own.entries
+      → t.state x n.0 ≡ Some (state_of h.state)
+      → u ≡ with_states_at t x (map given_by step.outcome.states.list.items)
+      → (b ≡ true → u ≢ t) → (b ≡ false → u ≡ t)
+      → v ≡ with_demands_at u x (demands_in step.outcome.demands)
+      → (c ≡ true → v ≢ u) → (c ≡ false → v ≡ u)
+      → z ≡ fold with_entered v step.entries.items → (d ≡ true → z ≢ v) → (d ≡ false → z ≡ v)
+      → IsVisited p (items.Step x n) t z ((b || c) || d)
+  step_done t u v z b c d entry_is state_is u_is u_other u_same v_is v_other v_same z_is z_other
+      z_same =
+      visit_is p (items.Step x n) t z ((b || c) || d)
+      (step_is t u v z entry_is state_is u_is v_is z_is)
       (grown_both t v z (b || c) d
-      (grown_both t u v b c (states_grown t u x o.states b u_is u_other u_same)
-      (demands_grown u v x o.demands c v_is v_other v_same))
+      (grown_both t u v b c
+      (states_grown t u x (map given_by step.outcome.states.list.items) b u_is u_other u_same)
+      (demands_grown u v x (demands_in step.outcome.demands) c v_is v_other v_same))
       (grown_by v z (of_edges w x h.info (map (λ (y : Entry). y.edge) step.entries.items)) d
-      (z_is ∙ entered) z_other z_same))
+      (z_is ∙ entered_in v) z_other z_same))
 
   -- ---- .. at the context that was found
 

@@ -58,6 +58,14 @@ fits_by_keys p t u fits keys each =
       first_is_root = is;
     }
 
+-- so does one of the same contexts and edges
+pub fits_by_items : (p : Program) (t u : ATable) → u.contexts.items ≡ t.contexts.items
+    → u.edges.items ≡ t.edges.items → Fits p t → Fits p u
+fits_by_items p t u contexts edges fits =
+    fits_by_keys p t u fits
+    (record { contexts = ap (map context_of) contexts; edges = ap (map edge_of) edges })
+    (subst (All (FitsContext p)) (sym contexts) fits.each)
+
 -- ---- another context in the place of one
 
 module _ (cs : List ContextTable) (ds : List CallEdge) (place : ℕ) (own new : ContextTable)

@@ -26,8 +26,11 @@ use Rattle.ja_rows.proofs.Views.{same_context-true}
 use Rattle.ja_value.specs.Value.{property_of}
 use Rattle.ja_flow.specs.code.Pairs.{filled, with_set}
 use Rattle.ja_flow.specs.declared.values.EntryValue.{EntryValue}
+use Rattle.ja_rules.specs.declared.table.ATable.{ATable}
 use Rattle.ja_rules.specs.declared.visits.Entry.{Entry}
+use Rattle.ja_rules.specs.Tables.{table_of}
 use Rattle.ja_rules.specs.Visits.{IsVisited}
+use Rattle.ja_rules.specs.code.Filling.{IsOpened}
 use Rattle.ja_rules.specs.code.Growing.{with_context, with_demands_at, with_edge, with_entries_at, with_state_at, with_states_at, AreValuesOf}
 use Rattle.ja_rules.specs.code.Stepping.{with_entered, FitsEntered}
 use Rattle.ja_rules.proofs.VisitEffects.{of_parts, parts_applied}
@@ -117,7 +120,7 @@ back_there : (t : Table) (x y : Context) (b : Bool) → (b ≡ true → x ≡ y)
 back_there t x y true h = ap t.entry (h refl)
 back_there t x y false h = refl
 
-entries_back : (t : Table) (x : Context) → with_entries_at t x (t.entry x) ≡ t
+pub entries_back : (t : Table) (x : Context) → with_entries_at t x (t.entry x) ≡ t
 entries_back t x = λ i. record t {
   entry = λ y. back_there t x y (same_context x y)
       (λ e. same_context-true x y e) i;
@@ -141,6 +144,16 @@ values_grown t u x e vs v changed e_is is set other told =
     (sym there ∙ ap (λ (w : Table). w.entry x) back ∙ e_is))
     (λ h. is ∙ ap (λ (ws : List EntryValue). with_entries_at t x (with_set (t.entry x) ws))
     (told.0 h) ∙ entries_back t x)
+
+-- what the opening heap changes, by what the context has that is found
+pub opens_by : (p : Program) (t : ATable) (e : Entries) (vs : List EntryValue)
+    → (table_of t).entry root ≡ e → with_set e vs ≡ filled e (opened p)
+    → (vs ≢ [] → filled e (opened p) ≢ e) → IsOpened p (table_of t) vs
+opens_by p t e vs is set changed = record {
+  set = subst (λ (f : Entries). with_set f vs ≡ filled f (opened p)) (sym is) set;
+  changed =
+      subst (λ (f : Entries). vs ≢ [] → filled f (opened p) ≢ f) (sym is) changed;
+}
 
 pub open_visited : (p : Program) (t u : Table) (vs : List EntryValue)
     → u ≡ with_entries_at t root (with_set (t.entry root) vs)

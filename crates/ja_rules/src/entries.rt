@@ -1,8 +1,8 @@
-ghost use Rattle.std.specs.Prelude.{◌≡◌, ◌≢◌, IfOk, false, true};
+ghost use Rattle.std.specs.Prelude.{◌≡◌, ◌≢◌, ◌↔◌, All, IfOk, IsTrue, false, true};
 ghost use Rattle.ja_aheap.specs.Entries.{entries_of};
 ghost use Rattle.ja_aheap.specs.Objects.{demands_in};
 ghost use Rattle.ja_graph.specs.WellFormed.{IsWellFormed};
-ghost use Rattle.ja_rules.specs.code.Entries.{demanded};
+ghost use Rattle.ja_rules.specs.code.Entries.{demanded, IsDemanded};
 
 use crate::opening_heap::opened;
 use ja_abstract::Key;
@@ -32,6 +32,18 @@ pub(crate) fn demand_all(
         changed |= entries.demand(alloc, label, key)?;
     }
     Ok(changed)
+}
+
+// Whether each of some pairs is demanded already.
+pub(crate) fn are_demanded(entries: &DemandedEntries, pairs: &[(Label, Key)]) -> bool
+    ensures { IsTrue result ↔ All (IsDemanded (entries_of entries.now)) pairs.now }
+{
+    for pair in pairs {
+        if entries.get(pair.0, pair.1).is_none() {
+            return false;
+        }
+    }
+    true
 }
 
 /// What the opening heap of a program has.

@@ -7,13 +7,12 @@ ghost use Rattle.ja_sound.specs.Sound.{CoversRuns};
 ghost use Rattle.ja_rules.specs.Tables.{table_of, Fits};
 ghost use Rattle.ja_rules.specs.Solving.{Explains};
 ghost use Rattle.ja_rules.specs.code.Growing.{HasSameEdges, HasSameKeys};
-ghost use Rattle.ja_rules.specs.code.Rounds.{item_along, AreSettled, AreSettledAlong, AreStepped, AreSteppedAt, GoesOn, HasBuilt, IsSettled, IsUnchanged};
+ghost use Rattle.ja_rules.specs.code.Rounds.{item_along, program_of, AreSettled, AreSettledAlong, AreStepped, AreSteppedAt, GoesOn, HasBuilt, IsSettled, IsUnchanged};
 ghost use Rattle.ja_rules.specs.declared.solver.SolveFault.TheVariants as fault;
 
-use crate::{ATable, opening, visit};
+use crate::{ATable, Analysis, opening};
 use ja_base::{Context, Memory, NodeId, Seq};
 use ja_graph::Program;
-use ja_keys::ProgramKeys;
 use ja_rows::{Edge, Item};
 use ja_sound::closed_covers;
 use std::alloc::{AllocFailed, Global};
@@ -81,13 +80,12 @@ impl Along {
     }
 }
 
-// What the solver works on: a program with its keys, so many visits, the table so far, and the
+// What the solver works on: the analysis of a program, so many visits, the table so far, and the
 // visits that built it.
 #[derive(Drop)]
 struct Work<'a> {
     alloc: Global,
-    program: &'a Program,
-    keys: &'a ProgramKeys,
+    analysis: &'a Analysis<'a>,
     budget: u128,
     table: ATable,
     visits: Vec<Item>,
@@ -107,18 +105,18 @@ impl Work<'_> {
     // Visits an item, keeps the visit if the table changed, and tells whether it did.
     fn take_turn(&mut self, item: Item) -> Result<bool, SolveFault>
         requires built { HasBuilt self.old }
-        requires item { IsItem self.old.program.now (table_of self.old.table) item }
+        requires item { IsItem (program_of self.old) (table_of self.old.table) item }
         ensures built { OnOk result (HasBuilt self.new) }
-        ensures visited { OnOk result (visited self.old.program.now (table_of self.old.table) item
+        ensures visited { OnOk result (visited (program_of self.old) (table_of self.old.table) item
             ≡ table_of self.new.table) }
         ensures goes_on { OnOk result (GoesOn self.old self.new) }
         ensures kept { IfOk result (λ k. k ≡ true
             → vec_len self.new.visits ≡ vec_len self.old.visits + 1) }
         ensures same { IfOk result (λ k. k ≡ false → IsUnchanged self.old self.new) }
         ensures edges { OnOk result (HasSameEdges item self.old.table self.new.table) }
-        ensures fault { IfErr result (Explains self.old.program.now self.old.budget) }
+        ensures fault { IfErr result (Explains (program_of self.old) self.old.budget) }
     {
-        let changed = visit(self.alloc, self.program, self.keys, &mut self.table, item)?;
+        let changed = self.analysis.visit(&mut self.table, item)?;
         if !changed {
             return Ok(false);
         }
@@ -136,9 +134,9 @@ impl Work<'_> {
         ensures goes_on { OnOk result (GoesOn self.old self.new) }
         ensures kept { OnOk result (HasSameKeys self.old.table self.new.table) }
         ensures items { OnOk result ((i : Item)
-            → IsItem self.old.program.now (table_of self.old.table) i
-            → IsItem self.old.program.now (table_of self.new.table) i) }
-        ensures fault { IfErr result (Explains self.old.program.now self.old.budget) }
+            → IsItem (program_of self.old) (table_of self.old.table) i
+            → IsItem (program_of self.old) (table_of self.new.table) i) }
+        ensures fault { IfErr result (Explains (program_of self.old) self.old.budget) }
     {
         if self.table.is_open_due() {
             self.take_turn(Item::Open)?;
@@ -150,13 +148,13 @@ impl Work<'_> {
     // item that isn't due is visited where each is.
     fn settle(&mut self, item: Item, each: bool) -> Result<(), SolveFault>
         requires built { HasBuilt self.old }
-        requires item { IsItem self.old.program.now (table_of self.old.table) item }
+        requires item { IsItem (program_of self.old) (table_of self.old.table) item }
         ensures built { OnOk result (HasBuilt self.new) }
         ensures goes_on { OnOk result (GoesOn self.old self.new) }
         ensures settled { OnOk result (each ≡ true → IsUnchanged self.old self.new
-            → IsSettled self.new.program.now (table_of self.new.table) item) }
+            → IsSettled (program_of self.new) (table_of self.new.table) item) }
         ensures edges { OnOk result (HasSameEdges item self.old.table self.new.table) }
-        ensures fault { IfErr result (Explains self.old.program.now self.old.budget) }
+        ensures fault { IfErr result (Explains (program_of self.old) self.old.budget) }
     {
         let mut is_next = each || self.table.is_due(item);
         'turns: while is_next {
@@ -176,10 +174,10 @@ impl Work<'_> {
         ensures built { OnOk result (HasBuilt self.new) }
         ensures goes_on { OnOk result (GoesOn self.old self.new) }
         ensures settled { OnOk result (each ≡ true → IsUnchanged self.old self.new
-            → IsItem self.new.program.now (table_of self.new.table) (item.Step context node)
-            → IsSettled self.new.program.now (table_of self.new.table)
+            → IsItem (program_of self.new) (table_of self.new.table) (item.Step context node)
+            → IsSettled (program_of self.new) (table_of self.new.table)
             (item.Step context node)) }
-        ensures fault { IfErr result (Explains self.old.program.now self.old.budget) }
+        ensures fault { IfErr result (Explains (program_of self.old) self.old.budget) }
     {
         let Some(own) = self.table.at(context) else {
             return Ok(());
@@ -198,8 +196,8 @@ impl Work<'_> {
         ensures built { OnOk result (HasBuilt self.new) }
         ensures goes_on { OnOk result (GoesOn self.old self.new) }
         ensures settled { OnOk result (each ≡ true → IsUnchanged self.old self.new
-            → AreSteppedAt self.new.program.now (table_of self.new.table) context) }
-        ensures fault { IfErr result (Explains self.old.program.now self.old.budget) }
+            → AreSteppedAt (program_of self.new) (table_of self.new.table) context) }
+        ensures fault { IfErr result (Explains (program_of self.old) self.old.budget) }
     {
         let nodes = match self.table.at(context) {
             Some(own) => own.nodes.len(),
@@ -218,8 +216,8 @@ impl Work<'_> {
         ensures built { OnOk result (HasBuilt self.new) }
         ensures goes_on { OnOk result (GoesOn self.old self.new) }
         ensures settled { OnOk result (each ≡ true → IsUnchanged self.old self.new
-            → AreStepped self.new.program.now (table_of self.new.table)) }
-        ensures fault { IfErr result (Explains self.old.program.now self.old.budget) }
+            → AreStepped (program_of self.new) (table_of self.new.table)) }
+        ensures fault { IfErr result (Explains (program_of self.old) self.old.budget) }
     {
         let mut place = 0;
         'contexts: while place < self.table.contexts.len() {
@@ -236,8 +234,8 @@ impl Work<'_> {
         ensures built { OnOk result (HasBuilt self.new) }
         ensures goes_on { OnOk result (GoesOn self.old self.new) }
         ensures settled { OnOk result (each ≡ true → IsUnchanged self.old self.new
-            → AreSettledAlong self.new.program.now (table_of self.new.table) along) }
-        ensures fault { IfErr result (Explains self.old.program.now self.old.budget) }
+            → AreSettledAlong (program_of self.new) (table_of self.new.table) along) }
+        ensures fault { IfErr result (Explains (program_of self.old) self.old.budget) }
     {
         for place in 0..self.table.edges.len() {
             let edge = self.table.edges[place].edge;
@@ -252,8 +250,8 @@ impl Work<'_> {
         ensures built { OnOk result (HasBuilt self.new) }
         ensures goes_on { OnOk result (GoesOn self.old self.new) }
         ensures settled { OnOk result (each ≡ true → IsUnchanged self.old self.new
-            → AreSettled self.new.program.now (table_of self.new.table)) }
-        ensures fault { IfErr result (Explains self.old.program.now self.old.budget) }
+            → AreSettled (program_of self.new) (table_of self.new.table)) }
+        ensures fault { IfErr result (Explains (program_of self.old) self.old.budget) }
     {
         self.settle(Item::Open, each)?;
         self.settle_steps(each)?;
@@ -267,8 +265,8 @@ impl Work<'_> {
         ensures built { OnOk result (HasBuilt self.new) }
         ensures goes_on { OnOk result (GoesOn self.old self.new) }
         ensures settled { OnOk result
-            (AreSettled self.new.program.now (table_of self.new.table)) }
-        ensures fault { IfErr result (Explains self.old.program.now self.old.budget) }
+            (AreSettled (program_of self.new) (table_of self.new.table)) }
+        ensures fault { IfErr result (Explains (program_of self.old) self.old.budget) }
     {
         let mut each = false;
         'rounds: loop {
@@ -295,11 +293,10 @@ pub fn solve(alloc: Global, program: &Program, budget: u128) -> Result<Solved, S
     ensures covers { IfOk result (λ s. CoversRuns program.now (table_of s.table)) }
     ensures explained { IfErr result (Explains program.now budget) }
 {
-    let keys = ProgramKeys::new(alloc, program)?;
+    let analysis = Analysis::new(alloc, program)?;
     let mut work = Work {
         alloc,
-        program,
-        keys: &keys,
+        analysis: &analysis,
         budget,
         table: opening(alloc, program)?,
         visits: Vec::new(alloc),
@@ -308,8 +305,7 @@ pub fn solve(alloc: Global, program: &Program, budget: u128) -> Result<Solved, S
     closed_covers();
     let Work {
         alloc: _,
-        program: _,
-        keys: _,
+        analysis: _,
         budget: _,
         table,
         visits,

@@ -1,4 +1,4 @@
-ghost use Rattle.std.specs.Prelude.{◌≡◌, ◌<◌, ◌≤◌, ℕ, not, IfOk, IfSome, IsSome, OnOk, Some, length, slice_get, vec_len};
+ghost use Rattle.std.specs.Prelude.{◌≡◌, ◌<◌, ◌≤◌, ℕ, not, IfOk, IfSome, IsSome, OnErr, Some, length, slice_get, vec_len};
 ghost use Rattle.std.specs.Option.{option_and_then, option_map};
 ghost use Rattle.ja_graph.specs.Program.{node_at, nodes_of};
 ghost use Rattle.ja_graph.specs.WellFormed.{IsWellFormed};
@@ -64,9 +64,35 @@ pub struct ATable {
 }
 
 /// The time before any other, and that in which the solver begins.
-const NEVER: u64 = 0;
+pub(crate) const NEVER: u64 = 0;
 
-const START: u64 = 1;
+pub(crate) const START: u64 = 1;
+
+impl NodeTable {
+    /// A node with this state, if it has one, whose step was never taken.
+    pub fn new(state: Option<AState>) -> NodeTable
+        ensures { result ≡ record { state = state; changed = 0; stepped = 0 } }
+    {
+        NodeTable {
+            state,
+            changed: NEVER,
+            stepped: NEVER,
+        }
+    }
+}
+
+impl CallEdge {
+    /// An edge that was never filled and never given back.
+    pub fn new(edge: Edge) -> CallEdge
+        ensures { result ≡ record { edge = edge; filled = 0; given_back = 0 } }
+    {
+        CallEdge {
+            edge,
+            filled: NEVER,
+            given_back: NEVER,
+        }
+    }
+}
 
 /// The program's own context.
 pub fn own_context() -> Context
@@ -89,14 +115,14 @@ fn context_key(context: Context) -> (u32, u64)
 }
 
 // Whether a context comes before another.
-fn is_below(context: Context, other: Context) -> bool
+pub(crate) fn is_below(context: Context, other: Context) -> bool
     ensures { result ≡ below_context context other }
 {
     context_key(context) < context_key(other)
 }
 
 // Whether an edge comes before another.
-fn is_edge_below(edge: Edge, other: Edge) -> bool
+pub(crate) fn is_edge_below(edge: Edge, other: Edge) -> bool
     ensures { result ≡ below_edge edge other }
 {
     is_below(edge.caller, other.caller)
@@ -132,17 +158,36 @@ fn no_nodes(alloc: Global, count: usize) -> Result<Vec<NodeTable>, Memory>
 {
     let mut nodes = Vec::new(alloc);
     for _ in 0..count {
-        nodes.push(NodeTable {
-            state: None,
-            changed: NEVER,
-            stepped: NEVER,
-        })?;
+        nodes.push(NodeTable::new(None))?;
     }
     Ok(nodes)
 }
 
 impl ContextTable {
     ghost use Rattle.ja_rules.specs.Tables.{FitsContext};
+
+    /// A context with these states, one place for each node of its function, and these values at
+    /// its entry.
+    pub fn from_parts(
+        context: Context,
+        nodes: Vec<NodeTable>,
+        entries: DemandedEntries,
+    ) -> ContextTable
+        ensures context { result.context ≡ context }
+        ensures nodes { result.nodes.items ≡ nodes.items }
+        ensures entries { entries_of result.entries ≡ entries_of entries }
+    {
+        ContextTable {
+            context,
+            nodes,
+            entries,
+            changes: Changes {
+                valued: NEVER,
+                demanded: NEVER,
+                left: NEVER,
+            },
+        }
+    }
 
     /// A context without a state.
     fn new(alloc: Global, program: &Program, context: Context) -> Result<ContextTable, Memory>
@@ -154,16 +199,8 @@ impl ContextTable {
         ensures fits { IfOk result (FitsContext program.now) }
     {
         let nodes = no_nodes(alloc, node_count(program, context.function))?;
-        Ok(ContextTable {
-            context,
-            nodes,
-            entries: DemandedEntries::new(alloc),
-            changes: Changes {
-                valued: NEVER,
-                demanded: NEVER,
-                left: NEVER,
-            },
-        })
+        let entries = DemandedEntries::new(alloc);
+        Ok(ContextTable::from_parts(context, nodes, entries))
     }
 
     /// The state at a node, if there is one.
@@ -246,7 +283,8 @@ impl ATable {
         }
     }
 
-    /// Adds a context, if it isn't reached yet, and tells whether it wasn't.
+    /// Adds a context, if it isn't reached yet, and tells whether it wasn't. After `Memory` the
+    /// table is as it was.
     pub fn add_context(
         &mut self,
         alloc: Global,
@@ -259,7 +297,8 @@ impl ATable {
         ensures added { IfOk result (λ _. table_of self.new
             ≡ with_context (table_of self.old) context) }
         ensures told { IfOk result (λ t. t ≡ not ((table_of self.old).context context)) }
-        ensures fits { OnOk result (Fits program.now self.new) }
+        ensures kept { OnErr result (table_of self.new ≡ table_of self.old) }
+        ensures fits { Fits program.now self.new }
     {
         let place = self.contexts_below(context);
         if self.place_of(context).is_some() {
@@ -270,27 +309,22 @@ impl ATable {
         Ok(true)
     }
 
-    /// Adds an edge, if it isn't there yet, and tells whether it wasn't.
+    /// Adds an edge, if it isn't there yet, and tells whether it wasn't. After `Memory` the table is
+    /// as it was.
     pub fn add_edge(&mut self, program: &Program, edge: Edge) -> Result<bool, Memory>
         requires edge { FitsEdge program.now self.old edge }
         requires fits { Fits program.now self.old }
         ensures added { IfOk result (λ _. table_of self.new
             ≡ with_edge (table_of self.old) edge) }
         ensures told { IfOk result (λ t. t ≡ not ((table_of self.old).edge edge)) }
-        ensures fits { OnOk result (Fits program.now self.new) }
+        ensures kept { OnErr result (table_of self.new ≡ table_of self.old) }
+        ensures fits { Fits program.now self.new }
     {
         let place = self.edges_below(edge);
         if self.place_of_edge(edge).is_some() {
             return Ok(false);
         }
-        self.edges.insert(
-            place,
-            CallEdge {
-                edge,
-                filled: NEVER,
-                given_back: NEVER,
-            },
-        )?;
+        self.edges.insert(place, CallEdge::new(edge))?;
         Ok(true)
     }
 }

@@ -12,7 +12,7 @@ ghost use Rattle.ja_rules.specs.Tables.{kept_state, table_of, Fits, FitsContext}
 ghost use Rattle.ja_rules.specs.Visits.{IsVisited};
 ghost use Rattle.ja_rules.specs.code.Ends.{AreEndsOf};
 ghost use Rattle.ja_rules.specs.code.Exits.{given_at, has_left, is_left, AreAllGiven, IsGivenBack};
-ghost use Rattle.ja_rules.specs.code.Filling.{IsFilled};
+ghost use Rattle.ja_rules.specs.code.Filling.{IsFilled, IsOpened};
 ghost use Rattle.ja_rules.specs.code.Growing.{HasSameEdges, HasSameKeys};
 ghost use Rattle.ja_rules.specs.code.Stepping.{with_entered, AreEntered, FitsEntered, IsCallerOf, IsStep};
 
@@ -22,7 +22,9 @@ use crate::table::{ATable, ContextTable, node_info, own_context};
 use ja_aheap::DemandList;
 use ja_astate::AState;
 use ja_base::{Context, Memory, NodeId};
-use ja_flow::{Caller, Calling, Entered, Filled, calling_of, enter, fill, give_back, values_for};
+use ja_flow::{
+    Caller, Calling, Entered, EntryValue, Filled, calling_of, enter, fill, give_back, values_for,
+};
 use ja_graph::{NodeInfo, Program};
 use ja_keys::ProgramKeys;
 use ja_look::Reader;
@@ -33,6 +35,24 @@ use std::alloc::Global;
 
 // ---- Open
 
+// The values at entry of the program's own context that the opening heap changes.
+pub(crate) fn opened_by(
+    alloc: Global,
+    program: &Program,
+    table: &ATable,
+) -> Result<Vec<EntryValue>, Memory>
+    requires program { IsWellFormed program.now }
+    requires fits { Fits program.now table.now }
+    ensures { IfOk result (λ v. IsOpened program.now (table_of table.now) v.items) }
+{
+    let sites = program.sites.len() as u32;
+    let names = program.names.len() as u32;
+    let heap = OpeningHeap { alloc, program };
+    let own = &table.contexts[0];
+    let pairs = own.entries.pairs(alloc, sites, names)?;
+    values_for(alloc, &heap, &own.entries, &pairs)
+}
+
 // Joins the contents of the opening heap into the values at entry of the program's own context.
 fn visit_open(alloc: Global, program: &Program, table: &mut ATable) -> Result<bool, Memory>
     requires program { IsWellFormed program.now }
@@ -42,12 +62,7 @@ fn visit_open(alloc: Global, program: &Program, table: &mut ATable) -> Result<bo
     ensures kept { HasSameKeys table.old table.new }
     ensures fits { OnOk result (Fits program.now table.new) }
 {
-    let sites = program.sites.len() as u32;
-    let names = program.names.len() as u32;
-    let heap = OpeningHeap { alloc, program };
-    let own = &table.contexts[0];
-    let pairs = own.entries.pairs(alloc, sites, names)?;
-    let values = values_for(alloc, &heap, &own.entries, &pairs)?;
+    let values = opened_by(alloc, program, table)?;
     table.set_values(alloc, own_context(), values)
 }
 
@@ -55,9 +70,9 @@ fn visit_open(alloc: Global, program: &Program, table: &mut ATable) -> Result<bo
 
 // A function that is entered along an edge.
 #[derive(Drop)]
-struct Entry {
-    edge: Edge,
-    entered: Entered,
+pub(crate) struct Entry {
+    pub edge: Edge,
+    pub entered: Entered,
 }
 
 // The entries along the edges from a node.
@@ -84,13 +99,13 @@ fn entries_along(reader: &Reader<'_>, info: &NodeInfo, edges: &[Edge]) -> Result
 
 // What the step of a node gives, and the entries along its edges.
 #[derive(Drop)]
-struct Step {
-    outcome: Outcome,
-    entries: Vec<Entry>,
+pub(crate) struct Step {
+    pub outcome: Outcome,
+    pub entries: Vec<Entry>,
 }
 
 // The step of a node of a context, from its state.
-fn step_of(
+pub(crate) fn step_of(
     alloc: Global,
     program: &Program,
     keys: &ProgramKeys,
@@ -238,7 +253,7 @@ fn ends_of<'a>(
 // ---- Fill
 
 // The values of a callee's entry, by the state of its caller.
-fn filled_by<'a>(
+pub(crate) fn filled_by<'a>(
     alloc: Global,
     program: &'a Program,
     keys: &'a ProgramKeys,
@@ -287,9 +302,9 @@ fn visit_fill(
 
 // What the exits of a callee give back, and what that takes from the caller's entry.
 #[derive(Drop)]
-struct Given {
-    states: States,
-    demands: DemandList,
+pub(crate) struct Given {
+    pub states: States,
+    pub demands: DemandList,
 }
 
 // Whether a node is an exit at which a context has a state.
@@ -359,7 +374,7 @@ fn all_given(caller: &Caller<'_>, callee: &ContextTable) -> Result<Given, Memory
 }
 
 // What the exits of a callee give its caller, if there is one with a state.
-fn given_by<'a>(
+pub(crate) fn given_by<'a>(
     alloc: Global,
     program: &'a Program,
     keys: &'a ProgramKeys,
@@ -434,9 +449,8 @@ fn take(
     }
 }
 
-/// Joins in what an item of the table gives, and tells whether the table changed. After `Memory`
-/// some of it may have been joined in, and the table is of no use.
-pub fn visit(
+// Joins in what an item of the table gives, and tells whether the table changed.
+pub(crate) fn visit(
     alloc: Global,
     program: &Program,
     keys: &ProgramKeys,

@@ -5,7 +5,7 @@ use Rattle.ja_rows.specs.declared.table.Item.{Item}
 use Rattle.ja_rows.specs.declared.table.Warning.{Warning}
 use Rattle.ja_rows.specs.Table.{HasOpening, Table}
 use Rattle.ja_rules.specs.Tables.{table_of}
-use Rattle.ja_check.specs.Check.{IsFirstOpen}
+use Rattle.ja_check.specs.Check.{IsFirstUnsettled}
 use Rattle.ja_cert_read.specs.Certified.{IsNoCertificate}
 use Rattle.ja_cert_read.specs.declared.certificate.Certificate.{Certificate}
 use Rattle.ja_cert_read.specs.declared.certificate.CertFault.{CertFault}
@@ -65,7 +65,7 @@ module _ (c : Certificate) where
 
   -- .. and one that isn't closed
   pub unclosed : (a : Answer) (item : Item) → HasOpening c.program (table_of c.table)
-      → IsFirstOpen c.program (table_of c.table) item → IsOpenRefusal c.program item a
+      → IsFirstUnsettled c.program (table_of c.table) item → IsOpenRefusal c.program item a
       → IsJudgement c a
   unclosed a item has first h bytes is =
       subst (λ status. Checks bytes status a.text.items) (sym h.status_is)

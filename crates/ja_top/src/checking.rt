@@ -54,10 +54,10 @@ fn judge(alloc: Global, certificate: Certificate) -> Result<Answer, Memory>
 {
     let Certificate {
         program,
-        mut table,
+        table,
         visits,
     } = certificate;
-    match check_table(alloc, &program, &mut table) {
+    match check_table(alloc, &program, &table) {
         Ok(()) => accept(alloc, &program, &table, &visits),
         Err(CheckFault::NotOpen) => explain_opening(alloc),
         Err(CheckFault::NotClosed { item }) => explain_item(alloc, &program, item),

@@ -8,24 +8,25 @@ use Rattle.ja_rows.specs.declared.table.Edge.{Edge}
 use Rattle.ja_rows.specs.declared.table.Item.{Item}
 use Rattle.ja_rows.specs.declared.table.Item.TheVariants.{Step, Fill, Back}
 use Rattle.ja_rows.specs.Table.{Table, visited, IsItem, IsBuilt}
-use Rattle.ja_keys.specs.Keys.{IsKeysOf}
 use Rattle.ja_rules.specs.declared.solver.Along.{Along}
 use Rattle.ja_rules.specs.declared.solver.Along.TheVariants as along
 use Rattle.ja_rules.specs.declared.solver.Work.{Work}
 use Rattle.ja_rules.specs.Tables.{table_of, Fits}
 
+-- the program whose table is sought
+abbrev pub program_of : Work → Program
+program_of work = work.analysis.now.program.now
+
 -- the table fits the program, and the visits built it, not more of them than the budget allows
 pub record HasBuilt (work : Work) : Type 0 where
-  pub program : IsWellFormed work.program.now
-  pub keys : IsKeysOf work.program.now work.keys.now
-  pub fits : Fits work.program.now work.table
-  pub built : IsBuilt work.program.now work.visits.items (table_of work.table)
+  pub program : IsWellFormed (program_of work)
+  pub fits : Fits (program_of work) work.table
+  pub built : IsBuilt (program_of work) work.visits.items (table_of work.table)
   pub few : vec_len work.visits ≤ work.budget
 
 -- no visit is lost, and where none was added the table is as it was
 pub record GoesOn (before after : Work) : Type 0 where
-  pub program : after.program ≡ before.program
-  pub keys : after.keys ≡ before.keys
+  pub analysis : after.analysis ≡ before.analysis
   pub budget : after.budget ≡ before.budget
   pub more : vec_len before.visits ≤ vec_len after.visits
   pub same : vec_len after.visits ≡ vec_len before.visits

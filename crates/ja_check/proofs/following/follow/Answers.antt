@@ -14,10 +14,10 @@ loop-item-init c = record { built = refl; fits = c.requires.fits }
 
 pub loop-item-preserved : goal.loop-item-preserved
 loop-item-preserved c = record {
-  built = builds_next c.args.program.now (table_of c.args.table.now) (table_of c.loop-item.table)
-      c.args.visits.now c.loop-item.item-index Open c.loop-item-test.true
-      c.loop-item.invariant.built
-      (table_of c.visit.new.table) (c.if-not-is_item.ensures.0 refl)
+  built = builds_next c.args.analysis.now.program.now (table_of c.args.table.now)
+      (table_of c.loop-item.table) c.args.visits.now c.loop-item.item-index Open
+      c.loop-item-test.true c.loop-item.invariant.built (table_of c.visit.new.table)
+      (c.if-not-is_item.ensures.0 refl)
       c.in_ok-changed.ensures.visited.visited_is
       (c.in_ok-changed.ensures.visited.other c.if-not-changed.false);
   fits = c.in_ok-changed.ensures.fits;
@@ -25,23 +25,24 @@ loop-item-preserved c = record {
 
 pub returns-then-not-is_item-clause-other : goal.returns-then-not-is_item-clause-other
 returns-then-not-is_item-clause-other c = λ e t all.
-    false≢true (c.if-not-is_item.ensures.1 (next_is_item c.args.program.now
+    false≢true (c.if-not-is_item.ensures.1 (next_is_item c.args.analysis.now.program.now
     (table_of c.args.table.now) (table_of c.loop-item.table) c.args.visits.now
     c.loop-item.item-index Open c.loop-item-test.true c.loop-item.invariant.built t all))
 
 pub returns-then-not-changed-clause-other : goal.returns-then-not-changed-clause-other
 returns-then-not-changed-clause-other c = λ e t all.
-    next_changes c.args.program.now (table_of c.args.table.now) (table_of c.loop-item.table)
-    c.args.visits.now c.loop-item.item-index Open c.loop-item-test.true
-    c.loop-item.invariant.built t all
+    next_changes c.args.analysis.now.program.now (table_of c.args.table.now)
+    (table_of c.loop-item.table) c.args.visits.now c.loop-item.item-index Open
+    c.loop-item-test.true c.loop-item.invariant.built t all
     (c.in_ok-changed.ensures.visited.visited_is
     ∙ c.in_ok-changed.ensures.visited.same c.if-not-changed.true)
 
 pub returns-clause-built : goal.returns-clause-built
 returns-clause-built c = λ e.
-    subst (λ (xs : List Item). Builds c.args.program.now (table_of c.args.table.now) xs
-    (table_of c.loop-item.table)) (take_all c.loop-item.item-index c.args.visits.now
-    c.loop-item-test.false) c.loop-item.invariant.built
+    subst (λ (xs : List Item). Builds c.args.analysis.now.program.now
+    (table_of c.args.table.now) xs (table_of c.loop-item.table)) (take_all
+    c.loop-item.item-index c.args.visits.now c.loop-item-test.false)
+    c.loop-item.invariant.built
 
 pub returns-clause-fits : goal.returns-clause-fits
 returns-clause-fits c = c.loop-item.invariant.fits

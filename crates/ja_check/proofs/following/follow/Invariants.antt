@@ -6,6 +6,7 @@ use Rattle.ja_check.proofs.following.follow.Given as goal
 
 abbrev pub invariant-loop-item : goal.invariant-loop-item
 invariant-loop-item l = record {
-  built : Builds l.program (table_of l.fn.table) (take l.item-index l.visits) (table_of l.table);
-  fits : Fits l.program l.table;
+  built : Builds l.analysis.program.now (table_of l.fn.table) (take l.item-index l.visits)
+      (table_of l.table);
+  fits : Fits l.analysis.program.now l.table;
 }

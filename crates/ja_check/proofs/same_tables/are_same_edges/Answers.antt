@@ -5,7 +5,8 @@ use Rattle.ja_base.specs.declared.ids.Context.{Context}
 use Rattle.ja_rows.specs.declared.table.Edge.{Edge}
 use Rattle.ja_rules.specs.declared.table.CallEdge.{CallEdge}
 use Rattle.ja_rules.proofs.Rounds.{same_at}
-use Rattle.ja_check.proofs.Lists.{same_all, same_next, told_none, told_some}
+use Rattle.ja_rules.proofs.Told.{told_none, told_some}
+use Rattle.ja_check.proofs.Lists.{same_all, same_next}
 use Rattle.ja_check.proofs.same_tables.are_same_edges.Goals as goal
 
 abbrev edge_of : CallEdge → Edge

@@ -10,6 +10,7 @@ use Rattle.ja_abstract.specs.declared.abstraction.NumberPart.{NumberPart}
 use Rattle.ja_abstract.specs.declared.abstraction.TextPart.{TextPart}
 use Rattle.ja_abstract.specs.AbstractValue.{AbstractProperty, no_property}
 use Rattle.ja_abstract.specs.Contents.{opened}
+use Rattle.ja_value.specs.declared.property.AProp.{AProp}
 use Rattle.ja_value.specs.Value.{property_of}
 use Rattle.ja_rules.specs.code.Opened.{opened_property}
 use Rattle.ja_rules.proofs.Opened.{nothing_is, opened_some, opened_none}
@@ -42,4 +43,5 @@ returns-in-None c =
     let is : opened p c.args.label c.args.key ≡ no_property =
     ∥∥₁_elim c.requires.program (properties_set _ _) (λ good. opened_none p good c.args.label
     c.args.key c.if-label.false (sym c.in-None.ensures)) in
-    nothing_is _ c.empty.ensures c.unknown_attrs.ensures ∙ sym is
+    let none : AProp = record { value = c.empty.result; attrs = c.unknown_attrs.result } in
+    nothing_is none c.empty.ensures c.unknown_attrs.ensures ∙ sym is

@@ -1,41 +1,49 @@
 -- A round that added no visit leaves a closed table.
-use Rattle.std.proofs.Common.{◌≤◌, arith, length, subst, sym}
+use Rattle.std.proofs.Common.{◌≤◌, ◌∙◌, arith, length, subst, sym}
 use Rattle.ja_graph.specs.declared.program.Program.{Program}
+use Rattle.ja_graph.specs.WellFormed.{IsWellFormed}
 use Rattle.ja_rows.specs.Table.{IsBuilt, IsClosed}
 use Rattle.ja_rules.specs.Tables.{table_of, Fits}
-use Rattle.ja_rules.proofs.Rounds.{closed, now_is}
+use Rattle.ja_rules.specs.code.Rounds.{program_of}
+use Rattle.ja_rules.proofs.Rounds.{closed, program_now}
 use Rattle.ja_rules.proofs.solver.solve.Goals as goal
 
 pub rounds-requires : goal.rounds-requires
-rounds-requires c = record {
-  built = record {
-    program = c.requires.program;
-    keys = c.in_ok-keys.ensures;
-    fits = c.in_ok-opening.ensures.fits;
-    built = subst (λ xs. IsBuilt c.args.program.now xs (table_of c.in_ok-opening.field-0))
-        (sym c.new-2.ensures.items) (sym c.in_ok-opening.ensures.table);
-    few = omega (arith, c.new-2.ensures.len);
-  };
-}
+rounds-requires c =
+    let back = sym c.in_ok-analysis.ensures in
+    record {
+      built = record {
+        program = subst IsWellFormed back c.requires.program;
+        fits = subst (λ (q : Program). Fits q c.in_ok-opening.field-0) back
+            c.in_ok-opening.ensures.fits;
+        built = subst (λ (q : Program). IsBuilt q c.new-2.result.items
+            (table_of c.in_ok-opening.field-0)) back
+            (subst (λ xs. IsBuilt c.args.program.now xs (table_of c.in_ok-opening.field-0))
+            (sym c.new-2.ensures.items) (sym c.in_ok-opening.ensures.table));
+        few = omega (arith, c.new-2.ensures.len);
+      };
+    }
 
 pub returns-clause-fits : goal.returns-clause-fits
 returns-clause-fits c =
     subst (λ (q : Program). Fits q c.rounds.new.self.table)
-    (now_is c.in_ok-rounds.ensures.goes_on.program) c.in_ok-rounds.ensures.built.fits
+    (program_now c.in_ok-rounds.ensures.goes_on.analysis ∙ c.in_ok-analysis.ensures)
+    c.in_ok-rounds.ensures.built.fits
 
 pub returns-clause-built : goal.returns-clause-built
 returns-clause-built c =
     subst (λ xs. IsBuilt c.args.program.now xs (table_of c.rounds.new.self.table))
     (sym c.from_vec.ensures)
     (subst (λ (q : Program). IsBuilt q c.rounds.new.self.visits.items
-    (table_of c.rounds.new.self.table)) (now_is c.in_ok-rounds.ensures.goes_on.program)
+    (table_of c.rounds.new.self.table))
+    (program_now c.in_ok-rounds.ensures.goes_on.analysis ∙ c.in_ok-analysis.ensures)
     c.in_ok-rounds.ensures.built.built)
 
 pub returns-clause-closed : goal.returns-clause-closed
 returns-clause-closed c =
     subst (λ (q : Program). IsClosed q (table_of c.rounds.new.self.table))
-    (now_is c.in_ok-rounds.ensures.goes_on.program)
-    (closed c.rounds.new.self.program.now c.rounds.new.self.visits.items
+    (program_now c.in_ok-rounds.ensures.goes_on.analysis ∙ c.in_ok-analysis.ensures)
+    (closed (program_of c.rounds.new.self) c.rounds.new.self.visits.items
     (table_of c.rounds.new.self.table) c.in_ok-rounds.ensures.built.built
     c.in_ok-rounds.ensures.settled)
 
@@ -52,9 +60,8 @@ returns-clause-few c =
 pub returns-clause-covers : goal.returns-clause-covers
 returns-clause-covers c =
     c.closed_covers.ensures c.args.program.now (table_of c.rounds.new.self.table)
-    c.requires.program
-    (subst (λ (q : Program). IsClosed q (table_of c.rounds.new.self.table))
-    (now_is c.in_ok-rounds.ensures.goes_on.program)
-    (closed c.rounds.new.self.program.now c.rounds.new.self.visits.items
+    c.requires.program (subst (λ (q : Program). IsClosed q (table_of c.rounds.new.self.table))
+    (program_now c.in_ok-rounds.ensures.goes_on.analysis ∙ c.in_ok-analysis.ensures)
+    (closed (program_of c.rounds.new.self) c.rounds.new.self.visits.items
     (table_of c.rounds.new.self.table) c.in_ok-rounds.ensures.built.built
     c.in_ok-rounds.ensures.settled))

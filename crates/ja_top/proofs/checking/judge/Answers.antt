@@ -1,4 +1,4 @@
-use Rattle.std.proofs.Common.{subst}
+use Rattle.std.proofs.Common.{refl, subst}
 use Rattle.ja_rules.specs.Tables.{table_of}
 use Rattle.ja_check.specs.Check.{Explains}
 use Rattle.ja_top.proofs.Judging.{all_accepted, all_ok, unclosed, unopened}
@@ -6,8 +6,8 @@ use Rattle.ja_top.proofs.checking.judge.Goals as goal
 
 pub returns-in-Ok : goal.returns-in-Ok
 returns-in-Ok c =
-    all_accepted c.args.certificate (table_of c.check.new.table) c.deref.result.now c.accept.result
-    c.in-Ok.ensures.same c.deref.ensures.value c.accept.ensures
+    all_accepted c.args.certificate (table_of c.args.certificate.table) c.deref.result.now
+    c.accept.result refl c.deref.ensures.value c.accept.ensures
 
 pub returns-in-Err-NotOpen : goal.returns-in-Err-NotOpen
 returns-in-Err-NotOpen c =

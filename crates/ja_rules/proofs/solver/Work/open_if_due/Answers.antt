@@ -5,7 +5,7 @@ use Rattle.ja_rows.proofs.Rising.{item_kept}
 use Rattle.ja_rules.specs.declared.solver.Work.{Work}
 use Rattle.ja_rules.specs.Tables.{table_of}
 use Rattle.ja_rules.specs.code.Growing.{HasSameKeys}
-use Rattle.ja_rules.specs.code.Rounds.{GoesOn, HasBuilt}
+use Rattle.ja_rules.specs.code.Rounds.{program_of, GoesOn, HasBuilt}
 use Rattle.ja_rules.proofs.Rounds.{goes_same}
 use Rattle.ja_rules.proofs.SameMeaning.{keys_same}
 use Rattle.ja_rules.proofs.solver.Work.open_if_due.Goals.{then-is_open_due+in_ok-take_turn, else-is_open_due}
@@ -43,10 +43,10 @@ pub returns-clause-items : goal.returns-clause-items
 returns-clause-items c = λ item there.
     elim c.if-is_open_due.branch [
       | then-is_open_due+in_ok-take_turn w ↦
-          subst (λ (s : Work). IsItem c.args.self.now.program.now (table_of s.table) item)
-          (sym w.self-is) (item_kept c.args.self.now.program.now (table_of c.args.self.now.table)
+          subst (λ (s : Work). IsItem (program_of c.args.self.now) (table_of s.table) item)
+          (sym w.self-is) (item_kept (program_of c.args.self.now) (table_of c.args.self.now.table)
           (table_of w.take_turn.new.self.table) Open item w.in_ok-take_turn.ensures.visited there)
       | else-is_open_due w ↦
-          subst (λ (s : Work). IsItem c.args.self.now.program.now (table_of s.table) item)
+          subst (λ (s : Work). IsItem (program_of c.args.self.now) (table_of s.table) item)
           (sym w.self-is) there
     ]

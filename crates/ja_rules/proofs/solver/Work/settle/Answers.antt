@@ -5,7 +5,7 @@ use Rattle.ja_graph.specs.declared.program.Program.{Program}
 use Rattle.ja_rows.specs.Table.{IsItem}
 use Rattle.ja_rows.proofs.Rising.{item_kept}
 use Rattle.ja_rules.specs.Tables.{table_of}
-use Rattle.ja_rules.specs.code.Rounds.{IsSettled}
+use Rattle.ja_rules.specs.code.Rounds.{program_of, IsSettled}
 use Rattle.ja_rules.proofs.Rounds.{edges_both, edges_same, explains_from, goes_both, goes_same, keys_edges, program_is, settled_since}
 use Rattle.ja_rules.proofs.solver.Work.settle.Goals.{then-each, else-each}
 use Rattle.ja_rules.proofs.solver.Work.settle.Goals as goal
@@ -36,7 +36,7 @@ pub returns-then-not-changed-clause-settled : goal.returns-then-not-changed-clau
 returns-then-not-changed-clause-settled c = λ each same.
     subst (λ (q : Program). IsSettled q (table_of c.take_turn.new.self.table) c.args.item)
     (sym (program_is c.turns.self c.take_turn.new.self c.in_ok-changed.ensures.goes_on))
-    (settled_since c.turns.self.program.now (table_of c.turns.self.table)
+    (settled_since (program_of c.turns.self) (table_of c.turns.self.table)
     (table_of c.take_turn.new.self.table) c.args.item c.in_ok-changed.ensures.visited
     (c.in_ok-changed.ensures.goes_on.same
     (c.in_ok-changed.ensures.same c.if-not-changed.true)))
@@ -82,7 +82,7 @@ turns-preserved c =
           (c.in_ok-open_if_due.ensures.items item
           (subst (λ (q : Program). IsItem q (table_of next.table) item)
           (sym (program_is was next c.in_ok-changed.ensures.goes_on))
-          (item_kept was.program.now (table_of was.table) (table_of next.table) item item
+          (item_kept (program_of was) (table_of was.table) (table_of next.table) item item
           c.in_ok-changed.ensures.visited c.turns.invariant.item)));
       edges =
           edges_both item c.args.self.now.table was.table last.table c.turns.invariant.edges

@@ -6,7 +6,7 @@ use Rattle.ja_rows.specs.Table.{IsItem, Table}
 use Rattle.ja_rules.specs.declared.table.CallEdge.{CallEdge}
 use Rattle.ja_rules.specs.Tables.{table_of}
 use Rattle.ja_rules.specs.code.Growing.{HasSameEdges}
-use Rattle.ja_rules.specs.code.Rounds.{item_along, IsSettled}
+use Rattle.ja_rules.specs.code.Rounds.{item_along, program_of, IsSettled}
 use Rattle.ja_rules.proofs.Rounds.{all_edges, along_keys, along_there, both_unchanged, carried, explains_from, goes_both, goes_same, more_edges, same_at, same_count, slice_at, AreSettledEdges}
 use Rattle.ja_rules.proofs.SameMeaning.{keys_both, keys_same}
 use Rattle.ja_rules.proofs.solver.Work.settle_along.Goals as goal
@@ -28,7 +28,7 @@ index-requires c =
 
 pub settle-requires-clause-item : goal.settle-requires-clause-item
 settle-requires-clause-item c =
-    let p = c.loop-place.self.program.now in
+    let p = (program_of c.loop-place.self) in
     let t = c.loop-place.self.table in
     subst (IsItem p (table_of t)) (sym c.item.ensures)
     (along_there p t c.args.along c.loop-place.place c.index.result.now
@@ -71,22 +71,22 @@ loop-place-preserved c =
       settled =
           λ each same. let u = both_unchanged first was now c.loop-place.invariant.goes_on
           c.in_ok-settle.ensures.goes_on same in
-          more_edges now.program.now (table_of now.table) c.args.along first.table.edges.items
+          more_edges (program_of now) (table_of now.table) c.args.along first.table.edges.items
           c.loop-place.place
           (carried (λ (p : Program) (t : Table). AreSettledEdges p t c.args.along
           first.table.edges.items c.loop-place.place) was now c.in_ok-settle.ensures.goes_on
           u.second (c.loop-place.invariant.settled each u.first))
-          (λ d is. subst (λ (e : Edge). IsSettled now.program.now (table_of now.table)
+          (λ d is. subst (λ (e : Edge). IsSettled (program_of now) (table_of now.table)
           (item_along c.args.along e))
           (same_at (λ (f : CallEdge). f.edge) was.table.edges.items first.table.edges.items
           c.loop-place.place c.index.result.now d c.loop-place.invariant.keys.edges at is)
-          (subst (IsSettled now.program.now (table_of now.table)) c.item.ensures
+          (subst (IsSettled (program_of now) (table_of now.table)) c.item.ensures
           (c.in_ok-settle.ensures.settled each u.second)));
     }
 
 pub returns-clause-settled : goal.returns-clause-settled
 returns-clause-settled c = λ each same.
-    all_edges c.loop-place.self.program.now c.args.self.now.table
+    all_edges (program_of c.loop-place.self) c.args.self.now.table
     (table_of c.loop-place.self.table) c.args.along c.loop-place.place
     (omega (arith, c.loop-place-test.false, c.len-place-end.ensures))
     (c.loop-place.invariant.goes_on.same same) (c.loop-place.invariant.settled each same)

@@ -2,7 +2,7 @@
 use Rattle.std.proofs.Common.{◌≡◌, true}
 use Rattle.ja_rules.specs.Tables.{table_of}
 use Rattle.ja_rules.specs.code.Growing.{HasSameKeys}
-use Rattle.ja_rules.specs.code.Rounds.{GoesOn, HasBuilt, IsUnchanged}
+use Rattle.ja_rules.specs.code.Rounds.{program_of, GoesOn, HasBuilt, IsUnchanged}
 use Rattle.ja_rules.proofs.Rounds.{AreSettledEdges}
 use Rattle.ja_rules.proofs.solver.Work.settle_along.Given as goal
 
@@ -12,6 +12,6 @@ invariant-loop-place l = record {
   goes_on : GoesOn l.fn.self l.self;
   keys : HasSameKeys l.fn.self.table l.self.table;
   settled : l.each ≡ true → IsUnchanged l.fn.self l.self
-      → AreSettledEdges l.self.program.now (table_of l.self.table) l.along
+      → AreSettledEdges (program_of l.self) (table_of l.self.table) l.along
       l.fn.self.table.edges.items l.place;
 }

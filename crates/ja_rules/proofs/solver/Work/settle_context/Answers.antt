@@ -1,11 +1,11 @@
-use Rattle.std.proofs.Common.{arith, rules, subst, sym}
+use Rattle.std.proofs.Common.{arith, rules}
 use Rattle.ja_base.proofs.Lists.{within_from_some}
 use Rattle.ja_graph.specs.declared.program.Program.{Program}
 use Rattle.ja_graph.specs.Program.{nodes_of}
 use Rattle.ja_rows.specs.declared.table.Item.TheVariants.{Step}
 use Rattle.ja_rows.specs.Table.{IsItem, Table}
 use Rattle.ja_rules.specs.Tables.{table_of}
-use Rattle.ja_rules.specs.code.Rounds.{GoesOn, HasBuilt}
+use Rattle.ja_rules.specs.code.Rounds.{program_of}
 use Rattle.ja_rules.proofs.Found.{at_none, at_some}
 use Rattle.ja_rules.proofs.Lent.{count_nodes, no_context}
 use Rattle.ja_rules.proofs.NodeFacts.{few_nodes}
@@ -21,24 +21,24 @@ loop-node-init c =
       | in-Some w ↦
           let own_is = at_some s.table c.args.context c.at.result c.at.ensures ordered
           w.in-Some.own w.in-Some.is in
-          let count = count_nodes s.program.now s.table c.args.context w.in-Some.own.now own_is
+          let count = count_nodes (program_of s) s.table c.args.context w.in-Some.own.now own_is
           c.requires.built.fits in
           record {
-            built = subst HasBuilt (sym w.self-is) c.requires.built;
-            goes_on = subst (GoesOn s) (sym w.self-is) (goes_same s);
+            built = c.requires.built;
+            goes_on = goes_same s;
             few = omega (
               arith,
               w.nodes-is,
               w.len-nodes.ensures,
               count,
-              few_nodes s.program.now c.requires.built.program c.args.context.function,
+              few_nodes (program_of s) c.requires.built.program c.args.context.function,
             );
             all = λ n i. omega (
               arith,
               w.nodes-is,
               w.len-nodes.ensures,
               count,
-              within_from_some (nodes_of s.program.now c.args.context.function) n.0 i.0,
+              within_from_some (nodes_of (program_of s) c.args.context.function) n.0 i.0,
             );
             settled = λ each same k less. absurd (omega (arith, less));
           }
@@ -46,10 +46,10 @@ loop-node-init c =
           let none = at_none s.table c.args.context c.at.result c.at.ensures ordered
           w.in-None.is in
           record {
-            built = subst HasBuilt (sym w.self-is) c.requires.built;
-            goes_on = subst (GoesOn s) (sym w.self-is) (goes_same s);
+            built = c.requires.built;
+            goes_on = goes_same s;
             few = omega (arith, w.nodes-is);
-            all = λ n i. absurd (no_context s.program.now s.table c.args.context none n i);
+            all = λ n i. absurd (no_context (program_of s) s.table c.args.context none n i);
             settled = λ each same k less. absurd (omega (arith, less));
           }
     ]
@@ -76,7 +76,7 @@ loop-node-preserved c =
       settled =
           λ each same. let u = both_unchanged c.args.self.now was now
           c.loop-node.invariant.goes_on c.in_ok-settle_step.ensures.goes_on same in
-          more_stepped now.program.now (table_of now.table) x c.loop-node.node
+          more_stepped (program_of now) (table_of now.table) x c.loop-node.node
           (carried (λ (p : Program) (t : Table). AreSteppedBelow p t x c.loop-node.node) was now
           c.in_ok-settle_step.ensures.goes_on u.second
           (c.loop-node.invariant.settled each u.first))

@@ -4,7 +4,7 @@ use Rattle.ja_base.specs.declared.ids.NodeId.{NodeId}
 use Rattle.ja_rows.specs.declared.table.Item.TheVariants.{Step}
 use Rattle.ja_rows.specs.Table.{IsItem}
 use Rattle.ja_rules.specs.Tables.{table_of}
-use Rattle.ja_rules.specs.code.Rounds.{GoesOn, HasBuilt, IsUnchanged}
+use Rattle.ja_rules.specs.code.Rounds.{program_of, GoesOn, HasBuilt, IsUnchanged}
 use Rattle.ja_rules.proofs.Rounds.{AreSteppedBelow}
 use Rattle.ja_rules.proofs.solver.Work.settle_context.Given as goal
 
@@ -14,8 +14,8 @@ invariant-loop-node l = record {
   goes_on : GoesOn l.fn.self l.self;
   few : l.nodes < 4294967296;
   all : (n : NodeId)
-      → IsItem l.fn.self.program.now (table_of l.fn.self.table) (Step l.context n)
+      → IsItem (program_of l.fn.self) (table_of l.fn.self.table) (Step l.context n)
       → n.0 < l.nodes;
   settled : l.each ≡ true → IsUnchanged l.fn.self l.self
-      → AreSteppedBelow l.self.program.now (table_of l.self.table) l.context l.node;
+      → AreSteppedBelow (program_of l.self) (table_of l.self.table) l.context l.node;
 }

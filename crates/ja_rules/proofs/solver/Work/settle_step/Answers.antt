@@ -1,12 +1,10 @@
-use Rattle.std.proofs.Common.{◌≡◌, ◌∙◌, ap, is_some, rules, subst, sym}
-use Rattle.std.specs.Prelude.{IfErr}
+use Rattle.std.proofs.Common.{◌∙◌, ap, is_some, subst, sym}
 use Rattle.std.proofs.lemmas.Bool.{false≢true}
 use Rattle.ja_rows.specs.declared.table.Item.TheVariants.{Step}
 use Rattle.ja_rows.specs.Table.{IsItem}
 use Rattle.ja_rules.specs.declared.solver.Work.{Work}
-use Rattle.ja_rules.specs.Solving.{Explains}
 use Rattle.ja_rules.specs.Tables.{table_of}
-use Rattle.ja_rules.specs.code.Rounds.{GoesOn, HasBuilt, IsSettled, IsUnchanged}
+use Rattle.ja_rules.specs.code.Rounds.{program_of, GoesOn, HasBuilt, IsSettled, IsUnchanged}
 use Rattle.ja_rules.proofs.Found.{at_none, at_some, missing_state}
 use Rattle.ja_rules.proofs.Lent.{item_there, no_item}
 use Rattle.ja_rules.proofs.Rounds.{goes_same}
@@ -22,14 +20,6 @@ returns-in_default-clause-settled c = λ each same item.
     c.args.node.0 (at_none c.args.self.now.table c.args.context c.at.result c.at.ensures
     c.requires.built.fits.ordered c.in_default.is))) ∙ item.1))
 
-pub settle-requires-clause-built : goal.settle-requires-clause-built
-settle-requires-clause-built c =
-    elim c.if-is_item.branch [
-      | then-is_item+then-each w ↦ subst HasBuilt (sym w.self-is) c.requires.built
-      | then-is_item+else-each w ↦ subst HasBuilt (sym w.self-is) c.requires.built
-      | else-is_item w ↦ subst HasBuilt (sym w.self-is) c.requires.built
-    ]
-
 pub settle-requires-clause-item : goal.settle-requires-clause-item
 settle-requires-clause-item c =
     let s = c.args.self.now in
@@ -37,58 +27,31 @@ settle-requires-clause-item c =
     c.requires.built.fits.ordered c.in-Some.own c.in-Some.is in
     elim c.if-is_item.branch [
       | then-is_item+then-each w ↦
-          subst (λ (z : Work). IsItem z.program.now (table_of z.table)
-          (Step c.args.context c.args.node)) (sym w.self-is)
-          (item_there s.program.now s.table c.args.context c.in-Some.own.now own_is
+          item_there (program_of s) s.table c.args.context c.in-Some.own.now own_is
           c.requires.built.fits c.args.node c.state.result c.state.ensures
-          (sym c.is_some-is_item.ensures ∙ w.if-is_item.true))
+          (sym c.is_some-is_item.ensures ∙ w.if-is_item.true)
       | then-is_item+else-each w ↦
-          subst (λ (z : Work). IsItem z.program.now (table_of z.table)
-          (Step c.args.context c.args.node)) (sym w.self-is)
-          (item_there s.program.now s.table c.args.context c.in-Some.own.now own_is
+          item_there (program_of s) s.table c.args.context c.in-Some.own.now own_is
           c.requires.built.fits c.args.node c.state.result c.state.ensures
-          (sym c.is_some-is_item.ensures ∙ w.if-is_item.true))
+          (sym c.is_some-is_item.ensures ∙ w.if-is_item.true)
       | else-is_item w ↦ absurd (cc (w.is_next-is, w.if-is_item.false, c.if-is_next.true))
     ]
 
-pub returns-in_err-settle-clause-fault : goal.returns-in_err-settle-clause-fault
-returns-in_err-settle-clause-fault c =
-    let is : c.if-is_item.self ≡ c.args.self.now = elim c.if-is_item.branch [
-      | then-is_item+then-each w ↦ w.self-is
-      | then-is_item+else-each w ↦ w.self-is
-      | else-is_item w ↦ w.self-is
-    ] in
-    subst (λ (z : Work). IfErr c.from_residual.result (Explains z.program.now z.budget)) is
-    (search rules)
-
 pub returns-clause-built : goal.returns-clause-built
 returns-clause-built c =
-    let is : c.if-is_item.self ≡ c.args.self.now = elim c.if-is_item.branch [
-      | then-is_item+then-each w ↦ w.self-is
-      | then-is_item+else-each w ↦ w.self-is
-      | else-is_item w ↦ w.self-is
-    ] in
     elim c.if-is_next.branch [
       | then-is_next+in_ok-settle w ↦
           subst HasBuilt (sym w.self-is) w.in_ok-settle.ensures.built
-      | else-is_next w ↦
-          subst HasBuilt (sym w.self-is) (subst HasBuilt (sym is) c.requires.built)
+      | else-is_next w ↦ subst HasBuilt (sym w.self-is) c.requires.built
     ]
 
 pub returns-clause-goes_on : goal.returns-clause-goes_on
 returns-clause-goes_on c =
-    let is : c.if-is_item.self ≡ c.args.self.now = elim c.if-is_item.branch [
-      | then-is_item+then-each w ↦ w.self-is
-      | then-is_item+else-each w ↦ w.self-is
-      | else-is_item w ↦ w.self-is
-    ] in
     elim c.if-is_next.branch [
       | then-is_next+in_ok-settle w ↦
-          subst (GoesOn c.args.self.now) (sym w.self-is)
-          (subst (λ (z : Work). GoesOn z w.settle.new.self) is w.in_ok-settle.ensures.goes_on)
+          subst (GoesOn c.args.self.now) (sym w.self-is) w.in_ok-settle.ensures.goes_on
       | else-is_next w ↦
-          subst (GoesOn c.args.self.now) (sym w.self-is)
-          (subst (GoesOn c.args.self.now) (sym is) (goes_same c.args.self.now))
+          subst (GoesOn c.args.self.now) (sym w.self-is) (goes_same c.args.self.now)
     ]
 
 pub returns-clause-settled : goal.returns-clause-settled
@@ -97,20 +60,13 @@ returns-clause-settled c = λ each same item.
     let step = Step c.args.context c.args.node in
     let own_is = at_some s.table c.args.context c.at.result c.at.ensures
     c.requires.built.fits.ordered c.in-Some.own c.in-Some.is in
-    let is : c.if-is_item.self ≡ s = elim c.if-is_item.branch [
-      | then-is_item+then-each w ↦ w.self-is
-      | then-is_item+else-each w ↦ w.self-is
-      | else-is_item w ↦ w.self-is
-    ] in
     elim c.if-is_next.branch [
       | then-is_next+in_ok-settle w ↦
-          subst (λ (z : Work). IsSettled z.program.now (table_of z.table) step) (sym w.self-is)
-          (w.in_ok-settle.ensures.settled each
-          (subst (λ (z : Work). IsUnchanged z w.settle.new.self) (sym is)
-          (subst (IsUnchanged s) w.self-is same)))
+          subst (λ (z : Work). IsSettled (program_of z) (table_of z.table) step) (sym w.self-is)
+          (w.in_ok-settle.ensures.settled each (subst (IsUnchanged s) w.self-is same))
       | else-is_next w ↦
-          let there = subst (λ (z : Work). IsItem z.program.now (table_of z.table) step)
-          (w.self-is ∙ is) item in
+          let there = subst (λ (z : Work). IsItem (program_of z) (table_of z.table) step)
+          w.self-is item in
           elim c.if-is_item.branch [
             | then-is_item+then-each v ↦ absurd (cc (
               v.is_next-is,
@@ -119,7 +75,7 @@ returns-clause-settled c = λ each same item.
             ))
             | then-is_item+else-each v ↦ absurd (false≢true (sym v.if-each.false ∙ each))
             | else-is_item v ↦
-                absurd (no_item s.program.now s.table c.args.context c.in-Some.own.now own_is
+                absurd (no_item (program_of s) s.table c.args.context c.in-Some.own.now own_is
                 c.args.node c.state.result c.state.ensures
                 (sym c.is_some-is_item.ensures ∙ v.if-is_item.false) there)
           ]

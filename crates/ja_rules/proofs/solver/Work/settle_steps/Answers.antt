@@ -1,6 +1,7 @@
 use Rattle.std.proofs.Common.{arith, rules, subst, sym}
 use Rattle.ja_graph.specs.declared.program.Program.{Program}
 use Rattle.ja_rules.specs.Tables.{IsContext}
+use Rattle.ja_rules.specs.code.Rounds.{program_of}
 use Rattle.ja_rules.proofs.Rounds.{all_stepped, both_unchanged, context_in, explains_from, goes_both, goes_same, left_falls, more_before, none_before, program_is, slice_at, AreSteppedBefore}
 use Rattle.ja_rules.proofs.solver.Work.settle_steps.Goals as goal
 
@@ -8,7 +9,7 @@ pub contexts-init : goal.contexts-init
 contexts-init c = record {
   built = c.requires.built;
   goes_on = goes_same c.args.self.now;
-  settled = λ each same. none_before c.args.self.now.program.now c.args.self.now.table
+  settled = λ each same. none_before (program_of c.args.self.now) c.args.self.now.table
       c.requires.built.fits;
 }
 
@@ -23,7 +24,7 @@ pub contexts-smaller : goal.contexts-smaller
 contexts-smaller c =
     let was = c.contexts.self in
     let now = c.settle_context.new.self in
-    let p = c.args.self.now.program.now in
+    let p = (program_of c.args.self.now) in
     let cs = was.table.contexts.items in
     let at = slice_at cs c.contexts.place c.index.result.now
     (omega (arith, c.contexts-test.true, c.len.ensures, was.table.contexts.ok.0))
@@ -32,7 +33,7 @@ contexts-smaller c =
     c.index.result.now at
     (subst (λ (q : Program). IsContext q c.index.result.now.context)
     (program_is c.args.self.now was c.contexts.invariant.goes_on)
-    (context_in was.program.now was.table c.contexts.place c.index.result.now
+    (context_in (program_of was) was.table c.contexts.place c.index.result.now
     c.contexts.invariant.built.fits at))
     (c.contexts_up_to-place.ensures c.in_ok-settle_context.ensures.built.fits.ordered)
 
@@ -52,7 +53,7 @@ contexts-preserved c =
       settled =
           λ each same. let u = both_unchanged c.args.self.now was now
           c.contexts.invariant.goes_on c.in_ok-settle_context.ensures.goes_on same in
-          more_before now.program.now was.table now.table c.contexts.place
+          more_before (program_of now) was.table now.table c.contexts.place
           c.contexts_up_to-place.result c.index.result.now
           c.in_ok-settle_context.ensures.built.fits
           (c.in_ok-settle_context.ensures.goes_on.same u.second) at
@@ -65,7 +66,7 @@ contexts-preserved c =
 
 pub returns-clause-settled : goal.returns-clause-settled
 returns-clause-settled c = λ each same.
-    all_stepped c.contexts.self.program.now c.contexts.self.table c.contexts.place
+    all_stepped (program_of c.contexts.self) c.contexts.self.table c.contexts.place
     (omega (
       arith,
       c.contexts-test.false,

@@ -1,6 +1,6 @@
 -- Where no visit was added, the contexts before this one are settled.
 use Rattle.std.proofs.Common.{◌≡◌, true}
-use Rattle.ja_rules.specs.code.Rounds.{GoesOn, HasBuilt, IsUnchanged}
+use Rattle.ja_rules.specs.code.Rounds.{program_of, GoesOn, HasBuilt, IsUnchanged}
 use Rattle.ja_rules.proofs.Rounds.{left_from, AreSteppedBefore}
 use Rattle.ja_rules.proofs.solver.Work.settle_steps.Given as goal
 
@@ -9,9 +9,9 @@ invariant-contexts l = record {
   built : HasBuilt l.self;
   goes_on : GoesOn l.fn.self l.self;
   settled : l.each ≡ true → IsUnchanged l.fn.self l.self
-      → AreSteppedBefore l.self.program.now l.self.table l.place;
+      → AreSteppedBefore (program_of l.self) l.self.table l.place;
 }
 
 abbrev pub decreases-contexts : goal.decreases-contexts
 decreases-contexts l =
-    left_from l.fn.self.program.now l.self.table.contexts.items l.place
+    left_from (program_of l.fn.self) l.self.table.contexts.items l.place

@@ -6,6 +6,8 @@ use Rattle.ja_rules.specs.Tables.{states_in, table_of}
 use Rattle.ja_rules.specs.code.Growing.{with_context}
 use Rattle.ja_rules.specs.code.Places.{IsPlaceOf}
 use Rattle.ja_rules.proofs.TableLemmas.{context_told, context_there, context_more, context_added, no_states, table_in}
+use Rattle.ja_rules.proofs.TableUpdates.{fits_by_items}
+use Rattle.ja_rules.proofs.Told.{on_fault}
 use Rattle.ja_rules.proofs.table.ATable.add_context.Goals as goal
 
 pub returns-then-is_some-clause-added : goal.returns-then-is_some-clause-added
@@ -59,3 +61,12 @@ returns-clause-fits c =
     (subst (λ (x : Context). (table_of t).context x ≡ false) (sym is)
     (context_told p t c.args.context c.place_of.result c.requires.fits o.found o.within
     ∙ sym c.is_some.ensures ∙ c.if-is_some.false))
+
+pub returns-in_err-insert-clause-kept : goal.returns-in_err-insert-clause-kept
+returns-in_err-insert-clause-kept c =
+    on_fault _ (ap (λ cs. table_in cs c.args.self.now.edges.items) c.in_err-insert.ensures.items)
+
+pub returns-in_err-insert-clause-fits : goal.returns-in_err-insert-clause-fits
+returns-in_err-insert-clause-fits c =
+    fits_by_items c.args.program.now c.args.self.now _ c.in_err-insert.ensures.items refl
+    c.requires.fits

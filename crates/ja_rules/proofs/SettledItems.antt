@@ -1,0 +1,101 @@
+-- Steps, fills and backs that are settled, from what is told of each part.
+use Rattle.std.specs.Prelude.{◌≡◌, ◌&&◌, ◌↔◌, not, Bool, IsTrue, [], Some, fold, map}
+use Rattle.std.proofs.Common.{refl, sym, subst, ap}
+use Rattle.ja_base.specs.declared.ids.Context.{Context}
+use Rattle.ja_base.specs.declared.ids.NodeId.{NodeId}
+use Rattle.ja_graph.specs.declared.program.Program.{Program}
+use Rattle.ja_graph.specs.WellFormed.{IsWellFormed}
+use Rattle.ja_rows.specs.declared.table.Edge.{Edge}
+use Rattle.ja_rows.specs.declared.table.Item.TheVariants.{Back, Fill}
+use Rattle.ja_rows.specs.declared.table.Item.TheVariants as items
+use Rattle.ja_rows.specs.Calls.{filled_with}
+use Rattle.ja_rows.specs.Table.{view_at, visited, Table}
+use Rattle.ja_aheap.specs.Entries.{entries_of}
+use Rattle.ja_aheap.specs.Objects.{demands_in}
+use Rattle.ja_astate.specs.declared.state.AState.{AState}
+use Rattle.ja_astate.specs.State.{state_of}
+use Rattle.ja_transfer.specs.Outcomes.{given_by}
+use Rattle.ja_flow.specs.code.Pairs.{with_set}
+use Rattle.ja_flow.specs.declared.filling.Filled.{Filled}
+use Rattle.ja_rules.specs.declared.table.ContextTable.{ContextTable}
+use Rattle.ja_rules.specs.declared.visits.Given.{Given}
+use Rattle.ja_rules.specs.declared.visits.Step.{Step}
+use Rattle.ja_rules.specs.Tables.{kept_state}
+use Rattle.ja_rules.specs.code.Exits.{IsGivenBack}
+use Rattle.ja_rules.specs.code.Filling.{IsFilled}
+use Rattle.ja_rules.specs.code.Growing.{with_demands_at, with_entries_at, with_states_at}
+use Rattle.ja_rules.specs.code.Stepping.{with_entered, IsStep}
+use Rattle.ja_rules.proofs.Grows.{grows_both}
+use Rattle.ja_rules.proofs.Settling.{demands_grow, entries_grow, none_left, states_grow, told_next, told_unchanged, told_visit}
+use Rattle.ja_rules.proofs.Steps.{step_is}
+use Rattle.ja_rules.proofs.VisitEffects.{back_visited, fill_visited}
+use Rattle.ja_rules.proofs.Visiting.{values_grown}
+
+-- a step, at the context that was found
+pub step_settled : (p : Program) (good : IsWellFormed p) (own : ContextTable) (n : NodeId)
+    (step : Step) → IsStep p own n step → (x : Context) → own.context ≡ x → (t : Table)
+    → t.entry x ≡ entries_of own.entries
+    → ((a : AState) → kept_state own.nodes.items n.0 ≡ Some a
+    → t.state x n.0 ≡ Some (state_of a)) → (b c d : Bool)
+    → IsTrue b ↔ (with_states_at t x (map given_by step.outcome.states.list.items) ≡ t)
+    → IsTrue c ↔ (with_demands_at t x (demands_in step.outcome.demands) ≡ t)
+    → IsTrue d ↔ (fold with_entered t step.entries.items ≡ t)
+    → IsTrue ((b && c) && d) ↔ (visited p t (items.Step x n) ≡ t)
+step_settled p good own n step h x here t entry_is kept b c d states demands entered =
+    let given = map given_by step.outcome.states.list.items in
+    let asked = demands_in step.outcome.demands in
+    let u = with_states_at t x given in
+    let v = with_demands_at u x asked in
+    let z = fold with_entered v step.entries.items in
+    let y = own.context in
+    let back = sym here in
+    let is : visited p t (items.Step y n) ≡ z = step_is p good own n step h t u v z
+    (subst (λ (q : Context). t.entry q ≡ entries_of own.entries) back entry_is)
+    (subst (λ (q : Context). t.state q n.0 ≡ Some (state_of h.state)) back
+    (kept h.state h.state_is))
+    (ap (λ (q : Context). with_states_at t q given) back)
+    (ap (λ (q : Context). with_demands_at u q asked) back) refl in
+    told_visit p (items.Step x n) t z ((b && c) && d)
+    (subst (λ (q : Context). visited p t (items.Step q n) ≡ z) here is)
+    (told_next t v z (λ s. fold with_entered s step.entries.items) (b && c) d
+    (grows_both t u v (states_grow t x given) (demands_grow u x asked))
+    (entries_grow v step.entries.items) refl
+    (told_next t u v (λ s. with_demands_at s x asked) b c (states_grow t x given)
+    (demands_grow u x asked) refl states demands)
+    entered)
+
+module _ (p : Program) (t : Table) (e : Edge) where
+  pub fill_settled : (f : Filled) (b c : Bool) → IsFilled p t e (Some f)
+      → IsTrue b ↔ (f.values.items ≡ [])
+      → IsTrue c ↔ (with_demands_at t e.caller (demands_in f.demands) ≡ t)
+      → IsTrue (b && c) ↔ (visited p t (Fill e) ≡ t)
+  fill_settled f b c h values demands =
+      let i = h.0 in
+      let a = h.1 in
+      let set = with_set (t.entry e.callee) f.values.items in
+      let u = with_entries_at t e.callee set in
+      let v = with_demands_at u e.caller (demands_in f.demands) in
+      let grown = values_grown t u e.callee (t.entry e.callee) f.values.items
+      (filled_with (view_at p t e.caller a) e i.node) (not b) refl refl h.3 h.4
+      (none_left f.values.items b values) in
+      told_visit p (Fill e) t v (b && c)
+      (fill_visited p t u v e i a set (demands_in f.demands) h.2.info_is h.2.state_is h.3 h.5
+      refl refl)
+      (told_next t u v (λ s. with_demands_at s e.caller (demands_in f.demands)) b c grown.grows
+      (demands_grow u e.caller (demands_in f.demands)) refl
+      (told_unchanged t u b grown.other grown.same) demands)
+
+  pub back_settled : (g : Given) (b c : Bool) → IsGivenBack p t e (Some g)
+      → IsTrue b ↔ (with_states_at t e.caller (map given_by g.states.list.items) ≡ t)
+      → IsTrue c ↔ (with_demands_at t e.caller (demands_in g.demands) ≡ t)
+      → IsTrue (b && c) ↔ (visited p t (Back e) ≡ t)
+  back_settled g b c h states demands =
+      let given = map given_by g.states.list.items in
+      let u = with_states_at t e.caller given in
+      let v = with_demands_at u e.caller (demands_in g.demands) in
+      told_visit p (Back e) t v (b && c)
+      (back_visited p t u v e h.0 h.1 given (demands_in g.demands) h.2.info_is h.2.state_is h.3
+      h.4 h.5 refl refl)
+      (told_next t u v (λ s. with_demands_at s e.caller (demands_in g.demands)) b c
+      (states_grow t e.caller given) (demands_grow u e.caller (demands_in g.demands)) refl states
+      demands)
