@@ -1,6 +1,6 @@
 -- The first place at which JSON has another shape than a certificate, by its path: names of members
 -- and positions from 0, from outside to inside. The empty path is the whole.
-use Rattle.std.specs.Prelude.{ℕ, zero, suc, ◌+◌, ◌*◌, ◌-◌, Bool, true, false, not, ◌&&◌, ◌||◌, if◌then◌else◌, ◌==◌, nat_le, nat_lt, List, [], ◌∷◌, ◌++◌, map, take, drop, length, slice_get, Option, Some, None, is_some}
+use Rattle.std.specs.Prelude.{ℕ, zero, suc, ◌+◌, ◌*◌, ◌-◌, Bool, true, false, not, ◌&&◌, ◌||◌, if◌then◌else◌, ◌==◌, nat_le, nat_lt, List, [], ◌∷◌, ◌++◌, drop, length, slice_get, Option, Some, None, is_some}
 use Rattle.std.specs.List.{list_all, list_any}
 use Rattle.std.specs.Option.{option_map, option_map_or, option_and_then}
 use Rattle.std.specs.Ordering.{nat_cmp, is_lt}
@@ -176,8 +176,8 @@ is_number_word w =
 abbrev pub text_classes : List (List ℕ)
 text_classes = codes "indextext" ∷ codes "othertext" ∷ codes "text" ∷ []
 
-abbrev pub is_hexadecimal : ℕ → Bool
-is_hexadecimal c = (nat_le 48 c && nat_le c 57) || (nat_le 97 c && nat_le c 102)
+abbrev pub is_lower_hexadecimal : ℕ → Bool
+is_lower_hexadecimal c = (nat_le 48 c && nat_le c 57) || (nat_le 97 c && nat_le c 102)
 
 unfoldable pub is_multiple_of_four : List ℕ → Bool
 is_multiple_of_four [] = true
@@ -188,7 +188,7 @@ is_multiple_of_four (a ∷ b ∷ c ∷ d ∷ rest) = is_multiple_of_four rest
 
 abbrev pub are_units : List ℕ → Bool
 are_units digits =
-    list_all is_hexadecimal digits && is_multiple_of_four digits
+    list_all is_lower_hexadecimal digits && is_multiple_of_four digits
     && nat_le (length digits) (4 * max_units)
 
 abbrev pub is_text_word : List ℕ → Bool

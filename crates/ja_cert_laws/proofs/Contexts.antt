@@ -1,6 +1,6 @@
 -- Contexts that are written the same say the same.
 use Rattle.std.proofs.Common.{◌≡◌, ◌≤◌, ℕ, Bool, true, false, List, [], ◌∷◌, length, get_or, Option, Some, None, refl, sym, ap, subst, ◌∙◌, arith}
-use Rattle.std.specs.Prelude.{IsSome, IsTrue, nat_lt}
+use Rattle.std.specs.Prelude.{IfSome, IsSome, IsTrue, nat_lt}
 use Rattle.std.specs.List.{flat_map, AllByRecursion}
 use Rattle.std.specs.Option.{option_and_then, option_map, option_map_or}
 use Rattle.std.proofs.lemmas.Bool.{false≢true, ltb-false, ltb-true}
@@ -22,21 +22,19 @@ use Rattle.ja_rules.specs.declared.table.ContextTable.{ContextTable}
 use Rattle.ja_rules.specs.declared.table.NodeTable.{NodeTable}
 use Rattle.ja_rules.specs.Tables.{kept_state, states_in, FitsContext}
 use Rattle.ja_rules.proofs.Ascending.{number_listed, of_each}
-use Rattle.ja_report.specs.Lines.{entry_lines, mask_lines, property_lines, register_lines}
-use Rattle.ja_cert.specs.Certificate.{context_data, lines_data, listed, points_data, state_data, whole}
+use Rattle.ja_cert.specs.Certificate.{context_data, listed, points_data, state_data}
 use Rattle.ja_cert.specs.Wrong as wrong
-use Rattle.ja_cert.specs.Wrong.{entry_wrong, here_unless, is_above, is_below, list_wrong, mask_wrong, point_number, point_wrong, property_wrong, register_wrong, under}
-use Rattle.ja_cert_laws.specs.Back.{said_property, said_state}
+use Rattle.ja_cert.specs.Wrong.{point_number}
+use Rattle.ja_cert_read.specs.Said.{said_property, said_state}
+use Rattle.ja_abstract.specs.Profile.{IsPropertyOfProfile, IsStateOfProfile}
 use Rattle.ja_cert_read.specs.code.Contexts.{own_data}
 use Rattle.ja_cert_laws.proofs.Kept.{kept_of_function}
-use Rattle.ja_cert_laws.proofs.Members.{fields_in, list_same, right_each}
-use Rattle.ja_cert_laws.proofs.Picked.{all_of_one, same_at, AreAt, IsAt}
+use Rattle.ja_cert_laws.proofs.Members.{fields_in, list_same}
+use Rattle.ja_cert_laws.proofs.Picked.{same_at, AreAt, IsAt}
 use Rattle.ja_cert_laws.proofs.Properties.{entries_same}
-use Rattle.ja_cert_laws.proofs.States.{state_same, IsRightState}
+use Rattle.ja_cert_laws.proofs.States.{state_same}
 use Rattle.ja_cert_laws.proofs.Values.{label_same}
 use Rattle.ja_cert_read.proofs.Pairs.{number_rank, numbers_ascend}
-use Rattle.ja_cert_read.proofs.Told.{each_none, under_none}
-use lib.Chars.{codes}
 
 -- ---- nodes
 
@@ -48,32 +46,12 @@ at_node p f c n =
 abbrev pub nodes_data : Program → FnId → ContextTable → Data
 nodes_data p f c = listed (flat_map (at_node p f c) (node_numbers p f))
 
--- the nodes of a context of the function, of which nothing is wrong
+-- the nodes of a context of the function, with numbers and texts of the profile
 pub record AreNodesAt (p : Program) (f : FnId) (c : ContextTable) : Type 0 where
   pub count : length c.nodes.items ≡ length (nodes_of p f)
   pub states : (n : ℕ) (s : AState) → kept_state c.nodes.items n ≡ Some s
       → IsStateOf p (registers_of p f) s
-  pub right : list_wrong (point_wrong p f) (nodes_data p f c) ≡ None
-
-abbrev IsRightPoint : Program → FnId → Data → Type 0
-IsRightPoint p f d = (n : ℕ) (a : AbstractState) → d ≡ state_data p f n a → IsRightState p f a
-
-point_right : (p : Program) (f : FnId) (before : List Data) (d : Data)
-    → point_wrong p f before d ≡ None → IsRightPoint p f d
-unfolding point_wrong state_data
-point_right p f before d h n a is =
-    let each = each_none (under (codes "node")
-    (here_unless (is_below (length (nodes_of p f)) (whole n)))
-    ∷ here_unless (is_above point_number before (state_data p f n a))
-    ∷ under (codes "registers")
-    (list_wrong (register_wrong p f) (lines_data p (register_lines p f a)))
-    ∷ under (codes "heap") (list_wrong (property_wrong p) (lines_data p (property_lines p a)))
-    ∷ under (codes "alloc") (list_wrong (mask_wrong p) (lines_data p (mask_lines p a))) ∷ [])
-    (sym (ap (point_wrong p f before) is) ∙ h) in
-    record {
-      registers = under_none _ _ each.1.1.0;
-      heap = under_none _ _ each.1.1.1.0;
-    }
+  pub profile : (n : ℕ) → IfSome (states_in c.nodes.items n) IsStateOfProfile
 
 module _ (p : Program) (f : FnId) where
   unfoldable pub node_data : ℕ → Option AbstractState → List Data
@@ -88,8 +66,8 @@ module _ (p : Program) (f : FnId) where
   node_same : (n : ℕ) (o r : Option AState)
       → ((s : AState) → o ≡ Some s → IsStateOf p (registers_of p f) s)
       → ((s : AState) → r ≡ Some s → IsStateOf p (registers_of p f) s)
-      → AllByRecursion (IsRightPoint p f) (node_data n (option_map state_of o))
-      → AllByRecursion (IsRightPoint p f) (node_data n (option_map state_of r))
+      → IfSome (option_map state_of o) IsStateOfProfile
+      → IfSome (option_map state_of r) IsStateOfProfile
       → node_data n (option_map state_of o) ≡ node_data n (option_map state_of r)
       → option_map (said_state p) (option_map state_of o)
       ≡ option_map (said_state p) (option_map state_of r)
@@ -99,7 +77,7 @@ module _ (p : Program) (f : FnId) where
   node_same n (Some s) None kept also h j same = absurd (omega (arith, ap length same))
   node_same n (Some s) (Some t) kept also h j same =
       ap Some (state_same p f n (state_of s) (state_of t) (kept_of_function p f s (kept s refl))
-      (kept_of_function p f t (also t refl)) (h.0 n (state_of s) refl) (j.0 n (state_of t) refl)
+      (kept_of_function p f t (also t refl)) h j
       (ap (λ ds. get_or ds 0 null) same))
 
   module _ (c d : ContextTable) (nodes : AreNodesAt p f c) (also : AreNodesAt p f d)
@@ -112,12 +90,6 @@ module _ (p : Program) (f : FnId) where
     none_past x is n past =
         ap (λ o. option_map state_of (option_and_then (λ (s : NodeTable). s.state) o))
         (slice_get_past x.nodes.items n (omega (arith, is.count, past)))
-
-    each_right : (x : ContextTable) → AreNodesAt p f x → (n : ℕ) → Member n (node_numbers p f)
-        → AllByRecursion (IsRightPoint p f) (at_node p f x n)
-    each_right x is n m =
-        all_of_one (IsRightPoint p f) (at_node p f x) (node_numbers p f) n
-        (right_each (point_wrong p f) (IsRightPoint p f) (point_right p f) _ is.right) m
 
     each_placed : (x : ContextTable)
         → AreAt number_rank point_number (at_node p f x) (node_numbers p f)
@@ -133,8 +105,8 @@ module _ (p : Program) (f : FnId) where
         let m : Member n (node_numbers p f) =
         number_listed (length (nodes_of p f)) n (ltb-true n (length (nodes_of p f)) within) in
         node_same n (kept_state c.nodes.items n) (kept_state d.nodes.items n)
-        (λ s is. nodes.states n s is) (λ s is. also.states n s is) (each_right c nodes n m)
-        (each_right d also n m)
+        (λ s is. nodes.states n s is) (λ s is. also.states n s is) (nodes.profile n)
+        (also.profile n)
         (same_at number_rank point_number (at_node p f c) (at_node p f d) (node_numbers p f) n
         (numbers_ascend (length (nodes_of p f))) (each_placed c) (each_placed d) m
         (list_same _ _ same))
@@ -148,11 +120,10 @@ module _ (p : Program) (f : FnId) where
 
 -- ---- contexts
 
-pub record IsRightContext (p : Program) (c : ContextTable) : Type 0 where
-  pub entries : list_wrong (entry_wrong p) (lines_data p (entry_lines p (entries_of c.entries)))
-      ≡ None
-  pub points : list_wrong (point_wrong p c.context.function) (nodes_data p c.context.function c)
-      ≡ None
+-- with numbers and texts of the profile
+pub record IsContextOfProfile (c : ContextTable) : Type 0 where
+  pub states : (n : ℕ) → IfSome (states_in c.nodes.items n) IsStateOfProfile
+  pub entries : (l : Label) (k : Key) → IfSome (entries_of c.entries l k) IsPropertyOfProfile
 
 -- two that say the same
 pub record SameContext (p : Program) (c d : ContextTable) : Type 0 where
@@ -171,7 +142,7 @@ abbrev number_in : Data → ℕ
 number_in d = option_map_or (λ (n : ℕ). n) (wrong.whole_of d) 0
 
 module _ (p : Program) (c d : ContextTable) (fits : FitsContext p c) (too : FitsContext p d)
-    (right : IsRightContext p c) (also : IsRightContext p d)
+    (profile : IsContextOfProfile c) (also : IsContextOfProfile d)
     (same : own_data p c ≡ own_data p d) where
   field_same : (i : ℕ) → get_or (fields_in (own_data p c)) i null
       ≡ get_or (fields_in (own_data p d)) i null
@@ -191,8 +162,8 @@ module _ (p : Program) (c d : ContextTable) (fits : FitsContext p c) (too : Fits
       ≡ option_map (said_property p k) (entries_of d.entries l k)
   unfolding own_data context_data
   entry_at l k true true label key =
-      entries_same p (entries_of c.entries) (entries_of d.entries) l k label key right.entries
-      also.entries (field_same 0)
+      entries_same p (entries_of c.entries) (entries_of d.entries) l k label key
+      (profile.entries l k) (also.entries l k) (field_same 0)
   entry_at l k true false label key =
       ap (option_map (said_property p k))
       (nothing_unless (entries_of c.entries l k) (is_key p k) (fits.keys l k) key
@@ -206,12 +177,12 @@ module _ (p : Program) (c d : ContextTable) (fits : FitsContext p c) (too : Fits
   unfolding own_data context_data points_data
   points_same = field_same 2
 
-  nodes_at : (x : ContextTable) → FitsContext p x → IsRightContext p x
+  nodes_at : (x : ContextTable) → FitsContext p x → IsContextOfProfile x
       → AreNodesAt p x.context.function x
   nodes_at x is ok = record {
     count = sym x.nodes.ok.0 ∙ is.nodes;
     states = is.states;
-    right = ok.points;
+    profile = ok.states;
   }
 
   pub context_same : SameContext p c d
@@ -222,6 +193,6 @@ module _ (p : Program) (c d : ContextTable) (fits : FitsContext p c) (too : Fits
       points_same ∙ ap (λ f. nodes_data p f d) (sym function_is) in
       record {
         context = λ i. record { function = function_is i; receiver = receiver_is i };
-        state = nodes_same p c.context.function c d (nodes_at c fits right) there points;
+        state = nodes_same p c.context.function c d (nodes_at c fits profile) there points;
         entry = λ l k. entry_at l k (is_label p l) (is_key p k) refl refl;
       }

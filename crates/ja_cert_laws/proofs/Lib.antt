@@ -9,6 +9,9 @@ pub mod Contexts
 pub mod Tables
 pub mod Items
 pub mod OtherText
+pub mod OtherSteps
+pub mod OtherReport
+pub mod OneWarnings
 pub mod Climbing
 pub mod Sayable
 pub mod RightValues
@@ -17,11 +20,17 @@ pub mod RightContexts
 pub mod RightEdges
 pub mod RightDevices
 pub mod Lines
+pub mod Spelt
+pub mod Lengths
 pub mod Written
 pub mod Programs
 pub mod Whole
 pub mod Same
 pub mod ShapedValues
 pub mod ShapedStates
+pub mod ShapedReadings
+pub mod ShapedWrites
 pub mod ShapedSteps
 pub mod ShapedTables
+pub mod Accepted
+pub mod Piped

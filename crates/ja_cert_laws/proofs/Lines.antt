@@ -1,7 +1,12 @@
--- JSON that is written without a space is read back, also with a line's end behind it.
+-- JSON that is written without a space is read back, also with a line's end behind it, and is
+-- UTF-8 where its strings are.
 use Rattle.std.proofs.Common.{◌≡◌, ◌≤◌, ◌<◌, ◌^◌, ℕ, suc, Bool, true, false, cond, ◌&&◌, List, [], ◌∷◌, ◌++◌, Some, refl, sym, ap, ap₂, ◌∙◌, append_assoc, append-nil, arith}
-use Rattle.std.specs.List.{AllByRecursion}
+use Rattle.std.specs.List.{list_all, AllByRecursion}
 use Rattle.std.specs.Prelude.{Option, option_map, option_and_then}
+use Rattle.std.specs.Str.{IsUtf8}
+use Rattle.std.proofs.lemmas.Bool.{and_parts}
+use Rattle.std.proofs.lemmas.Fmt.{IsAscii-decimal}
+use Rattle.std.proofs.lemmas.Str.{IsUtf8-append, IsUtf8-from_ascii}
 use lib.Chars.{codes}
 use Rattle.json.specs.Token.{Token, begin_object, end_object, begin_array, end_array, key, string, number, boolean, null, bad}
 use Rattle.json.specs.Word.{ends_word, word}
@@ -14,11 +19,12 @@ use Rattle.json.proofs.Printed.Numbers.{lex-number, in_word-ended}
 use Rattle.json.proofs.Printed.Strings.{content-escape, lex-escape}
 use Rattle.json.proofs.Printed.Tokens.{tokens-print}
 use Rattle.json.proofs.Printed.Trees.{value-json_tokens, ArePrintable-json_tokens}
+use Rattle.json.proofs.Printed.Utf8.{are_ascii, IsUtf8-are_ascii, IsUtf8-quoted}
 use Rattle.serde_json.specs.Data as written
 use Rattle.serde_json.specs.Data.{Data, no_members, member, put}
 use Rattle.serde_json.specs.Read.{read, of_json, of_items, max_depth}
 use Rattle.serde_json.specs.View.{items_of}
-use Rattle.serde_json.specs.Written.{compact_text, outline, items_outline}
+use Rattle.serde_json.specs.Written.{comma_if, compact_text, items_outline, items_text, members_text, outline}
 use Rattle.serde_json.proofs.Numbers.{number_of-decimal}
 use Rattle.serde_json.proofs.Texts.{print-outline}
 
@@ -126,6 +132,11 @@ pub record IsReadBack (n : ℕ) (d : Data) : Type 0 where
   pub same : of_json (outline d) ≡ Some d
   pub numbers : tree.HasNumbers (outline d)
   pub shallow : tree.depth (outline d) ≤ n
+  pub utf8 : IsUtf8 (compact_text d)
+
+pub line_utf8 : (n : ℕ) (d : Data) → IsReadBack n d → IsUtf8 (compact_text d ++ codes "\n")
+line_utf8 n d h =
+    IsUtf8-append (compact_text d) (codes "\n") h.utf8 (IsUtf8-are_ascii (codes "\n") refl)
 
 pub line_read : (d : Data) → IsReadBack max_depth d
     → read (compact_text d ++ codes "\n") ≡ Some d
@@ -137,31 +148,52 @@ line_read d h =
     ∙ sym (append-nil (tree.json_tokens j)))
     ∙ ap whole_of (value-json_tokens j max_depth [] h.shallow) ∙ h.same
 
-pub string_back : (n : ℕ) (s : List ℕ) → IsReadBack n (written.string s)
-string_back n s = record { same = refl; numbers = tt; shallow = omega arith }
+pub string_back : (n : ℕ) (s : List ℕ) → IsUtf8 s → IsReadBack n (written.string s)
+string_back n s h = record {
+  same = refl;
+  numbers = tt;
+  shallow = omega arith;
+  utf8 = IsUtf8-quoted s h;
+}
 
 pub whole_back : (n k : ℕ) → k < 2 ^ 64 → IsReadBack n (written.number (written.unsigned k))
 whole_back n k small = record {
   same = ap (option_map written.number) (number_of-decimal k small);
   numbers = IsNumber-decimal k small;
   shallow = omega arith;
+  utf8 = IsUtf8-from_ascii _ (IsAscii-decimal k small);
 }
 
 -- ---- lists
+
+ascii_then : (x : ℕ) (xs : List ℕ) → are_ascii (x ∷ []) ≡ true → IsUtf8 xs → IsUtf8 (x ∷ xs)
+ascii_then x xs small h = IsUtf8-append (x ∷ []) xs (IsUtf8-are_ascii (x ∷ []) small) h
+
+comma_utf8 : (later : Bool) → IsUtf8 (comma_if later)
+comma_utf8 true = IsUtf8-are_ascii (44 ∷ []) refl
+comma_utf8 false = IsUtf8-are_ascii [] refl
 
 record AreReadBack (n : ℕ) (ds : List Data) : Type 0 where
   same : of_items (items_outline (items_of ds)) ≡ Some (items_of ds)
   numbers : tree.ItemsHaveNumbers (items_outline (items_of ds))
   shallow : tree.items_depth (items_outline (items_of ds)) ≤ n
+  utf8 : (later : Bool) → IsUtf8 (items_text later (items_of ds))
 
 items_back : (n : ℕ) (ds : List Data) → AllByRecursion (IsReadBack n) ds → AreReadBack n ds
-items_back n [] h = record { same = refl; numbers = tt; shallow = omega arith }
+items_back n [] h = record {
+  same = refl;
+  numbers = tt;
+  shallow = omega arith;
+  utf8 = λ later. IsUtf8-are_ascii (93 ∷ []) refl;
+}
 items_back n (d ∷ ds) h =
     let rest = items_back n ds h.1 in
     record {
       same = rw (h.0.same, rest.same) refl;
       numbers = (h.0.numbers, rest.numbers);
       shallow = omega (arith, h.0.shallow, rest.shallow);
+      utf8 = λ later. IsUtf8-append (comma_if later) _ (comma_utf8 later)
+          (IsUtf8-append (compact_text d) _ h.0.utf8 (rest.utf8 true));
     }
 
 pub list_back : (n : ℕ) (ds : List Data) → AllByRecursion (IsReadBack n) ds
@@ -172,6 +204,7 @@ list_back n ds h =
       same = ap (option_map written.array) items.same;
       numbers = items.numbers;
       shallow = omega (arith, items.shallow);
+      utf8 = ascii_then 91 _ refl (items.utf8 false);
     }
 
 module _ (n : ℕ) where
@@ -195,34 +228,81 @@ module _ (n : ℕ) where
 
 -- ---- objects of four and of six members, whose names ascend
 
+names_utf8 : (ks : List (List ℕ)) → list_all are_ascii ks ≡ true → AllByRecursion IsUtf8 ks
+names_utf8 [] h = tt
+names_utf8 (k ∷ ks) h =
+    let both = and_parts (are_ascii k) (list_all are_ascii ks) h in
+    (IsUtf8-are_ascii k both.0, names_utf8 ks both.1)
+
+abbrev members_of : List (List ℕ × Data) → written.Members
+members_of [] = no_members
+members_of (x ∷ xs) = member x.0 x.1 (members_of xs)
+
+members_utf8 : (later : Bool) (xs : List (List ℕ × Data))
+    → AllByRecursion (λ (x : List ℕ × Data). IsUtf8 x.0 × IsUtf8 (compact_text x.1)) xs
+    → IsUtf8 (members_text later (members_of xs))
+members_utf8 later [] h = IsUtf8-are_ascii (125 ∷ []) refl
+members_utf8 later (x ∷ xs) h =
+    IsUtf8-append (comma_if later) _ (comma_utf8 later)
+    (IsUtf8-append (quoted x.0) _ (IsUtf8-quoted x.0 h.0.0)
+    (ascii_then 58 _ refl (IsUtf8-append (compact_text x.1) _ h.0.1 (members_utf8 true xs h.1))))
+
 pub four_back : (n : ℕ) (i : List ℕ) (a : Data) (j : List ℕ) (b : Data) (k : List ℕ) (c : Data)
     (l : List ℕ) (d : Data)
     → put l d (put k c (put j b (put i a no_members)))
     ≡ member i a (member j b (member k c (member l d no_members)))
+    → list_all are_ascii (i ∷ j ∷ k ∷ l ∷ []) ≡ true
     → IsReadBack n a → IsReadBack n b → IsReadBack n c → IsReadBack n d
     → IsReadBack (suc n) (written.object (member i a (member j b (member k c (member l d
     no_members)))))
-four_back n i a j b k c l d order p q r s = record {
-  same = rw (p.same, q.same, r.same, s.same) (ap (λ ms. Some (written.object ms)) order);
-  numbers = (p.numbers, (q.numbers, (r.numbers, (s.numbers, tt))));
-  shallow = omega (arith, p.shallow, q.shallow, r.shallow, s.shallow);
-}
+four_back n i a j b k c l d order ascii p q r s =
+    let names = names_utf8 (i ∷ j ∷ k ∷ l ∷ []) ascii in
+    record {
+      same = rw (p.same, q.same, r.same, s.same) (ap (λ ms. Some (written.object ms)) order);
+      numbers = (p.numbers, (q.numbers, (r.numbers, (s.numbers, tt))));
+      shallow = omega (arith, p.shallow, q.shallow, r.shallow, s.shallow);
+      utf8 = ascii_then 123 _ refl (members_utf8 false ((i, a) ∷ (j, b) ∷ (k, c) ∷ (l, d) ∷ []) (
+        (names.0, p.utf8),
+        ((names.1.0, q.utf8), ((names.1.1.0, r.utf8), ((names.1.1.1.0, s.utf8), tt))),
+      ));
+    }
 
 pub six_back : (n : ℕ) (i : List ℕ) (a : Data) (j : List ℕ) (b : Data) (k : List ℕ) (c : Data)
     (l : List ℕ) (d : Data) (m : List ℕ) (e : Data) (o : List ℕ) (f : Data)
     → put o f (put m e (put l d (put k c (put j b (put i a no_members)))))
     ≡ member i a (member j b (member k c (member l d (member m e (member o f no_members)))))
+    → list_all are_ascii (i ∷ j ∷ k ∷ l ∷ m ∷ o ∷ []) ≡ true
     → IsReadBack n a → IsReadBack n b → IsReadBack n c → IsReadBack n d → IsReadBack n e
     → IsReadBack n f
     → IsReadBack (suc n) (written.object (member i a (member j b (member k c (member l d
     (member m e (member o f no_members)))))))
-six_back n i a j b k c l d m e o f order p q r s t u = record {
-  same = rw (p.same, q.same, r.same, s.same, t.same, u.same)
-      (ap (λ ms. Some (written.object ms)) order);
-  numbers = (p.numbers, (q.numbers, (r.numbers, (s.numbers, (t.numbers, (u.numbers, tt))))));
-  shallow = omega (arith, p.shallow, q.shallow, r.shallow, s.shallow, t.shallow, u.shallow);
-}
+six_back n i a j b k c l d m e o f order ascii p q r s t u =
+    let names = names_utf8 (i ∷ j ∷ k ∷ l ∷ m ∷ o ∷ []) ascii in
+    record {
+      same = rw (p.same, q.same, r.same, s.same, t.same, u.same)
+          (ap (λ ms. Some (written.object ms)) order);
+      numbers = (p.numbers, (q.numbers, (r.numbers, (s.numbers, (t.numbers, (u.numbers, tt))))));
+      shallow = omega (arith, p.shallow, q.shallow, r.shallow, s.shallow, t.shallow, u.shallow);
+      utf8 = ascii_then 123 _ refl (members_utf8 false
+          ((i, a) ∷ (j, b) ∷ (k, c) ∷ (l, d) ∷ (m, e) ∷ (o, f) ∷ []) (
+            (names.0, p.utf8),
+            (
+              (names.1.0, q.utf8),
+              (
+                (names.1.1.0, r.utf8),
+                (
+                  (names.1.1.1.0, s.utf8),
+                  ((names.1.1.1.1.0, t.utf8), ((names.1.1.1.1.1.0, u.utf8), tt)),
+                ),
+              ),
+            ),
+          ));
+    }
 
 pub deeper : (n m : ℕ) (d : Data) → n ≤ m → IsReadBack n d → IsReadBack m d
-deeper n m d le h =
-    record { same = h.same; numbers = h.numbers; shallow = omega (arith, h.shallow, le) }
+deeper n m d le h = record {
+  same = h.same;
+  numbers = h.numbers;
+  shallow = omega (arith, h.shallow, le);
+  utf8 = h.utf8;
+}

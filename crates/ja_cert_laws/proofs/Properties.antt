@@ -1,6 +1,6 @@
 -- Properties, values at entry and masks that are written the same say the same.
 use Rattle.std.proofs.Common.{◌≡◌, ◌<◌, ℕ, Bool, true, false, not, ◌&&◌, ◌||◌, cond, List, [], ◌∷◌, map, length, get_or, Option, Some, None, refl, sym, ap, subst, ◌∙◌, arith}
-use Rattle.std.specs.Prelude.{IsTrue, is_some}
+use Rattle.std.specs.Prelude.{IfSome, IsTrue}
 use Rattle.std.specs.List.{flat_map, AllByRecursion, range_with_len}
 use Rattle.std.specs.Option.{option_map, option_map_or}
 use Rattle.std.proofs.lemmas.Bool.{or_parts}
@@ -24,19 +24,19 @@ use Rattle.ja_abstract.specs.Resolved.{Entries}
 use Rattle.ja_rules.proofs.Ascending.{from_flat_map, from_map, number_listed, of_each, of_member}
 use Rattle.ja_report.specs.Lines.{alloc, entry, entry_line, entry_lines, has_attrs, is_entry, is_known, mask_line, mask_lines, object_lines, property, property_line, property_lines}
 use Rattle.ja_report.specs.Texts.{attr_text, attrs_text}
-use Rattle.ja_cert.specs.Certificate.{line_data, lines_data, listed}
+use Rattle.ja_cert.specs.Certificate.{line_data, lines_data}
 use Rattle.ja_cert.specs.Wrong as wrong
-use Rattle.ja_cert.specs.Wrong.{at, attrs_wrong, first_number, here_unless, is_of_entry, is_of_property, key_rank, list_wrong, pair_number, entry_wrong, owned_wrong, property_wrong, value_wrong}
-use Rattle.ja_cert_laws.specs.Back.{said_attrs, said_property}
-use Rattle.ja_cert_laws.proofs.Members.{data_in, list_same, right_each}
-use Rattle.ja_cert_laws.proofs.Picked.{all_of_one, same_at, AreAt, IsAt}
-use Rattle.ja_cert_laws.proofs.Registers.{said_only, value_small}
+use Rattle.ja_cert.specs.Wrong.{at, first_number, pair_number}
+use Rattle.ja_cert_read.specs.Said.{said_attrs, said_property}
+use Rattle.ja_abstract.specs.Profile.{IsPropertyOfProfile, IsValueOfProfile}
+use Rattle.ja_cert_laws.proofs.Members.{data_in, list_same}
+use Rattle.ja_cert_laws.proofs.Picked.{same_at, AreAt, IsAt}
+use Rattle.ja_cert_laws.proofs.Registers.{said_only}
 use Rattle.ja_cert_laws.proofs.Values.{value_same}
 use Rattle.ja_cert_read.proofs.Listing.{flat_map_pairs, map_flat_map, pairs}
 use Rattle.ja_cert_read.proofs.Pairs.{number_rank, numbers_ascend, pair_listed, pair_rank, pairs_ascend}
 use Rattle.ja_cert_read.proofs.Parts.{pair_numbered}
 use Rattle.ja_cert_read.proofs.Plain.{just_entry}
-use Rattle.ja_cert_read.proofs.Told.{each_none, or_else_none, under_none}
 
 -- ---- attributes
 
@@ -112,41 +112,13 @@ pairs_are p = of_each _ _ (λ x m.
 
 -- ---- what has a label, a key, a value and attributes
 
--- the third of four fields is a right value
-abbrev IsRightOwned : Program → (ℕ → Bool) → Data → Type 0
-IsRightOwned p allowed d =
-    (l k v a : Data) → d ≡ listed (l ∷ k ∷ v ∷ a ∷ []) → value_wrong p allowed v ≡ None
-
-owned_right : (p : Program) (allowed : ℕ → Bool) (ascends : Bool) (d : Data)
-    → owned_wrong p allowed ascends d ≡ None → IsRightOwned p allowed d
-unfolding owned_wrong
-owned_right p allowed ascends d h l k v a is =
-    under_none _ _ (each_none (at 0 (here_unless (wrong.is_label p l))
-    ∷ at 1 (here_unless (is_some (key_rank p k))) ∷ here_unless ascends
-    ∷ at 2 (value_wrong p allowed v) ∷ at 3 (attrs_wrong p k a) ∷ [])
-    (sym (ap (owned_wrong p allowed ascends) is) ∙ h)).1.1.1.0
-
-property_right : (p : Program) (before : List Data) (d : Data) → property_wrong p before d ≡ None
-    → IsRightOwned p is_of_property d
-unfolding property_wrong
-property_right p before d h = owned_right p is_of_property _ d (or_else_none _ _ h).0
-
-entry_right : (p : Program) (before : List Data) (d : Data) → entry_wrong p before d ≡ None
-    → IsRightOwned p is_of_entry d
-unfolding entry_wrong
-entry_right p before d h = owned_right p is_of_entry _ d h
-
 module _ (p : Program) where
-  pub value_said : (l : Label) (k : Key) (q r : AbstractProperty) (allowed : ℕ → Bool)
-      → IsRightOwned p allowed (line_data p (property l k q))
-      → IsRightOwned p allowed (line_data p (property l k r))
-      → line_data p (property l k q) ≡ line_data p (property l k r)
+  pub value_said : (l : Label) (k : Key) (q r : AbstractProperty) → IsValueOfProfile q.value
+      → IsValueOfProfile r.value → line_data p (property l k q) ≡ line_data p (property l k r)
       → said_property p k q ≡ said_property p k r
   unfolding line_data
-  value_said l k q r allowed h j same =
-      let value = value_same p q.value r.value
-      (value_small p allowed q.value (h _ _ _ _ refl))
-      (value_small p allowed r.value (j _ _ _ _ refl)) (ap (λ d. get_or (data_in d) 2 null) same) in
+  value_said l k q r h j same =
+      let value = value_same p q.value r.value h j (ap (λ d. get_or (data_in d) 2 null) same) in
       let attrs = attrs_same k q.attrs r.attrs (ap (λ d. option_map_or (λ (w : List ℕ). w)
       (as_str (get_or (data_in d) 3 null)) []) same) in
       λ i. record { value = value i; attrs = attrs i }
@@ -173,31 +145,26 @@ module _ (p : Program) where
       by_test true = tt
       by_test false = (owned_placed l k q h, tt)
 
-  property_same : (l : Label) (k : Key) (q r : AbstractProperty)
-      → AllByRecursion (IsRightOwned p is_of_property) (property_data l k q)
-      → AllByRecursion (IsRightOwned p is_of_property) (property_data l k r)
-      → property_data l k q ≡ property_data l k r → said_property p k q ≡ said_property p k r
+  property_same : (l : Label) (k : Key) (q r : AbstractProperty) → IsValueOfProfile q.value
+      → IsValueOfProfile r.value → property_data l k q ≡ property_data l k r
+      → said_property p k q ≡ said_property p k r
   unfolding property_data property_line
-  property_same l k q r = by_test (is_entry p q) (is_entry p r) refl refl
+  property_same l k q r h j = by_test (is_entry p q) (is_entry p r) refl refl
     where
       by_test : (b c : Bool) → is_entry p q ≡ b → is_entry p r ≡ c
-          → AllByRecursion (IsRightOwned p is_of_property)
-          (map (line_data p) (cond b [] (property l k q ∷ [])))
-          → AllByRecursion (IsRightOwned p is_of_property)
-          (map (line_data p) (cond c [] (property l k r ∷ [])))
           → map (line_data p) (cond b [] (property l k q ∷ []))
           ≡ map (line_data p) (cond c [] (property l k r ∷ []))
           → said_property p k q ≡ said_property p k r
-      by_test true true is also h j same =
+      by_test true true is also same =
           let x = just_entry p q is in
           let y = just_entry p r also in
           let value = said_only p q.value r.value _ x.only y.only in
           let attrs = unknown q.attrs x.attrs ∙ sym (unknown r.attrs y.attrs) in
           λ i. record { value = value i; attrs = said_attrs k (attrs i) }
-      by_test true false is also h j same = absurd (omega (arith, ap length same))
-      by_test false true is also h j same = absurd (omega (arith, ap length same))
-      by_test false false is also h j same =
-          value_said l k q r is_of_property h.0 j.0 (ap (λ ds. get_or ds 0 null) same)
+      by_test true false is also same = absurd (omega (arith, ap length same))
+      by_test false true is also same = absurd (omega (arith, ap length same))
+      by_test false false is also same =
+          value_said l k q r h j (ap (λ ds. get_or ds 0 null) same)
 
   abbrev at_pair : {V : Type 0} → (Label → Key → V) → Label × Key → V
   at_pair f x = f x.0 x.1
@@ -217,12 +184,11 @@ module _ (p : Program) where
 
   pub properties_same : (a b : AbstractState) (l : Label) (k : Key) → IsTrue (is_label p l)
       → IsTrue (is_key p k)
-      → list_wrong (property_wrong p) (lines_data p (property_lines p a)) ≡ None
-      → list_wrong (property_wrong p) (lines_data p (property_lines p b)) ≡ None
+      → IsValueOfProfile (a.property l k).value → IsValueOfProfile (b.property l k).value
       → lines_data p (property_lines p a) ≡ lines_data p (property_lines p b)
       → said_property p k (a.property l k) ≡ said_property p k (b.property l k)
   unfolding at_property
-  properties_same a b l k label key right also same =
+  properties_same a b l k label key profile also same =
       let places : List (Label × Key) = pairs (labels_of p) (keys_of p) in
       let rank : Label × Key → List ℕ = pair_rank (length p.names) in
       let there : Member (l, k) places = pair_listed p l k label key in
@@ -230,14 +196,7 @@ module _ (p : Program) where
       λ c. all_weaker (λ (x : Label × Key). IsTrue (is_key p x.1))
       (λ (x : Label × Key). AllByRecursion (IsAt rank (pair_number p) x) (at_property c x))
       (λ x h. property_placed x.0 x.1 (c.property x.0 x.1) h) places (pairs_are p) in
-      let each : (c : AbstractState)
-      → list_wrong (property_wrong p) (lines_data p (property_lines p c)) ≡ None
-      → AllByRecursion (IsRightOwned p is_of_property) (at_property c (l, k)) =
-      λ c ok. all_of_one (IsRightOwned p is_of_property) (at_property c) places (l, k)
-      (subst (AllByRecursion (IsRightOwned p is_of_property)) (properties_are c)
-      (right_each (property_wrong p) (IsRightOwned p is_of_property) (property_right p) _ ok))
-      there in
-      property_same l k (a.property l k) (b.property l k) (each a right) (each b also)
+      property_same l k (a.property l k) (b.property l k) profile also
       (same_at rank (pair_number p) (at_property a) (at_property b) places (l, k) (pairs_ascend p)
       (placed a) (placed b) there
       (sym (properties_are a) ∙ list_same _ _ same ∙ properties_are b))
@@ -255,17 +214,15 @@ module _ (p : Program) where
   entry_placed l k (Some q) h =
       (ap (λ (n : ℕ). label_number l ∷ n ∷ []) (pair_numbered p l k h), tt)
 
-  entry_same : (l : Label) (k : Key) (o c : Option AbstractProperty)
-      → AllByRecursion (IsRightOwned p is_of_entry) (entry_data l k o)
-      → AllByRecursion (IsRightOwned p is_of_entry) (entry_data l k c)
-      → entry_data l k o ≡ entry_data l k c
+  entry_same : (l : Label) (k : Key) (o c : Option AbstractProperty) → IfSome o IsPropertyOfProfile
+      → IfSome c IsPropertyOfProfile → entry_data l k o ≡ entry_data l k c
       → option_map (said_property p k) o ≡ option_map (said_property p k) c
   unfolding entry_data line_data
   entry_same l k None None h j same = refl
   entry_same l k None (Some r) h j same = absurd (omega (arith, ap length same))
   entry_same l k (Some q) None h j same = absurd (omega (arith, ap length same))
   entry_same l k (Some q) (Some r) h j same =
-      ap Some (value_said l k q r is_of_entry h.0 j.0 (ap (λ ds. get_or ds 0 null) same))
+      ap Some (value_said l k q r h j (ap (λ ds. get_or ds 0 null) same))
 
   unfoldable pub at_entry : Entries → Label × Key → List Data
   at_entry e x = entry_data x.0 x.1 (e x.0 x.1)
@@ -278,12 +235,12 @@ module _ (p : Program) where
       ∙ map_flat_map (line_data p) (at_pair (entry_line e)) (pairs (labels_of p) (keys_of p))
 
   pub entries_same : (e c : Entries) (l : Label) (k : Key) → IsTrue (is_label p l)
-      → IsTrue (is_key p k) → list_wrong (entry_wrong p) (lines_data p (entry_lines p e)) ≡ None
-      → list_wrong (entry_wrong p) (lines_data p (entry_lines p c)) ≡ None
+      → IsTrue (is_key p k) → IfSome (e l k) IsPropertyOfProfile
+      → IfSome (c l k) IsPropertyOfProfile
       → lines_data p (entry_lines p e) ≡ lines_data p (entry_lines p c)
       → option_map (said_property p k) (e l k) ≡ option_map (said_property p k) (c l k)
   unfolding at_entry
-  entries_same e c l k label key right also same =
+  entries_same e c l k label key profile also same =
       let places : List (Label × Key) = pairs (labels_of p) (keys_of p) in
       let rank : Label × Key → List ℕ = pair_rank (length p.names) in
       let there : Member (l, k) places = pair_listed p l k label key in
@@ -291,13 +248,7 @@ module _ (p : Program) where
       λ d. all_weaker (λ (x : Label × Key). IsTrue (is_key p x.1))
       (λ (x : Label × Key). AllByRecursion (IsAt rank (pair_number p) x) (at_entry d x))
       (λ x h. entry_placed x.0 x.1 (d x.0 x.1) h) places (pairs_are p) in
-      let each : (d : Entries)
-      → list_wrong (entry_wrong p) (lines_data p (entry_lines p d)) ≡ None
-      → AllByRecursion (IsRightOwned p is_of_entry) (at_entry d (l, k)) =
-      λ d ok. all_of_one (IsRightOwned p is_of_entry) (at_entry d) places (l, k)
-      (subst (AllByRecursion (IsRightOwned p is_of_entry)) (entries_are d)
-      (right_each (entry_wrong p) (IsRightOwned p is_of_entry) (entry_right p) _ ok)) there in
-      entry_same l k (e l k) (c l k) (each e right) (each c also)
+      entry_same l k (e l k) (c l k) profile also
       (same_at rank (pair_number p) (at_entry e) (at_entry c) places (l, k) (pairs_ascend p)
       (placed e) (placed c) there (sym (entries_are e) ∙ list_same _ _ same ∙ entries_are c))
 

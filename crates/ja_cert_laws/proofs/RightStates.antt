@@ -17,10 +17,8 @@ use Rattle.ja_abstract.specs.declared.abstraction.AAttrs.{AAttrs}
 use Rattle.ja_abstract.specs.declared.abstraction.Key.{Key}
 use Rattle.ja_abstract.specs.declared.abstraction.Key.TheVariants as key
 use Rattle.ja_abstract.specs.declared.abstraction.May.{May}
-use Rattle.ja_abstract.specs.declared.abstraction.NumberPart.{NumberPart}
 use Rattle.ja_abstract.specs.declared.abstraction.NumberPart.TheVariants as number_part
 use Rattle.ja_abstract.specs.declared.abstraction.Slot.TheVariants as slot
-use Rattle.ja_abstract.specs.declared.abstraction.TextPart.{TextPart}
 use Rattle.ja_abstract.specs.declared.abstraction.TextPart.TheVariants as text_part
 use Rattle.ja_abstract.specs.AbstractValue.{AbstractValue, AbstractProperty, Labels, entry_property, entry_value, has_number, has_part, has_present_flag, has_text, no_labels, undefined_value, unknown_attrs}
 use Rattle.ja_abstract.specs.AbstractState.{AbstractState, is_key, is_label, keys_of, label_number, labels_of}
@@ -34,33 +32,20 @@ use Rattle.ja_report.specs.Texts.{attr_text, attrs_text, property_parts}
 use Rattle.ja_cert.specs.Certificate.{key_data, label_data, line_data, lines_data, listed, value_data, whole}
 use Rattle.ja_cert.specs.Wrong as wrong
 use Rattle.ja_cert.specs.Wrong.{are_attrs, at, attrs_wrong, entry_wrong, first_number, here_unless, is_above, is_attr, is_below, is_of_entry, is_of_property, is_of_register, is_slot, is_word, key_rank, list_in, list_wrong, mask_wrong, owned_wrong, pair_number, position, position_of, property_wrong, register_wrong, value_is, value_wrong}
-use Rattle.ja_cert_laws.specs.Back.{said_attrs, said_property, said_text, said_value, HasPart}
+use Rattle.ja_cert_laws.specs.Back.{HasPart}
+use Rattle.ja_cert_read.specs.Said.{said_attrs, said_property, said_value}
+use Rattle.ja_abstract.specs.Profile.{IsValueOfProfile}
 use Rattle.ja_cert_laws.proofs.Sayable.{IsEntryProperty, IsProperty, IsRegisterValue}
 use Rattle.ja_cert_laws.proofs.Climbing.{list_right, places_climb, IsOne}
 use Rattle.ja_cert_laws.proofs.Properties.{attrs_same, at_entry, at_mask, at_property, entries_are, entry_data, entry_placed, mask_data, mask_placed, masks_are, pairs_are, properties_are, property_data, property_placed}
 use Rattle.ja_cert_laws.proofs.Registers.{at_register, register_data, register_placed, registers_are}
-use Rattle.ja_cert_laws.proofs.RightValues.{number_written, value_right, IsWritten}
-use Rattle.ja_cert_laws.proofs.Values.{value_same, IsSmall}
+use Rattle.ja_cert_laws.proofs.RightValues.{value_right}
+use Rattle.ja_cert_laws.proofs.Values.{value_same}
 use Rattle.ja_cert_read.proofs.Listing.{pairs}
 use Rattle.ja_cert_read.proofs.Pairs.{labels_are, number_rank, numbers_ascend, pair_rank, pairs_ascend}
 use Rattle.ja_cert_read.proofs.Told.{all_right, or_both}
-use Rattle.ja_cert_parts.proofs.WholeLemmas.{whole_text_small}
 
 -- ---- what is left out by a report
-
-small : (n : NumberPart) → IsWritten n → IsSmall n
-small number_part.Nothing h = tt
-small (number_part.One z) h = whole_text_small z h
-small number_part.Index h = tt
-small number_part.OtherWhole h = tt
-small number_part.Whole h = tt
-
-has_text_said : (t : TextPart) → has_text (said_text t) ≡ has_text t
-has_text_said text_part.Nothing = refl
-has_text_said (text_part.One t) = refl
-has_text_said text_part.IndexText = refl
-has_text_said text_part.OtherText = refl
-has_text_said text_part.Text = refl
 
 any_said : (p : Program) (v : Labels) (ls : List Label)
     → AllByRecursion (λ (l : Label). IsTrue (is_label p l)) ls
@@ -74,9 +59,8 @@ part_said : (p : Program) (v : AbstractValue)
     → has_part (labels_of p) (said_value p v) ≡ has_part (labels_of p) v
 part_said p v =
     let labels = any_said p v.label (labels_of p) (of_each _ (labels_of p) (labels_are p)) in
-    let text = has_text_said v.text in
     λ i. v.flags.absent || v.flags.entry
-    || (has_present_flag v.flags || has_number v.number || text i || labels i)
+    || (has_present_flag v.flags || has_number v.number || has_text v.text || labels i)
 
 undefined_said : (p : Program) (v : AbstractValue)
     → is_undefined p (said_value p v) ≡ is_undefined p v
@@ -130,6 +114,20 @@ none_kept : (ls : List Label) → filter no_labels ls ≡ []
 none_kept [] = refl
 none_kept (l ∷ ls) = none_kept ls
 
+-- a value without a number and a text
+none_of : (v : AbstractValue) → has_number v.number ≡ false → has_text v.text ≡ false
+    → IsValueOfProfile v
+none_of v no_number no_text = record {
+  number = λ z is. absurd (false≢true (sym no_number ∙ ap has_number is));
+  text = λ t is. absurd (false≢true (sym no_text ∙ ap has_text is));
+}
+
+undefined_profile : IsValueOfProfile undefined_value
+undefined_profile = none_of undefined_value refl refl
+
+entry_profile : IsValueOfProfile entry_value
+entry_profile = none_of entry_value refl refl
+
 module _ (p : Program) where
   undefined_data : value_data p undefined_value ≡ listed (string (codes "undefined") ∷ [])
   unfolding value_data property_parts
@@ -149,12 +147,12 @@ module _ (p : Program) where
       none_any [] = refl
       none_any (l ∷ ls) = none_any ls
 
-  other_value : (v : AbstractValue) → IsWritten v.number → is_undefined p v ≡ false
+  other_value : (v : AbstractValue) → IsValueOfProfile v → is_undefined p v ≡ false
       → value_is (codes "undefined") (value_data p v) ≡ false
-  other_value v written other =
+  other_value v profile other =
       elim (cases_Bool (value_is (codes "undefined") (value_data p v))) [
         | inl is ↦ absurd (true≢false (sym undefined_itself ∙ sym (undefined_said p undefined_value)
-            ∙ ap (is_undefined p) (sym (value_same p v undefined_value (small v.number written) tt
+            ∙ ap (is_undefined p) (sym (value_same p v undefined_value profile undefined_profile
             (one_word (codes "undefined") (value_data p v) is ∙ sym undefined_data)))
             ∙ undefined_said p v ∙ other))
         | inr not ↦ not
@@ -190,7 +188,7 @@ module _ (p : Program) where
         by_test false is = λ before above.
             let v : AbstractValue = a.register r in
             let fine = register_value v (of r within) in
-            let other = other_value p v (number_written v.number (of r within).profile.number) is in
+            let other = other_value p v (of r within).profile is in
             all_right (at 0 (here_unless (is_below (registers_of p f) (whole r)))
             ∷ here_unless (is_above first_number before (listed (whole r ∷ value_data p v ∷ [])))
             ∷ at 1 (value_wrong p is_of_register (value_data p v))
@@ -440,8 +438,7 @@ module _ (p : Program) where
       elim (cases_Bool (value && attrs)) [
         | inl is ↦
             let both = and_parts value attrs is in
-            let number = small q.value.number (number_written q.value.number of.profile.number) in
-            let values = value_same p q.value entry_value number tt
+            let values = value_same p q.value entry_value of.profile entry_profile
             (one_word (codes "entry") v both.0 ∙ sym (entry_data_is p)) in
             let letters = attrs_same k q.attrs unknown_attrs
             (sym (text_same wrong.unknown_attrs a both.1) ∙ sym (unknown_text k)) in

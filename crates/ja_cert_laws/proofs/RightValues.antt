@@ -23,32 +23,15 @@ use Rattle.ja_abstract.specs.declared.abstraction.TextPart.{TextPart}
 use Rattle.ja_abstract.specs.declared.abstraction.TextPart.TheVariants as text_part
 use Rattle.ja_abstract.specs.AbstractValue.{AbstractValue}
 use Rattle.ja_abstract.specs.AbstractState.{is_label, label_number, labels_of}
-use Rattle.ja_prim.specs.declared.primitive.Num.TheVariants.{Whole}
-use Rattle.ja_prim.proofs.ReadingBack.{read_back}
-use Rattle.ja_abstract.proofs.Texts.{same_text_refl}
-use Rattle.ja_abstract.specs.Keys.{is_whole_text, is_written_so, whole_text}
 use Rattle.ja_aheap.proofs.UpdateLemmas.{label_within}
 use Rattle.ja_rules.proofs.Ascending.{Ascends, ascends-filter, from_filter, of_each}
 use Rattle.ja_report.specs.Texts.{part, property_parts, value_labels}
 use Rattle.ja_cert.specs.Certificate.{label_data, number_words, text_words, value_data}
-use Rattle.ja_cert.specs.Wrong.{are_units, here_unless, is_hexadecimal, is_multiple_of_four, part_number, part_rank, part_wrong, position, value_wrong, word_rank}
+use Rattle.ja_cert.specs.Wrong.{are_units, here_unless, is_lower_hexadecimal, is_multiple_of_four, part_number, part_rank, part_wrong, position, value_wrong, word_rank}
 use Rattle.ja_cert_laws.proofs.Climbing.{from_first, later_from, list_right, one_from, AreFrom, Climbs}
-use Rattle.ja_cert_laws.specs.Back.{IsNumber, IsOfProfile, IsText}
+use Rattle.ja_abstract.specs.Profile.{IsValueOfProfile}
+use Rattle.ja_cert_laws.proofs.Values.{number_written, IsText, IsWritten}
 use Rattle.ja_cert_read.proofs.Pairs.{labels_are, labels_ascend}
-
--- a number of the profile is written so that its text says it
-abbrev pub IsWritten : NumberPart → Type 0
-IsWritten (number_part.One z) = is_whole_text (whole_text z) ≡ true
-IsWritten part = Unit {0}
-
-pub number_written : (n : NumberPart) → IsNumber n → IsWritten n
-number_written number_part.Nothing h = tt
-number_written (number_part.One z) h =
-    ap (λ r. is_written_so r (whole_text z)) (read_back (Whole z) h.0 h.1)
-    ∙ same_text_refl (whole_text z)
-number_written number_part.Index h = tt
-number_written number_part.OtherWhole h = tt
-number_written number_part.Whole h = tt
 
 -- the parts of a property that a value has are allowed
 pub record IsAllowed (allowed : ℕ → Bool) (v : AbstractValue) : Type 0 where
@@ -59,13 +42,13 @@ pub record IsAllowed (allowed : ℕ → Bool) (v : AbstractValue) : Type 0 where
 
 -- ---- texts
 
-hexadecimal : (a : ℕ) → a < 16 → is_hexadecimal (digit_glyph false a) ≡ true
+hexadecimal : (a : ℕ) → a < 16 → is_lower_hexadecimal (digit_glyph false a) ≡ true
 hexadecimal a low = grind (arith, nat_tests)
 
-all_hexadecimal : (t : List ℕ) → list_all is_hexadecimal (flat_map four_digits t) ≡ true
+all_hexadecimal : (t : List ℕ) → list_all is_lower_hexadecimal (flat_map four_digits t) ≡ true
 all_hexadecimal [] = refl
 all_hexadecimal (u ∷ us) =
-    list_all-append is_hexadecimal (four_digits u) (flat_map four_digits us)
+    list_all-append is_lower_hexadecimal (four_digits u) (flat_map four_digits us)
     ∙ and_from _ _ (and_from _ _ (hexadecimal (u / 4096 % 16) (omega arith))
     (and_from _ _ (hexadecimal (u / 256 % 16) (omega arith))
     (and_from _ _ (hexadecimal (u / 16 % 16) (omega arith))
@@ -124,7 +107,7 @@ module _ (p : Program) (allowed : ℕ → Bool) where
   unfolding position
   text_from text_part.Nothing ds is allows rest = later 9 10 ds (omega arith) rest
   text_from (text_part.One t) ds is allows rest =
-      one_part 9 _ ds (ap (λ b. cond b (Some 9) None) (units_are t is)) allows rest
+      one_part 9 _ ds (ap (λ b. cond b (Some 9) None) (units_are t (is t refl).few)) allows rest
   text_from text_part.IndexText ds is allows rest = one_part 9 _ ds refl allows rest
   text_from text_part.OtherText ds is allows rest = one_part 9 _ ds refl allows rest
   text_from text_part.Text ds is allows rest = one_part 9 _ ds refl allows rest
@@ -156,7 +139,7 @@ module _ (p : Program) (allowed : ℕ → Bool) where
       ++ (map string x ++ ls)))))))))
   parts_apart a e r u n t f g m x ls = simp (map-append, append_assoc)
 
-  pub value_right : (v : AbstractValue) → IsAllowed allowed v → IsOfProfile v
+  pub value_right : (v : AbstractValue) → IsAllowed allowed v → IsValueOfProfile v
       → value_wrong p allowed (value_data p v) ≡ None
   unfolding value_wrong value_data property_parts position
   value_right v allows profile =

@@ -1,29 +1,28 @@
 -- Bytes are one certificate, and no fault but want of memory explains them as none.
 use Rattle.std.proofs.Common.{◌≡◌, ℕ, List, [], ◌∷◌, map, get_or, Option, Some, None, refl, sym, ap, subst, ◌∙◌, inl, inr}
-use Rattle.std.specs.Prelude.{String}
+use Rattle.std.specs.Prelude.{IfSome, String}
 use Rattle.std.specs.declared.alloc.Global.{Global}
 use Rattle.std.specs.List.{AllByRecursion}
-use Rattle.std.specs.Option.{option_map_or}
+use Rattle.std.specs.Option.{option_and_then, option_map_or}
 use Rattle.std.specs.String.{string_bytes}
 use Rattle.std.proofs.lemmas.List.Elements.{recursion_from_All}
-use lib.Chars.{codes}
 use Rattle.serde_json.specs.Data.{Data, null, string}
 use Rattle.serde_json.specs.Find.{as_str}
 use Rattle.serde_json.specs.Read.{read}
 use Rattle.ja_base.proofs.Lists.{all_weaker}
-use Rattle.ja_base.specs.declared.ids.FnId.{FnId}
 use Rattle.ja_prim.specs.declared.signature.Signature.{Signature}
 use Rattle.ja_graph.specs.WellFormed.{IsWellFormed}
 use Rattle.ja_graph.specs.declared.program.Program.{Program}
 use Rattle.ja_aheap.specs.Entries.{entries_of}
 use Rattle.ja_load.specs.Loading.{IsProgramOf, HasNone}
-use Rattle.ja_rules.specs.Tables.{FitsContext}
+use Rattle.ja_rules.specs.Order.{AreContextsOrdered}
+use Rattle.ja_rules.specs.Tables.{find_context, no_entries, states_in, table_of, FitsContext}
+use Rattle.ja_rules.specs.declared.table.ATable.{ATable}
 use Rattle.ja_rules.specs.declared.table.CallEdge.{CallEdge}
 use Rattle.ja_rules.specs.declared.table.ContextTable.{ContextTable}
-use Rattle.ja_report.specs.Lines.{entry_lines}
-use Rattle.ja_cert.specs.Certificate.{context_data, device_data, edge_data, item_data, label_data, lines_data, listed, points_data, whole}
-use Rattle.ja_cert.specs.Wrong as wrong
-use Rattle.ja_cert.specs.Wrong.{Path, certificate_keys, context_number, context_wrong, edge_wrong, entry_wrong, here, here_unless, is_above, is_function, item_wrong, list_of, list_wrong, members_of, point_wrong, under, wrong_before_loading, wrong_of}
+use Rattle.ja_rules.proofs.ListedContexts.{find_kept}
+use Rattle.ja_cert.specs.Certificate.{device_data, edge_data, listed, whole}
+use Rattle.ja_cert.specs.Wrong.{Path, certificate_keys, members_of, wrong_before_loading, wrong_of}
 use Rattle.ja_cert_laws.specs.Back.{IsWantOfMemory, SaysSame}
 use Rattle.ja_cert_read.specs.Certified.{HasHead, IsCertificate, IsNoCertificate, IsWrongAt}
 use Rattle.ja_cert_read.specs.code.Contexts.{own_data}
@@ -31,47 +30,42 @@ use Rattle.ja_cert_read.specs.code.Whole.{call_edge_data}
 use Rattle.ja_cert_read.specs.declared.certificate.CertFault.{CertFault}
 use Rattle.ja_cert_read.specs.declared.certificate.CertFault.TheVariants as fault
 use Rattle.ja_cert_read.specs.declared.certificate.Certificate.{Certificate}
-use Rattle.ja_cert_laws.proofs.Contexts.{nodes_data, IsRightContext}
+use Rattle.ja_cert_read.specs.Said.{said_table}
+use Rattle.ja_cert_laws.proofs.Contexts.{IsContextOfProfile}
 use Rattle.ja_cert_laws.proofs.Items.{devices_same, items_same}
-use Rattle.ja_cert_laws.proofs.Members.{fields_in, list_same, right_each}
+use Rattle.ja_cert_laws.proofs.Members.{fields_in, list_same}
 use Rattle.ja_cert_laws.proofs.OtherText.{fits_same, other, own_same, wrong_same}
+use Rattle.ja_abstract.specs.Profile.{IsPropertyOfProfile, IsStateOfProfile}
+use Rattle.ja_rules.specs.Profile.{IsTableOfProfile}
 use Rattle.ja_cert_laws.proofs.Programs.{only_memory, program_same}
 use Rattle.ja_cert_laws.proofs.Tables.{contexts_same, edges_same, table_same, IsListed}
 use Rattle.ja_cert_laws.proofs.Whole.{parts_are, parts_data}
-use Rattle.ja_cert_read.proofs.Told.{each_none, under_none}
 
--- ---- contexts of which nothing is wrong
+-- ---- contexts with numbers and texts of the profile
 
-abbrev IsRightOwn : Program → Data → Type 0
-IsRightOwn p d = (c : ContextTable) → d ≡ own_data p c → IsRightContext p c
+profile_found : (t : ATable) → IsTableOfProfile (table_of t) → (c : ContextTable)
+    → find_context c.context t.contexts.items ≡ Some c → IsContextOfProfile c
+profile_found t profile c found = record {
+  states = λ n. subst (λ (o : Option ContextTable). IfSome (option_and_then
+      (λ (d : ContextTable). states_in d.nodes.items n) o) IsStateOfProfile) found
+      (profile.states c.context n);
+  entries = λ l k. subst (λ (o : Option ContextTable). IfSome (option_map_or
+      (λ (d : ContextTable). entries_of d.entries) o no_entries l k) IsPropertyOfProfile) found
+      (profile.entries c.context l k);
+}
 
-own_right : (p : Program) (before : List Data) (d : Data) → context_wrong p before d ≡ None
-    → IsRightOwn p d
-unfolding context_wrong own_data context_data points_data
-own_right p before d h c is =
-    let f : FnId = c.context.function in
-    let each = each_none (under (codes "function") (here_unless (is_function p (whole f.0)))
-    ∷ under (codes "receiver") (here_unless (wrong.is_label p (label_data c.context.receiver)))
-    ∷ here_unless (is_above context_number before (own_data p c))
-    ∷ under (codes "entries")
-    (list_wrong (entry_wrong p) (lines_data p (entry_lines p (entries_of c.entries))))
-    ∷ under (codes "points") (list_wrong (point_wrong p f) (nodes_data p f c)) ∷ [])
-    (sym (ap (context_wrong p before) is) ∙ h) in
-    record {
-      entries = under_none _ _ each.1.1.1.0;
-      points = under_none _ _ each.1.1.1.1.0;
-    }
-
-own_each : (p : Program) (cs : List ContextTable)
-    → AllByRecursion (IsRightOwn p) (map (own_data p) cs) → AllByRecursion (IsRightContext p) cs
-own_each p [] all = tt
-own_each p (c ∷ cs) all = (all.0 c refl, own_each p cs all.1)
+profile_each : (t : ATable) → AreContextsOrdered t.contexts.items → IsTableOfProfile (table_of t)
+    → AllByRecursion IsContextOfProfile t.contexts.items
+profile_each t ordered profile =
+    all_weaker (λ (c : ContextTable). find_context c.context t.contexts.items ≡ Some c)
+    IsContextOfProfile (profile_found t profile) t.contexts.items
+    (find_kept t.contexts.items ordered)
 
 listed_all : (p : Program) (cs : List ContextTable) → AllByRecursion (FitsContext p) cs
-    → AllByRecursion (IsRightContext p) cs → AllByRecursion (IsListed p) cs
-listed_all p [] fits right = tt
-listed_all p (c ∷ cs) fits right =
-    (record { fits = fits.0; right = right.0 }, listed_all p cs fits.1 right.1)
+    → AllByRecursion IsContextOfProfile cs → AllByRecursion (IsListed p) cs
+listed_all p [] fits profile = tt
+listed_all p (c ∷ cs) fits profile =
+    (record { fits = fits.0; profile = profile.0 }, listed_all p cs fits.1 profile.1)
 
 own_others : (p : Program) (s : String Global) (cs : List ContextTable)
     → map (own_data (other p s)) cs ≡ map (own_data p) cs
@@ -83,7 +77,8 @@ own_others p s (c ∷ cs) =
 -- ---- two certificates
 
 module _ (bytes : List ℕ) (c d : Certificate) (h : IsCertificate bytes c)
-    (j : IsCertificate bytes d) where
+    (j : IsCertificate bytes d) (profile : IsTableOfProfile (table_of c.table))
+    (also : IsTableOfProfile (table_of d.table)) where
   abbrev p : Program
   p = c.program
 
@@ -137,19 +132,6 @@ module _ (bytes : List ℕ) (c d : Certificate) (h : IsCertificate bytes c)
       ∙ ap (λ (r : Program). map (own_data r) d.table.contexts.items) program_is
       ∙ own_others p q.text d.table.contexts.items
 
-  right_owns : AllByRecursion (IsRightOwn p) (map (own_data p) c.table.contexts.items)
-  unfolding wrong_of parts_data
-  right_owns =
-      let contexts : Data = listed (map (own_data p) c.table.contexts.items) in
-      let edges : Data = listed (map call_edge_data c.table.edges.items) in
-      let each = each_none (under (codes "contexts") (list_wrong (context_wrong p) contexts)
-      ∷ under (codes "edges") (option_map_or (λ (cs : List Data). list_wrong (edge_wrong p cs)
-      edges) (list_of contexts) here)
-      ∷ under (codes "visits") (list_wrong (item_wrong p) (listed (map item_data c.visits.items)))
-      ∷ []) (ap (wrong_of p) (parts_of c h) ∙ h.right) in
-      right_each (context_wrong p) (IsRightOwn p) (own_right p)
-      (map (own_data p) c.table.contexts.items) (under_none _ _ each.0)
-
   fits_moved : AllByRecursion (FitsContext p) d.table.contexts.items
   fits_moved =
       all_weaker (FitsContext moved) (FitsContext p) (fits_same p q.text)
@@ -168,16 +150,24 @@ module _ (bytes : List ℕ) (c d : Certificate) (h : IsCertificate bytes c)
       kept [] = refl
       kept (e ∷ es) = ap (λ ds. edge_data e.edge ∷ ds) (kept es)
 
+  tables_said : said_table p (table_of c.table) ≡ said_table p (table_of d.table)
+  tables_said =
+      table_same p c.table d.table (contexts_same p c.table.contexts.items d.table.contexts.items
+      (listed_all p c.table.contexts.items
+      (recursion_from_All (FitsContext p) c.table.contexts.items h.fits.each)
+      (profile_each c.table h.fits.ordered profile))
+      (listed_all p d.table.contexts.items fits_moved
+      (profile_each d.table j.fits.ordered also)) own_lists) edge_lists
+
+  said_moved : said_table p (table_of d.table) ≡ table_of d.table
+  said_moved =
+      subst (λ (r : Program). said_table r (table_of d.table) ≡ table_of d.table) program_is j.said
+
   pub says_same : SaysSame c d
   unfolding parts_data
   says_same = record {
     program = record { text = sym texts; others = program_is };
-    table = sym (table_same p c.table d.table (contexts_same p c.table.contexts.items
-        d.table.contexts.items (listed_all p c.table.contexts.items
-        (recursion_from_All (FitsContext p) c.table.contexts.items h.fits.each)
-        (own_each p c.table.contexts.items right_owns))
-        (listed_all p d.table.contexts.items fits_moved (own_each p d.table.contexts.items
-        (subst (AllByRecursion (IsRightOwn p)) own_lists right_owns))) own_lists) edge_lists);
+    table = sym said_moved ∙ sym tables_said ∙ h.said;
     visits = sym (items_same _ _ (list_same _ _ (field_same 5)));
   }
 

@@ -1,9 +1,11 @@
--- What a node gives of a state keeps its shape: writes, what registers are set to, and calls.
-use Rattle.std.specs.Prelude.{zero, suc, ◌&&◌, ◌-◌, ◌++◌, ℕ, ℤ, pos, negsuc, Bool, true, false, if◌then◌else◌, List, [], ◌∷◌, map, filter, length, drop, slice_get, Option, Some, None, IfSome, unwrap_or}
+-- What a node gives of a state of a program keeps its shape, with labels of the program alone: what
+-- registers are set to, objects, and calls.
+use Rattle.std.specs.Prelude.{zero, suc, ◌&&◌, ◌-◌, ◌++◌, ℕ, ℤ, pos, negsuc, Bool, true, false, List, [], ◌∷◌, map, length, drop, slice_get, Option, Some, None, IfSome, unwrap_or, ◌≡◌, IsTrue, ◌||◌, not}
 use Rattle.std.specs.List.{AllByRecursion, range_with_len}
-use Rattle.std.specs.Option.{option_map_or, option_map, option_and_then}
-use Rattle.std.proofs.Common.{refl}
+use Rattle.std.specs.Option.{option_map_or}
+use Rattle.std.proofs.Common.{refl, subst}
 use Rattle.std.proofs.lemmas.Bool.{cond_both}
+use Rattle.std.proofs.lemmas.Option.{none-some, same_Some}
 use Rattle.ja_base.specs.declared.ids.FnId.{FnId}
 use Rattle.ja_base.specs.declared.ids.Label.{Label}
 use Rattle.ja_base.specs.declared.ids.NameId.{NameId}
@@ -13,50 +15,56 @@ use Rattle.ja_base.specs.declared.ids.Site.{Site}
 use Rattle.ja_base.proofs.Lists.{all_append}
 use Rattle.ja_prim.specs.declared.primitive.Num.TheVariants.{Whole}
 use Rattle.ja_prim.specs.declared.primitive.Primitive.TheVariants as primitive
+use Rattle.ja_machine.specs.Events.{array_length_message, no_function_message, no_prototype_message, not_a_constructor_message, not_a_function_message, not_an_object_message, nothing_message}
 use Rattle.ja_machine.specs.Intrinsics.{class_name}
 use Rattle.ja_machine.specs.Machine.{class_of_site}
 use Rattle.ja_prim.specs.declared.signature.Signature.{Signature}
 use Rattle.ja_prim.specs.Texts.{is_short}
 use Rattle.ja_graph.specs.declared.attrs.TheConstants.{DONT_DELETE}
+use Rattle.ja_graph.specs.declared.builtins.TheConstants as builtins
 use Rattle.ja_graph.specs.declared.node.Args.TheVariants as args
+use Rattle.ja_graph.specs.declared.node.ErrorKind.TheVariants as error_kind
 use Rattle.ja_graph.specs.declared.node.Node.{Node}
 use Rattle.ja_graph.specs.declared.node.Node.TheVariants as node
 use Rattle.ja_graph.specs.declared.node.NodeInfo.{NodeInfo}
+use Rattle.ja_graph.specs.declared.program.Class.{Class}
+use Rattle.ja_graph.specs.declared.program.Class.TheVariants as class
 use Rattle.ja_graph.specs.declared.program.Program.{Program}
+use Rattle.ja_graph.specs.Node.{makings}
 use Rattle.ja_graph.specs.Program.{global}
+use Rattle.ja_graph.specs.WellFormed.{IsWellFormed}
 use Rattle.ja_machine.specs.Frames.{thrown, scope, parameters_of}
 use Rattle.ja_machine.specs.Nodes.{bound_attrs}
-use Rattle.ja_machine.proofs.Lists.{all_drop, all_filter, all_map, all_of}
+use Rattle.ja_machine.proofs.Lists.{all_drop, all_map, all_of}
+use Rattle.ja_machine.proofs.Nodes.{AreMade}
 use Rattle.ja_abstract.specs.declared.abstraction.Key.{Key}
 use Rattle.ja_abstract.specs.declared.abstraction.Key.TheVariants as key
 use Rattle.ja_abstract.specs.declared.abstraction.NumberPart.TheVariants as number_part
 use Rattle.ja_abstract.specs.declared.abstraction.TextPart.TheVariants as text_part
-use Rattle.ja_abstract.specs.AbstractValue.{Labels, AbstractValue, AbstractProperty, absent_property, no_value, of_attrs, of_label, of_labels, of_primitive, undefined_value}
-use Rattle.ja_abstract.specs.AbstractState.{AbstractState, aged, labels_of, new, same_key, with_register}
+use Rattle.ja_abstract.specs.AbstractValue.{Labels, AbstractValue, AbstractProperty, has_text, no_value, of_attrs, of_label, of_labels, of_primitive, undefined_value}
+use Rattle.ja_abstract.specs.AbstractState.{AbstractState, aged, is_label, labels_of, new, with_register}
 use Rattle.ja_abstract.specs.Composed.{composed, renamed_value}
-use Rattle.ja_abstract.specs.Keys.{index_keys, index_of_key, is_index_key}
-use Rattle.ja_abstract.specs.Made.{Own, activation_own, arguments_own, constructed_own, count_register, error_own, function_own, length_key, one_number, prototype_own, rest_register, scope_own, value_key, whole_constant, with_object, with_objects}
+use Rattle.ja_abstract.specs.Keys.{index_keys}
+use Rattle.ja_abstract.specs.Made.{Own, activation_own, arguments_own, constructed_own, count_register, empty_own, error_own, function_own, length_key, one_number, prototype_own, rest_register, scope_key, scope_own, text_own, value_key, wrapper_own, whole_constant, with_object, with_objects}
 use Rattle.ja_abstract.specs.Operations.{AbstractOperation, Looked, class_of, digits_atoms, digits_of, digits_of_operands, has_elements, has_own, inherits, is_enumerable, is_object, looked, of_one, of_two, operation, operations, value_of, is_radix}
-use Rattle.ja_abstract.specs.Primitives.{Operand, atoms, no_result, of_bools, of_number_part, operand, to_num, whole_value}
-use Rattle.ja_abstract.specs.Reading.{View, get, has_present, may_accept, may_refuse, names_shown, slot, some_label}
+use Rattle.ja_abstract.specs.Primitives.{Operand, atoms, no_result, of_bools, operand, to_num, whole_value}
+use Rattle.ja_abstract.specs.Reading.{View, get, has_present, names_shown, slot, some_label, may_have, may_lack}
 use Rattle.ja_abstract.specs.Resolved.{join_values}
-use Rattle.ja_abstract.specs.Values.{as_read, has_atoms, has_labels, primitives_of, value_if}
-use Rattle.ja_abstract.specs.Writes.{Write, Deletion, accepted_writes, asked_at, declared, defined, delete_list, delete_states, element_writes, grown_length, has_some_part, if_given, if_there, is_array_label, is_missing, joins_at, length_writes, may_be_cut, may_be_length, may_delete, may_keep, one_name, one_target, own_at, put_list, put_property, put_states, put_writes, sets_at, strong_at, strong_delete, strong_put, strong_update, weak_delete, weak_put, weak_update}
+use Rattle.ja_abstract.specs.Values.{has_atoms, has_labels, has_non_object, has_nullish, primitives_of, value_if, is_function_label}
+use Rattle.ja_abstract.specs.Writes.{Deletion, declared, defined, delete_states, has_some_part, is_missing, put_states, put_may_throw}
 use Rattle.ja_rows.specs.declared.table.Edge.{Edge}
 use Rattle.ja_rows.specs.BuiltIns.{device_value}
-use Rattle.ja_rows.specs.Calls.{Arguments, callee_value, calling, calling_state, chain_value, constructed, count_below, element_count, elements, entered_by, entry_of, entry_values, given, given_back, is_conversion, listed, prototype_value, returned, tail, values_of}
-use Rattle.ja_rows.specs.Out.{Given, Point, all_go, at, goes, makes, name_keys, sets, sets_in, sets_results, throws, with_error}
+use Rattle.ja_rows.specs.Calls.{Arguments, callee_value, callees, calling, calling_state, chain_value, constructed, count_below, element_count, elements, entered_by, entry_of, entry_values, given, given_back, is_conversion, listed, prototype_value, returned, tail, values_of}
+use Rattle.ja_rows.specs.Edges.{calls_at, constructs_at, is_kept, runs, has_other}
+use Rattle.ja_rows.specs.Objects.{bools_of, numbers_of, wraps}
+use Rattle.ja_rows.specs.Out.{Given, Point, all_go, at, goes, keys_in, makes, name_keys, read_value, sets, sets_in, sets_results, throws, type_error, with_error}
+use Rattle.ja_rows.specs.Properties.{instance_value, prototype_keys, instance_prototype}
 use Rattle.ja_rows.specs.Scopes.{enters_scope}
 use Rattle.ja_rows.specs.Transfer.{transfer_node}
-use Rattle.ja_cert_laws.specs.Back.{IsOfRegister, IsShaped}
-use Rattle.ja_cert_laws.proofs.ShapedStates.{AreTextKeys, AreTextWrites, IsOwn, IsTextKey, composed_shaped, entered_shaped, index_keys_are, object_shaped, objects_shaped, own_activation, own_arguments, own_constructed, own_empty, own_error, own_function, own_prototype, own_scope, own_text, own_wrapper, register_shaped, strong_shaped, value_keys_are, weak_shaped}
-use Rattle.ja_cert_laws.proofs.ShapedValues.{of_binary, of_constant, of_device, of_each, of_found, of_join, of_nothing, of_number, of_one_if, of_one_label, of_one_primitive, of_primitives, of_read, of_renamed, of_shown, of_some_labels, of_text, of_truths, of_uint32, of_unary, of_undefined, of_values, pairs_give, Gives}
-
--- what holds of each of them, and where there is none, holds of both ways
-by_option : {A B : Type 0} (P : A → Type 0) (Q : B → Type 0) (f : A → B) (b : B) (o : Option A)
-    → IfSome o P → ((a : A) → P a → Q (f a)) → Q b → Q (option_map_or f o b)
-by_option P Q f b None some each none = none
-by_option P Q f b (Some a) some each none = each a some
+use Rattle.ja_cert_laws.proofs.ShapedReadings.{IsViewIn, get_labels, led_to, of_found, slot_labels}
+use Rattle.ja_cert_laws.proofs.ShapedStates.{AreTextKeys, IsOwn, IsShapedIn, IsSite, at_site, builtin_there, composed_shaped, entered_shaped, error_there, object_shaped, object_there, objects_shaped, own_activation, own_arguments, own_constructed, own_empty, own_error, own_function, own_prototype, own_scope, own_text, own_wrapper, register_shaped, text_in, value_keys_are}
+use Rattle.ja_cert_laws.proofs.ShapedValues.{AreLabels, Gives, IsRegisterIn, aged_objects, joined_objects, left_objects, no_objects, of_binary, of_constant, of_device, of_each, of_join, of_nothing, of_number, of_one_if, of_one_label, of_one_primitive, of_primitives, of_read, of_renamed, of_shown, of_some_labels, of_text, of_truths, of_uint32, of_unary, of_undefined, of_values, pairs_give}
+use Rattle.ja_cert_laws.proofs.ShapedWrites.{by_option, declared_shaped, defined_shaped, delete_shaped, put_shaped}
 
 -- what holds of each entry holds at each place
 at_place : {A : Type 0} (P : A → Type 0) (xs : List A) (n : ℕ) → AllByRecursion P xs
@@ -65,503 +73,441 @@ at_place P [] n all = tt
 at_place P (x ∷ xs) zero all = all.0
 at_place P (x ∷ xs) (suc n) all = at_place P xs n all.1
 
-or_undefined : (o : Option AbstractValue) → IfSome o IsOfRegister
-    → IsOfRegister (unwrap_or o undefined_value)
-or_undefined None f = of_undefined
-or_undefined (Some v) f = f
-
--- ---- writes
-
-module _ (w : View) where
-  abbrev p : Program
-  p = w.program
-
-  element_writes_are : (l : Label) (k : Key) (v : AbstractValue) → IsTextKey k
-      → IfSome (element_writes w l k v) AreTextWrites
-  element_writes_are l k v t =
-      let q = own_at w l length_key in
-      let n = grown_length q.value (index_of_key p k) (one_number p q.value) in
-      cond_both (has_some_part w q.value)
-      (Some (sets_at k (put_property w l k v) ∷ sets_at length_key (record q { value = n }) ∷ []))
-      None (λ (o : Option (List Write)). IfSome o AreTextWrites)
-      (λ _. (t, (refl, tt))) (λ _. tt)
-
-  length_writes_are : (l : Label) (v : AbstractValue) → IfSome (length_writes w l v) AreTextWrites
-  length_writes_are l v =
-      let n = (to_num v).value.number in
-      let cut =
-      filter (λ (k : Key). may_be_cut n (index_of_key p k)) (index_keys p) in
-      let put = sets_at length_key (put_property w l length_key (of_number_part n)) in
-      let lost = map (λ (k : Key). joins_at k absent_property) cut in
-      let all : AreTextWrites lost = all_map IsTextKey (λ (x : Write). IsTextKey x.key)
-      (λ (k : Key). joins_at k absent_property) (λ k t. t) cut
-      (all_filter IsTextKey (λ (k : Key). may_be_cut n (index_of_key p k)) (index_keys p)
-      (index_keys_are p)) in
-      cond_both (may_be_length n) (Some (put ∷ lost)) None
-      (λ (o : Option (List Write)). IfSome o AreTextWrites) (λ _. (refl, all)) (λ _. tt)
-
-  put_writes_are : (l : Label) (k : Key) (v : AbstractValue) → IsTextKey k
-      → IfSome (put_writes w l k v) AreTextWrites
-  put_writes_are l k v t =
-      cond_both (is_array_label p l && same_key k length_key) (length_writes w l v) _
-      (λ o. IfSome o AreTextWrites) (λ _. length_writes_are l v)
-      (λ _. cond_both (is_array_label p l && is_index_key p k) (element_writes w l k v) _
-      (λ o. IfSome o AreTextWrites) (λ _. element_writes_are l k v t) (λ _. (t, tt)))
-
-  accepted_are : (l : Label) (k : Key) (v : AbstractValue) → IsTextKey k
-      → IfSome (accepted_writes w l k v) AreTextWrites
-  accepted_are l k v t =
-      cond_both (may_accept (asked_at w l k)) (put_writes w l k v) None
-      (λ o. IfSome o AreTextWrites) (λ _. put_writes_are l k v t) (λ _. tt)
-
-  some_writes : (o : Option (List Write)) → IfSome o AreTextWrites → AreTextWrites (unwrap_or o [])
-  some_writes None are = tt
-  some_writes (Some writes) are = are
-
-  put_list_is : (v : AbstractValue) (l : Label) (keys : List Key) → AreTextKeys keys
-      → AreTextWrites (put_list w keys v l)
-  put_list_is v l [] all = tt
-  put_list_is v l (k ∷ ks) all =
-      all_append (λ (x : Write). IsTextKey x.key) (unwrap_or (accepted_writes w l k v) []) _
-      (some_writes (accepted_writes w l k v) (accepted_are l k v all.0))
-      (put_list_is v l ks all.1)
-
-  delete_list_is : (l : Label) (keys : List Key) → AreTextKeys keys
-      → AreTextWrites (delete_list w keys l)
-  delete_list_is l keys all =
-      all_map IsTextKey (λ (x : Write). IsTextKey x.key)
-      (λ (k : Key). joins_at k absent_property) (λ k t. t) _
-      (all_filter IsTextKey (may_delete w l) keys all)
-
-  one_name_is : (keys : List Key) → IfSome (one_name keys) IsTextKey
-  one_name_is [] = tt
-  one_name_is (key.Name n ∷ []) = refl
-  one_name_is (key.Name n ∷ k ∷ ks) = tt
-  one_name_is (key.OtherIndex ∷ ks) = tt
-  one_name_is (key.OtherName ∷ ks) = tt
-  one_name_is (key.Slot s ∷ ks) = tt
-
-  abbrev IsSpot : Label × Key → Type 0
-  IsSpot at = IsTextKey at.1
-
-  spot_by : (o : Option Label) (n : Option Key) → IfSome n IsTextKey
-      → IfSome (option_and_then (λ l. option_map {U = Label × Key} (λ k. (l, k)) n) o) IsSpot
-  spot_by None n t = tt
-  spot_by (Some l) None t = tt
-  spot_by (Some l) (Some k) t = t
-
-  -- ---- the states behind it
-
-  module _ (f : IsShaped w.state) (target : Labels) where
-    abbrev AreShaped : List AbstractState → Type 0
-    AreShaped states = AllByRecursion IsShaped states
-
-    if_there_shaped : (b : Bool) (a : AbstractState) → IsShaped a → AreShaped (if_there b a)
-    if_there_shaped b a g = cond_both b (a ∷ []) [] AreShaped (λ _. (g, tt)) (λ _. tt)
-
-    strong_put_shaped : (v : AbstractValue) (l : Label) (k : Key) → IsTextKey k
-        → AreShaped (strong_put w l k v)
-    strong_put_shaped v l k t =
-        all_append IsShaped (if_there (may_refuse (asked_at w l k)) w.state) _
-        (if_there_shaped (may_refuse (asked_at w l k)) w.state f)
-        (by_option AreTextWrites AreShaped (λ writes. strong_update w.state l writes ∷ []) []
-        (accepted_writes w l k v) (accepted_are l k v t)
-        (λ writes are. (strong_shaped w.state l writes are f, tt)) tt)
-
-    module _ (keys : List Key) (are : AreTextKeys keys) where
-      abbrev spot : IfSome (strong_at w target keys) IsSpot
-      spot = spot_by (one_target w target) (one_name keys) (one_name_is keys)
-
-      pub put_shaped : (v : AbstractValue) → AreShaped (put_states w target keys v)
-      put_shaped v =
-          by_option IsSpot AreShaped (λ (at : Label × Key). strong_put w at.0 at.1 v)
-          (weak_put w target keys v) (strong_at w target keys) spot
-          (λ at is. strong_put_shaped v at.0 at.1 is)
-          (if_there_shaped _ (weak_update p w.state target (put_list w keys v))
-          (weak_shaped p w.state target (put_list w keys v) (λ l. put_list_is v l keys are) f))
-
-      -- .. of deletions, each with what it gives
-      abbrev IsDeletion : Deletion → Type 0
-      IsDeletion d = IsOfRegister d.0 × IsShaped d.1
-
-      abbrev AreDeletions : List Deletion → Type 0
-      AreDeletions results = AllByRecursion IsDeletion results
-
-      if_given_shaped : (b : Bool) (t f : Bool) (a : AbstractState) → IsShaped a
-          → AreDeletions (if_given b (of_bools t f) a)
-      if_given_shaped b t f a g =
-          cond_both b _ [] AreDeletions (λ _. ((of_truths t f, g), tt)) (λ _. tt)
-
-      strong_delete_shaped : (l : Label) (k : Key) → IsTextKey k
-          → AreDeletions (strong_delete w l k)
-      strong_delete_shaped l k t =
-          let cut = strong_update w.state l (sets_at k absent_property ∷ []) in
-          let gone = if_given (may_delete w l k) (of_bools true false) cut in
-          let stays = if_given (may_keep w l k) (of_bools false true) w.state in
-          let lacks = if_given (is_missing w l k) (of_bools true false) w.state in
-          all_append IsDeletion lacks (stays ++ gone)
-          (if_given_shaped (is_missing w l k) true false w.state f)
-          (all_append IsDeletion stays gone
-          (if_given_shaped (may_keep w l k) false true w.state f)
-          (if_given_shaped (may_delete w l k) true false cut
-          (strong_shaped w.state l (sets_at k absent_property ∷ []) (t, tt) f)))
-
-      pub delete_shaped : AreDeletions (delete_states w target keys)
-      delete_shaped =
-          by_option IsSpot AreDeletions (λ (at : Label × Key). strong_delete w at.0 at.1)
-          (weak_delete w target keys) (strong_at w target keys) spot
-          (λ at is. strong_delete_shaped at.0 at.1 is) (
-            (
-              of_truths _ _,
-              weak_shaped p w.state target (delete_list w keys) (λ l. delete_list_is l keys are) f,
-            ),
-            tt,
-          )
-
-    -- definitions
-    module _ (k : Key) (q : AbstractProperty) (t : IsTextKey k) where
-      set_shaped : (writes : Label → List Write) → ((l : Label) → AreTextWrites (writes l))
-          → IsShaped
-          (option_map_or (λ l. strong_update w.state l (sets_at k q ∷ [])) (one_target w target)
-          (weak_update p w.state target writes))
-      set_shaped writes are =
-          by_option (λ (l : Label). Unit {0}) IsShaped
-          (λ l. strong_update w.state l (sets_at k q ∷ []))
-          (weak_update p w.state target writes) (one_target w target) (any (one_target w target))
-          (λ l u. strong_shaped w.state l (sets_at k q ∷ []) (t, tt) f)
-          (weak_shaped p w.state target writes are f)
-        where
-          any : (o : Option Label) → IfSome o (λ (l : Label). Unit {0})
-          any None = tt
-          any (Some l) = tt
-
-      pub defined_shaped : IsShaped (defined w target k q)
-      defined_shaped = set_shaped (λ l. sets_at k q ∷ []) (λ l. (t, tt))
-
-      pub declared_shaped : IsShaped (declared w target k q)
-      declared_shaped =
-          set_shaped (λ l. if (own_at w l k).value.flags.absent then sets_at k q ∷ [] else [])
-          (λ l. cond_both (own_at w l k).value.flags.absent (sets_at k q ∷ []) [] AreTextWrites
-          (λ _. (t, tt)) (λ _. tt))
+or_undefined : (p : Program) (o : Option AbstractValue) → IfSome o (IsRegisterIn p)
+    → IsRegisterIn p (unwrap_or o undefined_value)
+or_undefined p None f = of_undefined p
+or_undefined p (Some v) f = f
 
 -- ---- the operations of the built-in functions
 
-abbrev IsOperation : AbstractOperation → Type 0
-IsOperation r = (w : View) (vs : List AbstractValue) → IsOfRegister (r w vs).value
+module _ (p : Program) where
+  abbrev IsOperation : AbstractOperation → Type 0
+  IsOperation r = (w : View) (vs : List AbstractValue) → IsRegisterIn p (r w vs).value
 
-one_gives : (f : View → AbstractValue → Looked)
-    → ((w : View) (v : AbstractValue) → IsOfRegister (f w v).value) → IsOperation (of_one f)
-one_gives f each w [] = of_nothing
-one_gives f each w (v ∷ []) = each w v
-one_gives f each w (u ∷ v ∷ vs) = of_nothing
+  one_gives : (f : View → AbstractValue → Looked)
+      → ((w : View) (v : AbstractValue) → IsRegisterIn p (f w v).value) → IsOperation (of_one f)
+  one_gives f each w [] = of_nothing p
+  one_gives f each w (v ∷ []) = each w v
+  one_gives f each w (u ∷ v ∷ vs) = of_nothing p
 
-two_give : (f : View → AbstractValue → AbstractValue → Looked)
-    → ((w : View) (u v : AbstractValue) → IsOfRegister (f w u v).value) → IsOperation (of_two f)
-two_give f each w [] = of_nothing
-two_give f each w (v ∷ []) = of_nothing
-two_give f each w (u ∷ v ∷ []) = each w u v
-two_give f each w (u ∷ v ∷ x ∷ vs) = of_nothing
+  two_give : (f : View → AbstractValue → AbstractValue → Looked)
+      → ((w : View) (u v : AbstractValue) → IsRegisterIn p (f w u v).value) → IsOperation (of_two f)
+  two_give f each w [] = of_nothing p
+  two_give f each w (v ∷ []) = of_nothing p
+  two_give f each w (u ∷ v ∷ []) = each w u v
+  two_give f each w (u ∷ v ∷ x ∷ vs) = of_nothing p
 
-digits_give : (x y : Operand) → Gives (digits_of_operands x y)
-digits_give (Some n) (Some (Whole (pos radix))) =
-    cond_both (is_radix radix) _ no_result Gives (λ _. of_text _) (λ _. of_nothing)
-digits_give (Some m) (Some n) = of_nothing
-digits_give x y = of_text text_part.Text
+  digits_give : (x y : Operand) → Gives p (digits_of_operands x y)
+  digits_give (Some n) (Some (Whole (pos radix))) =
+      cond_both (is_radix radix) _ no_result (Gives p) (λ _. of_text p _) (λ _. of_nothing p)
+  digits_give (Some m) (Some n) = of_nothing p
+  digits_give x y = of_text p text_part.Text
 
-operations_give : AllByRecursion IsOperation operations
-operations_give = (
-  one_gives is_object (λ w v. of_truths _ _),
-  (
-    one_gives class_of (λ w v. let text = λ (l : Label). of_primitive
-        (primitive.Text (class_name (class_of_site w.program l.site.0))) in
-        of_each (λ (l : Label). value_if (v.label l) (text l)) (λ l. of_one_if (v.label l) (text l)
-        (of_one_primitive (primitive.Text (class_name (class_of_site w.program l.site.0)))))
-        (labels_of w.program)),
+  operations_give : AllByRecursion IsOperation operations
+  operations_give = (
+    one_gives is_object (λ w v. of_truths p _ _),
     (
-      one_gives value_of (λ w v. let held = λ (l : Label). primitives_of (slot w l value_key) in
-          of_each (λ (l : Label). value_if (v.label l) (held l))
-          (λ l. of_one_if (v.label l) (held l) (of_primitives (slot w l value_key)))
+      one_gives class_of (λ w v. let text = λ (l : Label). of_primitive
+          (primitive.Text (class_name (class_of_site w.program l.site.0))) in
+          of_each p (λ (l : Label). value_if (v.label l) (text l))
+          (λ l. of_one_if p (v.label l) (text l)
+          (of_one_primitive p (primitive.Text (class_name (class_of_site w.program l.site.0)))))
           (labels_of w.program)),
       (
-        two_give has_own (λ w u v. of_truths _ _),
+        one_gives value_of (λ w v. let held = λ (l : Label). primitives_of (slot w l value_key) in
+            of_each p (λ (l : Label). value_if (v.label l) (held l))
+            (λ l. of_one_if p (v.label l) (held l) (of_primitives p (slot w l value_key)))
+            (labels_of w.program)),
         (
-          two_give is_enumerable (λ w u v. of_truths _ _),
+          two_give has_own (λ w u v. of_truths p _ _),
           (
-            two_give inherits (λ w u v. of_one_if (has_labels w v) _ (of_truths _ _)),
+            two_give is_enumerable (λ w u v. of_truths p _ _),
             (
-              one_gives has_elements (λ w v. of_truths _ _),
+              two_give inherits (λ w u v. of_one_if p (has_labels w v) _ (of_truths p _ _)),
               (
-                two_give digits_of (λ w u v. pairs_give digits_atoms
-                    (λ a b. pairs_give digits_of_operands digits_give (operand a) (operand b))
-                    (atoms u) (atoms v)),
-                tt,
+                one_gives has_elements (λ w v. of_truths p _ _),
+                (
+                  two_give digits_of (λ w u v. pairs_give p digits_atoms
+                      (λ a b. pairs_give p digits_of_operands digits_give (operand a) (operand b))
+                      (atoms u) (atoms v)),
+                  tt,
+                ),
               ),
             ),
           ),
         ),
       ),
     ),
-  ),
-)
+  )
 
-pub of_operation : (which : ℕ) (w : View) (vs : List AbstractValue)
-    → IsOfRegister (operation which w vs).value
-of_operation which w vs =
-    by_option IsOperation IsOperation (λ (r : AbstractOperation). r) (λ w vs. looked no_value)
-    (slice_get operations which) (at_place IsOperation operations which operations_give)
-    (λ r is. is) (λ w vs. of_nothing) w vs
+  pub of_operation : (which : ℕ) (w : View) (vs : List AbstractValue)
+      → IsRegisterIn p (operation which w vs).value
+  of_operation which w vs =
+      by_option IsOperation IsOperation (λ (r : AbstractOperation). r) (λ w vs. looked no_value)
+      (slice_get operations which) (at_place IsOperation operations which operations_give)
+      (λ r is. is) (λ w vs. of_nothing p) w vs
 
 -- ---- what a node gives
 
-module _ (w : View) (f : IsShaped w.state) where
+module _ (w : View) (good : IsWellFormed w.program) (f : IsViewIn w) where
+  abbrev p : Program
+  p = w.program
+
   abbrev IsGiven : ℕ × AbstractState → Type 0
-  IsGiven g = IsShaped g.1
+  IsGiven g = IsShapedIn p g.1
 
   abbrev pub AreGiven : Given → Type 0
   AreGiven given = AllByRecursion IsGiven given
 
-  of_at : (r : Reg) → IsOfRegister (at w r)
-  of_at r = f.registers r.0
+  of_at : (r : Reg) → IsRegisterIn p (at w r)
+  of_at r = f.state.registers r.0
 
-  goes_shaped : (b : Bool) (n : NodeId) (a : AbstractState) → IsShaped a → AreGiven (goes b n a)
+  objects_at : (r : Reg) → AreLabels p (at w r).label
+  objects_at r = (of_at r).labels
+
+  of_get : (start : Labels) (keys : List Key) → IsRegisterIn p (read_value w start keys)
+  of_get start keys = of_read p (get w start keys).value (get_labels w f start keys)
+
+  goes_shaped : (b : Bool) (n : NodeId) (a : AbstractState) → IsShapedIn p a
+      → AreGiven (goes b n a)
   goes_shaped b n a g = cond_both b ((n.0, a) ∷ []) [] AreGiven (λ _. (g, tt)) (λ _. tt)
 
   two_given : (xs ys : Given) → AreGiven xs → AreGiven ys → AreGiven (xs ++ ys)
   two_given xs ys left right = all_append IsGiven xs ys left right
 
-  set_in_shaped : (a : AbstractState) (dst : Reg) (v : AbstractValue) (n : NodeId) → IsShaped a
-      → IsOfRegister v → AreGiven (sets_in w a dst v n)
+  set_in_shaped : (a : AbstractState) (dst : Reg) (v : AbstractValue) (n : NodeId)
+      → IsShapedIn p a → IsRegisterIn p v → AreGiven (sets_in w a dst v n)
   set_in_shaped a dst v n g h =
-      goes_shaped (has_present w v) n (with_register a dst v) (register_shaped a dst v g h)
+      goes_shaped (has_present w v) n (with_register a dst v) (register_shaped p a dst v g h)
 
-  set_here : (dst : Reg) (v : AbstractValue) (n : NodeId) → IsOfRegister v
+  set_here : (dst : Reg) (v : AbstractValue) (n : NodeId) → IsRegisterIn p v
       → AreGiven (sets w dst v n)
-  set_here dst v n h = set_in_shaped w.state dst v n f h
+  set_here dst v n h = set_in_shaped w.state dst v n f.state h
 
-  all_given : (n : NodeId) (states : List AbstractState) → AllByRecursion IsShaped states
+  all_given : (n : NodeId) (states : List AbstractState) → AllByRecursion (IsShapedIn p) states
       → AreGiven (all_go n states)
   all_given n states all =
-      all_map IsShaped IsGiven (λ (a : AbstractState). (n.0, a)) (λ a g. g) states all
+      all_map (IsShapedIn p) IsGiven (λ (a : AbstractState). (n.0, a)) (λ a g. g) states all
 
   results_given : (dst : Reg) (n : NodeId) (rs : List Deletion)
-      → AllByRecursion (λ (d : Deletion). IsOfRegister d.0 × IsShaped d.1) rs
+      → AllByRecursion (λ (d : Deletion). IsRegisterIn p d.0 × IsShapedIn p d.1) rs
       → AreGiven (sets_results w dst n rs)
   results_given dst n [] all = tt
   results_given dst n (r ∷ rs) all =
       two_given (sets_in w r.1 dst r.0 n) (sets_results w dst n rs)
       (set_in_shaped r.1 dst r.0 n all.0.1 all.0.0) (results_given dst n rs all.1)
 
-  throws_given : (b : Bool) (i : NodeInfo) (error proto : Site) (text : List ℕ)
-      → AreGiven (throws w b i error proto text)
-  throws_given b i error proto text =
+  of_new : (s : Site) → IsSite p s → IsRegisterIn p (of_label (new s))
+  of_new s there = of_one_label p (new s) (at_site p s there)
+
+  throws_given : (b : Bool) (i : NodeInfo) (error proto : Site) (text : List ℕ) → IsSite p error
+      → IsSite p proto → AreGiven (throws w b i error proto text)
+  throws_given b i error proto text there known =
       goes_shaped (b && is_short text) i.handler (with_error w error proto text)
-      (register_shaped _ thrown _ (object_shaped w.program w.state error
-      (λ b. error_own proto text) (λ b. own_error proto text) f) (of_one_label (new error)))
+      (register_shaped p _ thrown _ (object_shaped p p w.state error
+      (λ b. error_own proto text) (λ b g. own_error p proto text known) f.state)
+      (of_new error there))
+
+  type_error_given : (b : Bool) (i : NodeInfo) (error : Site) (text : List ℕ) → IsSite p error
+      → AreGiven (type_error w b i error text)
+  type_error_given b i error text there =
+      throws_given b i error _ text there (error_there p good error_kind.TypeError)
 
   makes_given : (b : Bool) (dst : Reg) (s : Site) (own : AbstractState → Own) (n : NodeId)
-      → ((a : AbstractState) → IsOwn (own a)) → AreGiven (goes b n (makes w dst s own))
-  makes_given b dst s own n each =
-      goes_shaped b n (makes w dst s own) (register_shaped _ dst _
-      (object_shaped w.program w.state s own each f) (of_one_label (new s)))
+      → IsSite p s → ((a : AbstractState) → IsShapedIn p a → IsOwn p (own a))
+      → AreGiven (goes b n (makes w dst s own))
+  makes_given b dst s own n there each =
+      goes_shaped b n (makes w dst s own) (register_shaped p _ dst _
+      (object_shaped p p w.state s own each f.state) (of_new s there))
 
-  scope_entered : (site : Site) (a : AbstractState) → IsShaped a → IsShaped (enters_scope a site)
-  scope_entered site a g = register_shaped a scope _ g (of_one_label (new site))
+  scope_entered : (site : Site) (a : AbstractState) → IsSite p site → IsShapedIn p a
+      → IsShapedIn p (enters_scope a site)
+  scope_entered site a there g = register_shaped p a scope _ g (of_new site there)
 
   device_given : (dst : Reg) (i : NodeInfo) (o : Option Signature)
       → AreGiven (option_map_or (λ (s : Signature). sets w dst (device_value s.kinds) i.next) o [])
   device_given dst i None = tt
-  device_given dst i (Some s) = set_here dst (device_value s.kinds) i.next (of_device s.kinds)
+  device_given dst i (Some s) = set_here dst (device_value s.kinds) i.next (of_device p s.kinds)
 
   name_is : (name : NameId) → AreTextKeys (name_keys name)
   name_is name = (refl, tt)
 
-  pub given_shaped : (x : Point) (i : NodeInfo) (n : Node) → AreGiven (transfer_node w x i n).states
-  given_shaped x i (node.Const dst q) = search (set_here, of_one_primitive)
-  given_shaped x i (node.Move dst src) = search (set_here, of_at)
-  given_shaped x i (node.FindName dst name) = search (set_here, of_found)
-  given_shaped x i (node.ReadRef dst base name error) =
-      search (two_given, set_here, of_read, throws_given)
-  given_shaped x i (node.ReadSoft dst base name) =
-      search (set_here, of_join, of_one_if, of_undefined, of_read)
-  given_shaped x i (node.WriteRef base name src) =
-      search (all_given, put_shaped w f, name_is)
-  given_shaped x i (node.DeleteRef dst base name) =
+  -- objects of a kind of primitives
+  wraps_given : (dst : Reg) (site proto : Site) (c : Class) (v : AbstractValue) (next : NodeId)
+      → IsSite p site → slice_get builtins.BUILTIN_CLASSES proto.0 ≡ Some c → AreLabels p v.label
+      → AreGiven (wraps w dst site proto v next)
+  wraps_given dst site proto c v next there is g =
+      makes_given (has_present w v) dst site (λ a. wrapper_own proto v) next there
+      (λ a h. own_wrapper p proto v (builtin_there p good proto c is) g)
+
+  pub given_shaped : (x : Point) (i : NodeInfo) (arguments : Site → Bool) (n : Node)
+      → AreMade p arguments (makings n) → AreGiven (transfer_node w x i n).states
+  unfolding makings
+  given_shaped x i g (node.Const dst q) sites = set_here dst _ i.next (of_one_primitive p q)
+  given_shaped x i g (node.Move dst src) sites = set_here dst _ i.next (of_at src)
+  given_shaped x i g (node.FindName dst name) sites =
+      set_here dst _ i.next (of_found w f (at w scope).label (name_keys name) (objects_at scope))
+  given_shaped x i g (node.ReadRef dst base name error) sites =
+      let b = at w base in
+      two_given _ _ (throws_given b.flags.null i error builtins.REFERENCE_ERROR_PROTOTYPE _
+      sites.each.0.told.site.1 (error_there p good error_kind.ReferenceError))
+      (set_here dst _ i.next (of_get b.label (name_keys name)))
+  given_shaped x i g (node.ReadSoft dst base name) sites =
+      let b = at w base in
+      set_here dst _ i.next (of_join p (value_if b.flags.null undefined_value)
+      (read_value w b.label (name_keys name))
+      (of_one_if p b.flags.null undefined_value (of_undefined p))
+      (of_get b.label (name_keys name)))
+  given_shaped x i g (node.WriteRef base name src) sites =
+      all_given i.next _ (put_shaped w f _ (name_keys name) (name_is name) (at w src)
+      (objects_at src))
+  given_shaped x i g (node.DeleteRef dst base name) sites =
       let start = (at w base).label in
       let truth = of_bools true false in
       two_given (goes (at w base).flags.null i.next (with_register w.state dst truth))
       (sets_results w dst i.next (delete_states w start (name_keys name)))
       (goes_shaped (at w base).flags.null i.next (with_register w.state dst truth)
-      (register_shaped w.state dst truth f (of_truths true false)))
+      (register_shaped p w.state dst truth f.state (of_truths p true false)))
       (results_given dst i.next (delete_states w start (name_keys name))
-      (delete_shaped w f start (name_keys name) (name_is name)))
-  given_shaped x i (node.ToObject dst src wrappers error) =
-      search (two_given, set_here, of_some_labels, makes_given, own_wrapper, own_text, throws_given)
-      depth 8
-  given_shaped x i (node.NeedObject src error) = search (two_given, goes_shaped, f, throws_given)
-  given_shaped x i (node.ReadProp dst object k) = search (set_here, of_read)
-  given_shaped x i (node.WriteProp object k src error) =
-      search (two_given, all_given, put_shaped w f, value_keys_are, throws_given)
-  given_shaped x i (node.DeleteProp dst object k) =
-      search (results_given, delete_shaped w f, value_keys_are)
-  given_shaped x i (node.HasProp dst object k) = search (set_here, of_truths)
-  given_shaped x i (node.InstanceOf dst left right not_function not_object) =
-      search (two_given, set_here, of_truths, throws_given)
-  given_shaped x i (node.NewObject dst site kind) = search (makes_given, own_empty)
-  given_shaped x i (node.MakeFunction dst function site proto_site) =
-      let own = λ (a : AbstractState). function_own w.program function (a.register scope.0).label
+      (delete_shaped w f start (name_keys name)))
+  given_shaped x i g (node.ToObject dst src wrappers error) sites =
+      let v = at w src in
+      let itself = set_here dst (of_labels v.label) i.next
+      (of_some_labels p v.label (objects_at src)) in
+      let booleans = wraps_given dst wrappers.boolean builtins.BOOLEAN_PROTOTYPE class.Boolean
+      (bools_of v) i.next sites.each.0.told.site.1 refl (no_objects p) in
+      let numbers = wraps_given dst wrappers.number builtins.NUMBER_PROTOTYPE class.Number
+      (numbers_of v) i.next sites.each.1.0.told.site.1 refl (no_objects p) in
+      let texts = makes_given (has_text v.text) dst wrappers.text (λ a. text_own v.text) i.next
+      sites.each.1.1.0.told.site.1 (λ a h. own_text p good v.text) in
+      let refused = type_error_given (has_nullish v) i error nothing_message
+      sites.each.1.1.1.0.told.site.1 in
+      two_given _ _ itself (two_given _ _ booleans (two_given _ _ numbers
+      (two_given _ _ texts refused)))
+  given_shaped x i g (node.NeedObject src error) sites =
+      two_given _ _ (goes_shaped (has_labels w (at w src)) i.next w.state f.state)
+      (type_error_given (has_atoms (at w src)) i error not_an_object_message
+      sites.each.0.told.site.1)
+  given_shaped x i g (node.ReadProp dst object k) sites =
+      set_here dst _ i.next (of_get (at w object).label (keys_in w k))
+  given_shaped x i g (node.WriteProp object k src error) sites =
+      let target = (at w object).label in
+      let keys = keys_in w k in
+      two_given _ _ (all_given i.next (put_states w target keys (at w src)) (put_shaped w f target
+      keys (value_keys_are p (at w k)) (at w src) (objects_at src)))
+      (throws_given (put_may_throw w target keys (at w src)) i error
+      builtins.RANGE_ERROR_PROTOTYPE array_length_message sites.each.0.told.site.1
+      (error_there p good error_kind.RangeError))
+  given_shaped x i g (node.DeleteProp dst object k) sites =
+      results_given dst i.next _ (delete_shaped w f (at w object).label (keys_in w k))
+  given_shaped x i g (node.HasProp dst object k) sites =
+      let q = get w (at w object).label (keys_in w k) in
+      set_here dst _ i.next (of_truths p (may_have w q) (may_lack q))
+  given_shaped x i g (node.InstanceOf dst left right not_function not_object) sites =
+      let r = at w right in
+      let is_other = has_atoms r || some_label w
+      (λ l. r.label l && not (is_function_label p l)) in
+      let lacks = has_non_object (instance_prototype w left right) in
+      let value = instance_value w left right in
+      let refused = type_error w lacks i not_object no_prototype_message in
+      two_given (type_error w is_other i not_function no_function_message)
+      (refused ++ sets w dst value i.next)
+      (type_error_given is_other i not_function no_function_message sites.each.0.told.site.1)
+      (two_given refused (sets w dst value i.next)
+      (type_error_given lacks i not_object no_prototype_message sites.each.1.0.told.site.1)
+      (set_here dst value i.next (of_truths p value.flags.is_true value.flags.is_false)))
+  given_shaped x i g (node.NewObject dst site kind) sites =
+      makes_given true dst site (λ a. empty_own kind) i.next sites.each.0.told.site.1
+      (λ a h. own_empty p good kind)
+  given_shaped x i g (node.MakeFunction dst function site proto_site) sites =
+      let own = λ (a : AbstractState). function_own p function (a.register scope.0).label
       (new proto_site) in
-      let proto = λ (a : AbstractState). prototype_own w.program (new site) in
-      let made = with_objects w.program w.state site own proto_site proto in (
-        register_shaped made dst (of_label (new site)) (objects_shaped w.program w.state site own
-            proto_site proto (λ a. own_function w.program function (a.register scope.0).label
-            (new proto_site)) (λ a. own_prototype w.program (new site)) f)
-            (of_one_label (new site)),
+      let proto = λ (a : AbstractState). prototype_own p (new site) in
+      let made = with_objects p w.state site own proto_site proto in
+      let at_first = sites.each.0.told.site.1 in
+      let at_second = sites.each.1.0.told.site.1 in (
+        register_shaped p made dst (of_label (new site)) (objects_shaped p p w.state site own
+            proto_site proto (λ a h. own_function p good function (a.register scope.0).label
+            (new proto_site) (h.registers scope.0).labels (at_site p proto_site at_second))
+            (λ a h. own_prototype p good (new site) (at_site p site at_first)) f.state)
+            (of_new site at_first),
         tt,
       )
-  given_shaped x i (node.Enter site None) =
-      let own = activation_own w.program x.context.function None in
-      goes_shaped _ i.next (enters_scope (with_object w.program w.state site own) site)
-      (scope_entered site _ (object_shaped w.program w.state site own
-      (own_activation w.program x.context.function None) f))
-  given_shaped x i (node.Enter site (Some list)) =
-      let own = activation_own w.program x.context.function (Some list) in
-      let other = arguments_own w.program x.context.function in
+  given_shaped x i g (node.Enter site None) sites =
+      let own = activation_own p x.context.function None in
+      let there = sites.each.0.told.site.1 in
+      goes_shaped _ i.next (enters_scope (with_object p w.state site own) site)
+      (scope_entered site _ there (object_shaped p p w.state site own
+      (λ a h. own_activation p good x.context.function a h.registers None
+      (λ t is. absurd (none-some t is))) f.state))
+  given_shaped x i g (node.Enter site (Some list)) sites =
+      let own = activation_own p x.context.function (Some list) in
+      let other = arguments_own p x.context.function in
       goes_shaped _ i.next
-      (enters_scope (with_objects w.program w.state site own list other) site)
-      (scope_entered site _ (objects_shaped w.program w.state site own list other
-      (own_activation w.program x.context.function (Some list))
-      (own_arguments w.program x.context.function) f))
-  given_shaped x i (node.Declare name) =
+      (enters_scope (with_objects p w.state site own list other) site)
+      (scope_entered site _ sites.each.0.told.site.1 (objects_shaped p p w.state site own list other
+      (λ a h. own_activation p good x.context.function a h.registers (Some list)
+      (λ t is. subst (IsSite p) (same_Some list t is) sites.each.1.0.told.site.1))
+      (λ a h. own_arguments p good x.context.function a h.registers) f.state))
+  given_shaped x i g (node.Declare name) sites =
       let target = (at w scope).label in
+      let k = key.Name name in
       let q : AbstractProperty =
       record { value = undefined_value; attrs = of_attrs DONT_DELETE } in
-      two_given _ (goes (some_label w (λ l. target l && is_missing w l (key.Name name))) i.next
-      (declared w target (key.Name name) q)) (goes_shaped _ i.next w.state f)
-      (goes_shaped _ i.next (declared w target (key.Name name) q)
-      (declared_shaped w f target (key.Name name) q refl))
-  given_shaped x i (node.Bind name src read_only) =
+      two_given _ (goes (some_label w (λ l. target l && is_missing w l k)) i.next
+      (declared w target k q)) (goes_shaped _ i.next w.state f.state)
+      (goes_shaped _ i.next (declared w target k q)
+      (declared_shaped w f target k q (text_in p k q refl (no_objects p))))
+  given_shaped x i g (node.Bind name src read_only) sites =
+      let k = key.Name name in
       let q : AbstractProperty =
       record { value = at w src; attrs = of_attrs (bound_attrs read_only) } in
-      goes_shaped _ i.next (defined w (at w scope).label (key.Name name) q)
-      (defined_shaped w f (at w scope).label (key.Name name) q refl)
-  given_shaped x i (node.PushScope site) =
+      goes_shaped _ i.next (defined w (at w scope).label k q)
+      (defined_shaped w f (at w scope).label k q (text_in p k q refl (objects_at src)))
+  given_shaped x i g (node.PushScope site) sites =
       let own = λ (a : AbstractState). scope_own (a.register scope.0).label in
-      goes_shaped true i.next (enters_scope (with_object w.program w.state site own) site)
-      (scope_entered site _ (object_shaped w.program w.state site own
-      (λ a. own_scope (a.register scope.0).label) f))
-  given_shaped x i (node.Convert dst src kind other) =
-      search (set_here, of_join, of_one_if, of_some_labels, of_primitives)
-  given_shaped x i (node.Unary dst op src) = search (set_here, of_unary)
-  given_shaped x i (node.Binary dst op a b) = search (set_here, of_binary)
-  given_shaped x i (node.Branch src) =
-      two_given (goes (at w src).flags.is_true i.next w.state) _ (goes_shaped _ i.next w.state f)
-      (goes_shaped _ i.other w.state f)
-  given_shaped x i (node.Call dst callee receiver args error) = search throws_given
-  given_shaped x i (node.New dst callee args site error) = search throws_given
-  given_shaped x i (node.Names list object) = goes_shaped _ i.next w.state f
-  given_shaped x i (node.Pick list dst object) =
+      goes_shaped true i.next (enters_scope (with_object p w.state site own) site)
+      (scope_entered site _ sites.each.0.told.site.1 (object_shaped p p w.state site own
+      (λ a h. own_scope p good (a.register scope.0).label (h.registers scope.0).labels) f.state))
+  given_shaped x i g (node.Convert dst src kind other) sites =
+      let v = at w src in
+      set_here dst _ i.next (of_join p (value_if (is_kept w other) (of_labels v.label))
+      (primitives_of v)
+      (of_one_if p (is_kept w other) (of_labels v.label)
+      (of_some_labels p v.label (objects_at src))) (of_primitives p v))
+  given_shaped x i g (node.Unary dst op src) sites =
+      set_here dst _ i.next (of_unary p w op (at w src))
+  given_shaped x i g (node.Binary dst op a b) sites =
+      set_here dst _ i.next (of_binary p w op (at w a) (at w b))
+  given_shaped x i g (node.Branch src) sites =
+      two_given (goes (at w src).flags.is_true i.next w.state) _
+      (goes_shaped _ i.next w.state f.state) (goes_shaped _ i.other w.state f.state)
+  given_shaped x i g (node.Call dst callee receiver args error) sites =
+      type_error_given (has_other w (calls_at p) (at w callee)) i error not_a_function_message
+      sites.each.0.told.site.1
+  given_shaped x i g (node.New dst callee args site error) sites =
+      type_error_given (has_other w (constructs_at p) (at w callee)) i error
+      not_a_constructor_message sites.each.1.0.told.site.1
+  given_shaped x i g (node.Names list object) sites = goes_shaped _ i.next w.state f.state
+  given_shaped x i g (node.Pick list dst object) sites =
       two_given (sets w dst (names_shown w (at w object).label) i.next) _
-      (set_here dst (names_shown w (at w object).label) i.next (of_shown w (at w object).label))
-      (goes_shaped _ i.other w.state f)
-  given_shaped x i (node.Throw src) = search (set_here, of_at)
-  given_shaped x i (node.Return src) = tt
-  given_shaped x i node.Escape = tt
-  given_shaped x i (node.Intrinsic dst which args) = search (set_here, of_operation)
-  given_shaped x i (node.Device dst which) = device_given dst i _
-  given_shaped x i (node.Stop kind) = tt
+      (set_here dst (names_shown w (at w object).label) i.next
+      (of_shown p w (at w object).label)) (goes_shaped _ i.other w.state f.state)
+  given_shaped x i g (node.Throw src) sites = set_in_shaped _ thrown _ i.handler f.state (of_at src)
+  given_shaped x i g (node.Return src) sites = tt
+  given_shaped x i g node.Escape sites = tt
+  given_shaped x i g (node.Intrinsic dst which args) sites =
+      set_here dst _ i.next (of_operation p which w (map (at w) args))
+  given_shaped x i g (node.Device dst which) sites = device_given dst i _
+  given_shaped x i g (node.Stop kind) sites = tt
 
   -- ---- calls
 
-  pub calling_shaped : (n : Node) (k : ℕ) → IsShaped (calling_state w n k)
+  prototype_labels : (n : Node) (k : ℕ) → AreLabels p (prototype_value w n k).label
+  prototype_labels n k =
+      let v = (get w (callees p w.state n k) (prototype_keys p)).value in
+      let other = value_if (has_non_object v) (of_label (new builtins.OBJECT_PROTOTYPE)) in
+      joined_objects p other.label v.label (of_one_if p (has_non_object v)
+      (of_label (new builtins.OBJECT_PROTOTYPE))
+      (of_new builtins.OBJECT_PROTOTYPE (object_there p good))).labels
+      (get_labels w f (callees p w.state n k) (prototype_keys p))
+
+  pub calling_shaped : (n : Node) (k : ℕ) → IsShapedIn p (calling_state w n k)
   calling_shaped (node.New dst callee list site error) k =
       let proto = prototype_value w (node.New dst callee list site error) k in
-      object_shaped w.program w.state site
+      object_shaped p p w.state site
       (λ (a : AbstractState). constructed_own (aged site proto))
-      (λ a. own_constructed (aged site proto)) f
-  calling_shaped n k = f
+      (λ a h. own_constructed p (aged site proto) (aged_objects p site proto
+      (prototype_labels (node.New dst callee list site error) k))) f.state
+  calling_shaped n k = f.state
+
+  pub calling_view : (n : Node) (k : ℕ) → IsViewIn (calling w n k)
+  calling_view n k = record { state = calling_shaped n k; entries = f.entries }
 
   returned_shaped : (a : AbstractState) (i : NodeInfo) (n : Node) (this v : AbstractValue)
-      → IsShaped a → IsOfRegister this → IsOfRegister v → AreGiven (returned w a i n this v)
+      → IsShapedIn p a → IsRegisterIn p this → IsRegisterIn p v
+      → AreGiven (returned w a i n this v)
   returned_shaped a i (node.Call dst callee receiver list error) this v g h k =
       set_in_shaped a dst v i.next g k
   returned_shaped a i (node.New dst callee list site error) this v g h k =
       set_in_shaped a dst (constructed this v) i.next g
-      (of_join (value_if (has_atoms v) this) (of_labels v.label) (of_one_if (has_atoms v) this h)
-      (of_some_labels v.label))
+      (of_join p (value_if (has_atoms v) this) (of_labels v.label)
+      (of_one_if p (has_atoms v) this h) (of_some_labels p v.label k.labels))
   returned_shaped a i (node.Convert dst src kind other) this v g h k =
       set_in_shaped a dst v i.next g k
   returned_shaped a i n this v g h k = tt
 
-  pub back_shaped : (e : Edge) (i : NodeInfo) (exit : AbstractState) (n : Node) → IsShaped exit
+  pub back_shaped : (e : Edge) (i : NodeInfo) (exit : AbstractState) (n : Node)
+      → IsTrue (is_label p e.callee.receiver) → IsShapedIn p exit
       → AreGiven (given_back w e i exit n)
-  back_shaped e i exit (node.Return src) h =
-      let a = composed w.program (calling_state w i.node e.callee.function.0) exit in
+  back_shaped e i exit (node.Return src) of h =
+      let a = composed p (calling_state w i.node e.callee.function.0) exit in
       returned_shaped a i i.node (renamed_value exit.mask (of_label e.callee.receiver))
-      (exit.register src.0) (composed_shaped w.program
+      (exit.register src.0) (composed_shaped p p
       (calling_state w i.node e.callee.function.0) exit
       (calling_shaped i.node e.callee.function.0) h)
-      (of_renamed exit.mask (of_label e.callee.receiver) (of_one_label e.callee.receiver))
+      (of_renamed p exit.mask (of_label e.callee.receiver) (of_one_label p e.callee.receiver of))
       (h.registers src.0)
-  back_shaped e i exit node.Escape h =
-      let a = composed w.program (calling_state w i.node e.callee.function.0) exit in
-      set_in_shaped a thrown (exit.register thrown.0) i.handler (composed_shaped w.program
+  back_shaped e i exit node.Escape of h =
+      let a = composed p (calling_state w i.node e.callee.function.0) exit in
+      set_in_shaped a thrown (exit.register thrown.0) i.handler (composed_shaped p p
       (calling_state w i.node e.callee.function.0) exit
       (calling_shaped i.node e.callee.function.0) h) (h.registers thrown.0)
-  back_shaped e i exit n h = tt
+  back_shaped e i exit n of h = tt
 
   -- ---- arguments
 
   pub record AreArguments (g : Arguments) : Type 0 where
-    pub parameter : (j : ℕ) → IsOfRegister (g.parameter j)
-    pub rest : IsOfRegister g.rest
-    pub count : IsOfRegister g.count
+    pub parameter : (j : ℕ) → IsRegisterIn p (g.parameter j)
+    pub rest : IsRegisterIn p g.rest
+    pub count : IsRegisterIn p g.count
 
-  values_are : (list : List Reg) → AllByRecursion IsOfRegister (values_of w list)
+  values_are : (list : List Reg) → AllByRecursion (IsRegisterIn p) (values_of w list)
   values_are list =
-      all_map (λ (r : Reg). Unit {0}) IsOfRegister (at w) (λ r u. of_at r) list
+      all_map (λ (r : Reg). Unit {0}) (IsRegisterIn p) (at w) (λ r u. of_at r) list
       (all_of (λ (r : Reg). Unit {0}) (λ r. tt) list)
 
   listed_are : (parameters : ℕ) (list : List Reg) → AreArguments (listed w parameters list)
   listed_are parameters list = record {
     parameter =
-        λ j. or_undefined (slice_get (values_of w list) j)
-        (at_place IsOfRegister (values_of w list) j (values_are list));
-    rest = of_join undefined_value (join_values (drop parameters (values_of w list))) of_undefined
-        (of_values (drop parameters (values_of w list))
-        (all_drop IsOfRegister parameters (values_of w list) (values_are list)));
-    count = of_constant (length list);
+        λ j. or_undefined p (slice_get (values_of w list) j)
+        (at_place (IsRegisterIn p) (values_of w list) j (values_are list));
+    rest = of_join p undefined_value (join_values (drop parameters (values_of w list)))
+        (of_undefined p) (of_values p (drop parameters (values_of w list))
+        (all_drop (IsRegisterIn p) parameters (values_of w list) (values_are list)));
+    count = of_constant p (length list);
   }
 
   elements_are : (v : AbstractValue) → AreArguments (elements w v)
   elements_are v =
       let q = (get w v.label (length_key ∷ [])).value in
-      let each = of_join undefined_value (as_read (get w v.label (index_keys w.program)).value)
-      of_undefined (of_read (get w v.label (index_keys w.program)).value) in
+      let each = of_join p undefined_value (read_value w v.label (index_keys p))
+      (of_undefined p) (of_get v.label (index_keys p)) in
       record {
         parameter = λ j. each;
         rest = each;
         count =
-            of_join (value_if (has_labels w q) (whole_constant 0)) (element_count q)
-            (of_one_if (has_labels w q) (whole_constant 0) (of_constant 0))
-            (of_join (value_if q.flags.absent (whole_constant 0)) _
-            (of_one_if q.flags.absent (whole_constant 0) (of_constant 0))
-            (of_uint32 (to_num (primitives_of q)).value));
+            of_join p (value_if (has_labels w q) (whole_constant 0)) (element_count q)
+            (of_one_if p (has_labels w q) (whole_constant 0) (of_constant p 0))
+            (of_join p (value_if q.flags.absent (whole_constant 0)) _
+            (of_one_if p q.flags.absent (whole_constant 0) (of_constant p 0))
+            (of_uint32 p (to_num (primitives_of q)).value));
       }
 
   tail_are : (caller : FnId) → AreArguments (tail w caller)
   tail_are caller =
-      let rest = f.registers (rest_register (parameters_of w.program caller)) in
+      let rest = f.state.registers (rest_register (parameters_of p caller)) in
       record {
         parameter = λ j. rest;
         rest = rest;
         count = by (w.state.register count_register)
-            (one_number w.program (w.state.register count_register));
+            (one_number p (w.state.register count_register));
       }
     where
-      by : (v : AbstractValue) (o : Option ℤ) → IsOfRegister (count_below w v o)
-      by v (Some (pos n)) = of_constant (n - 1)
-      by v (Some (negsuc n)) = of_constant 0
-      by v None = of_one_if (has_some_part w v) whole_value (of_number number_part.Whole)
+      by : (v : AbstractValue) (o : Option ℤ) → IsRegisterIn p (count_below w v o)
+      by v (Some (pos n)) = of_constant p (n - 1)
+      by v (Some (negsuc n)) = of_constant p 0
+      by v None = of_one_if p (has_some_part w v) whole_value (of_number p number_part.Whole)
 
   given_are : (caller : FnId) (parameters : ℕ) (n : Node)
       → AreArguments (given w caller parameters n)
@@ -573,17 +519,37 @@ module _ (w : View) (f : IsShaped w.state) where
   given_are caller parameters (node.New dst callee list site error) = listed_are parameters list
   given_are caller parameters n = listed_are parameters []
 
+  callees_labels : (n : Node) (k : ℕ) → AreLabels p (callees p w.state n k)
+  callees_labels (node.Call dst callee receiver list error) k =
+      left_objects p (at w callee).label (runs (calls_at p) k) (objects_at callee)
+  callees_labels (node.New dst callee list site error) k =
+      left_objects p (at w callee).label (runs (constructs_at p) k) (objects_at callee)
+  callees_labels n k = no_objects p
+
+  of_callee : (n : Node) (k : ℕ) → IsRegisterIn p (callee_value w n k)
+  of_callee n k =
+      cond_both (is_conversion n) undefined_value (of_labels (callees p w.state n k))
+      (IsRegisterIn p) (λ _. of_undefined p)
+      (λ _. of_some_labels p (callees p w.state n k) (callees_labels n k))
+
+  of_chain : (n : Node) (k : ℕ) → IsRegisterIn p (chain_value w n k)
+  of_chain n k =
+      cond_both (is_conversion n) (of_label (new global)) _ (IsRegisterIn p)
+      (λ _. of_new global (builtin_there p good global class.Object refl))
+      (λ _. of_some_labels p _ (led_to p (callees p w.state n k)
+      (λ l. (slot w l scope_key).label) (λ l. slot_labels w f l scope_key) (labels_of p)))
+
 -- .. and the registers at entry
-pub entry_shaped : (parameters : ℕ) (receiver chain callee : AbstractValue) (g : Arguments)
-    → IsOfRegister receiver → IsOfRegister chain → IsOfRegister callee
-    → ((j : ℕ) → IsOfRegister (g.parameter j)) → IsOfRegister g.rest → IsOfRegister g.count
-    → IsShaped (entry_of parameters receiver chain callee g)
-entry_shaped parameters receiver chain callee g r c k each rest count =
+pub entry_shaped : (p : Program) (parameters : ℕ) (receiver chain callee : AbstractValue)
+    (g : Arguments) → IsRegisterIn p receiver → IsRegisterIn p chain → IsRegisterIn p callee
+    → ((j : ℕ) → IsRegisterIn p (g.parameter j)) → IsRegisterIn p g.rest → IsRegisterIn p g.count
+    → IsShapedIn p (entry_of parameters receiver chain callee g)
+entry_shaped p parameters receiver chain callee g r c k each rest count =
     let values = entry_values parameters receiver chain callee g in
-    let parameter = all_map (λ (j : ℕ). Unit {0}) IsOfRegister g.parameter (λ j u. each j)
+    let parameter = all_map (λ (j : ℕ). Unit {0}) (IsRegisterIn p) g.parameter (λ j u. each j)
     (range_with_len 0 parameters) (all_of (λ (j : ℕ). Unit {0}) (λ j. tt) _) in
-    let all : AllByRecursion IsOfRegister values = (
-      of_undefined,
+    let all : AllByRecursion (IsRegisterIn p) values = (
+      of_undefined p,
       (
         r,
         (
@@ -592,26 +558,25 @@ entry_shaped parameters receiver chain callee g r c k each rest count =
             k,
             (
               count,
-              all_append IsOfRegister (map g.parameter (range_with_len 0 parameters)) (g.rest ∷ [])
-                  parameter (rest, tt),
+              all_append (IsRegisterIn p) (map g.parameter (range_with_len 0 parameters))
+                  (g.rest ∷ []) parameter (rest, tt),
             ),
           ),
         ),
       ),
     ) in
-    entered_shaped (entry_of parameters receiver chain callee g).register
-    (λ n. or_undefined (slice_get values n) (at_place IsOfRegister values n all))
+    entered_shaped p (entry_of parameters receiver chain callee g).register
+    (λ n. or_undefined p (slice_get values n) (at_place (IsRegisterIn p) values n all))
 
-pub callee_shaped : (w : View) → IsShaped w.state → (e : Edge) (n : Node)
-    → IsShaped (entered_by w e n).state
-callee_shaped w f e n =
+pub callee_shaped : (w : View) → IsWellFormed w.program → IsViewIn w → (e : Edge) (n : Node)
+    → IsTrue (is_label w.program e.callee.receiver) → IsShapedIn w.program (entered_by w e n).state
+callee_shaped w good f e n of =
     let k = e.callee.function.0 in
     let c = calling w n k in
+    let h = calling_view w good f n k in
     let parameters = parameters_of w.program e.callee.function in
-    let are = given_are c (calling_shaped w f n k) e.caller.function parameters n in
-    entry_shaped parameters (of_label e.callee.receiver) (chain_value c n k) (callee_value c n k)
-    (given c e.caller.function parameters n) (of_one_label e.callee.receiver)
-    (cond_both (is_conversion n) (of_label (new global)) _ IsOfRegister
-    (λ _. of_one_label (new global)) (λ _. of_some_labels _))
-    (cond_both (is_conversion n) undefined_value _ IsOfRegister (λ _. of_undefined)
-    (λ _. of_some_labels _)) are.parameter are.rest are.count
+    let are = given_are c good h e.caller.function parameters n in
+    entry_shaped w.program parameters (of_label e.callee.receiver) (chain_value c n k)
+    (callee_value c n k) (given c e.caller.function parameters n)
+    (of_one_label w.program e.callee.receiver of) (of_chain c good h n k) (of_callee c good h n k)
+    are.parameter are.rest are.count

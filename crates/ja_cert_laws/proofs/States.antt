@@ -1,5 +1,5 @@
 -- States that are written the same say the same.
-use Rattle.std.proofs.Common.{◌≡◌, ◌≤◌, ℕ, Bool, true, false, ◌&&◌, length, get_or, None, refl, sym, ap, ◌∙◌}
+use Rattle.std.proofs.Common.{◌≡◌, ◌≤◌, ℕ, Bool, true, false, ◌&&◌, length, get_or, refl, sym, ap, ◌∙◌}
 use Rattle.std.specs.Prelude.{nat_lt}
 use Rattle.std.proofs.lemmas.Bool.{and_parts, ltb-false, ltb-true}
 use Rattle.serde_json.specs.Data.{null}
@@ -11,12 +11,11 @@ use Rattle.ja_abstract.specs.declared.abstraction.Key.{Key}
 use Rattle.ja_abstract.specs.AbstractValue.{undefined_value}
 use Rattle.ja_abstract.specs.AbstractState.{AbstractState, is_key, is_label}
 use Rattle.ja_abstract.specs.InProgram.{IsInProgram}
-use Rattle.ja_report.specs.Lines.{property_lines, register_lines}
-use Rattle.ja_cert.specs.Certificate.{lines_data, state_data}
-use Rattle.ja_cert.specs.Wrong.{list_wrong, property_wrong, register_wrong}
-use Rattle.ja_cert_laws.specs.Back.{said_property, said_state, said_value}
+use Rattle.ja_cert.specs.Certificate.{state_data}
+use Rattle.ja_cert_read.specs.Said.{said_property, said_state, said_value}
 use Rattle.ja_cert_laws.proofs.Members.{fields_in}
 use Rattle.ja_cert_laws.proofs.Properties.{masks_same, properties_same}
+use Rattle.ja_abstract.specs.Profile.{IsStateOfProfile}
 use Rattle.ja_cert_laws.proofs.Registers.{registers_same}
 
 -- a state of a function: registers past the last are undefined, and it speaks of the program alone
@@ -24,13 +23,8 @@ pub record IsOfFunction (p : Program) (f : FnId) (a : AbstractState) : Type 0 wh
   pub registers : (r : ℕ) → registers_of p f ≤ r → a.register r ≡ undefined_value
   pub in_program : IsInProgram p a
 
--- nothing is wrong of what is listed of it
-pub record IsRightState (p : Program) (f : FnId) (a : AbstractState) : Type 0 where
-  pub registers : list_wrong (register_wrong p f) (lines_data p (register_lines p f a)) ≡ None
-  pub heap : list_wrong (property_wrong p) (lines_data p (property_lines p a)) ≡ None
-
 module _ (p : Program) (f : FnId) (n : ℕ) (a b : AbstractState) (of : IsOfFunction p f a)
-    (too : IsOfFunction p f b) (right : IsRightState p f a) (also : IsRightState p f b)
+    (too : IsOfFunction p f b) (profile : IsStateOfProfile a) (also : IsStateOfProfile b)
     (same : state_data p f n a ≡ state_data p f n b) where
   field_same : (i : ℕ) → get_or (fields_in (state_data p f n a)) i null
       ≡ get_or (fields_in (state_data p f n b)) i null
@@ -40,8 +34,8 @@ module _ (p : Program) (f : FnId) (n : ℕ) (a b : AbstractState) (of : IsOfFunc
       → said_value p (a.register r) ≡ said_value p (b.register r)
   unfolding state_data
   register_at r true within =
-      registers_same p f a b r (ltb-true r (registers_of p f) within) right.registers
-      also.registers (field_same 3)
+      registers_same p f a b r (ltb-true r (registers_of p f) within) (profile.registers r)
+      (also.registers r) (field_same 3)
   register_at r false past =
       let out = ltb-false r (registers_of p f) past in
       ap (said_value p) (of.registers r out ∙ sym (too.registers r out))
@@ -51,7 +45,8 @@ module _ (p : Program) (f : FnId) (n : ℕ) (a b : AbstractState) (of : IsOfFunc
   unfolding state_data
   property_at l k true within =
       let parts = and_parts (is_label p l) (is_key p k) within in
-      properties_same p a b l k parts.0 parts.1 right.heap also.heap (field_same 1)
+      properties_same p a b l k parts.0 parts.1 (profile.properties l k) (also.properties l k)
+      (field_same 1)
   property_at l k false past =
       ap (said_property p k)
       (of.in_program.properties l k past ∙ sym (too.in_program.properties l k past))

@@ -18,16 +18,16 @@ use Rattle.ja_rules.specs.declared.table.ContextTable.{ContextTable}
 use Rattle.ja_rules.specs.Tables.{find_context, is_of, no_entries, states_in, table_of, FitsContext}
 use Rattle.ja_cert.specs.Certificate.{edge_data}
 use Rattle.ja_cert.specs.Wrong.{number_at}
-use Rattle.ja_cert_laws.specs.Back.{said_property, said_state, said_table}
+use Rattle.ja_cert_read.specs.Said.{said_property, said_state, said_table}
 use Rattle.ja_cert_read.specs.code.Contexts.{own_data}
-use Rattle.ja_cert_laws.proofs.Contexts.{context_same, IsRightContext, SameContext}
+use Rattle.ja_cert_laws.proofs.Contexts.{context_same, IsContextOfProfile, SameContext}
 use Rattle.ja_cert_laws.proofs.Values.{label_same}
 
 -- ---- contexts, one after another
 
 pub record IsListed (p : Program) (c : ContextTable) : Type 0 where
   pub fits : FitsContext p c
-  pub right : IsRightContext p c
+  pub profile : IsContextOfProfile c
 
 abbrev pub SameContexts : Program → List ContextTable → List ContextTable → Type 0
 SameContexts p [] [] = Unit {0}
@@ -42,7 +42,7 @@ contexts_same p [] [] all also same = tt
 contexts_same p [] (d ∷ ds) all also same = absurd (omega (arith, ap length same))
 contexts_same p (c ∷ cs) [] all also same = absurd (omega (arith, ap length same))
 contexts_same p (c ∷ cs) (d ∷ ds) all also same = (
-  context_same p c d all.0.fits also.0.fits all.0.right also.0.right
+  context_same p c d all.0.fits also.0.fits all.0.profile also.0.profile
       (ap (λ es. get_or es 0 null) same),
   contexts_same p cs ds all.1 also.1 (ap (drop 1) same),
 )

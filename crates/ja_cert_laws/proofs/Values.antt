@@ -1,10 +1,10 @@
 -- Values that are written the same say the same.
 use Rattle.std.proofs.Common.{◌≡◌, ◌<◌, ◌+◌, ◌*◌, ◌/◌, ◌%◌, ◌^◌, ◌==◌, ℕ, Bool, true, false, ◌&&◌, ◌||◌, cond, List, [], ◌∷◌, ◌++◌, map, filter, length, get_or, drop, refl, sym, ap, subst, ◌∙◌, arith}
-use Rattle.std.specs.Prelude.{IsTrue}
+use Rattle.std.specs.Prelude.{ℤ, IsTrue}
 use Rattle.std.specs.Fmt.{digit_glyph}
 use Rattle.std.specs.Int.Signed.{mag}
-use Rattle.std.specs.List.{flat_map, list_any}
-use Rattle.std.proofs.lemmas.Bool.{false≢true}
+use Rattle.std.specs.List.{flat_map, list_all, list_any}
+use Rattle.std.proofs.lemmas.Bool.{and_parts, false≢true, ltb-true}
 use Rattle.std.proofs.lemmas.Bool.Decides.{nat_tests}
 use Rattle.std.proofs.lemmas.Fmt.{signed_decimal_injective}
 use Rattle.std.proofs.lemmas.List.Elements.{filter-append}
@@ -22,13 +22,19 @@ use Rattle.ja_abstract.specs.declared.abstraction.TextPart.{TextPart}
 use Rattle.ja_abstract.specs.declared.abstraction.TextPart.TheVariants as text_part
 use Rattle.ja_abstract.specs.AbstractValue.{AbstractValue, Labels}
 use Rattle.ja_abstract.specs.AbstractState.{is_label, label_number, labels_of}
+use Rattle.ja_prim.specs.declared.primitive.Num.TheVariants.{Whole}
+use Rattle.ja_prim.proofs.ReadingBack.{read_back}
+use Rattle.ja_abstract.proofs.Texts.{same_text_refl}
+use Rattle.ja_abstract.specs.Keys.{is_whole_text, is_written_so, whole_text}
 use Rattle.ja_abstract.specs.Lists.{Member}
 use Rattle.ja_rules.proofs.Ascending.{from_filter, member-filter}
 use Rattle.ja_report.specs.Texts.{part, property_parts, value_labels}
 use Rattle.ja_cert.specs.Certificate.{flag_words, label_data, number_words, text_words, value_data}
-use Rattle.ja_cert_laws.specs.Back.{said_text, said_value}
 use Rattle.ja_cert_laws.proofs.Members.{list_same}
+use Rattle.ja_abstract.specs.Profile.{is_unit, IsNumberOfProfile, IsTextOfProfile, IsValueOfProfile}
+use Rattle.ja_cert_parts.proofs.WholeLemmas.{whole_text_small}
 use Rattle.ja_cert_read.proofs.Pairs.{label_listed}
+use Rattle.ja_cert_read.specs.Said.{said_value}
 
 -- ---- words and numbers among data
 
@@ -397,10 +403,39 @@ abbrev behind_letter : List (List ℕ) → List ℕ
 behind_letter [] = []
 behind_letter (w ∷ ws) = drop 1 w
 
--- a number of which the text is that of no other
-abbrev pub IsSmall : NumberPart → Type 0
+-- a number and a text of the profile, where there is one
+abbrev pub IsNumber : NumberPart → Type 0
+IsNumber n = (z : ℤ) → n ≡ number_part.One z → IsNumberOfProfile z
+
+abbrev pub IsText : TextPart → Type 0
+IsText t = (units : List ℕ) → t ≡ text_part.One units → IsTextOfProfile units
+
+-- a number of the profile is written so that its text says it
+abbrev pub IsWritten : NumberPart → Type 0
+IsWritten (number_part.One z) = is_whole_text (whole_text z) ≡ true
+IsWritten part = Unit {0}
+
+pub number_written : (n : NumberPart) → IsNumber n → IsWritten n
+number_written number_part.Nothing h = tt
+number_written (number_part.One z) h =
+    let k = h z refl in
+    ap (λ r. is_written_so r (whole_text z)) (read_back (Whole z) k.low k.high)
+    ∙ same_text_refl (whole_text z)
+number_written number_part.Index h = tt
+number_written number_part.OtherWhole h = tt
+number_written number_part.Whole h = tt
+
+-- .. which is that of no other
+abbrev IsSmall : NumberPart → Type 0
 IsSmall (number_part.One z) = mag z < 2 ^ 63
 IsSmall part = Unit {0}
+
+small : (n : NumberPart) → IsNumber n → IsSmall n
+small number_part.Nothing h = tt
+small (number_part.One z) h = whole_text_small z (number_written (number_part.One z) h)
+small number_part.Index h = tt
+small number_part.OtherWhole h = tt
+small number_part.Whole h = tt
 
 number_same : (n m : NumberPart) → IsSmall n → IsSmall m → number_words n ≡ number_words m
     → n ≡ m
@@ -432,24 +467,30 @@ unit_same t u ts us e =
     let d = glyph_same (t % 16) (u % 16) (omega arith) (omega arith) (ap (λ l. get_or l 3 0) e) in
     (quad t ∙ (λ i. 4096 * a i + 256 * b i + 16 * c i + d i) ∙ sym (quad u), ap (drop 4) e)
 
-units_same : (ts us : List ℕ) → flat_map four_digits ts ≡ flat_map four_digits us
-    → map (λ u. u % 65536) ts ≡ map (λ u. u % 65536) us
-units_same [] [] e = refl
-units_same [] (u ∷ us) e = absurd (omega (arith, ap length e))
-units_same (t ∷ ts) [] e = absurd (omega (arith, ap length e))
-units_same (t ∷ ts) (u ∷ us) e =
-    let both = unit_same t u (flat_map four_digits ts) (flat_map four_digits us) e in
-    let rest = units_same ts us both.1 in
-    λ i. both.0 i ∷ rest i
+abbrev AreUnits : List ℕ → Type 0
+AreUnits ts = IsTrue (list_all is_unit ts)
 
-text_same : (t u : TextPart) → text_words t ≡ text_words u → said_text t ≡ said_text u
-text_same text_part.Nothing text_part.Nothing e = refl
-text_same (text_part.One t) (text_part.One u) e =
-    ap text_part.One (units_same t u (ap behind_letter e))
-text_same text_part.IndexText text_part.IndexText e = refl
-text_same text_part.OtherText text_part.OtherText e = refl
-text_same text_part.Text text_part.Text e = refl
-text_same t u e = absurd (omega (arith, ap first_letter e))
+units_same : (ts us : List ℕ) → AreUnits ts → AreUnits us
+    → flat_map four_digits ts ≡ flat_map four_digits us → ts ≡ us
+units_same [] [] all also e = refl
+units_same [] (u ∷ us) all also e = absurd (omega (arith, ap length e))
+units_same (t ∷ ts) [] all also e = absurd (omega (arith, ap length e))
+units_same (t ∷ ts) (u ∷ us) all also e =
+    let both = unit_same t u (flat_map four_digits ts) (flat_map four_digits us) e in
+    let (here, later) = and_parts (is_unit t) (list_all is_unit ts) all in
+    let (there, after) = and_parts (is_unit u) (list_all is_unit us) also in
+    let first : t ≡ u = omega (arith, both.0, ltb-true t 65536 here, ltb-true u 65536 there) in
+    let rest = units_same ts us later after both.1 in
+    λ i. first i ∷ rest i
+
+text_same : (t u : TextPart) → IsText t → IsText u → text_words t ≡ text_words u → t ≡ u
+text_same text_part.Nothing text_part.Nothing h k e = refl
+text_same (text_part.One t) (text_part.One u) h k e =
+    ap text_part.One (units_same t u (h t refl).units (k u refl).units (ap behind_letter e))
+text_same text_part.IndexText text_part.IndexText h k e = refl
+text_same text_part.OtherText text_part.OtherText h k e = refl
+text_same text_part.Text text_part.Text h k e = refl
+text_same t u h k e = absurd (omega (arith, ap first_letter e))
 
 -- ---- labels
 
@@ -498,10 +539,10 @@ kept_same p v w l same = by_label (is_label p l) refl
 
 -- ---- values
 
-pub value_same : (p : Program) (v w : AbstractValue) → IsSmall v.number → IsSmall w.number
+pub value_same : (p : Program) (v w : AbstractValue) → IsValueOfProfile v → IsValueOfProfile w
     → value_data p v ≡ value_data p w → said_value p v ≡ said_value p w
 unfolding value_data
-value_same p v w small low e =
+value_same p v w h k e =
     let vs : List (List ℕ) = flag_words v.flags ++ number_words v.number ++ text_words v.text in
     let ws : List (List ℕ) = flag_words w.flags ++ number_words w.number ++ text_words w.text in
     let same = list_same (map string vs ++ map label_data (value_labels p v))
@@ -513,9 +554,10 @@ value_same p v w small low e =
     labels_same (value_labels p v) (value_labels p w) (sym (numbers_are vs (value_labels p v))
     ∙ ap (flat_map number_in) same ∙ numbers_are ws (value_labels p w)) in
     let flags = flags_same v.flags w.flags v.number w.number v.text w.text words in
-    let number = number_same v.number w.number small low (sym (numbers_of v.flags v.number v.text)
+    let number = number_same v.number w.number (small v.number h.number)
+    (small w.number k.number) (sym (numbers_of v.flags v.number v.text)
     ∙ ap (filter is_of_number) words ∙ numbers_of w.flags w.number w.text) in
-    let text = text_same v.text w.text (sym (texts_of v.flags v.number v.text)
+    let text = text_same v.text w.text h.text k.text (sym (texts_of v.flags v.number v.text)
     ∙ ap (filter is_of_text) words ∙ texts_of w.flags w.number w.text) in
     λ i. record {
       flags = flags i;

@@ -1,11 +1,14 @@
--- What is written of a program, a table and visits that can be said is their certificate.
-use Rattle.std.proofs.Common.{◌≡◌, ◌<◌, ◌^◌, ◌==◌, List, [], ◌∷◌, ◌++◌, map, length, Option, Some, None, refl, ap, subst, ◌∙◌, arith}
+-- What is written of a program, a table and visits that can be said is their certificate, and is
+-- UTF-8.
+use Rattle.std.proofs.Common.{◌≡◌, ◌<◌, ◌^◌, ◌==◌, List, [], ◌∷◌, ◌++◌, map, length, Option, Some, None, refl, sym, ap, subst, ◌∙◌, arith}
 use Rattle.std.specs.Prelude.{IfSome, IsTrue, slice_get}
 use Rattle.std.specs.List.{AllByRecursion}
 use Rattle.std.specs.Option.{option_and_then, option_map_or}
 use Rattle.std.specs.String.{string_bytes}
 use Rattle.std.proofs.lemmas.Bool.{and_parts, eqb-true, le-leb}
+use Rattle.std.specs.Str.{IsUtf8}
 use Rattle.std.proofs.lemmas.List.Elements.{All-from_recursion, recursion_from_All}
+use Rattle.std.proofs.lemmas.Str.{IsUtf8-string_bytes}
 use lib.Chars.{codes}
 use Rattle.serde_json.specs.Data.{Data, string, object, member, no_members}
 use Rattle.serde_json.specs.Read.{read}
@@ -39,12 +42,13 @@ use Rattle.ja_cert.specs.Certificate as written
 use Rattle.ja_cert.specs.Certificate.{certificate_data, context_data, device_data, edge_data, item_data, whole}
 use Rattle.ja_cert.specs.Wrong.{context_wrong, device_wrong, edge_wrong, here, here_unless, is_text, is_version, is_word, item_wrong, list_of, list_wrong, under, wrong_before_loading, wrong_of}
 use Rattle.ja_cert_parts.proofs.NumberLemmas.{few_functions, few_nodes}
+use Rattle.ja_rules.specs.Profile.{IsTableOfProfile}
 use Rattle.ja_cert_laws.specs.Back.{CanBeWritten, IsEdgeOf, written as text_of}
 use Rattle.ja_cert_read.specs.Certified.{IsCertificate}
 use Rattle.ja_cert_read.specs.code.Contexts.{own_data}
 use Rattle.ja_cert_read.specs.code.Whole.{call_edge_data}
 use Rattle.ja_cert_read.specs.declared.certificate.Certificate.{Certificate}
-use Rattle.ja_cert_laws.proofs.Lines.{deeper, line_read, six_back, string_back, whole_back, IsReadBack}
+use Rattle.ja_cert_laws.proofs.Lines.{deeper, line_read, line_utf8, six_back, string_back, whole_back, IsReadBack}
 use Rattle.ja_cert_laws.proofs.RightContexts.{contexts_right, IsSaidContext}
 use Rattle.ja_cert_laws.proofs.RightDevices.{devices_right}
 use Rattle.ja_cert_laws.proofs.RightEdges.{edges_right, items_right, IsSaidEdge}
@@ -169,12 +173,13 @@ module _ (p : Program) (t : ATable) (fits : FitsListed p t) (said : IsSayable p 
 
 -- ---- the certificate
 
-module _ (c : Certificate) (h : CanBeWritten c) where
+module _ (c : Certificate) (h : CanBeWritten c)
+    (profile : IsTableOfProfile (table_of c.table)) where
   abbrev p : Program
   p = c.program
 
   said : IsSayable p (table_of c.table)
-  said = table_said p (table_of c.table) h.shaped h.profile
+  said = table_said p (table_of c.table) h.shaped profile h.said
 
   abbrev json : Data
   json = parts_data p c.table.contexts.items c.table.edges.items c.visits.items
@@ -184,16 +189,17 @@ module _ (c : Certificate) (h : CanBeWritten c) where
   all_back =
       let fine = few p h.loaded.well_formed in
       six_back 7 (codes "contexts") _ (codes "devices") _ (codes "edges") _ (codes "text") _
-      (codes "version") _ (codes "visits") _ refl
+      (codes "version") _ (codes "visits") _ refl refl
       (contexts_back p fine c.table.contexts.items (all_weaker (FitsContext p)
       (λ (d : ContextTable). IsContext p d.context) (λ d is. is.context) c.table.contexts.items
       (contexts_fit p c.table h.fits said)))
-      (devices_back p.signatures)
+      (devices_back p.signatures h.loaded.devices.fit)
       (kept_edges_back p fine c.table.edges.items (all_weaker
       (λ (d : CallEdge). IsSaidEdge p c.table.contexts.items d.edge)
       (λ (d : CallEdge). IsEdgeOf p d.edge) (λ d is. is.edge) c.table.edges.items
       (edges_said p c.table h.fits said)))
-      (string_back 7 (string_bytes p.text)) (whole_back 7 1 (omega arith))
+      (string_back 7 (string_bytes p.text) (IsUtf8-string_bytes p.text))
+      (whole_back 7 1 (omega arith))
       (items_back p fine c.visits.items h.visits)
 
   early : wrong_before_loading json ≡ None
@@ -247,4 +253,10 @@ module _ (c : Certificate) (h : CanBeWritten c) where
         right = late;
         written_so = same;
         fits = h.fits;
+        said = h.said;
       }
+
+  pub written_is_utf8 : IsUtf8 (text_of c)
+  written_is_utf8 =
+      let same = parts_are p c.table c.visits.items h.fits in
+      subst (λ d. IsUtf8 (compact_text d ++ codes "\n")) (sym same) (line_utf8 8 json all_back)

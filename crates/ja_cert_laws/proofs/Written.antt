@@ -1,10 +1,11 @@
--- What is written of a table as JSON is read as what it was.
-use Rattle.std.proofs.Common.{◌<◌, ◌*◌, ◌^◌, ℕ, suc, Bool, true, false, not, ◌&&◌, cond, List, [], ◌∷◌, ◌++◌, map, length, Option, Some, None, refl, sym, subst, arith}
+-- What is written of a table as JSON is read as what it was, and is UTF-8.
+use Rattle.std.proofs.Common.{◌≡◌, ◌<◌, ◌*◌, ◌^◌, ℕ, suc, Bool, true, false, not, ◌&&◌, cond, List, [], ◌∷◌, ◌++◌, map, length, Option, Some, None, refl, sym, subst, arith}
 use Rattle.std.specs.Prelude.{IsTrue}
 use Rattle.std.specs.List.{AllByRecursion, range_with_len}
 use Rattle.std.specs.Option.{option_map_or}
 use Rattle.std.proofs.lemmas.Bool.{ltb-true}
 use lib.Chars.{codes}
+use Rattle.json.proofs.Printed.Utf8.{are_ascii, IsUtf8-are_ascii}
 use Rattle.serde_json.specs.Data.{string}
 use Rattle.ja_base.proofs.Lists.{all_append, all_weaker}
 use Rattle.ja_base.specs.declared.ids.Context.{Context}
@@ -31,6 +32,7 @@ use Rattle.ja_rules.specs.Tables.{states_in, IsContext}
 use Rattle.ja_rules.specs.declared.table.CallEdge.{CallEdge}
 use Rattle.ja_rules.specs.declared.table.ContextTable.{ContextTable}
 use Rattle.ja_rules.proofs.Ascending.{from_filter, from_range, of_each}
+use Rattle.ja_device.specs.Signatures.{is_fit}
 use Rattle.ja_report.specs.Lines as lines
 use Rattle.ja_report.specs.Lines.{alloc, entry, entry_lines, is_undefined, mask_line, mask_lines, mask_text, property, property_line, property_lines, register, register_line, register_lines}
 use Rattle.ja_report.specs.Report.{kind_parts}
@@ -44,6 +46,7 @@ use Rattle.ja_cert_laws.proofs.Lines.{deeper, five_items, four_back, four_items,
 use Rattle.ja_cert_laws.proofs.Properties.{at_entry, at_mask, at_property, entries_are, entry_data, mask_data, masks_are, properties_are, property_data}
 use Rattle.ja_cert_laws.proofs.Registers.{at_register, register_data, registers_are}
 use Rattle.ja_cert_laws.proofs.RightStates.{labels_and_keys}
+use Rattle.ja_cert_laws.proofs.Spelt.{attrs_spelt, kinds_spelt, mask_spelt, name_spelt, value_spelt, AreSpelt}
 use Rattle.ja_cert_read.proofs.Listing.{pairs}
 use Rattle.ja_cert_read.proofs.Pairs.{labels_are}
 
@@ -57,9 +60,14 @@ pub record IsFew (p : Program) : Type 0 where
 
 -- ---- values
 
-strings_back : (n : ℕ) (ws : List (List ℕ)) → AllByRecursion (IsReadBack n) (map string ws)
-strings_back n [] = tt
-strings_back n (w ∷ ws) = (string_back n w, strings_back n ws)
+strings_back : (n : ℕ) (ws : List (List ℕ)) → AreSpelt ws
+    → AllByRecursion (IsReadBack n) (map string ws)
+strings_back n [] spelt = tt
+strings_back n (w ∷ ws) spelt = (string_back n w spelt.0, strings_back n ws spelt.1)
+
+-- a word of a certificate
+word_back : (n : ℕ) (w : List ℕ) → are_ascii w ≡ true → IsReadBack n (string w)
+word_back n w ascii = string_back n w (IsUtf8-are_ascii w ascii)
 
 module _ (p : Program) (few : IsFew p) where
   label_back : (n : ℕ) (l : Label) → IsTrue (is_label p l) → IsReadBack n (label_data l)
@@ -79,7 +87,7 @@ module _ (p : Program) (few : IsFew p) where
   value_back v =
       list_back 0 _ (all_append (IsReadBack 0)
       (map string (flag_words v.flags ++ number_words v.number ++ text_words v.text))
-      (map label_data (value_labels p v)) (strings_back 0 _)
+      (map label_data (value_labels p v)) (strings_back 0 _ (value_spelt v))
       (labels_back 0 (value_labels p v) (of_each _ (value_labels p v) (λ l m.
       labels_are p l (from_filter v.label l (labels_of p) m).0))))
 
@@ -88,19 +96,19 @@ module _ (p : Program) (few : IsFew p) where
   key_back : (n : ℕ) (k : Key) → IsTrue (is_key p k) → IsReadBack n (key_data k)
   key_back n (key.Name m) h =
       whole_back n m.0 (omega (arith, ltb-true m.0 (length p.names) h, few.names))
-  key_back n key.OtherIndex h = string_back n _
-  key_back n key.OtherName h = string_back n _
-  key_back n (key.Slot slot.Prototype) h = string_back n _
-  key_back n (key.Slot slot.Outer) h = string_back n _
-  key_back n (key.Slot slot.Scope) h = string_back n _
-  key_back n (key.Slot slot.Value) h = string_back n _
+  key_back n key.OtherIndex h = word_back n (codes "index") refl
+  key_back n key.OtherName h = word_back n (codes "other") refl
+  key_back n (key.Slot slot.Prototype) h = word_back n (codes "prototype") refl
+  key_back n (key.Slot slot.Outer) h = word_back n (codes "outer") refl
+  key_back n (key.Slot slot.Scope) h = word_back n (codes "scope") refl
+  key_back n (key.Slot slot.Value) h = word_back n (codes "value") refl
 
   owned_back : (l : Label) (k : Key) (q : AbstractProperty) → IsTrue (is_label p l)
       → IsTrue (is_key p k) → IsReadBack 2 (line_data p (property l k q))
   unfolding line_data
   owned_back l k q label key =
       four_items 1 _ _ _ _ (label_back 1 l label) (key_back 1 k key) (value_back q.value)
-      (string_back 1 (attrs_text k q.attrs))
+      (string_back 1 (attrs_text k q.attrs) (attrs_spelt k q.attrs))
 
   registers_back : (f : FnId) (a : AbstractState)
       → IsReadBack 3 (lines_data p (register_lines p f a))
@@ -166,7 +174,7 @@ module _ (p : Program) (few : IsFew p) where
       by_test s within m true = tt
       by_test s within m false = (
         two_items 1 _ _ (whole_back 1 s (omega (arith, within, few.sites)))
-            (string_back 1 (mask_text m)),
+            (string_back 1 (mask_text m) (mask_spelt m)),
         tt,
       )
 
@@ -177,7 +185,7 @@ module _ (p : Program) (few : IsFew p) where
   unfolding state_data
   state_back f n a within =
       four_back 3 (codes "alloc") _ (codes "heap") _ (codes "node") _ (codes "registers") _ refl
-      (masks_back a) (properties_back a) (whole_back 3 n (omega (arith, within, few.nodes f)))
+      refl (masks_back a) (properties_back a) (whole_back 3 n (omega (arith, within, few.nodes f)))
       (registers_back f a)
 
   nodes_back : (f : FnId) (c : ContextTable) → IsReadBack 5 (nodes_data p f c)
@@ -199,7 +207,7 @@ module _ (p : Program) (few : IsFew p) where
   context_back c h =
       let f : FnId = c.context.function in
       four_back 5 (codes "entries") _ (codes "function") _ (codes "points") _ (codes "receiver") _
-      refl (deeper 3 5 _ (omega arith) (entries_back (entries_of c.entries)))
+      refl refl (deeper 3 5 _ (omega arith) (entries_back (entries_of c.entries)))
       (whole_back 5 f.0 (omega (arith, h.function, few.functions))) (nodes_back f c)
       (label_back 5 c.context.receiver h.receiver)
 
@@ -238,14 +246,14 @@ module _ (p : Program) (few : IsFew p) where
 
   item_back : (i : Item) → IsItemOf p i → IsReadBack 6 (item_data i)
   unfolding item_data
-  item_back Open h = one_item 5 _ (string_back 5 (codes "open"))
+  item_back Open h = one_item 5 _ (word_back 5 (codes "open") refl)
   item_back (Step x n) h =
-      four_items 5 _ _ _ _ (string_back 5 (codes "step"))
+      four_items 5 _ _ _ _ (word_back 5 (codes "step") refl)
       (whole_back 5 x.function.0 (omega (arith, h.context.function, few.functions)))
       (label_back 5 x.receiver h.context.receiver)
       (whole_back 5 n.0 (omega (arith, h.node, few.nodes x.function)))
-  item_back (Fill e) h = two_items 5 _ _ (string_back 5 (codes "fill")) (edge_back 4 e h)
-  item_back (Back e) h = two_items 5 _ _ (string_back 5 (codes "back")) (edge_back 4 e h)
+  item_back (Fill e) h = two_items 5 _ _ (word_back 5 (codes "fill") refl) (edge_back 4 e h)
+  item_back (Back e) h = two_items 5 _ _ (word_back 5 (codes "back") refl) (edge_back 4 e h)
 
   pub items_back : (items : List Item) → AllByRecursion (IsItemOf p) items
       → IsReadBack 7 (listed (map item_data items))
@@ -258,14 +266,17 @@ module _ (p : Program) (few : IsFew p) where
 
 -- ---- devices
 
-device_back : (s : Signature) → IsReadBack 6 (device_data s)
+device_back : (s : Signature) → is_fit s ≡ true → IsReadBack 6 (device_data s)
 unfolding device_data
-device_back s =
-    two_items 5 _ _ (string_back 5 s.name) (list_back 4 _ (strings_back 4 (kind_parts s.kinds)))
+device_back s fit =
+    two_items 5 _ _ (string_back 5 s.name (name_spelt s fit))
+    (list_back 4 _ (strings_back 4 (kind_parts s.kinds) (kinds_spelt s.kinds)))
 
-pub devices_back : (ss : List Signature) → IsReadBack 7 (listed (map device_data ss))
-devices_back ss = list_back 6 _ (each ss)
+pub devices_back : (ss : List Signature) → AllByRecursion (λ (s : Signature). is_fit s ≡ true) ss
+    → IsReadBack 7 (listed (map device_data ss))
+devices_back ss fit = list_back 6 _ (each ss fit)
   where
-    each : (ss : List Signature) → AllByRecursion (IsReadBack 6) (map device_data ss)
-    each [] = tt
-    each (s ∷ ss) = (device_back s, each ss)
+    each : (ss : List Signature) → AllByRecursion (λ (s : Signature). is_fit s ≡ true) ss
+        → AllByRecursion (IsReadBack 6) (map device_data ss)
+    each [] fit = tt
+    each (s ∷ ss) fit = (device_back s fit.0, each ss fit.1)

@@ -1,2 +1,3 @@
--- what is written as a certificate is read back
+-- what is written as a certificate is read back, and accepted
+pub mod Accepted
 pub mod Back

@@ -6,7 +6,7 @@ use Rattle.std.proofs.lemmas.List.{take_all}
 use Rattle.std.proofs.lemmas.List.Concat.{flat_map-append}
 use Rattle.ja_prim.specs.Texts.{max_units}
 use Rattle.ja_texts.specs.Texts.{four_digits}
-use Rattle.ja_cert.specs.Wrong.{is_hexadecimal, is_multiple_of_four}
+use Rattle.ja_cert.specs.Wrong.{is_lower_hexadecimal, is_multiple_of_four}
 
 -- ---- the first four digits, and those behind them
 
@@ -28,7 +28,7 @@ four_up (a ∷ b ∷ c ∷ d ∷ xs) some =
 -- ---- whether digits are units
 
 abbrev pub are_quads : List ℕ → Bool
-are_quads digits = list_all is_hexadecimal digits && is_multiple_of_four digits
+are_quads digits = list_all is_lower_hexadecimal digits && is_multiple_of_four digits
 
 four_and : (h i j k x y : Bool) → ((h && (i && (j && (k && x)))) && y)
     ≡ ((h && (i && (j && (k && true)))) && (x && y))
@@ -39,14 +39,14 @@ four_and true true true false x y = refl
 four_and true true true true x y = refl
 
 quads_more : (a b c d : ℕ) (more : List ℕ) → are_quads (a ∷ b ∷ c ∷ d ∷ more)
-    ≡ (list_all is_hexadecimal (a ∷ b ∷ c ∷ d ∷ []) && are_quads more)
+    ≡ (list_all is_lower_hexadecimal (a ∷ b ∷ c ∷ d ∷ []) && are_quads more)
 unfolding is_multiple_of_four
 quads_more a b c d more =
-    four_and (is_hexadecimal a) (is_hexadecimal b) (is_hexadecimal c) (is_hexadecimal d)
-    (list_all is_hexadecimal more) (is_multiple_of_four more)
+    four_and (is_lower_hexadecimal a) (is_lower_hexadecimal b) (is_lower_hexadecimal c)
+    (is_lower_hexadecimal d) (list_all is_lower_hexadecimal more) (is_multiple_of_four more)
 
 quads_split : (rest : List ℕ) (b : Bool) → 4 ≤ length rest
-    → list_all is_hexadecimal (first_four rest) ≡ b
+    → list_all is_lower_hexadecimal (first_four rest) ≡ b
     → are_quads rest ≡ (b && are_quads (behind_four rest))
 quads_split rest b some first =
     ap are_quads (four_up rest some)
@@ -68,7 +68,7 @@ read_first all units none = record {
 }
 
 pub read_next : (all units more rest : List ℕ) (u : ℕ) → 4 ≤ length rest
-    → list_all is_hexadecimal (first_four rest) ≡ true → four_digits u ≡ first_four rest
+    → list_all is_lower_hexadecimal (first_four rest) ≡ true → four_digits u ≡ first_four rest
     → more ≡ units ++ u ∷ [] → AreRead all units rest → AreRead all more (behind_four rest)
 read_next all units more rest u some right unit next so_far = record {
   test = sym (quads_split rest true some right) ∙ so_far.test;
@@ -82,7 +82,7 @@ read_next all units more rest u some right unit next so_far = record {
 }
 
 pub read_wrong : (all units rest : List ℕ) → 4 ≤ length rest
-    → list_all is_hexadecimal (first_four rest) ≡ false → AreRead all units rest
+    → list_all is_lower_hexadecimal (first_four rest) ≡ false → AreRead all units rest
     → are_quads all ≡ false
 read_wrong all units rest some wrong so_far =
     sym so_far.test ∙ quads_split rest false some wrong
@@ -104,11 +104,11 @@ pub read_short : (all units rest : List ℕ) → length rest < 4 → false ≡ (
 unfolding is_multiple_of_four
 read_short all units [] few some so_far = absurd (cc)
 read_short all units (a ∷ []) few some so_far =
-    sym so_far.test ∙ and_false (list_all is_hexadecimal (a ∷ []))
+    sym so_far.test ∙ and_false (list_all is_lower_hexadecimal (a ∷ []))
 read_short all units (a ∷ b ∷ []) few some so_far =
-    sym so_far.test ∙ and_false (list_all is_hexadecimal (a ∷ b ∷ []))
+    sym so_far.test ∙ and_false (list_all is_lower_hexadecimal (a ∷ b ∷ []))
 read_short all units (a ∷ b ∷ c ∷ []) few some so_far =
-    sym so_far.test ∙ and_false (list_all is_hexadecimal (a ∷ b ∷ c ∷ []))
+    sym so_far.test ∙ and_false (list_all is_lower_hexadecimal (a ∷ b ∷ c ∷ []))
 read_short all units (a ∷ b ∷ c ∷ d ∷ rest) few some so_far = absurd (omega arith)
 
 -- ---- how many there are

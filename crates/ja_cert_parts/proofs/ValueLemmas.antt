@@ -5,7 +5,7 @@ use Rattle.std.specs.List.{list_any, AllByRecursion}
 use Rattle.std.specs.List.Sorted.{IsStrictlySortedBy}
 use Rattle.std.specs.Ordering.{nat_cmp}
 use Rattle.std.specs.declared.cmp.Ordering.TheVariants.{Less}
-use Rattle.std.proofs.lemmas.Bool.{lt-ltb, ltb-true}
+use Rattle.std.proofs.lemmas.Bool.{false≢true, lt-ltb, ltb-true}
 use Rattle.std.proofs.lemmas.Bool.Decides.{nat_tests}
 use Rattle.std.proofs.lemmas.List.{map-append, take_all, take_more}
 use Rattle.std.proofs.lemmas.List.Folds.{list_any-append}
@@ -20,13 +20,15 @@ use Rattle.ja_abstract.specs.declared.abstraction.NumberPart.TheVariants as numb
 use Rattle.ja_abstract.specs.declared.abstraction.TextPart.{TextPart}
 use Rattle.ja_abstract.specs.declared.abstraction.TextPart.TheVariants as text_part
 use Rattle.ja_abstract.specs.AbstractValue.{AbstractValue, Labels, same_label}
-use Rattle.ja_abstract.specs.AbstractState.{label_number, labels_of}
+use Rattle.ja_abstract.specs.AbstractState.{label_number, labels_of, is_label as is_own}
+use Rattle.ja_abstract.proofs.Labels.{same_label-true}
 use Rattle.ja_value.specs.Labels.{label_at}
 use Rattle.ja_value.proofs.LabelLemmas.{below, in_numbers, labels_list}
 use Rattle.ja_aheap.proofs.LabelLemmas.{label_number_at, same_label_is}
 use Rattle.ja_report.specs.Texts.{part as there, property_parts}
 use Rattle.ja_cert.specs.Certificate.{flag_words, label_data, listed, number_words, text_words, value_data}
 use Rattle.ja_cert.specs.Wrong.{MemberWrong, here, is_label, list_wrong, members_wrong, part_wrong, position}
+use Rattle.ja_cert_parts.specs.code.Own.{HasOwnLabels}
 use Rattle.ja_cert_parts.specs.code.Parts.{AreFrom, flag_rank, flag_word, IsPart, labels_among, part_data, rank_of, Takes}
 use Rattle.ja_cert_parts.specs.declared.parts.Flag.{Flag}
 use Rattle.ja_cert_parts.specs.declared.parts.Flag.TheVariants as flag
@@ -342,12 +344,32 @@ labels_written p xs set is from =
     ∙ ap (λ (s : Labels). filter s (labels_of p)) (same ∙ sym is) in
     labels.written ∙ ap (map label_data) in_order
 
+-- labels with numbers below those of a program are the program's
+own_among : (p : Program) (ls : List Label) (l : Label)
+    → AllByRecursion (λ n. n < 2 * length p.sites) (map label_number ls)
+    → list_any (λ m. same_label m l) ls ≡ true → is_own p l ≡ true
+own_among p [] l within there = absurd (false≢true there)
+own_among p (m ∷ ls) l within there =
+    pick (same_label m l) refl (λ more. own_among p ls l within.1 more) there
+  where
+    below_site : (k n : ℕ) (old : Bool) → 2 * k + cond old 1 0 < 2 * n → k < n
+    below_site k n old less = omega (arith, less)
+
+    pick : (b : Bool) → same_label m l ≡ b
+        → (list_any (λ k. same_label k l) ls ≡ true → is_own p l ≡ true)
+        → (b || list_any (λ k. same_label k l) ls) ≡ true → is_own p l ≡ true
+    pick true same later found =
+        subst (λ (k : Label). is_own p k ≡ true) (same_label-true m l same)
+        (lt-ltb m.site.0 (length p.sites)
+        (below_site m.site.0 (length p.sites) m.old within.0))
+    pick false other later found = later found
+
 -- ---- the whole
 
 pub parts_written : (p : Program) (v : AbstractValue) (xs ys zs rest : List Part)
     → Takes 0 8 (flag_words v.flags) xs ys → Takes 8 9 (number_words v.number) ys zs
     → Takes 9 10 (text_words v.text) zs rest → v.label ≡ among rest → AreFrom p 0 xs
-    → value_data p v ≡ listed (map part_data xs)
+    → (value_data p v ≡ listed (map part_data xs)) × HasOwnLabels p v
 unfolding value_data Takes
 parts_written p v xs ys zs rest flags number text labels from =
     let words : List (List ℕ) = flag_words v.flags ++ number_words v.number ++ text_words v.text in
@@ -357,20 +379,26 @@ parts_written p v xs ys zs rest flags number text labels from =
     takes_then 0 9 10 (flag_words v.flags ++ number_words v.number) (text_words v.text) xs zs
     rest front text in
     let taken = whole p from in
-    ap listed
-    (ap (λ (ds : List Data). map string words ++ ds)
-    (sym (labels_written p rest v.label labels taken.1)) ∙ sym taken.0)
+    let own : AreLabels p 10 rest = labels_are p 10 rest (omega arith) taken.1 in (
+      ap listed
+          (ap (λ (ds : List Data). map string words ++ ds)
+          (sym (labels_written p rest v.label labels taken.1)) ∙ sym taken.0),
+      (λ l has. own_among p (labels_among rest) l own.within
+          (ap (λ (set : Labels). set l) (sym labels) ∙ has)),
+    )
 
 -- parts that were read, of which nothing is wrong
 pub read_written : (p : Program) (allowed : ℕ → Bool) (v : AbstractValue) (d : Data)
     (xs seen : List Part) → list_wrong (part_wrong p allowed) d ≡ None
     → listed (map part_data xs) ≡ d → seen ≡ xs
-    → (AreFrom p 0 seen → value_data p v ≡ listed (map part_data seen)) → value_data p v ≡ d
+    → (AreFrom p 0 seen
+    → (value_data p v ≡ listed (map part_data seen)) × HasOwnLabels p v)
+    → (value_data p v ≡ d) × HasOwnLabels p v
 read_written p allowed v d xs seen right is same written =
     let f : MemberWrong = part_wrong p allowed in
     let all : members_wrong f [] (map part_data xs) ≡ None =
     sym (ap (list_wrong f) (sym is) ∙ ap (λ (o : Option (List Data)). option_map_or
     (members_wrong f []) o here) (list_of_listed (map part_data xs))) ∙ right in
     let P : List Part → Type 0 = AreFrom p 0 in
-    written (subst P (sym same) (right_parts p allowed xs all))
-    ∙ ap (λ (ys : List Part). listed (map part_data ys)) same ∙ is
+    let seen_so = written (subst P (sym same) (right_parts p allowed xs all)) in
+    (seen_so.0 ∙ ap (λ (ys : List Part). listed (map part_data ys)) same ∙ is, seen_so.1)

@@ -3,3 +3,4 @@ pub mod Reading
 pub mod Ranks
 pub mod Parts
 pub mod Objects
+pub mod Own

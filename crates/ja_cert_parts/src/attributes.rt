@@ -6,6 +6,7 @@ ghost use Rattle.ja_cert_json.specs.View.{view};
 ghost use Rattle.ja_report.specs.Texts.{attr_text, attrs_text};
 ghost use Rattle.ja_cert.specs.Certificate.{key_data};
 ghost use Rattle.ja_cert.specs.Wrong.{are_attrs, attrs_wrong, is_attr};
+ghost use Rattle.ja_cert_parts.specs.code.Own.{HasOwnAttrs};
 ghost use Rattle.ja_cert_parts.specs.code.Ranks.{are_attrs_at};
 ghost use Rattle.ja_cert_parts.specs.code.Reading.{Reads};
 
@@ -53,7 +54,8 @@ fn attrs_of(text: &[u8]) -> Option<AAttrs>
 /// The attributes of a property, or of an internal property, which has none.
 fn attrs_at(key: Key, text: &[u8]) -> Option<AAttrs>
     ensures { MatchOption result (are_attrs_at key text.now ≡ false)
-        (λ a. (are_attrs_at key text.now ≡ true) × (attrs_text key a ≡ text.now)) }
+        (λ a. (are_attrs_at key text.now ≡ true) × (attrs_text key a ≡ text.now)
+        × HasOwnAttrs key a) }
 {
     if let Key::Slot(_) = key {
         if text == b"...".as_slice() {
@@ -69,7 +71,8 @@ fn attrs_at(key: Key, text: &[u8]) -> Option<AAttrs>
 /// Reads the attributes of a property at a key.
 pub fn read_attrs(alloc: Global, program: &Program, key: Key, value: &Json) -> Result<AAttrs, Fault>
     ensures { Reads (attrs_wrong program.now (key_data key) (view value.now))
-        (λ attrs. string (attrs_text key attrs) ≡ view value.now) result }
+        (λ attrs. (string (attrs_text key attrs) ≡ view value.now)
+        × HasOwnAttrs key attrs) result }
 {
     let Some(text) = value.as_str() else {
         return Err(here(alloc));

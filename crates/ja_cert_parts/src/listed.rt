@@ -10,6 +10,7 @@ ghost use Rattle.ja_report.specs.Lines.{mask_text, property};
 ghost use Rattle.ja_value.specs.Value.{property_of};
 ghost use Rattle.ja_cert.specs.Certificate.{line_data};
 ghost use Rattle.ja_cert.specs.Wrong.{here_unless, is_behind, is_entry, is_word, mask_words, owned_wrong, pair_number, position_of, value_is};
+ghost use Rattle.ja_cert_parts.specs.code.Own.{IsOwnProperty};
 ghost use Rattle.ja_cert_parts.specs.code.Parts.{allowed_of};
 ghost use Rattle.ja_cert_parts.specs.code.Ranks.{entry_pair, pair_of, property_pair};
 ghost use Rattle.ja_cert_parts.specs.code.Reading.{Reads};
@@ -93,7 +94,8 @@ fn read_owned(
     ensures { let p = rule.now.program.now in let d = view value.now in
         let ascends = is_behind (option_map (pair_of p) last) (pair_number p d) in
         Reads (owned_wrong p (allowed_of role) ascends d)
-        (λ q. line_data p (property q.label q.key (property_of q.property)) ≡ d) result }
+        (λ q. (line_data p (property q.label q.key (property_of q.property)) ≡ d)
+        × IsOwnProperty p q.key (property_of q.property)) result }
 {
     let fields = list_of_four(rule.alloc, value)?;
     let label = at(read_label(rule.alloc, rule.program, fields.first), 0)?;
@@ -162,6 +164,7 @@ impl<'a> Member<InProgram<'a>> for EntryAt {
     ghost use Rattle.ja_value.specs.Value.{property_of};
     ghost use Rattle.ja_cert.specs.Certificate.{line_data};
     ghost use Rattle.ja_cert.specs.Wrong.{entry_wrong};
+    ghost use Rattle.ja_cert_parts.specs.code.Own.{IsOwnProperty};
 
     ghost can = { λ rule. IsWellFormed rule.program.now };
 
@@ -170,7 +173,7 @@ impl<'a> Member<InProgram<'a>> for EntryAt {
     ghost data = { λ rule e.
         line_data rule.program.now (entry e.label e.key (property_of e.property)) };
 
-    ghost holds = { λ rule member. Unit {0} };
+    ghost holds = { λ rule e. IsOwnProperty rule.program.now e.key (property_of e.property) };
 
     fn read(rule: &InProgram<'a>, before: &[EntryAt], value: &Json) -> Result<EntryAt, Fault> {
         let read = read_owned(rule, Role::Entry, last_entry(before), value)?;
@@ -198,6 +201,7 @@ impl<'a> Member<InProgram<'a>> for PropertyAt {
     ghost use Rattle.ja_value.specs.Value.{property_of};
     ghost use Rattle.ja_cert.specs.Certificate.{line_data};
     ghost use Rattle.ja_cert.specs.Wrong.{property_wrong};
+    ghost use Rattle.ja_cert_parts.specs.code.Own.{IsOwnProperty};
 
     ghost can = { λ rule. IsWellFormed rule.program.now };
 
@@ -206,7 +210,7 @@ impl<'a> Member<InProgram<'a>> for PropertyAt {
     ghost data = { λ rule q.
         line_data rule.program.now (property q.label q.key (property_of q.property)) };
 
-    ghost holds = { λ rule member. Unit {0} };
+    ghost holds = { λ rule q. IsOwnProperty rule.program.now q.key (property_of q.property) };
 
     fn read(
         rule: &InProgram<'a>,
@@ -236,6 +240,7 @@ impl<'a> Member<InFunction<'a>> for RegisterAt {
     ghost use Rattle.ja_value.specs.Value.{value_of};
     ghost use Rattle.ja_cert.specs.Certificate.{line_data};
     ghost use Rattle.ja_cert.specs.Wrong.{register_wrong};
+    ghost use Rattle.ja_cert_parts.specs.code.Own.{HasOwnLabels};
 
     ghost can = { λ rule. IsWellFormed rule.program.now };
 
@@ -244,7 +249,7 @@ impl<'a> Member<InFunction<'a>> for RegisterAt {
     ghost data = { λ rule r.
         line_data rule.program.now (register 0 r.register (value_of r.value)) };
 
-    ghost holds = { λ rule member. Unit {0} };
+    ghost holds = { λ rule r. HasOwnLabels rule.program.now (value_of r.value) };
 
     fn read(
         rule: &InFunction<'a>,

@@ -10,6 +10,7 @@ ghost use Rattle.ja_report.specs.Texts.{part};
 ghost use Rattle.ja_value.specs.Value.{labels_in, value_of};
 ghost use Rattle.ja_cert.specs.Certificate.{flag_words, listed, number_words, text_words, value_data};
 ghost use Rattle.ja_cert.specs.Wrong.{value_wrong};
+ghost use Rattle.ja_cert_parts.specs.code.Own.{HasOwnLabels};
 ghost use Rattle.ja_cert_parts.specs.code.Parts.{allowed_of, AreFrom, flag_rank, flag_word, labels_among, part_data, Takes};
 ghost use Rattle.ja_cert_parts.specs.code.Reading.{Reads};
 
@@ -20,7 +21,7 @@ use ja_abstract::{Flags, NumberPart, TextPart};
 use ja_base::Memory;
 use ja_cert_json::Json;
 use ja_graph::Program;
-use ja_value::{AValue, LabelSet, copy_text_part};
+use ja_value::{AValue, LabelSet, copy_text_part, number_of_profile, text_of_profile};
 use std::alloc::Global;
 
 // ---- the parts of a value, taken one after another
@@ -111,7 +112,8 @@ fn labels_among(alloc: Global, parts: &[Part]) -> Result<LabelSet, Memory>
 /// The value of parts that stand in order.
 fn value_of_parts(alloc: Global, parts: &[Part]) -> Result<AValue, Memory>
     ensures { IfOk result (λ v. (p : Program) → AreFrom p 0 parts.now
-        → value_data p (value_of v) ≡ listed (map part_data parts.now)) }
+        → (value_data p (value_of v) ≡ listed (map part_data parts.now))
+        × HasOwnLabels p (value_of v)) }
 {
     let (flags, parts) = take_flags(parts);
     let (number, parts) = take_number(parts);
@@ -119,8 +121,8 @@ fn value_of_parts(alloc: Global, parts: &[Part]) -> Result<AValue, Memory>
     let labels = labels_among(alloc, parts)?;
     Ok(AValue {
         flags,
-        number,
-        text,
+        number: number_of_profile(number),
+        text: text_of_profile(text),
         labels,
     })
 }
@@ -135,7 +137,8 @@ pub fn read_value(
 ) -> Result<AValue, Fault>
     requires { IsWellFormed program.now }
     ensures { Reads (value_wrong program.now (allowed_of role) (view value.now))
-        (λ v. value_data program.now (value_of v) ≡ view value.now) result }
+        (λ v. (value_data program.now (value_of v) ≡ view value.now)
+        × HasOwnLabels program.now (value_of v)) result }
 {
     let rule = OfValue {
         alloc,

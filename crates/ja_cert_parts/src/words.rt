@@ -6,7 +6,7 @@ ghost use Rattle.std.specs.List.{flat_map, list_all};
 ghost use Rattle.ja_prim.specs.Texts.{same_text};
 ghost use Rattle.ja_texts.specs.Texts.{four_digits};
 ghost use Rattle.ja_abstract.specs.Keys.{is_whole_text, is_written_so, whole_text};
-ghost use Rattle.ja_cert.specs.Wrong.{are_units, here_unless, is_hexadecimal, is_multiple_of_four, position};
+ghost use Rattle.ja_cert.specs.Wrong.{are_units, here_unless, is_lower_hexadecimal, is_multiple_of_four, position};
 ghost use Rattle.ja_cert_parts.specs.code.Reading.{Reads};
 
 use crate::fault::{Fault, here};
@@ -92,8 +92,8 @@ pub fn read_number(alloc: Global, digits: &[u8]) -> Result<Int, Fault>
 
 /// What a hexadecimal digit stands for, in lower case.
 fn digit(byte: u8) -> Option<u16>
-    ensures { MatchOption result (is_hexadecimal byte ≡ false) (λ n. (n < 16)
-        × ((digit_glyph false n ≡ byte) × (is_hexadecimal byte ≡ true))) }
+    ensures { MatchOption result (is_lower_hexadecimal byte ≡ false) (λ n. (n < 16)
+        × ((digit_glyph false n ≡ byte) × (is_lower_hexadecimal byte ≡ true))) }
 {
     match byte {
         b'0'..=b'9' => Some(u16::from(byte - b'0')),
@@ -105,8 +105,8 @@ fn digit(byte: u8) -> Option<u16>
 /// The unit of four hexadecimal digits.
 fn unit(a: u8, b: u8, c: u8, d: u8) -> Option<u16>
     ensures { MatchOption result
-        (list_all is_hexadecimal (a ∷ b ∷ c ∷ d ∷ []) ≡ false)
-        (λ u. (list_all is_hexadecimal (a ∷ b ∷ c ∷ d ∷ []) ≡ true)
+        (list_all is_lower_hexadecimal (a ∷ b ∷ c ∷ d ∷ []) ≡ false)
+        (λ u. (list_all is_lower_hexadecimal (a ∷ b ∷ c ∷ d ∷ []) ≡ true)
         × (four_digits u ≡ a ∷ b ∷ c ∷ d ∷ [])) }
 {
     let first = digit(a)?;
@@ -119,8 +119,8 @@ fn unit(a: u8, b: u8, c: u8, d: u8) -> Option<u16>
 /// The units of hexadecimal digits, four a unit, if they are that.
 fn units(alloc: Global, digits: &[u8]) -> Result<Option<Vec<u16>>, Memory>
     ensures { IfOk result (λ o. MatchOption o
-        ((list_all is_hexadecimal digits.now && is_multiple_of_four digits.now) ≡ false)
-        (λ units. ((list_all is_hexadecimal digits.now
+        ((list_all is_lower_hexadecimal digits.now && is_multiple_of_four digits.now) ≡ false)
+        (λ units. ((list_all is_lower_hexadecimal digits.now
         && is_multiple_of_four digits.now) ≡ true)
         × (flat_map four_digits units.items ≡ digits.now))) }
 {

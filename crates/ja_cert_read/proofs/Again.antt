@@ -3,7 +3,7 @@ use Rattle.std.proofs.Common.{◌≡◌, ◌==◌, ◌<◌, ℕ, Bool, true, fal
 use Rattle.std.specs.Prelude.{IsSome, IsTrue}
 use Rattle.std.specs.List.{AllByRecursion, list_any, range_with_len}
 use Rattle.std.specs.Option.{option_map_or}
-use Rattle.std.proofs.lemmas.Bool.{and_from, and_parts, eq-eqb, eqb-true, false≢true}
+use Rattle.std.proofs.lemmas.Bool.{and_from, eq-eqb, eqb-true, false≢true}
 use Rattle.std.proofs.lemmas.List.Folds.{flat_map-map}
 use Rattle.serde_json.specs.Data.{Data}
 use Rattle.ja_base.specs.declared.ids.FnId.{FnId}
@@ -23,8 +23,8 @@ use Rattle.ja_astate.specs.State.{state_of, IsStateOf}
 use Rattle.ja_astate.specs.declared.state.AState.{AState}
 use Rattle.ja_rules.specs.Tables.{no_entries}
 use Rattle.ja_abstract.specs.Resolved.{Entries}
-use Rattle.ja_abstract.proofs.Keys.{same_key-self, same_key-true}
-use Rattle.ja_abstract.proofs.Labels.{same_label-self, same_label-true}
+use Rattle.ja_abstract.proofs.Keys.{same_key-self}
+use Rattle.ja_abstract.proofs.Labels.{same_label-self}
 use Rattle.ja_report.specs.Lines.{Line, entry, property, register, alloc, entry_line, entry_lines, is_entry, is_undefined, mask_line, mask_lines, object_lines, property_line, property_lines, register_line, register_lines}
 use Rattle.ja_rules.proofs.Ascending.{of_member, number_listed}
 use Rattle.ja_cert_parts.specs.declared.listed.EntryAt.{EntryAt}
@@ -33,11 +33,12 @@ use Rattle.ja_cert_parts.specs.declared.listed.PropertyAt.{PropertyAt}
 use Rattle.ja_cert_parts.specs.declared.listed.RegisterAt.{RegisterAt}
 use Rattle.ja_cert.specs.Certificate.{line_data}
 use Rattle.ja_cert.specs.Wrong.{entry_wrong, mask_wrong, property_wrong, register_wrong}
-use Rattle.ja_cert_read.specs.code.Building.{entry_data, mask_data, property_data, register_data, entry_value, first_at, is_entry_at, is_mask, is_property, is_register, mask_value, property_in, register_value, entries_with, plain_state, with_masks, with_properties, with_registers, AreEntriesOfParts, AreRight, AreWithin, IsPlaced, IsStateOfParts}
+use Rattle.ja_cert_read.specs.code.Building.{entry_data, mask_data, property_data, register_data, entry_value, first_at, is_entry_at, is_mask, is_property, is_register, mask_value, property_in, register_value, entries_with, plain_state, with_masks, with_properties, with_registers, AreEntriesOfParts, AreRight, AreWithin, IsOwnEntryAt, IsPlaced, IsStateOfParts}
 use Rattle.ja_cert_read.proofs.Listing.{first_at-found, first_at-none, flat_map_pairs, listed_again, map_flat_map, pairs}
 use Rattle.ja_cert_read.proofs.Apart.{apart_in_order}
 use Rattle.ja_cert_read.proofs.Parts.{RightEntry, RightMask, RightProperty, RightRegister, right_entries, right_masks, right_properties, right_registers}
-use Rattle.ja_cert_read.proofs.Pairs.{number_rank, numbers_ascend, pair_listed, pair_rank, pairs_ascend}
+use Rattle.ja_cert_read.proofs.Pairs.{number_rank, numbers_ascend, pair_listed, pair_rank, pair_true, pairs_ascend}
+use Rattle.ja_cert_read.proofs.Said.{entries_said}
 
 -- ---- what is plain has no line
 
@@ -156,12 +157,6 @@ masks_again p xs a right is =
 pair_self : (l : Label) (k : Key) → (same_label l l && same_key k k) ≡ true
 pair_self l k =
     and_from (same_label l l) (same_key k k) (same_label-self l) (same_key-self k)
-
-pair_true : (l : Label) (k : Key) (pair : Label × Key)
-    → (same_label l pair.0 && same_key k pair.1) ≡ true → (l, k) ≡ pair
-pair_true l k pair h =
-    let parts = and_parts (same_label l pair.0) (same_key k pair.1) h in
-    λ i. (same_label-true l pair.0 parts.0 i, same_key-true k pair.1 parts.1 i)
 
 -- ---- properties
 
@@ -322,12 +317,13 @@ state_is p f xs heap masks s registers properties made shape is = record {
 }
 
 pub entries_are : (p : Program) (xs : List EntryAt) (e : DemandedEntries)
-    → AreRight (entry_wrong p) (entry_data p) xs
+    → AreRight (entry_wrong p) (entry_data p) xs → AllByRecursion (IsOwnEntryAt p) xs
     → entries_of e ≡ entries_with xs no_entries → AreEntriesOfParts p xs e
-entries_are p xs e right is =
+entries_are p xs e right own is =
     let each : EntriesAre (entries_of e) xs = λ l k. ap (λ (f : Entries). f l k) is in
     record {
       labels = λ l k there. (entry_within p xs (entries_of e) right each l k there).0;
       keys = λ l k there. (entry_within p xs (entries_of e) right each l k there).1;
       entries_listed = entries_again p xs (entries_of e) right each;
+      said = entries_said p xs (entries_of e) own each;
     }

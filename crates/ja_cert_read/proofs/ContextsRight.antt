@@ -25,7 +25,7 @@ use Rattle.ja_cert.specs.Certificate.{label_data, listed, state_data, whole}
 use Rattle.ja_cert.specs.Wrong as wrong
 use Rattle.ja_cert.specs.Wrong.{MemberWrong, context_number, context_wrong, entry_wrong, is_above, is_less, list_wrong, members_of, members_wrong, point_number, point_wrong, whole_of}
 use Rattle.ja_cert_read.specs.code.Building.{entry_data, mask_data, property_data, register_data, AreRight, IsStateOfParts}
-use Rattle.ja_cert_read.specs.code.Contexts.{listed_data, point_data, HasOwnState, HaveOwnStates, IsContextAt}
+use Rattle.ja_cert_read.specs.code.Contexts.{listed_data, point_data, HasOwnParts, HasOwnState, IsContextAt}
 use Rattle.ja_cert_read.specs.code.Orders.{comes_behind, context_at_rank, context_rank, node_rank}
 use Rattle.ja_cert_read.proofs.ObjectLemmas.{list_in_items, object_is}
 use Rattle.ja_cert_read.proofs.Orders.{above_behind, ascends_mapped, each_right, less_first, less_one, rises}
@@ -164,14 +164,14 @@ contexts_ascend p xs h =
     (rises (context_wrong p) context_number (context_ascends p) (map (listed_data p) xs) h)
 
 pub contexts_placed : (p : Program) (xs : List ContextAt)
-    → AreRight (context_wrong p) (listed_data p) xs → AllByRecursion (HaveOwnStates p) xs
+    → AreRight (context_wrong p) (listed_data p) xs → AllByRecursion (HasOwnParts p) xs
     → AllByRecursion (IsContextAt p) xs
 contexts_placed p xs h have =
-    all_both (IsListed p) (HaveOwnStates p) (IsContextAt p) (λ x is states. record {
+    all_both (IsListed p) (HasOwnParts p) (IsContextAt p) (λ x is own. record {
       context = is.context;
       entries = is.entries;
       points = is.points;
-      states = states;
+      own = own;
     }) xs (each_right (context_wrong p) (listed_data p) (IsListed p) (context_is p) [] xs h) have
 
 -- ---- the numbers of what is read

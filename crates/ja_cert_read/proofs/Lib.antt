@@ -16,6 +16,7 @@ pub mod ItemsRight
 pub mod Below
 pub mod Listing
 pub mod Pairs
+pub mod Said
 pub mod Plain
 pub mod Right
 pub mod Parts

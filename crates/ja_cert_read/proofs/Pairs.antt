@@ -1,16 +1,18 @@
 -- The labels and keys of a program, in the order of their numbers.
-use Rattle.std.proofs.Common.{◌≡◌, ◌<◌, ◌≤◌, ◌+◌, ◌*◌, ℕ, List, [], ◌∷◌, map, length, refl, ap, sym, subst, inl, inr, arith}
+use Rattle.std.proofs.Common.{◌≡◌, ◌<◌, ◌≤◌, ◌+◌, ◌*◌, ◌&&◌, ℕ, true, List, [], ◌∷◌, map, length, refl, ap, sym, subst, inl, inr, arith}
 use Rattle.std.specs.Prelude.{IsTrue}
 use Rattle.std.specs.List.{range_with_len}
-use Rattle.std.proofs.lemmas.Bool.{ltb-true}
+use Rattle.std.proofs.lemmas.Bool.{and_parts, ltb-true}
 use Rattle.ja_base.specs.declared.ids.Label.{Label}
 use Rattle.ja_graph.specs.declared.program.Program.{Program}
 use Rattle.ja_abstract.specs.declared.abstraction.Key.{Key}
 use Rattle.ja_abstract.specs.declared.abstraction.Key.TheVariants as key
 use Rattle.ja_abstract.specs.declared.abstraction.Slot.TheVariants as slot
-use Rattle.ja_abstract.specs.AbstractState.{label_number, labels_of, labels_below, keys_of, keys_below, name_key, is_key, is_label}
+use Rattle.ja_abstract.specs.AbstractValue.{same_label}
+use Rattle.ja_abstract.specs.AbstractState.{label_number, labels_of, labels_below, keys_of, keys_below, name_key, is_key, is_label, same_key}
 use Rattle.ja_abstract.specs.Lists.{Member}
-use Rattle.ja_abstract.proofs.Labels.{label_parts, site_labels}
+use Rattle.ja_abstract.proofs.Keys.{same_key-true}
+use Rattle.ja_abstract.proofs.Labels.{label_parts, same_label-true, site_labels}
 use Rattle.ja_abstract.proofs.WritesInProgram.{labels_are_labels}
 use Rattle.ja_abstract.proofs.Lists.{member-append_left, member-append_right, member-flat_map, member-map}
 use Rattle.ja_value.specs.Labels.{label_at}
@@ -142,6 +144,12 @@ key_listed p (key.Slot slot.Value) h =
     other_keys (inr (inr (inr (inr (inr (inl refl))))))
 
 -- ---- both
+
+pub pair_true : (l : Label) (k : Key) (pair : Label × Key)
+    → (same_label l pair.0 && same_key k pair.1) ≡ true → (l, k) ≡ pair
+pair_true l k pair h =
+    let parts = and_parts (same_label l pair.0) (same_key k pair.1) h in
+    λ i. (same_label-true l pair.0 parts.0 i, same_key-true k pair.1 parts.1 i)
 
 abbrev pub pair_rank : ℕ → Label × Key → List ℕ
 pair_rank names pair = label_number pair.0 ∷ key_place names pair.1 ∷ []

@@ -18,7 +18,7 @@ use Rattle.ja_astate.specs.State.{IsStateOf}
 use Rattle.ja_rows.specs.Table.{node_numbers}
 use Rattle.ja_rules.specs.declared.table.ContextTable.{ContextTable}
 use Rattle.ja_rules.specs.declared.table.NodeTable.{NodeTable}
-use Rattle.ja_rules.specs.Tables.{FitsContext, IsContext}
+use Rattle.ja_rules.specs.Tables.{kept_state, FitsContext, IsContext}
 use Rattle.ja_rules.specs.code.Growing.{no_nodes}
 use Rattle.ja_rules.proofs.Ascending.{Ascends}
 use Rattle.ja_report.specs.Lines.{entry_lines}
@@ -26,8 +26,9 @@ use Rattle.ja_cert_read.specs.declared.contexts.ContextAt.{ContextAt}
 use Rattle.ja_cert_read.specs.declared.points.PointAt.{PointAt}
 use Rattle.ja_cert.specs.Certificate.{context_data, label_data, line_data, listed, points_data, whole}
 use Rattle.ja_cert.specs.Wrong.{point_wrong}
-use Rattle.ja_cert_read.specs.code.Building.{entry_data, AreEntriesOfParts, AreRight}
-use Rattle.ja_cert_read.specs.code.Contexts.{listed_data, node_state, own_data, point_data, AreNodesOf, AreTablesOf, HasOwnState, IsContextAt}
+use Rattle.ja_cert_read.specs.code.Building.{entry_data, AreEntriesOfParts, AreRight, IsOwnState}
+use Rattle.ja_cert_read.specs.code.Contexts.{listed_data, node_state, own_data, point_data, AreNodesOf, AreTablesOf, HasOwnState, IsContextAt, IsSaidOf}
+use Rattle.ja_cert_read.proofs.Said.{node_said}
 use Rattle.ja_cert_read.proofs.ContextsRight.{points_ascend, points_placed, IsPlaced, NodeBefore}
 
 -- ---- the nodes of a function, one after another
@@ -87,7 +88,7 @@ by_numbers p f front (t ∷ ts) =
 -- ---- so far
 
 abbrev pub HasState : Program → FnId → NodeTable → Type 0
-HasState p f t = (s : AState) → t.state ≡ Some s → IsStateOf p (registers_of p f) s
+HasState p f t = (s : AState) → t.state ≡ Some s → IsOwnState p f s
 
 -- the nodes up to the next one that is listed
 pub record IsFront (p : Program) (f : FnId) (all rest : List PointAt) (nodes : List NodeTable) :
@@ -130,7 +131,8 @@ pub front_more : (p : Program) (f : FnId) (all : List PointAt) (x : PointAt) (re
     → IsFront p f all rest more
 front_more p f all x rest nodes filled more t was filling is adding =
     let s : AState = x.state in
-    let fits : IsStateOf p (registers_of p f) s = was.placed.0.0.fits in
+    let own : IsOwnState p f s =
+    record { fits = was.placed.0.0.fits; said = was.placed.0.0.said } in
     let gap : List NodeTable = no_nodes (x.node.0 - length nodes) in
     let reached : length nodes ≤ x.node.0 = was.ahead.0 in
     let count : length filled ≡ x.node.0 =
@@ -162,7 +164,7 @@ front_more p f all x rest nodes filled more t was filling is adding =
           subst (AllByRecursion (HasState p f)) (sym (adding ∙ ap (λ l. l ++ t ∷ []) filling))
           (all_append (HasState p f) (nodes ++ gap) (t ∷ [])
           (all_append (HasState p f) nodes gap was.states (none_have p f _))
-          ((λ u e. let same : s ≡ u = cc in subst (IsStateOf p (registers_of p f)) same fits), tt));
+          ((λ u e. let same : s ≡ u = cc in subst (IsOwnState p f) same own), tt));
       ahead = all_weaker (NodeBefore x) (λ (y : PointAt). length more ≤ y.node.0)
           (λ y k. omega (arith, k, size)) rest was.ascends.0;
       placed = was.placed.1;
@@ -172,7 +174,7 @@ front_more p f all x rest nodes filled more t was filling is adding =
 
 kept_has : (p : Program) (f : FnId) (nodes : List NodeTable) (n : ℕ) (s : AState)
     (o : Option NodeTable) → AllByRecursion (HasState p f) nodes → slice_get nodes n ≡ o
-    → option_and_then (λ (t : NodeTable). t.state) o ≡ Some s → IsStateOf p (registers_of p f) s
+    → option_and_then (λ (t : NodeTable). t.state) o ≡ Some s → IsOwnState p f s
 kept_has p f nodes n s None all is h = absurd (cc)
 kept_has p f nodes n s (Some t) all is h = all_at (HasState p f) nodes n t all is s h
 
@@ -213,18 +215,19 @@ pub record AreFrontTables (p : Program) (all rest : List ContextAt) (tables : Li
   pub contexts_are : map (λ (c : ContextTable). c.context) tables
       ++ map (λ (x : ContextAt). x.context) rest ≡ map (λ (x : ContextAt). x.context) all
   pub listed : map (own_data p) tables ++ map (listed_data p) rest ≡ map (listed_data p) all
+  pub said : AllByRecursion (IsSaidOf p) tables
   pub right : AllByRecursion (IsContextAt p) rest
 
 pub tables_start : (p : Program) (all : List ContextAt) → AllByRecursion (IsContextAt p) all
     → AreFrontTables p all all []
 tables_start p all right =
-    record { fit = tt; contexts_are = refl; listed = refl; right = right }
+    record { fit = tt; contexts_are = refl; listed = refl; said = tt; right = right }
 
 pub tables_more : (p : Program) (all : List ContextAt) (x : ContextAt) (rest : List ContextAt)
     (tables more : List ContextTable) (c : ContextTable) → AreFrontTables p all (x ∷ rest) tables
-    → FitsContext p c → c.context ≡ x.context → own_data p c ≡ listed_data p x
+    → FitsContext p c → c.context ≡ x.context → own_data p c ≡ listed_data p x → IsSaidOf p c
     → more ≡ tables ++ c ∷ [] → AreFrontTables p all rest more
-tables_more p all x rest tables more c was fits context written adding =
+tables_more p all x rest tables more c was fits context written said adding =
     let of : ContextTable → Context = λ d. d.context in
     let listed_of : ContextAt → Context = λ y. y.context in
     record {
@@ -242,6 +245,9 @@ tables_more p all x rest tables more c was fits context written adding =
           ∙ ap (λ d. (map (own_data p) tables ++ d ∷ []) ++ map (listed_data p) rest) written
           ∙ append_assoc (map (own_data p) tables) (listed_data p x ∷ [])
           (map (listed_data p) rest) ∙ was.listed;
+      said =
+          subst (AllByRecursion (IsSaidOf p)) (sym adding)
+          (all_append (IsSaidOf p) tables (c ∷ []) was.said (said, tt));
       right = was.right.1;
     }
 
@@ -251,6 +257,7 @@ tables_end p all tables was = record {
   fit = was.fit;
   contexts_are = sym (append-nil (map (λ (c : ContextTable). c.context) tables)) ∙ was.contexts_are;
   listed = sym (append-nil (map (own_data p) tables)) ∙ was.listed;
+  said = was.said;
 }
 
 -- ---- one table
@@ -283,9 +290,18 @@ table_fits_context p x c same is nodes entries = record {
       ∙ ap (λ (y : Context). length (nodes_of p y.function)) (sym same);
   states =
       λ n s k. subst (λ (y : Context). IsStateOf p (registers_of p y.function) s) (sym same)
-      (nodes.states n s k);
+      (nodes.states n s k).fits;
   labels = entries.labels;
   keys = entries.keys;
+}
+
+-- .. which says nothing of what no program has
+pub context_said : (p : Program) (x : ContextAt) (c : ContextTable)
+    → AreNodesOf p x.context.function x.points.items c.nodes.items
+    → AreEntriesOfParts p x.entries.items c.entries → IsSaidOf p c
+context_said p x c nodes entries = record {
+  states = λ n. node_said p x.context.function (kept_state c.nodes.items n) (nodes.states n);
+  entries = entries.said;
 }
 
 -- ---- by what an iterator has left

@@ -35,6 +35,7 @@ use Rattle.ja_cert_read.specs.code.Whole.{call_edge_data, data_in, IsBodyOf, IsH
 use Rattle.ja_cert_read.proofs.ContextsRight.{contexts_ascend, ComesBefore}
 use Rattle.ja_cert_read.proofs.EdgesRight.{contexts_ordered, edge_fits, edges_ascend, edges_between, edges_ordered, IsBetween}
 use Rattle.ja_cert_read.proofs.ObjectLemmas.{object_is}
+use Rattle.ja_cert_read.proofs.Said.{table_said}
 use Rattle.ja_cert_read.proofs.Told.{right_found}
 
 -- ---- each context of a table
@@ -151,6 +152,7 @@ certificate_read bytes d h b c is early head program signatures late body built 
       right = right_found _ (data_in h) (late_fields_wrong p) head.members late;
       written_so =
           ap (certificate_data p (table_of c.table)) visits ∙ written;
+      said = table_said p c.table built.said;
       fits = fits;
     }
 

@@ -12,6 +12,7 @@ use Rattle.ja_rules.specs.Tables.{table_of}
 use Rattle.ja_check.specs.Check.{FitsListed}
 use Rattle.ja_cert.specs.Certificate.{certificate_data, device_data, listed, whole}
 use Rattle.ja_cert.specs.Wrong.{Path, certificate_keys, members_of, wrong_before_loading, wrong_of}
+use Rattle.ja_cert_read.specs.Said.{said_table}
 use Rattle.ja_cert_read.specs.declared.certificate.Certificate.{Certificate}
 use Rattle.ja_cert_read.specs.declared.certificate.CertFault.{CertFault}
 use Rattle.ja_cert_read.specs.declared.certificate.CertFault.TheVariants as fault
@@ -42,6 +43,8 @@ pub record IsCertificate (bytes : List ℕ) (c : Certificate) : Type 0 where
   pub program : IsProgramOf (string_bytes c.program.text) c.program.signatures c.program
   pub right : wrong_of c.program json ≡ None
   pub written_so : certificate_data c.program (table_of c.table) c.visits.items ≡ json
+  -- of what no program has, nothing is said: the table is what is written of it
+  pub said : said_table c.program (table_of c.table) ≡ table_of c.table
   pub fits : FitsListed c.program c.table
 
 -- a place is wrong, before the text is loaded or with its program

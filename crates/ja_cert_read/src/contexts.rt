@@ -55,7 +55,7 @@ pub(crate) fn context_numbers(context: Context) -> [u64; 2]
 impl<'a> Member<InProgram<'a>> for ContextAt {
     ghost use Rattle.ja_graph.specs.WellFormed.{IsWellFormed};
     ghost use Rattle.ja_cert.specs.Wrong.{context_wrong};
-    ghost use Rattle.ja_cert_read.specs.code.Contexts.{listed_data, HaveOwnStates};
+    ghost use Rattle.ja_cert_read.specs.code.Contexts.{listed_data, HasOwnParts};
 
     ghost can = { λ rule. IsWellFormed rule.program.now };
 
@@ -63,7 +63,7 @@ impl<'a> Member<InProgram<'a>> for ContextAt {
 
     ghost data = { λ rule. listed_data rule.program.now };
 
-    ghost holds = { λ rule. HaveOwnStates rule.program.now };
+    ghost holds = { λ rule. HasOwnParts rule.program.now };
 
     fn read(rule: &InProgram<'a>, before: &[ContextAt], value: &Json) -> Result<ContextAt, Fault> {
         let alloc = rule.alloc;

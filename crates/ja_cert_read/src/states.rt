@@ -9,7 +9,8 @@ ghost use Rattle.ja_aheap.specs.Heap.{heap_of};
 ghost use Rattle.ja_astate.specs.State.{state_of, HaveOneShape, IsStateOf};
 ghost use Rattle.ja_rules.specs.Tables.{no_entries};
 ghost use Rattle.ja_cert.specs.Wrong.{entry_wrong, mask_wrong, property_wrong, register_wrong};
-ghost use Rattle.ja_cert_read.specs.code.Building.{entries_with, entry_data, mask_data, mask_pair, mask_sites, plain_state, property_data, property_pairs, register_data, with_masks, with_properties, with_registers, AreEntriesOfParts, AreRight, AreWithin, IsBefore, IsStateOfParts, SaysAll};
+ghost use Rattle.ja_cert_read.specs.Said.{said_state};
+ghost use Rattle.ja_cert_read.specs.code.Building.{entries_with, entry_data, mask_data, mask_pair, mask_sites, plain_state, property_data, property_pairs, register_data, with_masks, with_properties, with_registers, AreEntriesOfParts, AreRight, AreWithin, IsBefore, IsOwnEntryAt, IsOwnPropertyAt, IsOwnRegisterAt, IsStateOfParts, SaysAll};
 ghost use Rattle.ja_cert_parts.specs.declared.listed.MaskAt.{MaskAt};
 ghost use Rattle.ja_cert_parts.specs.declared.listed.RegisterAt.{RegisterAt};
 
@@ -133,8 +134,11 @@ pub(crate) fn state_of_parts(
         (register_data program.now) registers.items }
     requires heap { AreRight (property_wrong program.now) (property_data program.now) heap.items }
     requires masks { AreRight (mask_wrong program.now) (mask_data program.now) masks.items }
+    requires own_registers { AllByRecursion (IsOwnRegisterAt program.now) registers.items }
+    requires own_heap { AllByRecursion (IsOwnPropertyAt program.now) heap.items }
     ensures parts { IfOk result (IsStateOfParts program.now function registers.items heap.items
         masks.items) }
+    ensures said { IfOk result (λ s. said_state program.now (state_of s) ≡ state_of s) }
     ensures all { IfOk result (λ s. SaysAll (property_pairs heap.items) (mask_sites masks.items)
         (state_of s)) }
 {
@@ -160,7 +164,8 @@ pub(crate) fn entries_of_parts(
     program: &Program,
     entries: Vec<EntryAt>,
 ) -> Result<DemandedEntries, Memory>
-    requires { AreRight (entry_wrong program.now) (entry_data program.now) entries.items }
+    requires right { AreRight (entry_wrong program.now) (entry_data program.now) entries.items }
+    requires own { AllByRecursion (IsOwnEntryAt program.now) entries.items }
     ensures { IfOk result (AreEntriesOfParts program.now entries.items) }
 {
     let demanded = built_entries(alloc, entries)?;

@@ -8,7 +8,7 @@ ghost use Rattle.ja_rules.specs.Tables.{FitsContext};
 ghost use Rattle.ja_rules.specs.code.Growing.{no_nodes};
 ghost use Rattle.ja_cert.specs.Wrong.{point_wrong};
 ghost use Rattle.ja_cert_read.specs.code.Building.{AreRight};
-ghost use Rattle.ja_cert_read.specs.code.Contexts.{listed_data, own_data, point_data, AreNodesOf, AreTablesOf, HasOwnState, IsContextAt};
+ghost use Rattle.ja_cert_read.specs.code.Contexts.{listed_data, own_data, point_data, AreNodesOf, AreTablesOf, HasOwnState, IsContextAt, IsSaidOf};
 
 use crate::contexts::ContextAt;
 use crate::points::PointAt;
@@ -84,6 +84,7 @@ fn table_at(alloc: Global, program: &Program, listed: ContextAt) -> Result<Conte
     ensures fits { IfOk result (FitsContext program.now) }
     ensures context { IfOk result (λ c. c.context ≡ listed.context) }
     ensures listed { IfOk result (λ c. own_data program.now c ≡ listed_data program.now listed) }
+    ensures said { IfOk result (IsSaidOf program.now) }
 {
     let context = listed.context;
     let nodes = nodes_of(alloc, program, context.function, listed.points)?;

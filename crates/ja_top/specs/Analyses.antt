@@ -5,6 +5,7 @@ use Rattle.std.specs.Str.Lossy.{utf8_valid_len}
 use Rattle.ja_base.specs.declared.ids.Place.{Place}
 use Rattle.ja_base.specs.declared.ids.ScopeKind.{ScopeKind}
 use Rattle.ja_graph.specs.declared.program.Program.{Program}
+use Rattle.ja_graph.specs.WellFormed.{IsWellFormed}
 use Rattle.ja_grammar.specs.declared.fault.ParseFault.TheVariants as fault
 use Rattle.ja_load.specs.Loading.{IsProgramOf, HasManyFunctions, HasManyNodes, IsNone}
 use Rattle.ja_rows.specs.declared.table.Item.{Item}
@@ -16,6 +17,8 @@ use Rattle.ja_report.specs.Refusals.{refusal_text}
 use Rattle.ja_report.specs.Report.{report_text, spent_text, summary_text}
 use Rattle.ja_cert.specs.Certificate.{certificate_text}
 use Rattle.ja_rules.specs.Solving.{WasSpent}
+use Rattle.ja_rules.specs.Tables.{table_of, Fits}
+use Rattle.ja_rules.specs.declared.table.ATable.{ATable}
 use Rattle.ja_top.specs.Promises.{IsSound}
 use Rattle.ja_top.specs.Statuses.{has_fault}
 use Rattle.ja_top.specs.declared.request.Form.{Form}
@@ -31,16 +34,18 @@ result_text form.Report p t visits warnings = report_text p t visits true warnin
 result_text form.Certificate p t visits warnings = certificate_text p t visits
 result_text (form.Summary number) p t visits warnings = summary_text number p t warnings
 
--- What is printed of a program, with these warnings: a table that the printed visits build, and of
--- which all is promised.
+-- What is printed of a program, which is well formed, with these warnings: a table that the printed
+-- visits build, and of which all is promised.
 pub record IsAnalysed (request : Request) (p : Program) (text : List ℕ) (warnings : List Warning)
     : Type 0 where
-  pub table : Table
+  pub formed : IsWellFormed p
+  pub table : ATable
+  pub fits : Fits p table
   pub visits : List Item
-  pub printed : text ≡ result_text request.form p table visits warnings
-  pub built : IsBuilt p visits table
+  pub printed : text ≡ result_text request.form p (table_of table) visits warnings
+  pub built : IsBuilt p visits (table_of table)
   pub few : length visits ≤ request.budget
-  pub sound : IsSound p table warnings
+  pub sound : IsSound p (table_of table) warnings
 
 -- what is written of a program, by the status
 abbrev pub Reports : Request → Program → Status → List ℕ → Type 0

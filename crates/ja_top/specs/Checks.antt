@@ -7,7 +7,7 @@ use Rattle.ja_cert_read.specs.Certified.{IsCertificate, IsNoCertificate}
 use Rattle.ja_cert_read.specs.declared.certificate.Certificate.{Certificate}
 use Rattle.ja_cert_read.specs.declared.certificate.CertFault.{CertFault}
 use Rattle.ja_cert_read.specs.declared.certificate.CertFault.TheVariants as cert_fault
-use Rattle.ja_check.specs.Check.{IsFirstOpen}
+use Rattle.ja_check.specs.Check.{IsFirstUnsettled}
 use Rattle.ja_report.specs.Refusals.{cert_refusal_text, open_text, refusal_text}
 use Rattle.ja_report.specs.Report.{report_text}
 use Rattle.ja_report.specs.declared.certificates.CertRefusal.TheVariants as certificate
@@ -55,7 +55,7 @@ IsRefusedCertificate bytes text =
     × (((HasOpening c.program (table_of c.table) → ⊥)
     × (text ≡ cert_refusal_text certificate.Opening))
     ⊎ ((item : Item) × HasOpening c.program (table_of c.table)
-    × IsFirstOpen c.program (table_of c.table) item × (text ≡ open_text c.program item))))
+    × IsFirstUnsettled c.program (table_of c.table) item × (text ≡ open_text c.program item))))
 
 -- the cause of each status of the check of some bytes, and what is written
 abbrev pub Checks : List ℕ → Status → List ℕ → Type 0

@@ -1,6 +1,7 @@
 -- What is built of what a certificate lists of a context.
 use Rattle.std.specs.Prelude.{◌≡◌, ◌==◌, ◌&&◌, ◌+◌, ◌-◌, ◌⊎◌, ℕ, Bool, false, IsSome, IsTrue, if◌then◌else◌, nat_lt, ◌<◌, List, [], ◌∷◌, ◌++◌, map, length, Option, Some, None}
 use Rattle.std.specs.List.{list_any, AllByRecursion}
+use Rattle.std.specs.Option.{option_map}
 use Rattle.serde_json.specs.Data.{Data}
 use Rattle.ja_base.specs.declared.ids.FnId.{FnId}
 use Rattle.ja_base.specs.declared.ids.Label.{Label}
@@ -23,11 +24,13 @@ use Rattle.ja_astate.specs.declared.state.AState.{AState}
 use Rattle.ja_astate.specs.State.{state_of, IsStateOf}
 use Rattle.ja_report.specs.Lines.{Line, entry, register, property, alloc, entry_lines, register_lines, property_lines, mask_lines}
 use Rattle.ja_cert_parts.specs.declared.listed.EntryAt.{EntryAt}
+use Rattle.ja_cert_parts.specs.code.Own.{HasOwnLabels, IsOwnProperty}
 use Rattle.ja_cert_parts.specs.code.Ranks.{property_pair}
 use Rattle.ja_cert_parts.specs.declared.listed.Pair.{Pair}
 use Rattle.ja_cert_parts.specs.declared.listed.PropertyAt.{PropertyAt}
 use Rattle.ja_cert_parts.specs.declared.listed.RegisterAt.{RegisterAt}
 use Rattle.ja_cert_parts.specs.declared.listed.MaskAt.{MaskAt}
+use Rattle.ja_cert_read.specs.Said.{said_property, said_state}
 use Rattle.ja_cert_read.specs.declared.starts.Before.{Before}
 use Rattle.ja_cert.specs.Certificate.{line_data}
 use Rattle.ja_cert.specs.Wrong.{MemberWrong, members_wrong}
@@ -61,6 +64,17 @@ mask_data p m = line_data p (mask_line_of m)
 -- no member of a list is wrong
 abbrev pub AreRight : {X : Type 0} → MemberWrong → (X → Data) → List X → Type 0
 AreRight f shown xs = members_wrong f [] (map shown xs) ≡ None
+
+-- ---- what was read says nothing of what no program has
+
+abbrev pub IsOwnRegisterAt : Program → RegisterAt → Type 0
+IsOwnRegisterAt p r = HasOwnLabels p (value_of r.value)
+
+abbrev pub IsOwnPropertyAt : Program → PropertyAt → Type 0
+IsOwnPropertyAt p q = IsOwnProperty p q.key (property_of q.property)
+
+abbrev pub IsOwnEntryAt : Program → EntryAt → Type 0
+IsOwnEntryAt p e = IsOwnProperty p e.key (property_of e.property)
 
 -- ---- what has a place
 
@@ -210,6 +224,11 @@ pub record AreTaken (old new : List PropertyAt) (label : Label) (writes : List W
 
 -- ---- what is built of lists
 
+-- a state of the function, which says nothing of what no program has
+pub record IsOwnState (p : Program) (f : FnId) (s : AState) : Type 0 where
+  pub fits : IsStateOf p (registers_of p f) s
+  pub said : said_state p (state_of s) ≡ state_of s
+
 -- a state of the function, of which these are listed
 pub record IsStateOfParts (p : Program) (f : FnId) (registers : List RegisterAt)
     (heap : List PropertyAt) (masks : List MaskAt) (s : AState) : Type 0 where
@@ -219,9 +238,12 @@ pub record IsStateOfParts (p : Program) (f : FnId) (registers : List RegisterAt)
   pub heap_listed : map (line_data p) (property_lines p (state_of s)) ≡ map (property_data p) heap
   pub masks_listed : map (line_data p) (mask_lines p (state_of s)) ≡ map (mask_data p) masks
 
--- values at entry of labels and keys of the program, which are listed
+-- values at entry of labels and keys of the program, which are listed, and say nothing of what no
+-- program has
 pub record AreEntriesOfParts (p : Program) (entries : List EntryAt) (e : DemandedEntries) : Type
     0 where
   pub labels : (l : Label) (k : Key) → IsSome (entries_of e l k) → IsTrue (is_label p l)
   pub keys : (l : Label) (k : Key) → IsSome (entries_of e l k) → IsTrue (is_key p k)
   pub entries_listed : map (line_data p) (entry_lines p (entries_of e)) ≡ map (entry_data p) entries
+  pub said : (l : Label) (k : Key)
+      → option_map (said_property p k) (entries_of e l k) ≡ entries_of e l k

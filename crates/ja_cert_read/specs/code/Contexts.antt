@@ -6,11 +6,13 @@ use lib.Chars.{codes}
 use Rattle.serde_json.specs.Data.{Data, object, member, no_members}
 use Rattle.ja_base.specs.declared.ids.Context.{Context}
 use Rattle.ja_base.specs.declared.ids.FnId.{FnId}
+use Rattle.ja_base.specs.declared.ids.Label.{Label}
 use Rattle.ja_graph.specs.declared.program.Program.{Program}
 use Rattle.ja_prim.specs.Texts.{same_text}
 use Rattle.ja_graph.specs.declared.node.NodeInfo.{NodeInfo}
 use Rattle.ja_graph.specs.Program.{node_at, nodes_of}
 use Rattle.ja_machine.specs.Frames.{registers_of}
+use Rattle.ja_abstract.specs.declared.abstraction.Key.{Key}
 use Rattle.ja_abstract.specs.AbstractState.{AbstractState}
 use Rattle.ja_aheap.specs.Entries.{entries_of}
 use Rattle.ja_astate.specs.declared.state.AState.{AState}
@@ -25,7 +27,8 @@ use Rattle.ja_cert_read.specs.declared.points.PointAt.{PointAt}
 use Rattle.ja_cert.specs.Certificate.{context_data, label_data, listed, state_data, whole}
 use Rattle.ja_cert.specs.Wrong.{calls, entry_wrong, point_wrong}
 use Rattle.ja_cert_read.specs.code.Orders.{context_at_rank, context_rank}
-use Rattle.ja_cert_read.specs.code.Building.{entry_data, AreRight, SaysAll}
+use Rattle.ja_cert_read.specs.Said.{said_property, said_state}
+use Rattle.ja_cert_read.specs.code.Building.{entry_data, AreRight, IsOwnEntryAt, IsOwnState, SaysAll}
 
 -- ---- what is listed
 
@@ -41,20 +44,27 @@ listed_data p x =
 
 -- ---- what isn't wrong of it
 
--- a state of the function stands at the node, with all that is listed of it
+-- a state of the function stands at the node, with all that is listed of it; it says nothing of
+-- what no program has
 pub record HasOwnState (p : Program) (f : FnId) (x : PointAt) : Type 0 where
   pub fits : IsStateOf p (registers_of p f) x.state
+  pub said : said_state p (state_of x.state) ≡ state_of x.state
   pub all : SaysAll x.listed.pairs.items x.listed.sites.items (state_of x.state)
 
 abbrev pub HaveOwnStates : Program → ContextAt → Type 0
 HaveOwnStates p x = AllByRecursion (HasOwnState p x.context.function) x.points.items
+
+-- .. and no more do the values at entry
+pub record HasOwnParts (p : Program) (x : ContextAt) : Type 0 where
+  pub states : HaveOwnStates p x
+  pub entries : AllByRecursion (IsOwnEntryAt p) x.entries.items
 
 pub record IsContextAt (p : Program) (x : ContextAt) : Type 0 where
   pub context : IsContext p x.context
   pub entries : AreRight (entry_wrong p) (entry_data p) x.entries.items
   pub points : AreRight (point_wrong p x.context.function) (point_data p x.context.function)
       x.points.items
-  pub states : HaveOwnStates p x
+  pub own : HasOwnParts p x
 
 -- ---- contexts that are listed
 
@@ -91,10 +101,16 @@ node_state p f n at =
 pub record AreNodesOf (p : Program) (f : FnId) (points : List PointAt) (nodes : List NodeTable) :
     Type 0 where
   pub count : length nodes ≡ length (nodes_of p f)
-  pub states : (n : ℕ) (s : AState) → kept_state nodes n ≡ Some s
-      → IsStateOf p (registers_of p f) s
+  pub states : (n : ℕ) (s : AState) → kept_state nodes n ≡ Some s → IsOwnState p f s
   pub listed : flat_map (λ n. node_state p f n (slice_get nodes n)) (node_numbers p f)
       ≡ map (point_data p f) points
+
+-- a table of a context that says nothing of what no program has
+pub record IsSaidOf (p : Program) (c : ContextTable) : Type 0 where
+  pub states : (n : ℕ)
+      → option_map (said_state p) (states_in c.nodes.items n) ≡ states_in c.nodes.items n
+  pub entries : (l : Label) (k : Key)
+      → option_map (said_property p k) (entries_of c.entries l k) ≡ entries_of c.entries l k
 
 -- the tables of contexts, in their order
 pub record AreTablesOf (p : Program) (contexts : List ContextAt) (tables : List ContextTable) :
@@ -103,3 +119,4 @@ pub record AreTablesOf (p : Program) (contexts : List ContextAt) (tables : List 
   pub contexts_are : map (λ (c : ContextTable). c.context) tables
       ≡ map (λ (x : ContextAt). x.context) contexts
   pub listed : map (own_data p) tables ≡ map (listed_data p) contexts
+  pub said : AllByRecursion (IsSaidOf p) tables

@@ -19,7 +19,7 @@ use Rattle.ja_cert.specs.Certificate.{device_data, edge_data, item_data, listed,
 use Rattle.ja_cert_read.specs.Certified.{item_text}
 use Rattle.ja_cert.specs.Wrong.{Path, certificate_keys, context_wrong, edge_wrong, members_of}
 use Rattle.ja_cert_read.specs.code.Building.{AreRight}
-use Rattle.ja_cert_read.specs.code.Contexts.{listed_data, HaveOwnStates}
+use Rattle.ja_cert_read.specs.code.Contexts.{listed_data, HasOwnParts}
 use Rattle.ja_cert_parts.specs.code.Reading.{step_text}
 
 -- ---- what is read
@@ -43,7 +43,7 @@ call_edge_data d = edge_data d.edge
 pub record IsBodyOf (p : Program) (h : Head) (b : Body) : Type 0 where
   pub contexts_are : listed (map (listed_data p) b.contexts.items) ≡ view h.contexts.now
   pub contexts_right : AreRight (context_wrong p) (listed_data p) b.contexts.items
-  pub contexts_have : AllByRecursion (HaveOwnStates p) b.contexts.items
+  pub contexts_have : AllByRecursion (HasOwnParts p) b.contexts.items
   pub edges_are : listed (map call_edge_data b.edges.items) ≡ view h.edges.now
   pub edges_right : AreRight (edge_wrong p (map (listed_data p) b.contexts.items)) call_edge_data
       b.edges.items

@@ -82,7 +82,7 @@ returns-in-Some-attrs_at c =
           ∙ none_unless (is_word (are_attrs_at c.args.key) d)
           (word_at c.args.key d (Some c.in-Some.text.now) c.in-Some.ensures
           ∙ ap (are_attrs_at c.args.key) (sym text) ∙ read.0),
-      ap string (read.1 ∙ text) ∙ string_is d c.in-Some.text.now c.in-Some.ensures,
+      (ap string (read.1 ∙ text) ∙ string_is d c.in-Some.text.now c.in-Some.ensures, read.2),
     )
 
 pub returns-in-None : goal.returns-in-None

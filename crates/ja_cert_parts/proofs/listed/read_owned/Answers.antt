@@ -110,8 +110,11 @@ returns c =
         ← key.1.0,
         attrs.0,
       ),
-      property_written c.args.rule.now.program.now (view c.args.value.now) _ _ _ _
-          c.in_ok-label.label c.in_ok-key.key
-          (property_of (record { value = c.in_ok-value.value; attrs = c.in_ok-attrs.attrs })) is
-          label.1.0 key.1.0 value.1 attrs.1,
+      (
+        property_written c.args.rule.now.program.now (view c.args.value.now) _ _ _ _
+            c.in_ok-label.label c.in_ok-key.key
+            (property_of (record { value = c.in_ok-value.value; attrs = c.in_ok-attrs.attrs })) is
+            label.1.0 key.1.0 value.1.0 attrs.1.0,
+        record { labels = value.1.1; attrs = attrs.1.1 },
+      ),
     )

@@ -5,7 +5,7 @@ use lib.Chars.{codes}
 use Rattle.ja_cert_json.specs.View.{view}
 use Rattle.ja_cert.specs.Certificate.{listed}
 use Rattle.ja_cert.specs.Wrong.{context_wrong, edge_wrong, list_wrong, under}
-use Rattle.ja_cert_read.specs.code.Contexts.{listed_data, HaveOwnStates}
+use Rattle.ja_cert_read.specs.code.Contexts.{listed_data, HasOwnParts}
 use Rattle.ja_cert_read.proofs.Told.{inside_err, inside_ok, under_none}
 use Rattle.ja_cert_read.proofs.WholeSteps.{body_right, body_told_contexts, body_told_edges, body_told_visits, contexts_wrong, edges_among, edges_wrong, listed_right}
 use Rattle.ja_cert_read.proofs.reading.read_body.Goals as goal
@@ -14,7 +14,7 @@ use Rattle.ja_cert_read.proofs.reading.read_body.Goals.{After-deref}
 contexts : (c : After-deref) → (contexts_wrong c.args.program.now c.args.head.now ≡ None)
     × ((listed (map (listed_data c.args.program.now) c.in_ok-contexts.contexts.items)
     ≡ view c.args.head.now.contexts.now)
-    × AllByRecursion (HaveOwnStates c.args.program.now) c.in_ok-contexts.contexts.items)
+    × AllByRecursion (HasOwnParts c.args.program.now) c.in_ok-contexts.contexts.items)
 contexts c =
     inside_ok (codes "contexts") _ _ c.read_list.result c.in_ok-contexts.contexts
     c.read_list.ensures c.in_ok-contexts.ensures.same

@@ -1,4 +1,5 @@
 use Rattle.ja_cert_read.proofs.Again.{right_within, state_is}
+use Rattle.ja_cert_read.proofs.Said.{built_said}
 use Rattle.ja_cert_read.proofs.Starting.{says_all}
 use Rattle.ja_cert_read.proofs.states.state_of_parts.Goals as goal
 
@@ -17,3 +18,8 @@ pub returns-clause-all : goal.returns-clause-all
 returns-clause-all c =
     says_all c.args.registers.items c.args.heap.items c.args.masks.items _
     c.in_ok-state.ensures.state
+
+pub returns-clause-said : goal.returns-clause-said
+returns-clause-said c =
+    built_said c.args.program.now c.args.registers.items c.args.heap.items c.args.masks.items _
+    c.requires.own_registers c.requires.own_heap c.in_ok-state.ensures.state

@@ -23,7 +23,7 @@ loop-listed-preserved c =
     (into_iter_items c.next.new.self) c.loop-listed.tables.items c.loop-listed.invariant
     c.in-Some.ensures.steps.0)
     c.in_ok-table_at.ensures.fits c.in_ok-table_at.ensures.context
-    c.in_ok-table_at.ensures.listed c.in_ok-push.ensures.items
+    c.in_ok-table_at.ensures.listed c.in_ok-table_at.ensures.said c.in_ok-push.ensures.items
 
 pub returns : goal.returns
 returns c =

@@ -1,5 +1,4 @@
 use Rattle.std.proofs.Common.{◌≡◌, subst}
-use Rattle.ja_rules.specs.Tables.{table_of}
 use Rattle.ja_top.specs.declared.status.Status.{Status}
 use Rattle.ja_top.specs.Analyses.{IsAnalysed, Reports}
 use Rattle.ja_top.specs.code.Statuses.{status_of}
@@ -12,7 +11,9 @@ returns c =
     let ws = c.in_ok-warnings.warnings in
     let text = c.in_ok-text.text.items in
     let whole : IsAnalysed c.args.request p text ws = record {
-      table = table_of c.args.solved.now.table;
+      formed = c.requires.program;
+      table = c.args.solved.now.table;
+      fits = c.requires.solved.fits;
       visits = c.args.solved.now.visits;
       printed = cc (c.in_ok-text.ensures, c.as_slice.ensures);
       built = c.requires.solved.built;

@@ -21,7 +21,7 @@ returns c =
       rw is c.in_ok-read.ensures.0,
       (
         entry_written c.args.rule.now.program.now read.label read.key (property_of read.property)
-            ∙ c.in_ok-read.ensures.1,
-        tt,
+            ∙ c.in_ok-read.ensures.1.0,
+        c.in_ok-read.ensures.1.1,
       ),
     )

@@ -25,5 +25,5 @@ returns c =
     let is = property_is c.args.rule.now.program.now c.args.before.now (view c.args.value.now)
     c.last_property.result c.last_property.ensures in (
       rw (is, c.in_ok-read.ensures.0, ← c.is_entry.ensures, c.in_ok-here_unless.ensures.0),
-      (c.in_ok-read.ensures.1, tt),
+      c.in_ok-read.ensures.1,
     )

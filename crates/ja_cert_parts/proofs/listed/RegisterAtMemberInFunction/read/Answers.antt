@@ -86,7 +86,7 @@ returns c =
       ),
       (
         register_written c.args.rule.now.program.now (view c.args.value.now) _ _
-            c.in_ok-register.register (value_of c.in_ok-value.value) is number.1.0 value.1,
-        tt,
+            c.in_ok-register.register (value_of c.in_ok-value.value) is number.1.0 value.1.0,
+        value.1.1,
       ),
     )

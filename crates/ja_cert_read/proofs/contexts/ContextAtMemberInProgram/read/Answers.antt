@@ -119,6 +119,6 @@ returns c =
       (
         context_written c.args.rule.now.program.now (view c.args.value.now) _ _ _ _ _ found
             entries.1.0 known.1 points.1.0 label.1,
-        points.1.1,
+        record { states = points.1.1; entries = entries.1.1 },
       ),
     )

@@ -126,6 +126,7 @@ returns c =
             c.in_ok-state.ensures.parts,
         record {
           fits = c.in_ok-state.ensures.parts.state;
+          said = c.in_ok-state.ensures.said;
           all = own_says c.in_ok-heap.heap.items c.in_ok-masks.masks.items _ _
               (state_of c.in_ok-state.state)
               (c.in_ok-listed.ensures.pairs ∙ ap property_pairs c.deref.ensures.value)
@@ -153,3 +154,14 @@ state_of_parts-requires-clause-masks c =
     let masks = inside_ok (codes "alloc") _ _ c.read_list-3.result c.in_ok-masks.masks
     c.read_list-3.ensures c.in_ok-masks.ensures.same in
     listed_right _ _ _ masks.1.0 (under_none (codes "alloc") _ masks.0)
+
+-- .. and says nothing of what no program has
+pub state_of_parts-requires-clause-own_registers : goal.state_of_parts-requires-clause-own_registers
+state_of_parts-requires-clause-own_registers c =
+    (inside_ok (codes "registers") _ _ c.read_list.result c.in_ok-registers.registers
+    c.read_list.ensures c.in_ok-registers.ensures.same).1.1
+
+pub state_of_parts-requires-clause-own_heap : goal.state_of_parts-requires-clause-own_heap
+state_of_parts-requires-clause-own_heap c =
+    (inside_ok (codes "heap") _ _ c.read_list-2.result c.in_ok-heap.heap
+    c.read_list-2.ensures c.in_ok-heap.ensures.same).1.1
