@@ -18,7 +18,7 @@ use Rattle.ja_run.specs.declared.ended.CallRecord.{CallRecord}
 use Rattle.ja_run.specs.declared.ended.Ended.{Ended}
 use Rattle.ja_run.specs.declared.ended.RunEnd.{RunEnd}
 use Rattle.ja_run.specs.declared.ended.RunEnd.TheVariants as run_end
-use Rattle.ja_run.specs.Ends.{told}
+use Rattle.ja_run.specs.Ends.{run_end_of}
 use Rattle.ja_run.specs.Run.{answers_given, state_after, calls_of, given_by, Leads, EndsBy, RunsOnce, ContinuesBy, ArePrefixes}
 use Rattle.ja_run.proofs.Giving.{agrees, same_state, stays_none, had, longer, ended, unanswered, must_be_unasked}
 
@@ -40,7 +40,7 @@ record AtEnd (p : Program) (c : Conf) (limit made steps : ℕ) (e : RunEnd) : Ty
   end : End
   last : Conf
   ends : step p c (answer_to (wants p c)) ≡ Some (event.End end last)
-  end_is : e ≡ told last.heap end
+  end_is : e ≡ run_end_of last.heap end
   counted : steps ≡ made + 1
   within : made < limit
 
@@ -126,8 +126,8 @@ same_end p c k l made s t e f (inr x) (inr y) =
     let ends : x.end ≡ y.end = cc (x.ends, y.ends) in
     let lasts : x.last ≡ y.last = cc (x.ends, y.ends) in (
       omega (arith, x.counted, y.counted),
-      x.end_is ∙ ap (λ (d : Conf). told d.heap x.end) lasts
-          ∙ ap (told y.last.heap) ends ∙ sym y.end_is,
+      x.end_is ∙ ap (λ (d : Conf). run_end_of d.heap x.end) lasts
+          ∙ ap (run_end_of y.last.heap) ends ∙ sym y.end_is,
     )
 
 -- ---- two runs, of which devices give in one what they give in the other, and maybe more
@@ -271,7 +271,7 @@ runs_once p limit e f x y same = by u.how v.how
         both_stop p e f limit limit u.made v.made u.c v.c made states.0 states.1 a b
 
 -- an end of the machine stays
-stays : (e f : Ended) (h : Heap) (end : End) → f ≡ e → ContinuesBy e f (told h end)
+stays : (e f : Ended) (h : Heap) (end : End) → f ≡ e → ContinuesBy e f (run_end_of h end)
 stays e f h ending.Normal same = same
 stays e f h (ending.Uncaught v) same = same
 stays e f h (ending.Scope kind place) same = same

@@ -51,7 +51,7 @@ uncaught_text h (value.Object a) =
     (text_at h a (codes "message"))
 
 -- an end of the machine, with the heap in which it ends
-abbrev pub told : Heap → End → RunEnd
-told h ending.Normal = run_end.Normal
-told h (ending.Uncaught v) = run_end.Uncaught (uncaught_text h v)
-told h (ending.Scope kind place) = run_end.Scope kind place
+abbrev pub run_end_of : Heap → End → RunEnd
+run_end_of h ending.Normal = run_end.Normal
+run_end_of h (ending.Uncaught v) = run_end.Uncaught (uncaught_text h v)
+run_end_of h (ending.Scope kind place) = run_end.Scope kind place

@@ -18,7 +18,7 @@ use Rattle.ja_run.specs.declared.ended.CallRecord.{CallRecord}
 use Rattle.ja_run.specs.declared.ended.RunEnd.{RunEnd}
 use Rattle.ja_run.specs.declared.ended.RunEnd.TheVariants as run_end
 use Rattle.ja_run.specs.declared.ended.Ended.{Ended}
-use Rattle.ja_run.specs.Ends.{told}
+use Rattle.ja_run.specs.Ends.{run_end_of}
 
 -- ---- the answers
 
@@ -103,7 +103,7 @@ pub record EndsIn (p : Program) (calls : List CallRecord) (steps : ℕ) (end : E
 -- .. which is told so
 abbrev pub Ends : Program → List CallRecord → ℕ → RunEnd → Type 0
 Ends p calls steps e =
-    (end : End) × (last : Conf) × EndsIn p calls steps end last × (e ≡ told last.heap end)
+    (end : End) × (last : Conf) × EndsIn p calls steps end last × (e ≡ run_end_of last.heap end)
 
 -- Behind so many steps a device is asked, which gives no answer.
 abbrev pub Asks : Program → List CallRecord → ℕ → ℕ → Type 0

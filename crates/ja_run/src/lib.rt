@@ -13,9 +13,9 @@
 #![tactic(auto)]
 
 mod ended;
+mod ends;
 pub mod laws;
 mod running;
-mod told;
 mod transcript;
 
 pub use ended::{CallRecord, Ended, RunEnd};

@@ -11,8 +11,8 @@ ghost use Rattle.ja_run.specs.code.Making.{IsMade, Leaves};
 ghost use Rattle.ja_run.specs.Run.{IsRun};
 
 use crate::ended::{CallRecord, Ended, RunEnd};
+use crate::ends::run_end_of;
 use crate::laws::answers_fit;
-use crate::told::told;
 use ja_base::{Memory, Seq};
 use ja_device::{CallFault, Device, Devices};
 use ja_graph::Program;
@@ -154,7 +154,7 @@ pub fn run<D: Device>(
     let mut calls = Vec::new(alloc);
     let stop = make_steps(alloc, program, devices, &mut conf, &mut calls, limit)?;
     let (steps, end) = match stop {
-        Some(Stopped::Last { steps, end }) => (steps, told(alloc, &conf.heap, &end)?),
+        Some(Stopped::Last { steps, end }) => (steps, run_end_of(alloc, &conf.heap, &end)?),
         Some(Stopped::Unanswered { steps, which }) => (steps, RunEnd::Device { which }),
         None => (limit, RunEnd::Limit),
     };

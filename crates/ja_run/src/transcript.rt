@@ -7,7 +7,7 @@ ghost use Rattle.ja_run.specs.Ends.{primitive_text};
 ghost use Rattle.ja_run.specs.Transcript as spec;
 
 use crate::ended::{CallRecord, Ended, RunEnd};
-use crate::told::push_primitive;
+use crate::ends::push_primitive;
 use ja_base::Memory;
 use ja_graph::Program;
 use ja_prim::Primitive;

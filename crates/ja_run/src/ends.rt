@@ -112,8 +112,8 @@ fn uncaught(alloc: Global, heap: &Heap, value: &Value) -> Result<Vec<u8>, Memory
 }
 
 /// An end of the machine, with the heap in which it ends.
-pub(crate) fn told(alloc: Global, heap: &Heap, end: &End) -> Result<RunEnd, Memory>
-    ensures { IfOk result (λ e. e ≡ spec.told heap.now end.now) }
+pub(crate) fn run_end_of(alloc: Global, heap: &Heap, end: &End) -> Result<RunEnd, Memory>
+    ensures { IfOk result (λ e. e ≡ spec.run_end_of heap.now end.now) }
 {
     match end {
         End::Normal => Ok(RunEnd::Normal),
