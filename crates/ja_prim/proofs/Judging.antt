@@ -99,3 +99,10 @@ pub hexadecimal_value : (n v : ℕ) → v ≡ min n 9007199254740992
     → parted false v true ≡ judged false n 1
 hexadecimal_value n v e =
     ap (λ (x : ℕ). parted false x true) e ∙ parted_capped false n true ∙ sym (judged_whole n)
+
+-- .. and of either sign
+pub whole_value : (negative : Bool) (n v : ℕ) → v ≡ min n 9007199254740992
+    → parted negative v true ≡ judged negative n 1
+whole_value negative n v e =
+    ap (λ (x : ℕ). parted negative x true) e ∙ parted_capped negative n true
+    ∙ sym (judged_parts negative n 1 n 0 (omega arith) (omega arith))

@@ -4,11 +4,13 @@ pub mod Blanks
 pub mod Characters
 pub mod Comparison
 pub mod Conversions
+pub mod Fronts
 pub mod Index
 pub mod Judged
 pub mod Laws
 pub mod LawsOfTexts
 pub mod Numerals
+pub mod Search
 pub mod TextToNumber
 pub mod Texts
 pub mod code

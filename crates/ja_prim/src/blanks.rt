@@ -36,7 +36,7 @@ fn is_blank(unit: u16) -> bool
 }
 
 /// How many units that stand first are blank.
-fn blanks_before(units: &[u16]) -> usize
+pub fn blanks_before(units: &[u16]) -> usize
     ensures value { result ≡ prefix_len is_blank units.now }
     ensures within { result ≤ length units.now }
 {

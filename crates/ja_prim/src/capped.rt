@@ -10,7 +10,7 @@ use crate::{Int, Num, Stop};
 pub const CAP: u64 = 9_007_199_254_740_992;
 
 /// The value of a digit or a letter, 36 of any other unit.
-fn digit(unit: u16) -> u64
+pub fn digit(unit: u16) -> u64
     ensures value { result ≡ digit_value unit }
     ensures within { result ≤ 36 }
 {

@@ -4,10 +4,10 @@
 //! Every operation is its definition over whole numbers and lists of units (`specs/`), on all
 //! operands: `add`, `sub`, `mul`, `div`, `rem`, `neg`, the shifts, `and`, `or`, `xor`, `not`,
 //! `compare`, `loose_eq`, `strict_eq`, `to_num`, `to_bool`, `to_text`, `to_int32`, `to_uint32`,
-//! `array_index`, `placed`, `hexadecimal_value`, `Text16::from_str`, `Primitive::copy`. A text has
-//! at most 1,048,576 units, by its type. `Range` comes exactly where the exact result passes the
-//! range, else `Fraction` exactly where it isn't whole; `TextLength` exactly where a text is too
-//! long.
+//! `array_index`, `placed`, `hexadecimal_value`, `Text16::from_str`, `Primitive::copy`; the numbers
+//! at the front of a text (`front_integer`, `front_decimal`). A text has at most 1,048,576 units, by
+//! its type. `Range` comes exactly where the exact result passes the range, else `Fraction` exactly
+//! where it isn't whole; `TextLength` exactly where a text is too long.
 //!
 //! Laws say what the definitions come to, in the words of the integers (`laws.rt`,
 //! `laws_of_texts.rt`): sums, differences and products are those of the integers, quotients and
@@ -25,6 +25,7 @@ mod blanks;
 mod capped;
 mod comparison;
 mod equality;
+mod fronts;
 mod index;
 mod int;
 mod keys;
@@ -47,6 +48,7 @@ pub use ascii::{push_ascii, spells};
 pub use bits::{and, not, or, shl, shr, to_int32, to_uint32, ushr, xor};
 pub use comparison::compare;
 pub use equality::{loose_eq, strict_eq};
+pub use fronts::{front_decimal, front_integer};
 pub use index::array_index;
 pub use int::Int;
 pub use laws::{

@@ -13,17 +13,17 @@ use crate::values::{hexadecimal_value, placed};
 use crate::{Num, Stop};
 
 /// `Infinity`
-const INFINITY: [u16; 8] = [73, 110, 102, 105, 110, 105, 116, 121];
+pub(crate) const INFINITY: [u16; 8] = [73, 110, 102, 105, 110, 105, 116, 121];
 
 /// The unit at an index, 0 past the end.
-fn unit_at(units: &[u16], index: usize) -> u16
+pub(crate) fn unit_at(units: &[u16], index: usize) -> u16
     ensures { result ≡ char_at units.now index }
 {
     if index < units.len() { units[index] } else { 0 }
 }
 
 /// The units behind the first `count`.
-fn behind(units: &[u16], count: usize) -> &[u16]
+pub(crate) fn behind(units: &[u16], count: usize) -> &[u16]
     ensures value { result.now ≡ drop count units.now }
     ensures within { length result.now ≤ length units.now }
 {
@@ -49,7 +49,7 @@ fn digit_count(units: &[u16]) -> usize
 
 /// The digits that stand first.
 #[tactic(auto, using(crate::proofs::Digits::all_digits), unfolding(crate::specs::Numerals::digits))]
-fn digits(units: &[u16]) -> &[u16]
+pub(crate) fn digits(units: &[u16]) -> &[u16]
     ensures value { result.now ≡ numerals.digits units.now }
     ensures within { length result.now ≤ length units.now }
     ensures all { AllDigits 10 result.now }
@@ -59,7 +59,7 @@ fn digits(units: &[u16]) -> &[u16]
 
 /// What stands behind the digits that stand first.
 #[tactic(auto, unfolding(crate::specs::Numerals::behind_digits))]
-fn behind_digits(units: &[u16]) -> &[u16]
+pub(crate) fn behind_digits(units: &[u16]) -> &[u16]
     ensures value { result.now ≡ numerals.behind_digits units.now }
     ensures within { length result.now ≤ length units.now }
 {
@@ -68,7 +68,7 @@ fn behind_digits(units: &[u16]) -> &[u16]
 
 /// The digits behind a `.`, if one stands first.
 #[tactic(auto, unfolding(crate::specs::Numerals::fraction))]
-fn fraction(units: &[u16]) -> &[u16]
+pub(crate) fn fraction(units: &[u16]) -> &[u16]
     ensures value { result.now ≡ numerals.fraction units.now }
     ensures within { length result.now ≤ length units.now }
     ensures all { AllDigits 10 result.now }
@@ -82,7 +82,7 @@ fn fraction(units: &[u16]) -> &[u16]
 
 /// What stands behind a `.` and its digits, if one stands first.
 #[tactic(auto, unfolding(crate::specs::Numerals::behind_fraction))]
-fn behind_fraction(units: &[u16]) -> &[u16]
+pub(crate) fn behind_fraction(units: &[u16]) -> &[u16]
     ensures value { result.now ≡ numerals.behind_fraction units.now }
     ensures within { length result.now ≤ length units.now }
 {
@@ -114,7 +114,7 @@ fn power(units: &[u16]) -> &[u16]
 
 /// The digits of an exponent, if one stands first.
 #[tactic(auto, unfolding(crate::specs::Numerals::exponent))]
-fn exponent(units: &[u16]) -> &[u16]
+pub(crate) fn exponent(units: &[u16]) -> &[u16]
     ensures { result.now ≡ numerals.exponent units.now }
 {
     if unit_at(units, 0) == 101 || unit_at(units, 0) == 69 {
@@ -159,7 +159,7 @@ fn decimal(negative: bool, units: &[u16]) -> Result<Num, Stop>
 
 /// What stands behind a sign, if one stands first.
 #[tactic(auto, unfolding(crate::specs::TextToNumber::unsigned))]
-fn unsigned(units: &[u16]) -> &[u16]
+pub(crate) fn unsigned(units: &[u16]) -> &[u16]
     ensures value { result.now ≡ spec.unsigned units.now }
     ensures within { length result.now ≤ length units.now }
 {
@@ -195,6 +195,13 @@ fn all_hexadecimal(units: &[u16]) -> bool
     ensures { result ≡ list_all is_ascii_hexdigit units.now }
 {
     units.iter().all(|unit| is_hexadecimal_digit(*unit))
+}
+
+/// Whether `0x` or `0X` stands first.
+pub(crate) fn begins_hexadecimal(units: &[u16]) -> bool
+    ensures { result ≡ numerals.begins_hexadecimal units.now }
+{
+    unit_at(units, 0) == 48 && (unit_at(units, 1) == 120 || unit_at(units, 1) == 88)
 }
 
 /// Whether there are `0x` or `0X` and hexadecimal digits.
