@@ -1,0 +1,2 @@
+pub mod FoundPlaces
+pub mod Searching
