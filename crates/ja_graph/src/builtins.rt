@@ -19,124 +19,218 @@ pub const OBJECT: Site = Site(3);
 /// `Function` (15.3.3).
 pub const FUNCTION: Site = Site(4);
 
+/// `Array` (15.4.3).
+pub const ARRAY: Site = Site(5);
+
 /// `Array.prototype` (15.4.4).
-pub const ARRAY_PROTOTYPE: Site = Site(5);
+pub const ARRAY_PROTOTYPE: Site = Site(6);
 
 /// `String` (15.5.3).
-pub const STRING: Site = Site(6);
+pub const STRING: Site = Site(7);
 
 /// `String.prototype` (15.5.4).
-pub const STRING_PROTOTYPE: Site = Site(7);
+pub const STRING_PROTOTYPE: Site = Site(8);
 
 /// `Boolean` (15.6.3).
-pub const BOOLEAN: Site = Site(8);
+pub const BOOLEAN: Site = Site(9);
 
 /// `Boolean.prototype` (15.6.4).
-pub const BOOLEAN_PROTOTYPE: Site = Site(9);
+pub const BOOLEAN_PROTOTYPE: Site = Site(10);
 
 /// `Number` (15.7.3).
-pub const NUMBER: Site = Site(10);
+pub const NUMBER: Site = Site(11);
 
 /// `Number.prototype` (15.7.4).
-pub const NUMBER_PROTOTYPE: Site = Site(11);
+pub const NUMBER_PROTOTYPE: Site = Site(12);
 
 /// `Error` (15.11.3).
-pub const ERROR: Site = Site(12);
+pub const ERROR: Site = Site(13);
 
 /// `Error.prototype` (15.11.4).
-pub const ERROR_PROTOTYPE: Site = Site(13);
+pub const ERROR_PROTOTYPE: Site = Site(14);
 
 /// `EvalError` (15.11.7).
-pub const EVAL_ERROR: Site = Site(14);
+pub const EVAL_ERROR: Site = Site(15);
 
 /// `EvalError.prototype` (15.11.7).
-pub const EVAL_ERROR_PROTOTYPE: Site = Site(15);
+pub const EVAL_ERROR_PROTOTYPE: Site = Site(16);
 
 /// `RangeError` (15.11.7).
-pub const RANGE_ERROR: Site = Site(16);
+pub const RANGE_ERROR: Site = Site(17);
 
 /// `RangeError.prototype` (15.11.7).
-pub const RANGE_ERROR_PROTOTYPE: Site = Site(17);
+pub const RANGE_ERROR_PROTOTYPE: Site = Site(18);
 
 /// `ReferenceError` (15.11.7).
-pub const REFERENCE_ERROR: Site = Site(18);
+pub const REFERENCE_ERROR: Site = Site(19);
 
 /// `ReferenceError.prototype` (15.11.7).
-pub const REFERENCE_ERROR_PROTOTYPE: Site = Site(19);
+pub const REFERENCE_ERROR_PROTOTYPE: Site = Site(20);
 
 /// `SyntaxError` (15.11.7).
-pub const SYNTAX_ERROR: Site = Site(20);
+pub const SYNTAX_ERROR: Site = Site(21);
 
 /// `SyntaxError.prototype` (15.11.7).
-pub const SYNTAX_ERROR_PROTOTYPE: Site = Site(21);
+pub const SYNTAX_ERROR_PROTOTYPE: Site = Site(22);
 
 /// `TypeError` (15.11.7).
-pub const TYPE_ERROR: Site = Site(22);
+pub const TYPE_ERROR: Site = Site(23);
 
 /// `TypeError.prototype` (15.11.7).
-pub const TYPE_ERROR_PROTOTYPE: Site = Site(23);
+pub const TYPE_ERROR_PROTOTYPE: Site = Site(24);
 
 /// `URIError` (15.11.7).
-pub const URI_ERROR: Site = Site(24);
+pub const URI_ERROR: Site = Site(25);
 
 /// `URIError.prototype` (15.11.7).
-pub const URI_ERROR_PROTOTYPE: Site = Site(25);
+pub const URI_ERROR_PROTOTYPE: Site = Site(26);
 
 /// `Math` (15.8).
-pub const MATH: Site = Site(26);
+pub const MATH: Site = Site(27);
+
+/// `parseInt` (15.1.2.2).
+pub const PARSE_INT: Site = Site(28);
+
+/// `parseFloat` (15.1.2.3).
+pub const PARSE_FLOAT: Site = Site(29);
 
 /// `isNaN` (15.1.2.4).
-pub const IS_NAN: Site = Site(27);
+pub const IS_NAN: Site = Site(30);
 
 /// `isFinite` (15.1.2.5).
-pub const IS_FINITE: Site = Site(28);
+pub const IS_FINITE: Site = Site(31);
 
 /// `Object.prototype.toString` (15.2.4.2).
-pub const OBJECT_TO_STRING: Site = Site(29);
+pub const OBJECT_TO_STRING: Site = Site(32);
 
 /// `Object.prototype.valueOf` (15.2.4.4).
-pub const OBJECT_VALUE_OF: Site = Site(30);
+pub const OBJECT_VALUE_OF: Site = Site(33);
 
 /// `Object.prototype.hasOwnProperty` (15.2.4.5).
-pub const HAS_OWN_PROPERTY: Site = Site(31);
+pub const HAS_OWN_PROPERTY: Site = Site(34);
 
 /// `Object.prototype.isPrototypeOf` (15.2.4.6).
-pub const IS_PROTOTYPE_OF: Site = Site(32);
+pub const IS_PROTOTYPE_OF: Site = Site(35);
 
 /// `Object.prototype.propertyIsEnumerable` (15.2.4.7).
-pub const PROPERTY_IS_ENUMERABLE: Site = Site(33);
+pub const PROPERTY_IS_ENUMERABLE: Site = Site(36);
 
 /// `Function.prototype.apply` (15.3.4.3).
-pub const APPLY: Site = Site(34);
+pub const APPLY: Site = Site(37);
 
 /// `Function.prototype.call` (15.3.4.4).
-pub const CALL: Site = Site(35);
+pub const CALL: Site = Site(38);
+
+/// `Array.prototype.toString` (15.4.4.2).
+pub const ARRAY_TO_STRING: Site = Site(39);
+
+/// `Array.prototype.concat` (15.4.4.4).
+pub const ARRAY_CONCAT: Site = Site(40);
+
+/// `Array.prototype.join` (15.4.4.5).
+pub const ARRAY_JOIN: Site = Site(41);
+
+/// `Array.prototype.pop` (15.4.4.6).
+pub const ARRAY_POP: Site = Site(42);
+
+/// `Array.prototype.push` (15.4.4.7).
+pub const ARRAY_PUSH: Site = Site(43);
+
+/// `Array.prototype.reverse` (15.4.4.8).
+pub const ARRAY_REVERSE: Site = Site(44);
+
+/// `Array.prototype.shift` (15.4.4.9).
+pub const ARRAY_SHIFT: Site = Site(45);
+
+/// `Array.prototype.slice` (15.4.4.10).
+pub const ARRAY_SLICE: Site = Site(46);
+
+/// `Array.prototype.splice` (15.4.4.12).
+pub const ARRAY_SPLICE: Site = Site(47);
+
+/// `Array.prototype.unshift` (15.4.4.13).
+pub const ARRAY_UNSHIFT: Site = Site(48);
+
+/// `String.fromCharCode` (15.5.3.2).
+pub const FROM_CHAR_CODE: Site = Site(49);
 
 /// `String.prototype.toString` (15.5.4.2).
-pub const STRING_TO_STRING: Site = Site(36);
+pub const STRING_TO_STRING: Site = Site(50);
 
 /// `String.prototype.valueOf` (15.5.4.3).
-pub const STRING_VALUE_OF: Site = Site(37);
+pub const STRING_VALUE_OF: Site = Site(51);
+
+/// `String.prototype.charAt` (15.5.4.4).
+pub const CHAR_AT: Site = Site(52);
+
+/// `String.prototype.charCodeAt` (15.5.4.5).
+pub const CHAR_CODE_AT: Site = Site(53);
+
+/// `String.prototype.concat` (15.5.4.6).
+pub const STRING_CONCAT: Site = Site(54);
+
+/// `String.prototype.indexOf` (15.5.4.7).
+pub const INDEX_OF: Site = Site(55);
+
+/// `String.prototype.lastIndexOf` (15.5.4.8).
+pub const LAST_INDEX_OF: Site = Site(56);
+
+/// `String.prototype.slice` (15.5.4.13).
+pub const STRING_SLICE: Site = Site(57);
+
+/// `String.prototype.split` (15.5.4.14).
+pub const SPLIT: Site = Site(58);
+
+/// `String.prototype.substring` (15.5.4.15).
+pub const SUBSTRING: Site = Site(59);
+
+/// `String.prototype.toLowerCase` (15.5.4.16).
+pub const TO_LOWER_CASE: Site = Site(60);
+
+/// `String.prototype.toUpperCase` (15.5.4.18).
+pub const TO_UPPER_CASE: Site = Site(61);
 
 /// `Boolean.prototype.toString` (15.6.4.2).
-pub const BOOLEAN_TO_STRING: Site = Site(38);
+pub const BOOLEAN_TO_STRING: Site = Site(62);
 
 /// `Boolean.prototype.valueOf` (15.6.4.3).
-pub const BOOLEAN_VALUE_OF: Site = Site(39);
+pub const BOOLEAN_VALUE_OF: Site = Site(63);
 
 /// `Number.prototype.toString` (15.7.4.2).
-pub const NUMBER_TO_STRING: Site = Site(40);
+pub const NUMBER_TO_STRING: Site = Site(64);
 
 /// `Number.prototype.valueOf` (15.7.4.4).
-pub const NUMBER_VALUE_OF: Site = Site(41);
+pub const NUMBER_VALUE_OF: Site = Site(65);
 
 /// `Error.prototype.toString` (15.11.4.4).
-pub const ERROR_TO_STRING: Site = Site(42);
+pub const ERROR_TO_STRING: Site = Site(66);
+
+/// `Math.abs` (15.8.2.1).
+pub const MATH_ABS: Site = Site(67);
+
+/// `Math.ceil` (15.8.2.6).
+pub const MATH_CEIL: Site = Site(68);
+
+/// `Math.floor` (15.8.2.9).
+pub const MATH_FLOOR: Site = Site(69);
+
+/// `Math.round` (15.8.2.15).
+pub const MATH_ROUND: Site = Site(70);
+
+/// `Math.max` (15.8.2.11).
+pub const MATH_MAX: Site = Site(71);
+
+/// `Math.min` (15.8.2.12).
+pub const MATH_MIN: Site = Site(72);
+
+/// `Math.pow` (15.8.2.13).
+pub const MATH_POW: Site = Site(73);
 
 /// The classes of the built-in objects, by their sites.
-pub const BUILTIN_CLASSES: [Class; 43] = [
+pub const BUILTIN_CLASSES: [Class; 74] = [
     Class::Object,
     Class::Object,
+    Class::Function,
     Class::Function,
     Class::Function,
     Class::Function,
@@ -162,6 +256,36 @@ pub const BUILTIN_CLASSES: [Class; 43] = [
     Class::Function,
     Class::Error,
     Class::Math,
+    Class::Function,
+    Class::Function,
+    Class::Function,
+    Class::Function,
+    Class::Function,
+    Class::Function,
+    Class::Function,
+    Class::Function,
+    Class::Function,
+    Class::Function,
+    Class::Function,
+    Class::Function,
+    Class::Function,
+    Class::Function,
+    Class::Function,
+    Class::Function,
+    Class::Function,
+    Class::Function,
+    Class::Function,
+    Class::Function,
+    Class::Function,
+    Class::Function,
+    Class::Function,
+    Class::Function,
+    Class::Function,
+    Class::Function,
+    Class::Function,
+    Class::Function,
+    Class::Function,
+    Class::Function,
     Class::Function,
     Class::Function,
     Class::Function,
@@ -318,7 +442,7 @@ pub const ARGUMENTS: NameId = NameId(103);
 
 /// The operations of the built-in functions, by their numbers: the name under which the texts of
 /// these functions call each, and how many arguments it takes.
-pub const INTRINSICS: [(&[u8], u32); 8] = [
+pub const INTRINSICS: [(&[u8], u32); 18] = [
     // whether a value is an object
     (b"$is_object", 1),
     // the class of an object, as a text (8.6.2)
@@ -335,4 +459,22 @@ pub const INTRINSICS: [(&[u8], u32); 8] = [
     (b"$has_elements", 1),
     // the digits of a number, by a radix from 2 to 36 (15.7.4.2)
     (b"$digits", 2),
+    // how many units a text has (15.5.5.1)
+    (b"$size", 1),
+    // the unit at a place, or NaN (15.5.4.5)
+    (b"$unit", 2),
+    // the units from a place on and before another (15.5.4.13)
+    (b"$part", 3),
+    // the text of one unit (15.5.3.2)
+    (b"$character", 1),
+    // the first place from one on where a text stands (15.5.4.7)
+    (b"$index_of", 3),
+    // the last place not behind one where it stands (15.5.4.8)
+    (b"$last_index_of", 3),
+    // a text with small letters (15.5.4.16), and with great ones (15.5.4.18)
+    (b"$lower", 1),
+    (b"$upper", 1),
+    // the number at the front of a text (15.1.2.2, 15.1.2.3)
+    (b"$parse_int", 2),
+    (b"$parse_float", 1),
 ];

@@ -25,29 +25,129 @@ mod well_formed_opening;
 mod well_formed_programs;
 mod well_formed_sites;
 
-pub use attrs::{ALL_ATTRS, Attrs, DONT_DELETE, DONT_ENUM, KEPT_HIDDEN, NO_ATTRS};
-pub use builtins::{
-    APPLY, ARGUMENTS, ARRAY_PROTOTYPE, BOOLEAN, BOOLEAN_PROTOTYPE, BOOLEAN_TO_STRING,
-    BOOLEAN_VALUE_OF, BUILTIN_CLASSES, BUILTIN_NAMES, CALL, CALLEE, ERROR, ERROR_PROTOTYPE,
-    ERROR_TO_STRING, EVAL_ERROR, EVAL_ERROR_PROTOTYPE, FUNCTION, FUNCTION_PROTOTYPE, GLOBAL,
-    HAS_OWN_PROPERTY, INTRINSICS, IS_FINITE, IS_NAN, IS_PROTOTYPE_OF, LENGTH, MATH, MESSAGE, NAME,
-    NUMBER, NUMBER_PROTOTYPE, NUMBER_TO_STRING, NUMBER_VALUE_OF, OBJECT, OBJECT_PROTOTYPE,
-    OBJECT_TO_STRING, OBJECT_VALUE_OF, PROPERTY_IS_ENUMERABLE, RANGE_ERROR, RANGE_ERROR_PROTOTYPE,
-    REFERENCE_ERROR, REFERENCE_ERROR_PROTOTYPE, STRING, STRING_PROTOTYPE, STRING_TO_STRING,
-    STRING_VALUE_OF, SYNTAX_ERROR, SYNTAX_ERROR_PROTOTYPE, TYPE_ERROR, TYPE_ERROR_PROTOTYPE,
-    URI_ERROR, URI_ERROR_PROTOTYPE,
-};
+pub use attrs::ALL_ATTRS;
+pub use attrs::Attrs;
+pub use attrs::DONT_DELETE;
+pub use attrs::DONT_ENUM;
+pub use attrs::KEPT_HIDDEN;
+pub use attrs::NO_ATTRS;
+pub use builtins::APPLY;
+pub use builtins::ARGUMENTS;
+pub use builtins::ARRAY;
+pub use builtins::ARRAY_CONCAT;
+pub use builtins::ARRAY_JOIN;
+pub use builtins::ARRAY_POP;
+pub use builtins::ARRAY_PROTOTYPE;
+pub use builtins::ARRAY_PUSH;
+pub use builtins::ARRAY_REVERSE;
+pub use builtins::ARRAY_SHIFT;
+pub use builtins::ARRAY_SLICE;
+pub use builtins::ARRAY_SPLICE;
+pub use builtins::ARRAY_TO_STRING;
+pub use builtins::ARRAY_UNSHIFT;
+pub use builtins::BOOLEAN;
+pub use builtins::BOOLEAN_PROTOTYPE;
+pub use builtins::BOOLEAN_TO_STRING;
+pub use builtins::BOOLEAN_VALUE_OF;
+pub use builtins::BUILTIN_CLASSES;
+pub use builtins::BUILTIN_NAMES;
+pub use builtins::CALL;
+pub use builtins::CALLEE;
+pub use builtins::CHAR_AT;
+pub use builtins::CHAR_CODE_AT;
+pub use builtins::ERROR;
+pub use builtins::ERROR_PROTOTYPE;
+pub use builtins::ERROR_TO_STRING;
+pub use builtins::EVAL_ERROR;
+pub use builtins::EVAL_ERROR_PROTOTYPE;
+pub use builtins::FROM_CHAR_CODE;
+pub use builtins::FUNCTION;
+pub use builtins::FUNCTION_PROTOTYPE;
+pub use builtins::GLOBAL;
+pub use builtins::HAS_OWN_PROPERTY;
+pub use builtins::INDEX_OF;
+pub use builtins::INTRINSICS;
+pub use builtins::IS_FINITE;
+pub use builtins::IS_NAN;
+pub use builtins::IS_PROTOTYPE_OF;
+pub use builtins::LAST_INDEX_OF;
+pub use builtins::LENGTH;
+pub use builtins::MATH;
+pub use builtins::MATH_ABS;
+pub use builtins::MATH_CEIL;
+pub use builtins::MATH_FLOOR;
+pub use builtins::MATH_MAX;
+pub use builtins::MATH_MIN;
+pub use builtins::MATH_POW;
+pub use builtins::MATH_ROUND;
+pub use builtins::MESSAGE;
+pub use builtins::NAME;
+pub use builtins::NUMBER;
+pub use builtins::NUMBER_PROTOTYPE;
+pub use builtins::NUMBER_TO_STRING;
+pub use builtins::NUMBER_VALUE_OF;
+pub use builtins::OBJECT;
+pub use builtins::OBJECT_PROTOTYPE;
+pub use builtins::OBJECT_TO_STRING;
+pub use builtins::OBJECT_VALUE_OF;
+pub use builtins::PARSE_FLOAT;
+pub use builtins::PARSE_INT;
+pub use builtins::PROPERTY_IS_ENUMERABLE;
+pub use builtins::RANGE_ERROR;
+pub use builtins::RANGE_ERROR_PROTOTYPE;
+pub use builtins::REFERENCE_ERROR;
+pub use builtins::REFERENCE_ERROR_PROTOTYPE;
+pub use builtins::SPLIT;
+pub use builtins::STRING;
+pub use builtins::STRING_CONCAT;
+pub use builtins::STRING_PROTOTYPE;
+pub use builtins::STRING_SLICE;
+pub use builtins::STRING_TO_STRING;
+pub use builtins::STRING_VALUE_OF;
+pub use builtins::SUBSTRING;
+pub use builtins::SYNTAX_ERROR;
+pub use builtins::SYNTAX_ERROR_PROTOTYPE;
+pub use builtins::TO_LOWER_CASE;
+pub use builtins::TO_UPPER_CASE;
+pub use builtins::TYPE_ERROR;
+pub use builtins::TYPE_ERROR_PROTOTYPE;
+pub use builtins::URI_ERROR;
+pub use builtins::URI_ERROR_PROTOTYPE;
 pub use facts::may_throw;
-pub use node::{Args, BinaryOp, ErrorKind, Hint, Made, Node, NodeInfo, UnaryOp, Wrappers};
+pub use node::Args;
+pub use node::BinaryOp;
+pub use node::ErrorKind;
+pub use node::Hint;
+pub use node::Made;
+pub use node::Node;
+pub use node::NodeInfo;
+pub use node::UnaryOp;
+pub use node::Wrappers;
 pub use node_registers::registers_with;
-pub use program::{
-    Class, Function, MAX_DEVICES, ObjectSpec, Program, PropertySpec, SiteInfo, SpecContent,
-};
-pub use registers::{CALLEE_REGISTER, COUNT, FIXED_REGISTERS, REST, SCOPE, THIS, THROWN};
-pub use renaming::{Renames, renamed};
-pub use sites::{Making, NodeMakings, makings};
+pub use program::Class;
+pub use program::Function;
+pub use program::MAX_DEVICES;
+pub use program::ObjectSpec;
+pub use program::Program;
+pub use program::PropertySpec;
+pub use program::SiteInfo;
+pub use program::SpecContent;
+pub use registers::CALLEE_REGISTER;
+pub use registers::COUNT;
+pub use registers::FIXED_REGISTERS;
+pub use registers::REST;
+pub use registers::SCOPE;
+pub use registers::THIS;
+pub use registers::THROWN;
+pub use renaming::Renames;
+pub use renaming::renamed;
+pub use sites::Making;
+pub use sites::NodeMakings;
+pub use sites::makings;
 pub use well_formed_functions::is_function_well_formed;
-pub use well_formed_nodes::{
-    all_registers_below, function_in, is_node_well_formed, name_in, register_set,
-};
+pub use well_formed_nodes::all_registers_below;
+pub use well_formed_nodes::function_in;
+pub use well_formed_nodes::is_node_well_formed;
+pub use well_formed_nodes::name_in;
+pub use well_formed_nodes::register_set;
 pub use well_formed_programs::well_formed;

@@ -3,6 +3,8 @@
 ghost use Rattle.std.specs.Prelude.{◌≡◌, ◌↔◌, ◌<◌, IsTrue, Some};
 ghost use Rattle.std.specs.List.{AllByRecursion};
 ghost use Rattle.std.specs.Option.{option_to_list};
+ghost use Rattle.std.specs.Option.{option_map};
+ghost use Rattle.std.specs.List.{slice_get};
 ghost use Rattle.ja_base.specs.declared.ids.Reg.{Reg};
 ghost use Rattle.ja_graph.specs.Node.{register_set, registers_named, name_in, function_in};
 ghost use Rattle.ja_graph.specs.WellFormed as graph;
@@ -121,14 +123,21 @@ pub(crate) fn is_function_if_any(program: &Program, function: Option<FnId>) -> b
     }
 }
 
+/// Whether a table has a row of the number, which says so many arguments.
+fn row_takes(rows: &[(&[u8], u32)], which: u32, count: usize) -> bool
+    ensures { IsTrue result ↔ (option_map (λ row. row.1) (slice_get rows.now which) ≡ Some count) }
+{
+    match rows.get(which as usize) {
+        Some((_, taken)) => *taken as usize == count,
+        None => false,
+    }
+}
+
 /// Whether there is an operation of the number, and it takes so many arguments.
 fn takes_arguments(which: u32, count: usize) -> bool
     ensures { IsTrue result ↔ (graph.arguments_taken which ≡ Some count) }
 {
-    match INTRINSICS.get(which as usize) {
-        Some((_, taken)) => *taken as usize == count,
-        None => false,
-    }
+    row_takes(&INTRINSICS, which, count)
 }
 
 /// Whether a function may have a node of this kind.
