@@ -140,7 +140,40 @@ are_special_forms = record {
             λ arguments scene place l. refl,
             (
               λ arguments scene place l. refl,
-              (λ arguments scene place l. refl, (λ arguments scene place l. refl, tt)),
+              (
+                λ arguments scene place l. refl,
+                (
+                  λ arguments scene place l. refl,
+                  (
+                    λ arguments scene place l. refl,
+                    (
+                      λ arguments scene place l. refl,
+                      (
+                        λ arguments scene place l. refl,
+                        (
+                          λ arguments scene place l. refl,
+                          (
+                            λ arguments scene place l. refl,
+                            (
+                              λ arguments scene place l. refl,
+                              (
+                                λ arguments scene place l. refl,
+                                (
+                                  λ arguments scene place l. refl,
+                                  (
+                                    λ arguments scene place l. refl,
+                                    (λ arguments scene place l. refl, tt),
+                                  ),
+                                ),
+                              ),
+                            ),
+                          ),
+                        ),
+                      ),
+                    ),
+                  ),
+                ),
+              ),
             ),
           ),
         ),

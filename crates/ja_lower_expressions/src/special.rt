@@ -40,7 +40,7 @@ pub enum Special {
 
 /// The names of the special forms: the operations of the built-in functions come last, as
 /// `ja_graph::INTRINSICS` numbers them.
-pub const SPECIALS: [(&[u8], Special); 44] = [
+pub const SPECIALS: [(&[u8], Special); 54] = [
     (b"$get", Special::Get),
     (b"$put", Special::Put),
     (b"$delete", Special::Delete),
@@ -106,6 +106,16 @@ pub const SPECIALS: [(&[u8], Special); 44] = [
     (b"$inherits", Special::Intrinsic(5)),
     (b"$has_elements", Special::Intrinsic(6)),
     (b"$digits", Special::Intrinsic(7)),
+    (b"$size", Special::Intrinsic(8)),
+    (b"$unit", Special::Intrinsic(9)),
+    (b"$part", Special::Intrinsic(10)),
+    (b"$character", Special::Intrinsic(11)),
+    (b"$index_of", Special::Intrinsic(12)),
+    (b"$last_index_of", Special::Intrinsic(13)),
+    (b"$lower", Special::Intrinsic(14)),
+    (b"$upper", Special::Intrinsic(15)),
+    (b"$parse_int", Special::Intrinsic(16)),
+    (b"$parse_float", Special::Intrinsic(17)),
 ];
 
 /// The special form of a name.
