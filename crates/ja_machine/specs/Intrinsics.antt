@@ -1,15 +1,12 @@
 -- The operations that the built-in functions are written with: what each gives of the values that
 -- it takes and of the heap.
-use Rattle.std.specs.Prelude.{◌≡◌, ◌⊎◌, ℕ, suc, ◌∷◌, ◌++◌, pos, negsuc, nat_le, Bool, false, ◌&&◌, if◌then◌else◌, List, [], map, length, Option, Some, None, is_some, Result, Ok, Err}
-use Rattle.std.specs.Fmt.{digits}
+use Rattle.std.specs.Prelude.{◌≡◌, ◌⊎◌, ℕ, ◌∷◌, Bool, false, List, [], map, length, Option, Some, None, is_some, Result, Ok, Err}
 use Rattle.std.specs.Option.{option_and_then, option_map, option_map_or}
 use lib.Chars.{codes}
 use Rattle.ja_base.specs.declared.ids.ScopeKind.{ScopeKind}
 use Rattle.ja_base.specs.declared.ids.ScopeKind.TheVariants.{Register}
-use Rattle.ja_prim.specs.declared.primitive.Num.{Num}
-use Rattle.ja_prim.specs.declared.primitive.Num.TheVariants.{NaN, Whole}
 use Rattle.ja_prim.specs.declared.primitive.Primitive.{Primitive}
-use Rattle.ja_prim.specs.declared.primitive.Primitive.TheVariants.{Number, Text}
+use Rattle.ja_prim.specs.declared.primitive.Primitive.TheVariants.{Text}
 use Rattle.ja_graph.specs.declared.program.Class.{Class}
 use Rattle.ja_graph.specs.declared.program.Class.TheVariants as class
 use Rattle.ja_machine.specs.declared.machine.Addr.{Addr}
@@ -22,6 +19,8 @@ use Rattle.ja_machine.specs.Heap.{object_at, class_at, own, inherits_from}
 use Rattle.ja_machine.specs.Values.{is_object, truth}
 use Rattle.ja_machine.specs.Enumeration.{is_enumerable}
 use Rattle.ja_machine.specs.Calls.{has_elements_at}
+use Rattle.ja_machine.specs.TextOperations.{PrimitiveRow, row}
+use Rattle.ja_machine.specs.declared.machine.TextOperation.TheVariants as text
 
 -- what an operation gives: a primitive value, or why the run leaves the profile
 abbrev pub IntrinsicOutcome : Type 0
@@ -99,26 +98,16 @@ abbrev pub is_list : Heap → Value → Bool
 is_list h (value.Object a) = has_elements_at h a
 is_list h (value.Primitive q) = false
 
--- ---- numbers (15.7.4.2)
+-- ---- texts and numbers
 
--- the digits in a radix, with a minus before those of a negative number
-abbrev pub radix_text : ℕ → Num → List ℕ
-radix_text radix NaN = codes "NaN"
-radix_text radix (Whole (pos n)) = digits radix false n
-radix_text radix (Whole (negsuc n)) = codes "-" ++ digits radix false (suc n)
+-- the primitive values, where all are primitive
+abbrev pub primitives_in : List Value → Option (List Primitive)
+primitives_in [] = Some []
+primitives_in (value.Primitive q ∷ vs) = option_map (λ qs. q ∷ qs) (primitives_in vs)
+primitives_in (value.Object a ∷ vs) = None
 
--- the least and the greatest radix
-abbrev pub min_radix : ℕ
-min_radix = 2
-
-abbrev pub max_radix : ℕ
-max_radix = 36
-
-abbrev pub digits_of : Heap → Value → Value → IntrinsicOutcome
-digits_of h (value.Primitive (Number n)) (value.Primitive (Number (Whole (pos radix)))) =
-    if nat_le min_radix radix && nat_le radix max_radix then Ok (Text (radix_text radix n))
-    else refused
-digits_of h v w = refused
+abbrev pub on_primitives : PrimitiveRow → Computation
+on_primitives row vs h = option_map_or row (primitives_in vs) refused
 
 -- ---- all of them
 
@@ -141,7 +130,17 @@ operations =
     ∷ operation (codes "$is_enumerable") 2 (of_two (of_own is_shown))
     ∷ operation (codes "$inherits") 2 (of_two inherits)
     ∷ operation (codes "$has_elements") 1 (of_one (λ h v. tells (is_list h v)))
-    ∷ operation (codes "$digits") 2 (of_two digits_of) ∷ []
+    ∷ operation (codes "$digits") 2 (on_primitives (row text.Digits))
+    ∷ operation (codes "$size") 1 (on_primitives (row text.Size))
+    ∷ operation (codes "$unit") 2 (on_primitives (row text.Unit))
+    ∷ operation (codes "$part") 3 (on_primitives (row text.Part))
+    ∷ operation (codes "$character") 1 (on_primitives (row text.Character))
+    ∷ operation (codes "$index_of") 3 (on_primitives (row text.IndexOf))
+    ∷ operation (codes "$last_index_of") 3 (on_primitives (row text.LastIndexOf))
+    ∷ operation (codes "$lower") 1 (on_primitives (row text.Lower))
+    ∷ operation (codes "$upper") 1 (on_primitives (row text.Upper))
+    ∷ operation (codes "$parse_int") 2 (on_primitives (row text.ParseInt))
+    ∷ operation (codes "$parse_float") 1 (on_primitives (row text.ParseFloat)) ∷ []
 
 abbrev pub rows : List Computation
 rows = map (λ (o : Operation). o.gives) operations

@@ -6,6 +6,7 @@ pub mod Frames
 pub mod Objects
 pub mod Events
 pub mod Calls
+pub mod TextOperations
 pub mod Intrinsics
 pub mod Nodes
 pub mod Machine

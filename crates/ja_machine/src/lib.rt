@@ -19,5 +19,5 @@ pub use laws::{
 };
 pub use machine::{
     Addr, Answer, Conf, Content, End, Event, Frame, Heap, Object, Property, Put, Remaining, Slots,
-    Value, Wants,
+    TextOperation, Value, Wants,
 };

@@ -136,3 +136,23 @@ pub enum Event {
     Next(Conf),
     End(End, Conf),
 }
+
+/// An operation on texts and numbers that the built-in functions are written with: the digits of a
+/// number in a radix (ES3 15.7.4.2); the size of a text, its unit at a place and its part between
+/// two (15.5); the text of one unit (15.5.3.2); the first and the last place of one text in another
+/// (15.5.4.7, 15.5.4.8); a text in small and in great letters (15.5.4.16, 15.5.4.18); the whole
+/// number and the decimal number at the front of a text (15.1.2.2, 15.1.2.3).
+#[derive(Clone, Copy, Debug, PartialEq, Eq)]
+pub enum TextOperation {
+    Digits,
+    Size,
+    Unit,
+    Part,
+    Character,
+    IndexOf,
+    LastIndexOf,
+    Lower,
+    Upper,
+    ParseInt,
+    ParseFloat,
+}
