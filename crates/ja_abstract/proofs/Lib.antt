@@ -12,7 +12,9 @@ pub mod Least
 pub mod Lists
 pub mod Order
 pub mod Parts
+pub mod PrimitiveOperations
 pub mod Ranks
 pub mod Rounds
+pub mod TextOperations
 pub mod Texts
 pub mod WritesInProgram

@@ -10,6 +10,7 @@ pub mod Operations
 pub mod Order
 pub mod Parts
 pub mod Primitives
+pub mod PrimitiveOperations
 pub mod Profile
 pub mod Rank
 pub mod Reading

@@ -1,21 +1,21 @@
 -- The abstract operations of the built-in functions: what each gives of abstract values, and what
 -- it demands (ES3 15.2.4, 15.3.4.3, 15.7.4.2, and the internal properties of 8.6.2).
-use Rattle.std.specs.Prelude.{ℕ, pos, Bool, not, ◌&&◌, ◌||◌, if◌then◌else◌, nat_le, List, [], ◌∷◌, map, slice_get, Some}
+use Rattle.std.specs.Prelude.{ℕ, Bool, not, ◌&&◌, ◌||◌, List, [], ◌∷◌, map, slice_get}
 use Rattle.std.specs.Option.{option_map_or}
 use Rattle.ja_base.specs.declared.ids.Label.{Label}
-use Rattle.ja_prim.specs.declared.primitive.Num.TheVariants.{Whole}
 use Rattle.ja_prim.specs.declared.primitive.Primitive.TheVariants as primitive
 use Rattle.ja_graph.specs.declared.program.Program.{Program}
 use Rattle.ja_graph.specs.Program.{is_arguments_site}
-use Rattle.ja_machine.specs.Intrinsics.{class_name, radix_text, min_radix, max_radix}
+use Rattle.ja_machine.specs.Intrinsics.{class_name}
 use Rattle.ja_machine.specs.Machine.{class_of_site}
+use Rattle.ja_machine.specs.TextOperations.{text_operations}
 use Rattle.ja_abstract.specs.declared.abstraction.Key.{Key}
-use Rattle.ja_abstract.specs.declared.abstraction.TextPart.TheVariants as text_part
 use Rattle.ja_abstract.specs.AbstractValue.{Labels, AbstractValue, AbstractProperty, no_value, of_primitive}
 use Rattle.ja_abstract.specs.AbstractState.{labels_of}
 use Rattle.ja_abstract.specs.Resolved.{Demands, join_values, demands_of}
 use Rattle.ja_abstract.specs.Keys.{keys_of_value}
-use Rattle.ja_abstract.specs.Primitives.{Atom, Abstracted, gives, no_result, over_pairs, atoms, of_bools, of_text_part, operand, Operand}
+use Rattle.ja_abstract.specs.Primitives.{of_bools, of_text_part}
+use Rattle.ja_abstract.specs.PrimitiveOperations.{text_operation}
 use Rattle.ja_abstract.specs.Reading.{View, some_label, no_demands, demands_if, demands_at, own, demands_of_own, slot, may_have, may_lack, may_be_enumerable, may_be_hidden, proper_ancestors, demands_of_ancestors}
 use Rattle.ja_abstract.specs.Writes.{is_array_label}
 use Rattle.ja_abstract.specs.Made.{value_key}
@@ -106,24 +106,10 @@ has_elements w v =
     let is_other = some_label w (λ l. v.label l && not (is_list_label w.program l)) in
     looked (of_bools is_list (has_atoms v || is_other))
 
--- ---- numbers
+-- ---- those on texts and numbers alone read nothing of the state
 
-abbrev pub is_radix : ℕ → Bool
-is_radix radix = nat_le min_radix radix && nat_le radix max_radix
-
--- the digits of a number by a radix (15.7.4.2): of two constants those of the machine, or nothing
--- where it refuses them; of a class any text
-abbrev pub digits_of_operands : Operand → Operand → Abstracted
-digits_of_operands (Some n) (Some (Whole (pos radix))) =
-    if is_radix radix then gives (of_primitive (primitive.Text (radix_text radix n))) else no_result
-digits_of_operands (Some m) (Some n) = no_result
-digits_of_operands x y = gives (of_text_part text_part.Text)
-
-abbrev pub digits_atoms : Atom → Atom → Abstracted
-digits_atoms a b = over_pairs digits_of_operands (operand a) (operand b)
-
-abbrev pub digits_of : View → AbstractValue → AbstractValue → Looked
-digits_of w v radix = looked (over_pairs digits_atoms (atoms v) (atoms radix)).value
+abbrev pub of_values : (List AbstractValue → AbstractValue) → AbstractOperation
+of_values f w vs = looked (f vs)
 
 -- ---- all of them, by their numbers
 
@@ -136,7 +122,7 @@ operations =
     ∷ of_two is_enumerable
     ∷ of_two inherits
     ∷ of_one has_elements
-    ∷ of_two digits_of ∷ []
+    ∷ map (λ op. of_values (text_operation op)) text_operations
 
 abbrev pub operation : ℕ → AbstractOperation
 operation which =

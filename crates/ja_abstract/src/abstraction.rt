@@ -79,3 +79,10 @@ pub enum Key {
     OtherName,
     Slot(Slot),
 }
+
+/// What an operation on texts and numbers takes at a place.
+#[derive(Clone, Copy, Debug, PartialEq, Eq)]
+pub enum Sort {
+    Text,
+    Number,
+}

@@ -17,4 +17,4 @@
 
 mod abstraction;
 
-pub use abstraction::{AAttrs, Flags, Key, Mask, May, NumberPart, Slot, TextPart};
+pub use abstraction::{AAttrs, Flags, Key, Mask, May, NumberPart, Slot, Sort, TextPart};
