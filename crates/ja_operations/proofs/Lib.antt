@@ -1,3 +1,4 @@
+pub mod NumberedOperations
 pub mod Operations
 pub mod Sharing
 pub mod DigitLemmas

@@ -2,7 +2,7 @@
 
 ghost use Rattle.std.specs.Prelude.{◌≡◌, ◌≤◌, ◌<◌, false, length, IfOk};
 ghost use Rattle.std.specs.Fmt.{digit_glyph, digits};
-ghost use Rattle.ja_machine.specs.Intrinsics.{max_radix, min_radix, radix_text};
+ghost use Rattle.ja_machine.specs.TextOperations.{max_radix, min_radix, radix_text};
 
 use ja_base::Memory;
 use ja_prim::{Num, Text16};

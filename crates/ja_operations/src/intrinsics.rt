@@ -1,25 +1,28 @@
 //! What the operations of the built-in functions give of values and the heap.
 
-ghost use Rattle.std.specs.Prelude.{◌≡◌, ◌∷◌, [], ◌≤◌, IfOk, Some, length, slice_get, is_some};
+ghost use Rattle.std.specs.Prelude.{◌≡◌, ◌∷◌, [], ◌≤◌, IfOk, Some, None, length, slice_get, is_some};
 ghost use Rattle.std.specs.Option.{option_map};
 ghost use Rattle.ja_prim.specs.Texts.{max_units};
 ghost use Rattle.ja_graph.specs.WellFormed.{arguments_taken};
+ghost use Rattle.ja_machine.specs.declared.machine.Heap.{Heap as MachineHeap};
 ghost use Rattle.ja_machine.specs.Intrinsics as spec;
+ghost use Rattle.ja_machine.specs.TextOperations.{row};
 ghost use Rattle.ja_machine.specs.Values.{is_object};
+ghost use Rattle.ja_operations.specs.code.Texts.{text_operation};
 
-use crate::digits::radix_text;
+use crate::texts::{of_primitives, text_operation};
 use ja_base::{Memory, ScopeKind};
 use ja_graph::Class;
 use ja_heap::Heap;
-use ja_machine::Value;
-use ja_prim::{Num, Primitive, Text16};
+use ja_machine::{TextOperation, Value};
+use ja_prim::{Primitive, Text16};
 use std::alloc::Global;
 
 /// What an operation gives: a primitive value, or why the run leaves the profile.
 pub type Outcome = Result<Primitive, ScopeKind>;
 
 /// An operation doesn't take the values.
-const REFUSED: ScopeKind = ScopeKind::Register;
+pub(crate) const REFUSED: ScopeKind = ScopeKind::Register;
 
 /// Whether something holds.
 fn tells(truth: bool) -> Outcome
@@ -138,30 +141,11 @@ fn is_list(heap: &Heap, value: &Value) -> bool
     }
 }
 
-/// The digits of a number, by a radix from 2 to 36.
-fn digits_of(alloc: Global, heap: &Heap, value: &Value, radix: &Value) -> Result<Outcome, Memory>
-    ensures { IfOk result (λ outcome. outcome ≡ spec.digits_of heap.now value.now radix.now) }
-{
-    match (value, radix) {
-        (
-            Value::Primitive(Primitive::Number(number)),
-            Value::Primitive(Primitive::Number(Num::Whole(radix))),
-        ) => {
-            let radix = radix.get();
-            if radix < 2 || radix > 36 {
-                return Ok(Err(REFUSED));
-            }
-            let text = radix_text(alloc, *number, radix as u64)?;
-            Ok(Ok(Primitive::Text(text)))
-        }
-        _ => Ok(Err(REFUSED)),
-    }
-}
-
-/// What an operation gives of the one value that it takes, by its number (its place in
-/// `INTRINSICS`).
-pub fn of_one(alloc: Global, heap: &Heap, which: u32, value: &Value) -> Result<Outcome, Memory>
-    requires { arguments_taken which ≡ Some 1 }
+/// What an operation that reads the heap gives of the one value that it takes, by its number (its
+/// place in `INTRINSICS`).
+fn of_one(alloc: Global, heap: &Heap, which: u32, value: &Value) -> Result<Outcome, Memory>
+    requires heap { text_operation which ≡ None }
+    requires one { arguments_taken which ≡ Some 1 }
     ensures { IfOk result (λ outcome. Some outcome
         ≡ option_map (λ (row : spec.Computation). row (value.now ∷ []) heap.now)
         (slice_get spec.rows which)) }
@@ -175,24 +159,70 @@ pub fn of_one(alloc: Global, heap: &Heap, which: u32, value: &Value) -> Result<O
     }
 }
 
-/// What an operation gives of the two values that it takes, by its number.
-pub fn of_two(
+/// What it gives of the two values that it takes.
+fn of_two(heap: &Heap, which: u32, first: &Value, second: &Value) -> Outcome
+    requires heap { text_operation which ≡ None }
+    requires two { arguments_taken which ≡ Some 2 }
+    ensures { Some result
+        ≡ option_map (λ (row : spec.Computation). row (first.now ∷ second.now ∷ []) heap.now)
+        (slice_get spec.rows which) }
+{
+    match which {
+        3 => has_own(heap, first, second),
+        4 => is_enumerable(heap, first, second),
+        5 => inherits(heap, first, second),
+        _ => unreachable!(),
+    }
+}
+
+/// The primitive values, if all of these are primitive.
+fn primitives_in(alloc: Global, values: &[Value]) -> Result<Option<Vec<Primitive>>, Memory>
+    ensures { IfOk result (λ list. option_map (λ v. v.items) list ≡ spec.primitives_in values.now) }
+{
+    let mut list = Vec::new(alloc);
+    for value in values {
+        match value {
+            Value::Primitive(primitive) => list.push(primitive.copy()?)?,
+            Value::Object(_) => return Ok(None),
+        }
+    }
+    Ok(Some(list))
+}
+
+/// What an operation on texts and numbers gives.
+fn on_primitives(
+    alloc: Global,
+    operation: TextOperation,
+    values: &[Value],
+) -> Result<Outcome, Memory>
+    ensures { (h : MachineHeap) → IfOk result (λ outcome. outcome
+        ≡ spec.on_primitives (row operation) values.now h) }
+{
+    match primitives_in(alloc, values)? {
+        Some(list) => of_primitives(alloc, operation, &list),
+        None => Ok(Err(REFUSED)),
+    }
+}
+
+/// What an operation gives of the values that it takes, by its number (its place in `INTRINSICS`):
+/// a primitive value, or why the run leaves the profile. The error is want of memory.
+pub fn of_values(
     alloc: Global,
     heap: &Heap,
     which: u32,
-    first: &Value,
-    second: &Value,
+    values: &[Value],
 ) -> Result<Outcome, Memory>
-    requires { arguments_taken which ≡ Some 2 }
+    requires { arguments_taken which ≡ Some (length values.now) }
     ensures { IfOk result (λ outcome. Some outcome
-        ≡ option_map (λ (row : spec.Computation). row (first.now ∷ second.now ∷ []) heap.now)
+        ≡ option_map (λ (row : spec.Computation). row values.now heap.now)
         (slice_get spec.rows which)) }
 {
-    match which {
-        3 => Ok(has_own(heap, first, second)),
-        4 => Ok(is_enumerable(heap, first, second)),
-        5 => Ok(inherits(heap, first, second)),
-        7 => digits_of(alloc, heap, first, second),
+    if let Some(operation) = text_operation(which) {
+        return on_primitives(alloc, operation, values);
+    }
+    match values {
+        [value] => of_one(alloc, heap, which, value),
+        [first, second] => Ok(of_two(heap, which, first, second)),
         _ => unreachable!(),
     }
 }

@@ -1,6 +1,6 @@
 //! The operations that the built-in functions are written with.
 
-ghost use Rattle.std.specs.Prelude.{◌≡◌, ◌∷◌, [], IfOk, Some, length, map};
+ghost use Rattle.std.specs.Prelude.{◌≡◌, IfOk, Some, length, map};
 ghost use Rattle.ja_graph.specs.WellFormed.{arguments_taken};
 ghost use Rattle.ja_machine.specs.Nodes.{intrinsic_step, sets_given};
 ghost use Rattle.ja_step.specs.code.Steps.{held, standing, leads_to};
@@ -9,7 +9,7 @@ use crate::Conf;
 use ja_base::{Memory, Reg};
 use ja_graph::NodeInfo;
 use ja_machine::{End, Value};
-use ja_operations::intrinsics::{Outcome, of_one, of_two};
+use ja_operations::intrinsics::{Outcome, of_values};
 use std::alloc::Global;
 
 impl Conf {
@@ -22,45 +22,6 @@ impl Conf {
             Ok(primitive) => self.sets(info, dst, Value::Primitive(primitive)),
             Err(kind) => self.left_scope(info, kind),
         }
-    }
-
-    /// An operation on the value of a register.
-    fn operates_on_one(
-        &mut self,
-        alloc: Global,
-        info: &NodeInfo,
-        dst: Reg,
-        which: u32,
-        a: Reg,
-    ) -> Result<Option<End>, Memory>
-        requires { arguments_taken which ≡ Some 1 }
-        ensures { IfOk result (λ end. leads_to self.old end self.new
-            ≡ intrinsic_step (standing self.old info.now) dst which (held self.old a ∷ [])) }
-    {
-        let value = self.frame.held(alloc, a)?;
-        let outcome = of_one(alloc, &self.heap, which, &value)?;
-        Ok(self.sets_given(info, dst, outcome))
-    }
-
-    /// An operation on the values of two registers.
-    fn operates_on_two(
-        &mut self,
-        alloc: Global,
-        info: &NodeInfo,
-        dst: Reg,
-        which: u32,
-        a: Reg,
-        b: Reg,
-    ) -> Result<Option<End>, Memory>
-        requires { arguments_taken which ≡ Some 2 }
-        ensures { IfOk result (λ end. leads_to self.old end self.new
-            ≡ intrinsic_step (standing self.old info.now) dst which
-            (held self.old a ∷ held self.old b ∷ [])) }
-    {
-        let first = self.frame.held(alloc, a)?;
-        let second = self.frame.held(alloc, b)?;
-        let outcome = of_two(alloc, &self.heap, which, &first, &second)?;
-        Ok(self.sets_given(info, dst, outcome))
     }
 
     /// An operation of the built-in functions, by its number, with as many registers as it takes.
@@ -76,10 +37,8 @@ impl Conf {
         ensures { IfOk result (λ end. leads_to self.old end self.new
             ≡ intrinsic_step (standing self.old info.now) dst which (map (held self.old) args.now)) }
     {
-        match args {
-            [a] => self.operates_on_one(alloc, info, dst, which, *a),
-            [a, b] => self.operates_on_two(alloc, info, dst, which, *a, *b),
-            _ => unreachable!(),
-        }
+        let values = self.values_of(alloc, args)?;
+        let outcome = of_values(alloc, &self.heap, which, &values)?;
+        Ok(self.sets_given(info, dst, outcome))
     }
 }
