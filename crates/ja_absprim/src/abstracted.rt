@@ -92,7 +92,7 @@ impl Abstracted {
     }
 
     /// What the first of some things gives, and what the others give.
-    pub(crate) fn either(
+    pub fn either(
         alloc: Global,
         first: Result<Abstracted, Memory>,
         others: Abstracted,

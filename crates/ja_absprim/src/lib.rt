@@ -29,6 +29,4 @@ mod pairs;
 pub use abstracted::Abstracted;
 pub use atoms::{Atom, atoms_of};
 pub use convert::{neg, not, to_bool, to_num, to_text, to_uint32};
-pub use operands::Operand;
 pub use operators::{binary, finished};
-pub use pairs::{Pairing, over_pairs};

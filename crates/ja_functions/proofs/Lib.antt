@@ -1,3 +1,4 @@
+mod Choices
 mod IndexKeys
 mod Labels
 mod Lists

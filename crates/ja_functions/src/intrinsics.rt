@@ -1,8 +1,9 @@
 //! The row of the operations that the built-in functions are written with.
 
-ghost use Rattle.std.specs.Prelude.{◌≡◌, ◌<◌, ◌∷◌, [], IfOk, map, vec_len};
+ghost use Rattle.std.specs.Prelude.{◌≡◌, ◌<◌, ◌∷◌, [], IfOk, None, map, vec_len};
 ghost use Rattle.std.specs.List.{AllByRecursion};
 ghost use Rattle.ja_base.specs.declared.ids.Reg.{Reg};
+ghost use Rattle.ja_operations.specs.code.Texts.{text_operation};
 ghost use Rattle.ja_abstract.specs.Operations.{operation};
 ghost use Rattle.ja_rows.specs.BuiltIns.{transfer_intrinsic};
 ghost use Rattle.ja_rows.specs.Out.{at};
@@ -11,17 +12,19 @@ ghost use Rattle.ja_transfer.specs.Outcomes.{at_view, IsOutcome};
 ghost use Rattle.ja_value.specs.Value.{value_of};
 ghost use Rattle.ja_functions.specs.code.Told.{IsTold};
 
-use crate::digits::digits_of;
 use crate::internals::{class_of, has_elements, inherits, internal_value, is_object};
 use crate::owns::{Asked, own_property};
+use crate::texts::text_operation_told;
 use crate::told::Told;
 use ja_base::{Memory, Reg};
 use ja_look::Reader;
+use ja_operations::text_operation;
 use ja_transfer::{Outcome, States, Stepper};
 use ja_value::AValue;
 
-/// What an operation tells of one value, by its number.
+/// What an operation that reads the state tells of one value, by its number.
 fn of_one(reader: &Reader<'_>, which: u32, value: &AValue) -> Result<Told, Memory>
+    requires { text_operation which ≡ None }
     ensures { IfOk result (IsTold
         (operation which (view_of reader.now) (value_of value.now ∷ []))) }
 {
@@ -36,6 +39,7 @@ fn of_one(reader: &Reader<'_>, which: u32, value: &AValue) -> Result<Told, Memor
 
 /// What it tells of two values.
 fn of_two(reader: &Reader<'_>, which: u32, first: &AValue, second: &AValue) -> Result<Told, Memory>
+    requires { text_operation which ≡ None }
     ensures { IfOk result (IsTold (operation which (view_of reader.now)
         (value_of first.now ∷ value_of second.now ∷ []))) }
 {
@@ -43,7 +47,6 @@ fn of_two(reader: &Reader<'_>, which: u32, first: &AValue, second: &AValue) -> R
         3 => own_property(reader, Asked::Having, first, second),
         4 => own_property(reader, Asked::Enumerable, first, second),
         5 => inherits(reader, first, second),
-        7 => digits_of(reader, first, second),
         _ => Ok(Told::nothing(reader.alloc)),
     }
 }
@@ -55,6 +58,9 @@ fn of_registers(stepper: &Stepper<'_>, which: u32, args: &[Reg]) -> Result<Told,
     ensures { IfOk result (IsTold (operation which (at_view stepper.now)
         (map (at (at_view stepper.now)) args.now))) }
 {
+    if let Some(operation) = text_operation(which) {
+        return text_operation_told(stepper, operation, args);
+    }
     let reader = &stepper.reader;
     let state = reader.state;
     match args {

@@ -19,5 +19,5 @@ returns-in_default c =
     let w = view_of c.args.reader.now in
     let n = c.args.which in
     subst (λ (l : Looked). IsTold l c.nothing.result)
-    (sym (none_of_one n w (value_of c.args.value.now) (omega arith) (omega arith)
-    (omega arith) (omega arith))) c.nothing.ensures
+    (sym (none_of_one n w (value_of c.args.value.now) c.requires (omega arith)
+    (omega arith) (omega arith) (omega arith))) c.nothing.ensures

@@ -11,5 +11,5 @@ returns-in_default c =
     let w = view_of c.args.reader.now in
     let n = c.args.which in
     subst (λ (l : Looked). IsTold l c.nothing.result)
-    (sym (none_of_two n w (value_of c.args.first.now) (value_of c.args.second.now) (omega arith) (omega arith)
-    (omega arith) (omega arith))) c.nothing.ensures
+    (sym (none_of_two n w (value_of c.args.first.now) (value_of c.args.second.now) c.requires
+    (omega arith) (omega arith) (omega arith))) c.nothing.ensures
