@@ -1,8 +1,8 @@
 -- What the texts of the built-in functions come to, computed.
-use Rattle.std.proofs.Common.{◌≡◌, ◌≤◌, ◌==◌, ℕ, true, Ok, List, [], ◌∷◌, ◌++◌, map, length, Option, None, refl, ap, sym, subst, ◌∙◌, arith}
+use Rattle.std.proofs.Common.{◌≡◌, ◌≤◌, ◌==◌, ℕ, true, Ok, List, [], ◌∷◌, ◌++◌, map, length, None, refl, ap, sym, subst, ◌∙◌, arith}
 use Rattle.std.specs.List.{AllByRecursion, list_all, slice_get, sum_by, zip}
 use lib.Chars.{codes}
-use Rattle.ja_base.specs.declared.ids.ScopeKind.TheVariants.{CodeMaker, Radix}
+use Rattle.ja_base.specs.declared.ids.ScopeKind.TheVariants.{CodeMaker, Radix, Range}
 use Rattle.ja_grammar.specs.Input.{Tokens, strict, Outcome, Done, Refused}
 use Rattle.ja_grammar.specs.code.Answering.{Answers}
 use Rattle.ja_grammar.specs.Language.{Spells, max_levels}
@@ -19,22 +19,23 @@ use Rattle.ja_lower_names.specs.TextOrder.{functions_in, names_in}
 use Rattle.ja_syntax.specs.declared.tree.Statement.{Statement}
 use Rattle.ja_prelude.specs.Reading.{numbered, is_read, statements_in, is_text, tree_of, is_few}
 use Rattle.ja_prelude.specs.Prelude.{prelude_statements, prelude_paths, prelude_names}
-use Rattle.ja_prelude.specs.Prelude.{prelude_bodies, parameter_counts, own_names, stops, by_path}
-use Rattle.ja_prelude.specs.Table.{function_paths, lengths}
+use Rattle.ja_prelude.specs.Prelude.{prelude_bodies, parameter_counts, own_names, stops, stopping_operations, warned_nodes, warned_told, by_path}
+use Rattle.ja_prelude.specs.Table.{Called, function_paths, lengths, parameters_told}
 use Rattle.ja_prelude.specs.Uses.{uses, uses_told}
 use Rattle.ja_prelude.proofs.Allowed.{are_plain, all_allowed, all_alone}
 use Rattle.ja_prelude.proofs.Evaluating.{reading, listing}
 use Rattle.ja_prelude.proofs.Readings.{computing, computing_is, functions_by, names_by}
 use Rattle.ja_prelude.proofs.Rows.{Row, rows_by, bodies, rows_computed, size_of_row, by_path_of, by_path_computed, size_computed, parameters_computed}
-use Rattle.ja_prelude.specs.declared.texts.TheConstants.{FUNCTIONS, FUNCTION_COUNT}
+use Rattle.ja_prelude.specs.declared.texts.TheConstants.{FUNCTION_COUNT}
+use Rattle.ja_prelude.specs.Functions.{functions}
 
 -- ---- reading
 
-pub texts_are_read : list_all (λ f. is_text f.1.now) FUNCTIONS ≡ true
+pub texts_are_read : list_all (λ f. is_text f.1) functions ≡ true
 unfolding reading
 texts_are_read = refl
 
-pub texts_are_few : list_all (λ f. is_few f.1.now) FUNCTIONS ≡ true
+pub texts_are_few : list_all (λ f. is_few f.1) functions ≡ true
 unfolding reading
 texts_are_few = refl
 
@@ -52,15 +53,15 @@ spelled text read =
 
 -- ---- functions and names
 
-one_each : list_all (λ f. length (functions_by computing (tree_of f.1.now)) == 1) FUNCTIONS ≡ true
+one_each : list_all (λ f. length (functions_by computing (tree_of f.1)) == 1) functions ≡ true
 unfolding reading listing
 one_each = refl
 
-pub texts_are_functions : list_all (λ f. length (functions_in (tree_of f.1.now)) == 1) FUNCTIONS
+pub texts_are_functions : list_all (λ f. length (functions_in (tree_of f.1)) == 1) functions
     ≡ true
 unfolding functions_in
 texts_are_functions =
-    subst (λ r. list_all (λ f. length (functions_by r (tree_of f.1.now)) == 1) FUNCTIONS ≡ true)
+    subst (λ r. list_all (λ f. length (functions_by r (tree_of f.1)) == 1) functions ≡ true)
     computing_is one_each
 
 counted : length (functions_by computing prelude_statements) ≡ FUNCTION_COUNT
@@ -86,7 +87,7 @@ names_are =
     subst (λ r. names_by r builtin_names prelude_statements ≡ builtin_names ++ own_names)
     computing_is named
 
-pub names_counted : length prelude_names ≡ 118
+pub names_counted : length prelude_names ≡ 142
 names_counted = ap length names_are
 
 -- ---- nodes
@@ -104,22 +105,44 @@ pub nodes_stand_alone : AllByRecursion (λ (body : Body).
 nodes_stand_alone =
     all_alone bodies (subst (λ rows. are_plain rows ≡ true) (sym rows_computed) plain)
 
-sized : sum_by size_of_row (rows_by computing) ≡ 1095
+sized : sum_by size_of_row (rows_by computing) ≡ 3945
 unfolding reading listing
 sized = refl
 
-pub nodes_are_few : prelude_size_of builtin_names prelude_statements ≤ 1100
+pub nodes_are_few : prelude_size_of builtin_names prelude_statements ≤ 4096
 unfolding prelude_size_of
 nodes_are_few = omega (arith, size_computed ∙ sized)
 
 stopping : by_path_of stops prelude_paths (rows_by computing) ≡ (codes "Function", CodeMaker)
-    ∷ (codes "Function", CodeMaker) ∷ (codes "Number.prototype.toString", Radix) ∷ []
+    ∷ (codes "Function", CodeMaker) ∷ (codes "Number.prototype.toString", Radix)
+    ∷ (codes "Math.max", Range) ∷ (codes "Math.min", Range) ∷ []
 unfolding reading listing
 stopping = refl
 
 pub stops_are : by_path stops prelude_bodies ≡ (codes "Function", CodeMaker)
-    ∷ (codes "Function", CodeMaker) ∷ (codes "Number.prototype.toString", Radix) ∷ []
+    ∷ (codes "Function", CodeMaker) ∷ (codes "Number.prototype.toString", Radix)
+    ∷ (codes "Math.max", Range) ∷ (codes "Math.min", Range) ∷ []
 stops_are = by_path_computed stops ∙ stopping
+
+stopping_operations_in : by_path_of stopping_operations prelude_paths (rows_by computing)
+    ≡ (codes "parseInt", codes "$parse_int") ∷ (codes "parseFloat", codes "$parse_float")
+    ∷ (codes "String.prototype.toLowerCase", codes "$lower")
+    ∷ (codes "String.prototype.toUpperCase", codes "$upper") ∷ []
+unfolding reading listing
+stopping_operations_in = refl
+
+pub stopping_operations_are : by_path stopping_operations prelude_bodies
+    ≡ (codes "parseInt", codes "$parse_int") ∷ (codes "parseFloat", codes "$parse_float")
+    ∷ (codes "String.prototype.toLowerCase", codes "$lower")
+    ∷ (codes "String.prototype.toUpperCase", codes "$upper") ∷ []
+stopping_operations_are = by_path_computed stopping_operations ∙ stopping_operations_in
+
+warned_in : by_path_of warned_nodes prelude_paths (rows_by computing) ≡ warned_told
+unfolding reading listing
+warned_in = refl
+
+pub warned_nodes_are : by_path warned_nodes prelude_bodies ≡ warned_told
+warned_nodes_are = by_path_computed warned_nodes ∙ warned_in
 
 using : by_path_of uses prelude_paths (rows_by computing) ≡ uses_told
 unfolding reading listing
@@ -129,14 +152,17 @@ pub uses_are : by_path uses prelude_bodies ≡ uses_told
 uses_are = by_path_computed uses ∙ using
 
 parametrised : map (λ (x : List ℕ × Row). x.1.parameters) (zip prelude_paths (rows_by computing))
-    ≡ 0 ∷ 1 ∷ 1 ∷ 1 ∷ 1 ∷ 1 ∷ 1 ∷ 1 ∷ 1 ∷ 1 ∷ 1 ∷ 1 ∷ 1 ∷ 1 ∷ 1 ∷ 1 ∷ 1 ∷ 1 ∷ 1 ∷ 1 ∷ 1 ∷ 1 ∷ 1 ∷ 1
-    ∷ 1 ∷ 1 ∷ 1 ∷ 0 ∷ 0 ∷ 1 ∷ 1 ∷ 1 ∷ 2 ∷ 1 ∷ 0 ∷ 0 ∷ 0 ∷ 0 ∷ 1 ∷ 0 ∷ 0 ∷ 0 ∷ 0 ∷ []
+    ≡ 0 ∷ 1 ∷ 1 ∷ 1 ∷ 1 ∷ 1 ∷ 1 ∷ 1 ∷ 1 ∷ 1 ∷ 1 ∷ 1 ∷ 1 ∷ 1 ∷ 1 ∷ 1 ∷ 1 ∷ 1 ∷ 1 ∷ 1 ∷ 1 ∷ 1 ∷ 1
+    ∷ 1 ∷ 1 ∷ 1 ∷ 1 ∷ 2 ∷ 1 ∷ 1 ∷ 1 ∷ 0 ∷ 0 ∷ 1 ∷ 1 ∷ 1 ∷ 2 ∷ 1 ∷ 0 ∷ 2 ∷ 1 ∷ 0 ∷ 1 ∷ 0 ∷ 0 ∷ 2
+    ∷ 3 ∷ 1 ∷ 1 ∷ 0 ∷ 0 ∷ 1 ∷ 1 ∷ 1 ∷ 2 ∷ 2 ∷ 2 ∷ 2 ∷ 2 ∷ 0 ∷ 0 ∷ 0 ∷ 0 ∷ 1 ∷ 0 ∷ 0 ∷ 1 ∷ 1 ∷ 1
+    ∷ 1 ∷ 2 ∷ 2 ∷ 2 ∷ 0 ∷ 0 ∷ []
 unfolding reading listing
 parametrised = refl
 
 parameters_are : parameter_counts ≡ 0 ∷ 1 ∷ 1 ∷ 1 ∷ 1 ∷ 1 ∷ 1 ∷ 1 ∷ 1 ∷ 1 ∷ 1 ∷ 1 ∷ 1 ∷ 1 ∷ 1 ∷ 1
-    ∷ 1 ∷ 1 ∷ 1 ∷ 1 ∷ 1 ∷ 1 ∷ 1 ∷ 1 ∷ 1 ∷ 1 ∷ 1 ∷ 0 ∷ 0 ∷ 1 ∷ 1 ∷ 1 ∷ 2 ∷ 1 ∷ 0 ∷ 0 ∷ 0 ∷ 0 ∷ 1 ∷ 0
-    ∷ 0 ∷ 0 ∷ 0 ∷ []
+    ∷ 1 ∷ 1 ∷ 1 ∷ 1 ∷ 1 ∷ 1 ∷ 1 ∷ 1 ∷ 1 ∷ 1 ∷ 1 ∷ 2 ∷ 1 ∷ 1 ∷ 1 ∷ 0 ∷ 0 ∷ 1 ∷ 1 ∷ 1 ∷ 2 ∷ 1 ∷ 0
+    ∷ 2 ∷ 1 ∷ 0 ∷ 1 ∷ 0 ∷ 0 ∷ 2 ∷ 3 ∷ 1 ∷ 1 ∷ 0 ∷ 0 ∷ 1 ∷ 1 ∷ 1 ∷ 2 ∷ 2 ∷ 2 ∷ 2 ∷ 2 ∷ 0 ∷ 0 ∷ 0
+    ∷ 0 ∷ 1 ∷ 0 ∷ 0 ∷ 1 ∷ 1 ∷ 1 ∷ 1 ∷ 2 ∷ 2 ∷ 2 ∷ 0 ∷ 0 ∷ []
 parameters_are = parameters_computed ∙ parametrised
 
 -- ---- the table
@@ -145,8 +171,8 @@ pub paths_are_told : prelude_paths ≡ function_paths ++ codes "%valueFirst" ∷
 unfolding prelude_paths
 paths_are_told = refl
 
-pub lengths_are_told : map (λ (row : ℕ × Option ℕ). slice_get parameter_counts row.0) lengths
-    ≡ map (λ (row : ℕ × Option ℕ). row.1) lengths
+pub lengths_are_told : map (λ (f : Called). slice_get parameter_counts f.number) lengths
+    ≡ map parameters_told lengths
 lengths_are_told =
-    subst (λ counts. map (λ (row : ℕ × Option ℕ). slice_get counts row.0) lengths
-    ≡ map (λ (row : ℕ × Option ℕ). row.1) lengths) (sym parameters_are) refl
+    subst (λ counts. map (λ (f : Called). slice_get counts f.number) lengths
+    ≡ map parameters_told lengths) (sym parameters_are) refl

@@ -5,6 +5,7 @@ pub mod DistinctLemmas
 pub mod Evaluating
 pub mod Facts
 pub mod Folds
+pub mod FunctionLists
 pub mod ListLemmas
 pub mod ObjectLemmas
 pub mod OpeningLemmas
@@ -12,5 +13,6 @@ pub mod Readings
 pub mod Rows
 pub mod Rulesets
 pub mod TableLemmas
+pub mod TableRows
 pub mod Templates
 pub mod Trees

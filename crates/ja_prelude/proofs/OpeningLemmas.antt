@@ -28,7 +28,7 @@ pub sites_have_objects : (p : Program) (s : ℕ) → p.opening ≡ opening_objec
     → IsSome (object_spec p s)
 sites_have_objects p s opening before =
     subst (λ os. IsSome (find (λ (o : ObjectSpec). o.site.0 == s) os)) (sym opening)
-    (below-at (λ n. is_some (find (λ (o : ObjectSpec). o.site.0 == n) opening_objects)) 43 s
+    (below-at (λ n. is_some (find (λ (o : ObjectSpec). o.site.0 == n) opening_objects)) 74 s
     table-sites (omega (arith, before, ap length opening, table-count)))
 
 -- ---- sites
@@ -126,7 +126,7 @@ sites_have_no_owner first =
 
 -- the site of this number is one of theirs
 here : (first : ℕ) (p : Program) (others : List SiteInfo) → p.sites ≡ builtin_sites first ++ others
-    → (s : ℕ) (info : SiteInfo) → s < 43 → slice_get p.sites s ≡ Some info
+    → (s : ℕ) (info : SiteInfo) → s < 74 → slice_get p.sites s ≡ Some info
     → slice_get (builtin_sites first) s ≡ Some info
 here first p others sites s info before is =
     get-first (builtin_sites first) others s info (omega (arith, before, sites_count first))
@@ -147,15 +147,15 @@ abbrev has_none : SiteInfo → Bool
 has_none info = is_none info.calls && is_none info.constructs
 
 -- whether a site has functions is what the table says
-same-plain : (first : ℕ) (s : ℕ) (info : SiteInfo) → s < 43
+same-plain : (first : ℕ) (s : ℕ) (info : SiteInfo) → s < 74
     → slice_get (builtin_sites first) s ≡ Some info → has_none info ≡ is_plain s
 same-plain first s info before is =
     let told : slice_get (map has_none (builtin_sites first)) s
     ≡ Some (has_none info) = slice_get-map has_none (builtin_sites first) s
     ∙ ap (option_map has_none) is in
-    let row : slice_get (map is_plain (range_with_len 0 43)) s
-    ≡ Some (is_plain s) = slice_get-map is_plain (range_with_len 0 43) s
-    ∙ ap (option_map is_plain) (get-range 0 43 s before ∙ ap Some (omega arith)) in
+    let row : slice_get (map is_plain (range_with_len 0 74)) s
+    ≡ Some (is_plain s) = slice_get-map is_plain (range_with_len 0 74) s
+    ∙ ap (option_map is_plain) (get-range 0 74 s before ∙ ap Some (omega arith)) in
     same_Some (has_none info) (is_plain s) (sym told ∙ ap (λ bs. slice_get bs s) (sites-plain first)
     ∙ row)
 
@@ -169,9 +169,9 @@ runs_none info none runs =
     absurd (cc)
 
 inside : (p : Program) (i : ℕ) (o : ObjectSpec) → p.opening ≡ opening_objects
-    → slice_get p.opening i ≡ Some o → o.site.0 < 43
+    → slice_get p.opening i ≡ Some o → o.site.0 < 74
 inside p i o opening is =
-    lt_of o.site.0 43 (all-get (λ (o : ObjectSpec). nat_lt o.site.0 43) opening_objects i o
+    lt_of o.site.0 74 (all-get (λ (o : ObjectSpec). nat_lt o.site.0 74) opening_objects i o
     table-inside (sym (ap (λ os. slice_get os i) opening) ∙ is))
 
 -- an object that runs a function has a scope
@@ -195,6 +195,6 @@ pub objects_are_well_formed : (first : ℕ) (p : Program) (others : List SiteInf
     → length builtin_names ≤ length p.names → (i : ℕ) (o : ObjectSpec)
     → slice_get p.opening i ≡ Some o → IsObjectWellFormed p i o
 objects_are_well_formed first p others sites opening names i o is =
-    object-well_formed 43 104 p i o (ap length opening ∙ table-count)
-    (omega (arith, names, names_count)) (ap (are_objects 43 104 []) opening ∙ table-objects) is
+    object-well_formed 74 104 p i o (ap length opening ∙ table-count)
+    (omega (arith, names, names_count)) (ap (are_objects 74 104 []) opening ∙ table-objects) is
     (functions_are_scoped first p others sites opening i o is)

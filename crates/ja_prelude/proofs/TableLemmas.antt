@@ -13,7 +13,7 @@ use Rattle.ja_graph.specs.declared.program.SiteInfo.{SiteInfo}
 use Rattle.ja_graph.specs.declared.program.SpecContent.{SpecContent}
 use Rattle.ja_graph.specs.declared.program.SpecContent.TheVariants as content
 use Rattle.ja_graph.specs.WellFormed.{builtin_names}
-use Rattle.ja_prelude.specs.Table.{NamedSite, TableEntry, TableRow, attrs_told, builtin_number, builtin_sites, call_of, construct_of, function_of, functions_of, is_at_its_path, is_function, is_function_class, is_of_its_kind, named_sites, names_at, opening_objects, path_of, prototype_told, rows_of, scope_rows, table_rows, unbuilt_rows}
+use Rattle.ja_prelude.specs.Table.{NamedSite, TableEntry, TableRow, attrs_told, builtin_number, builtin_sites, call_of, construct_of, function_of, functions_of, is_at_its_path, is_function, is_function_class, is_of_its_kind, named_sites, names_at, opening_objects, path_of, prototype_told, rows_of, scope_rows, table_rows}
 use Rattle.ja_prelude.specs.declared.texts.TheConstants.{VALUE_FIRST, FUNCTION_COUNT}
 
 -- ---- by names
@@ -77,8 +77,7 @@ pub attributes_are_told : map (λ (row : TableRow). map (λ (e : TableEntry). e.
 attributes_are_told = refl
 
 pub rows_are_told : map rows_of table_rows
-    ≡ map (λ (row : TableRow). names_at unbuilt_rows row.path ++ names_at scope_rows row.path)
-    table_rows
+    ≡ map (λ (row : TableRow). names_at scope_rows row.path) table_rows
 rows_are_told = refl
 
 -- ---- tests of the table, of n objects with m names
@@ -128,23 +127,23 @@ is_plain s =
 
 -- ---- what they give of the table
 
-pub table-objects : are_objects 43 104 [] opening_objects ≡ true
+pub table-objects : are_objects 74 104 [] opening_objects ≡ true
 unfolding opening_objects builtin_number
 table-objects = refl
 
 pub table-sites : all_below (λ s. is_some
-    (find (λ (o : ObjectSpec). o.site.0 == s) opening_objects)) 43 ≡ true
+    (find (λ (o : ObjectSpec). o.site.0 == s) opening_objects)) 74 ≡ true
 unfolding opening_objects
 table-sites = refl
 
-pub table-count : length opening_objects ≡ 43
+pub table-count : length opening_objects ≡ 74
 unfolding opening_objects
 table-count = refl
 
-pub classes_count : length BUILTIN_CLASSES ≡ 43
+pub classes_count : length BUILTIN_CLASSES ≡ 74
 classes_count = refl
 
-pub sites_count : (first : ℕ) → length (builtin_sites first) ≡ 43
+pub sites_count : (first : ℕ) → length (builtin_sites first) ≡ 74
 unfolding builtin_sites
 sites_count first = refl
 
@@ -159,11 +158,11 @@ pub functions-below : list_all (λ (row : TableRow).
 functions-below = refl
 
 pub sites-plain : (first : ℕ) → map (λ (s : SiteInfo). is_none s.calls && is_none s.constructs)
-    (builtin_sites first) ≡ map is_plain (range_with_len 0 43)
+    (builtin_sites first) ≡ map is_plain (range_with_len 0 74)
 unfolding builtin_sites is_plain
 sites-plain first = refl
 
-pub table-inside : list_all (λ (o : ObjectSpec). nat_lt o.site.0 43) opening_objects ≡ true
+pub table-inside : list_all (λ (o : ObjectSpec). nat_lt o.site.0 74) opening_objects ≡ true
 unfolding opening_objects
 table-inside = refl
 

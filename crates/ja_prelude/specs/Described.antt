@@ -20,8 +20,8 @@ use Rattle.ja_prim.specs.declared.primitive.Num.TheVariants.{NaN, Whole}
 use Rattle.ja_prim.specs.declared.primitive.Primitive.{Primitive}
 use Rattle.ja_prim.specs.declared.primitive.Primitive.TheVariants as primitive
 
--- What a property has: a primitive value, the object at a path, or nothing that the tool has, as a
--- function that isn't built yet, or what is out of the profile.
+-- What a property has: a primitive value, the object at a path, or nothing that the tool has, since
+-- it is out of the profile.
 pub data Held : Type 0 where
   Value : Primitive → Held
   At : List ℕ → Held
@@ -100,8 +100,8 @@ descriptions =
     -- the global object (15.1)
     with "global" (
     gives "NaN" (primitive.Number NaN) ∷ gives "undefined" primitive.Undefined
-    ∷ rows "parseInt parseFloat" ∷ own "isNaN isFinite"
-    ∷ own "Object Function" ∷ rows "Array" ∷ own "String Boolean Number"
+    ∷ own "parseInt parseFloat isNaN isFinite"
+    ∷ own "Object Function Array String Boolean Number"
     ∷ own "Error EvalError RangeError ReferenceError SyntaxError TypeError URIError"
     ∷ own "Math"
     ∷ rows "Infinity eval decodeURI decodeURIComponent encodeURI encodeURIComponent"
@@ -117,16 +117,18 @@ descriptions =
     gives "length" (whole 0) ∷ leads "constructor" "Function" ∷ own "apply call"
     ∷ rows "toString" ∷ [])
     -- arrays (15.4)
+    ∷ constructor "Array"
     ∷ with "Array.prototype" (
-    gives "length" (whole 0) ∷ rows "constructor toString concat join pop push reverse"
-    ∷ rows "shift slice splice unshift toLocaleString sort" ∷ [])
+    gives "length" (whole 0) ∷ leads "constructor" "Array"
+    ∷ own "toString concat join pop push reverse shift slice splice unshift"
+    ∷ rows "toLocaleString sort" ∷ [])
     -- texts (15.5)
-    ∷ with "String" (gives "length" (whole 1) ∷ rows "fromCharCode" ∷ own "prototype" ∷ [])
+    ∷ with "String" (gives "length" (whole 1) ∷ own "fromCharCode prototype" ∷ [])
     ∷ with_value "String.prototype" (Some (primitive.Text [])) (
     gives "length" (whole 0) ∷ leads "constructor" "String" ∷ own "toString valueOf"
-    ∷ rows "charAt charCodeAt concat indexOf lastIndexOf slice split substring"
-    ∷ rows "toLowerCase toUpperCase substr match replace search localeCompare"
-    ∷ rows "toLocaleLowerCase toLocaleUpperCase" ∷ [])
+    ∷ own "charAt charCodeAt concat indexOf lastIndexOf slice split substring"
+    ∷ own "toLowerCase toUpperCase"
+    ∷ rows "substr match replace search localeCompare toLocaleLowerCase toLocaleUpperCase" ∷ [])
     -- truth values (15.6)
     ∷ constructor "Boolean"
     ∷ with_value "Boolean.prototype" (Some (primitive.Bool false)) (
@@ -151,10 +153,13 @@ descriptions =
     ∷ constructor "URIError" ∷ error_prototype "URIError.prototype" "URIError"
     -- Math (15.8)
     ∷ with "Math" (
-    rows "abs ceil floor round max min pow"
+    own "abs ceil floor round max min pow"
     ∷ rows "E LN10 LN2 LOG2E LOG10E PI SQRT1_2 SQRT2"
     ∷ rows "acos asin atan atan2 cos exp log random sin sqrt tan" ∷ [])
-    -- the other functions (15.1.2, 15.2.4, 15.3.4, 15.5.4, 15.6.4, 15.7.4, 15.11.4)
+    -- the other functions (15.1.2, 15.2.4, 15.3.4, 15.4.4, 15.5.3, 15.5.4, 15.6.4, 15.7.4, 15.8.2,
+    -- 15.11.4)
+    ∷ function "parseInt" 2
+    ∷ function "parseFloat" 1
     ∷ function "isNaN" 1
     ∷ function "isFinite" 1
     ∷ function "Object.prototype.toString" 0
@@ -164,13 +169,41 @@ descriptions =
     ∷ function "Object.prototype.propertyIsEnumerable" 1
     ∷ function "Function.prototype.apply" 2
     ∷ function "Function.prototype.call" 1
+    ∷ function "Array.prototype.toString" 0
+    ∷ function "Array.prototype.concat" 1
+    ∷ function "Array.prototype.join" 1
+    ∷ function "Array.prototype.pop" 0
+    ∷ function "Array.prototype.push" 1
+    ∷ function "Array.prototype.reverse" 0
+    ∷ function "Array.prototype.shift" 0
+    ∷ function "Array.prototype.slice" 2
+    ∷ function "Array.prototype.splice" 2
+    ∷ function "Array.prototype.unshift" 1
+    ∷ function "String.fromCharCode" 1
     ∷ function "String.prototype.toString" 0
     ∷ function "String.prototype.valueOf" 0
+    ∷ function "String.prototype.charAt" 1
+    ∷ function "String.prototype.charCodeAt" 1
+    ∷ function "String.prototype.concat" 1
+    ∷ function "String.prototype.indexOf" 1
+    ∷ function "String.prototype.lastIndexOf" 1
+    ∷ function "String.prototype.slice" 2
+    ∷ function "String.prototype.split" 2
+    ∷ function "String.prototype.substring" 2
+    ∷ function "String.prototype.toLowerCase" 0
+    ∷ function "String.prototype.toUpperCase" 0
     ∷ function "Boolean.prototype.toString" 0
     ∷ function "Boolean.prototype.valueOf" 0
     ∷ function "Number.prototype.toString" 1
     ∷ function "Number.prototype.valueOf" 0
     ∷ function "Error.prototype.toString" 0
+    ∷ function "Math.abs" 1
+    ∷ function "Math.ceil" 1
+    ∷ function "Math.floor" 1
+    ∷ function "Math.round" 1
+    ∷ function "Math.max" 2
+    ∷ function "Math.min" 2
+    ∷ function "Math.pow" 2
     ∷ []
 
 -- ---- what is there when a run begins, in these words

@@ -1,6 +1,6 @@
 -- The built-in objects (ES3 section 15), by the table of them, with their names and sites; and what
 -- is said of the table.
-use Rattle.std.specs.Prelude.{ℕ, pos, Bool, true, false, ◌+◌, ◌==◌, ◌&&◌, not, List, [], ◌∷◌, ◌++◌, map, filter, find, Option, Some, None}
+use Rattle.std.specs.Prelude.{ℕ, suc, pos, Bool, true, false, ◌+◌, ◌==◌, ◌&&◌, not, List, [], ◌∷◌, ◌++◌, map, filter, find, Option, Some, None}
 use Rattle.std.specs.Bool.{if◌then◌else◌}
 use Rattle.std.specs.List.{enumerate_from, flat_map, list_any, slice_split}
 use Rattle.std.specs.Option.{is_some, option_and_then, option_map, option_map_or, option_to_list}
@@ -28,7 +28,7 @@ use Rattle.ja_graph.specs.declared.program.SpecContent.{SpecContent}
 use Rattle.ja_graph.specs.declared.program.SpecContent.TheVariants as spec
 use Rattle.ja_graph.specs.declared.program.SiteInfo.{SiteInfo}
 use Rattle.ja_graph.specs.WellFormed.{builtin_names}
-use Rattle.ja_prelude.specs.declared.table.TheConstants.{OPENING}
+use Rattle.ja_prelude.specs.declared.table.TheConstants.{OBJECTS, FUNCTION_OBJECTS}
 use Rattle.ja_prelude.specs.declared.table.BuiltinObject.{BuiltinObject}
 use Rattle.ja_prelude.specs.declared.table.Constant.{Constant}
 use Rattle.ja_prelude.specs.declared.table.Constant.TheVariants as constant
@@ -55,10 +55,19 @@ pub record TableRow : Type 0 where
 abbrev pub row_of : List ℕ → BuiltinObject → List TableEntry → TableRow
 row_of path object entries = record { path = path; object = object; entries = entries }
 
--- the rows of the table
+-- the rows of the table: those of the global object, the prototypes, the constructors and `Math`, and
+-- those of the other functions
+abbrev pub object_rows : List TableRow
+object_rows =
+    map (λ row. row_of row.0.now row.1 (map (λ e. entry_of e.0.now e.1 e.2) row.2.now)) OBJECTS
+
+abbrev pub function_rows : List TableRow
+function_rows =
+    map (λ row. row_of row.0.now row.1 (map (λ e. entry_of e.0.now e.1 e.2) row.2.now))
+    FUNCTION_OBJECTS
+
 abbrev pub table_rows : List TableRow
-table_rows =
-    map (λ row. row_of row.0.now row.1 (map (λ e. entry_of e.0.now e.1 e.2) row.2.now)) OPENING
+table_rows = object_rows ++ function_rows
 
 -- ---- the objects that are there when a run begins
 
@@ -188,8 +197,8 @@ abbrev pub named : Site → Class → String → NamedSite
 named site kind path = record { site = site; class = kind; path = codes path }
 
 -- the built-in objects: the global object and the prototypes (15.1, 15.2.4, 15.3.4, 15.4.4, 15.5.4,
--- 15.6.4, 15.7.4, 15.11.4, 15.11.7), the constructors (15.2.3, 15.3.3, 15.5.3, 15.6.3, 15.7.3,
--- 15.11.3, 15.11.7), `Math` (15.8), and the other functions
+-- 15.6.4, 15.7.4, 15.11.4, 15.11.7), the constructors (15.2.3, 15.3.3, 15.4.3, 15.5.3, 15.6.3,
+-- 15.7.3, 15.11.3, 15.11.7), `Math` (15.8), and the other functions
 abbrev pub named_sites : List NamedSite
 named_sites =
     named sites.GLOBAL class.Object "global"
@@ -208,6 +217,7 @@ named_sites =
     ∷ named sites.URI_ERROR_PROTOTYPE class.Error "URIError.prototype"
     ∷ named sites.OBJECT class.Function "Object"
     ∷ named sites.FUNCTION class.Function "Function"
+    ∷ named sites.ARRAY class.Function "Array"
     ∷ named sites.STRING class.Function "String"
     ∷ named sites.BOOLEAN class.Function "Boolean"
     ∷ named sites.NUMBER class.Function "Number"
@@ -219,6 +229,8 @@ named_sites =
     ∷ named sites.TYPE_ERROR class.Function "TypeError"
     ∷ named sites.URI_ERROR class.Function "URIError"
     ∷ named sites.MATH class.Math "Math"
+    ∷ named sites.PARSE_INT class.Function "parseInt"
+    ∷ named sites.PARSE_FLOAT class.Function "parseFloat"
     ∷ named sites.IS_NAN class.Function "isNaN"
     ∷ named sites.IS_FINITE class.Function "isFinite"
     ∷ named sites.OBJECT_TO_STRING class.Function "Object.prototype.toString"
@@ -228,13 +240,41 @@ named_sites =
     ∷ named sites.PROPERTY_IS_ENUMERABLE class.Function "Object.prototype.propertyIsEnumerable"
     ∷ named sites.APPLY class.Function "Function.prototype.apply"
     ∷ named sites.CALL class.Function "Function.prototype.call"
+    ∷ named sites.ARRAY_TO_STRING class.Function "Array.prototype.toString"
+    ∷ named sites.ARRAY_CONCAT class.Function "Array.prototype.concat"
+    ∷ named sites.ARRAY_JOIN class.Function "Array.prototype.join"
+    ∷ named sites.ARRAY_POP class.Function "Array.prototype.pop"
+    ∷ named sites.ARRAY_PUSH class.Function "Array.prototype.push"
+    ∷ named sites.ARRAY_REVERSE class.Function "Array.prototype.reverse"
+    ∷ named sites.ARRAY_SHIFT class.Function "Array.prototype.shift"
+    ∷ named sites.ARRAY_SLICE class.Function "Array.prototype.slice"
+    ∷ named sites.ARRAY_SPLICE class.Function "Array.prototype.splice"
+    ∷ named sites.ARRAY_UNSHIFT class.Function "Array.prototype.unshift"
+    ∷ named sites.FROM_CHAR_CODE class.Function "String.fromCharCode"
     ∷ named sites.STRING_TO_STRING class.Function "String.prototype.toString"
     ∷ named sites.STRING_VALUE_OF class.Function "String.prototype.valueOf"
+    ∷ named sites.CHAR_AT class.Function "String.prototype.charAt"
+    ∷ named sites.CHAR_CODE_AT class.Function "String.prototype.charCodeAt"
+    ∷ named sites.STRING_CONCAT class.Function "String.prototype.concat"
+    ∷ named sites.INDEX_OF class.Function "String.prototype.indexOf"
+    ∷ named sites.LAST_INDEX_OF class.Function "String.prototype.lastIndexOf"
+    ∷ named sites.STRING_SLICE class.Function "String.prototype.slice"
+    ∷ named sites.SPLIT class.Function "String.prototype.split"
+    ∷ named sites.SUBSTRING class.Function "String.prototype.substring"
+    ∷ named sites.TO_LOWER_CASE class.Function "String.prototype.toLowerCase"
+    ∷ named sites.TO_UPPER_CASE class.Function "String.prototype.toUpperCase"
     ∷ named sites.BOOLEAN_TO_STRING class.Function "Boolean.prototype.toString"
     ∷ named sites.BOOLEAN_VALUE_OF class.Function "Boolean.prototype.valueOf"
     ∷ named sites.NUMBER_TO_STRING class.Function "Number.prototype.toString"
     ∷ named sites.NUMBER_VALUE_OF class.Function "Number.prototype.valueOf"
     ∷ named sites.ERROR_TO_STRING class.Function "Error.prototype.toString"
+    ∷ named sites.MATH_ABS class.Function "Math.abs"
+    ∷ named sites.MATH_CEIL class.Function "Math.ceil"
+    ∷ named sites.MATH_FLOOR class.Function "Math.floor"
+    ∷ named sites.MATH_ROUND class.Function "Math.round"
+    ∷ named sites.MATH_MAX class.Function "Math.max"
+    ∷ named sites.MATH_MIN class.Function "Math.min"
+    ∷ named sites.MATH_POW class.Function "Math.pow"
     ∷ []
 
 -- the functions that the objects of a site run: where they are called, and where they construct
@@ -313,18 +353,6 @@ pub record NamesAt : Type 0 where
 abbrev pub at : String → String → NamesAt
 at path names = record { path = codes path; names = words names }
 
--- the functions that aren't built yet
-abbrev pub unbuilt_rows : List NamesAt
-unbuilt_rows =
-    at "global" "parseInt parseFloat Array"
-    ∷ at "Array.prototype"
-    "constructor toString concat join pop push reverse shift slice splice unshift"
-    ∷ at "String" "fromCharCode"
-    ∷ at "String.prototype"
-    "charAt charCodeAt concat indexOf lastIndexOf slice split substring toLowerCase toUpperCase"
-    ∷ at "Math" "abs ceil floor round max min pow"
-    ∷ []
-
 -- what is out of the profile
 abbrev pub scope_rows : List NamesAt
 scope_rows =
@@ -373,8 +401,24 @@ function_paths =
     (option_to_list (call_of row.object.role) ++ option_to_list (construct_of row.object.role)))
     table_rows
 
--- .. and those that run where an object is called: the number, and the `length` of the object
-abbrev pub lengths : List (ℕ × Option ℕ)
+-- .. and those that run where an object is called: the number, the path, and the `length`
+pub record Called : Type 0 where
+  pub number : ℕ
+  pub path : List ℕ
+  pub length : Option ℕ
+
+abbrev pub lengths : List Called
 lengths =
-    flat_map (λ (row : TableRow). map (λ k. (k, length_of row.entries))
+    flat_map (λ (row : TableRow).
+    map (λ k. record { number = k; path = row.path; length = length_of row.entries })
     (option_to_list (call_of row.object.role))) table_rows
+
+-- A function has as many parameters as its `length` says; but these, which serve a further argument
+-- by a parameter, have one more.
+abbrev pub with_one_more : List (List ℕ)
+with_one_more =
+    words "Array.prototype.concat Array.prototype.splice"
+    ++ words "String.prototype.indexOf String.prototype.lastIndexOf"
+
+abbrev pub parameters_told : Called → Option ℕ
+parameters_told f = if is_word f.path with_one_more then option_map suc f.length else f.length

@@ -3,19 +3,15 @@ use Rattle.std.specs.Prelude.{ℕ, List, [], ◌∷◌, ◌++◌, filter, map}
 use Rattle.std.specs.List.{flat_map}
 use lib.Chars.{codes}
 use Rattle.ja_prelude.specs.Table.{is_word, words}
-use Rattle.ja_prelude.specs.declared.texts.TheConstants.{FUNCTIONS}
+use Rattle.ja_prelude.specs.Functions.{PathAndText, functions}
 
 -- the texts of the functions
 abbrev pub prelude_texts : List (List ℕ)
-prelude_texts = map (λ f. f.1.now) FUNCTIONS
-
--- a path beside a text
-abbrev pub PathAndText : Type 0
-PathAndText = List ℕ × List ℕ
+prelude_texts = map (λ f. f.1) functions
 
 -- the texts at some paths
 abbrev pub texts_at : List (List ℕ) → List PathAndText
-texts_at paths = map (λ f. (f.0.now, f.1.now)) (filter (λ f. is_word f.0.now paths) FUNCTIONS)
+texts_at paths = filter (λ f. is_word f.0 paths) functions
 
 -- ---- errors
 

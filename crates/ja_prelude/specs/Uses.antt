@@ -104,10 +104,11 @@ behind held n = fold (λ h r. put_register h r Other) held (option_to_list (regi
 
 -- ---- what is done
 
--- A property is read; what follows is done where something is true; something is called on `this`;
--- something is returned; a new error is thrown.
+-- A property is read, or put; what follows is done where something is true; something is called on
+-- `this`; something is returned; a new error is thrown.
 pub data Use : Type 0 where
   reads : List ℕ → Use
+  puts : List ℕ → Use
   branches : Thing → Use
   calls : Thing → Use
   returns : Thing → Use
@@ -116,6 +117,10 @@ pub data Use : Type 0 where
 abbrev pub read_of : Thing → List Use
 read_of (Property name) = reads name ∷ []
 read_of _ = []
+
+abbrev pub put_of : Thing → List Use
+put_of (Property name) = puts name ∷ []
+put_of _ = []
 
 abbrev pub call_of : Thing → Thing → List Use
 call_of This callee = calls callee ∷ []
@@ -132,6 +137,8 @@ if_of_this use_of thing = if comes_of_this thing then use_of thing ∷ [] else [
 abbrev pub uses_at : Held → Node → List Use
 uses_at held (node.ReadProp dst object key) =
     read_of (property_of (in_register held object) (in_register held key))
+uses_at held (node.WriteProp object key src error) =
+    put_of (property_of (in_register held object) (in_register held key))
 uses_at held (node.Call dst callee receiver args error) =
     call_of (in_register held receiver) (in_register held callee)
 uses_at held (node.Branch src) = if_of_this branches (in_register held src)
@@ -152,19 +159,33 @@ uses nodes = uses_behind (record { registers = (1, This) ∷ []; variables = [] 
 abbrev pub does : String → List Use → List (List ℕ × Use)
 does path list = map (λ (use_of : Use). (codes path, use_of)) list
 
--- One method of an object is tried (8.6.2.6): it is read, and called on the object where it is an
--- object itself; what it gives is returned where that is a primitive value.
+-- One method of an object is tried (8.6.2.6): it is read, and where it is an object itself, read
+-- again and called on the object; what it gives is returned where that is a primitive value.
 abbrev pub tries : String → List Use
 tries name =
     let method = Property (codes name) in
-    reads (codes name) ∷ branches (IsObject method) ∷ calls method
+    reads (codes name) ∷ branches (IsObject method) ∷ reads (codes name) ∷ calls method
     ∷ branches (Not (IsObject (Result method))) ∷ returns (Result method) ∷ []
 
--- Methods on a receiver of another kind throw a TypeError (15.3.4.3, 15.5.4.2, 15.6.4.2, 15.7.4.2);
--- a default value is that of one method, else of the other, else a TypeError is thrown (8.6.2.6).
+-- Methods on a receiver of another kind throw a TypeError (15.3.4.3, 15.4.4.2, 15.5.4.2, 15.6.4.2,
+-- 15.7.4.2); those of arrays read `length`, and put it where they change it (15.4.4), and what
+-- `shift` gives stood first (15.4.4.9); a default value is that of one method, else of the other,
+-- else a TypeError is thrown (8.6.2.6).
 abbrev pub uses_told : List (List ℕ × Use)
 uses_told =
     does "Function.prototype.apply" (throws TypeError ∷ [])
+    ++ does "Array.prototype.toString" (throws TypeError ∷ reads (codes "length") ∷ [])
+    ++ does "Array.prototype.concat" (reads (codes "length") ∷ [])
+    ++ does "Array.prototype.join" (reads (codes "length") ∷ [])
+    ++ does "Array.prototype.pop" (reads (codes "length") ∷ puts (codes "length") ∷ [])
+    ++ does "Array.prototype.push" (reads (codes "length") ∷ puts (codes "length") ∷ [])
+    ++ does "Array.prototype.reverse" (reads (codes "length") ∷ [])
+    ++ does "Array.prototype.shift" (
+    reads (codes "length") ∷ reads (codes "0") ∷ puts (codes "length")
+    ∷ returns (Property (codes "0")) ∷ [])
+    ++ does "Array.prototype.slice" (reads (codes "length") ∷ [])
+    ++ does "Array.prototype.splice" (reads (codes "length") ∷ puts (codes "length") ∷ [])
+    ++ does "Array.prototype.unshift" (reads (codes "length") ∷ puts (codes "length") ∷ [])
     ++ does "String.prototype.toString" (throws TypeError ∷ [])
     ++ does "String.prototype.valueOf" (throws TypeError ∷ [])
     ++ does "Boolean.prototype.toString" (throws TypeError ∷ [])

@@ -28,5 +28,10 @@ mod texts;
 
 pub use objects::{builtin_names, builtin_sites, opening_objects};
 pub use prelude::Prelude;
-pub use table::{BuiltinObject, Constant, Content, Entry, OPENING, Role, TableRow};
-pub use texts::{BuiltinFunction, FUNCTION_COUNT, FUNCTIONS, TEXT_FIRST, VALUE_FIRST};
+pub use table::{
+    BuiltinObject, Constant, Content, Entry, FUNCTION_OBJECTS, OBJECTS, Role, TableRow,
+};
+pub use texts::{
+    BuiltinFunction, CONSTRUCTORS, FUNCTION_COUNT, OBJECT_FUNCTIONS, TEXT_FIRST, VALUE_FIRST,
+    VALUE_FUNCTIONS,
+};

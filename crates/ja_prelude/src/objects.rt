@@ -5,11 +5,14 @@ ghost use Rattle.std.specs.List.{enumerate_from, flat_map, list_all};
 ghost use Rattle.std.specs.Option.{option_map};
 ghost use Rattle.ja_prim.specs.Texts.{is_short, max_units};
 ghost use Rattle.ja_graph.specs.WellFormed as graph;
+ghost use Rattle.ja_graph.specs.declared.builtins.TheConstants.{BUILTIN_CLASSES};
 ghost use Rattle.ja_lower_names.specs.Names.{number};
 ghost use Rattle.ja_prelude.specs.Table as spec;
 ghost use Rattle.ja_prelude.specs.code.Table as code;
 
-use crate::table::{BuiltinObject, Constant, Content, Entry, OPENING, Role, TableRow};
+use crate::table::{
+    BuiltinObject, Constant, Content, Entry, FUNCTION_OBJECTS, OBJECTS, Role, TableRow,
+};
 use ja_base::{FnId, Memory, NameId, Place, Seq, Site};
 use ja_graph::{
     Attrs, BUILTIN_CLASSES, BUILTIN_NAMES, Class, ErrorKind, GLOBAL, ObjectSpec, PropertySpec,
@@ -207,13 +210,45 @@ fn objects_of(alloc: Global, table: &[TableRow]) -> Result<Seq<ObjectSpec>, Memo
     Ok(Seq::from_vec(objects))
 }
 
+/// The rows of the global object, the prototypes, the constructors and `Math`.
+fn object_rows(alloc: Global) -> Result<Vec<TableRow>, Memory>
+    ensures { IfOk result (λ rows. map code.seen_row rows.items ≡ spec.object_rows) }
+{
+    Ok(Vec::from_slice(alloc, &OBJECTS)?)
+}
+
+/// The rows of the other functions.
+fn function_rows(alloc: Global) -> Result<Vec<TableRow>, Memory>
+    ensures { IfOk result (λ rows. map code.seen_row rows.items ≡ spec.function_rows) }
+{
+    Ok(Vec::from_slice(alloc, &FUNCTION_OBJECTS)?)
+}
+
+/// The rows of the table.
+fn table(alloc: Global) -> Result<Vec<TableRow>, Memory>
+    ensures { IfOk result (λ rows. map code.seen_row rows.items ≡ spec.table_rows) }
+{
+    let mut rows = object_rows(alloc)?;
+    rows.extend_from_slice(&function_rows(alloc)?)?;
+    Ok(rows)
+}
+
+/// The objects of the whole table.
+#[tactic(auto, unfolding(crate::specs::Table::opening_objects))]
+fn all_objects(alloc: Global, table: &[TableRow]) -> Result<Seq<ObjectSpec>, Memory>
+    requires { map code.seen_row table.now ≡ spec.table_rows }
+    ensures { IfOk result (λ objects. objects ≡ spec.opening_objects) }
+{
+    objects_of(alloc, table)
+}
+
 /// The objects that are there when a run begins, each behind its prototype and its scope. `Memory`
 /// comes where memory is refused.
-#[tactic(auto, unfolding(crate::specs::Table::opening_objects))]
 pub fn opening_objects(alloc: Global) -> Result<Seq<ObjectSpec>, Memory>
     ensures { IfOk result (λ objects. objects ≡ spec.opening_objects) }
 {
-    objects_of(alloc, &OPENING)
+    let table = table(alloc)?;
+    all_objects(alloc, &table)
 }
 
 /// The row of the object that has a site.
@@ -327,12 +362,28 @@ fn sites_of(
     Ok(sites)
 }
 
+/// The sites of the whole table.
+#[tactic(auto, unfolding(crate::specs::Table::builtin_sites))]
+fn all_sites(
+    alloc: Global,
+    first: u32,
+    table: &[TableRow],
+    classes: &[Class],
+) -> Result<Vec<SiteInfo>, Memory>
+    requires first { first < 2 ^ 31 }
+    requires table { map code.seen_row table.now ≡ spec.table_rows }
+    requires classes { classes.now ≡ BUILTIN_CLASSES }
+    ensures { IfOk result (λ sites. sites.items ≡ spec.builtin_sites first) }
+{
+    sites_of(alloc, first, table, classes)
+}
+
 /// The sites of the built-in objects, by their numbers, in a program in which the first function of
 /// the table has the number `first_function`. `Memory` comes where memory is refused.
-#[tactic(auto, unfolding(crate::specs::Table::builtin_sites))]
 pub fn builtin_sites(alloc: Global, first_function: u32) -> Result<Vec<SiteInfo>, Memory>
     requires { first_function < 2 ^ 31 }
     ensures { IfOk result (λ sites. sites.items ≡ spec.builtin_sites first_function) }
 {
-    sites_of(alloc, first_function, &OPENING, &BUILTIN_CLASSES)
+    let table = table(alloc)?;
+    all_sites(alloc, first_function, &table, &BUILTIN_CLASSES)
 }

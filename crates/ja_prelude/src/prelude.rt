@@ -8,12 +8,14 @@ ghost use Rattle.ja_lower.specs.Lowering.{lowered_prelude};
 ghost use Rattle.ja_lower.specs.Limits.{max_functions};
 ghost use Rattle.ja_prelude.specs.Prelude as spec;
 ghost use Rattle.ja_prelude.specs.code.Prelude as code;
+ghost use Rattle.ja_prelude.specs.Functions as all;
+ghost use Rattle.ja_prelude.specs.code.Functions.{seen};
 ghost use Rattle.ja_prim.specs.Texts.{is_short};
 
 use crate::laws::{names_are_told, nodes_are_few, texts_are_functions, texts_are_read};
 use crate::objects::builtin_names;
 use crate::reading::trees_of;
-use crate::texts::{BuiltinFunction, FUNCTIONS};
+use crate::texts::{BuiltinFunction, CONSTRUCTORS, OBJECT_FUNCTIONS, VALUE_FUNCTIONS};
 use ja_base::{Memory, Seq};
 use ja_lower::{LowerFault, Lowered, lower_prelude, prelude_names};
 use ja_prim::Text16;
@@ -43,21 +45,60 @@ fn paths_of(alloc: Global, functions: &[BuiltinFunction]) -> Result<Vec<Text16>,
     Ok(paths)
 }
 
+/// The functions of the constructors.
+fn constructors(alloc: Global) -> Result<Vec<BuiltinFunction>, Memory>
+    ensures { IfOk result (λ list. map seen list.items ≡ all.constructors) }
+{
+    Ok(Vec::from_slice(alloc, &CONSTRUCTORS)?)
+}
+
+/// Those of objects, of functions and of arrays.
+fn object_functions(alloc: Global) -> Result<Vec<BuiltinFunction>, Memory>
+    ensures { IfOk result (λ list. map seen list.items ≡ all.object_functions) }
+{
+    Ok(Vec::from_slice(alloc, &OBJECT_FUNCTIONS)?)
+}
+
+/// Those of other values.
+fn value_functions(alloc: Global) -> Result<Vec<BuiltinFunction>, Memory>
+    ensures { IfOk result (λ list. map seen list.items ≡ all.value_functions) }
+{
+    Ok(Vec::from_slice(alloc, &VALUE_FUNCTIONS)?)
+}
+
+/// All of them, in their order.
+fn functions(alloc: Global) -> Result<Vec<BuiltinFunction>, Memory>
+    ensures { IfOk result (λ list. map seen list.items ≡ all.functions) }
+{
+    let mut list = constructors(alloc)?;
+    list.extend_from_slice(&object_functions(alloc)?)?;
+    list.extend_from_slice(&value_functions(alloc)?)?;
+    Ok(list)
+}
+
+/// Reads all built-in functions.
+fn read_all(alloc: Global, functions: &[BuiltinFunction]) -> Result<Prelude, Memory>
+    requires { map seen functions.now ≡ all.functions }
+    ensures { IfOk result (λ p. p ≡ code.the_prelude) }
+{
+    texts_are_read();
+    let statements = trees_of(alloc, functions)?;
+    let paths = Seq::from_vec(paths_of(alloc, functions)?);
+    let names = prelude_names(alloc, &builtin_names(alloc)?, statements.as_slice())?;
+    Ok(Prelude {
+        statements,
+        paths,
+        names,
+    })
+}
+
 impl Prelude {
     /// Reads the built-in functions. The error is want of memory.
-    #[tactic(auto, unfolding(crate::specs::Prelude::prelude_statements, crate::specs::Prelude::prelude_paths))]
     pub fn read(alloc: Global) -> Result<Prelude, Memory>
         ensures { IfOk result (λ p. p ≡ code.the_prelude) }
     {
-        texts_are_read();
-        let statements = trees_of(alloc, &FUNCTIONS)?;
-        let paths = Seq::from_vec(paths_of(alloc, &FUNCTIONS)?);
-        let names = prelude_names(alloc, &builtin_names(alloc)?, statements.as_slice())?;
-        Ok(Prelude {
-            statements,
-            paths,
-            names,
-        })
+        let functions = functions(alloc)?;
+        read_all(alloc, &functions)
     }
 
     /// The functions with their nodes, whose sites are numbered from `first_site` on, and which are

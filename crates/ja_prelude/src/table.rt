@@ -1,23 +1,28 @@
-//! The built-in objects with their properties (ES3 section 15). A property whose value is a
-//! function that isn't built yet, or another that is out of the profile, is a row.
+//! The built-in objects with their properties (ES3 section 15). A property whose value is out of
+//! the profile is a row.
 
 use self::Constant::{Empty, ErrorName, False, NaN, Number, Undefined};
 use self::Content::{Object, Prim, Row};
 use self::Role::{Constructor, Function, Plain, Wrapper};
 use ja_base::Site;
 use ja_graph::{
-    ALL_ATTRS, APPLY, ARRAY_PROTOTYPE, Attrs, BOOLEAN, BOOLEAN_PROTOTYPE, BOOLEAN_TO_STRING,
-    BOOLEAN_VALUE_OF, CALL, DONT_ENUM, ERROR, ERROR_PROTOTYPE, ERROR_TO_STRING, EVAL_ERROR,
-    EVAL_ERROR_PROTOTYPE, ErrorKind, FUNCTION, FUNCTION_PROTOTYPE, GLOBAL, HAS_OWN_PROPERTY,
-    IS_FINITE, IS_NAN, IS_PROTOTYPE_OF, KEPT_HIDDEN, MATH, NUMBER, NUMBER_PROTOTYPE,
+    ALL_ATTRS, APPLY, ARRAY, ARRAY_CONCAT, ARRAY_JOIN, ARRAY_POP, ARRAY_PROTOTYPE, ARRAY_PUSH,
+    ARRAY_REVERSE, ARRAY_SHIFT, ARRAY_SLICE, ARRAY_SPLICE, ARRAY_TO_STRING, ARRAY_UNSHIFT, Attrs,
+    BOOLEAN, BOOLEAN_PROTOTYPE, BOOLEAN_TO_STRING, BOOLEAN_VALUE_OF, CALL, CHAR_AT, CHAR_CODE_AT,
+    DONT_ENUM, ERROR, ERROR_PROTOTYPE, ERROR_TO_STRING, EVAL_ERROR, EVAL_ERROR_PROTOTYPE,
+    ErrorKind, FROM_CHAR_CODE, FUNCTION, FUNCTION_PROTOTYPE, GLOBAL, HAS_OWN_PROPERTY, INDEX_OF,
+    IS_FINITE, IS_NAN, IS_PROTOTYPE_OF, KEPT_HIDDEN, LAST_INDEX_OF, MATH, MATH_ABS, MATH_CEIL,
+    MATH_FLOOR, MATH_MAX, MATH_MIN, MATH_POW, MATH_ROUND, NUMBER, NUMBER_PROTOTYPE,
     NUMBER_TO_STRING, NUMBER_VALUE_OF, OBJECT, OBJECT_PROTOTYPE, OBJECT_TO_STRING, OBJECT_VALUE_OF,
-    PROPERTY_IS_ENUMERABLE, RANGE_ERROR, RANGE_ERROR_PROTOTYPE, REFERENCE_ERROR,
-    REFERENCE_ERROR_PROTOTYPE, STRING, STRING_PROTOTYPE, STRING_TO_STRING, STRING_VALUE_OF,
-    SYNTAX_ERROR, SYNTAX_ERROR_PROTOTYPE, TYPE_ERROR, TYPE_ERROR_PROTOTYPE, URI_ERROR,
-    URI_ERROR_PROTOTYPE,
+    PARSE_FLOAT, PARSE_INT, PROPERTY_IS_ENUMERABLE, RANGE_ERROR, RANGE_ERROR_PROTOTYPE,
+    REFERENCE_ERROR, REFERENCE_ERROR_PROTOTYPE, SPLIT, STRING, STRING_CONCAT, STRING_PROTOTYPE,
+    STRING_SLICE, STRING_TO_STRING, STRING_VALUE_OF, SUBSTRING, SYNTAX_ERROR,
+    SYNTAX_ERROR_PROTOTYPE, TO_LOWER_CASE, TO_UPPER_CASE, TYPE_ERROR, TYPE_ERROR_PROTOTYPE,
+    URI_ERROR, URI_ERROR_PROTOTYPE,
 };
 
 /// A primitive value of the table.
+#[derive(Clone, Copy)]
 pub enum Constant {
     Undefined,
     NaN,
@@ -31,6 +36,7 @@ pub enum Constant {
 }
 
 /// What a property of the table has.
+#[derive(Clone, Copy)]
 pub enum Content {
     Prim(Constant),
     Object(Site),
@@ -41,7 +47,8 @@ pub enum Content {
 pub type Entry = (&'static [u8], Content, Attrs);
 
 /// What an object of the table has of the internal properties (8.6.2) besides its class and its
-/// prototype. A function is told by its number among those of `FUNCTIONS`.
+/// prototype. A function is told by its number among those of `texts.rt`.
+#[derive(Clone, Copy)]
 pub enum Role {
     /// No more.
     Plain,
@@ -54,6 +61,7 @@ pub enum Role {
 }
 
 /// An object of the table: its site, its prototype, and its role.
+#[derive(Clone, Copy)]
 pub struct BuiltinObject {
     pub site: Site,
     pub prototype: Option<Site>,
@@ -64,8 +72,9 @@ pub struct BuiltinObject {
 /// properties.
 pub type TableRow = (&'static [u8], BuiltinObject, &'static [Entry]);
 
-/// The built-in objects, each behind its prototype and its scope.
-pub const OPENING: [TableRow; 43] = [
+/// The built-in objects, each behind its prototype and its scope. These are the global object, the
+/// prototypes, the constructors and `Math`.
+pub const OBJECTS: [TableRow; 28] = [
     // 15.2.4
     (
         b"Object.prototype",
@@ -99,13 +108,13 @@ pub const OPENING: [TableRow; 43] = [
         &[
             (b"NaN", Prim(NaN), KEPT_HIDDEN),
             (b"undefined", Prim(Undefined), KEPT_HIDDEN),
-            (b"parseInt", Row, DONT_ENUM),
-            (b"parseFloat", Row, DONT_ENUM),
+            (b"parseInt", Object(PARSE_INT), DONT_ENUM),
+            (b"parseFloat", Object(PARSE_FLOAT), DONT_ENUM),
             (b"isNaN", Object(IS_NAN), DONT_ENUM),
             (b"isFinite", Object(IS_FINITE), DONT_ENUM),
             (b"Object", Object(OBJECT), DONT_ENUM),
             (b"Function", Object(FUNCTION), DONT_ENUM),
-            (b"Array", Row, DONT_ENUM),
+            (b"Array", Object(ARRAY), DONT_ENUM),
             (b"String", Object(STRING), DONT_ENUM),
             (b"Boolean", Object(BOOLEAN), DONT_ENUM),
             (b"Number", Object(NUMBER), DONT_ENUM),
@@ -171,6 +180,19 @@ pub const OPENING: [TableRow; 43] = [
             (b"prototype", Object(FUNCTION_PROTOTYPE), ALL_ATTRS),
         ],
     ),
+    // 15.4.1, 15.4.2, 15.4.3
+    (
+        b"Array",
+        BuiltinObject {
+            site: ARRAY,
+            prototype: Some(FUNCTION_PROTOTYPE),
+            role: Constructor(5, 6),
+        },
+        &[
+            (b"length", Prim(Number(1)), ALL_ATTRS),
+            (b"prototype", Object(ARRAY_PROTOTYPE), ALL_ATTRS),
+        ],
+    ),
     // 15.4.4
     (
         b"Array.prototype",
@@ -181,17 +203,17 @@ pub const OPENING: [TableRow; 43] = [
         },
         &[
             (b"length", Prim(Number(0)), KEPT_HIDDEN),
-            (b"constructor", Row, DONT_ENUM),
-            (b"toString", Row, DONT_ENUM),
-            (b"concat", Row, DONT_ENUM),
-            (b"join", Row, DONT_ENUM),
-            (b"pop", Row, DONT_ENUM),
-            (b"push", Row, DONT_ENUM),
-            (b"reverse", Row, DONT_ENUM),
-            (b"shift", Row, DONT_ENUM),
-            (b"slice", Row, DONT_ENUM),
-            (b"splice", Row, DONT_ENUM),
-            (b"unshift", Row, DONT_ENUM),
+            (b"constructor", Object(ARRAY), DONT_ENUM),
+            (b"toString", Object(ARRAY_TO_STRING), DONT_ENUM),
+            (b"concat", Object(ARRAY_CONCAT), DONT_ENUM),
+            (b"join", Object(ARRAY_JOIN), DONT_ENUM),
+            (b"pop", Object(ARRAY_POP), DONT_ENUM),
+            (b"push", Object(ARRAY_PUSH), DONT_ENUM),
+            (b"reverse", Object(ARRAY_REVERSE), DONT_ENUM),
+            (b"shift", Object(ARRAY_SHIFT), DONT_ENUM),
+            (b"slice", Object(ARRAY_SLICE), DONT_ENUM),
+            (b"splice", Object(ARRAY_SPLICE), DONT_ENUM),
+            (b"unshift", Object(ARRAY_UNSHIFT), DONT_ENUM),
             (b"toLocaleString", Row, DONT_ENUM),
             (b"sort", Row, DONT_ENUM),
         ],
@@ -202,11 +224,11 @@ pub const OPENING: [TableRow; 43] = [
         BuiltinObject {
             site: STRING,
             prototype: Some(FUNCTION_PROTOTYPE),
-            role: Constructor(5, 6),
+            role: Constructor(7, 8),
         },
         &[
             (b"length", Prim(Number(1)), ALL_ATTRS),
-            (b"fromCharCode", Row, DONT_ENUM),
+            (b"fromCharCode", Object(FROM_CHAR_CODE), DONT_ENUM),
             (b"prototype", Object(STRING_PROTOTYPE), ALL_ATTRS),
         ],
     ),
@@ -223,16 +245,16 @@ pub const OPENING: [TableRow; 43] = [
             (b"constructor", Object(STRING), DONT_ENUM),
             (b"toString", Object(STRING_TO_STRING), DONT_ENUM),
             (b"valueOf", Object(STRING_VALUE_OF), DONT_ENUM),
-            (b"charAt", Row, DONT_ENUM),
-            (b"charCodeAt", Row, DONT_ENUM),
-            (b"concat", Row, DONT_ENUM),
-            (b"indexOf", Row, DONT_ENUM),
-            (b"lastIndexOf", Row, DONT_ENUM),
-            (b"slice", Row, DONT_ENUM),
-            (b"split", Row, DONT_ENUM),
-            (b"substring", Row, DONT_ENUM),
-            (b"toLowerCase", Row, DONT_ENUM),
-            (b"toUpperCase", Row, DONT_ENUM),
+            (b"charAt", Object(CHAR_AT), DONT_ENUM),
+            (b"charCodeAt", Object(CHAR_CODE_AT), DONT_ENUM),
+            (b"concat", Object(STRING_CONCAT), DONT_ENUM),
+            (b"indexOf", Object(INDEX_OF), DONT_ENUM),
+            (b"lastIndexOf", Object(LAST_INDEX_OF), DONT_ENUM),
+            (b"slice", Object(STRING_SLICE), DONT_ENUM),
+            (b"split", Object(SPLIT), DONT_ENUM),
+            (b"substring", Object(SUBSTRING), DONT_ENUM),
+            (b"toLowerCase", Object(TO_LOWER_CASE), DONT_ENUM),
+            (b"toUpperCase", Object(TO_UPPER_CASE), DONT_ENUM),
             (b"substr", Row, DONT_ENUM),
             (b"match", Row, DONT_ENUM),
             (b"replace", Row, DONT_ENUM),
@@ -248,7 +270,7 @@ pub const OPENING: [TableRow; 43] = [
         BuiltinObject {
             site: BOOLEAN,
             prototype: Some(FUNCTION_PROTOTYPE),
-            role: Constructor(7, 8),
+            role: Constructor(9, 10),
         },
         &[
             (b"length", Prim(Number(1)), ALL_ATTRS),
@@ -275,7 +297,7 @@ pub const OPENING: [TableRow; 43] = [
         BuiltinObject {
             site: NUMBER,
             prototype: Some(FUNCTION_PROTOTYPE),
-            role: Constructor(9, 10),
+            role: Constructor(11, 12),
         },
         &[
             (b"length", Prim(Number(1)), ALL_ATTRS),
@@ -311,7 +333,7 @@ pub const OPENING: [TableRow; 43] = [
         BuiltinObject {
             site: ERROR,
             prototype: Some(FUNCTION_PROTOTYPE),
-            role: Constructor(11, 12),
+            role: Constructor(13, 14),
         },
         &[
             (b"length", Prim(Number(1)), ALL_ATTRS),
@@ -339,7 +361,7 @@ pub const OPENING: [TableRow; 43] = [
         BuiltinObject {
             site: EVAL_ERROR,
             prototype: Some(FUNCTION_PROTOTYPE),
-            role: Constructor(13, 14),
+            role: Constructor(15, 16),
         },
         &[
             (b"length", Prim(Number(1)), ALL_ATTRS),
@@ -366,7 +388,7 @@ pub const OPENING: [TableRow; 43] = [
         BuiltinObject {
             site: RANGE_ERROR,
             prototype: Some(FUNCTION_PROTOTYPE),
-            role: Constructor(15, 16),
+            role: Constructor(17, 18),
         },
         &[
             (b"length", Prim(Number(1)), ALL_ATTRS),
@@ -393,7 +415,7 @@ pub const OPENING: [TableRow; 43] = [
         BuiltinObject {
             site: REFERENCE_ERROR,
             prototype: Some(FUNCTION_PROTOTYPE),
-            role: Constructor(17, 18),
+            role: Constructor(19, 20),
         },
         &[
             (b"length", Prim(Number(1)), ALL_ATTRS),
@@ -424,7 +446,7 @@ pub const OPENING: [TableRow; 43] = [
         BuiltinObject {
             site: SYNTAX_ERROR,
             prototype: Some(FUNCTION_PROTOTYPE),
-            role: Constructor(19, 20),
+            role: Constructor(21, 22),
         },
         &[
             (b"length", Prim(Number(1)), ALL_ATTRS),
@@ -451,7 +473,7 @@ pub const OPENING: [TableRow; 43] = [
         BuiltinObject {
             site: TYPE_ERROR,
             prototype: Some(FUNCTION_PROTOTYPE),
-            role: Constructor(21, 22),
+            role: Constructor(23, 24),
         },
         &[
             (b"length", Prim(Number(1)), ALL_ATTRS),
@@ -478,7 +500,7 @@ pub const OPENING: [TableRow; 43] = [
         BuiltinObject {
             site: URI_ERROR,
             prototype: Some(FUNCTION_PROTOTYPE),
-            role: Constructor(23, 24),
+            role: Constructor(25, 26),
         },
         &[
             (b"length", Prim(Number(1)), ALL_ATTRS),
@@ -508,13 +530,13 @@ pub const OPENING: [TableRow; 43] = [
             role: Plain,
         },
         &[
-            (b"abs", Row, DONT_ENUM),
-            (b"ceil", Row, DONT_ENUM),
-            (b"floor", Row, DONT_ENUM),
-            (b"round", Row, DONT_ENUM),
-            (b"max", Row, DONT_ENUM),
-            (b"min", Row, DONT_ENUM),
-            (b"pow", Row, DONT_ENUM),
+            (b"abs", Object(MATH_ABS), DONT_ENUM),
+            (b"ceil", Object(MATH_CEIL), DONT_ENUM),
+            (b"floor", Object(MATH_FLOOR), DONT_ENUM),
+            (b"round", Object(MATH_ROUND), DONT_ENUM),
+            (b"max", Object(MATH_MAX), DONT_ENUM),
+            (b"min", Object(MATH_MIN), DONT_ENUM),
+            (b"pow", Object(MATH_POW), DONT_ENUM),
             (b"E", Row, ALL_ATTRS),
             (b"LN10", Row, ALL_ATTRS),
             (b"LN2", Row, ALL_ATTRS),
@@ -536,13 +558,37 @@ pub const OPENING: [TableRow; 43] = [
             (b"tan", Row, DONT_ENUM),
         ],
     ),
+];
+
+/// The other functions, behind them.
+pub const FUNCTION_OBJECTS: [TableRow; 46] = [
+    // 15.1.2.2
+    (
+        b"parseInt",
+        BuiltinObject {
+            site: PARSE_INT,
+            prototype: Some(FUNCTION_PROTOTYPE),
+            role: Function(27),
+        },
+        &[(b"length", Prim(Number(2)), ALL_ATTRS)],
+    ),
+    // 15.1.2.3
+    (
+        b"parseFloat",
+        BuiltinObject {
+            site: PARSE_FLOAT,
+            prototype: Some(FUNCTION_PROTOTYPE),
+            role: Function(28),
+        },
+        &[(b"length", Prim(Number(1)), ALL_ATTRS)],
+    ),
     // 15.1.2.4
     (
         b"isNaN",
         BuiltinObject {
             site: IS_NAN,
             prototype: Some(FUNCTION_PROTOTYPE),
-            role: Function(25),
+            role: Function(29),
         },
         &[(b"length", Prim(Number(1)), ALL_ATTRS)],
     ),
@@ -552,7 +598,7 @@ pub const OPENING: [TableRow; 43] = [
         BuiltinObject {
             site: IS_FINITE,
             prototype: Some(FUNCTION_PROTOTYPE),
-            role: Function(26),
+            role: Function(30),
         },
         &[(b"length", Prim(Number(1)), ALL_ATTRS)],
     ),
@@ -562,7 +608,7 @@ pub const OPENING: [TableRow; 43] = [
         BuiltinObject {
             site: OBJECT_TO_STRING,
             prototype: Some(FUNCTION_PROTOTYPE),
-            role: Function(27),
+            role: Function(31),
         },
         &[(b"length", Prim(Number(0)), ALL_ATTRS)],
     ),
@@ -572,7 +618,7 @@ pub const OPENING: [TableRow; 43] = [
         BuiltinObject {
             site: OBJECT_VALUE_OF,
             prototype: Some(FUNCTION_PROTOTYPE),
-            role: Function(28),
+            role: Function(32),
         },
         &[(b"length", Prim(Number(0)), ALL_ATTRS)],
     ),
@@ -582,7 +628,7 @@ pub const OPENING: [TableRow; 43] = [
         BuiltinObject {
             site: HAS_OWN_PROPERTY,
             prototype: Some(FUNCTION_PROTOTYPE),
-            role: Function(29),
+            role: Function(33),
         },
         &[(b"length", Prim(Number(1)), ALL_ATTRS)],
     ),
@@ -592,7 +638,7 @@ pub const OPENING: [TableRow; 43] = [
         BuiltinObject {
             site: IS_PROTOTYPE_OF,
             prototype: Some(FUNCTION_PROTOTYPE),
-            role: Function(30),
+            role: Function(34),
         },
         &[(b"length", Prim(Number(1)), ALL_ATTRS)],
     ),
@@ -602,7 +648,7 @@ pub const OPENING: [TableRow; 43] = [
         BuiltinObject {
             site: PROPERTY_IS_ENUMERABLE,
             prototype: Some(FUNCTION_PROTOTYPE),
-            role: Function(31),
+            role: Function(35),
         },
         &[(b"length", Prim(Number(1)), ALL_ATTRS)],
     ),
@@ -612,7 +658,7 @@ pub const OPENING: [TableRow; 43] = [
         BuiltinObject {
             site: APPLY,
             prototype: Some(FUNCTION_PROTOTYPE),
-            role: Function(32),
+            role: Function(36),
         },
         &[(b"length", Prim(Number(2)), ALL_ATTRS)],
     ),
@@ -622,7 +668,117 @@ pub const OPENING: [TableRow; 43] = [
         BuiltinObject {
             site: CALL,
             prototype: Some(FUNCTION_PROTOTYPE),
-            role: Function(33),
+            role: Function(37),
+        },
+        &[(b"length", Prim(Number(1)), ALL_ATTRS)],
+    ),
+    // 15.4.4.2
+    (
+        b"Array.prototype.toString",
+        BuiltinObject {
+            site: ARRAY_TO_STRING,
+            prototype: Some(FUNCTION_PROTOTYPE),
+            role: Function(38),
+        },
+        &[(b"length", Prim(Number(0)), ALL_ATTRS)],
+    ),
+    // 15.4.4.4
+    (
+        b"Array.prototype.concat",
+        BuiltinObject {
+            site: ARRAY_CONCAT,
+            prototype: Some(FUNCTION_PROTOTYPE),
+            role: Function(39),
+        },
+        &[(b"length", Prim(Number(1)), ALL_ATTRS)],
+    ),
+    // 15.4.4.5
+    (
+        b"Array.prototype.join",
+        BuiltinObject {
+            site: ARRAY_JOIN,
+            prototype: Some(FUNCTION_PROTOTYPE),
+            role: Function(40),
+        },
+        &[(b"length", Prim(Number(1)), ALL_ATTRS)],
+    ),
+    // 15.4.4.6
+    (
+        b"Array.prototype.pop",
+        BuiltinObject {
+            site: ARRAY_POP,
+            prototype: Some(FUNCTION_PROTOTYPE),
+            role: Function(41),
+        },
+        &[(b"length", Prim(Number(0)), ALL_ATTRS)],
+    ),
+    // 15.4.4.7
+    (
+        b"Array.prototype.push",
+        BuiltinObject {
+            site: ARRAY_PUSH,
+            prototype: Some(FUNCTION_PROTOTYPE),
+            role: Function(42),
+        },
+        &[(b"length", Prim(Number(1)), ALL_ATTRS)],
+    ),
+    // 15.4.4.8
+    (
+        b"Array.prototype.reverse",
+        BuiltinObject {
+            site: ARRAY_REVERSE,
+            prototype: Some(FUNCTION_PROTOTYPE),
+            role: Function(43),
+        },
+        &[(b"length", Prim(Number(0)), ALL_ATTRS)],
+    ),
+    // 15.4.4.9
+    (
+        b"Array.prototype.shift",
+        BuiltinObject {
+            site: ARRAY_SHIFT,
+            prototype: Some(FUNCTION_PROTOTYPE),
+            role: Function(44),
+        },
+        &[(b"length", Prim(Number(0)), ALL_ATTRS)],
+    ),
+    // 15.4.4.10
+    (
+        b"Array.prototype.slice",
+        BuiltinObject {
+            site: ARRAY_SLICE,
+            prototype: Some(FUNCTION_PROTOTYPE),
+            role: Function(45),
+        },
+        &[(b"length", Prim(Number(2)), ALL_ATTRS)],
+    ),
+    // 15.4.4.12
+    (
+        b"Array.prototype.splice",
+        BuiltinObject {
+            site: ARRAY_SPLICE,
+            prototype: Some(FUNCTION_PROTOTYPE),
+            role: Function(46),
+        },
+        &[(b"length", Prim(Number(2)), ALL_ATTRS)],
+    ),
+    // 15.4.4.13
+    (
+        b"Array.prototype.unshift",
+        BuiltinObject {
+            site: ARRAY_UNSHIFT,
+            prototype: Some(FUNCTION_PROTOTYPE),
+            role: Function(47),
+        },
+        &[(b"length", Prim(Number(1)), ALL_ATTRS)],
+    ),
+    // 15.5.3.2
+    (
+        b"String.fromCharCode",
+        BuiltinObject {
+            site: FROM_CHAR_CODE,
+            prototype: Some(FUNCTION_PROTOTYPE),
+            role: Function(48),
         },
         &[(b"length", Prim(Number(1)), ALL_ATTRS)],
     ),
@@ -632,7 +788,7 @@ pub const OPENING: [TableRow; 43] = [
         BuiltinObject {
             site: STRING_TO_STRING,
             prototype: Some(FUNCTION_PROTOTYPE),
-            role: Function(34),
+            role: Function(49),
         },
         &[(b"length", Prim(Number(0)), ALL_ATTRS)],
     ),
@@ -642,7 +798,107 @@ pub const OPENING: [TableRow; 43] = [
         BuiltinObject {
             site: STRING_VALUE_OF,
             prototype: Some(FUNCTION_PROTOTYPE),
-            role: Function(35),
+            role: Function(50),
+        },
+        &[(b"length", Prim(Number(0)), ALL_ATTRS)],
+    ),
+    // 15.5.4.4
+    (
+        b"String.prototype.charAt",
+        BuiltinObject {
+            site: CHAR_AT,
+            prototype: Some(FUNCTION_PROTOTYPE),
+            role: Function(51),
+        },
+        &[(b"length", Prim(Number(1)), ALL_ATTRS)],
+    ),
+    // 15.5.4.5
+    (
+        b"String.prototype.charCodeAt",
+        BuiltinObject {
+            site: CHAR_CODE_AT,
+            prototype: Some(FUNCTION_PROTOTYPE),
+            role: Function(52),
+        },
+        &[(b"length", Prim(Number(1)), ALL_ATTRS)],
+    ),
+    // 15.5.4.6
+    (
+        b"String.prototype.concat",
+        BuiltinObject {
+            site: STRING_CONCAT,
+            prototype: Some(FUNCTION_PROTOTYPE),
+            role: Function(53),
+        },
+        &[(b"length", Prim(Number(1)), ALL_ATTRS)],
+    ),
+    // 15.5.4.7
+    (
+        b"String.prototype.indexOf",
+        BuiltinObject {
+            site: INDEX_OF,
+            prototype: Some(FUNCTION_PROTOTYPE),
+            role: Function(54),
+        },
+        &[(b"length", Prim(Number(1)), ALL_ATTRS)],
+    ),
+    // 15.5.4.8
+    (
+        b"String.prototype.lastIndexOf",
+        BuiltinObject {
+            site: LAST_INDEX_OF,
+            prototype: Some(FUNCTION_PROTOTYPE),
+            role: Function(55),
+        },
+        &[(b"length", Prim(Number(1)), ALL_ATTRS)],
+    ),
+    // 15.5.4.13
+    (
+        b"String.prototype.slice",
+        BuiltinObject {
+            site: STRING_SLICE,
+            prototype: Some(FUNCTION_PROTOTYPE),
+            role: Function(56),
+        },
+        &[(b"length", Prim(Number(2)), ALL_ATTRS)],
+    ),
+    // 15.5.4.14
+    (
+        b"String.prototype.split",
+        BuiltinObject {
+            site: SPLIT,
+            prototype: Some(FUNCTION_PROTOTYPE),
+            role: Function(57),
+        },
+        &[(b"length", Prim(Number(2)), ALL_ATTRS)],
+    ),
+    // 15.5.4.15
+    (
+        b"String.prototype.substring",
+        BuiltinObject {
+            site: SUBSTRING,
+            prototype: Some(FUNCTION_PROTOTYPE),
+            role: Function(58),
+        },
+        &[(b"length", Prim(Number(2)), ALL_ATTRS)],
+    ),
+    // 15.5.4.16
+    (
+        b"String.prototype.toLowerCase",
+        BuiltinObject {
+            site: TO_LOWER_CASE,
+            prototype: Some(FUNCTION_PROTOTYPE),
+            role: Function(59),
+        },
+        &[(b"length", Prim(Number(0)), ALL_ATTRS)],
+    ),
+    // 15.5.4.18
+    (
+        b"String.prototype.toUpperCase",
+        BuiltinObject {
+            site: TO_UPPER_CASE,
+            prototype: Some(FUNCTION_PROTOTYPE),
+            role: Function(60),
         },
         &[(b"length", Prim(Number(0)), ALL_ATTRS)],
     ),
@@ -652,7 +908,7 @@ pub const OPENING: [TableRow; 43] = [
         BuiltinObject {
             site: BOOLEAN_TO_STRING,
             prototype: Some(FUNCTION_PROTOTYPE),
-            role: Function(36),
+            role: Function(61),
         },
         &[(b"length", Prim(Number(0)), ALL_ATTRS)],
     ),
@@ -662,7 +918,7 @@ pub const OPENING: [TableRow; 43] = [
         BuiltinObject {
             site: BOOLEAN_VALUE_OF,
             prototype: Some(FUNCTION_PROTOTYPE),
-            role: Function(37),
+            role: Function(62),
         },
         &[(b"length", Prim(Number(0)), ALL_ATTRS)],
     ),
@@ -672,7 +928,7 @@ pub const OPENING: [TableRow; 43] = [
         BuiltinObject {
             site: NUMBER_TO_STRING,
             prototype: Some(FUNCTION_PROTOTYPE),
-            role: Function(38),
+            role: Function(63),
         },
         &[(b"length", Prim(Number(1)), ALL_ATTRS)],
     ),
@@ -682,7 +938,7 @@ pub const OPENING: [TableRow; 43] = [
         BuiltinObject {
             site: NUMBER_VALUE_OF,
             prototype: Some(FUNCTION_PROTOTYPE),
-            role: Function(39),
+            role: Function(64),
         },
         &[(b"length", Prim(Number(0)), ALL_ATTRS)],
     ),
@@ -692,8 +948,78 @@ pub const OPENING: [TableRow; 43] = [
         BuiltinObject {
             site: ERROR_TO_STRING,
             prototype: Some(FUNCTION_PROTOTYPE),
-            role: Function(40),
+            role: Function(65),
         },
         &[(b"length", Prim(Number(0)), ALL_ATTRS)],
+    ),
+    // 15.8.2.1
+    (
+        b"Math.abs",
+        BuiltinObject {
+            site: MATH_ABS,
+            prototype: Some(FUNCTION_PROTOTYPE),
+            role: Function(66),
+        },
+        &[(b"length", Prim(Number(1)), ALL_ATTRS)],
+    ),
+    // 15.8.2.6
+    (
+        b"Math.ceil",
+        BuiltinObject {
+            site: MATH_CEIL,
+            prototype: Some(FUNCTION_PROTOTYPE),
+            role: Function(67),
+        },
+        &[(b"length", Prim(Number(1)), ALL_ATTRS)],
+    ),
+    // 15.8.2.9
+    (
+        b"Math.floor",
+        BuiltinObject {
+            site: MATH_FLOOR,
+            prototype: Some(FUNCTION_PROTOTYPE),
+            role: Function(68),
+        },
+        &[(b"length", Prim(Number(1)), ALL_ATTRS)],
+    ),
+    // 15.8.2.15
+    (
+        b"Math.round",
+        BuiltinObject {
+            site: MATH_ROUND,
+            prototype: Some(FUNCTION_PROTOTYPE),
+            role: Function(69),
+        },
+        &[(b"length", Prim(Number(1)), ALL_ATTRS)],
+    ),
+    // 15.8.2.11
+    (
+        b"Math.max",
+        BuiltinObject {
+            site: MATH_MAX,
+            prototype: Some(FUNCTION_PROTOTYPE),
+            role: Function(70),
+        },
+        &[(b"length", Prim(Number(2)), ALL_ATTRS)],
+    ),
+    // 15.8.2.12
+    (
+        b"Math.min",
+        BuiltinObject {
+            site: MATH_MIN,
+            prototype: Some(FUNCTION_PROTOTYPE),
+            role: Function(71),
+        },
+        &[(b"length", Prim(Number(2)), ALL_ATTRS)],
+    ),
+    // 15.8.2.13
+    (
+        b"Math.pow",
+        BuiltinObject {
+            site: MATH_POW,
+            prototype: Some(FUNCTION_PROTOTYPE),
+            role: Function(72),
+        },
+        &[(b"length", Prim(Number(2)), ALL_ATTRS)],
     ),
 ];

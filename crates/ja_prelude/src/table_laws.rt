@@ -1,7 +1,7 @@
 //! What the table of the built-in objects says, by its names. The functions do nothing; their
 //! contracts are the laws.
 
-ghost use Rattle.std.specs.Prelude.{◌≡◌, ℕ, true, ◌++◌, Some, length, map, slice_get};
+ghost use Rattle.std.specs.Prelude.{◌≡◌, ℕ, true, Some, length, map, slice_get};
 ghost use Rattle.std.specs.List.{flat_map, list_all, list_any, range_with_len};
 ghost use Rattle.std.specs.Option.{is_some, option_and_then, option_map, option_to_list};
 ghost use Rattle.std.specs.Str.{bytes_eq};
@@ -9,7 +9,7 @@ ghost use lib.Chars.{codes};
 ghost use Rattle.ja_graph.specs.WellFormed.{builtin_names};
 ghost use Rattle.ja_graph.specs.declared.builtins.TheConstants.{BUILTIN_CLASSES};
 ghost use Rattle.ja_prelude.specs.Described.{descriptions, names_in_order, object_at};
-ghost use Rattle.ja_prelude.specs.Table.{attrs_told, builtin_sites, construct_of, function_of, functions_of, is_at_its_path, is_function_class, is_of_its_kind, named_sites, names_at, opening_objects, path_of, prototype_told, rows_of, scope_rows, table_rows, unbuilt_rows};
+ghost use Rattle.ja_prelude.specs.Table.{attrs_told, builtin_sites, construct_of, function_of, functions_of, is_at_its_path, is_function_class, is_of_its_kind, named_sites, names_at, opening_objects, path_of, prototype_told, rows_of, scope_rows, table_rows};
 ghost use Rattle.ja_prelude.specs.declared.texts.TheConstants.{VALUE_FIRST};
 
 /// The number of each property is that of its name in the table.
@@ -85,9 +85,8 @@ pub fn attributes_are_told()
         ≡ map (λ row. map (λ e. attrs_told row.path e.name) row.entries) table_rows }
 {}
 
-/// The rows of the table are the functions that aren't built yet and what is out of the profile.
+/// The rows of the table are what is out of the profile.
 #[tactic(auto, using(crate::proofs::TableLemmas::rows_are_told))]
 pub fn rows_are_told()
-    ensures { map rows_of table_rows ≡ map (λ row. names_at unbuilt_rows row.path
-        ++ names_at scope_rows row.path) table_rows }
+    ensures { map rows_of table_rows ≡ map (λ row. names_at scope_rows row.path) table_rows }
 {}
