@@ -93,7 +93,7 @@ module _ (names : List (List ℕ)) (signatures : List Signature) where
   pub record IsDevice (i : ℕ) (o : ObjectSpec) : Type 0 where
     pub which : ℕ
     pub signature : Signature
-    pub place : i ≡ 43 + which
+    pub place : i ≡ 74 + which
     pub signature_is : slice_get signatures which ≡ Some signature
     pub same : device_object which ≡ o
 

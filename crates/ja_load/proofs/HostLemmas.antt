@@ -44,7 +44,7 @@ one-name names n m t u is also same =
 
 -- there are as many as built-in objects and devices
 pub opening_count : (names : List (List ℕ)) (signatures : List Signature)
-    → length (opening_with names signatures) ≡ 43 + length signatures
+    → length (opening_with names signatures) ≡ 74 + length signatures
 unfolding opening_with
 opening_count names signatures =
     omega (
@@ -70,13 +70,13 @@ builtin-at names signatures i b is =
 
 -- .. and those of devices behind them
 device-at : (names : List (List ℕ)) (signatures : List Signature) (k : ℕ) (s : Signature)
-    → slice_get signatures k ≡ Some s → slice_get (opening_with names signatures) (43 + k)
+    → slice_get signatures k ≡ Some s → slice_get (opening_with names signatures) (74 + k)
     ≡ Some (device_object k)
 unfolding opening_with
 device-at names signatures k s is =
     let number : 0 + k ≡ k = omega arith in
     get-behind (map (object_with_devices names signatures) opening_objects)
-    (map (λ row. device_object row.0) (enumerate_from 0 signatures)) k (43 + k)
+    (map (λ row. device_object row.0) (enumerate_from 0 signatures)) k (74 + k)
     (device_object k) (omega (
       arith,
       length-map opening_objects
@@ -248,7 +248,7 @@ properties-cases names signatures qs j q is =
 -- What devices need of a program: there are as many objects as built-in ones and devices, and no
 -- two devices have one name, which is one of the program's.
 record MayHold (p : Program) (signatures : List Signature) : Type 0 where
-  pub objects : length p.opening ≡ 43 + length signatures
+  pub objects : length p.opening ≡ 74 + length signatures
   pub named : AreNamed p.names signatures
   pub distinct : AreDistinct signatures
 
@@ -264,12 +264,12 @@ device-name p signatures may k q device =
 device-content : (p : Program) (signatures : List Signature) → MayHold p signatures
     → (k : ℕ) (q : PropertySpec) → IsOfDeviceNamed p.names signatures k q → IsContent p q.content
 device-content p signatures may k q device =
-    let within : 43 + k < length p.opening = omega
+    let within : 74 + k < length p.opening = omega
     (arith, may.objects, slice_get_within signatures k device.signature device.signature_is) in
     subst (λ (r : PropertySpec). IsContent p r.content) device.property within
 
 properties-fit : (p plain : Program) (signatures : List Signature) (qs : List PropertySpec)
-    → MayHold p signatures → length plain.opening ≡ 43 → plain.names ≡ p.names → AreFit plain qs
+    → MayHold p signatures → length plain.opening ≡ 74 → plain.names ≡ p.names → AreFit plain qs
     → AreFit p (properties_with p.names signatures qs)
 properties-fit p plain signatures qs may count same fit = record {
   names = λ j q is. name q (properties-cases p.names signatures qs j q is);
@@ -313,7 +313,7 @@ pub record HasDevices (p : Program) (own : ℕ) (signatures : List Signature)
   pub opening : p.opening ≡ opening_with p.names signatures
   pub sites : p.sites ≡ builtin_sites (own + length signatures) ++ device_sites own signatures
       ++ others
-  pub functions : own + length signatures + 43 ≤ length p.functions
+  pub functions : own + length signatures + 75 ≤ length p.functions
   pub many : length builtin_names ≤ length p.names
   pub named : AreNamed p.names signatures
   pub distinct : AreDistinct signatures
@@ -392,7 +392,7 @@ builtin-well_formed p own signatures others has i o builtin =
 
 -- a built-in object stands before those of devices
 builtin-stands : (p : Program) (signatures : List Signature) (i : ℕ) (s : Site)
-    → p.opening ≡ opening_with p.names signatures → s.0 < 43 → 43 ≤ i → StandsBefore p i s
+    → p.opening ≡ opening_with p.names signatures → s.0 < 74 → 74 ≤ i → StandsBefore p i s
 builtin-stands p signatures i s opening within behind =
     let found = found-at (λ (o : ObjectSpec). o.site.0 == s.0) opening_objects
     (sites_have_objects (plain_of p) s.0 refl (omega (arith, within, table-count))) in
@@ -425,9 +425,9 @@ device-well_formed : (p : Program) (own : ℕ) (signatures : List Signature) (ot
 device-well_formed p own signatures others has i o device =
     let may = may-hold p own signatures others has in
     let k = device.which in
-    let within : 43 + k < length p.opening = omega
+    let within : 74 + k < length p.opening = omega
     (arith, may.objects, slice_get_within signatures k device.signature device.signature_is) in
-    let behind : 43 ≤ i = omega (arith, device.place) in
+    let behind : 74 ≤ i = omega (arith, device.place) in
     let length_named : LENGTH.0 < length p.names = omega (arith, has.many, names_count) in
     let made : IsObjectWellFormed p i (device_object k) = record {
       site = within;
@@ -467,9 +467,9 @@ objects_with_devices p own signatures others has i o is =
 pub sites_have_objects_with_devices : (p : Program) (own : ℕ) (signatures : List Signature)
     (others : List SiteInfo) → HasDevices p own signatures others → (s : ℕ) → s < length p.opening
     → IsSome (object_spec p s)
-sites_have_objects_with_devices p own signatures others has s before = at (cases_lt s 43)
+sites_have_objects_with_devices p own signatures others has s before = at (cases_lt s 74)
   where
-    at : (s < 43) ⊎ (43 ≤ s) → IsSome (object_spec p s)
+    at : (s < 74) ⊎ (74 ≤ s) → IsSome (object_spec p s)
     at (inl within) =
         let found = found-at (λ (o : ObjectSpec). o.site.0 == s) opening_objects
         (sites_have_objects (plain_of p) s refl (omega (arith, within, table-count))) in
@@ -482,14 +482,14 @@ sites_have_objects_with_devices p own signatures others has s before = at (cases
         (builtin-at p.names signatures found.0 found.1 found.2) passes)
     at (inr behind) =
         let may = may-hold p own signatures others has in
-        let signature = element_within signatures (s - 43)
+        let signature = element_within signatures (s - 74)
         (omega (arith, before, behind, may.objects)) in
-        let passes : ((device_object (s - 43)).site.0 == s)
-        ≡ true = same_passes (43 + (s - 43)) s (omega (arith, behind)) in
+        let passes : ((device_object (s - 74)).site.0 == s)
+        ≡ true = same_passes (74 + (s - 74)) s (omega (arith, behind)) in
         subst (λ os. IsSome (find (λ (o : ObjectSpec). o.site.0 == s) os)) (sym has.opening)
         (find-at (λ (o : ObjectSpec). o.site.0 == s) (opening_with p.names signatures)
-        (43 + (s - 43)) (device_object (s - 43))
-        (device-at p.names signatures (s - 43) signature.0 signature.1) passes)
+        (74 + (s - 74)) (device_object (s - 74))
+        (device-at p.names signatures (s - 74) signature.0 signature.1) passes)
 
 -- ---- the sites
 

@@ -75,9 +75,9 @@ setting signatures statements =
 -- ---- what is known of the built-in functions
 
 pub record PreludeFacts : Type 0 where
-  pub counted : prelude_count prelude_statements ≡ 43
-  pub paths : length prelude_paths ≡ 43
-  pub few : prelude_size_of builtin_names prelude_statements ≤ 1100
+  pub counted : prelude_count prelude_statements ≡ 75
+  pub paths : length prelude_paths ≡ 75
+  pub few : prelude_size_of builtin_names prelude_statements ≤ 4096
   pub allowed : AreAllowed (lowering.prelude_bodies prelude_names prelude_statements)
 
 -- ---- lists
@@ -110,8 +110,8 @@ pub record IsMade (p : Program) (signatures : List Signature) (statements : List
   pub names : p.names ≡ (whole signatures statements).names
   pub devices : p.signatures ≡ signatures
   pub opening : p.opening ≡ opening_with p.names signatures
-  pub value_first : p.value_first.0 ≡ function_count statements + length signatures + 41
-  pub text_first : p.text_first.0 ≡ function_count statements + length signatures + 42
+  pub value_first : p.value_first.0 ≡ function_count statements + length signatures + 73
+  pub text_first : p.text_first.0 ≡ function_count statements + length signatures + 74
 
 -- it has devices
 has_devices : LoweringLaws → PreludeFacts
@@ -159,16 +159,16 @@ made_is_well_formed laws facts p signatures statements fit within registers few_
     let paths_each : length prelude_paths ≡ prelude_count prelude_statements = omega
     (arith, facts.paths, facts.counted) in
     let count : length p.functions ≡ own + length signatures
-    + 43 = omega (
+    + 75 = omega (
       arith,
       ap length made.functions,
       laws.counted (setting signatures statements) paths_each,
       facts.paths,
     ) in
     let text = first_element p.functions (omega (arith, count)) in
-    let objects : length p.opening ≡ 43 + length signatures = ap length made.opening
+    let objects : length p.opening ≡ 74 + length signatures = ap length made.opening
     ∙ opening_count p.names signatures in
-    let front_count : length front_sites ≡ 43
+    let front_count : length front_sites ≡ 74
     + length signatures = omega (
       arith,
       length-append (builtin_sites (own + length signatures))
@@ -176,14 +176,14 @@ made_is_well_formed laws facts p signatures statements fit within registers few_
       sites_count (own + length signatures),
       device_sites_count own signatures,
     ) in
-    let all_sites : length p.sites ≡ 43 + length signatures
+    let all_sites : length p.sites ≡ 74 + length signatures
     + length l.sites = omega (
       arith,
       ap length made.sites,
       length-append front_sites l.sites,
       front_count,
     ) in
-    let nodes : node_count l.functions ≤ 66828 = omega (
+    let nodes : node_count l.functions ≤ 69824 = omega (
       arith,
       laws.in_size (setting signatures statements),
       within.nodes,
