@@ -11,6 +11,7 @@ use Rattle.ja_graph.specs.declared.program.Program.{Program}
 use Rattle.ja_abstract.specs.AbstractValue.{AbstractValue, no_value}
 use Rattle.ja_abstract.specs.Operations.{AbstractOperation, looked, operation, operations}
 use Rattle.ja_abstract.specs.Reading.{View}
+use Rattle.ja_abstract.proofs.TextOperations.{all_text_operations}
 use Rattle.ja_rows.specs.declared.table.Item.{Item}
 use Rattle.ja_rows.specs.declared.table.Item.TheVariants.{Open, Step, Fill, Back}
 use Rattle.ja_rows.specs.Out.{Point, at, out, sets}
@@ -49,7 +50,13 @@ module _ (p : Program) (s : String Global) where
             λ w vs. refl,
             (
               λ w vs. refl,
-              (λ w vs. refl, (λ w vs. refl, (λ w vs. refl, (λ w vs. refl, tt)))),
+              (
+                λ w vs. refl,
+                (
+                  λ w vs. refl,
+                  (λ w vs. refl, all_text_operations IsSameOf (λ op w vs. refl)),
+                ),
+              ),
             ),
           ),
         ),

@@ -1,6 +1,6 @@
 -- What a node gives of a state of a program keeps its shape, with labels of the program alone: what
 -- registers are set to, objects, and calls.
-use Rattle.std.specs.Prelude.{zero, suc, ◌&&◌, ◌-◌, ◌++◌, ℕ, ℤ, pos, negsuc, Bool, true, false, List, [], ◌∷◌, map, length, drop, slice_get, Option, Some, None, IfSome, unwrap_or, ◌≡◌, IsTrue, ◌||◌, not}
+use Rattle.std.specs.Prelude.{zero, suc, ◌&&◌, ◌-◌, ◌++◌, ℕ, ℤ, pos, negsuc, Bool, true, false, List, [], ◌∷◌, map, length, drop, slice_get, Option, Some, None, IfSome, Ok, Err, unwrap_or, ◌≡◌, IsTrue, ◌||◌, not}
 use Rattle.std.specs.List.{AllByRecursion, range_with_len}
 use Rattle.std.specs.Option.{option_map_or}
 use Rattle.std.proofs.Common.{refl, subst}
@@ -13,7 +13,8 @@ use Rattle.ja_base.specs.declared.ids.NodeId.{NodeId}
 use Rattle.ja_base.specs.declared.ids.Reg.{Reg}
 use Rattle.ja_base.specs.declared.ids.Site.{Site}
 use Rattle.ja_base.proofs.Lists.{all_append}
-use Rattle.ja_prim.specs.declared.primitive.Num.TheVariants.{Whole}
+use Rattle.ja_prim.specs.declared.primitive.Num.TheVariants.{NaN}
+use Rattle.ja_prim.specs.declared.primitive.Primitive.{Primitive}
 use Rattle.ja_prim.specs.declared.primitive.Primitive.TheVariants as primitive
 use Rattle.ja_machine.specs.Events.{array_length_message, no_function_message, no_prototype_message, not_a_constructor_message, not_a_function_message, not_an_object_message, nothing_message}
 use Rattle.ja_machine.specs.Intrinsics.{class_name}
@@ -46,8 +47,14 @@ use Rattle.ja_abstract.specs.AbstractState.{AbstractState, aged, is_label, label
 use Rattle.ja_abstract.specs.Composed.{composed, renamed_value}
 use Rattle.ja_abstract.specs.Keys.{index_keys}
 use Rattle.ja_abstract.specs.Made.{Own, activation_own, arguments_own, constructed_own, count_register, empty_own, error_own, function_own, length_key, one_number, prototype_own, rest_register, scope_key, scope_own, text_own, value_key, wrapper_own, whole_constant, with_object, with_objects}
-use Rattle.ja_abstract.specs.Operations.{AbstractOperation, Looked, class_of, digits_atoms, digits_of, digits_of_operands, has_elements, has_own, inherits, is_enumerable, is_object, looked, of_one, of_two, operation, operations, value_of, is_radix}
-use Rattle.ja_abstract.specs.Primitives.{Operand, atoms, no_result, of_bools, operand, to_num, whole_value}
+use Rattle.ja_abstract.specs.Operations.{AbstractOperation, Looked, class_of, has_elements, has_own, inherits, is_enumerable, is_object, looked, of_one, of_two, of_values as on_values, operation, operations, value_of}
+use Rattle.ja_abstract.specs.PrimitiveOperations.{Taken, class, each_told, given_of, index_value, of_taken, operands, over_operands, sorts, text_operation}
+use Rattle.ja_abstract.specs.Primitives.{Abstracted, gives, nan_value, of_bools, to_num, whole_value}
+use Rattle.ja_abstract.proofs.TextOperations.{all_text_operations}
+use Rattle.ja_machine.specs.declared.machine.TextOperation.{TextOperation}
+use Rattle.ja_machine.specs.declared.machine.TextOperation.TheVariants as text
+use Rattle.ja_machine.specs.TextOperations.{row}
+use Rattle.ja_machine.specs.TextOperations.{Given as Outcome}
 use Rattle.ja_abstract.specs.Reading.{View, get, has_present, names_shown, slot, some_label, may_have, may_lack}
 use Rattle.ja_abstract.specs.Resolved.{join_values}
 use Rattle.ja_abstract.specs.Values.{has_atoms, has_labels, has_non_object, has_nullish, primitives_of, value_if, is_function_label}
@@ -63,7 +70,7 @@ use Rattle.ja_rows.specs.Scopes.{enters_scope}
 use Rattle.ja_rows.specs.Transfer.{transfer_node}
 use Rattle.ja_cert_laws.proofs.ShapedReadings.{IsViewIn, get_labels, led_to, of_found, slot_labels}
 use Rattle.ja_cert_laws.proofs.ShapedStates.{AreTextKeys, IsOwn, IsShapedIn, IsSite, at_site, builtin_there, composed_shaped, entered_shaped, error_there, object_shaped, object_there, objects_shaped, own_activation, own_arguments, own_constructed, own_empty, own_error, own_function, own_prototype, own_scope, own_text, own_wrapper, register_shaped, text_in, value_keys_are}
-use Rattle.ja_cert_laws.proofs.ShapedValues.{AreLabels, Gives, IsRegisterIn, aged_objects, joined_objects, left_objects, no_objects, of_binary, of_constant, of_device, of_each, of_join, of_nothing, of_number, of_one_if, of_one_label, of_one_primitive, of_primitives, of_read, of_renamed, of_shown, of_some_labels, of_text, of_truths, of_uint32, of_unary, of_undefined, of_values, pairs_give}
+use Rattle.ja_cert_laws.proofs.ShapedValues.{AreLabels, Gives, IsRegisterIn, aged_objects, joined_objects, left_objects, no_objects, of_binary, of_constant, of_device, of_each, of_join, of_nothing, of_number, of_one_if, of_one_label, of_one_primitive, of_primitives, of_read, of_renamed, of_shown, of_some_labels, of_text, of_truths, of_uint32, of_unary, of_undefined, of_values, over_gives}
 use Rattle.ja_cert_laws.proofs.ShapedWrites.{by_option, declared_shaped, defined_shaped, delete_shaped, put_shaped}
 
 -- what holds of each entry holds at each place
@@ -97,11 +104,53 @@ module _ (p : Program) where
   two_give f each w (u ∷ v ∷ []) = each w u v
   two_give f each w (u ∷ v ∷ x ∷ vs) = of_nothing p
 
-  digits_give : (x y : Operand) → Gives p (digits_of_operands x y)
-  digits_give (Some n) (Some (Whole (pos radix))) =
-      cond_both (is_radix radix) _ no_result (Gives p) (λ _. of_text p _) (λ _. of_nothing p)
-  digits_give (Some m) (Some n) = of_nothing p
-  digits_give x y = of_text p text_part.Text
+  -- those on texts and numbers
+  class_gives : (op : TextOperation) → IsRegisterIn p (class op)
+  class_gives text.Digits = of_text p text_part.Text
+  class_gives text.Size = of_number p number_part.Index
+  class_gives text.Unit =
+      of_join p nan_value index_value (of_one_primitive p (primitive.Number NaN))
+      (of_number p number_part.Index)
+  class_gives text.Part = of_text p text_part.Text
+  class_gives text.Character = of_text p text_part.Text
+  class_gives text.IndexOf = of_number p number_part.Whole
+  class_gives text.LastIndexOf = of_number p number_part.Whole
+  class_gives text.Lower = of_text p text_part.Text
+  class_gives text.Upper = of_text p text_part.Text
+  class_gives text.ParseInt =
+      of_join p nan_value whole_value (of_one_primitive p (primitive.Number NaN))
+      (of_number p number_part.Whole)
+  class_gives text.ParseFloat =
+      of_join p nan_value whole_value (of_one_primitive p (primitive.Number NaN))
+      (of_number p number_part.Whole)
+
+  given_gives : (g : Outcome) → Gives p (given_of g)
+  given_gives (Ok q) = of_one_primitive p q
+  given_gives (Err why) = of_nothing p
+
+  taken_gives : (op : TextOperation) (xs : List Taken)
+      → Gives p (of_taken (row op) (class op) xs)
+  taken_gives op xs = by (each_told xs)
+    where
+      by : (o : Option (List Primitive))
+          → Gives p (option_map_or (λ qs. given_of (row op qs)) o (gives (class op)))
+      by None = class_gives op
+      by (Some qs) = given_gives (row op qs)
+
+  choices_give : (f : List Taken → Abstracted) → ((xs : List Taken) → Gives p (f xs))
+      → (xss : List (List Taken)) → Gives p (over_operands f xss)
+  choices_give f each [] = each []
+  choices_give f each (xs ∷ xss) =
+      over_gives p (λ x. over_operands (λ rest. f (x ∷ rest)) xss)
+      (λ x. choices_give (λ rest. f (x ∷ rest)) (λ rest. each (x ∷ rest)) xss) xs
+
+  text_gives : (op : TextOperation) → IsOperation (on_values (text_operation op))
+  text_gives op w vs = by (operands (sorts op) vs)
+    where
+      by : (o : Option (List (List Taken))) → IsRegisterIn p (option_map_or
+          (λ xss. (over_operands (of_taken (row op) (class op)) xss).value) o no_value)
+      by None = of_nothing p
+      by (Some xss) = choices_give (of_taken (row op) (class op)) (taken_gives op) xss
 
   operations_give : AllByRecursion IsOperation operations
   operations_give = (
@@ -126,12 +175,7 @@ module _ (p : Program) where
               two_give inherits (λ w u v. of_one_if p (has_labels w v) _ (of_truths p _ _)),
               (
                 one_gives has_elements (λ w v. of_truths p _ _),
-                (
-                  two_give digits_of (λ w u v. pairs_give p digits_atoms
-                      (λ a b. pairs_give p digits_of_operands digits_give (operand a) (operand b))
-                      (atoms u) (atoms v)),
-                  tt,
-                ),
+                all_text_operations IsOperation text_gives,
               ),
             ),
           ),

@@ -15,5 +15,6 @@ pub mod Properties
 pub mod Scopes
 pub mod SmallProgram
 pub mod SmallSteps
+pub mod TextOperations
 pub mod Walks
 pub mod Writes

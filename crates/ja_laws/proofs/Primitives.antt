@@ -18,8 +18,9 @@ use Rattle.ja_abstract.specs.declared.abstraction.NumberPart.TheVariants as numb
 use Rattle.ja_abstract.specs.declared.abstraction.TextPart.TheVariants as text_part
 use Rattle.ja_abstract.specs.AbstractValue.{AbstractValue, of_primitive, join, null_value, undefined_value, no_value}
 use Rattle.ja_abstract.specs.Keys.{is_whole_text, number_text_has}
-use Rattle.ja_abstract.specs.Operations.{digits_atoms}
-use Rattle.ja_abstract.specs.Primitives.{Abstracted, abstract_unary, to_bool_atom, to_text_atom, on_operand, of_operand, over_pairs, atoms, gives, gives_or_stops, abstract_binary, operator, finished, of_number_part, of_text_part, of_bools, to_num, to_uint32, whole_value, nan_value}
+use Rattle.ja_machine.specs.declared.machine.TextOperation.TheVariants as operation
+use Rattle.ja_abstract.specs.PrimitiveOperations.{text_operation}
+use Rattle.ja_abstract.specs.Primitives.{Abstracted, abstract_unary, to_bool_atom, to_text_atom, on_operand, of_operand, gives, gives_or_stops, abstract_binary, operator, finished, of_number_part, of_text_part, of_bools, to_num, to_uint32, whole_value, nan_value}
 
 abbrev one : AbstractValue
 one = of_primitive (primitive.Number (Whole (pos 1)))
@@ -345,7 +346,7 @@ texts_of_classes = refl
 -- ---- digits by a radix: of a class any text, of two constants the machine's or none
 
 digits_by : AbstractValue → AbstractValue → AbstractValue
-digits_by v radix = (over_pairs digits_atoms (atoms v) (atoms radix)).value
+digits_by v radix = text_operation operation.Digits (v ∷ radix ∷ [])
 
 class_by_one : digits_by index one ≡ of_text_part text_part.Text
 unfolding digits_by

@@ -12,9 +12,9 @@
 //! callees, the states of a table speak of its program alone, and each program has a closed table.
 //!
 //! Results, each by computing, with what the standard or the analysis fixes on the right: of the
-//! operators on primitives (`proofs/Primitives.antt`), of writes (`Writes`), and of each row of
-//! nodes and of calls, in files named as the families of `ja_rows`, over one small program
-//! (`SmallProgram`).
+//! operators on primitives (`proofs/Primitives.antt`), of the machine's operations on texts and
+//! numbers (`TextOperations`), of writes (`Writes`), and of each row of nodes and of calls, in files
+//! named as the families of `ja_rows`, over one small program (`SmallProgram`).
 #![tactic(auto)]
 
 mod abstract_laws;

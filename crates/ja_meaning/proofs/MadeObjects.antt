@@ -161,13 +161,14 @@ module _ (p : Program) (good : IsWellFormed p) (now : Heap) where
         t)
 
     error_fits : (kind : ErrorKind) → (prototype_of_error kind).0 < length p.opening
-    error_fits error_kind.Error = fits 13 class.Error refl
-    error_fits error_kind.EvalError = fits 15 class.Error refl
-    error_fits error_kind.RangeError = fits 17 class.Error refl
-    error_fits error_kind.ReferenceError = fits 19 class.Error refl
-    error_fits error_kind.SyntaxError = fits 21 class.Error refl
-    error_fits error_kind.TypeError = fits 23 class.Error refl
-    error_fits error_kind.URIError = fits 25 class.Error refl
+    error_fits error_kind.Error = fits builtins.ERROR_PROTOTYPE.0 class.Error refl
+    error_fits error_kind.EvalError = fits builtins.EVAL_ERROR_PROTOTYPE.0 class.Error refl
+    error_fits error_kind.RangeError = fits builtins.RANGE_ERROR_PROTOTYPE.0 class.Error refl
+    error_fits error_kind.ReferenceError =
+        fits builtins.REFERENCE_ERROR_PROTOTYPE.0 class.Error refl
+    error_fits error_kind.SyntaxError = fits builtins.SYNTAX_ERROR_PROTOTYPE.0 class.Error refl
+    error_fits error_kind.TypeError = fits builtins.TYPE_ERROR_PROTOTYPE.0 class.Error refl
+    error_fits error_kind.URIError = fits builtins.URI_ERROR_PROTOTYPE.0 class.Error refl
 
     pub an_error : (kind : ErrorKind) (text : List ℕ)
         → IsMade p now (error_object (prototype_of_error kind) text)
@@ -176,7 +177,7 @@ module _ (p : Program) (good : IsWellFormed p) (now : Heap) where
 
     pub empty_made : (kind : Made) → IsMade p now (empty_object kind) (empty_own kind)
     empty_made made_kinds.Object (internal slot.Prototype) =
-        first_has builtins.OBJECT_PROTOTYPE (fits 1 class.Object refl)
+        first_has builtins.OBJECT_PROTOTYPE (fits builtins.OBJECT_PROTOTYPE.0 class.Object refl)
     empty_made made_kinds.Object (internal slot.Outer) = refl
     empty_made made_kinds.Object (internal slot.Scope) = refl
     empty_made made_kinds.Object (internal slot.Value) = refl
@@ -184,7 +185,7 @@ module _ (p : Program) (good : IsWellFormed p) (now : Heap) where
         past_slot slot.Prototype _ [] t (object_content (empty_object made_kinds.Object) (named t))
         refl
     empty_made made_kinds.Array (internal slot.Prototype) =
-        first_has builtins.ARRAY_PROTOTYPE (fits 5 class.Array refl)
+        first_has builtins.ARRAY_PROTOTYPE (fits builtins.ARRAY_PROTOTYPE.0 class.Array refl)
     empty_made made_kinds.Array (internal slot.Outer) = refl
     empty_made made_kinds.Array (internal slot.Scope) = refl
     empty_made made_kinds.Array (internal slot.Value) = refl
@@ -234,7 +235,7 @@ module _ (p : Program) (good : IsWellFormed p) (now : Heap) where
         (wrapper class.String builtins.STRING_PROTOTYPE (primitive.Text units) (text_length units))
         (text_own part)
     text_made units part has short (internal slot.Prototype) =
-        first_has builtins.STRING_PROTOTYPE (fits 7 class.String refl)
+        first_has builtins.STRING_PROTOTYPE (fits builtins.STRING_PROTOTYPE.0 class.String refl)
     text_made units part has short (internal slot.Outer) = refl
     text_made units part has short (internal slot.Scope) = refl
     text_made units part has short (internal slot.Value) = has
@@ -257,7 +258,7 @@ module _ (p : Program) (good : IsWellFormed p) (now : Heap) where
     pub scope_made : (outer : Addr) (chain : Labels) → IsTrue (chain (label_of now outer))
         → IsMade p now (scope_object outer) (scope_own chain)
     scope_made outer chain has (internal slot.Prototype) =
-        first_has builtins.OBJECT_PROTOTYPE (fits 1 class.Object refl)
+        first_has builtins.OBJECT_PROTOTYPE (fits builtins.OBJECT_PROTOTYPE.0 class.Object refl)
     scope_made outer chain has (internal slot.Outer) = has
     scope_made outer chain has (internal slot.Scope) = refl
     scope_made outer chain has (internal slot.Value) = refl
@@ -272,7 +273,7 @@ module _ (p : Program) (good : IsWellFormed p) (now : Heap) where
         (function_object (parameters_of p function) chain proto)
         (function_own p function chains proto_label)
     function_made function chain proto chains l has is (internal slot.Prototype) =
-        first_has builtins.FUNCTION_PROTOTYPE (fits 2 class.Function refl)
+        first_has builtins.FUNCTION_PROTOTYPE (fits builtins.FUNCTION_PROTOTYPE.0 class.Function refl)
     function_made function chain proto chains l has is (internal slot.Outer) =
         past_text slot.Outer (codes "prototype") _ []
         (object_content (function_object (parameters_of p function) chain proto)
@@ -303,7 +304,7 @@ module _ (p : Program) (good : IsWellFormed p) (now : Heap) where
     pub prototype_made : (function : Addr) (l : Label) → l ≡ label_of now function
         → IsMade p now (prototype_object function) (prototype_own p l)
     prototype_made function l is (internal slot.Prototype) =
-        first_has builtins.OBJECT_PROTOTYPE (fits 1 class.Object refl)
+        first_has builtins.OBJECT_PROTOTYPE (fits builtins.OBJECT_PROTOTYPE.0 class.Object refl)
     prototype_made function l is (internal slot.Outer) =
         past_text slot.Outer (codes "constructor") _ []
         (object_content (prototype_object function) (internal slot.Outer)) refl

@@ -1,16 +1,18 @@
 -- The abstract operations of the built-in functions beside the machine's: numbers of values, kinds
 -- of results, constants, and one object.
-use Rattle.std.specs.Prelude.{◌≡◌, ◌⊎◌, ◌&&◌, ◌||◌, not, ℕ, zero, suc, pos, nat_le, Bool, true, false, IsTrue, if◌then◌else◌, List, [], ◌∷◌, map, length, Option, Some, None, is_some, Ok, Err}
-use Rattle.std.specs.List.{list_any}
-use Rattle.std.specs.Option.{option_map}
-use Rattle.std.proofs.Common.{refl, sym, subst, ap, ◌∙◌, inl, inr}
-use Rattle.std.proofs.lemmas.Bool.{false≢true, cond_both, cases_Bool}
+use Rattle.std.specs.Prelude.{◌≡◌, ◌⊎◌, ◌&&◌, ◌||◌, not, ℕ, zero, suc, Bool, true, false, IsTrue, List, [], ◌∷◌, map, length, drop, slice_get, Option, Some, None, is_some, Ok, Err}
+use Rattle.std.specs.List.{flat_map, list_any}
+use Rattle.std.specs.Option.{option_map, option_map_or}
+use Rattle.std.proofs.Common.{refl, sym, subst, ap, ◌∙◌, inl, inr, append-nil}
+use Rattle.std.proofs.lemmas.Bool.{false≢true, cases_Bool}
 use Rattle.std.proofs.lemmas.Option.{same_Some, none-some}
 use Rattle.ja_base.specs.declared.ids.Label.{Label}
-use Rattle.ja_prim.specs.declared.primitive.Num.TheVariants.{Whole}
+use Rattle.ja_prim.specs.declared.primitive.Num.TheVariants.{NaN, Whole}
 use Rattle.ja_prim.specs.declared.primitive.Primitive.{Primitive}
 use Rattle.ja_prim.specs.declared.primitive.Primitive.TheVariants as primitive
 use Rattle.ja_graph.specs.declared.program.Class.{Class}
+use Rattle.ja_machine.specs.declared.machine.TextOperation.{TextOperation}
+use Rattle.ja_machine.specs.declared.machine.TextOperation.TheVariants as text
 use Rattle.ja_machine.specs.declared.machine.Value.{Value}
 use Rattle.ja_machine.specs.declared.machine.Value.TheVariants as value
 use Rattle.ja_machine.specs.declared.machine.Property.{Property}
@@ -19,12 +21,19 @@ use Rattle.ja_machine.specs.Heap.{class_at}
 use Rattle.ja_machine.specs.Intrinsics.{IntrinsicOutcome, Computation}
 use Rattle.ja_machine.specs.Intrinsics as machine
 use Rattle.ja_machine.specs.Machine.{class_of_site}
-use Rattle.ja_abstract.specs.AbstractValue.{Labels, AbstractValue, AbstractProperty, no_value, join, same_label, of_primitive}
+use Rattle.ja_machine.specs.TextOperations.{row, text_operations}
+use Rattle.ja_abstract.specs.declared.abstraction.NumberPart.{NumberPart}
+use Rattle.ja_abstract.specs.declared.abstraction.NumberPart.TheVariants as number_part
+use Rattle.ja_abstract.specs.declared.abstraction.Sort.{Sort}
+use Rattle.ja_abstract.specs.declared.abstraction.Sort.TheVariants as sort
+use Rattle.ja_abstract.specs.AbstractValue.{Labels, AbstractValue, AbstractProperty, no_flags, no_value, join, same_label, of_primitive}
 use Rattle.ja_abstract.specs.AbstractState.{labels_of}
 use Rattle.ja_abstract.specs.Resolved.{join_values}
-use Rattle.ja_abstract.specs.Operations.{Looked, AbstractOperation, looked, operation, is_radix, digits_of_operands, digits_atoms, is_list_label}
+use Rattle.ja_abstract.specs.Operations.{Looked, AbstractOperation, looked, operation, is_list_label}
 use Rattle.ja_abstract.specs.Operations as abstract
-use Rattle.ja_abstract.specs.Primitives.{Atom, exactly, atoms, Abstracted, gives, no_result, over, over_pairs, of_bools, Operand, operand}
+use Rattle.ja_abstract.specs.Parts.{has_primitive}
+use Rattle.ja_abstract.specs.PrimitiveOperations.{Taken, class, each_told, given_of, of_taken, operands, over_operands, sorts, taken, taken_at, text_operation, text_value}
+use Rattle.ja_abstract.specs.Primitives.{exactly, Abstracted, gives, over, of_bools}
 use Rattle.ja_abstract.specs.Made.{value_key}
 use Rattle.ja_abstract.specs.Reading.{View, some_label, slot, may_have, may_lack, may_be_enumerable, may_be_hidden}
 use Rattle.ja_abstract.specs.Values.{has_atoms, has_labels, value_if, primitives_of}
@@ -32,9 +41,11 @@ use Rattle.ja_abstract.proofs.Labels.{IsAmong, same_label-true}
 use Rattle.ja_abstract.proofs.Least.{value_least}
 use Rattle.ja_abstract.proofs.Order.{value-join, value_same, value_equal}
 use Rattle.ja_abstract.proofs.Parts.{of_primitive_has}
+use Rattle.ja_abstract.proofs.PrimitiveOperations.{AreOf, IsOf}
+use Rattle.ja_abstract.proofs.TextOperations.{is_row, text_operations_beside}
 use Rattle.ja_meaning.specs.OperatorLaws.{IsLabelOf}
-use Rattle.ja_meaning.specs.OperationLaws.{TakeTheirValues, ResultKind, booleans, texts, primitives, is_of_kind, part_of_kind, ResultsAreOfKinds, GiveNoOtherKind, AreExact, exactly_given, IsToldBySite, own_named, IsToldByReadings}
-use Rattle.ja_meaning.proofs.ExactOperators.{join_none, pair_one, atoms_one, label_none, no_label, no_labels}
+use Rattle.ja_meaning.specs.OperationLaws.{TakeTheirValues, ResultKind, booleans, texts, numbers, primitives, is_of_kind, part_of_kind, ResultsAreOfKinds, GiveNoOtherKind, AreExact, exactly_given, IsToldBySite, own_named, IsToldByReadings}
+use Rattle.ja_meaning.proofs.ExactOperators.{join_none, atoms_one, label_none, no_label, no_labels}
 use Rattle.ja_meaning.proofs.LabelledOperators.{test_label}
 use Rattle.ja_meaning.proofs.Operators.{has_atoms-of}
 
@@ -58,6 +69,53 @@ Takes which o =
     (w : View) (vs : List AbstractValue)
     → (length vs ≡ o.takes) ⊎ (operation which w vs ≡ looked no_value)
 
+-- those on texts and numbers take as many values as they have sorts
+operands_fit : (ss : List Sort) (vs : List AbstractValue)
+    → (length vs ≡ length ss) ⊎ (operands ss vs ≡ None)
+operands_fit [] [] = inl refl
+operands_fit [] (v ∷ vs) = inr refl
+operands_fit (s ∷ ss) [] = inr refl
+operands_fit (s ∷ ss) (v ∷ vs) =
+    elim (operands_fit ss vs) [
+      | inl e ↦ inl (ap suc e)
+      | inr none ↦ inr (ap (option_map (λ (xss : List (List Taken)). taken s v ∷ xss)) none)
+    ]
+
+text_takes : (op : TextOperation) (vs : List AbstractValue)
+    → (length vs ≡ length (sorts op)) ⊎ (looked (text_operation op vs) ≡ looked no_value)
+text_takes op vs =
+    elim (operands_fit (sorts op) vs) [
+      | inl e ↦ inl e
+      | inr none ↦ inr (ap (λ (o : Option (List (List Taken))). looked (option_map_or
+          (λ xss. (over_operands (of_taken (row op) (class op)) xss).value) o no_value)) none)
+    ]
+
+abbrev TakesAsMany : List machine.Operation → List TextOperation → Type 0
+TakesAsMany [] [] = Unit {0}
+TakesAsMany (o ∷ os) (op ∷ ops) = (length (sorts op) ≡ o.takes) × TakesAsMany os ops
+TakesAsMany os ops = ⊥
+
+each_takes : TakesAsMany (drop 7 machine.operations) text_operations
+each_takes =
+    (refl, (refl, (refl, (refl, (refl, (refl, (refl, (refl, (refl, (refl, (refl, tt)))))))))))
+
+texts_take_at : (os : List machine.Operation) (ops : List TextOperation) → TakesAsMany os ops
+    → (n : ℕ) (o : machine.Operation) → slice_get os n ≡ Some o → (w : View)
+    (vs : List AbstractValue) → (length vs ≡ o.takes)
+    ⊎ (option_map_or (λ (r : AbstractOperation). r)
+    (slice_get (map (λ op. abstract.of_values (text_operation op)) ops) n)
+    (λ w vs. looked no_value) w vs ≡ looked no_value)
+texts_take_at [] [] all n o is w vs = inr refl
+texts_take_at [] (op ∷ ops) all n o is w vs = elim all [ ]
+texts_take_at (p ∷ os) [] all n o is w vs = elim all [ ]
+texts_take_at (p ∷ os) (op ∷ ops) all zero o is w vs =
+    elim (text_takes op vs) [
+      | inl e ↦ inl (e ∙ all.0 ∙ ap (λ (q : machine.Operation). q.takes) (same_Some p o is))
+      | inr none ↦ inr none
+    ]
+texts_take_at (p ∷ os) (op ∷ ops) all (suc n) o is w vs =
+    texts_take_at os ops all.1 n o is w vs
+
 pub take_values : TakeTheirValues
 take_values zero o is = subst (Takes 0) (same_Some _ o is) (one_takes _)
 take_values (suc zero) o is = subst (Takes 1) (same_Some _ o is) (one_takes _)
@@ -68,9 +126,8 @@ take_values (suc (suc (suc (suc (suc zero))))) o is =
     subst (Takes 5) (same_Some _ o is) (two_take _)
 take_values (suc (suc (suc (suc (suc (suc zero)))))) o is =
     subst (Takes 6) (same_Some _ o is) (one_takes _)
-take_values (suc (suc (suc (suc (suc (suc (suc zero))))))) o is =
-    subst (Takes 7) (same_Some _ o is) (two_take _)
-take_values (suc (suc (suc (suc (suc (suc (suc (suc n)))))))) o is = absurd (none-some o is)
+take_values (suc (suc (suc (suc (suc (suc (suc n))))))) o is =
+    texts_take_at (drop 7 machine.operations) text_operations each_takes n o is
 
 -- ---- kinds of the machine's results
 
@@ -117,13 +174,73 @@ inherits_outcome : (h : Heap) (x y : Value) → is_outcome booleans (machine.inh
 inherits_outcome h x (value.Object a) = refl
 inherits_outcome h x (value.Primitive q) = refl
 
-digits_outcome : (h : Heap) (x y : Value) → is_outcome texts (machine.digits_of h x y) ≡ true
-digits_outcome h (value.Primitive (primitive.Number n))
-    (value.Primitive (primitive.Number (Whole (pos radix)))) =
-    cond_both (nat_le 2 radix && nat_le radix 36)
-    (Ok (primitive.Text (machine.radix_text radix n))) machine.refused
-    (λ o. is_outcome texts o ≡ true) (λ _. refl) (λ _. refl)
-digits_outcome h x y = refl
+-- of the kind of their class
+abbrev kind_of : TextOperation → ResultKind
+kind_of text.Digits = texts
+kind_of text.Size = numbers
+kind_of text.Unit = numbers
+kind_of text.Part = texts
+kind_of text.Character = texts
+kind_of text.IndexOf = numbers
+kind_of text.LastIndexOf = numbers
+kind_of text.Lower = texts
+kind_of text.Upper = texts
+kind_of text.ParseInt = numbers
+kind_of text.ParseFloat = numbers
+
+-- what has a class of texts is one, and what has a class of numbers
+of_texts : (q : Primitive) → IsTrue (has_primitive text_value q) → IsTrue (is_of_kind texts q)
+of_texts primitive.Undefined h = absurd (false≢true h)
+of_texts primitive.Null h = absurd (false≢true h)
+of_texts (primitive.Bool true) h = absurd (false≢true h)
+of_texts (primitive.Bool false) h = absurd (false≢true h)
+of_texts (primitive.Number NaN) h = absurd (false≢true h)
+of_texts (primitive.Number (Whole z)) h = absurd (false≢true h)
+of_texts (primitive.Text t) h = refl
+
+abbrev numbers_of : Bool → NumberPart → AbstractValue
+numbers_of nan part =
+    record no_value { flags = record no_flags { nan = nan }; number = part }
+
+of_numbers : (nan : Bool) (part : NumberPart) (q : Primitive)
+    → IsTrue (has_primitive (numbers_of nan part) q) → IsTrue (is_of_kind numbers q)
+of_numbers nan part primitive.Undefined h = absurd (false≢true h)
+of_numbers nan part primitive.Null h = absurd (false≢true h)
+of_numbers nan part (primitive.Bool true) h = absurd (false≢true h)
+of_numbers nan part (primitive.Bool false) h = absurd (false≢true h)
+of_numbers nan part (primitive.Number n) h = refl
+of_numbers nan part (primitive.Text t) h = absurd (false≢true h)
+
+of_class : (op : TextOperation) (q : Primitive) → IsTrue (has_primitive (class op) q)
+    → IsTrue (is_of_kind (kind_of op) q)
+of_class text.Digits q h = of_texts q h
+of_class text.Size q h = of_numbers false number_part.Index q h
+of_class text.Unit q h = of_numbers true number_part.Index q h
+of_class text.Part q h = of_texts q h
+of_class text.Character q h = of_texts q h
+of_class text.IndexOf q h = of_numbers false number_part.Whole q h
+of_class text.LastIndexOf q h = of_numbers false number_part.Whole q h
+of_class text.Lower q h = of_texts q h
+of_class text.Upper q h = of_texts q h
+of_class text.ParseInt q h = of_numbers true number_part.Whole q h
+of_class text.ParseFloat q h = of_numbers true number_part.Whole q h
+
+given_of_kind : (op : TextOperation) (qs : List Primitive) (q : Primitive)
+    → row op qs ≡ Ok q → IsTrue (is_of_kind (kind_of op) q)
+given_of_kind op qs q is = of_class op q ((is_row op).holds qs q is).1
+
+text_outcome : (op : TextOperation) → IsOutcome (kind_of op) (machine.on_primitives (row op))
+text_outcome op xs h = by (machine.primitives_in xs)
+  where
+    by_given : (qs : List Primitive) (g : IntrinsicOutcome) → row op qs ≡ g
+        → is_outcome (kind_of op) g ≡ true
+    by_given qs (Ok q) is = given_of_kind op qs q is
+    by_given qs (Err why) is = refl
+
+    by : (o : Option (List Primitive))
+        → is_outcome (kind_of op) (option_map_or (row op) o machine.refused) ≡ true
+    by None = refl
+    by (Some qs) = by_given qs (row op qs) refl
 
 abbrev OfRow : ResultKind → Computation → Type 0
 OfRow kind row =
@@ -138,6 +255,16 @@ of_row : (k kind : ResultKind) (r row : Computation) → Some k ≡ Some kind �
 of_row k kind r row is row_is each =
     subst (λ j. OfRow j row) (same_Some k kind is)
     (subst (OfRow k) (same_Some r row row_is) (by_outcome k r each))
+
+texts_of_kinds : (ops : List TextOperation) (n : ℕ) (kind : ResultKind) (given : Computation)
+    → slice_get (map kind_of ops) n ≡ Some kind
+    → slice_get (map (λ op. machine.on_primitives (row op)) ops) n ≡ Some given
+    → OfRow kind given
+texts_of_kinds [] n kind given is row_is = absurd (none-some kind is)
+texts_of_kinds (op ∷ ops) zero kind given is row_is =
+    of_row (kind_of op) kind _ given is row_is (text_outcome op)
+texts_of_kinds (op ∷ ops) (suc n) kind given is row_is =
+    texts_of_kinds ops n kind given is row_is
 
 pub results_are_of_kinds : ResultsAreOfKinds
 results_are_of_kinds zero kind row is row_is =
@@ -155,10 +282,8 @@ results_are_of_kinds (suc (suc (suc (suc (suc zero))))) kind row is row_is =
     of_row booleans kind _ row is row_is (two_outcome booleans _ inherits_outcome)
 results_are_of_kinds (suc (suc (suc (suc (suc (suc zero)))))) kind row is row_is =
     of_row booleans kind _ row is row_is (one_outcome booleans _ (λ h x. refl))
-results_are_of_kinds (suc (suc (suc (suc (suc (suc (suc zero))))))) kind row is row_is =
-    of_row texts kind _ row is row_is (two_outcome texts _ digits_outcome)
-results_are_of_kinds (suc (suc (suc (suc (suc (suc (suc (suc n)))))))) kind row is row_is =
-    absurd (none-some kind is)
+results_are_of_kinds (suc (suc (suc (suc (suc (suc (suc n))))))) kind row is row_is =
+    texts_of_kinds text_operations n kind row is row_is
 
 -- ---- kinds of what is given
 
@@ -168,6 +293,7 @@ IsOnly kind v = v ≡ part_of_kind kind v
 none_only : (kind : ResultKind) → IsOnly kind no_value
 none_only booleans = refl
 none_only texts = refl
+none_only numbers = refl
 none_only primitives = refl
 
 join_only : (kind : ResultKind) (u v : AbstractValue) → IsOnly kind u → IsOnly kind v
@@ -175,6 +301,7 @@ join_only : (kind : ResultKind) (u v : AbstractValue) → IsOnly kind u → IsOn
 join_only booleans u v d e =
     ap (λ x. join x v) d ∙ ap (join (part_of_kind booleans u)) e
 join_only texts u v d e = ap (λ x. join x v) d ∙ ap (join (part_of_kind texts u)) e
+join_only numbers u v d e = ap (λ x. join x v) d ∙ ap (join (part_of_kind numbers u)) e
 join_only primitives u v d e = ap (λ x. join x v) d ∙ ap (join (part_of_kind primitives u)) e
 
 value_if_only : (kind : ResultKind) (b : Bool) (v : AbstractValue) → IsOnly kind v
@@ -194,19 +321,77 @@ over_only kind f [] each = none_only kind
 over_only kind f (x ∷ xs) each =
     join_only kind (f x).value (over f xs).value (each x) (over_only kind f xs each)
 
-pairs_only : {A : Type 0} (kind : ResultKind) (f : A → A → Abstracted) (xs ys : List A)
-    → ((x y : A) → IsOnly kind (f x y).value) → IsOnly kind (over_pairs f xs ys).value
-pairs_only kind f xs ys each =
-    over_only kind (λ a. over (f a) ys) xs (λ a. over_only kind (f a) ys (each a))
+-- one primitive of the kind, and the classes
+primitive_only : (kind : ResultKind) (q : Primitive) → IsTrue (is_of_kind kind q)
+    → IsOnly kind (of_primitive q)
+primitive_only booleans (primitive.Bool true) h = refl
+primitive_only booleans (primitive.Bool false) h = refl
+primitive_only booleans primitive.Undefined h = absurd (false≢true h)
+primitive_only booleans primitive.Null h = absurd (false≢true h)
+primitive_only booleans (primitive.Number n) h = absurd (false≢true h)
+primitive_only booleans (primitive.Text t) h = absurd (false≢true h)
+primitive_only texts (primitive.Text t) h = refl
+primitive_only texts primitive.Undefined h = absurd (false≢true h)
+primitive_only texts primitive.Null h = absurd (false≢true h)
+primitive_only texts (primitive.Bool b) h = absurd (false≢true h)
+primitive_only texts (primitive.Number n) h = absurd (false≢true h)
+primitive_only numbers (primitive.Number NaN) h = refl
+primitive_only numbers (primitive.Number (Whole z)) h = refl
+primitive_only numbers primitive.Undefined h = absurd (false≢true h)
+primitive_only numbers primitive.Null h = absurd (false≢true h)
+primitive_only numbers (primitive.Bool b) h = absurd (false≢true h)
+primitive_only numbers (primitive.Text t) h = absurd (false≢true h)
+primitive_only primitives primitive.Undefined h = refl
+primitive_only primitives primitive.Null h = refl
+primitive_only primitives (primitive.Bool true) h = refl
+primitive_only primitives (primitive.Bool false) h = refl
+primitive_only primitives (primitive.Number NaN) h = refl
+primitive_only primitives (primitive.Number (Whole z)) h = refl
+primitive_only primitives (primitive.Text t) h = refl
 
-operands_only : (x y : Operand) → IsOnly texts (digits_of_operands x y).value
-operands_only (Some n) (Some (Whole (pos radix))) =
-    cond_both (is_radix radix) (gives (of_primitive (primitive.Text (machine.radix_text radix n))))
-    no_result (λ (r : Abstracted). IsOnly texts r.value) (λ _. refl) (λ _. refl)
-operands_only x y = refl
+class_only : (op : TextOperation) → IsOnly (kind_of op) (class op)
+class_only text.Digits = refl
+class_only text.Size = refl
+class_only text.Unit = refl
+class_only text.Part = refl
+class_only text.Character = refl
+class_only text.IndexOf = refl
+class_only text.LastIndexOf = refl
+class_only text.Lower = refl
+class_only text.Upper = refl
+class_only text.ParseInt = refl
+class_only text.ParseFloat = refl
 
-digits_only : (a b : Atom) → IsOnly texts (digits_atoms a b).value
-digits_only a b = pairs_only texts digits_of_operands (operand a) (operand b) operands_only
+choices_only : (kind : ResultKind) (f : List Taken → Abstracted)
+    → ((xs : List Taken) → IsOnly kind (f xs).value) → (xss : List (List Taken))
+    → IsOnly kind (over_operands f xss).value
+choices_only kind f each [] = each []
+choices_only kind f each (xs ∷ xss) =
+    over_only kind (λ x. over_operands (λ rest. f (x ∷ rest)) xss) xs
+    (λ x. choices_only kind (λ rest. f (x ∷ rest)) (λ rest. each (x ∷ rest)) xss)
+
+taken_only : (op : TextOperation) (xs : List Taken)
+    → IsOnly (kind_of op) (of_taken (row op) (class op) xs).value
+taken_only op xs = by (each_told xs)
+  where
+    by_given : (qs : List Primitive) (g : IntrinsicOutcome) → row op qs ≡ g
+        → IsOnly (kind_of op) (given_of g).value
+    by_given qs (Ok q) is = primitive_only (kind_of op) q (given_of_kind op qs q is)
+    by_given qs (Err why) is = none_only (kind_of op)
+
+    by : (o : Option (List Primitive)) → IsOnly (kind_of op)
+        (option_map_or (λ qs. given_of (row op qs)) o (gives (class op))).value
+    by None = class_only op
+    by (Some qs) = by_given qs (row op qs) refl
+
+text_only : (op : TextOperation) (vs : List AbstractValue)
+    → IsOnly (kind_of op) (text_operation op vs)
+text_only op vs = by (operands (sorts op) vs)
+  where
+    by : (o : Option (List (List Taken))) → IsOnly (kind_of op) (option_map_or
+        (λ xss. (over_operands (of_taken (row op) (class op)) xss).value) o no_value)
+    by None = none_only (kind_of op)
+    by (Some xss) = choices_only (kind_of op) _ (taken_only op) xss
 
 abbrev GivesOnly : ResultKind → AbstractOperation → Type 0
 GivesOnly kind f = (w : View) (vs : List AbstractValue) → IsOnly kind (f w vs).value
@@ -229,6 +414,17 @@ two_only kind f each w (v ∷ u ∷ n ∷ vs) = none_only kind
 abbrev OfOperation : ℕ → ResultKind → Type 0
 OfOperation which kind = GivesOnly kind (operation which)
 
+texts_give_only : (ops : List TextOperation) (n : ℕ) (kind : ResultKind)
+    → slice_get (map kind_of ops) n ≡ Some kind
+    → GivesOnly kind (option_map_or (λ (r : AbstractOperation). r)
+    (slice_get (map (λ op. abstract.of_values (text_operation op)) ops) n)
+    (λ w vs. looked no_value))
+texts_give_only [] n kind is = absurd (none-some kind is)
+texts_give_only (op ∷ ops) zero kind is =
+    subst (λ k. GivesOnly k (abstract.of_values (text_operation op)))
+    (same_Some (kind_of op) kind is) (λ w vs. text_only op vs)
+texts_give_only (op ∷ ops) (suc n) kind is = texts_give_only ops n kind is
+
 pub give_no_other_kind : GiveNoOtherKind
 give_no_other_kind zero kind is =
     subst (OfOperation 0) (same_Some booleans kind is) (one_only booleans _ (λ w v. refl))
@@ -249,11 +445,8 @@ give_no_other_kind (suc (suc (suc (suc (suc zero))))) kind is =
     (two_only booleans _ (λ w v u. value_if_only booleans (has_labels w u) _ refl))
 give_no_other_kind (suc (suc (suc (suc (suc (suc zero)))))) kind is =
     subst (OfOperation 6) (same_Some booleans kind is) (one_only booleans _ (λ w v. refl))
-give_no_other_kind (suc (suc (suc (suc (suc (suc (suc zero))))))) kind is =
-    subst (OfOperation 7) (same_Some texts kind is)
-    (two_only texts _ (λ w v u. pairs_only texts digits_atoms (atoms v) (atoms u) digits_only))
-give_no_other_kind (suc (suc (suc (suc (suc (suc (suc (suc n)))))))) kind is =
-    absurd (none-some kind is)
+give_no_other_kind (suc (suc (suc (suc (suc (suc (suc n))))))) kind is =
+    texts_give_only text_operations n kind is
 
 -- ---- constants
 
@@ -304,30 +497,108 @@ module _ (w : View) where
       (no_label w q (is_list_label w.program))
       ∙ ap (λ b. of_bools false (b || other)) (has_atom q)
 
--- the digits of two constants
-if_radix : (b : Bool) (q : Primitive) → (if b then gives (of_primitive q) else no_result).value
-    ≡ exactly_given (if b then Ok q else machine.refused)
-if_radix true q = refl
-if_radix false q = refl
+-- ---- of constants those on texts and numbers give what the machine's row gives
 
-operands_one : (h : Heap) (q r : Primitive)
-    → (over_pairs digits_of_operands (operand (exactly q)) (operand (exactly r))).value
-    ≡ exactly_given (machine.digits_of h (value.Primitive q) (value.Primitive r))
-operands_one h (primitive.Number n) (primitive.Number (Whole (pos radix))) =
-    ap (λ (x : Abstracted). x.value) (pair_one digits_of_operands (Some n)
-    (Some (Whole (pos radix))))
-    ∙ if_radix (nat_le 2 radix && nat_le radix 36)
-    (primitive.Text (machine.radix_text radix n))
-operands_one h q r = refl
+-- what is taken of a primitive value: itself, where it is of the sort
+taken_one : (s : Sort) (q : Primitive) → taken s (of_primitive q) ≡ taken_at s (exactly q)
+taken_one s q = ap (flat_map (taken_at s)) (atoms_one q) ∙ append-nil (taken_at s (exactly q))
 
-digits_one : (w : View) (h : Heap) (q r : Primitive)
-    → (abstract.digits_of w (of_primitive q) (of_primitive r)).value
-    ≡ exactly_given (machine.digits_of h (value.Primitive q) (value.Primitive r))
-digits_one w h q r =
-    ap (λ xs. (over_pairs digits_atoms xs (atoms (of_primitive r))).value) (atoms_one q)
-    ∙ ap (λ ys. (over_pairs digits_atoms (exactly q ∷ []) ys).value) (atoms_one r)
-    ∙ ap (λ (x : Abstracted). x.value) (pair_one digits_atoms (exactly q) (exactly r))
-    ∙ operands_one h q r
+sorted_or_not : (s : Sort) (q : Primitive) → (IsOf s q × (taken_at s (exactly q) ≡ Some q ∷ []))
+    ⊎ ((IsOf s q → ⊥) × (taken_at s (exactly q) ≡ []))
+sorted_or_not sort.Text (primitive.Text t) = inl (tt, refl)
+sorted_or_not sort.Text primitive.Undefined = inr ((λ o. o), refl)
+sorted_or_not sort.Text primitive.Null = inr ((λ o. o), refl)
+sorted_or_not sort.Text (primitive.Bool b) = inr ((λ o. o), refl)
+sorted_or_not sort.Text (primitive.Number n) = inr ((λ o. o), refl)
+sorted_or_not sort.Number (primitive.Number n) = inl (tt, refl)
+sorted_or_not sort.Number primitive.Undefined = inr ((λ o. o), refl)
+sorted_or_not sort.Number primitive.Null = inr ((λ o. o), refl)
+sorted_or_not sort.Number (primitive.Bool b) = inr ((λ o. o), refl)
+sorted_or_not sort.Number (primitive.Text t) = inr ((λ o. o), refl)
+
+-- where each is of its sort, what is taken is the one choice of them; and else there is none
+abbrev chosen : (List Taken → Abstracted) → List Sort → List Primitive → AbstractValue
+chosen f ss qs =
+    option_map_or (λ xss. (over_operands f xss).value) (operands ss (map of_primitive qs)) no_value
+
+-- .. with what is taken at one place before the others
+abbrev with_first : (List Taken → Abstracted) → List Taken → Option (List (List Taken))
+    → AbstractValue
+with_first f xs o =
+    option_map_or (λ xss. (over_operands f xss).value)
+    (option_map (λ (xss : List (List Taken)). xs ∷ xss) o) no_value
+
+chosen_one : (f : List Taken → Abstracted) (ss : List Sort) (qs : List Primitive)
+    → (AreOf ss qs × (chosen f ss qs ≡ (f (map Some qs)).value))
+    ⊎ ((AreOf ss qs → ⊥) × (chosen f ss qs ≡ no_value))
+chosen_one f [] [] = inl (tt, refl)
+chosen_one f [] (q ∷ qs) = inr ((λ o. o), refl)
+chosen_one f (s ∷ ss) [] = inr ((λ o. o), refl)
+chosen_one f (s ∷ ss) (q ∷ qs) =
+    elim (sorted_or_not s q) [
+      | inl fits ↦
+          elim (chosen_one (λ rest. f (Some q ∷ rest)) ss qs) [
+            | inl all ↦ inl ((fits.0, all.0), first fits.1 ∙ all.1)
+            | inr some ↦ inr ((λ o. some.0 o.1), first fits.1 ∙ some.1)
+          ]
+      | inr misfit ↦ inr ((λ o. misfit.0 o.0), none misfit.1)
+    ]
+  where
+    one_first : (o : Option (List (List Taken))) → with_first f (Some q ∷ []) o
+        ≡ option_map_or (λ xss. (over_operands (λ rest. f (Some q ∷ rest)) xss).value) o no_value
+    one_first None = refl
+    one_first (Some xss) = join_none (over_operands (λ rest. f (Some q ∷ rest)) xss).value
+
+    none_first : (o : Option (List (List Taken))) → with_first f [] o ≡ no_value
+    none_first None = refl
+    none_first (Some xss) = refl
+
+    first : taken_at s (exactly q) ≡ Some q ∷ []
+        → chosen f (s ∷ ss) (q ∷ qs) ≡ chosen (λ rest. f (Some q ∷ rest)) ss qs
+    first is =
+        ap (λ xs. with_first f xs (operands ss (map of_primitive qs))) (taken_one s q ∙ is)
+        ∙ one_first (operands ss (map of_primitive qs))
+
+    none : taken_at s (exactly q) ≡ [] → chosen f (s ∷ ss) (q ∷ qs) ≡ no_value
+    none is =
+        ap (λ xs. with_first f xs (operands ss (map of_primitive qs))) (taken_one s q ∙ is)
+        ∙ none_first (operands ss (map of_primitive qs))
+
+told_all : (qs : List Primitive) → each_told (map Some qs) ≡ Some qs
+told_all [] = refl
+told_all (q ∷ qs) = ap (option_map (λ ps. q ∷ ps)) (told_all qs)
+
+primitives_all : (qs : List Primitive) → machine.primitives_in (map value.Primitive qs) ≡ Some qs
+primitives_all [] = refl
+primitives_all (q ∷ qs) = ap (option_map (λ ps. q ∷ ps)) (primitives_all qs)
+
+given_exactly : (g : IntrinsicOutcome) → (given_of g).value ≡ exactly_given g
+given_exactly (Ok q) = refl
+given_exactly (Err why) = refl
+
+text_exact : (op : TextOperation) (h : Heap) (qs : List Primitive)
+    → text_operation op (map of_primitive qs)
+    ≡ exactly_given (machine.on_primitives (row op) (map value.Primitive qs) h)
+text_exact op h qs =
+    by (chosen_one (of_taken (row op) (class op)) (sorts op) qs)
+    ∙ sym (ap (λ o. exactly_given (option_map_or (row op) o machine.refused)) (primitives_all qs))
+  where
+    refuses : (g : IntrinsicOutcome) → row op qs ≡ g → (AreOf (sorts op) qs → ⊥)
+        → no_value ≡ exactly_given g
+    refuses (Ok q) is never = elim (never ((is_row op).holds qs q is).0) [ ]
+    refuses (Err why) is never = refl
+
+    by : (AreOf (sorts op) qs × (chosen (of_taken (row op) (class op)) (sorts op) qs
+        ≡ (of_taken (row op) (class op) (map Some qs)).value))
+        ⊎ ((AreOf (sorts op) qs → ⊥)
+        × (chosen (of_taken (row op) (class op)) (sorts op) qs ≡ no_value))
+        → text_operation op (map of_primitive qs) ≡ exactly_given (row op qs)
+    by (inl all) =
+        all.1
+        ∙ ap (λ o. (option_map_or (λ ps. given_of (row op ps)) o (gives (class op))).value)
+        (told_all qs)
+        ∙ given_exactly (row op qs)
+    by (inr none) = none.1 ∙ refuses (row op qs) refl none.0
 
 abbrev IsExactly : AbstractOperation → Computation → Type 0
 IsExactly f row =
@@ -369,9 +640,8 @@ are_exact (suc (suc (suc (suc (suc zero))))) row is =
     subst (OfNumber 5) (same_Some _ row is) (two_exact _ _ (λ w h q r. inherits_one w q r))
 are_exact (suc (suc (suc (suc (suc (suc zero)))))) row is =
     subst (OfNumber 6) (same_Some _ row is) (one_exact _ _ (λ w h q. elements_one w q))
-are_exact (suc (suc (suc (suc (suc (suc (suc zero))))))) row is =
-    subst (OfNumber 7) (same_Some _ row is) (two_exact _ _ (λ w h q r. digits_one w h q r))
-are_exact (suc (suc (suc (suc (suc (suc (suc (suc n)))))))) row is = absurd (none-some row is)
+are_exact (suc (suc (suc (suc (suc (suc (suc n))))))) row is =
+    text_operations_beside IsExactly (λ op w h qs. text_exact op h qs) n row is
 
 -- ---- one object
 

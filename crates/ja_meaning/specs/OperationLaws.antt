@@ -1,6 +1,6 @@
 -- What the abstract operations of the built-in functions come to beside those of the machine (ES3
--- 15.2.4, 15.3.4.3, 15.7.4.2, and the internal properties of 8.6.2): how many values they take, of
--- which kind their results are, and what they give of constants and of one object.
+-- 15.1.2, 15.2.4, 15.3.4.3, 15.5, 15.7.4.2, and the internal properties of 8.6.2): how many values
+-- they take, of which kind their results are, and what they give of constants and of one object.
 use Rattle.std.specs.Prelude.{◌≡◌, ◌⊎◌, ◌||◌, ℕ, Bool, true, false, List, [], ◌∷◌, map, length, Some, Ok, Err, IsTrue, slice_get}
 use Rattle.ja_base.specs.declared.ids.Label.{Label}
 use Rattle.ja_prim.specs.declared.primitive.Primitive.{Primitive}
@@ -11,7 +11,7 @@ use Rattle.ja_machine.specs.declared.machine.Heap.{Heap}
 use Rattle.ja_machine.specs.Intrinsics.{IntrinsicOutcome, Computation, class_name, rows}
 use Rattle.ja_machine.specs.Intrinsics as machine
 use Rattle.ja_machine.specs.Machine.{class_of_site}
-use Rattle.ja_abstract.specs.AbstractValue.{AbstractValue, AbstractProperty, no_value, of_primitive, of_label}
+use Rattle.ja_abstract.specs.AbstractValue.{AbstractValue, AbstractProperty, no_flags, no_value, of_primitive, of_label}
 use Rattle.ja_abstract.specs.Primitives.{of_bools, of_text_part}
 use Rattle.ja_abstract.specs.Operations.{operation, looked, is_list_label, text_keys_of}
 use Rattle.ja_abstract.specs.Made.{value_key}
@@ -32,17 +32,23 @@ TakeTheirValues =
 pub data ResultKind : Type 0 where
   booleans : ResultKind
   texts : ResultKind
+  numbers : ResultKind
   primitives : ResultKind
 
 -- by their numbers: whether a value is an object, its class, its [[Value]], whether it has an own
--- property, shows it, inherits, has elements, and the digits of a number
+-- property, shows it, inherits, has elements; the digits of a number; of texts the size, a unit, a
+-- part, a character, the first and the last place of another, small and great letters, and the
+-- numbers at their front
 abbrev pub kinds : List ResultKind
-kinds = booleans ∷ texts ∷ primitives ∷ booleans ∷ booleans ∷ booleans ∷ booleans ∷ texts ∷ []
+kinds =
+    booleans ∷ texts ∷ primitives ∷ booleans ∷ booleans ∷ booleans ∷ booleans ∷ texts
+    ∷ numbers ∷ numbers ∷ texts ∷ texts ∷ numbers ∷ numbers ∷ texts ∷ texts ∷ numbers ∷ numbers ∷ []
 
 -- what the machine's operation gives is of the kind
 abbrev pub is_of_kind : ResultKind → Primitive → Bool
 is_of_kind booleans (primitive.Bool b) = true
 is_of_kind texts (primitive.Text t) = true
+is_of_kind numbers (primitive.Number n) = true
 is_of_kind primitives q = true
 is_of_kind kind q = false
 
@@ -56,6 +62,10 @@ ResultsAreOfKinds =
 abbrev pub part_of_kind : ResultKind → AbstractValue → AbstractValue
 part_of_kind booleans v = of_bools v.flags.is_true v.flags.is_false
 part_of_kind texts v = of_text_part v.text
+part_of_kind numbers v = record no_value {
+  flags = record no_flags { nan = v.flags.nan };
+  number = v.number;
+}
 part_of_kind primitives v = primitives_of v
 
 -- an abstract operation gives no other part than those of the kind

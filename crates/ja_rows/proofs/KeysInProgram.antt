@@ -22,13 +22,14 @@ use Rattle.ja_abstract.specs.AbstractState.{AbstractState, is_key, same_key}
 use Rattle.ja_abstract.specs.InProgram.{AreKeys}
 use Rattle.ja_abstract.specs.Keys.{named, text_keys}
 use Rattle.ja_abstract.specs.Made.{length_key, value_key}
-use Rattle.ja_abstract.specs.Operations.{is_object, class_of, value_of, has_own, is_enumerable, inherits, has_elements, digits_of, Looked, AbstractOperation, looked, of_one, of_two, operation, operations, text_keys_of}
+use Rattle.ja_abstract.specs.Operations.{is_object, class_of, value_of, has_own, is_enumerable, inherits, has_elements, Looked, AbstractOperation, looked, of_one, of_two, operation, operations, text_keys_of}
 use Rattle.ja_abstract.specs.Primitives.{of_text_part}
 use Rattle.ja_abstract.specs.Reading.{View, no_demands, both, demands_if, demands_at, demands_of_own, demands_of_get, demands_of_found, demands_of_ancestors, demands_of_shown, prototype_walk, scope_walk, ancestors, get, may_be_absent, may_lack, one_label}
 use Rattle.ja_abstract.specs.Resolved.{Demands, demands_of, prototype, outer}
 use Rattle.ja_abstract.specs.Values.{has_labels}
 use Rattle.ja_abstract.specs.Writes.{demands_of_put, demands_of_puts, demands_of_delete}
 use Rattle.ja_abstract.proofs.AtKeys.{is_key_of}
+use Rattle.ja_abstract.proofs.TextOperations.{all_text_operations}
 use Rattle.ja_abstract.proofs.Keys.{same_key-true}
 use Rattle.ja_abstract.proofs.WritesInProgram.{keys_of_value_are, text_keys_are}
 use Rattle.ja_rows.specs.Out.{Point, at, name_keys}
@@ -182,7 +183,7 @@ module _ (w : View) where
                 (
                   one_at has_elements
                       (λ v. none_at),
-                  (two_at digits_of (λ v u. none_at), tt),
+                  all_text_operations IsAtKeys (λ op vs. none_at),
                 ),
               ),
             ),

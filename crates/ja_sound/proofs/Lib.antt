@@ -10,7 +10,6 @@ pub mod Constructed
 pub mod ControlNodes
 pub mod Covering
 pub mod Defining
-pub mod DigitRows
 pub mod Elements
 pub mod Entered
 pub mod EnteringNodes

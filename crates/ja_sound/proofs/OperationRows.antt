@@ -1,27 +1,22 @@
--- The built-in operations: each abstract row covers its concrete one. Digits are a premise.
-use Rattle.std.specs.Prelude.{◌≡◌, ◌&&◌, ◌||◌, not, ℕ, zero, suc, Bool, true, false, IsTrue, List, [], ◌∷◌, map, Option, Some, None, is_some, Ok}
-use Rattle.std.specs.List.{AllByRecursion}
+-- The operations of the built-in functions that read the heap: each abstract one covers the
+-- machine's.
+use Rattle.std.specs.Prelude.{◌≡◌, ◌&&◌, ◌||◌, not, ℕ, Bool, true, false, IsTrue, List, Option, Some, None, is_some, Ok}
 use Rattle.std.specs.Option.{option_map, option_map_or, option_and_then}
 use Rattle.std.proofs.Common.{refl, sym, subst, ap, ◌∙◌}
 use Rattle.std.proofs.lemmas.Bool.{false≢true, cond-true, or_left, or_right, and_from, not-true, not-false}
-use Rattle.std.proofs.lemmas.Option.{none-some, same_Some}
 use Rattle.ja_base.specs.declared.ids.Label.{Label}
-use Rattle.ja_base.specs.declared.ids.Reg.{Reg}
 use Rattle.ja_base.proofs.Options.{some_value}
 use Rattle.ja_prim.specs.declared.primitive.Primitive.{Primitive}
 use Rattle.ja_prim.specs.declared.primitive.Primitive.TheVariants as primitive
 use Rattle.ja_graph.specs.declared.program.Class.{Class}
 use Rattle.ja_graph.specs.declared.program.Program.{Program}
-use Rattle.ja_graph.specs.WellFormed.{IsWellFormed, IsRegister}
+use Rattle.ja_graph.specs.WellFormed.{IsWellFormed}
 use Rattle.ja_machine.specs.declared.machine.Addr.{Addr}
 use Rattle.ja_machine.specs.declared.machine.Value.{Value}
 use Rattle.ja_machine.specs.declared.machine.Value.TheVariants as value
 use Rattle.ja_machine.specs.declared.machine.Property.{Property}
 use Rattle.ja_machine.specs.declared.machine.Object.{Object}
 use Rattle.ja_machine.specs.declared.machine.Heap.{Heap}
-use Rattle.ja_machine.specs.declared.machine.Frame.{Frame}
-use Rattle.ja_machine.specs.declared.machine.Conf.{Conf}
-use Rattle.ja_machine.specs.Frames.{register_of}
 use Rattle.ja_machine.specs.Heap.{object_at, class_at, own}
 use Rattle.ja_machine.specs.Intrinsics as machine
 use Rattle.ja_machine.specs.Machine.{class_of_site}
@@ -57,13 +52,7 @@ use Rattle.ja_meaning.proofs.Ancestors.{inherits-known}
 use Rattle.ja_meaning.proofs.Moments.{Reads}
 use Rattle.ja_meaning.proofs.Gets.{own_known, label-among, some_label-object}
 use Rattle.ja_meaning.proofs.KeyTexts.{key-among}
-use Rattle.ja_rows.specs.Out.{Point}
-use Rattle.ja_rows.specs.Out as transfer
-use Rattle.ja_sound.specs.Statements.{IsAt}
-use Rattle.ja_sound.proofs.CallNodes.{RowCovers}
 use Rattle.ja_sound.proofs.ControlNodes.{primitives-have}
-use Rattle.ja_sound.proofs.PropertyNodes.{rd, has, of_heap}
-use Rattle.ja_sound.proofs.Assembled.{RowsCover}
 
 abbrev pub ok : Primitive → machine.IntrinsicOutcome
 ok q = Ok q
@@ -330,87 +319,3 @@ module _ (e c : Heap) (w : View) (r : Reads e c w) (good : IsWellFormed w.progra
   has_elements_covers v (value.Primitive z) there told filled q is =
       subst (λ z. IsTrue (has_primitive (abstract.has_elements w v).value z))
       (same_Ok (primitive.Bool false) q is) (or_left _ _ (has_atoms-from v z told))
-
--- digits: its operands are primitives
-abbrev pub DigitsCover : Type 0
-DigitsCover =
-    (c : Heap) (w : View) (v n : AbstractValue) (u y : Value) → IsTrue (has_value c v u)
-    → IsTrue (has_value c n y) → (q : Primitive) → machine.digits_of c u y ≡ Ok q
-    → IsTrue (has_primitive (abstract.digits_of w v n).value q)
-
--- ---- by their numbers, and registers
-
-module _ (digits : DigitsCover) (e : Heap) (c : Conf) (top : Frame) (below : List Frame) (x : Point)
-    (w : View) (at : IsAt w.program e c top below x w) (good : IsWellFormed w.program) where
-  abbrev reads : Reads e c.heap w
-  reads = rd e c top below x w at good
-
-  abbrev Regs : List Reg → Type 0
-  Regs =
-      AllByRecursion (IsRegister (Rattle.ja_sound.proofs.AtNode.fr e c top below x w at
-      good).function)
-
-  one_by : (f : View → AbstractValue → Looked) (g : Heap → Value → machine.IntrinsicOutcome)
-      → CoversOne e c.heap w reads good f g → (args : List Reg) (q : Primitive) → Regs args
-      → IsFilled w.entries (abstract.of_one f w (map (transfer.at w) args)).demands
-      → machine.of_one g (map (register_of top) args) c.heap ≡ Ok q
-      → IsTrue (has_primitive (abstract.of_one f w (map (transfer.at w) args)).value q)
-  one_by f g covers [] q rs filled is = cc
-  one_by f g covers (a ∷ []) q rs filled is =
-      covers (transfer.at w a) (register_of top a) (of_heap e c top below x w at good a rs.0)
-      (has e c top below x w at good a rs.0) filled q is
-  one_by f g covers (a ∷ b ∷ bs) q rs filled is = cc
-
-  two_by : (f : View → AbstractValue → AbstractValue → Looked)
-      (g : Heap → Value → Value → machine.IntrinsicOutcome) → CoversTwo e c.heap w reads good f g
-      → (args : List Reg) (q : Primitive) → Regs args
-      → IsFilled w.entries (abstract.of_two f w (map (transfer.at w) args)).demands
-      → machine.of_two g (map (register_of top) args) c.heap ≡ Ok q
-      → IsTrue (has_primitive (abstract.of_two f w (map (transfer.at w) args)).value q)
-  two_by f g covers [] q rs filled is = cc
-  two_by f g covers (a ∷ []) q rs filled is = cc
-  two_by f g covers (a ∷ b ∷ []) q rs filled is =
-      covers (transfer.at w a) (transfer.at w b) (register_of top a) (register_of top b)
-      (of_heap e c top below x w at good a rs.0) (of_heap e c top below x w at good b rs.1.0)
-      (has e c top below x w at good a rs.0) (has e c top below x w at good b rs.1.0) filled q is
-  two_by f g covers (a ∷ b ∷ d ∷ ds) q rs filled is = cc
-
-  -- the row is that of the number
-  row_is : (r s : machine.Computation) (args : List Reg) (q : Primitive) → (Some r) ≡ Some s
-      → s (map (register_of top) args) c.heap ≡ Ok q → r (map (register_of top) args) c.heap ≡ Ok q
-  row_is r s args q same is =
-      subst (λ z. z (map (register_of top) args) c.heap ≡ Ok q) (sym (same_Some r s same)) is
-
-  pub row_covers : (which : ℕ) → RowCovers e c top below x w at good which
-  row_covers zero args row q rs filled o_is is =
-      one_by abstract.is_object (λ h v. machine.tells (values.is_object v))
-      (is_object_covers e c.heap w reads good) args q rs filled (row_is _ row args q o_is is)
-  row_covers (suc zero) args row q rs filled o_is is =
-      one_by abstract.class_of machine.class_of (class_covers e c.heap w reads good) args q rs
-      filled (row_is _ row args q o_is is)
-  row_covers (suc (suc zero)) args row q rs filled o_is is =
-      one_by abstract.value_of machine.value_of (value_covers e c.heap w reads good) args q rs
-      filled (row_is _ row args q o_is is)
-  row_covers (suc (suc (suc zero))) args row q rs filled o_is is =
-      two_by abstract.has_own (machine.of_own is_some)
-      (has_own_covers e c.heap w reads good) args q rs filled (row_is _ row args q o_is is)
-  row_covers (suc (suc (suc (suc zero)))) args row q rs filled o_is is =
-      two_by abstract.is_enumerable (machine.of_own machine.is_shown)
-      (is_enumerable_covers e c.heap w reads good) args q rs filled (row_is _ row args q o_is is)
-  row_covers (suc (suc (suc (suc (suc zero))))) args row q rs filled o_is is =
-      two_by abstract.inherits machine.inherits (inherits_covers e c.heap w reads good) args q rs
-      filled (row_is _ row args q o_is is)
-  row_covers (suc (suc (suc (suc (suc (suc zero)))))) args row q rs filled o_is is =
-      one_by abstract.has_elements (λ h v. machine.tells (machine.is_list h v))
-      (has_elements_covers e c.heap w reads good) args q rs filled
-      (row_is _ row args q o_is is)
-  row_covers (suc (suc (suc (suc (suc (suc (suc zero))))))) args row q rs filled o_is is =
-      two_by abstract.digits_of machine.digits_of
-      (λ v n u y u_there y_there told y_told f z z_is. digits c.heap w v n u y told y_told z z_is)
-      args q rs filled (row_is _ row args q o_is is)
-  row_covers (suc (suc (suc (suc (suc (suc (suc (suc n)))))))) args row q rs filled o_is is =
-      absurd (none-some row o_is)
-
-pub rows_cover : DigitsCover → RowsCover
-rows_cover digits e c top below x w at good which =
-    row_covers digits e c top below x w at good which

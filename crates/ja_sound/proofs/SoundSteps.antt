@@ -3,8 +3,7 @@ use Rattle.ja_graph.specs.declared.program.Program.{Program}
 use Rattle.ja_graph.specs.WellFormed.{IsWellFormed}
 use Rattle.ja_sound.specs.Statements.{SoundWithin}
 use Rattle.ja_sound.proofs.Assembled.{sound_within}
-use Rattle.ja_sound.proofs.DigitRows.{digits_cover}
-use Rattle.ja_sound.proofs.OperationRows.{rows_cover}
+use Rattle.ja_sound.proofs.OperationLists.{rows_cover}
 
 pub steps_sound : (p : Program) → IsWellFormed p → SoundWithin p
-steps_sound p good = sound_within (rows_cover digits_cover) p good
+steps_sound p good = sound_within rows_cover p good
