@@ -413,7 +413,7 @@ const TEXTS_AND_TRUTHS: [Row; 43] = [
         "end uncaught \"null1true\"\n",
     ),
     (b"throw String({});", "end uncaught \"[object Object]\"\n"),
-    (b"throw String([]);", "end scope Row 0:"),
+    (b"throw String([]);", "end uncaught \"\"\n"),
     (b"throw String(isNaN);", "end scope Row 0:"),
     (
         b"throw typeof new String(\"a\");",
@@ -603,10 +603,10 @@ const NUMBERS: [Row; 51] = [
 ];
 
 /// Default values, the global object, and what the tool doesn't have.
-const OTHERS: [Row; 33] = [
+const OTHERS: [Row; 28] = [
     // Default values: 8.6.2.6
     (b"throw {} + 1;", "end uncaught \"[object Object]1\"\n"),
-    (b"[] + 1;", "end scope Row 0:"),
+    (b"throw [] + 1;", "end uncaught \"1\"\n"),
     (
         b"throw {valueOf: function () { return 2; }} * 3;",
         "end uncaught 6\n",
@@ -661,12 +661,7 @@ const OTHERS: [Row; 33] = [
     ),
     // The global object, and what the tool doesn't have: 15.1
     (b"Date;", "end scope Row 1:1\n"),
-    (b"parseInt(\"1\");", "end scope Row 1:1\n"),
-    (b"Array(3);", "end scope Row 1:1\n"),
-    (b"Math.abs(1);", "end scope Row 1:5\n"),
-    (b"[].push(1);", "end scope Row 1:3\n"),
-    (b"\"a\".charAt(0);", "end scope Row 1:4\n"),
-    (b"String.fromCharCode(65);", "end scope Row 1:7\n"),
+    (b"Infinity;", "end scope Row 1:1\n"),
     (b"throw this.isNaN === isNaN;", "end uncaught true\n"),
     (b"for (var k in this) throw k;", "end uncaught \"k\"\n"),
     (b"isNaN = 1; throw isNaN;", "end uncaught 1\n"),

@@ -10,7 +10,7 @@ use std::alloc::Global;
 
 /// Texts that are run with the devices of the program, each with its status and its transcript or a
 /// part of it.
-const RUNS: [(&[u8], Status, &str); 21] = [
+const RUNS: [(&[u8], Status, &str); 25] = [
     (
         b"function f() { try { throw 1; } finally { return 2; } } print(f());",
         Status::Done,
@@ -120,15 +120,36 @@ const RUNS: [(&[u8], Status, &str); 21] = [
         Status::Uncaught,
         "call input() = true\ncall number() = 2\ncall input() = false\nend uncaught 3\n",
     ),
+    // functions of arrays, of texts and of numbers
+    (
+        b"print([3, 1].concat([2]).join(\"-\"), [1, 2, 3].slice(1).length);",
+        Status::Done,
+        "tajs run 1\ncall print(\"3-1-2\", 2) = undefined\nend normal\n",
+    ),
+    (
+        b"print(parseInt(\"0x1F\"), parseInt(\"12px\"), parseInt(\"z\", 36), parseFloat(\"4.0e2z\"));",
+        Status::Done,
+        "tajs run 1\ncall print(31, 12, 35, 400) = undefined\nend normal\n",
+    ),
+    (
+        b"print(parseInt(\"12\", 0), parseInt(\"12\", 1), parseInt(\"12\", 37));",
+        Status::Done,
+        "tajs run 1\ncall print(12, NaN, NaN) = undefined\nend normal\n",
+    ),
+    (
+        b"print(\"ab\".toUpperCase(), \"a,b\".split(\",\").length, (255).toString(16));",
+        Status::Done,
+        "tajs run 1\ncall print(\"AB\", 2, \"ff\") = undefined\nend normal\n",
+    ),
 ];
 
 /// The calls of a usual program, with `number` before it to give 5.
 const ACCOUNTS: &str = "number(); number(); number(); number();
-function Account(owner) { this.owner = owner; this.total = 0; this.log = {length: 0}; }
+function Account(owner) { this.owner = owner; this.total = 0; this.log = []; }
 Account.prototype.add = function (n) {
   if (typeof n != \"number\") { throw new TypeError(\"amount\"); }
   this.total = this.total + n;
-  this.log[this.log.length++] = n;
+  this.log.push(n);
   return this;
 };
 function counter() { var k = 0; return function () { k = k + 1; return k; }; }

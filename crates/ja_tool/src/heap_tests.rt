@@ -31,14 +31,14 @@ const RECENCY: [Row; 4] = [
     ),
 ];
 
-/// What states keep of objects, the first site of a text is s43: a write and a deletion at all
+/// What states keep of objects, the first site of a text is s74: a write and a deletion at all
 /// objects of a label, at the newest one; elements and lengths of arrays, `in`, `instanceof`, the
 /// names that `for`-`in` shows, and what `catch` binds.
 const STATES: [Row; 9] = [
     (
         b"c = null; while (b = {}) { c && (c.p = 1); c = b; }",
         Status::Warned,
-        "\ns43.old p absent|entry|1 ---\n",
+        "\ns74.old p absent|entry|1 ---\n",
     ),
     (
         b"q = Math; q.p = 1; for (;;) { delete q.p; q = {p: 1}; }",
@@ -48,12 +48,12 @@ const STATES: [Row; 9] = [
     (
         b"q = Math; q.p = 1; for (;;) { delete q.p; q = {p: 1}; }",
         Status::Done,
-        "\ns55.new p 1 ---\n",
+        "\ns86.new p 1 ---\n",
     ),
     (
         b"a = []; a[\"5\"] = 1;",
         Status::Done,
-        "\ns43.new length 6 -ED\n",
+        "\ns74.new length 6 -ED\n",
     ),
     (
         b"a = [1]; a.length = 0; a[0];",
@@ -78,7 +78,7 @@ const STATES: [Row; 9] = [
     (
         b"try { throw 1; } catch (e) { e = 2; e; } typeof e;",
         Status::Done,
-        "\ns43.new e 2 --D\n",
+        "\ns74.new e 2 --D\n",
     ),
 ];
 

@@ -8,6 +8,8 @@ mod device_tests;
 #[cfg(test)]
 mod heap_tests;
 #[cfg(test)]
+mod library_tests;
+#[cfg(test)]
 mod object_tests;
 #[cfg(test)]
 mod run_tests;

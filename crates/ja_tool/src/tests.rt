@@ -308,7 +308,7 @@ const RUNS: [(&[u8], Status, &str); 90] = [
         Status::Uncaught,
         "end uncaught \"objectobjectstring\"\n",
     ),
-    (b"typeof parseInt;", Status::Left, "end scope Row 1:8\n"),
+    (b"typeof escape;", Status::Left, "end scope Row 1:8\n"),
     (
         b"var x = 1; y = 2; throw \"\" + delete x + delete y + delete z;",
         Status::Uncaught,
