@@ -1,14 +1,10 @@
-function Cart() {
-  this.prices = [];
-  this.count = 0;
-}
+function Cart() { this.prices = []; }
 Cart.prototype.add = function (price) {
-  this.prices[this.count] = price;
-  this.count = this.count + 1;
+  this.prices.push(price);
 };
 Cart.prototype.total = function () {
   var sum = 0;
-  for (var i = 0; i < this.count; i++) {
+  for (var i = 0; i < this.prices.length; i++) {
     sum = sum + this.prices[i];
   }
   return sum;
