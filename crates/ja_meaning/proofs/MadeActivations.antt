@@ -422,7 +422,9 @@ module _ (p : Program) (good : IsWellFormed p) (now : Heap) (known : IsHeap p no
   pub arguments_made : IsMade p now o (arguments_own p f a)
   arguments_made (internal slot.Prototype) =
       first_has p good now known builtins.OBJECT_PROTOTYPE
-      (let (info, info_is, class_is, fits_) = good.builtins builtins.OBJECT_PROTOTYPE.0 class.Object refl in fits_)
+      (let (info, info_is, class_is, fits_) =
+      good.builtins builtins.OBJECT_PROTOTYPE.0 class.Object refl in
+      fits_)
   arguments_made (internal slot.Outer) = refl
   arguments_made (internal slot.Scope) = refl
   arguments_made (internal slot.Value) = refl

@@ -273,7 +273,8 @@ module _ (p : Program) (good : IsWellFormed p) (now : Heap) where
         (function_object (parameters_of p function) chain proto)
         (function_own p function chains proto_label)
     function_made function chain proto chains l has is (internal slot.Prototype) =
-        first_has builtins.FUNCTION_PROTOTYPE (fits builtins.FUNCTION_PROTOTYPE.0 class.Function refl)
+        first_has builtins.FUNCTION_PROTOTYPE
+        (fits builtins.FUNCTION_PROTOTYPE.0 class.Function refl)
     function_made function chain proto chains l has is (internal slot.Outer) =
         past_text slot.Outer (codes "prototype") _ []
         (object_content (function_object (parameters_of p function) chain proto)

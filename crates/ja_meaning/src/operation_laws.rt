@@ -17,8 +17,8 @@ pub fn abstract_operations_are_listed()
     ensures take { TakeTheirValues }
 {}
 
-/// The results of each operation are booleans, texts, or any primitives, and the abstract operation
-/// gives no other part than those.
+/// The results of each operation are booleans, texts, numbers, or any primitives, and the abstract
+/// operation gives no other part than those.
 pub fn operations_keep_their_kinds()
     ensures results { ResultsAreOfKinds }
     ensures given { GiveNoOtherKind }

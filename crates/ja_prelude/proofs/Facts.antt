@@ -1,7 +1,8 @@
 -- What the texts of the built-in functions come to, computed.
-use Rattle.std.proofs.Common.{◌≡◌, ◌≤◌, ◌==◌, ℕ, true, Ok, List, [], ◌∷◌, ◌++◌, map, length, None, refl, ap, sym, subst, ◌∙◌, arith}
+use Rattle.std.proofs.Common.{Bool, ◌≡◌, ◌≤◌, ◌==◌, ℕ, true, Ok, List, [], ◌∷◌, ◌++◌, map, length, None, refl, ap, sym, subst, ◌∙◌, arith}
 use Rattle.std.specs.List.{AllByRecursion, list_all, slice_get, sum_by, zip}
 use lib.Chars.{codes}
+use Rattle.ja_base.specs.declared.ids.ScopeKind.{ScopeKind}
 use Rattle.ja_base.specs.declared.ids.ScopeKind.TheVariants.{CodeMaker, Radix, Range}
 use Rattle.ja_grammar.specs.Input.{Tokens, strict, Outcome, Done, Refused}
 use Rattle.ja_grammar.specs.code.Answering.{Answers}
@@ -21,7 +22,7 @@ use Rattle.ja_prelude.specs.Reading.{numbered, is_read, statements_in, is_text, 
 use Rattle.ja_prelude.specs.Prelude.{prelude_statements, prelude_paths, prelude_names}
 use Rattle.ja_prelude.specs.Prelude.{prelude_bodies, parameter_counts, own_names, stops, stopping_operations, warned_nodes, warned_told, by_path}
 use Rattle.ja_prelude.specs.Table.{Called, function_paths, lengths, parameters_told}
-use Rattle.ja_prelude.specs.Uses.{uses, uses_told}
+use Rattle.ja_prelude.specs.Uses.{Use, uses, uses_told}
 use Rattle.ja_prelude.proofs.Allowed.{are_plain, all_allowed, all_alone}
 use Rattle.ja_prelude.proofs.Evaluating.{reading, listing}
 use Rattle.ja_prelude.proofs.Readings.{computing, computing_is, functions_by, names_by}
@@ -92,9 +93,46 @@ names_counted = ap length names_are
 
 -- ---- nodes
 
-plain : are_plain (rows_by computing) ≡ true
+-- All that is told of the rows, computed in one go: so the texts are read and listed once.
+abbrev Told : Type 0
+Told = Bool × ℕ × List (List ℕ × ScopeKind) × List (List ℕ × List ℕ) × List (List ℕ × ℕ)
+    × List (List ℕ × Use) × List ℕ
+
+abbrev told_of : List Row → Told
+told_of rows = (
+  are_plain rows,
+  sum_by size_of_row rows,
+  by_path_of stops prelude_paths rows,
+  by_path_of stopping_operations prelude_paths rows,
+  by_path_of warned_nodes prelude_paths rows,
+  by_path_of uses prelude_paths rows,
+  map (λ (x : List ℕ × Row). x.1.parameters) (zip prelude_paths rows),
+)
+
+abbrev the_told : Told
+the_told = (
+  true,
+  3945,
+  (codes "Function", CodeMaker) ∷ (codes "Function", CodeMaker)
+      ∷ (codes "Number.prototype.toString", Radix) ∷ (codes "Math.max", Range)
+      ∷ (codes "Math.min", Range) ∷ [],
+  (codes "parseInt", codes "$parse_int") ∷ (codes "parseFloat", codes "$parse_float")
+      ∷ (codes "String.prototype.toLowerCase", codes "$lower")
+      ∷ (codes "String.prototype.toUpperCase", codes "$upper") ∷ [],
+  warned_told,
+  uses_told,
+  0 ∷ 1 ∷ 1 ∷ 1 ∷ 1 ∷ 1 ∷ 1 ∷ 1 ∷ 1 ∷ 1 ∷ 1 ∷ 1 ∷ 1 ∷ 1 ∷ 1 ∷ 1 ∷ 1 ∷ 1 ∷ 1 ∷ 1 ∷ 1 ∷ 1 ∷ 1 ∷ 1
+      ∷ 1 ∷ 1 ∷ 1 ∷ 2 ∷ 1 ∷ 1 ∷ 1 ∷ 0 ∷ 0 ∷ 1 ∷ 1 ∷ 1 ∷ 2 ∷ 1 ∷ 0 ∷ 2 ∷ 1 ∷ 0 ∷ 1 ∷ 0 ∷ 0 ∷ 2 ∷ 3
+      ∷ 1 ∷ 1 ∷ 0 ∷ 0 ∷ 1 ∷ 1 ∷ 1 ∷ 2 ∷ 2 ∷ 2 ∷ 2 ∷ 2 ∷ 0 ∷ 0 ∷ 0 ∷ 0 ∷ 1 ∷ 0 ∷ 0 ∷ 1 ∷ 1 ∷ 1 ∷ 1
+      ∷ 2 ∷ 2 ∷ 2 ∷ 0 ∷ 0 ∷ [],
+)
+
+computed : told_of (rows_by computing) ≡ the_told
 unfolding reading listing
-plain = refl
+computed = refl
+
+plain : are_plain (rows_by computing) ≡ true
+plain = ap (λ (t : Told). t.0) computed
 
 pub nodes_are_allowed : lower.AreAllowed bodies
 nodes_are_allowed =
@@ -106,8 +144,7 @@ nodes_stand_alone =
     all_alone bodies (subst (λ rows. are_plain rows ≡ true) (sym rows_computed) plain)
 
 sized : sum_by size_of_row (rows_by computing) ≡ 3945
-unfolding reading listing
-sized = refl
+sized = ap (λ (t : Told). t.1) computed
 
 pub nodes_are_few : prelude_size_of builtin_names prelude_statements ≤ 4096
 unfolding prelude_size_of
@@ -116,8 +153,7 @@ nodes_are_few = omega (arith, size_computed ∙ sized)
 stopping : by_path_of stops prelude_paths (rows_by computing) ≡ (codes "Function", CodeMaker)
     ∷ (codes "Function", CodeMaker) ∷ (codes "Number.prototype.toString", Radix)
     ∷ (codes "Math.max", Range) ∷ (codes "Math.min", Range) ∷ []
-unfolding reading listing
-stopping = refl
+stopping = ap (λ (t : Told). t.2) computed
 
 pub stops_are : by_path stops prelude_bodies ≡ (codes "Function", CodeMaker)
     ∷ (codes "Function", CodeMaker) ∷ (codes "Number.prototype.toString", Radix)
@@ -128,8 +164,7 @@ stopping_operations_in : by_path_of stopping_operations prelude_paths (rows_by c
     ≡ (codes "parseInt", codes "$parse_int") ∷ (codes "parseFloat", codes "$parse_float")
     ∷ (codes "String.prototype.toLowerCase", codes "$lower")
     ∷ (codes "String.prototype.toUpperCase", codes "$upper") ∷ []
-unfolding reading listing
-stopping_operations_in = refl
+stopping_operations_in = ap (λ (t : Told). t.3) computed
 
 pub stopping_operations_are : by_path stopping_operations prelude_bodies
     ≡ (codes "parseInt", codes "$parse_int") ∷ (codes "parseFloat", codes "$parse_float")
@@ -138,15 +173,13 @@ pub stopping_operations_are : by_path stopping_operations prelude_bodies
 stopping_operations_are = by_path_computed stopping_operations ∙ stopping_operations_in
 
 warned_in : by_path_of warned_nodes prelude_paths (rows_by computing) ≡ warned_told
-unfolding reading listing
-warned_in = refl
+warned_in = ap (λ (t : Told). t.4) computed
 
 pub warned_nodes_are : by_path warned_nodes prelude_bodies ≡ warned_told
 warned_nodes_are = by_path_computed warned_nodes ∙ warned_in
 
 using : by_path_of uses prelude_paths (rows_by computing) ≡ uses_told
-unfolding reading listing
-using = refl
+using = ap (λ (t : Told). t.5) computed
 
 pub uses_are : by_path uses prelude_bodies ≡ uses_told
 uses_are = by_path_computed uses ∙ using
@@ -156,8 +189,7 @@ parametrised : map (λ (x : List ℕ × Row). x.1.parameters) (zip prelude_paths
     ∷ 1 ∷ 1 ∷ 1 ∷ 1 ∷ 2 ∷ 1 ∷ 1 ∷ 1 ∷ 0 ∷ 0 ∷ 1 ∷ 1 ∷ 1 ∷ 2 ∷ 1 ∷ 0 ∷ 2 ∷ 1 ∷ 0 ∷ 1 ∷ 0 ∷ 0 ∷ 2
     ∷ 3 ∷ 1 ∷ 1 ∷ 0 ∷ 0 ∷ 1 ∷ 1 ∷ 1 ∷ 2 ∷ 2 ∷ 2 ∷ 2 ∷ 2 ∷ 0 ∷ 0 ∷ 0 ∷ 0 ∷ 1 ∷ 0 ∷ 0 ∷ 1 ∷ 1 ∷ 1
     ∷ 1 ∷ 2 ∷ 2 ∷ 2 ∷ 0 ∷ 0 ∷ []
-unfolding reading listing
-parametrised = refl
+parametrised = ap (λ (t : Told). t.6) computed
 
 parameters_are : parameter_counts ≡ 0 ∷ 1 ∷ 1 ∷ 1 ∷ 1 ∷ 1 ∷ 1 ∷ 1 ∷ 1 ∷ 1 ∷ 1 ∷ 1 ∷ 1 ∷ 1 ∷ 1 ∷ 1
     ∷ 1 ∷ 1 ∷ 1 ∷ 1 ∷ 1 ∷ 1 ∷ 1 ∷ 1 ∷ 1 ∷ 1 ∷ 1 ∷ 2 ∷ 1 ∷ 1 ∷ 1 ∷ 0 ∷ 0 ∷ 1 ∷ 1 ∷ 1 ∷ 2 ∷ 1 ∷ 0

@@ -248,11 +248,13 @@ module _ (e : Heap) (c : Conf) (top : Frame) (below : List Frame) (x : Point) (w
         nothing (or_right _ _ told)
     to_object_gives (value.Primitive (primitive.Bool b)) there told =
         wraps_gives class.Boolean builtins.BOOLEAN_PROTOTYPE builtins.BOOLEAN_PROTOTYPE.0
-        class.Boolean refl refl sites.boolean l_bool (primitive.Bool b) (bools_of v) (bool_has b told)
+        class.Boolean refl refl sites.boolean l_bool (primitive.Bool b) (bools_of v)
+        (bool_has b told)
         (λ y m. member-append_right y g_object _ (member-append_left y g_bool _ m))
     to_object_gives (value.Primitive (primitive.Number n)) there told =
         wraps_gives class.Number builtins.NUMBER_PROTOTYPE builtins.NUMBER_PROTOTYPE.0
-        class.Number refl refl sites.number l_number (primitive.Number n) (numbers_of v) (number_has n told)
+        class.Number refl refl sites.number l_number (primitive.Number n) (numbers_of v)
+        (number_has n told)
         (λ y m. member-append_right y g_object _ (member-append_right y g_bool _
         (member-append_left y g_number _ m)))
     to_object_gives (value.Primitive (primitive.Text units)) there told =

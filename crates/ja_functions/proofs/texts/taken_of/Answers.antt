@@ -11,7 +11,8 @@ returns c =
     let s = c.args.sort in
     let kept = c.deref-atom-items.result.now in
     c.loop-atom.invariant
-    ∙ (ap (flat_map (λ a. taken_at s (atom_of a))) (take_all c.loop-atom.atom-index kept c.loop-atom-test.false)
+    ∙ (ap (flat_map (λ a. taken_at s (atom_of a)))
+    (take_all c.loop-atom.atom-index kept c.loop-atom-test.false)
     ∙ (sym (flat_map-map (taken_at s) atom_of kept)
     ∙ ap (flat_map (taken_at s)) (ap (map atom_of) c.deref-atom-items.ensures.value
     ∙ c.in_ok-atoms.ensures)))
