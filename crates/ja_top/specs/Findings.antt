@@ -11,7 +11,7 @@ use Rattle.ja_rows.specs.declared.table.Item.{Item}
 use Rattle.ja_rows.specs.Table.{IsBuilt}
 use Rattle.ja_rules.specs.Solving.{WasSpent}
 use Rattle.ja_rules.specs.Tables.{table_of, Fits}
-use Rattle.ja_warn.specs.Told.{warnings_in, IsTold}
+use Rattle.ja_warn.specs.Told.{warnings_in, IsNamed, IsTold}
 use Rattle.ja_words.specs.Words.{default_budget}
 use Rattle.ja_top.specs.Promises.{IsSound}
 use Rattle.ja_top.specs.declared.finding.FindFault.{FindFault}
@@ -19,7 +19,7 @@ use Rattle.ja_top.specs.declared.finding.FindFault.TheVariants as fault
 use Rattle.ja_top.specs.declared.finding.Findings.{Findings}
 
 -- What is found of a program, which is well formed: a table that the visits build, of which all is
--- promised, and its warnings, each with the value of what it is about.
+-- promised, and its warnings, each with the values of what it is about and of its name.
 pub record IsFoundIn (p : Program) (found : Findings) : Type 0 where
   pub program : found.program ≡ p
   pub formed : IsWellFormed p
@@ -27,6 +27,7 @@ pub record IsFoundIn (p : Program) (found : Findings) : Type 0 where
   pub built : IsBuilt p found.visits (table_of found.table)
   pub few : length found.visits ≤ default_budget
   pub values : AllByRecursion (IsTold p (table_of found.table)) found.warnings
+  pub names : AllByRecursion (IsNamed p (table_of found.table)) found.warnings
   pub sound : IsSound p (table_of found.table) (warnings_in found.warnings)
 
 abbrev pub Finds : List ℕ → List Signature → Findings → Type 0

@@ -26,7 +26,7 @@ use thiserror::Error;
 
 /// What the analysis of a text finds: its program, the closed table, the visits that built it, and
 /// its warnings, those of the text by line, column and kind, and those of the built-in functions
-/// behind them, each with the value of what it is about.
+/// behind them, each with the values of what it is about and of its name.
 #[derive(Drop)]
 pub struct Findings {
     pub program: Program,

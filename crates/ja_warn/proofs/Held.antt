@@ -20,7 +20,7 @@ use Rattle.ja_base.specs.declared.ids.FnId.{FnId}
 use Rattle.ja_base.proofs.Options.{none_not_some}
 use Rattle.ja_graph.specs.declared.program.Program.{Program}
 use Rattle.ja_machine.proofs.Lists.{all_of}
-use Rattle.ja_abstract.specs.AbstractValue.{AbstractValue}
+use Rattle.ja_abstract.specs.AbstractValue.{AbstractValue, join}
 use Rattle.ja_abstract.specs.Order.{LeqValue}
 use Rattle.ja_abstract.proofs.Least.{value-join_right, value_least}
 use Rattle.ja_abstract.proofs.Order.{value-join, value_both, value_same}
@@ -145,6 +145,10 @@ same_operation a b e = sym (operation_back a) ∙ ap operation_at e ∙ operatio
 
 -- ---- what is held
 
+-- merging joins this value of findings
+abbrev pub IsJoined : (Finding → AbstractValue) → Type 0
+IsJoined get = (q o : Finding) → get (merged (Some q) o) ≡ join (get q) (get o)
+
 -- what is found at the numbers has a property
 abbrev pub AllAt : Spot → (Finding → Type 0) → List Finding → Type 0
 AllAt k P = AllByRecursion (λ o. is_at k o ≡ true → P o)
@@ -191,34 +195,37 @@ module _ (k : Spot) where
       by true here s e = subst P (same_Some (merged q o) s e) (met q earlier (each.0 here))
       by false apart s e = earlier s e
 
-  -- the value that is held has what was held, and what is at the numbers
-  held_before : (q : Finding) (os : List Finding) (r : Finding) → held k (Some q) os ≡ Some r
-      → LeqValue q.value r.value
-  held_before q [] r is =
-      subst (λ (s : Finding). LeqValue q.value s.value) (same_Some q r is) (value_same q.value)
-  held_before q (o ∷ os) r is = by (is_at k o) is (λ s. held_before s os r)
-    where
-      by : (b : Bool) → held k (if b then Some (merged (Some q) o) else Some q) os ≡ Some r
-          → ((s : Finding) → held k (Some s) os ≡ Some r → LeqValue s.value r.value)
-          → LeqValue q.value r.value
-      by true e behind =
-          value_both q.value (merged (Some q) o).value r.value (value-join q.value o.value)
-          (behind (merged (Some q) o) e)
-      by false e behind = behind q e
+  -- a value that is held, and that merging joins, has what was held, and what is at the numbers
+  module _ (get : Finding → AbstractValue) (joined : IsJoined get) where
+    held_before : (q : Finding) (os : List Finding) (r : Finding) → held k (Some q) os ≡ Some r
+        → LeqValue (get q) (get r)
+    held_before q [] r is =
+        subst (λ (s : Finding). LeqValue (get q) (get s)) (same_Some q r is) (value_same (get q))
+    held_before q (o ∷ os) r is = by (is_at k o) is (λ s. held_before s os r)
+      where
+        by : (b : Bool) → held k (if b then Some (merged (Some q) o) else Some q) os ≡ Some r
+            → ((s : Finding) → held k (Some s) os ≡ Some r → LeqValue (get s) (get r))
+            → LeqValue (get q) (get r)
+        by true e behind =
+            value_both (get q) (get (merged (Some q) o)) (get r)
+            (subst (LeqValue (get q)) (sym (joined q o)) (value-join (get q) (get o)))
+            (behind (merged (Some q) o) e)
+        by false e behind = behind q e
 
-  merged_above : (q : Option Finding) (o : Finding) → LeqValue o.value (merged q o).value
-  merged_above None o = value_same o.value
-  merged_above (Some q) o = value-join_right q.value o.value
+    merged_above : (q : Option Finding) (o : Finding) → LeqValue (get o) (get (merged q o))
+    merged_above None o = value_same (get o)
+    merged_above (Some q) o =
+        subst (LeqValue (get o)) (sym (joined q o)) (value-join_right (get q) (get o))
 
-  held_above : (q : Option Finding) (os : List Finding) (r : Finding) → held k q os ≡ Some r
-      → AllAt k (λ o. LeqValue o.value r.value) os
-  held_above q [] r is = tt
-  held_above q (o ∷ os) r is = (
-    λ here. value_both o.value (merged q o).value r.value (merged_above q o)
-        (held_before (merged q o) os r
-        (sym (ap (λ b. held k (if b then Some (merged q o) else q) os) here) ∙ is)),
-    held_above (with_reached k q o) os r is,
-  )
+    held_above : (q : Option Finding) (os : List Finding) (r : Finding) → held k q os ≡ Some r
+        → AllAt k (λ o. LeqValue (get o) (get r)) os
+    held_above q [] r is = tt
+    held_above q (o ∷ os) r is = (
+      λ here. value_both (get o) (get (merged q o)) (get r) (merged_above q o)
+          (held_before (merged q o) os r
+          (sym (ap (λ b. held k (if b then Some (merged q o) else q) os) here) ∙ is)),
+      held_above (with_reached k q o) os r is,
+    )
 
 -- one finding more is held
 pub held_added : (m n : BTreeMap Spot Reached) (s : Spot) (o : Finding) (now : Reached)
@@ -293,20 +300,38 @@ any_fault k os = list_any (λ o. is_at k o && o.fault) os
 abbrev pub any_more : Spot → List Finding → Bool
 any_more k os = list_any (λ o. is_at k o && not o.warning.certain) os
 
--- what is held at numbers has them, may go wrong where one of them may, does so certainly where
--- none allows anything else, and is about what they are about
+-- a value of what is held at numbers is the least that is above those of what is found there
+pub record IsLeastHeld (get : Finding → AbstractValue) (k : Spot) (os : List Finding)
+    (q : Finding) : Type 0 where
+  pub above : AllAt k (λ o. LeqValue (get o) (get q)) os
+  pub least : (u : AbstractValue) → AllAt k (λ o. LeqValue (get o) u) os → LeqValue (get q) u
+
+none_held : (P : Finding → Type 0) (s : Finding) → None ≡ Some s → P s
+none_held P s e = absurd (none_not_some e)
+
+pub is_least_held : (get : Finding → AbstractValue) → IsJoined get → (k : Spot)
+    (os : List Finding) (q : Finding) → held k None os ≡ Some q → IsLeastHeld get k os q
+is_least_held get joined k os q is = record {
+  above = held_above k get joined None os q is;
+  least = λ u each.
+      held_all k (λ (o : Finding). LeqValue (get o) u)
+      (λ e o earlier more. subst (λ x. LeqValue x u) (sym (joined e o))
+      (value_least (get e) (get o) u earlier more)) None os
+      (none_held _) each q is;
+}
+
+-- what is held at numbers has them, may go wrong where one of them may, and does so certainly where
+-- none allows anything else
 pub record IsHeld (k : Spot) (os : List Finding) (q : Finding) : Type 0 where
   pub at_spot : is_at k q ≡ true
   pub fault_is : q.fault ≡ any_fault k os
   pub more_is : not q.warning.certain ≡ any_more k os
-  pub above : AllAt k (λ o. LeqValue o.value q.value) os
-  pub least : (u : AbstractValue) → AllAt k (λ o. LeqValue o.value u) os → LeqValue q.value u
 
 pub is_held : (k : Spot) (os : List Finding) (q : Finding) → held k None os ≡ Some q
     → IsHeld k os q
 is_held k os q is = record {
   at_spot =
-      held_all k (λ o. is_at k o ≡ true) (λ e o earlier here. here) None os (none _)
+      held_all k (λ o. is_at k o ≡ true) (λ e o earlier here. here) None os (none_held _)
       (all_of (λ o. is_at k o ≡ true → is_at k o ≡ true) (λ o here. here) os) q is;
   fault_is =
       ap has_fault (sym is)
@@ -314,15 +339,7 @@ is_held k os q is = record {
   more_is =
       ap has_more (sym is)
       ∙ held_tells k has_more (λ (o : Finding). not o.warning.certain) more_merged None os;
-  above = held_above k None os q is;
-  least = λ u each.
-      held_all k (λ (o : Finding). LeqValue o.value u)
-      (λ e o earlier more. value_least e.value o.value u earlier more) None os
-      (none _) each q is;
 }
-  where
-    none : (P : Finding → Type 0) (s : Finding) → None ≡ Some s → P s
-    none P s e = absurd (none_not_some e)
 
 -- something is held where an operation at the numbers may go wrong
 pub held_from_fault : (k : Spot) (os : List Finding) → any_fault k os ≡ true

@@ -1,5 +1,5 @@
--- The warnings of what is held of a table's operations are those of the table, and their values are
--- there.
+-- The warnings of what is held of a table's operations are those of the table, and their values and
+-- names are there.
 use Rattle.std.specs.Prelude.{◌≡◌, suc, Bool, true, false, not, ◌&&◌, ◌||◌, cond, IsTrue, List, [], ◌∷◌, map, filter, Option, Some, None, Any, Contains}
 use Rattle.std.specs.declared.cmp.Ordering.TheVariants.{Less}
 use Rattle.std.specs.BTreeMap.{BTreeMap, is_at as finds, IsOrdered}
@@ -7,7 +7,7 @@ use Rattle.std.specs.Cmp.{eq_by_cmp_equiv}
 use Rattle.std.specs.List.{AllByRecursion, list_any}
 use Rattle.std.specs.List.Sorted.{IsStrictlySortedBy}
 use Rattle.std.specs.Map.{keys_of, lookup}
-use Rattle.std.specs.Option.{option_map, option_map_or}
+use Rattle.std.specs.Option.{option_map}
 use Rattle.std.specs.Ordering.{is_eq}
 use Rattle.std.proofs.Common.{refl, sym, ◌∙◌, ap, subst, inl, inr, arith}
 use Rattle.std.proofs.lemmas.Bool.{cases_Bool, true≢false, and_parts, and_from, or_left, or_right}
@@ -15,31 +15,27 @@ use Rattle.std.proofs.lemmas.List.Elements.{All-contains_itself, recursion_from_
 use Rattle.std.proofs.lemmas.Map.Keys.{sorted_tail}
 use Rattle.std.proofs.lemmas.Map.Views.{btree_map_get_iff}
 use Rattle.std.proofs.lemmas.Option.{same_Some}
-use Rattle.ja_base.specs.declared.ids.Reg.{Reg}
 use Rattle.ja_base.proofs.Lists.{all_weaker, map_after}
 use Rattle.ja_base.proofs.Options.{none_not_some}
 use Rattle.ja_graph.specs.declared.program.Program.{Program}
 use Rattle.ja_machine.proofs.Lists.{all_map}
-use Rattle.ja_abstract.specs.AbstractValue.{AbstractValue, bare, no_value}
+use Rattle.ja_abstract.specs.AbstractValue.{AbstractValue}
 use Rattle.ja_abstract.specs.Order.{LeqValue}
 use Rattle.ja_abstract.specs.Reading.{View}
-use Rattle.ja_abstract.proofs.Least.{no_property-least}
 use Rattle.ja_abstract.proofs.Lists.{Member}
 use Rattle.ja_rows.specs.declared.table.Warning.{Warning}
-use Rattle.ja_rows.specs.Out.{at}
 use Rattle.ja_rows.specs.Table.{Table}
 use Rattle.ja_rows.specs.Warning.{Test, Operation, operation_of, numbers_of, IsBelow, AreOrdered, IsReached, IsWarned, AreWarnings}
-use Rattle.ja_value.specs.declared.value.AValue.{AValue}
 use Rattle.ja_value.specs.Value.{value_of}
 use Rattle.ja_warn.specs.declared.reached.Told.{Told}
 use Rattle.ja_warn.specs.declared.reached.Reached.{Reached}
 use Rattle.ja_rules.specs.declared.table.ATable.{ATable}
 use Rattle.ja_rules.specs.Tables.{table_of, Fits}
 use Rattle.ja_rules.proofs.Ascending.{of_member}
-use Rattle.ja_warn.specs.Told.{subject, warnings_in, IsAbove, IsValueThere}
+use Rattle.ja_warn.specs.Told.{About, name_at, value_at, warnings_in, IsAbove, IsLeast, IsNamed, IsTold}
 use Rattle.ja_warn.specs.code.Faults.{Finding, Spot, spot_of, spot_cmp, is_at, held, finding, found_at, told_by, told_in}
-use Rattle.ja_warn.proofs.Held.{spot_exact, spot_total, spot_below, same_operation, at_spot, any_fault, any_more, IsHeld, is_held, held_from_fault}
-use Rattle.ja_warn.proofs.ReachedLemmas.{IsFrom, IsKept, all_are_from, all_reached, reached_kept}
+use Rattle.ja_warn.proofs.Held.{spot_exact, spot_total, spot_below, same_operation, at_spot, any_fault, any_more, IsHeld, IsJoined, IsLeastHeld, is_held, is_least_held, held_from_fault}
+use Rattle.ja_warn.proofs.ReachedLemmas.{IsFrom, IsKept, IsSaid, all_are_from, all_reached, reached_kept}
 
 -- ---- tests of lists
 
@@ -204,7 +200,7 @@ module _ (p : Program) (u : ATable) (fits : Fits p u) where
 
     -- what is reached of the operation, as it is kept at the numbers
     kept_of : (s : Test) (v : View) (r : IsReached p t (operation_of q.warning) s v)
-        → IsKept p u fits (operation_of q.warning) r.info.node s v
+        → IsKept p u fits (operation_of q.warning) r.context.function r.number r.info s v
     kept_of s v r = reached_kept p u fits (operation_of q.warning) s v r
 
     kept_here : (s : Test) (v : View) (r : IsReached p t (operation_of q.warning) s v)
@@ -250,40 +246,37 @@ module _ (p : Program) (u : ATable) (fits : Fits p u) where
           certain = (certain_then, certain_from);
         }
 
-    -- ---- .. and its value is there
+    -- ---- .. and a value that is least is there
 
-    is_above : IsAbove p t (operation_of q.warning) q.value
-    is_above s v r reg is =
-        let m = kept_of s v r in
-        subst (λ x. LeqValue x q.value)
-        (m.value_is ∙ ap (λ x. option_map_or (at v) x no_value) is)
-        (of_member (λ o. is_at k o ≡ true → LeqValue o.value q.value) os m.kept h.above m.member
-        (kept_here s v r))
+    module _ (about : About) (get : Finding → AbstractValue) (said : IsSaid about get)
+        (least : IsLeastHeld get k os q) where
+      is_above : IsAbove about p t (operation_of q.warning) (get q)
+      is_above s v r =
+          let m = kept_of s v r in
+          subst (λ x. LeqValue x (get q))
+          (ap get m.kept_is ∙ said v r.context.function r.number r.info s)
+          (of_member (λ o. is_at k o ≡ true → LeqValue (get o) (get q)) os m.kept least.above
+          m.member (kept_here s v r))
 
-    -- what is above the subject of an operation is above what is found of it
-    finding_below : (o : Finding) (x : AbstractValue) → IsFrom p t o
-        → IsAbove p t (operation_of o.warning) x → LeqValue o.value x
-    finding_below o x from above = by (subject from.reached.info.node) refl
-      where
-        by : (s : Option Reg) → subject from.reached.info.node ≡ s → LeqValue o.value x
-        by None none =
-            subst (λ y. LeqValue y x)
-            (sym (from.value_is ∙ ap (λ s. option_map_or (at from.view) s no_value) none))
-            (no_property-least (bare x)).value
-        by (Some r) some =
-            subst (λ y. LeqValue y x)
-            (sym (from.value_is ∙ ap (λ s. option_map_or (at from.view) s no_value) some))
-            (above from.test from.view from.reached r some)
+      -- what is above what is said of an operation is above what is found of it
+      finding_below : (o : Finding) (x : AbstractValue) → IsFrom p t o
+          → IsAbove about p t (operation_of o.warning) x → LeqValue (get o) x
+      finding_below o x from above =
+          let r = from.reached in
+          subst (λ y. LeqValue y x)
+          (sym (ap get from.finding_is
+          ∙ said from.view r.context.function r.number r.info from.test))
+          (above from.test from.view r)
 
-    is_there : IsValueThere p t (operation_of q.warning) q.value
-    is_there = record {
-      above = is_above;
-      least = λ x above. h.least x (all_weaker (IsFrom p t)
-          (λ o. is_at k o ≡ true → LeqValue o.value x)
-          (λ o from here. finding_below o x from
-          (subst (λ y. IsAbove p t y x) (sym (same_spot o here)) above)) os
-          (all_are_from p u fits));
-    }
+      is_least : IsLeast about p t (operation_of q.warning) (get q)
+      is_least = record {
+        above = is_above;
+        least = λ x above. least.least x (all_weaker (IsFrom p t)
+            (λ o. is_at k o ≡ true → LeqValue (get o) x)
+            (λ o from here. finding_below o x from
+            (subst (λ y. IsAbove about p t y x) (sym (same_spot o here)) above)) os
+            (all_are_from p u fits));
+      }
 
   -- an operation that may go wrong is held
   record IsFound (o : Operation) : Type 0 where
@@ -296,7 +289,7 @@ module _ (p : Program) (u : ATable) (fits : Fits p u) where
       → IsTrue (test.fault v) → IsFound o
   found o test v r fault =
       let k : Spot = spot_of o in
-      let m : IsKept p u fits o r.info.node test v = reached_kept p u fits o test v r in
+      let m : IsKept p u fits o r.context.function r.number r.info test v = reached_kept p u fits o test v r in
       let here : is_at k m.kept ≡ true =
       ap (λ (x : Operation). is_eq (spot_cmp (spot_of x) k)) m.operation_is
       ∙ (eq_by_cmp_equiv spot_total).refl k in
@@ -318,17 +311,21 @@ module _ (p : Program) (u : ATable) (fits : Fits p u) where
     abbrev es : List Entry
     es = m.entries
 
-    entry_held : (e : Entry) → Contains es e → IsHeld e.0 os (finding e.1)
+    entry_held : (e : Entry) → Contains es e → held e.0 None os ≡ Some (finding e.1)
     entry_held e here =
-        is_held e.0 os (finding e.1) (sym (are e.0) ∙ ap (option_map finding)
-        ((btree_map_get_iff spot_total spot_exact m sorted e.0 e.1).1 here))
+        sym (are e.0) ∙ ap (option_map finding)
+        ((btree_map_get_iff spot_total spot_exact m sorted e.0 e.1).1 here)
 
     -- what each entry that is held has, the entries have
-    each_held : (P : Entry → Type 0) → ((e : Entry) → IsHeld e.0 os (finding e.1) → P e)
-        → AllByRecursion P es
-    each_held P has =
+    every_held : (P : Entry → Type 0)
+        → ((e : Entry) → held e.0 None os ≡ Some (finding e.1) → P e) → AllByRecursion P es
+    every_held P has =
         all_weaker (Contains es) P (λ e here. has e (entry_held e here)) es
         (recursion_from_All (Contains es) es (All-contains_itself es))
+
+    each_held : (P : Entry → Type 0) → ((e : Entry) → IsHeld e.0 os (finding e.1) → P e)
+        → AllByRecursion P es
+    each_held P has = every_held P (λ e is. has e (is_held e.0 os (finding e.1) is))
 
     -- its warnings are the table's
     are_warnings : AreWarnings p t (listed es)
@@ -352,13 +349,30 @@ module _ (p : Program) (u : ATable) (fits : Fits p u) where
         (sym (map_after told_by (λ (x : Told). x.warning) warning_of (λ e. refl) (failing es)))
         are_warnings
 
-    abbrev IsThere : Warning → AValue → Type 0
-    IsThere w v = IsValueThere p t (operation_of w) (value_of v)
+    -- what is least of each that is held is there
+    module _ (about : About) (get : Finding → AbstractValue) (said : IsSaid about get)
+        (joined : IsJoined get) (value : Told → AbstractValue)
+        (value_is : (e : Entry) → get (finding e.1) ≡ value (told_by e)) where
+      abbrev IsThere : Warning → AbstractValue → Type 0
+      IsThere w v = IsLeast about p t (operation_of w) v
 
-    pub values_told : AllByRecursion (λ (x : Told). IsThere x.warning x.value) (told_in m)
+      pub least_told : AllByRecursion (λ (x : Told). IsThere x.warning (value x)) (told_in m)
+      least_told =
+          all_map (λ (e : Entry). IsThere e.1.warning (get (finding e.1)))
+          (λ (x : Told). IsThere x.warning (value x)) told_by
+          (λ e there. subst (IsThere e.1.warning) (value_is e) there) (failing es)
+          (all_failing (λ (e : Entry). IsThere e.1.warning (get (finding e.1))) es
+          (every_held
+          (λ (e : Entry). e.1.fault ≡ true → IsThere e.1.warning (get (finding e.1)))
+          (λ e is fault. is_least e.0 (finding e.1) (is_held e.0 os (finding e.1) is) about get
+          said (is_least_held get joined e.0 os (finding e.1) is))))
+
+    pub values_told : AllByRecursion (IsTold p t) (told_in m)
     values_told =
-        all_map (λ (e : Entry). IsThere e.1.warning e.1.value)
-        (λ (x : Told). IsThere x.warning x.value) told_by (λ e there. there) (failing es)
-        (all_failing (λ (e : Entry). IsThere e.1.warning e.1.value) es
-        (each_held (λ (e : Entry). e.1.fault ≡ true → IsThere e.1.warning e.1.value)
-        (λ e h fault. is_there e.0 (finding e.1) h)))
+        least_told value_at (λ (o : Finding). o.value) (λ w f n i test. refl) (λ q o. refl)
+        (λ (x : Told). value_of x.value) (λ e. refl)
+
+    pub names_told : AllByRecursion (IsNamed p t) (told_in m)
+    names_told =
+        least_told name_at (λ (o : Finding). o.name) (λ w f n i test. refl) (λ q o. refl)
+        (λ (x : Told). value_of x.name) (λ e. refl)

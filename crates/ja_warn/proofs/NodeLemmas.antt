@@ -43,31 +43,31 @@ says_function w entry r v labels a is are fault more =
     }
 
 -- what is held, with the operation of a node that has one test
-pub one_test : {T : Type 0} (w : View) (f : FnId) (i : NodeInfo) (test : Test) (about : Reg)
+pub one_test : {T : Type 0} (w : View) (f : FnId) (i : NodeInfo) (name : AbstractValue) (test : Test) (about : Reg)
     (allowed : Result Allowed Memory) (r : Result T Memory) (before after : Spot → Option Finding)
     → tests i.node ≡ test ∷ [] → subject i.node ≡ Some about → IfOk allowed (Says test w)
     → IfOk r (λ _. (s : Test) → s.kind ≡ test.kind → subject i.node ≡ Some about
     → IfOk allowed (Says s w) → (k : Spot)
-    → after k ≡ with_reached k (before k) (tested w f i s))
-    → IfOk r (λ _. (k : Spot) → after k ≡ held k (before k) (reached_by w f i))
-one_test w f i test about allowed r before after are about_is says added =
+    → after k ≡ with_reached k (before k) (tested w f i name s))
+    → IfOk r (λ _. (k : Spot) → after k ≡ held k (before k) (reached_by w f i name))
+one_test w f i name test about allowed r before after are about_is says added =
     IfOk-weaker r _ _ (λ _ h k. h test refl about_is says k
-    ∙ ap (λ ts. held k (before k) (map (tested w f i) ts)) (sym are)) added
+    ∙ ap (λ ts. held k (before k) (map (tested w f i name) ts)) (sym are)) added
 
 -- .. and that has two, of which the first was added
-pub two_tests : {T : Type 0} (w : View) (f : FnId) (i : NodeInfo) (first second : Test)
-    (about : Reg) (allowed : Result Allowed Memory) (r : Result T Memory)
+pub two_tests : {T : Type 0} (w : View) (f : FnId) (i : NodeInfo) (name : AbstractValue)
+    (first second : Test) (about : Reg) (allowed : Result Allowed Memory) (r : Result T Memory)
     (before between after : Spot → Option Finding) → tests i.node ≡ first ∷ second ∷ []
-    → ((k : Spot) → between k ≡ with_reached k (before k) (tested w f i first))
+    → ((k : Spot) → between k ≡ with_reached k (before k) (tested w f i name first))
     → subject i.node ≡ Some about → IfOk allowed (Says second w)
     → IfOk r (λ _. (s : Test) → s.kind ≡ second.kind → subject i.node ≡ Some about
     → IfOk allowed (Says s w) → (k : Spot)
-    → after k ≡ with_reached k (between k) (tested w f i s))
-    → IfOk r (λ _. (k : Spot) → after k ≡ held k (before k) (reached_by w f i))
-two_tests w f i first second about allowed r before between after are earlier about_is says added =
+    → after k ≡ with_reached k (between k) (tested w f i name s))
+    → IfOk r (λ _. (k : Spot) → after k ≡ held k (before k) (reached_by w f i name))
+two_tests w f i name first second about allowed r before between after are earlier about_is says added =
     IfOk-weaker r _ _ (λ _ h k. h second refl about_is says k
-    ∙ ap (λ q. with_reached k q (tested w f i second)) (earlier k)
-    ∙ ap (λ ts. held k (before k) (map (tested w f i) ts)) (sym are)) added
+    ∙ ap (λ q. with_reached k q (tested w f i name second)) (earlier k)
+    ∙ ap (λ ts. held k (before k) (map (tested w f i name) ts)) (sym are)) added
 
 -- ---- the reads of names and properties
 

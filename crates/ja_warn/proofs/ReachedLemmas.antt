@@ -7,13 +7,15 @@ use Rattle.std.proofs.lemmas.Bool.{cases_Bool, cond-true, cond-false}
 use Rattle.std.proofs.lemmas.List.Elements.{All-contains_itself, recursion_from_All}
 use Rattle.std.proofs.lemmas.Option.{none-some, same_Some, slice_get_within}
 use Rattle.ja_base.specs.declared.ids.Context.{Context}
+use Rattle.ja_base.specs.declared.ids.FnId.{FnId}
+use Rattle.ja_base.specs.declared.ids.NodeId.{NodeId}
 use Rattle.ja_base.proofs.Lists.{all_append}
-use Rattle.ja_graph.specs.declared.node.Node.{Node}
 use Rattle.ja_graph.specs.declared.node.NodeInfo.{NodeInfo}
 use Rattle.ja_graph.specs.declared.program.Program.{Program}
 use Rattle.ja_graph.specs.Program.{node_at, nodes_of}
 use Rattle.ja_machine.proofs.Lists.{all_from, all_map}
 use Rattle.ja_abstract.specs.AbstractState.{AbstractState}
+use Rattle.ja_abstract.specs.AbstractValue.{AbstractValue}
 use Rattle.ja_abstract.specs.Reading.{View}
 use Rattle.ja_abstract.proofs.Lists.{Member, member-flat_map, member-map, member-range}
 use Rattle.ja_rows.specs.Table.{Table, node_numbers}
@@ -22,7 +24,8 @@ use Rattle.ja_aheap.specs.Entries.{entries_of}
 use Rattle.ja_rules.specs.declared.table.ATable.{ATable}
 use Rattle.ja_rules.specs.declared.table.ContextTable.{ContextTable}
 use Rattle.ja_rules.specs.Tables.{find_context, is_of, states_in, table_of, Fits}
-use Rattle.ja_warn.specs.code.Faults.{Finding, tested, reached_by, reached_in, reached_at, reached_of_context, value_at}
+use Rattle.ja_warn.specs.Told.{About, name_at}
+use Rattle.ja_warn.specs.code.Faults.{Finding, tested, reached_by, reached_with, reached_in, reached_at, reached_of_context}
 use Rattle.ja_rules.proofs.Found.{found_context, found_entry, found_state, missing_state}
 use Rattle.ja_rules.proofs.TableUpdates.{own_found}
 
@@ -53,6 +56,16 @@ found_member test (y ∷ ys) x is =
 
 -- ---- each of the operations is reached
 
+-- what a test says of its operation at a node of a function
+abbrev pub tested_at : View → FnId → NodeId → NodeInfo → Test → Finding
+tested_at w f n i test = tested w f i (name_at w f n i.node) test
+
+-- a value of findings is what is said at their nodes
+abbrev pub IsSaid : About → (Finding → AbstractValue) → Type 0
+IsSaid about get =
+    (w : View) (f : FnId) (n : NodeId) (i : NodeInfo) (test : Test)
+    → get (tested_at w f n i test) ≡ about w f n i.node
+
 -- the test and the view that say of an operation what is kept of it
 pub record IsFrom (p : Program) (t : Table) (o : Finding) : Type 0 where
   pub test : Test
@@ -60,17 +73,19 @@ pub record IsFrom (p : Program) (t : Table) (o : Finding) : Type 0 where
   pub reached : IsReached p t (operation_of o.warning) test view
   pub fault_is : test.fault view ≡ o.fault
   pub certain_is : not (test.more view) ≡ o.warning.certain
-  pub value_is : o.value ≡ value_at view reached.info.node
+  pub finding_is : o
+      ≡ tested_at view reached.context.function reached.number reached.info test
 
 -- the operations of a node, by the node and the state at a number
 pub reached_is : (p : Program) (c : ContextTable) (n : ℕ) (i : NodeInfo) (a : Option AbstractState)
     → node_at p c.context.function (record { 0 = n }) ≡ Some i → states_in c.nodes.items n ≡ a
-    → reached_at p c n ≡ reached_in p (entries_of c.entries) c.context.function i a
+    → reached_at p c n
+    ≡ reached_in p (entries_of c.entries) c.context.function (record { 0 = n }) i a
 reached_is p c n i a info_is state_is =
     ap (λ (o : Option NodeInfo). option_map_or
-    (λ (x : NodeInfo). reached_in p (entries_of c.entries) c.context.function x
+    (λ (x : NodeInfo). reached_in p (entries_of c.entries) c.context.function (record { 0 = n }) x
     (states_in c.nodes.items n)) o []) info_is
-    ∙ ap (reached_in p (entries_of c.entries) c.context.function i) state_is
+    ∙ ap (reached_in p (entries_of c.entries) c.context.function (record { 0 = n }) i) state_is
 
 -- a table that fits the program, whose contexts are found by their keys
 module _ (p : Program) (t : ATable) (fits : Fits p t) where
@@ -82,11 +97,12 @@ module _ (p : Program) (t : ATable) (fits : Fits p t) where
     from_state : (n : ℕ) (i : NodeInfo)
         → node_at p c.context.function (record { 0 = n }) ≡ Some i → (a : Option AbstractState)
         → states_in c.nodes.items n ≡ a → AllByRecursion (IsFrom p (table_of t))
-        (reached_in p (entries_of c.entries) c.context.function i a)
+        (reached_in p (entries_of c.entries) c.context.function (record { 0 = n }) i a)
     from_state n i info_is None none = tt
     from_state n i info_is (Some a) state_is =
         let w : View = record { program = p; state = a; entries = entries_of c.entries } in
-        all_map (Contains (tests i.node)) (IsFrom p (table_of t)) (tested w c.context.function i)
+        all_map (Contains (tests i.node)) (IsFrom p (table_of t))
+        (tested_at w c.context.function (record { 0 = n }) i)
         (λ x here. record {
           test = x;
           view = w;
@@ -107,14 +123,14 @@ module _ (p : Program) (t : ATable) (fits : Fits p t) where
           };
           fault_is = refl;
           certain_is = refl;
-          value_is = refl;
+          finding_is = refl;
         }) (tests i.node) (recursion_from_All _ _ (All-contains_itself (tests i.node)))
 
     from_node : (n : ℕ) (i : Option NodeInfo)
         → node_at p c.context.function (record { 0 = n }) ≡ i
         → AllByRecursion (IsFrom p (table_of t)) (option_map_or
-        (λ (x : NodeInfo). reached_in p (entries_of c.entries) c.context.function x
-        (states_in c.nodes.items n)) i [])
+        (λ (x : NodeInfo). reached_in p (entries_of c.entries) c.context.function
+        (record { 0 = n }) x (states_in c.nodes.items n)) i [])
     from_node n None none = tt
     from_node n (Some i) info_is = from_state n i info_is (states_in c.nodes.items n) refl
 
@@ -139,17 +155,18 @@ module _ (p : Program) (t : ATable) (fits : Fits p t) where
   -- ---- what is reached is among the operations
 
   -- an operation by a test of a node and a view, among those of the contexts
-  pub record IsKept (o : Operation) (node : Node) (test : Test) (w : View) : Type 0 where
+  pub record IsKept (o : Operation) (f : FnId) (n : NodeId) (i : NodeInfo) (test : Test)
+      (w : View) : Type 0 where
     pub kept : Finding
     pub member : Member kept all_reached
     pub operation_is : operation_of kept.warning ≡ o
     pub fault_is : kept.fault ≡ test.fault w
     pub certain_is : kept.warning.certain ≡ not (test.more w)
-    pub value_is : kept.value ≡ value_at w node
+    pub kept_is : kept ≡ tested_at w f n i test
 
   module _ (o : Operation) (test : Test) (w : View) (r : IsReached p (table_of t) o test w) where
     kept_in : (c : ContextTable) → find_context r.context t.contexts.items ≡ Some c
-        → IsKept o r.info.node test w
+        → IsKept o r.context.function r.number r.info test w
     kept_in c found =
         let is : c.context ≡ r.context = found_context t r.context c found in
         let info_is : node_at p c.context.function r.number ≡ Some r.info =
@@ -163,8 +180,8 @@ module _ (p : Program) (t : ATable) (fits : Fits p t) where
           state = r.state;
           entries = found_entry t r.context c found j;
         }) in
-        let kept : Finding = tested v c.context.function r.info test in
-        let here : reached_at p c r.number.0 ≡ reached_by v c.context.function r.info =
+        let kept : Finding = tested_at v c.context.function r.number r.info test in
+        let here : reached_at p c r.number.0 ≡ reached_with v c.context.function r.number r.info =
         reached_is p c r.number.0 r.info (Some r.state) info_is state_is in
         let in_range : r.number.0 < length (nodes_of p c.context.function) =
         slice_get_within (nodes_of p c.context.function) r.number.0 r.info info_is in
@@ -178,7 +195,7 @@ module _ (p : Program) (t : ATable) (fits : Fits p t) where
               (node_numbers p c.context.function)
               (subst (λ m. Member m (node_numbers p c.context.function)) number_is
               (member-range 0 (length (nodes_of p c.context.function)) r.number.0 in_range))
-              (subst (Member kept) (sym here) (member-map (tested v c.context.function r.info)
+              (subst (Member kept) (sym here) (member-map (tested_at v c.context.function r.number r.info)
               test (tests r.info.node)
               (member_from (tests r.info.node) r.test_is.0 test r.test_is.1 r.test_is.2))));
           operation_is =
@@ -186,15 +203,16 @@ module _ (p : Program) (t : ATable) (fits : Fits p t) where
               r.operation_is;
           fault_is = ap test.fault (sym view_is);
           certain_is = ap (λ (u : View). not (test.more u)) (sym view_is);
-          value_is = ap (λ (u : View). value_at u r.info.node) (sym view_is);
+          kept_is =
+              λ j. tested_at (sym view_is j) (is j).function r.number r.info test;
         }
 
     by_context : (c : Option ContextTable) → find_context r.context t.contexts.items ≡ c
-        → IsKept o r.info.node test w
+        → IsKept o r.context.function r.number r.info test w
     by_context None none =
         absurd (none-some r.state (sym (missing_state t r.context r.number.0 none) ∙ r.state_is))
     by_context (Some c) found = kept_in c found
 
     -- what is reached is kept
-    pub reached_kept : IsKept o r.info.node test w
+    pub reached_kept : IsKept o r.context.function r.number r.info test w
     reached_kept = by_context (find_context r.context t.contexts.items) refl

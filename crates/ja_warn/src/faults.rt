@@ -3,16 +3,16 @@ ghost use Rattle.std.specs.BTreeMap.{IsOrdered};
 ghost use Rattle.std.specs.List.{flat_map, AllByRecursion};
 ghost use Rattle.ja_graph.specs.Program.{node_at, nodes_of};
 ghost use Rattle.ja_graph.specs.WellFormed.{IsWellFormed};
-ghost use Rattle.ja_value.specs.Value.{value_of};
 ghost use Rattle.ja_keys.specs.Keys.{IsKeysOf};
 ghost use Rattle.ja_rows.specs.Table.{IsClosed};
-ghost use Rattle.ja_rows.specs.Warning.{AreWarnings, operation_of};
+ghost use Rattle.ja_rows.specs.Warning.{AreWarnings};
 ghost use Rattle.ja_sound.specs.Sound.{WarnsOfFaults};
 ghost use Rattle.ja_rules.specs.Tables.{table_of, Fits, FitsContext};
-ghost use Rattle.ja_warn.specs.Told.{warnings_in, IsValueThere};
+ghost use Rattle.ja_warn.specs.Told.{warnings_in, IsNamed, IsTold};
 ghost use Rattle.ja_warn.specs.code.Faults.{Spot, found_at, held, reached_at, reached_of_context, spot_cmp, told_in};
 
 use crate::found::Spot;
+use crate::names::name_at;
 use crate::nodes::add_operations;
 use crate::reached::{Reached, Told};
 use ja_base::{FnId, Memory, NodeId, Seq};
@@ -31,6 +31,7 @@ fn add_node(
     program: &Program,
     keys: &ProgramKeys,
     own: &ContextTable,
+    nodes: &[NodeInfo],
     node: NodeId,
     info: &NodeInfo,
     found: &mut BTreeMap<Spot, Reached>,
@@ -38,6 +39,7 @@ fn add_node(
     requires program { IsWellFormed program.now }
     requires keys { IsKeysOf program.now keys.now }
     requires fits { FitsContext program.now own.now }
+    requires nodes { nodes.now ≡ nodes_of program.now own.now.context.function }
     requires info { node_at program.now own.now.context.function node ≡ Some info.now }
     ensures { IfOk result (λ _. (k : Spot) → found_at found.new k
         ≡ held k (found_at found.old k) (reached_at program.now own.now node.0)) }
@@ -46,7 +48,8 @@ fn add_node(
         return Ok(());
     };
     let reader = Reader::new(alloc, program, keys, state, &own.entries);
-    add_operations(&reader, own.context.function, info, found)
+    let name = name_at(&reader, nodes, node, &info.node)?;
+    add_operations(&reader, own.context.function, info, &name, found)
 }
 
 // The nodes of a function.
@@ -76,7 +79,16 @@ fn add_context(
     let nodes = nodes(program, own.context.function);
     for node in 0..nodes.len() {
         let number = NodeId(node as u32);
-        add_node(alloc, program, keys, own, number, &nodes[node], found)?;
+        add_node(
+            alloc,
+            program,
+            keys,
+            own,
+            nodes,
+            number,
+            &nodes[node],
+            found,
+        )?;
     }
     Ok(())
 }
@@ -116,7 +128,7 @@ fn operations(
     operations_by(alloc, program, &keys, table)
 }
 
-// The warnings of those operations that may go wrong, in order, each with its value.
+// The warnings of those operations that may go wrong, in order, each with its value and name.
 fn told_of(alloc: Global, found: BTreeMap<Spot, Reached>) -> Result<Vec<Told>, AllocError>
     ensures told { IfOk result (λ ts. ts.items ≡ told_in found) }
     ensures ordered { IsOrdered spot_cmp found }
@@ -129,23 +141,29 @@ fn told_of(alloc: Global, found: BTreeMap<Spot, Reached>) -> Result<Vec<Told>, A
                 warning,
                 fault: _,
                 value,
+                name,
             } = reached;
-            Told { warning, value }
+            Told {
+                warning,
+                value,
+                name,
+            }
         })
         .collect(alloc)
 }
 
 /// The warnings of a table (`warnings`), each with the value that the table says of what it is
 /// about: the least one that has whatever is, in some state there, the callee, what is converted to
-/// an object, the base of the name or the object whose property is read. `Memory` comes where
-/// memory was refused.
+/// an object, the base of the name or the object whose property is read. Its name is such a value
+/// too: of the variable, of the key of the property, or of what the callee was read by. `Memory`
+/// comes where memory was refused.
 pub fn told(alloc: Global, program: &Program, table: &ATable) -> Result<Seq<Told>, Memory>
     requires program { IsWellFormed program.now }
     requires fits { Fits program.now table.now }
     ensures warnings { IfOk result (λ ts. AreWarnings program.now (table_of table.now)
         (warnings_in ts)) }
-    ensures values { IfOk result (λ ts. AllByRecursion (λ x. IsValueThere program.now
-        (table_of table.now) (operation_of x.warning) (value_of x.value)) ts) }
+    ensures values { IfOk result (AllByRecursion (IsTold program.now (table_of table.now))) }
+    ensures names { IfOk result (AllByRecursion (IsNamed program.now (table_of table.now))) }
     ensures faults { IfOk result (λ ts. IsClosed program.now (table_of table.now)
         → WarnsOfFaults program.now (warnings_in ts)) }
 {

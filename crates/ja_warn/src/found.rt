@@ -2,7 +2,7 @@ ghost use Rattle.std.specs.Prelude.{◌≡◌, IfOk, Some};
 ghost use Rattle.ja_rows.specs.Warning as spec;
 ghost use Rattle.ja_value.specs.Value.{value_of};
 ghost use Rattle.ja_warn.specs.code.Faults as code;
-ghost use Rattle.ja_warn.specs.code.Faults.{Spot, finding, found_at, merged, with_reached};
+ghost use Rattle.ja_warn.specs.code.Faults.{Spot, finding, finding_of, found_at, merged, with_reached};
 
 use crate::reached::Reached;
 use ja_base::{FnId, Memory};
@@ -51,18 +51,20 @@ fn spot_of(warning: &Warning) -> Spot
 
 impl Reached {
     // Takes in one more of the same operation: it may go wrong where either may, does so certainly
-    // where both do, and is about what either is about.
+    // where both do, is about what either is about, and has either's name.
     fn merge(
         &mut self,
         alloc: Global,
         warning: Warning,
         fault: bool,
         value: &AValue,
+        name: &AValue,
     ) -> Result<(), Memory>
         ensures { IfOk result (λ _. finding self.new ≡ merged (Some (finding self.old))
-            (record { warning = warning; fault = fault; value = value_of value.now })) }
+            (finding_of warning fault (value_of value.now) (value_of name.now))) }
     {
         self.value.join(alloc, value)?;
+        self.name.join(alloc, name)?;
         self.warning = Warning {
             certain: self.warning.certain & warning.certain,
             ..warning
@@ -79,22 +81,25 @@ pub(crate) fn add(
     warning: Warning,
     fault: bool,
     value: &AValue,
+    name: &AValue,
 ) -> Result<(), Memory>
     ensures { IfOk result (λ _. (k : Spot) → found_at found.new k
         ≡ with_reached k (found_at found.old k)
-        (record { warning = warning; fault = fault; value = value_of value.now })) }
+        (finding_of warning fault (value_of value.now) (value_of name.now))) }
 {
     let spot = spot_of(&warning);
     match found.get_mut(&spot) {
-        Some(earlier) => earlier.merge(alloc, warning, fault, value),
+        Some(earlier) => earlier.merge(alloc, warning, fault, value, name),
         None => {
             let value = value.copy(alloc)?;
+            let name = name.copy(alloc)?;
             found.insert(
                 spot,
                 Reached {
                     warning,
                     fault,
                     value,
+                    name,
                 },
             )?;
             Ok(())

@@ -5,6 +5,7 @@ ghost use Rattle.ja_graph.specs.Node.{registers_named};
 ghost use Rattle.ja_look.specs.Looks.{view_of};
 ghost use Rattle.ja_rows.specs.Warning as spec;
 ghost use Rattle.ja_rows.specs.Warning.{Test};
+ghost use Rattle.ja_value.specs.Value.{value_of};
 ghost use Rattle.ja_warn.specs.Told.{subject};
 ghost use Rattle.ja_warn.specs.code.Faults.{Spot, found_at, held, reached_by, tested, with_reached, Says};
 
@@ -17,6 +18,7 @@ use ja_graph::{Node, NodeInfo, Program};
 use ja_look::Reader;
 use ja_rows::{Warning, WarningKind};
 use ja_transfer::Entry;
+use ja_value::AValue;
 use std::collections::BTreeMap;
 
 // The function that an operation stands in, if it is built in.
@@ -38,13 +40,14 @@ fn add_test(
     kind: WarningKind,
     about: Reg,
     allowed: Result<Allowed, Memory>,
+    name: &AValue,
     found: &mut BTreeMap<Spot, Reached>,
 ) -> Result<(), Memory>
     requires { about.0 < vec_len reader.now.state.now.registers }
     ensures { IfOk result (λ _. (test : Test) → test.kind ≡ kind
         → subject info.now.node ≡ Some about → IfOk allowed (Says test (view_of reader.now))
         → (k : Spot) → found_at found.new k ≡ with_reached k (found_at found.old k)
-        (tested (view_of reader.now) function info.now test)) }
+        (tested (view_of reader.now) function info.now (value_of name.now) test)) }
 {
     let Allowed { fault, more } = allowed?;
     let warning = Warning {
@@ -54,20 +57,22 @@ fn add_test(
         certain: !more,
     };
     let value = reader.state.register(about);
-    add(reader.alloc, found, warning, fault, value)
+    add(reader.alloc, found, warning, fault, value, name)
 }
 
-/// Adds the operations of a node, by a state at it: one for each of its tests.
+/// Adds the operations of a node, by a state at it: one for each of its tests, all of one name.
 pub(crate) fn add_operations(
     reader: &Reader<'_>,
     function: FnId,
     info: &NodeInfo,
+    called: &AValue,
     found: &mut BTreeMap<Spot, Reached>,
 ) -> Result<(), Memory>
     requires { AllByRecursion (λ (r : Reg). r.0 < vec_len reader.now.state.now.registers)
         (registers_named info.now.node) }
     ensures { IfOk result (λ _. (k : Spot) → found_at found.new k
-        ≡ held k (found_at found.old k) (reached_by (view_of reader.now) function info.now)) }
+        ≡ held k (found_at found.old k)
+        (reached_by (view_of reader.now) function info.now (value_of called.now))) }
 {
     match &info.node {
         Node::Call { callee, .. } => add_test(
@@ -77,6 +82,7 @@ pub(crate) fn add_operations(
             WarningKind::NotAFunction,
             *callee,
             no_function(reader, Entry::Call, *callee),
+            called,
             found,
         ),
         Node::New { callee, .. } => add_test(
@@ -86,6 +92,7 @@ pub(crate) fn add_operations(
             WarningKind::NotAFunction,
             *callee,
             no_function(reader, Entry::Construct, *callee),
+            called,
             found,
         ),
         Node::ToObject { src, .. } => add_test(
@@ -95,6 +102,7 @@ pub(crate) fn add_operations(
             WarningKind::NoObject,
             *src,
             Ok(no_object(reader, *src)),
+            called,
             found,
         ),
         Node::ReadRef { base, name, .. } => {
@@ -105,6 +113,7 @@ pub(crate) fn add_operations(
                 WarningKind::UnboundName,
                 *base,
                 Ok(unbound(reader, *base)),
+                called,
                 found,
             )?;
             add_test(
@@ -114,6 +123,7 @@ pub(crate) fn add_operations(
                 WarningKind::ScopeRow,
                 *base,
                 row_of_name(reader, *base, *name),
+                called,
                 found,
             )
         }
@@ -124,6 +134,7 @@ pub(crate) fn add_operations(
             WarningKind::ScopeRow,
             *base,
             row_of_name(reader, *base, *name),
+            called,
             found,
         ),
         Node::ReadProp { object, key, .. } => add_test(
@@ -133,6 +144,7 @@ pub(crate) fn add_operations(
             WarningKind::ScopeRow,
             *object,
             row_of_property(reader, *object, *key),
+            called,
             found,
         ),
         // The others have no test.

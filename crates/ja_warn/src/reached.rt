@@ -17,20 +17,22 @@ use ja_rows::Warning;
 use ja_transfer::{Entry, entry_at, some_without};
 use ja_value::{AProp, AValue, LabelSet};
 
-/// An operation that a table reaches, whether a state there allows it to go wrong, and the value
-/// that it is about. It is certain where none allows anything else.
+/// An operation that a table reaches, whether a state there allows it to go wrong, the value that
+/// it is about, and that of its name. It is certain where none allows anything else.
 #[derive(Drop)]
 pub(crate) struct Reached {
     pub warning: Warning,
     pub fault: bool,
     pub value: AValue,
+    pub name: AValue,
 }
 
-/// A warning, and the value that the table says of what it is about.
+/// A warning, the value that the table says of what it is about, and the value of the name of that.
 #[derive(Drop)]
 pub struct Told {
     pub warning: Warning,
     pub value: AValue,
+    pub name: AValue,
 }
 
 /// What a state allows: that an operation goes wrong, and anything else.
@@ -42,8 +44,8 @@ pub(crate) struct Allowed {
 
 // ---- parts of values
 
-// Whether some flag is set.
-fn has_flag(flags: Flags) -> bool
+/// Whether some flag is set.
+pub(crate) fn has_flag(flags: Flags) -> bool
     ensures { result ≡ (flags.absent || flags.entry || has_present_flag flags) }
 {
     flags.absent

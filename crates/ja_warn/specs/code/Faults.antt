@@ -6,7 +6,7 @@ use Rattle.std.specs.Option.{option_map, option_map_or}
 use Rattle.std.specs.Ordering.{is_eq, nat_cmp, ordering_then}
 use Rattle.std.specs.BTreeMap.{BTreeMap, get}
 use Rattle.ja_base.specs.declared.ids.FnId.{FnId}
-use Rattle.ja_graph.specs.declared.node.Node.{Node}
+use Rattle.ja_base.specs.declared.ids.NodeId.{NodeId}
 use Rattle.ja_graph.specs.declared.node.NodeInfo.{NodeInfo}
 use Rattle.ja_graph.specs.declared.program.Program.{Program}
 use Rattle.ja_graph.specs.Program.{node_at}
@@ -24,7 +24,7 @@ use Rattle.ja_aheap.specs.Entries.{entries_of}
 use Rattle.ja_warn.specs.declared.reached.Told.{Told}
 use Rattle.ja_warn.specs.declared.reached.Allowed.{Allowed}
 use Rattle.ja_warn.specs.declared.reached.Reached.{Reached}
-use Rattle.ja_warn.specs.Told.{subject}
+use Rattle.ja_warn.specs.Told.{name_at, subject}
 use Rattle.ja_rules.specs.declared.table.ContextTable.{ContextTable}
 use Rattle.ja_rules.specs.Tables.{states_in}
 
@@ -40,20 +40,21 @@ pub record SaysRow (w : View) (start : Labels) (keys : List Key) (a : Allowed) :
   pub fault : a.fault ≡ has_row w start keys
   pub more : a.more ≡ has_non_row w start keys
 
--- the value that a node's tests are about
-abbrev pub value_at : View → Node → AbstractValue
-value_at w n = option_map_or (at w) (subject n) no_value
-
 -- what is found of an operation: whether it may go wrong, certainly where nothing else may happen,
--- and the value that it is about
+-- the value that it is about, and the value of the name of that
 pub record Finding : Type 0 where
   pub warning : Warning
   pub fault : Bool
   pub value : AbstractValue
+  pub name : AbstractValue
 
--- what a test says of its operation
-abbrev pub tested : View → FnId → NodeInfo → Test → Finding
-tested w f i test = record {
+abbrev pub finding_of : Warning → Bool → AbstractValue → AbstractValue → Finding
+finding_of warning fault value name =
+    record { warning = warning; fault = fault; value = value; name = name }
+
+-- what a test says of its operation, which has a name
+abbrev pub tested : View → FnId → NodeInfo → AbstractValue → Test → Finding
+tested w f i name test = record {
   warning = record {
     kind = test.kind;
     place = i.place;
@@ -61,22 +62,28 @@ tested w f i test = record {
     certain = not (test.more w);
   };
   fault = test.fault w;
-  value = value_at w i.node;
+  value = option_map_or (at w) (subject i.node) no_value;
+  name = name;
 }
 
-abbrev pub reached_by : View → FnId → NodeInfo → List Finding
-reached_by w f i = map (tested w f i) (tests i.node)
+abbrev pub reached_by : View → FnId → NodeInfo → AbstractValue → List Finding
+reached_by w f i name = map (tested w f i name) (tests i.node)
 
 -- .. by the state that a table has at the node, if it has one
-abbrev pub reached_in : Program → Entries → FnId → NodeInfo → Option AbstractState → List Finding
-reached_in p e f i state =
-    option_map_or (λ a. reached_by (record { program = p; state = a; entries = e }) f i) state []
+abbrev pub reached_with : View → FnId → NodeId → NodeInfo → List Finding
+reached_with w f n i = reached_by w f i (name_at w f n i.node)
+
+abbrev pub reached_in : Program → Entries → FnId → NodeId → NodeInfo → Option AbstractState
+    → List Finding
+reached_in p e f n i state =
+    option_map_or (λ a. reached_with (record { program = p; state = a; entries = e }) f n i)
+    state []
 
 -- ---- at all nodes of a context
 
 abbrev pub reached_at : Program → ContextTable → ℕ → List Finding
 reached_at p c n =
-    option_map_or (λ i. reached_in p (entries_of c.entries) c.context.function i
+    option_map_or (λ i. reached_in p (entries_of c.entries) c.context.function (record { 0 = n }) i
     (states_in c.nodes.items n)) (node_at p c.context.function (record { 0 = n })) []
 
 abbrev pub reached_of_context : Program → ContextTable → List Finding
@@ -100,13 +107,14 @@ abbrev pub is_at : Spot → Finding → Bool
 is_at k o = is_eq (spot_cmp (spot_of (operation_of o.warning)) k)
 
 -- one more of the same operation: it may go wrong where either may, does so certainly where both
--- do, and is about what either is about
+-- do, is about what either is about, and has either's name
 abbrev pub merged : Option Finding → Finding → Finding
 merged None o = o
 merged (Some q) o = record {
   warning = record o.warning { certain = q.warning.certain && o.warning.certain };
   fault = q.fault || o.fault;
   value = join q.value o.value;
+  name = join q.name o.name;
 }
 
 -- what is held at a spot, with one more, and of a list
@@ -118,14 +126,19 @@ held k q os = fold (with_reached k) q os
 
 -- what a map of the code holds at a spot
 abbrev pub finding : Reached → Finding
-finding o = record { warning = o.warning; fault = o.fault; value = value_of o.value }
+finding o = record {
+  warning = o.warning;
+  fault = o.fault;
+  value = value_of o.value;
+  name = value_of o.name;
+}
 
 abbrev pub found_at : BTreeMap Spot Reached → Spot → Option Finding
 found_at m k = option_map finding (get spot_cmp m k)
 
 -- what is told of what may go wrong
 abbrev pub told_by : Spot × Reached → Told
-told_by e = record { warning = e.1.warning; value = e.1.value }
+told_by e = record { warning = e.1.warning; value = e.1.value; name = e.1.name }
 
 abbrev pub told_in : BTreeMap Spot Reached → List Told
 told_in m = map told_by (filter (λ e. e.1.fault) m.entries)

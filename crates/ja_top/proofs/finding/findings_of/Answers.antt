@@ -10,6 +10,7 @@ returns c =
       built = solved.built;
       few = solved.few;
       values = c.in_ok-warnings.ensures.values;
+      names = c.in_ok-warnings.ensures.names;
       sound = record {
         closed = solved.closed;
         exact = c.in_ok-warnings.ensures.warnings;

@@ -1,10 +1,14 @@
-use Rattle.std.proofs.Common.{◌≡◌, ◌<◌, vec_len, sym, ◌∙◌, ap, subst}
+use Rattle.std.proofs.Common.{◌≡◌, ◌<◌, List, length, vec_len, sym, ◌∙◌, ap, subst}
 use Rattle.std.specs.Prelude.{None, Some}
 use Rattle.std.specs.List.{AllByRecursion}
 use Rattle.std.specs.Option.{option_map}
+use Rattle.std.proofs.lemmas.Option.{slice_get_within}
 use Rattle.std.proofs.lemmas.Result.{IfOk-weaker}
 use Rattle.ja_base.specs.declared.ids.Reg.{Reg}
+use Rattle.ja_graph.specs.declared.node.NodeInfo.{NodeInfo}
 use Rattle.ja_graph.specs.Node.{registers_named}
+use Rattle.ja_graph.specs.Program.{nodes_of}
+use Rattle.ja_machine.specs.Frames.{registers_of}
 use Rattle.ja_abstract.specs.Reading.{View}
 use Rattle.ja_aheap.specs.Entries.{entries_of}
 use Rattle.ja_astate.specs.declared.state.AState.{AState}
@@ -12,6 +16,10 @@ use Rattle.ja_astate.specs.State.{state_of}
 use Rattle.ja_look.specs.Looks.{view_of}
 use Rattle.ja_rules.proofs.Found.{state_none, state_some}
 use Rattle.ja_rules.proofs.NodeFacts.{named_registers}
+use Rattle.ja_value.specs.Value.{value_of}
+use Rattle.ja_warn.specs.Told.{name_at, named}
+use Rattle.ja_warn.specs.code.Names.{AreWithin}
+use Rattle.ja_warn.proofs.NodeRanges.{nodes_within}
 use Rattle.ja_warn.specs.code.Faults.{found_at, held, reached_by}
 use Rattle.ja_warn.proofs.ReachedLemmas.{reached_is}
 use Rattle.ja_warn.proofs.faults.add_node.Goals as goal
@@ -31,6 +39,41 @@ new-reader-requires-clause-heap c =
     let n = c.args.node.0 in
     (c.requires.fits.states n c.in-Some.state.now
     (state_some own.nodes.items n c.state.result c.in-Some.state c.state.ensures c.in-Some.is)).heap
+
+pub name_at-requires-clause-nodes : goal.name_at-requires-clause-nodes
+name_at-requires-clause-nodes c =
+    let p = c.args.program.now in
+    let own = c.args.own.now in
+    let n = c.args.node.0 in
+    let f = own.context.function in
+    let kept = state_some own.nodes.items n c.state.result c.in-Some.state c.state.ensures
+    c.in-Some.is in
+    subst (λ (a : AState). AreWithin (vec_len a.registers) c.args.nodes.now)
+    (sym c.new-reader.ensures.state)
+    (subst (λ count. AreWithin count c.args.nodes.now)
+    (sym (c.requires.fits.states n c.in-Some.state.now kept).registers)
+    (subst (AreWithin (registers_of p f)) (sym c.requires.nodes)
+    (nodes_within p c.requires.program f)))
+
+pub name_at-requires-clause-number : goal.name_at-requires-clause-number
+name_at-requires-clause-number c =
+    subst (λ (xs : List NodeInfo). c.args.node.0 < length xs) (sym c.requires.nodes)
+    (slice_get_within (nodes_of c.args.program.now c.args.own.now.context.function)
+    c.args.node.0 c.args.info.now c.requires.info)
+
+pub name_at-requires-clause-node : goal.name_at-requires-clause-node
+name_at-requires-clause-node c =
+    let own = c.args.own.now in
+    let n = c.args.node.0 in
+    let i = c.args.info.now in
+    let kept = state_some own.nodes.items n c.state.result c.in-Some.state c.state.ensures
+    c.in-Some.is in
+    subst (λ (a : AState). AllByRecursion (λ (r : Reg). r.0 < vec_len a.registers)
+    (registers_named i.node)) (sym c.new-reader.ensures.state)
+    (subst (λ count. AllByRecursion (λ (r : Reg). r.0 < count) (registers_named i.node))
+    (sym (c.requires.fits.states n c.in-Some.state.now kept).registers)
+    (named_registers c.args.program.now c.requires.program own.context.function c.args.node i
+    c.requires.info))
 
 pub add_operations-requires : goal.add_operations-requires
 add_operations-requires c =
@@ -62,7 +105,9 @@ returns c =
       state = state_of (c.new-reader.ensures.state j);
       entries = entries_of (c.new-reader.ensures.entries j);
     } in
+    let name_is : value_of c.in_ok-name.name ≡ name_at w f c.args.node i.node =
+    c.in_ok-name.ensures ∙ (λ j. named (view_is j) (c.requires.nodes j) c.args.node i.node) in
     IfOk-weaker c.add_operations.result _ _ (λ _ added k. added k
-    ∙ ap (held k (found_at c.args.found.now k)) (ap (λ v. reached_by v f i) view_is
+    ∙ ap (held k (found_at c.args.found.now k)) ((λ j. reached_by (view_is j) f i (name_is j))
     ∙ sym (reached_is p own n i (Some (state_of a)) c.requires.info
     (ap (option_map state_of) kept)))) c.add_operations.ensures

@@ -1,14 +1,13 @@
--- The warnings of what is held of all nodes are the table's, and their values are there.
+-- The warnings of what is held of all nodes are the table's, and their values and names are there.
 use Rattle.std.proofs.Common.{List, sym, ◌∙◌, subst}
 use Rattle.std.specs.List.{AllByRecursion}
-use Rattle.ja_rows.specs.Warning.{AreWarnings, operation_of}
+use Rattle.ja_rows.specs.Warning.{AreWarnings}
 use Rattle.ja_sound.specs.Sound.{WarnsOfFaults}
-use Rattle.ja_value.specs.Value.{value_of}
 use Rattle.ja_rules.specs.Tables.{table_of}
 use Rattle.ja_warn.specs.declared.reached.Told.{Told}
-use Rattle.ja_warn.specs.Told.{warnings_in, IsValueThere}
+use Rattle.ja_warn.specs.Told.{warnings_in, IsNamed, IsTold}
 use Rattle.ja_warn.specs.code.Faults.{told_in}
-use Rattle.ja_warn.proofs.Listed.{values_told, warnings_told}
+use Rattle.ja_warn.proofs.Listed.{names_told, values_told, warnings_told}
 use Rattle.ja_warn.proofs.faults.told.Goals as goal
 
 pub returns-clause-warnings : goal.returns-clause-warnings
@@ -24,10 +23,16 @@ pub returns-clause-values : goal.returns-clause-values
 returns-clause-values c =
     let p = c.args.program.now in
     let t = table_of c.args.table.now in
-    subst (AllByRecursion
-    (λ (x : Told). IsValueThere p t (operation_of x.warning) (value_of x.value)))
-    (sym (c.from_vec.ensures ∙ c.in_ok-told.ensures.told))
+    subst (AllByRecursion (IsTold p t)) (sym (c.from_vec.ensures ∙ c.in_ok-told.ensures.told))
     (values_told p c.args.table.now c.requires.fits c.in_ok-found.found
+    c.in_ok-told.ensures.ordered c.in_ok-found.ensures)
+
+pub returns-clause-names : goal.returns-clause-names
+returns-clause-names c =
+    let p = c.args.program.now in
+    let t = table_of c.args.table.now in
+    subst (AllByRecursion (IsNamed p t)) (sym (c.from_vec.ensures ∙ c.in_ok-told.ensures.told))
+    (names_told p c.args.table.now c.requires.fits c.in_ok-found.found
     c.in_ok-told.ensures.ordered c.in_ok-found.ensures)
 
 pub returns-clause-faults : goal.returns-clause-faults

@@ -2,17 +2,14 @@ use Rattle.std.proofs.Common.{◌≡◌, rules, sym, ◌∙◌, ap, subst}
 use Rattle.std.specs.Option.{option_map, option_copied_mut}
 use Rattle.std.proofs.lemmas.Result.{IfOk-weaker}
 use Rattle.ja_value.specs.Value.{value_of}
-use Rattle.ja_warn.specs.code.Faults.{Finding, Spot, finding, found_at, merged, with_reached}
+use Rattle.ja_warn.specs.code.Faults.{Finding, Spot, finding, finding_of, found_at, merged, with_reached}
 use Rattle.ja_warn.proofs.Held.{held_added}
 use Rattle.ja_warn.proofs.found.add.Goals as goal
 
 pub returns-in-Some : goal.returns-in-Some
 returns-in-Some c =
-    let o : Finding = record {
-      warning = c.args.warning;
-      fault = c.args.fault;
-      value = value_of c.args.value.now;
-    } in
+    let o : Finding =
+    finding_of c.args.warning c.args.fault (value_of c.args.value.now) (value_of c.args.name.now) in
     let found = ap (option_map finding)
     (sym c.get_mut.ensures.value ∙ ap option_copied_mut c.in-Some.is) in
     IfOk-weaker c.merge.result _ _ (λ _ joined. held_added c.args.found.now
@@ -22,11 +19,8 @@ returns-in-Some c =
 
 pub returns-in_ok-insert-in-None : goal.returns-in_ok-insert-in-None
 returns-in_ok-insert-in-None c =
-    let o : Finding = record {
-      warning = c.args.warning;
-      fault = c.args.fault;
-      value = value_of c.args.value.now;
-    } in
+    let o : Finding =
+    finding_of c.args.warning c.args.fault (value_of c.args.value.now) (value_of c.args.name.now) in
     let s = c.spot_of-spot.result in
     let same = c.get_mut.follows.holds-at-none in
     let none = ap (λ m. found_at m s) same ∙ ap (option_map finding)
@@ -38,4 +32,5 @@ returns-in_ok-insert-in-None c =
       warning = c.args.warning;
       fault = c.args.fault;
       value = c.in_ok-value-in-None.ensures j;
+      name = c.in_ok-name-in-None.ensures j;
     }) ∙ ap (λ q. merged q o) (sym none)))

@@ -7,6 +7,7 @@ use Rattle.ja_graph.specs.declared.node.Node.{Node}
 use Rattle.ja_graph.specs.Node.{registers_named}
 use Rattle.ja_astate.specs.declared.state.AState.{AState}
 use Rattle.ja_look.specs.Looks.{view_of}
+use Rattle.ja_value.specs.Value.{value_of}
 use Rattle.ja_rows.specs.Edges.{calls_at, constructs_at}
 use Rattle.ja_rows.specs.Out.{name_keys}
 use Rattle.ja_rows.specs.Warning.{no_function, no_object, row_of_name, row_of_property, tests, unbound}
@@ -99,6 +100,7 @@ add_test-requires-in-ReadProp c =
 pub returns-in-Call : goal.returns-in-Call
 returns-in-Call c =
     one_test (view_of c.args.reader.now) c.args.function c.args.info.now
+    (value_of c.args.called.now)
     (no_function calls_at c.in-Call.callee) c.in-Call.callee c.no_function.result
     c.add_test.result _ _ (ap tests c.in-Call.is) (ap subject c.in-Call.is) c.no_function.ensures
     c.add_test.ensures
@@ -106,6 +108,7 @@ returns-in-Call c =
 pub returns-in-New : goal.returns-in-New
 returns-in-New c =
     one_test (view_of c.args.reader.now) c.args.function c.args.info.now
+    (value_of c.args.called.now)
     (no_function constructs_at c.in-New.callee) c.in-New.callee c.no_function-in-New.result
     c.add_test-in-New.result _ _ (ap tests c.in-New.is) (ap subject c.in-New.is)
     c.no_function-in-New.ensures c.add_test-in-New.ensures
@@ -113,6 +116,7 @@ returns-in-New c =
 pub returns-in-ToObject : goal.returns-in-ToObject
 returns-in-ToObject c =
     one_test (view_of c.args.reader.now) c.args.function c.args.info.now
+    (value_of c.args.called.now)
     (no_object c.in-ToObject.src) c.in-ToObject.src (Ok c.no_object.result)
     c.add_test-in-ToObject.result _ _ (ap tests c.in-ToObject.is) (ap subject c.in-ToObject.is)
     c.no_object.ensures c.add_test-in-ToObject.ensures
@@ -124,7 +128,8 @@ returns-in_ok-add_test-in-ReadRef c =
     let i = c.args.info.now in
     let first = unbound c.in-ReadRef.base in
     let about_is = ap subject c.in-ReadRef.is in
-    two_tests w f i first (row_of_name c.in-ReadRef.base (name_keys c.in-ReadRef.name))
+    two_tests w f i (value_of c.args.called.now) first
+    (row_of_name c.in-ReadRef.base (name_keys c.in-ReadRef.name))
     c.in-ReadRef.base c.row_of_name.result c.add_test-in-ReadRef-2.result _ _ _
     (ap tests c.in-ReadRef.is)
     (c.in_ok-add_test-in-ReadRef.ensures first refl about_is c.unbound.ensures) about_is
@@ -133,6 +138,7 @@ returns-in_ok-add_test-in-ReadRef c =
 pub returns-in-ReadSoft : goal.returns-in-ReadSoft
 returns-in-ReadSoft c =
     one_test (view_of c.args.reader.now) c.args.function c.args.info.now
+    (value_of c.args.called.now)
     (row_of_name c.in-ReadSoft.base (name_keys c.in-ReadSoft.name)) c.in-ReadSoft.base
     c.row_of_name-in-ReadSoft.result c.add_test-in-ReadSoft.result _ _
     (ap tests c.in-ReadSoft.is) (ap subject c.in-ReadSoft.is) c.row_of_name-in-ReadSoft.ensures
@@ -141,6 +147,7 @@ returns-in-ReadSoft c =
 pub returns-in-ReadProp : goal.returns-in-ReadProp
 returns-in-ReadProp c =
     one_test (view_of c.args.reader.now) c.args.function c.args.info.now
+    (value_of c.args.called.now)
     (row_of_property c.in-ReadProp.object c.in-ReadProp.key) c.in-ReadProp.object
     c.row_of_property.result c.add_test-in-ReadProp.result _ _ (ap tests c.in-ReadProp.is)
     (ap subject c.in-ReadProp.is) c.row_of_property.ensures c.add_test-in-ReadProp.ensures
