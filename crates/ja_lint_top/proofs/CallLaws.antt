@@ -4,13 +4,14 @@ use Rattle.std.specs.List.{AllByRecursion}
 use Rattle.std.proofs.Common.{refl, sym, ap, subst, inl, inr, arith}
 use Rattle.ja_base.specs.declared.ids.FnId.{FnId}
 use Rattle.ja_base.specs.declared.ids.Place.{Place}
+use Rattle.ja_files.specs.declared.file.File.{File}
 use Rattle.ja_graph.specs.declared.program.Program.{Program}
 use Rattle.ja_abstract.specs.Lists.{Member}
 use Rattle.ja_rows.specs.declared.table.Edge.{Edge}
 use Rattle.ja_rows.specs.declared.table.Warning.{Warning}
 use Rattle.ja_rows.specs.Table.{Table}
 use Rattle.ja_rules.proofs.Ascending.{of_member, same_elements, Ascends}
-use Rattle.ja_show.specs.declared.message.Link.{Link}
+use Rattle.ja_lint_top.specs.declared.links.Link.{Link}
 use Rattle.ja_show.specs.declared.message.Message.{Message}
 use Rattle.ja_lint_top.specs.Calls.{AreCallers, AreLinks, AreLinksOrdered, ArePlacesOrdered, IsBelow, IsCaller, IsLink, IsLinkBelow, IsOfText, Leads}
 use Rattle.ja_lint_top.specs.Telling.{AreTold}
@@ -86,8 +87,9 @@ module _ (p : Program) (t : Table) where
 
   -- ---- messages
 
-  pub one_each : (ws : List Warning) (ms : List Message) → AreTold p t ws ms
-      → length ms ≡ length ws
-  one_each [] ms told = ap length told
-  one_each (w ∷ ws) [] told = absurd told
-  one_each (w ∷ ws) (m ∷ ms) told = omega (arith, one_each ws ms told.1)
+  pub one_each : (files : List File) (ws : List Warning) (ms : List Message)
+      → AreTold files p t ws ms → length ms ≡ length ws
+  one_each files [] ms told = ap length told
+  one_each files (w ∷ ws) [] told = absurd told
+  one_each files (w ∷ ws) (m ∷ ms) told =
+      omega (arith, one_each files ws ms told.1)

@@ -2,13 +2,15 @@ pub mod Answering
 pub mod CallLaws
 pub mod Called
 pub mod Collected
-pub mod CommandLines
 pub mod Edges
+pub mod Held
 pub mod Leading
 pub mod Limits
 pub mod Linked
+pub mod Listed
 pub mod Orders
-pub mod Refusals
+pub mod Refused
+pub mod Shown
 pub mod Spots
 pub mod Told
 pub mod Warnings

@@ -2,7 +2,7 @@
 use Rattle.std.specs.Prelude.{◌≡◌}
 use Rattle.std.specs.Fmt.{digits}
 use Rattle.std.proofs.Common.{codes, refl}
-use Rattle.ja_lint_top.specs.Lint.{depth_words, functions_words, length_words, nodes_words, spent_words}
+use Rattle.ja_lint_top.specs.Refusals.{depth_words, functions_words, length_words, nodes_words, spent_words}
 
 pub length_written : codes "more than 16777216 bytes" ≡ length_words
 unfolding digits

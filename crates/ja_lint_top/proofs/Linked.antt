@@ -13,7 +13,7 @@ use Rattle.ja_graph.specs.declared.program.Program.{Program}
 use Rattle.ja_rules.specs.declared.table.ATable.{ATable}
 use Rattle.ja_rules.specs.declared.table.CallEdge.{CallEdge}
 use Rattle.ja_rules.specs.Tables.{table_of}
-use Rattle.ja_show.specs.declared.message.Link.{Link}
+use Rattle.ja_lint_top.specs.declared.links.Link.{Link}
 use Rattle.ja_lint_top.specs.Calls.{place_of, AreLinks, IsLink}
 use Rattle.ja_lint_top.specs.code.Calls.{edge_place, ends_cmp, ends_of, is_of_text, link_at, spot_of, Ends}
 use Rattle.ja_lint_top.proofs.Called.{calls_at, calls_of_text, calls_place, mapped, there}

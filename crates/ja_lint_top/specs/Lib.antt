@@ -1,8 +1,10 @@
--- what is told of a text, and how: read from `Lint` on
+-- what is told of files, and how: read from `Lint` on
 pub mod Lint
+pub mod Refusals
+pub mod Replies
+pub mod Reading
 pub mod Telling
+pub mod Ending
 pub mod Calls
-pub mod Counts
-pub mod Words
 -- what the functions inside the crate promise each other
 pub mod code

@@ -1,183 +1,175 @@
--- The answers of the program to words and a source: the cause of each status, and the text that is
--- written with it.
-use Rattle.std.specs.Prelude.{◌≡◌, ◌≤◌, ◌⊎◌, ◌+◌, ℕ, Bool, true, false, String, List, [], ◌∷◌, ◌++◌, map, length, Option, Some, None, unwrap_or}
-use Rattle.std.specs.Fmt.{decimal}
-use Rattle.std.specs.Str.{IsUtf8, chars}
+-- The answers of the program to words and files: the cause of each status, and what is written.
+use Rattle.std.specs.Prelude.{◌≡◌, ◌<◌, ◌≤◌, ◌⊎◌, ℕ, Bool, true, false, if◌then◌else◌, List, [], ◌∷◌, ◌++◌, length, map, filter, not, Option, Some, None, Contains}
+use Rattle.std.specs.List.{AllByRecursion}
+use Rattle.std.specs.Str.{IsUtf8, bytes_eq}
 use Rattle.std.specs.Str.Lossy.{utf8_valid_len}
-use Rattle.std.specs.String.{string_bytes}
-use Rattle.std.specs.declared.alloc.Global.{Global}
 use lib.Chars.{codes}
-use Rattle.ja_base.specs.declared.ids.Place.{Place}
-use Rattle.ja_base.specs.declared.ids.ScopeKind.{ScopeKind}
-use Rattle.ja_base.specs.Streams.{Rose, Keeps, IsLonger, TakesCount}
+use Rattle.ja_base.specs.Streams.{Rose, Keeps, AppendsFront}
+use Rattle.ja_device.specs.Devices.{AllSeen}
+use Rattle.ja_files.specs.declared.file.File.{File}
+use Rattle.ja_files.specs.Files.{characters_of, name_of, spot_of}
 use Rattle.ja_graph.specs.declared.program.Program.{Program}
-use Rattle.ja_grammar.specs.Language.{max_levels}
-use Rattle.ja_grammar.specs.declared.fault.ParseFault.TheVariants as fault
 use Rattle.ja_lex.specs.Spots.{max_bytes}
-use Rattle.ja_load.specs.Loading.{IsProgramOf, HasManyFunctions, HasManyNodes, IsNone}
-use Rattle.ja_lower.specs.Limits.{max_functions, max_size}
+use Rattle.ja_lint_devices.specs.Devices.{usual_values, AreDeclared, IsRefused}
+use Rattle.ja_lint_devices.specs.Texts.{refused_text}
+use Rattle.ja_lint_devices.specs.declared.refused.Refused.{Refused}
+use Rattle.ja_lint_words.specs.Words.{Asked, Word, IsCommandLine}
+use Rattle.ja_load.specs.Loading.{IsProgramOf}
 use Rattle.ja_prim.specs.declared.signature.Signature.{Signature}
 use Rattle.ja_rows.specs.declared.table.Item.{Item}
 use Rattle.ja_rows.specs.declared.table.Warning.{Warning}
 use Rattle.ja_rows.specs.Table.{Table, IsBuilt}
-use Rattle.ja_rules.specs.Solving.{WasSpent}
-use Rattle.ja_show.specs.declared.message.Level.TheVariants.{Error}
-use Rattle.ja_show.specs.declared.message.Link.{Link}
+use Rattle.ja_show.specs.declared.message.Link.{Link as ShownLink}
 use Rattle.ja_show.specs.declared.message.Message.{Message}
-use Rattle.ja_show.specs.Messages.{messages_text}
+use Rattle.ja_show.specs.Messages.{tool_name}
 use Rattle.ja_show.specs.Page.{page_text}
-use Rattle.ja_texts.specs.Texts.{scope_name}
-use Rattle.ja_top.specs.Answers.{Call, IsBegun, IsInput, IsWritten, Written}
+use Rattle.ja_top.specs.Answers.{Written}
 use Rattle.ja_top.specs.Promises.{IsSound}
 use Rattle.ja_top.specs.Runs.{signatures_of}
 use Rattle.ja_top.specs.Statuses.{has_fault}
-use Rattle.ja_top.specs.declared.status.Status.{Status}
-use Rattle.ja_top.specs.declared.status.Status.TheVariants.{Done, Warned, Usage, ReadFault, WriteFault}
-use Rattle.ja_top.specs.declared.status.Status.TheVariants.{TooLong, NotText, Syntax, Scope, Limit, Spent, Memory}
 use Rattle.ja_words.specs.Words.{default_budget}
 use Rattle.ja_lint_top.specs.Calls.{AreLinks}
-use Rattle.ja_lint_top.specs.Counts.{counts_text}
+use Rattle.ja_lint_top.specs.Ending.{counted_line, is_counted, last_line, name_shown}
+use Rattle.ja_lint_top.specs.Reading.{Held, AreHeld, Holds, HoldsMore, HoldsNone}
+use Rattle.ja_lint_top.specs.Refusals.{about, format_words, length_words, lines_about, lines_of, memory_words, no_text_words, text_of, AreFiles, IsAlone, RefusesAll, RefusesOne, names_of}
+use Rattle.ja_lint_top.specs.Replies.{Reply, told_line, Fails, IsLineTold, IsWhole, Says}
 use Rattle.ja_lint_top.specs.Telling.{AreTold}
-use Rattle.ja_lint_top.specs.Words.{IsCommandLine}
+use Rattle.ja_lint_top.specs.declared.asking.Format.{Format}
+use Rattle.ja_lint_top.specs.declared.asking.Format.TheVariants as format
+use Rattle.ja_lint_top.specs.declared.asking.Manner.{Manner}
+use Rattle.ja_lint_top.specs.declared.help.TheConstants.{HELP, VERSION}
+use Rattle.ja_lint_top.specs.declared.links.Link.{Link}
+use Rattle.ja_lint_top.specs.declared.reply.Status.{Status}
+use Rattle.ja_lint_top.specs.declared.reply.Status.TheVariants.{Clean, Faulty, Unfinished}
 
--- what the words ask for: a page or lines, under the name of a file if one is given
-pub record Asked : Type 0 where
-  pub html : Bool
-  pub name : Option (List ℕ)
+-- ---- files that are analysed
 
--- ---- a text that is analysed
+-- what stands behind the messages
+abbrev pub ending_text : Manner → List File → List Warning → List ℕ
+ending_text manner files warnings =
+    counted_line (length (filter (is_counted manner.rows) warnings))
+    ++ last_line (map name_shown files) warnings
 
--- the messages of a text, and behind them their counts
-abbrev pub lines_text : Option (List ℕ) → List ℕ → List Message → List Warning → List ℕ
-lines_text name text messages warnings =
-    messages_text name (chars text) messages ++ counts_text warnings ++ codes "\n"
+-- a link by the places of its files
+abbrev pub link_in : List ℕ → Link → ShownLink
+link_in first_lines link = record {
+  from = spot_of first_lines link.from;
+  to = spot_of first_lines link.to;
+}
 
--- a page goes by the name of the file
-abbrev pub title_of : Option (List ℕ) → List ℕ
-title_of name = unwrap_or name (codes "tajs-lint")
-
--- What is shown of messages, by whether a page is asked for. It has the links too, one for each call
--- of a function of the text.
-abbrev pub IsShown : Bool → Option (List ℕ) → List ℕ → Program → Table → List Message
-    → List Warning → List ℕ → Type 0
-IsShown true name text p t messages warnings out =
+-- What is shown of messages: lines that editors read, or a page with the files. A page has links
+-- too, one for each call of a function of the files.
+abbrev pub IsShown : Format → List File → Program → Table → List Message → List ℕ → List ℕ
+    → Type 0
+IsShown format.Text files p t messages ending out =
+    out ≡ lines_about files messages ++ ending ++ codes "\n"
+IsShown format.Html files p t messages ending out =
     (links : List Link) × AreLinks p t links
-    × (out ≡ page_text (title_of name) (counts_text warnings) (chars text) messages links)
-IsShown false name text p t messages warnings out =
-    out ≡ lines_text name text messages warnings
+    × (out ≡ page_text tool_name ending (map name_of files) (map characters_of files)
+    messages (map (link_in (lines_of files)) links))
 
--- What is written of the program of a text, with these warnings: a message for each, once and in
--- order, and nothing else. They are those of a table that some visits build, and of which all is
--- promised.
-pub record IsLinted (asked : Asked) (text : List ℕ) (p : Program) (out : List ℕ)
-    (warnings : List Warning) : Type 0 where
+-- What is written of the one program of all files, each of which is a program by itself: a message
+-- for each warning that isn't only counted, once and in order, and nothing else. They are those of a
+-- table that some visits build, and of which all is promised.
+pub record Lints (manner : Manner) (signatures : List Signature) (files : List File) (r : Reply)
+    : Type 0 where
+  pub alone : AllByRecursion IsAlone files
+  pub program : Program
+  pub program_is : IsProgramOf (text_of files) signatures program
   pub table : Table
   pub visits : List Item
+  pub warnings : List Warning
   pub messages : List Message
-  pub told : AreTold p table warnings messages
-  pub shown : IsShown asked.html asked.name text p table messages warnings out
-  pub built : IsBuilt p visits table
+  pub told : AreTold files program table
+      (filter (λ (w : Warning). not (is_counted manner.rows w)) warnings) messages
+  pub shown : IsShown manner.format files program table messages
+      (ending_text manner files warnings) r.out
+  pub status : r.status ≡ (if has_fault warnings then Faulty else Clean)
+  pub line : r.line ≡ []
+  pub built : IsBuilt program visits table
   pub few : length visits ≤ default_budget
-  pub sound : IsSound p table warnings
+  pub sound : IsSound program table warnings
 
-abbrev pub Lints : Asked → List ℕ → List Signature → List ℕ → List Warning → Type 0
-Lints asked text signatures out warnings =
-    (p : Program) × IsProgramOf text signatures p × IsLinted asked text p out warnings
+-- the answer to files that are texts: they are too long, or no program, one of them or all, or they
+-- are analysed
+abbrev pub Answers : Manner → List Signature → List File → Reply → Type 0
+Answers manner signatures files r =
+    ((max_bytes < length (text_of files)) × Fails length_words r)
+    ⊎ (RefusesOne files r ⊎ (RefusesAll signatures files r ⊎ Lints manner signatures files r))
 
--- ---- a text that is refused
+-- ---- files by their names
 
--- one error, at a place of the text or at none
-abbrev pub error_of : Option Place → List ℕ → Message
-error_of place text =
-    record { level = Error; place = place; text = text; value = []; calls = [] }
+-- some file can't be read, has too many bytes, or bytes that are no text
+abbrev pub IsUnreadable : Held → List Word → Reply → Type 0
+IsUnreadable held names r =
+    (name : Word) × Contains names name
+    × ((HoldsNone held name × ((reason : List ℕ) × Fails (about name reason) r))
+    ⊎ ((HoldsMore held name × Fails (about name length_words) r)
+    ⊎ ((bytes : List ℕ) × Holds held name bytes × (IsUtf8 bytes → ⊥)
+    × Fails (about name (no_text_words (utf8_valid_len bytes))) r)))
 
-abbrev pub error_text : Asked → List ℕ → Option Place → List ℕ → List ℕ
-error_text asked cs place text = messages_text asked.name cs (error_of place text ∷ [])
+abbrev pub Reads : Manner → List Signature → Held → List Word → Reply → Type 0
+Reads manner signatures held names r =
+    IsUnreadable held names r
+    ⊎ ((contents : List (List ℕ)) × (files : List File) × AreHeld held names contents
+    × AllByRecursion IsUtf8 contents × AreFiles names contents files
+    × Answers manner signatures files r)
 
--- the limits that a text may pass
-abbrev pub length_words : List ℕ
-length_words = codes "more than " ++ decimal max_bytes ++ codes " bytes"
+-- ---- words
 
-abbrev pub depth_words : List ℕ
-depth_words = codes "nested deeper than " ++ decimal max_levels ++ codes " levels"
+abbrev pub usage_words : List ℕ
+usage_words = codes "these words are none that it takes; --help tells which are"
 
-abbrev pub functions_words : List ℕ
-functions_words = codes "more than " ++ decimal max_functions ++ codes " functions"
+abbrev pub format_of : Option Word → Option Format
+format_of None = Some format.Text
+format_of (Some name) =
+    if bytes_eq name (codes "text") then Some format.Text
+    else if bytes_eq name (codes "html") then Some format.Html else None
 
-abbrev pub nodes_words : List ℕ
-nodes_words = codes "more than " ++ decimal max_size ++ codes " nodes"
+-- the values that declare devices, the usual ones where none is given
+abbrev pub values_of : List Word → List Word
+values_of [] = usual_values
+values_of values = values
 
-abbrev pub spent_words : List ℕ
-spent_words = codes "not closed after " ++ decimal default_budget ++ codes " visits"
+-- the answer to words that ask for an analysis
+abbrev pub Analyses : Asked → Held → Reply → Type 0
+Analyses asked held r =
+    ((format_of asked.format ≡ None) × Fails format_words r)
+    ⊎ (((why : Refused) × IsRefused (values_of asked.devices) why
+    × Fails (refused_text why) r)
+    ⊎ ((form : Format) × (devices : AllSeen) × (format_of asked.format ≡ Some form)
+    × AreDeclared (values_of asked.devices) devices
+    × Reads (record { format = form; rows = asked.rows }) (signatures_of devices) held
+    (names_of asked.files) r))
 
--- the text nests too deep, or has too many functions, or else too many nodes
-abbrev pub IsPastLimit : Asked → List ℕ → List Signature → List ℕ → Type 0
-IsPastLimit asked text signatures out =
-    ((place : Place) × IsNone text (fault.Depth place)
-    × (out ≡ error_text asked (chars text) (Some place) depth_words))
-    ⊎ ((HasManyFunctions text
-    × (out ≡ error_text asked (chars text) None functions_words))
-    ⊎ (HasManyNodes text signatures
-    × (out ≡ error_text asked (chars text) None nodes_words)))
+-- the answer to what is asked for: help, the version, or an analysis
+abbrev pub RepliesBy : Bool → Bool → Asked → Held → Reply → Type 0
+RepliesBy true version asked held r = Says HELP.now r
+RepliesBy false true asked held r = Says VERSION.now r
+RepliesBy false false asked held r = Analyses asked held r
 
--- the budget of visits is spent, and the table isn't closed
-abbrev pub IsSpent : Asked → List ℕ → List Signature → List ℕ → Type 0
-IsSpent asked text signatures out =
-    (p : Program) × IsProgramOf text signatures p
-    × ((visits : List Item) × WasSpent p default_budget visits)
-    × (out ≡ error_text asked (chars text) None spent_words)
+abbrev pub Replies : Asked → Held → Reply → Type 0
+Replies asked held r = RepliesBy asked.help asked.version asked held r
 
--- ---- what is written of bytes, by the status
+-- the words are no command line, or what they ask for is answered
+abbrev pub HasCause : List Word → Held → Reply → Type 0
+HasCause words held r =
+    (((asked : Asked) → IsCommandLine words asked → ⊥) × Fails usage_words r)
+    ⊎ ((asked : Asked) × IsCommandLine words asked × Replies asked held r)
 
-abbrev pub Follows : Asked → List ℕ → List Signature → Status → List ℕ → Type 0
-Follows asked bytes signatures Done out =
-    (ws : List Warning) × (has_fault ws ≡ false) × Lints asked bytes signatures out ws
-Follows asked bytes signatures Warned out =
-    (ws : List Warning) × (has_fault ws ≡ true) × Lints asked bytes signatures out ws
-Follows asked bytes signatures NotText out =
-    (IsUtf8 bytes → ⊥)
-    × (out ≡ error_text asked [] None
-    (codes "no character begins at byte " ++ decimal (utf8_valid_len bytes)))
-Follows asked bytes signatures Syntax out =
-    (place : Place) × IsNone bytes (fault.Syntax place)
-    × (out ≡ error_text asked (chars bytes) (Some place) (codes "syntax error"))
-Follows asked bytes signatures Scope out =
-    (kind : ScopeKind) × (place : Place) × IsNone bytes (fault.Scope kind place)
-    × (out ≡ error_text asked (chars bytes) (Some place)
-    (codes "out of the profile: " ++ scope_name kind))
-Follows asked bytes signatures Limit out = IsPastLimit asked bytes signatures out
-Follows asked bytes signatures Spent out = IsSpent asked bytes signatures out
-Follows asked bytes signatures status out = ⊥
+-- ---- what is written
 
--- ---- the program
+abbrev pub output_words : List ℕ
+output_words = codes "the output failed"
 
-abbrev pub Asks : List (String Global) → Asked → Type 0
-Asks words asked = IsCommandLine (map string_bytes words) asked.html asked.name
-
--- one line, without the name of a file
-abbrev pub refused : List ℕ → List ℕ
-refused text = messages_text None [] (error_of None text ∷ [])
-
--- the cause of each status that has a text, and the text; no device is asked
-abbrev pub HasCause : Call → Status → List ℕ → Type 0
-HasCause c Usage out =
-    ((asked : Asked) → Asks c.words asked → ⊥) × Keeps c.left c.left_after
-    × (out ≡ codes "usage: tajs-lint [--html] [NAME]\n")
-HasCause c ReadFault out =
-    ((asked : Asked) × Asks c.words asked) × Rose c.faults c.faults_after
-    × (out ≡ refused (codes "the input failed"))
-HasCause c TooLong out =
-    ((asked : Asked) × Asks c.words asked) × IsLonger max_bytes c.left
-    × TakesCount (max_bytes + 1) c.left c.left_after
-    × (out ≡ refused length_words)
-HasCause c status out =
-    (asked : Asked) × Asks c.words asked
-    × ((bytes : List ℕ) × IsInput c bytes
-    × Follows asked bytes (signatures_of c.devices) status out)
-
--- the status, its cause, and what the sink holds: after a fault of the sink the front of another
--- answer's text, and without memory nothing
-abbrev pub IsAnswered : Call → Written → Status → Type 0
-IsAnswered c w WriteFault = Rose w.faults w.faults_after × IsBegun (HasCause c) w
-IsAnswered c w Memory = Keeps w.written w.written_after × Keeps w.finished w.finished_after
-IsAnswered c w status = IsWritten (HasCause c) w status
+-- A reply with its cause is written, its line to standard error; or the output failed, with a front
+-- of it; or memory was refused, and nothing is written.
+abbrev pub IsAnswered : List Word → Held → Written → Written → Status → Type 0
+IsAnswered words held output errors status =
+    ((r : Reply) × HasCause words held r
+    × ((IsWhole output r.out × IsLineTold errors r.line × (status ≡ r.status))
+    ⊎ (Rose output.faults output.faults_after
+    × AppendsFront output.written output.written_after r.out
+    × IsLineTold errors (told_line output_words) × (status ≡ Unfinished))))
+    ⊎ (Keeps output.written output.written_after × Keeps output.finished output.finished_after
+    × IsLineTold errors (told_line memory_words) × (status ≡ Unfinished))

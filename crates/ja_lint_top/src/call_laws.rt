@@ -1,19 +1,20 @@
 //! What the definitions of calls and of messages come to. The functions do nothing; their contracts
 //! are the laws.
 
-ghost use Rattle.std.specs.Prelude.{◌≡◌, ◌++◌, Bool, true, false, codes, length, IsTrue, List, None, Some};
+ghost use Rattle.std.specs.Prelude.{◌≡◌, Bool, true, false, length, IsTrue, List};
 ghost use Rattle.ja_base.specs.declared.ids.FnId.{FnId};
 ghost use Rattle.ja_base.specs.declared.ids.Place.{Place};
+ghost use Rattle.ja_files.specs.declared.file.File.{File};
 ghost use Rattle.ja_graph.specs.declared.program.Program.{Program};
 ghost use Rattle.ja_rows.specs.declared.table.Edge.{Edge};
 ghost use Rattle.ja_rows.specs.declared.table.Warning.{Warning};
 ghost use Rattle.ja_rows.specs.declared.table.WarningKind.TheVariants.{NoObject, NotAFunction, ScopeRow};
 ghost use Rattle.ja_rows.specs.Table.{Table};
-ghost use Rattle.ja_show.specs.declared.message.Level.TheVariants.{Certain, Possible, Row};
-ghost use Rattle.ja_show.specs.declared.message.Link.{Link};
+ghost use Rattle.ja_show.specs.declared.message.Level.TheVariants.{Certain, Possible, Note};
+ghost use Rattle.ja_lint_top.specs.declared.links.Link.{Link};
 ghost use Rattle.ja_show.specs.declared.message.Message.{Message};
 ghost use Rattle.ja_lint_top.specs.Calls.{AreCallers, AreLinks, Calls, IsCaller, IsOfText};
-ghost use Rattle.ja_lint_top.specs.Telling.{function_text, level_of, told_text, AreTold};
+ghost use Rattle.ja_lint_top.specs.Telling.{level_of, AreTold};
 
 /// An operation of the text that calls a function is one of its callers. Where a built-in function
 /// calls another function, the callers of the one are callers of the other.
@@ -35,22 +36,14 @@ pub fn calls_have_one_list()
 
 /// Each warning has one message.
 pub fn warnings_have_messages()
-    ensures { (p : Program) (t : Table) (ws : List Warning) (ms : List Message)
-        → AreTold p t ws ms → length ms ≡ length ws }
+    ensures { (files : List File) (p : Program) (t : Table) (ws : List Warning)
+        (ms : List Message) → AreTold files p t ws ms → length ms ≡ length ws }
 {}
 
 /// A fault that certainly comes is of the level `Certain`, one that may come of `Possible`, and a
-/// read of what the analysis doesn't know of `Row`. A certain fault in the text reads
-/// `property of null or undefined (certain)`; behind a possible one in a built-in function stands
-/// its name.
+/// read of what the analysis doesn't know of `Note`.
 pub fn examples_of_messages()
     ensures certain { level_of NoObject true ≡ Certain }
     ensures possible { level_of NotAFunction false ≡ Possible }
-    ensures row { (certain : Bool) → level_of ScopeRow certain ≡ Row }
-    ensures text { (p : Program) (at : Place) → told_text p
-        (record { kind = NoObject; place = at; builtin = None; certain = true })
-        ≡ codes "property of null or undefined (certain)" }
-    ensures within { (p : Program) (at : Place) (f : FnId) → told_text p
-        (record { kind = NotAFunction; place = at; builtin = Some f; certain = false })
-        ≡ codes "call of a non-function (possible) in " ++ function_text p f }
+    ensures row { (certain : Bool) → level_of ScopeRow certain ≡ Note }
 {}

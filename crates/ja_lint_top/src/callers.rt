@@ -19,7 +19,7 @@ use std::collections::BTreeSet;
 pub(crate) type Spot = (u32, u32);
 
 /// The numbers of a place.
-pub(crate) fn spot_of(place: Place) -> Spot
+pub(crate) fn numbers_of(place: Place) -> Spot
     ensures { result ≡ spot_of place }
 {
     (place.line, place.column)
@@ -121,7 +121,7 @@ fn spot_into(program: &Program, marks: &[bool], edge: Edge) -> Option<Spot>
         return None;
     }
     let place = place_of(program, edge)?;
-    Some(spot_of(place))
+    Some(numbers_of(place))
 }
 
 // Those of all edges.

@@ -1,28 +1,33 @@
-//! Why a text isn't analysed.
+//! Why files aren't analysed.
 
-ghost use Rattle.std.specs.Prelude.{◌≡◌, ◌++◌, ◌∷◌, [], codes, IfOk, List, None, Some};
-ghost use Rattle.std.specs.Fmt.{decimal};
-ghost use Rattle.std.specs.Option.{option_map};
-ghost use Rattle.std.specs.Str.{chars};
-ghost use Rattle.ja_load.specs.Loading.{IsNone, HasNone};
+ghost use Rattle.std.specs.Prelude.{◌≡◌, ◌<◌, ◌^◌, ◌++◌, ℕ, codes, Contains, IfOk, IfSome, List, None, length, option_map};
+ghost use Rattle.std.specs.List.{AllByRecursion};
+ghost use Rattle.ja_files.specs.Files.{spot_of};
+ghost use Rattle.ja_load.specs.Loading.{HasNone};
 ghost use Rattle.ja_prim.specs.declared.signature.Signature.{Signature};
-ghost use Rattle.ja_show.specs.Messages as show;
-ghost use Rattle.ja_texts.specs.Texts as texts;
 ghost use Rattle.ja_top.specs.Findings.{IsUnfound};
-ghost use Rattle.ja_lint_top.specs.Lint.{error_of, Follows};
-ghost use Rattle.ja_lint_top.specs.code.Answers.{asked_of, IsRefusal};
+ghost use Rattle.ja_lint_top.specs.Lint.{IsUnreadable};
+ghost use Rattle.ja_lint_top.specs.Reading.{AreHeld, Held, IsUnread};
+ghost use Rattle.ja_lint_top.specs.Refusals as spec;
+ghost use Rattle.ja_lint_top.specs.Refusals.{lines_of, text_of, IsAlone, Refuses, RefusesAll, RefusesOne};
+ghost use Rattle.ja_lint_top.specs.Replies.{told_line, Fails};
+ghost use Rattle.ja_lint_top.specs.code.Answers.{reply_of, AreWithin, IsNoText, IsRefusedAlone};
 
-use crate::words::Words;
-use ja_base::{Memory, Place, ScopeKind, Seq};
+use crate::files::Unread;
+use crate::reading::{NoTexts, known_as};
+use crate::reply::{Reply, Status, fail, told_line};
+use ja_base::{Memory, Place, Seq};
+use ja_files::{File, Spot, spot_of};
 use ja_grammar::ParseFault;
 use ja_load::LoadFault;
-use ja_show::{Level, Message, messages_text};
+use ja_parse::parse;
+use ja_show::{Level, Message, messages_text, shown_name};
 use ja_texts::{push_number, scope_name};
-use ja_top::{Answer, FindFault, Status};
+use ja_top::FindFault;
 use std::alloc::Global;
 
-// Bytes of its own.
-fn text_of(alloc: Global, words: &[u8]) -> Result<Vec<u8>, Memory>
+/// Words that are told.
+pub(crate) fn words_of(alloc: Global, words: &[u8]) -> Result<Vec<u8>, Memory>
     ensures { IfOk result (λ text. text.items ≡ words.now) }
 {
     let mut text = Vec::new(alloc);
@@ -30,160 +35,216 @@ fn text_of(alloc: Global, words: &[u8]) -> Result<Vec<u8>, Memory>
     Ok(text)
 }
 
-// The text of an error.
-fn error(
-    alloc: Global,
-    name: Option<&str>,
-    text: &str,
-    place: Option<Place>,
-    words: Vec<u8>,
-) -> Result<Vec<u8>, Memory>
-    ensures { IfOk result (λ out. out.items
-        ≡ show.messages_text (option_map (λ name. name.now) name.entry) (chars text.now)
-        (error_of place words.items ∷ [])) }
+// ---- files
+
+// What is said of a file.
+fn fail_about(alloc: Global, name: &str, words: &[u8]) -> Result<Reply, Memory>
+    ensures { IfOk result (λ r. Fails (spec.about name.now words.now) (reply_of r)) }
 {
-    let message = Message {
-        level: Level::Error,
-        place,
-        text: Seq::from_vec(words),
-        value: Seq::new(alloc),
-        calls: Seq::new(alloc),
-    };
-    let name = name.map(|name| name.as_bytes());
-    messages_text(alloc, name, text, &[message])
+    let mut text = shown_name(alloc, known_as(name))?;
+    text.extend_from_slice(b": ")?;
+    text.extend_from_slice(words)?;
+    fail(alloc, &text)
 }
 
-/// The line of a refusal that is of no text.
-pub(crate) fn refuse(alloc: Global, status: Status, words: &[u8]) -> Result<Answer, Memory>
-    ensures { IfOk result (IsRefusal None [] status None words.now) }
+// Bytes that are no text.
+fn fail_at_byte(alloc: Global, name: &str, offset: usize) -> Result<Reply, Memory>
+    ensures { IfOk result (λ r. Fails (spec.about name.now (spec.no_text_words offset))
+        (reply_of r)) }
 {
-    let text = error(alloc, None, "", None, text_of(alloc, words)?)?;
-    Ok(Answer { status, text })
-}
-
-/// The refusal of bytes that are no text.
-pub(crate) fn refuse_bytes(
-    alloc: Global,
-    name: Option<&str>,
-    offset: usize,
-) -> Result<Answer, Memory>
-    ensures { IfOk result (IsRefusal (option_map (λ name. name.now) name.entry) []
-        Status.NotText None (codes "no character begins at byte " ++ decimal offset)) }
-{
-    let mut words = text_of(alloc, b"no character begins at byte ")?;
+    let mut words = words_of(alloc, b"no character begins at byte ")?;
     push_number(&mut words, offset as u64)?;
-    let text = error(alloc, name, "", None, words)?;
-    Ok(Answer {
-        status: Status::NotText,
-        text,
-    })
+    fail_about(alloc, name, &words)
 }
 
-// The answer to a text that is refused, with what it is refused for, at a place.
-fn answer(
-    alloc: Global,
-    name: Option<&str>,
-    text: &str,
-    status: Status,
-    place: Option<Place>,
-    words: &[u8],
-) -> Result<Answer, Memory>
-    ensures { IfOk result (IsRefusal (option_map (λ name. name.now) name.entry) (chars text.now)
-        status place words.now) }
+/// Says why a file isn't read.
+pub(crate) fn explain_unread(alloc: Global, name: &str, why: Unread) -> Result<Reply, Memory>
+    ensures { IfOk result (λ r. (held : Held) (names : List (List ℕ)) → Contains names name.now
+        → IsUnread held name.now why → IsUnreadable held names (reply_of r)) }
 {
-    let text = error(alloc, name, text, place, text_of(alloc, words)?)?;
-    Ok(Answer { status, text })
-}
-
-// The answer to a text that leaves the profile.
-fn refuse_scope(
-    alloc: Global,
-    name: Option<&str>,
-    text: &str,
-    kind: ScopeKind,
-    place: Place,
-) -> Result<Answer, Memory>
-    ensures { IfOk result (IsRefusal (option_map (λ name. name.now) name.entry) (chars text.now)
-        Status.Scope (Some place) (codes "out of the profile: " ++ texts.scope_name kind)) }
-{
-    let mut words = text_of(alloc, b"out of the profile: ")?;
-    words.extend_from_slice(scope_name(kind))?;
-    let text = error(alloc, name, text, Some(place), words)?;
-    Ok(Answer {
-        status: Status::Scope,
-        text,
-    })
-}
-
-// Why a text is none of the language.
-fn explain_parse(
-    alloc: Global,
-    words: Words<'_>,
-    text: &str,
-    fault: ParseFault,
-) -> Result<Answer, Memory>
-    ensures { IfOk result (λ a. (signatures : List Signature) → IsNone text.now fault
-        → Follows (asked_of words.entry) text.now signatures a.status a.text.items) }
-{
-    let name = words.name;
-    match fault {
-        ParseFault::Syntax { place } => {
-            let words = b"syntax error";
-            answer(alloc, name, text, Status::Syntax, Some(place), words)
-        }
-        ParseFault::Scope { kind, place } => refuse_scope(alloc, name, text, kind, place),
-        ParseFault::Depth { place } => {
-            let words = b"nested deeper than 200 levels";
-            answer(alloc, name, text, Status::Limit, Some(place), words)
-        }
-        ParseFault::Memory => Err(Memory),
+    match why {
+        Unread::Failed(reason) => fail_about(alloc, name, reason),
+        Unread::TooLong => fail_about(alloc, name, b"more than 16777216 bytes"),
+        Unread::Memory => Err(Memory),
     }
 }
 
-// Why a text has no program.
+/// Says why what was read of files are no texts.
+pub(crate) fn explain_no_texts(alloc: Global, why: NoTexts<'_>) -> Result<Reply, Memory>
+    ensures { IfOk result (λ r. (held : Held) (names contents : List (List ℕ))
+        → AreHeld held names contents → IsNoText names contents why.entry
+        → IsUnreadable held names (reply_of r)) }
+{
+    match why {
+        NoTexts::At { name, offset } => fail_at_byte(alloc, name, offset),
+        NoTexts::Memory => Err(Memory),
+    }
+}
+
+// ---- texts
+
+/// Where a text is no program.
+pub(crate) fn fault_place(fault: ParseFault) -> Option<Place>
+    ensures { result ≡ spec.fault_place fault }
+{
+    match fault {
+        ParseFault::Syntax { place }
+        | ParseFault::Scope { kind: _, place }
+        | ParseFault::Depth { place } => Some(place),
+        ParseFault::Memory => None,
+    }
+}
+
+/// Why a text is no program.
+pub(crate) fn fault_words(alloc: Global, fault: ParseFault) -> Result<Vec<u8>, Memory>
+    ensures { IfOk result (λ words. words.items ≡ spec.fault_words fault) }
+{
+    match fault {
+        ParseFault::Syntax { place: _ } => words_of(alloc, b"syntax error"),
+        ParseFault::Scope { kind, place: _ } => {
+            let mut words = words_of(alloc, b"out of the profile: ")?;
+            words.extend_from_slice(scope_name(kind))?;
+            Ok(words)
+        }
+        ParseFault::Depth { place: _ } => words_of(alloc, b"nested deeper than 200 levels"),
+        ParseFault::Memory => words_of(alloc, b"memory was refused"),
+    }
+}
+
+// The message of an error.
+fn error_of(alloc: Global, spot: Option<Spot>, words: &[u8]) -> Result<Message, Memory>
+    ensures { IfOk result (λ message. message ≡ spec.error_of spot words.now) }
+{
+    Ok(Message {
+        level: Level::Error,
+        spot,
+        text: Seq::from_vec(words_of(alloc, words)?),
+        value: Seq::new(alloc),
+        calls: Seq::new(alloc),
+    })
+}
+
+// The line of a refusal.
+fn refusal_line(alloc: Global, words: &[u8]) -> Result<Vec<u8>, Memory>
+    ensures { IfOk result (λ line. line.items
+        ≡ told_line (codes "nothing is analysed: " ++ words.now)) }
+{
+    let mut why = words_of(alloc, b"nothing is analysed: ")?;
+    why.extend_from_slice(words)?;
+    told_line(alloc, &why)
+}
+
+/// The refusal of files, with one error at a place of them or at none.
+pub(crate) fn refuse(
+    alloc: Global,
+    files: &[File<'_>],
+    spot: Option<Spot>,
+    words: &[u8],
+) -> Result<Reply, Memory>
+    ensures { IfOk result (λ r. Refuses files.now spot words.now (reply_of r)) }
+{
+    let message = error_of(alloc, spot, words)?;
+    let out = messages_text(alloc, files, &[message])?;
+    let line = refusal_line(alloc, words)?;
+    Ok(Reply {
+        status: Status::Unfinished,
+        out,
+        line,
+    })
+}
+
+/// The first file that is no program by itself, by its number, and why.
+pub(crate) fn first_refused(
+    alloc: Global,
+    files: &[File<'_>],
+) -> Result<Option<(u32, ParseFault)>, Memory>
+    requires within { AreWithin files.now }
+    requires few { length files.now < 2 ^ 32 }
+    ensures refused { IfOk result (λ refused. IfSome refused (λ why. IsRefusedAlone files.now
+        why.0 why.1)) }
+    ensures alone { IfOk result (λ refused. refused ≡ None → AllByRecursion IsAlone files.now) }
+{
+    for number in 0..files.len() {
+        match parse(alloc, files[number].text) {
+            Ok(_) => {}
+            Err(ParseFault::Memory) => return Err(Memory),
+            Err(fault) => return Ok(Some((number as u32, fault))),
+        }
+    }
+    Ok(None)
+}
+
+/// The refusal of a file that is no program by itself.
+pub(crate) fn refuse_one(
+    alloc: Global,
+    files: &[File<'_>],
+    file: u32,
+    fault: ParseFault,
+) -> Result<Reply, Memory>
+    requires { IsRefusedAlone files.now file fault }
+    ensures { IfOk result (λ r. RefusesOne files.now (reply_of r)) }
+{
+    let spot = fault_place(fault).map(|place| Spot { file, place });
+    let words = fault_words(alloc, fault)?;
+    refuse(alloc, files, spot, &words)
+}
+
+// The refusal of files whose one text is no program.
+fn refuse_joined(
+    alloc: Global,
+    files: &[File<'_>],
+    first_lines: &[u32],
+    fault: ParseFault,
+) -> Result<Reply, Memory>
+    requires few { length first_lines.now < 2 ^ 32 }
+    requires lines { first_lines.now ≡ lines_of files.now }
+    ensures { IfOk result (λ r. Refuses files.now
+        (option_map (spot_of (lines_of files.now)) (spec.fault_place fault))
+        (spec.fault_words fault) (reply_of r)) }
+{
+    let spot = fault_place(fault).map(|place| spot_of(first_lines, place));
+    let words = fault_words(alloc, fault)?;
+    refuse(alloc, files, spot, &words)
+}
+
+// Says why the one text of files has no program.
 fn explain_load(
     alloc: Global,
-    words: Words<'_>,
-    text: &str,
+    files: &[File<'_>],
+    first_lines: &[u32],
     fault: LoadFault,
-) -> Result<Answer, Memory>
-    ensures { IfOk result (λ a. (signatures : List Signature) → HasNone text.now signatures fault
-        → Follows (asked_of words.entry) text.now signatures a.status a.text.items) }
+) -> Result<Reply, Memory>
+    requires few { length first_lines.now < 2 ^ 32 }
+    requires lines { first_lines.now ≡ lines_of files.now }
+    ensures { IfOk result (λ r. (signatures : List Signature)
+        → HasNone (text_of files.now) signatures fault
+        → RefusesAll signatures files.now (reply_of r)) }
 {
-    let name = words.name;
     match fault {
-        LoadFault::Parse(fault) => explain_parse(alloc, words, text, fault),
-        LoadFault::Functions => {
-            let words = b"more than 4096 functions";
-            answer(alloc, name, text, Status::Limit, None, words)
-        }
-        LoadFault::Nodes => {
-            let words = b"more than 65536 nodes";
-            answer(alloc, name, text, Status::Limit, None, words)
-        }
+        LoadFault::Parse(fault) => refuse_joined(alloc, files, first_lines, fault),
+        LoadFault::Functions => refuse(alloc, files, None, b"more than 4096 functions"),
+        LoadFault::Nodes => refuse(alloc, files, None, b"more than 65536 nodes"),
         // no status has too many names as its cause: see docs/DECISIONS.md
         LoadFault::Names => Err(Memory),
     }
 }
 
-/// Says why a text isn't analysed.
+/// Says why the one text of files isn't analysed. That it is no text isn't said: it is one.
 pub(crate) fn explain(
     alloc: Global,
-    words: Words<'_>,
-    text: &str,
+    files: &[File<'_>],
+    first_lines: &[u32],
     fault: FindFault,
-) -> Result<Answer, Memory>
-    ensures { IfOk result (λ a. (signatures : List Signature) → IsUnfound text.now signatures fault
-        → Follows (asked_of words.entry) text.now signatures a.status a.text.items) }
+) -> Result<Reply, Memory>
+    requires few { length first_lines.now < 2 ^ 32 }
+    requires lines { first_lines.now ≡ lines_of files.now }
+    ensures { IfOk result (λ r. (signatures : List Signature)
+        → IsUnfound (text_of files.now) signatures fault
+        → RefusesAll signatures files.now (reply_of r)) }
 {
-    let name = words.name;
     match fault {
-        FindFault::NotText { offset } => refuse_bytes(alloc, name, offset),
-        FindFault::Load(fault) => explain_load(alloc, words, text, fault),
-        FindFault::Spent => {
-            let words = b"not closed after 1000000 visits";
-            answer(alloc, name, text, Status::Spent, None, words)
-        }
-        FindFault::Memory => Err(Memory),
+        FindFault::Load(fault) => explain_load(alloc, files, first_lines, fault),
+        FindFault::Spent => refuse(alloc, files, None, b"not closed after 1000000 visits"),
+        FindFault::NotText { offset: _ } | FindFault::Memory => Err(Memory),
     }
 }

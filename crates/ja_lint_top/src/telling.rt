@@ -1,30 +1,34 @@
 //! The messages of warnings.
 
-ghost use Rattle.std.specs.Prelude.{◌≡◌, ◌++◌, IfOk, OnOk};
+ghost use Rattle.std.specs.Prelude.{◌≡◌, ◌<◌, ◌^◌, IfOk, filter, length, map, not};
+ghost use Rattle.ja_files.specs.Files as files;
 ghost use Rattle.std.specs.List.{AllByRecursion};
 ghost use Rattle.ja_graph.specs.WellFormed.{IsWellFormed};
 ghost use Rattle.ja_rules.specs.Tables.{table_of, Fits};
+ghost use Rattle.ja_lint_top.specs.Ending.{is_counted};
 ghost use Rattle.ja_lint_top.specs.Telling as spec;
 ghost use Rattle.ja_lint_top.specs.Telling.{AreTold, Tells};
-ghost use Rattle.ja_warn.specs.Told.{warnings_in, IsTold};
+ghost use Rattle.ja_lint_top.specs.Refusals.{lines_of};
+ghost use Rattle.ja_warn.specs.Told.{warnings_in, IsNamed, IsTold};
 
 use crate::callers::callers;
+use crate::ending::is_counted;
 use ja_base::{FnId, Memory, Place, Seq};
+use ja_files::{Spot, spot_of};
 use ja_graph::Program;
-use ja_report::{certainty_text, kind_text, value_text};
+use ja_lint_text::{Source, value_words, warning_words};
 use ja_rows::{Warning, WarningKind};
 use ja_rules::ATable;
 use ja_show::{Level, Message};
-use ja_texts::push_plain;
 use ja_warn::Told;
-use std::alloc::Global;
+use std::alloc::{AllocError, Global};
 
 // The level of a warning.
 fn level_of(warning: Warning) -> Level
     ensures { result ≡ spec.level_of warning.kind warning.certain }
 {
     match warning.kind {
-        WarningKind::ScopeRow => Level::Row,
+        WarningKind::ScopeRow => Level::Note,
         _ => {
             if warning.certain {
                 Level::Certain
@@ -33,34 +37,6 @@ fn level_of(warning: Warning) -> Level
             }
         }
     }
-}
-
-// Adds the name of a built-in function.
-fn push_function(text: &mut Vec<u8>, program: &Program, function: FnId) -> Result<(), Memory>
-    ensures { OnOk result (text.new.items ≡ text.old.items
-        ++ spec.function_text program.now function) }
-{
-    match program.functions.as_slice().get(function.0 as usize) {
-        Some(function) => push_plain(text, function.name.units()),
-        None => Ok(()),
-    }
-}
-
-// What is told of a warning.
-#[tactic(auto, unfolding(crate::specs::Telling::told_text))]
-fn told_text(alloc: Global, program: &Program, warning: Warning) -> Result<Vec<u8>, Memory>
-    ensures { IfOk result (λ text. text.items ≡ spec.told_text program.now warning) }
-{
-    let mut text = Vec::new(alloc);
-    text.extend_from_slice(kind_text(warning.kind))?;
-    text.extend_from_slice(b" (")?;
-    text.extend_from_slice(certainty_text(warning.certain))?;
-    text.push(b')')?;
-    if let Some(function) = warning.builtin {
-        text.extend_from_slice(b" in ")?;
-        push_function(&mut text, program, function)?;
-    }
-    Ok(text)
 }
 
 // Where a warning is told: at its place, or at the calls of the built-in function.
@@ -80,46 +56,72 @@ fn standing(
     }
 }
 
+// The spots of places.
+fn spots_of(alloc: Global, first_lines: &[u32], places: &[Place]) -> Result<Vec<Spot>, AllocError>
+    requires { length first_lines.now < 2 ^ 32 }
+    ensures { IfOk result (λ spots. spots.items
+        ≡ map (files.spot_of first_lines.now) places.now) }
+{
+    places
+        .iter()
+        .map(|place| spot_of(first_lines, *place))
+        .collect(alloc)
+}
+
 // The message of a warning.
 fn message_of(
     alloc: Global,
-    program: &Program,
+    source: &Source<'_>,
     table: &ATable,
     told: &Told,
 ) -> Result<Message, Memory>
-    requires program { IsWellFormed program.now }
-    requires fits { Fits program.now table.now }
-    requires told { IsTold program.now (table_of table.now) told.now }
-    ensures { IfOk result (Tells program.now (table_of table.now) told.now.warning) }
+    requires program { IsWellFormed source.now.program.now }
+    requires fits { Fits source.now.program.now table.now }
+    requires lines { source.now.first_lines.now ≡ lines_of source.now.files.now }
+    requires few { length source.now.first_lines.now < 2 ^ 32 }
+    requires told { IsTold source.now.program.now (table_of table.now) told.now }
+    requires named { IsNamed source.now.program.now (table_of table.now) told.now }
+    ensures { IfOk result (Tells source.now.files.now source.now.program.now (table_of table.now)
+        told.now.warning) }
 {
-    let text = told_text(alloc, program, told.warning)?;
-    let value = value_text(alloc, program, &told.value)?;
-    let (place, calls) = standing(alloc, program, table, told.warning)?;
+    let text = warning_words(alloc, source, told)?;
+    let value = value_words(alloc, source, &told.value)?;
+    let (place, calls) = standing(alloc, source.program, table, told.warning)?;
+    let calls = spots_of(alloc, source.first_lines, calls.as_slice())?;
     Ok(Message {
         level: level_of(told.warning),
-        place,
+        spot: place.map(|place| spot_of(source.first_lines, place)),
         text: Seq::from_vec(text),
         value: Seq::from_vec(value),
-        calls,
+        calls: Seq::from_vec(calls),
     })
 }
 
-/// The messages of the warnings of a table.
+/// The messages of those warnings of a table that aren't only counted, where `rows` asks for all.
 pub(crate) fn messages_of(
     alloc: Global,
-    program: &Program,
+    source: &Source<'_>,
     table: &ATable,
     warnings: &[Told],
+    rows: bool,
 ) -> Result<Vec<Message>, Memory>
-    requires program { IsWellFormed program.now }
-    requires fits { Fits program.now table.now }
-    requires told { AllByRecursion (IsTold program.now (table_of table.now)) warnings.now }
-    ensures { IfOk result (λ messages. AreTold program.now (table_of table.now)
-        (warnings_in warnings.now) messages.items) }
+    requires program { IsWellFormed source.now.program.now }
+    requires fits { Fits source.now.program.now table.now }
+    requires lines { source.now.first_lines.now ≡ lines_of source.now.files.now }
+    requires few { length source.now.first_lines.now < 2 ^ 32 }
+    requires told { AllByRecursion (IsTold source.now.program.now (table_of table.now))
+        warnings.now }
+    requires named { AllByRecursion (IsNamed source.now.program.now (table_of table.now))
+        warnings.now }
+    ensures { IfOk result (λ messages. AreTold source.now.files.now source.now.program.now
+        (table_of table.now) (filter (λ w. not (is_counted rows w)) (warnings_in warnings.now))
+        messages.items) }
 {
     let mut messages = Vec::new(alloc);
     for told in warnings {
-        messages.push(message_of(alloc, program, table, told)?)?;
+        if !is_counted(rows, &told.warning) {
+            messages.push(message_of(alloc, source, table, told)?)?;
+        }
     }
     Ok(messages)
 }

@@ -1,214 +1,251 @@
-//! The answer to words and a source.
+//! The answer to words and files.
 
-ghost use Rattle.std.specs.Prelude.{◌≡◌, ◌≤◌, ◌++◌, codes, IfOk, List, String, length};
-ghost use Rattle.std.specs.List.{list_any, AllByRecursion};
-ghost use Rattle.std.specs.Option.{option_map};
-ghost use Rattle.std.specs.Str.{chars};
-ghost use Rattle.std.specs.declared.alloc.Global.{Global};
+ghost use Rattle.std.specs.Prelude.{◌≡◌, ◌<◌, ◌≤◌, ◌^◌, if◌then◌else◌, IfOk, length, map};
+ghost use Rattle.std.specs.List.{AllByRecursion};
+ghost use Rattle.std.specs.String.{string_bytes};
 ghost use Rattle.ja_base.specs.Streams.{NeverFalls};
 ghost use Rattle.ja_graph.specs.WellFormed.{IsWellFormed};
 ghost use Rattle.ja_lex.specs.Spots.{max_bytes};
+ghost use Rattle.ja_lint_words.specs.Words.{asked_of};
 ghost use Rattle.ja_rows.specs.Warning.{AreOrdered};
 ghost use Rattle.ja_rules.specs.Tables.{table_of, Fits};
-ghost use Rattle.ja_show.specs.Messages as show;
-ghost use Rattle.ja_top.specs.Answers.{call_of, written_of};
+ghost use Rattle.ja_top.specs.Answers.{written_of};
 ghost use Rattle.ja_top.specs.Runs.{signatures_of};
-ghost use Rattle.ja_top.specs.Statuses.{is_fault};
-ghost use Rattle.ja_top.specs.code.Statuses.{status_of};
-ghost use Rattle.ja_warn.specs.Told.{warnings_in, IsTold};
-ghost use Rattle.ja_lint_top.specs.Lint.{Asks, Follows, HasCause, IsAnswered};
-ghost use Rattle.ja_lint_top.specs.code.Answers.{asked_of, Shows};
+ghost use Rattle.ja_top.specs.Statuses as ending;
+ghost use Rattle.ja_lint_top.specs.declared.reply.Status.TheVariants as reply;
+ghost use Rattle.ja_warn.specs.Told.{warnings_in, IsNamed, IsTold};
+ghost use Rattle.ja_lint_top.specs.Lint.{Analyses, Answers, HasCause, IsAnswered, Reads, Replies};
+ghost use Rattle.ja_lint_top.specs.Refusals.{lines_of, text_of, IsAlone};
+ghost use Rattle.ja_lint_top.specs.Replies.{IsLineTold};
+ghost use Rattle.ja_lint_top.specs.code.Answers.{Shows, reply_of};
 
-use crate::counts::counts_text;
-use crate::links::links;
-use crate::refusing::{explain, refuse, refuse_bytes};
+use crate::asking::{Format, Manner, format_of, names_of, values_of};
+use crate::ending::{ending_of, has_fault};
+use crate::files::Files;
+use crate::help::{HELP, VERSION};
+use crate::links::links_in;
+use crate::reading::{contents_of, texts_of};
+use crate::refusing::{explain, explain_no_texts, explain_unread, first_refused, refuse_one};
+use crate::reply::{Reply, Status, fail, say, told_line};
 use crate::telling::messages_of;
-use crate::words::{Words, asked};
-use ja_base::{Failed, Memory, ReadFault, Sink, Source, read_all};
+use ja_base::{Failed, Memory, Sink, write_all};
 use ja_device::{Device, Devices};
-use ja_show::{Message, messages_text, page_text};
-use ja_top::{Answer, Findings, MAX_BYTES, Status, find, is_fault, write_answer};
+use ja_files::{File, first_lines, joined};
+use ja_lint_devices::{Refused, declared, fault_text};
+use ja_lint_text::Source;
+use ja_lint_words::{Words, asked};
+use ja_show::{messages_text, page_text};
+use ja_top::{Findings, MAX_BYTES, find, write_answer};
 use ja_warn::Told;
 use std::alloc::Global;
-use std::str;
 
-// The lines of messages, with the counts.
-fn lines_text(
+// What is shown of what was found.
+fn shown<'a>(
     alloc: Global,
-    name: Option<&str>,
-    text: &str,
-    messages: &[Message],
-    counts: &[u8],
+    manner: Manner,
+    files: &'a [File<'a>],
+    first_lines: &'a [u32],
+    found: &'a Findings,
 ) -> Result<Vec<u8>, Memory>
-    ensures { IfOk result (λ out. out.items
-        ≡ show.messages_text (option_map (λ name. name.now) name.entry) (chars text.now)
-        messages.now ++ counts.now ++ codes "\n") }
-{
-    let name = name.map(|name| name.as_bytes());
-    let mut out = messages_text(alloc, name, text, messages)?;
-    out.extend_from_slice(counts)?;
-    out.push(b'\n')?;
-    Ok(out)
-}
-
-// What is written of what was found.
-fn shown(alloc: Global, words: Words<'_>, text: &str, found: &Findings) -> Result<Vec<u8>, Memory>
-    requires within { length text.now ≤ max_bytes }
+    requires few { length first_lines.now < 2 ^ 32 }
+    requires lines { first_lines.now ≡ lines_of files.now }
     requires program { IsWellFormed found.now.program }
     requires fits { Fits found.now.program found.now.table }
     requires told { AllByRecursion (IsTold found.now.program (table_of found.now.table))
         found.now.warnings }
+    requires named { AllByRecursion (IsNamed found.now.program (table_of found.now.table))
+        found.now.warnings }
     requires ordered { AreOrdered (warnings_in found.now.warnings) }
-    ensures { IfOk result (λ out. Shows (asked_of words.entry) text.now found.now out.items) }
+    requires within { length (text_of files.now) ≤ max_bytes }
+    ensures { IfOk result (λ out. Shows manner files.now found.now out.items) }
 {
     let warnings = found.warnings.as_slice();
-    let messages = messages_of(alloc, &found.program, &found.table, warnings)?;
-    let counts = counts_text(alloc, warnings)?;
-    if words.html {
-        let links = links(alloc, &found.program, &found.table)?;
-        let title = words.name.unwrap_or("tajs-lint").as_bytes();
-        page_text(alloc, title, &counts, text, &messages, &links)
-    } else {
-        lines_text(alloc, words.name, text, &messages, &counts)
+    let source = Source {
+        program: &found.program,
+        files: &*files,
+        first_lines: &*first_lines,
+    };
+    let messages = messages_of(alloc, &source, &found.table, warnings, manner.rows)?;
+    let ending = ending_of(alloc, manner, files, warnings)?;
+    match manner.format {
+        Format::Text => {
+            let mut out = messages_text(alloc, files, &messages)?;
+            out.extend_from_slice(&ending)?;
+            out.push(b'\n')?;
+            Ok(out)
+        }
+        Format::Html => {
+            let links = links_in(alloc, first_lines, &found.program, &found.table)?;
+            page_text(alloc, b"tajs-lint", &ending, files, &messages, &links)
+        }
     }
 }
 
-// Whether a warning of a fault is among some.
-fn has_fault(warnings: &[Told]) -> bool
-    ensures { result ≡ list_any (λ x. is_fault x.warning.kind) warnings.now }
-{
-    warnings.iter().any(|told| is_fault(&told.warning))
-}
-
-// Done where there is no warning of a fault.
+// Clean where there is no warning of a fault.
 fn judged(warnings: &[Told]) -> Status
-    ensures { result ≡ status_of (warnings_in warnings.now) }
+    ensures { result ≡ (if ending.has_fault (warnings_in warnings.now) then reply.Faulty
+        else reply.Clean) }
 {
     if has_fault(warnings) {
-        Status::Warned
+        Status::Faulty
     } else {
-        Status::Done
+        Status::Clean
     }
 }
 
-// The answer to a text.
-fn lint_text<D: Device>(
+// The answer to files whose one text was found or not.
+fn answer_text<'a, D: Device>(
     alloc: Global,
-    words: Words<'_>,
-    text: &str,
+    manner: Manner,
+    files: &'a [File<'a>],
+    first_lines: &'a [u32],
+    text: &'a str,
     devices: &Devices<D>,
-) -> Result<Answer, Memory>
-    requires { length text.now ≤ max_bytes }
-    ensures { IfOk result (λ a. Follows (asked_of words.entry) text.now
-        (signatures_of devices.now) a.status a.text.items) }
+) -> Result<Reply, Memory>
+    requires few { length first_lines.now < 2 ^ 32 }
+    requires lines { first_lines.now ≡ lines_of files.now }
+    requires alone { AllByRecursion IsAlone files.now }
+    requires text { text.now ≡ text_of files.now }
+    requires within { length text.now ≤ max_bytes }
+    ensures { IfOk result (λ r. Answers manner (signatures_of devices.now) files.now (reply_of r)) }
 {
     match find(alloc, text.as_bytes(), devices) {
         Ok(found) => {
             let status = judged(found.warnings.as_slice());
-            let text = shown(alloc, words, text, &found)?;
-            Ok(Answer { status, text })
+            let out = shown(alloc, manner, &*files, &*first_lines, &found)?;
+            let line = Vec::new(alloc);
+            Ok(Reply { status, out, line })
         }
-        Err(fault) => explain(alloc, words, text, fault),
+        Err(fault) => explain(alloc, files, first_lines, fault),
     }
 }
 
-// The answer to bytes.
-fn follow<D: Device>(
+// The answer to files that are texts.
+fn answer_files<'a, D: Device>(
     alloc: Global,
-    words: Words<'_>,
-    bytes: &[u8],
+    manner: Manner,
+    files: &'a [File<'a>],
     devices: &Devices<D>,
-) -> Result<Answer, Memory>
-    requires { length bytes.now ≤ max_bytes }
-    ensures { IfOk result (λ a. Follows (asked_of words.entry) bytes.now
-        (signatures_of devices.now) a.status a.text.items) }
+) -> Result<Reply, Memory>
+    ensures { IfOk result (λ r. Answers manner (signatures_of devices.now) files.now (reply_of r)) }
 {
-    match str::from_utf8(bytes) {
-        Ok(text) => lint_text(alloc, words, text, devices),
-        Err(error) => refuse_bytes(alloc, words.name, error.valid_up_to()),
+    let text = joined(alloc, files)?;
+    if text.len() > MAX_BYTES {
+        return fail(alloc, b"more than 16777216 bytes");
+    }
+    let first_lines = first_lines(alloc, files)?;
+    match first_refused(alloc, files)? {
+        Some((number, fault)) => refuse_one(alloc, files, number, fault),
+        None => answer_text(alloc, manner, &*files, &first_lines, &text, devices),
     }
 }
 
-// The answer to the source, before it is written: of any words that ask for this.
-fn answer_of<S: Source, D: Device>(
+// The answer to files that are read by their names.
+fn answer_names<'a, F: Files, D: Device>(
     alloc: Global,
-    words: Words<'_>,
-    source: &mut S,
+    manner: Manner,
+    names: &[&'a str],
+    files: &mut F,
     devices: &Devices<D>,
-) -> Result<Answer, Memory>
-    ensures count { NeverFalls (S.faults source.old) (S.faults source.new) }
-    ensures cause { IfOk result
-        (λ a. (line : List (String Global)) → Asks line (asked_of words.entry) → HasCause
-        (call_of S.left S.faults line source.old source.new devices.now devices.now)
-        a.status a.text.items) }
+) -> Result<Reply, Memory>
+    ensures { IfOk result (λ r. Reads manner (signatures_of devices.now) (F.held files.old)
+        (map (λ name. name.now) names.now) (reply_of r)) }
 {
-    match read_all(alloc, source, MAX_BYTES) {
-        Ok(bytes) => {
-            let answer = follow(alloc, words, &bytes, devices)?;
-            Ok(answer)
+    match contents_of(alloc, files, names) {
+        Ok(contents) => match texts_of(alloc, names, &contents) {
+            Ok(files) => answer_files(alloc, manner, &files, devices),
+            Err(why) => explain_no_texts(alloc, why),
+        },
+        Err((name, why)) => explain_unread(alloc, name, why),
+    }
+}
+
+// The answer to words that ask for an analysis.
+fn analysis<'a, F: Files>(alloc: Global, asked: &Words<'a>, files: &mut F) -> Result<Reply, Memory>
+    ensures { IfOk result (λ r. Analyses (asked_of asked.now) (F.held files.old) (reply_of r)) }
+{
+    let Some(format) = format_of(asked.format) else {
+        return fail(alloc, b"the formats are text and html");
+    };
+    let manner = Manner {
+        format,
+        rows: asked.rows,
+    };
+    match declared(alloc, values_of(&asked.devices)) {
+        Ok(devices) => answer_names(alloc, manner, names_of(&asked.files), files, &devices),
+        Err(Refused::Memory) => Err(Memory),
+        Err(why) => {
+            let words = fault_text(alloc, &why)?;
+            fail(alloc, &words)
         }
-        Err(ReadFault::Failed) => refuse(alloc, Status::ReadFault, b"the input failed"),
-        Err(ReadFault::TooLong) => refuse(alloc, Status::TooLong, b"more than 16777216 bytes"),
-        Err(ReadFault::Memory) => Err(Memory),
     }
 }
 
-// The answer where the words are no command line.
-fn usage(alloc: Global) -> Result<Answer, Memory>
-    ensures { IfOk result (λ a. (a.status ≡ Status.Usage)
-        × (a.text.items ≡ codes "usage: tajs-lint [--html] [NAME]\n")) }
+// The answer to words and files, before it is written.
+fn reply<F: Files>(alloc: Global, words: &[String], files: &mut F) -> Result<Reply, Memory>
+    ensures { IfOk result (λ r. HasCause (map string_bytes words.now) (F.held files.old)
+        (reply_of r)) }
 {
-    let mut text = Vec::new(alloc);
-    text.extend_from_slice(b"usage: tajs-lint [--html] [NAME]\n")?;
-    Ok(Answer {
-        status: Status::Usage,
-        text,
-    })
+    let Some(asked) = asked(alloc, words)? else {
+        return fail(
+            alloc,
+            b"these words are none that it takes; --help tells which are",
+        );
+    };
+    if asked.help {
+        say(alloc, HELP)
+    } else if asked.version {
+        say(alloc, VERSION)
+    } else {
+        analysis(alloc, &asked, files)
+    }
 }
 
-// The answer to the words and the source, before it is written.
-fn answer<S: Source, D: Device>(
+// Writes a line to standard error, as far as it takes it.
+fn tell<E: Sink>(errors: &mut E, line: &[u8])
+    ensures count { NeverFalls (E.faults errors.old) (E.faults errors.new) }
+    ensures told { IsLineTold (written_of E.written E.finished E.faults errors.old errors.new)
+        line.now }
+{
+    match write_all(errors, line) {
+        Ok(()) => {}
+        Err(Failed) => {}
+    }
+}
+
+/// The program: `words` are those after its name (`ja_lint_words`). Reads the files that they name,
+/// and analyses them as one program that may call the devices that they declare, none of which is
+/// asked; and writes each warning of its closed table at its file, line and column, or a page of the
+/// files with them, whole to the sink, which is finished last. Where there is no answer, a line to
+/// `errors` says why.
+pub fn lint<F: Files, K: Sink, E: Sink>(
     alloc: Global,
     words: &[String],
-    source: &mut S,
-    devices: &Devices<D>,
-) -> Result<Answer, Memory>
-    ensures count { NeverFalls (S.faults source.old) (S.faults source.new) }
-    ensures cause { IfOk result (λ a. HasCause
-        (call_of S.left S.faults words.now source.old source.new devices.now devices.now)
-        a.status a.text.items) }
-{
-    match asked(words) {
-        Some(words) => answer_of(alloc, words, source, devices),
-        None => usage(alloc),
-    }
-}
-
-/// The program: `words` are those after its name, `--html` and the name of the file, each of which
-/// may be left out. Reads a text from the source and analyses it as one that may call these devices,
-/// none of which is asked; and writes each warning of its closed table at its line, or the page of
-/// the text with them, whole to the sink, which is finished last. The status says which answer it
-/// was: those of an analysis.
-#[tactic(auto, using(crate::proofs::Answering::answered))]
-pub fn lint<S: Source, K: Sink, D: Device>(
-    alloc: Global,
-    words: &[String],
-    source: &mut S,
+    files: &mut F,
     sink: &mut K,
-    devices: &Devices<D>,
+    errors: &mut E,
 ) -> Status
-    ensures source_count { NeverFalls (S.faults source.old) (S.faults source.new) }
     ensures sink_count { NeverFalls (K.faults sink.old) (K.faults sink.new) }
-    ensures answered { IsAnswered
-        (call_of S.left S.faults words.now source.old source.new devices.now devices.now)
+    ensures errors_count { NeverFalls (E.faults errors.old) (E.faults errors.new) }
+    ensures answered { IsAnswered (map string_bytes words.now) (F.held files.old)
         (written_of K.written K.finished K.faults sink.old sink.new)
+        (written_of E.written E.finished E.faults errors.old errors.new)
         result }
 {
-    match answer(alloc, words, source, devices) {
-        Ok(answer) => match write_answer(sink, &answer.text) {
-            Ok(()) => answer.status,
-            Err(Failed) => Status::WriteFault,
+    match reply(alloc, words, files) {
+        Ok(reply) => match write_answer(sink, &reply.out) {
+            Ok(()) => {
+                tell(errors, &reply.line);
+                reply.status
+            }
+            Err(Failed) => {
+                tell(errors, b"tajs-lint: the output failed\n");
+                Status::Unfinished
+            }
         },
-        Err(Memory) => Status::Memory,
+        Err(Memory) => {
+            tell(errors, b"tajs-lint: memory was refused\n");
+            Status::Unfinished
+        }
     }
 }

@@ -1,9 +1,7 @@
-pub mod Counted
 pub mod Escapes
 pub mod Fronts
-pub mod Listed
+pub mod Kept
 pub mod Parts
-pub mod Placed
 pub mod Places
 pub mod Source
 pub mod Tags

@@ -4,16 +4,17 @@ use Rattle.std.proofs.lemmas.Bool.{ne_eqb}
 use Rattle.std.proofs.lemmas.Fmt.{decimal_by_steps}
 use Rattle.std.specs.List.{AllByRecursion, flat_map}
 use Rattle.ja_base.proofs.Lists.{all_append, all_weaker}
-use Rattle.ja_base.specs.declared.ids.Place.{Place}
+use Rattle.ja_files.specs.declared.file.Spot.{Spot}
+use Rattle.ja_files.specs.Files.{spot_at}
 use Rattle.ja_lex.specs.Spots.{ends_line, max_bytes, place_at}
 use Rattle.ja_show.specs.Lines.{shown}
-use Rattle.ja_show.specs.Page.{escaped, goes_on, hint, is_about, level_class, line_end, line_start, links_text, mark_end, mark_start, next_hint, source_text}
+use Rattle.ja_show.specs.Page.{behind, below, escaped, goes_on, hint, is_about, level_class, line_end, line_start, lines_text, links_text, mark_end, mark_start, next_hint, source_text}
 use Rattle.ja_show.specs.Untagged.{plain_lines, untagged}
 use Rattle.ja_show.specs.declared.message.Level.{Level}
-use Rattle.ja_show.specs.declared.message.Level.TheVariants.{Error, Certain, Possible, Row}
+use Rattle.ja_show.specs.declared.message.Level.TheVariants.{Error, Certain, Possible, Note}
 use Rattle.ja_show.specs.declared.message.Message.{Message}
 use Rattle.ja_show.proofs.Escapes.{IsPlain, escaped_plain}
-use Rattle.ja_show.proofs.Source.{below, behind, front, goes, source_step, stays, step, step_inside, step_line, within}
+use Rattle.ja_show.proofs.Source.{front, goes, source_step, stays, step, step_inside, step_line, text_behind, text_below, within}
 
 -- a text goes from one side of tags to the other, or stays, and leaves something
 record Turns (from : Bool) (text : List ℕ) (to : Bool) (left : List ℕ) : Type 0 where
@@ -88,7 +89,7 @@ unfolding untagged
 class_inside Error = record { holds = λ rest. refl }
 class_inside Certain = record { holds = λ rest. refl }
 class_inside Possible = record { holds = λ rest. refl }
-class_inside Row = record { holds = λ rest. refl }
+class_inside Note = record { holds = λ rest. refl }
 
 colon_inside : Turns true (codes ": ") true []
 unfolding untagged
@@ -131,21 +132,25 @@ unfolding untagged
 mark_end_left true = record { holds = λ rest. refl }
 mark_end_left false = record { holds = λ rest. refl }
 
-no_links_left : Turns false (links_text []) false []
+no_links_left : (names : List (List ℕ)) → Turns false (links_text names []) false []
 unfolding links_text
-no_links_left = record { holds = λ rest. refl }
+no_links_left names = record { holds = λ rest. refl }
 
-front_left : (here : List Message) (marked : Bool) (c : ℕ)
-    → Turns false (front here [] marked c) false []
-front_left here marked c =
-    joins (joins (mark_end_left (marked && not (stays here marked c))) no_links_left)
+front_left : (names : List (List ℕ)) (here : List Message) (marked : Bool) (c : ℕ)
+    → Turns false (front names here [] marked c) false []
+front_left names here marked c =
+    joins (joins (mark_end_left (marked && not (stays here marked c))) (no_links_left names))
     (mark_start_left here)
 
 -- ---- lines
 
-line_begins : Turns false (codes "<li id=\"L") true []
+line_begins : Turns false (codes "<li id=\"F") true []
 unfolding untagged
 line_begins = record { holds = λ rest. refl }
+
+line_number_inside : Turns true (codes "L") true []
+unfolding untagged
+line_number_inside = record { holds = λ rest. refl }
 
 code_begins : Turns true (codes "\"><code>") false []
 unfolding untagged
@@ -155,52 +160,59 @@ line_ends : Turns false line_end false (codes "\n")
 unfolding untagged
 line_ends = record { holds = λ rest. refl }
 
-line_start_left : (number : ℕ) → number < 2 ^ 64 → Turns false (line_start number) false []
+line_start_left : (file number : ℕ) → file < 2 ^ 64 → number < 2 ^ 64
+    → Turns false (line_start file number) false []
 unfolding line_start
-line_start_left number small = joins (joins line_begins (decimal_inside number small)) code_begins
+line_start_left file number few small =
+    joins (joins (joins (joins line_begins (decimal_inside file few)) line_number_inside)
+    (decimal_inside number small)) code_begins
 
-source_left : (ms : List Message) (cs : List ℕ) (at : Place) (marked : Bool)
-    → at.line + length cs < 2 ^ 64
-    → untagged false (source_text ms [] at marked cs) ≡ plain_lines cs
-unfolding source_text plain_lines untagged
-source_left ms [] at marked small =
-    ap (untagged false) (sym (append-nil (mark_end marked ++ line_end)))
-    ∙ (joins (mark_end_left marked) line_ends).holds []
-source_left ms (c ∷ cs) at marked small =
-    let here : List Message = filter (is_about at) ms in
-    let low : List ℕ = below ms [] at cs in
-    let same : List ℕ = behind ms [] at (goes here marked c) cs in
-    let left : untagged false low ≡ plain_lines cs =
-    source_left ms cs (place_at (at.line + 1) 1) false (omega arith) in
-    let left_same : untagged false same ≡ plain_lines cs =
-    source_left ms cs (place_at at.line (at.column + 1)) (goes here marked c) (omega arith) in
-    ap (untagged false) (source_step ms [] at marked c cs)
-    ∙ by_end here at marked c (ends_line (c ∷ cs)) low same (plain_lines cs) (omega arith) left
-    left_same
-  where
-    by_end : (here : List Message) (at : Place) (marked : Bool) (c : ℕ) (ends : Bool)
-        (low same plain : List ℕ) → at.line + 1 < 2 ^ 64 → untagged false low ≡ plain
-        → untagged false same ≡ plain
-        → untagged false (step here [] at marked c ends low same)
-        ≡ (if ends then codes "\n" else escaped (shown c)) ++ plain
-    by_end here at marked c true low same plain small left left_same =
-        ap (untagged false) (step_line here [] at marked c low same)
-        ∙ (front_left here marked c).holds (mark_end (within here marked c) ++ line_end
-        ++ line_start (at.line + 1) ++ low)
-        ∙ (joins (joins (mark_end_left (within here marked c)) line_ends)
-        (line_start_left (at.line + 1) small)).holds low
-        ∙ ap (λ (bs : List ℕ). codes "\n" ++ bs) left
-    by_end here at marked c false low same plain small left left_same =
-        ap (untagged false) (step_inside here [] at marked c low same)
-        ∙ (front_left here marked c).holds (escaped (shown c)
-        ++ mark_end (within here marked c && not (goes_on c)) ++ same)
-        ∙ (joins (escaped_outside (shown c))
-        (mark_end_left (within here marked c && not (goes_on c)))).holds same
-        ∙ ap (λ (bs : List ℕ). escaped (shown c) ++ [] ++ bs) left_same
-        ∙ ap (λ (bs : List ℕ). bs ++ plain) (append-nil (escaped (shown c)))
+-- of files with these names
+module _ (names : List (List ℕ)) where
+  step_left : (here : List Message) (at : Spot) (marked : Bool) (c : ℕ) (ends : Bool)
+      (low same plain : List ℕ) → at.file < 2 ^ 64 → at.place.line + 1 < 2 ^ 64
+      → untagged false low ≡ plain → untagged false same ≡ plain
+      → untagged false (step names here [] at marked c ends low same)
+      ≡ (if ends then codes "\n" else escaped (shown c)) ++ plain
+  step_left here at marked c true low same plain few small left left_same =
+      ap (untagged false) (step_line names here [] at marked c low same)
+      ∙ (front_left names here marked c).holds (mark_end (within here marked c) ++ line_end
+      ++ line_start at.file (at.place.line + 1) ++ low)
+      ∙ (joins (joins (mark_end_left (within here marked c)) line_ends)
+      (line_start_left at.file (at.place.line + 1) few small)).holds low
+      ∙ ap (λ (bs : List ℕ). codes "\n" ++ bs) left
+  step_left here at marked c false low same plain few small left left_same =
+      ap (untagged false) (step_inside names here [] at marked c low same)
+      ∙ (front_left names here marked c).holds (escaped (shown c)
+      ++ mark_end (within here marked c && not (goes_on c)) ++ same)
+      ∙ (joins (escaped_outside (shown c))
+      (mark_end_left (within here marked c && not (goes_on c)))).holds same
+      ∙ ap (λ (bs : List ℕ). escaped (shown c) ++ [] ++ bs) left_same
+      ∙ ap (λ (bs : List ℕ). bs ++ plain) (append-nil (escaped (shown c)))
 
-pub page_left : (ms : List Message) (cs : List ℕ) → length cs ≤ max_bytes
-    → untagged false (line_start 1 ++ source_text ms [] (place_at 1 1) false cs) ≡ plain_lines cs
-page_left ms cs small =
-    (line_start_left 1 (omega arith)).holds (source_text ms [] (place_at 1 1) false cs)
-    ∙ source_left ms cs (place_at 1 1) false (omega arith)
+  source_left : (ms : List Message) (cs : List ℕ) (at : Spot) (marked : Bool)
+      → at.file < 2 ^ 64 → at.place.line + length cs < 2 ^ 64
+      → untagged false (source_text names ms [] at marked cs) ≡ plain_lines cs
+  unfolding source_text plain_lines untagged
+  source_left ms [] at marked few small =
+      ap (untagged false) (sym (append-nil (mark_end marked ++ line_end)))
+      ∙ (joins (mark_end_left marked) line_ends).holds []
+  source_left ms (c ∷ cs) at marked few small =
+      let here : List Message = filter (is_about at) ms in
+      let low : List ℕ = text_below names ms [] at cs in
+      let same : List ℕ = text_behind names ms [] at (goes here marked c) cs in
+      let left : untagged false low ≡ plain_lines cs =
+      source_left ms cs (below at) false few (omega arith) in
+      let left_same : untagged false same ≡ plain_lines cs =
+      source_left ms cs (behind at) (goes here marked c) few (omega arith) in
+      ap (untagged false) (source_step names ms [] at marked c cs)
+      ∙ step_left here at marked c (ends_line (c ∷ cs)) low same (plain_lines cs) few (omega arith)
+      left left_same
+
+  pub lines_left : (ms : List Message) (file : ℕ) (text : List ℕ) → file < 2 ^ 32
+      → length text ≤ max_bytes
+      → untagged false (lines_text names ms [] file text) ≡ plain_lines text
+  lines_left ms file text few small =
+      (line_start_left file 1 (omega arith) (omega arith)).holds
+      (source_text names ms [] (spot_at file (place_at 1 1)) false text)
+      ∙ source_left ms text (spot_at file (place_at 1 1)) false (omega arith) (omega arith)

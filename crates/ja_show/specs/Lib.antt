@@ -1,4 +1,4 @@
--- what is shown of messages about a text: read from `Messages` and `Page` on
+-- what is shown of messages about files: read from `Messages` and `Page` on
 pub mod Laws
 pub mod Lines
 pub mod Messages

@@ -1,29 +1,13 @@
--- The lines of a text, and how a place of one is shown: the line, as far as it is near the place,
--- and a caret below the place.
-use Rattle.std.specs.Prelude.{ℕ, ◌-◌, ◌+◌, Bool, false, not, ◌||◌, ◌==◌, nat_le, nat_lt, if◌then◌else◌, List, [], ◌∷◌, ◌++◌, take, drop, length, replicate, slice_get, is_some, unwrap_or}
+-- How a place of a text is shown: its line, as far as it is near the place, and a caret below the
+-- place.
+use Rattle.std.specs.Prelude.{ℕ, ◌-◌, ◌+◌, Bool, false, not, ◌||◌, ◌==◌, nat_le, nat_lt, if◌then◌else◌, List, [], ◌∷◌, ◌++◌, take, drop, length, replicate, is_some, unwrap_or}
 use Rattle.std.specs.Char.{encode_utf8}
 use Rattle.std.specs.Int.{is_in_range}
 use Rattle.std.specs.List.{flat_map}
 use lib.Chars.{codes}
 use Rattle.unicode_width.specs.Width.{char_width}
 use Rattle.ja_base.specs.declared.ids.Place.{Place}
-use Rattle.ja_lex.specs.Spots.{ends_line}
-
--- ---- lines
-
--- a character in front of the first of some lines
-abbrev pub in_first : ℕ → List (List ℕ) → List (List ℕ)
-in_first c [] = (c ∷ []) ∷ []
-in_first c (line ∷ lines) = (c ∷ line) ∷ lines
-
--- the lines of these characters, without those that end them (ES3 7.3)
-unfoldable pub lines_of : List ℕ → List (List ℕ)
-lines_of [] = [] ∷ []
-lines_of (c ∷ cs) = if ends_line (c ∷ cs) then [] ∷ lines_of cs else in_first c (lines_of cs)
-
--- the line with this number, from 1
-abbrev pub line_at : List (List ℕ) → ℕ → List ℕ
-line_at lines number = unwrap_or (slice_get lines (number - 1)) []
+use Rattle.ja_files.specs.Lines.{line_at}
 
 -- ---- characters
 

@@ -1,50 +1,83 @@
--- How messages about a text are written, in the form that editors read: each on a line of its own
--- with its place, and below it the line of the text with a caret, as compilers do.
-use Rattle.std.specs.Prelude.{ℕ, ◌||◌, if◌then◌else◌, List, [], ◌∷◌, ◌++◌, Option, is_some}
+-- How messages about files are written, in the form that editors read: each on a line of its own
+-- with its file and place, and below it the line of the file with a caret, as compilers do.
+use Rattle.std.specs.Prelude.{ℕ, List, [], ◌∷◌, ◌++◌, drop, map, slice_get, Option, Some, None, unwrap_or}
 use Rattle.std.specs.List.{flat_map}
 use Rattle.std.specs.Option.{option_map_or}
 use lib.Chars.{codes}
-use Rattle.ja_base.specs.declared.ids.Place.{Place}
+use Rattle.ja_files.specs.declared.file.Spot.{Spot}
+use Rattle.ja_files.specs.Lines.{lines_of}
 use Rattle.ja_texts.specs.Texts.{place_text}
-use Rattle.ja_show.specs.Lines.{lines_of, excerpt}
+use Rattle.ja_show.specs.Lines.{excerpt, shown}
 use Rattle.ja_show.specs.declared.message.Level.{Level}
-use Rattle.ja_show.specs.declared.message.Level.TheVariants.{Error, Certain, Possible, Row}
+use Rattle.ja_show.specs.declared.message.Level.TheVariants.{Error, Certain, Possible, Note}
 use Rattle.ja_show.specs.declared.message.Message.{Message}
 
 abbrev pub level_word : Level → List ℕ
 level_word Error = codes "error"
 level_word Certain = codes "warning"
 level_word Possible = codes "warning"
-level_word Row = codes "warning"
+level_word Note = codes "note"
 
--- the name of the file, if one is given, and the place, if there is one
-abbrev pub followed : List ℕ → List ℕ
-followed text = text ++ codes ":"
+-- ---- spots
 
-unfoldable pub spot_text : Option (List ℕ) → Option Place → List ℕ
-spot_text name place =
-    option_map_or followed name []
-    ++ option_map_or (λ (at : Place). followed (place_text at)) place []
-    ++ (if is_some name || is_some place then codes " " else [])
+-- the characters of a name as they are shown
+abbrev pub shown_name : List ℕ → List ℕ
+shown_name name = flat_map shown name
 
--- a place that calls, behind another one
-abbrev pub next_call : Place → List ℕ
-next_call at = codes ", " ++ place_text at
+-- of the names that are shown, that of the file with this number; past them there is none
+abbrev pub name_at : List (List ℕ) → ℕ → List ℕ
+name_at names file = unwrap_or (slice_get names file) []
 
--- the places from which calls lead to what the message is about
-unfoldable pub calls_text : List Place → List ℕ
-calls_text [] = []
-calls_text (at ∷ places) = codes ", called at " ++ place_text at ++ flat_map next_call places
+-- `NAME:LINE:COLUMN`
+unfoldable pub spot_text : List (List ℕ) → Spot → List ℕ
+spot_text names at = name_at names at.file ++ codes ":" ++ place_text at.place
+
+-- A message stands at its spot, or else at the first call that leads to what it is about; it tells
+-- of the other calls.
+abbrev pub standing : Option Spot → List Spot → Option Spot
+standing (Some at) calls = Some at
+standing None calls = slice_get calls 0
+
+abbrev pub others : Option Spot → List Spot → List Spot
+others (Some at) calls = calls
+others None calls = drop 1 calls
+
+-- what is about no spot comes from the tool
+abbrev pub tool_name : List ℕ
+tool_name = codes "tajs-lint"
+
+abbrev pub origin : List (List ℕ) → Option Spot → List ℕ
+origin names None = tool_name
+origin names (Some at) = spot_text names at
+
+-- ---- messages
+
+-- a call, behind another one
+abbrev pub next_call : List (List ℕ) → Spot → List ℕ
+next_call names at = codes ", " ++ spot_text names at
+
+unfoldable pub calls_text : List (List ℕ) → List Spot → List ℕ
+calls_text names [] = []
+calls_text names (at ∷ calls) =
+    codes ", also called at " ++ spot_text names at ++ flat_map (next_call names) calls
 
 -- the line of its own
-unfoldable pub heading : Option (List ℕ) → Message → List ℕ
-heading name m =
-    spot_text name m.place ++ level_word m.level ++ codes ": " ++ m.text ++ calls_text m.calls
-    ++ codes "\n"
+unfoldable pub heading : List (List ℕ) → Message → List ℕ
+heading names m =
+    origin names (standing m.spot m.calls) ++ codes ": " ++ level_word m.level ++ codes ": "
+    ++ m.text ++ calls_text names (others m.spot m.calls) ++ codes "\n"
 
-unfoldable pub message_text : Option (List ℕ) → List (List ℕ) → Message → List ℕ
-message_text name lines m = heading name m ++ option_map_or (excerpt lines) m.place []
+-- the line of the file where a message stands, of files by their lines
+abbrev pub excerpt_at : List (List (List ℕ)) → Option Spot → List ℕ
+excerpt_at sources None = []
+excerpt_at sources (Some at) =
+    option_map_or (λ (lines : List (List ℕ)). excerpt lines at.place) (slice_get sources at.file) []
 
--- those about a text of these characters
-unfoldable pub messages_text : Option (List ℕ) → List ℕ → List Message → List ℕ
-messages_text name cs messages = flat_map (message_text name (lines_of cs)) messages
+unfoldable pub message_text : List (List ℕ) → List (List (List ℕ)) → Message → List ℕ
+message_text names sources m =
+    heading names m ++ excerpt_at sources (standing m.spot m.calls)
+
+-- those about files with these names and texts
+unfoldable pub messages_text : List (List ℕ) → List (List ℕ) → List Message → List ℕ
+messages_text names texts messages =
+    flat_map (message_text (map shown_name names) (map lines_of texts)) messages

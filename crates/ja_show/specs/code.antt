@@ -1,2 +1,3 @@
 -- What clauses of the code cite, and no believed statement.
+pub mod Kept
 pub mod Walk

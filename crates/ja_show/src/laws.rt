@@ -1,32 +1,13 @@
-//! What the definitions of lines and of messages come to. The functions do nothing; their contracts
-//! are the laws.
+//! What the definitions of excerpts and of messages come to. The functions do nothing; their
+//! contracts are the laws.
 
-ghost use Rattle.std.specs.Prelude.{◌≡◌, ◌+◌, ◌-◌, ◌∷◌, ◌++◌, [], List, ℕ, codes, drop, encode_utf8, if◌then◌else◌};
-ghost use Rattle.std.specs.Prelude.{length, replicate, slice_get, Some, None};
-ghost use Rattle.ja_lex.specs.Spots.{beginning, ends_line, past, place_at};
-ghost use Rattle.ja_show.specs.Laws.{endings, told};
-ghost use Rattle.ja_show.specs.Lines.{excerpt, line_at, lines_of};
+ghost use Rattle.std.specs.Prelude.{◌≡◌, ◌∷◌, ◌++◌, [], codes, encode_utf8, replicate, Some, None};
+ghost use Rattle.ja_files.specs.Files.{spot_at};
+ghost use Rattle.ja_lex.specs.Spots.{place_at};
+ghost use Rattle.ja_show.specs.Laws.{told};
+ghost use Rattle.ja_show.specs.Lines.{excerpt};
 ghost use Rattle.ja_show.specs.Messages.{messages_text};
-ghost use Rattle.ja_show.specs.declared.message.Level.TheVariants.{Certain, Error, Row};
-
-/// There is one line more than there are characters that end theirs.
-pub fn lines_are_counted()
-    ensures { (cs : List ℕ) → length (lines_of cs) ≡ endings cs + 1 }
-{}
-
-/// The character behind `n` others stands in the line and at the column of its place, unless it
-/// ends its line. Where it does, and at the end of the text, the line has no more characters.
-pub fn lines_hold_places()
-    ensures { (cs : List ℕ) (n : ℕ) → let at = (past n beginning cs).place in
-        slice_get (line_at (lines_of cs) at.line) (at.column - 1)
-        ≡ (if ends_line (drop n cs) then None else slice_get cs n) }
-{}
-
-/// The lines of `a`, CR, LF, `b` and U+2028 are `a` with the CR, `b`, and an empty one.
-pub fn examples_of_lines()
-    ensures { lines_of (97 ∷ 13 ∷ 10 ∷ 98 ∷ 0x2028 ∷ [])
-        ≡ (97 ∷ 13 ∷ []) ∷ (98 ∷ []) ∷ [] ∷ [] }
-{}
+ghost use Rattle.ja_show.specs.declared.message.Level.TheVariants.{Certain, Error, Note};
 
 /// Below `x` behind a tab and U+4E2D, the caret stands behind a tab and two blanks; the CR at the
 /// end isn't shown. U+202E is shown as U+FFFD. Of 200 characters, those around the 150th are shown.
@@ -39,16 +20,26 @@ pub fn examples_of_excerpts()
         ≡ codes "..." ++ replicate 100 97 ++ codes "...\n" ++ replicate 62 32 ++ codes "^\n" }
 {}
 
-/// A fault in the first line of `x;f()`, a token that is missing in a text of one empty line, and a
-/// row without a place that calls at two places lead to.
+/// A fault in the second of two files. A fault in a built-in function that two places call: it
+/// stands at the first one. An error that is about no place. A note about a file that isn't there:
+/// its name is empty, and no line is shown.
 pub fn examples_of_messages()
-    ensures at_a_place { messages_text (Some (codes "f.js")) (codes "x;f()\n")
-        (told Certain (Some (place_at 1 3)) (codes "unbound name (certain)") [] ∷ [])
-        ≡ codes "f.js:1:3: warning: unbound name (certain)\nx;f()\n  ^\n" }
-    ensures unnamed { messages_text None []
-        (told Error (Some (place_at 1 1)) (codes "a token is missing") [] ∷ [])
-        ≡ codes "1:1: error: a token is missing\n\n^\n" }
-    ensures called { messages_text None []
-        (told Row None (codes "a row") (place_at 3 1 ∷ place_at 12 5 ∷ []) ∷ [])
-        ≡ codes "warning: a row, called at 3:1, 12:5\n" }
+    ensures at_a_place { messages_text (codes "a.js" ∷ codes "b.js" ∷ [])
+        (codes "x" ∷ codes "x;f()\n" ∷ [])
+        (told Certain (Some (spot_at 1 (place_at 1 3))) (codes "unbound name (certain)") [] ∷ [])
+        ≡ codes "b.js:1:3: warning: unbound name (certain)\nx;f()\n  ^\n" }
+    ensures called { messages_text (codes "a.js" ∷ codes "b.js" ∷ [])
+        (codes "x" ∷ codes "f();\nf()" ∷ [])
+        (told Certain None (codes "a row")
+        (spot_at 1 (place_at 2 1) ∷ spot_at 1 (place_at 1 1) ∷ spot_at 0 (place_at 1 1) ∷ []) ∷ [])
+        ≡ codes "b.js:2:1: warning: a row, also called at b.js:1:1, a.js:1:1\nf()\n^\n" }
+    ensures of_the_tool { messages_text [] []
+        (told Error None (codes "the input failed") [] ∷ [])
+        ≡ codes "tajs-lint: error: the input failed\n" }
+    ensures past_the_files { messages_text (codes "a.js" ∷ []) (codes "x" ∷ [])
+        (told Note (Some (spot_at 1 (place_at 3 1))) (codes "a row") [] ∷ [])
+        ≡ codes ":3:1: note: a row\n" }
+    ensures no_controls { messages_text ((27 ∷ codes "[7m") ∷ []) (codes "x" ∷ [])
+        (told Note (Some (spot_at 0 (place_at 1 1))) (codes "a row") [] ∷ [])
+        ≡ encode_utf8 0xFFFD ++ codes "[7m:1:1: note: a row\nx\n^\n" }
 {}

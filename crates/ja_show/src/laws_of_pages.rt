@@ -1,10 +1,11 @@
 //! What the definition of a page comes to. The functions do nothing; their contracts are the laws.
 
-ghost use Rattle.std.specs.Prelude.{◌≡◌, ◌≢◌, ◌≤◌, ◌++◌, ◌∷◌, [], List, ℕ, Some, codes};
+ghost use Rattle.std.specs.Prelude.{◌≡◌, ◌≢◌, ◌<◌, ◌≤◌, ◌^◌, ◌++◌, ◌∷◌, [], List, ℕ, Some, codes};
 ghost use Rattle.std.specs.Prelude.{false, length};
 ghost use Rattle.std.specs.List.{AllByRecursion};
+ghost use Rattle.ja_files.specs.Files.{spot_at};
 ghost use Rattle.ja_lex.specs.Spots.{max_bytes, place_at};
-ghost use Rattle.ja_show.specs.Page.{escaped, line_start, page_text, source_text};
+ghost use Rattle.ja_show.specs.Page.{escaped, lines_text, page_text};
 ghost use Rattle.ja_show.specs.Untagged.{plain_lines, untagged};
 ghost use Rattle.ja_show.specs.declared.message.Level.TheVariants.{Certain, Possible};
 ghost use Rattle.ja_show.specs.declared.message.Link.{Link as Call};
@@ -14,8 +15,9 @@ ghost use Rattle.ja_show.specs.declared.message.Message.{Message as About};
 /// nothing, runs no script, and follows no style but the page's own (Content Security Policy): both
 /// stand before all that it has of a text, the title too.
 pub fn pages_fetch_nothing()
-    ensures { (title counts cs : List ℕ) (messages : List About) (links : List Call) →
-        (rest : List ℕ) × (page_text title counts cs messages links
+    ensures { (title summary : List ℕ) (names texts : List (List ℕ))
+        (messages : List About) (links : List Call) →
+        (rest : List ℕ) × (page_text title summary names texts messages links
         ≡ codes "<!DOCTYPE html>\n<html lang=\"en\">\n<head>\n<meta charset=\"utf-8\">\n"
         ++ codes "<meta http-equiv=\"Content-Security-Policy\" content=\""
         ++ codes "default-src 'none'; style-src 'unsafe-inline'\">\n" ++ rest) }
@@ -27,39 +29,52 @@ pub fn escaped_texts_are_plain()
         (escaped bytes) }
 {}
 
-/// Marks leave the text as it is: where no calls are shown, the lines of the text are what stands
+/// Marks leave the text as it is: where no calls are shown, the lines of a file are what stands
 /// between its tags.
 pub fn marks_are_tags()
-    ensures { (messages : List About) (cs : List ℕ) → length cs ≤ max_bytes
-        → untagged false (line_start 1 ++ source_text messages [] (place_at 1 1) false cs)
-        ≡ plain_lines cs }
+    ensures { (names : List (List ℕ)) (messages : List About) (file : ℕ) (text : List ℕ)
+        → file < 2 ^ 32 → length text ≤ max_bytes
+        → untagged false (lines_text names messages [] file text) ≡ plain_lines text }
 {}
 
-/// In the text `f();` a message is about the `(`, and a call leads from there to the `f`: the link
-/// stands in front of the mark, which ends behind the `(`. In the text of the lines `a.bc` and `d`
-/// a message is about the `.`: the mark ends with the line.
+/// In the file `f();` a message is about the `(`, and a call leads from there to the `f` of another
+/// file: the link, with the file that it leads to, stands in front of the mark, which ends behind
+/// the `(`. In the file of the lines `a.bc` and `d` a message is about the `.`: the mark ends with
+/// the line. A message of another file marks nothing.
 pub fn examples_of_pages()
     ensures call { let message : About = record {
       level = Certain;
-      place = Some (place_at 1 2);
+      spot = Some (spot_at 0 (place_at 1 2));
       text = codes "call of a non-function";
       value = codes "\"<\"";
       calls = [];
     } in
-        let call : Call = record { from = place_at 1 2; to = place_at 1 1 } in
-        line_start 1 ++ source_text (message ∷ []) (call ∷ []) (place_at 1 1) false (codes "f();")
-        ≡ codes "<li id=\"L1\"><code>f<sup><a href=\"#L1\">1:1</a></sup>"
+        let call : Call = record {
+          from = spot_at 0 (place_at 1 2);
+          to = spot_at 1 (place_at 7 1);
+        } in
+        lines_text (codes "a" ∷ codes "b" ∷ []) (message ∷ []) (call ∷ []) 0 (codes "f();")
+        ≡ codes "<li id=\"F0L1\"><code>f<sup><a href=\"#F1L7\">b:7:1</a></sup>"
         ++ codes "<mark class=\"certain\" title=\"call of a non-function: &quot;&lt;&quot;\">("
         ++ codes "</mark>);</code></li>\n" }
     ensures property { let message : About = record {
       level = Possible;
-      place = Some (place_at 1 2);
+      spot = Some (spot_at 1 (place_at 1 2));
       text = codes "property of null";
       value = [];
       calls = [];
     } in
-        line_start 1 ++ source_text (message ∷ []) [] (place_at 1 1) false (codes "a.bc\nd")
-        ≡ codes "<li id=\"L1\"><code>a"
+        lines_text [] (message ∷ []) [] 1 (codes "a.bc\nd")
+        ≡ codes "<li id=\"F1L1\"><code>a"
         ++ codes "<mark class=\"possible\" title=\"property of null: \">.bc</mark></code></li>\n"
-        ++ codes "<li id=\"L2\"><code>d</code></li>\n" }
+        ++ codes "<li id=\"F1L2\"><code>d</code></li>\n" }
+    ensures elsewhere { let message : About = record {
+      level = Possible;
+      spot = Some (spot_at 1 (place_at 1 1));
+      text = codes "property of null";
+      value = [];
+      calls = [];
+    } in
+        lines_text [] (message ∷ []) [] 0 (codes "a")
+        ≡ codes "<li id=\"F0L1\"><code>a</code></li>\n" }
 {}

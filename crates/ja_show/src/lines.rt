@@ -1,63 +1,15 @@
-//! The lines of a text, and what is shown of one.
+//! What is shown of the lines of a text.
 
-ghost use Rattle.std.specs.Prelude.{◌≡◌, ◌<◌, ◌++◌, IfOk, OnOk, drop, length, map, take};
+ghost use Rattle.std.specs.Prelude.{◌≡◌, ◌++◌, OnOk, drop, map, take};
 ghost use Rattle.std.specs.List.{flat_map};
-ghost use Rattle.std.specs.Str.{chars};
-ghost use Rattle.ja_lex.specs.Spots as spots;
-ghost use Rattle.ja_prim.specs.Characters as characters;
+ghost use Rattle.ja_files.specs.Lines as files;
 ghost use Rattle.ja_show.specs.Lines as spec;
 
 use ja_base::{Memory, Place};
-use std::alloc::{AllocError, Global};
 use unicode_width::UnicodeWidthChar;
 
 // The most characters of a line that are shown.
 const MOST_SHOWN: usize = 100;
-
-/// The characters of a text.
-pub(crate) fn characters_of(alloc: Global, text: &str) -> Result<Vec<char>, AllocError>
-    ensures { IfOk result (λ characters. characters.items ≡ chars text.now) }
-{
-    let characters: Vec<char> = text.chars().collect(alloc)?;
-    Ok(characters)
-}
-
-// The character at an index, or U+0000 where there is none.
-fn char_at(text: &[char], index: usize) -> char
-    ensures { result ≡ characters.char_at text.now index }
-{
-    text.get(index).copied().unwrap_or('\0')
-}
-
-/// Whether the character at an index ends its line.
-#[tactic(auto, unfolding(ja_lex::specs::Spots::ends_line, ja_prim::specs::Characters::is_terminator))]
-pub(crate) fn ends_line(text: &[char], index: usize) -> bool
-    requires { index < length text.now }
-    ensures { result ≡ spots.ends_line (drop index text.now) }
-{
-    let rest = &text[index..];
-    match char_at(rest, 0) {
-        '\n' | '\u{2028}' | '\u{2029}' => true,
-        '\r' => char_at(rest, 1) != '\n',
-        _ => false,
-    }
-}
-
-/// The lines of some characters.
-pub(crate) fn lines_of<'a>(alloc: Global, text: &'a [char]) -> Result<Vec<&'a [char]>, Memory>
-    ensures { IfOk result (λ lines. map (λ line. line.now) lines.items ≡ spec.lines_of text.now) }
-{
-    let mut lines = Vec::new(alloc);
-    let mut start = 0;
-    for index in 0..text.len() {
-        if ends_line(text, index) {
-            lines.push(&text[start..index])?;
-            start = index + 1;
-        }
-    }
-    lines.push(&text[start..])?;
-    Ok(lines)
-}
 
 // Whether a character isn't shown as it is.
 fn is_hidden(c: char) -> bool
@@ -85,9 +37,9 @@ pub(crate) fn shown<'a>(c: char, buffer: &'a mut [u8; 4]) -> &'a [u8]
     }
 }
 
-// Adds some characters as they are shown.
+/// Adds some characters as they are shown.
 #[tactic(auto, using(ja_texts::proofs::Rulesets::for_push_plain))]
-fn push_shown(out: &mut Vec<u8>, characters: &[char]) -> Result<(), Memory>
+pub(crate) fn push_shown(out: &mut Vec<u8>, characters: &[char]) -> Result<(), Memory>
     ensures { OnOk result (out.new.items ≡ out.old.items ++ flat_map spec.shown characters.now) }
 {
     for c in characters {
@@ -182,7 +134,7 @@ fn push_caret(out: &mut Vec<u8>, line: &[char], column: u32) -> Result<(), Memor
 
 // The line with a number, from 1, or an empty one where there is none.
 fn line_at<'a>(lines: &[&'a [char]], number: u32) -> &'a [char]
-    ensures { result.now ≡ spec.line_at (map (λ line. line.now) lines.now) number }
+    ensures { result.now ≡ files.line_at (map (λ line. line.now) lines.now) number }
 {
     match lines.get((number as usize).saturating_sub(1)) {
         Some(line) => line,

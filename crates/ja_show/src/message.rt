@@ -1,4 +1,5 @@
-use ja_base::{Place, Seq};
+use ja_base::Seq;
+use ja_files::Spot;
 
 /// How grave a message is.
 #[derive(Clone, Copy, Debug, PartialEq, Eq)]
@@ -9,24 +10,24 @@ pub enum Level {
     Certain,
     /// A fault that may come.
     Possible,
-    /// No fault, but what the analysis doesn't know.
-    Row,
+    /// No fault, but what is to be known, as what the analysis doesn't know.
+    Note,
 }
 
-/// A message about a text: a place of it, if the message is about one, what is told, what is found
-/// there, which may be empty, and the places from which calls lead to what it is about.
+/// A message about files: a spot, if the message is about one, what is told, what is found there,
+/// which may be empty, and the spots from which calls lead to what it is about.
 #[derive(Drop)]
 pub struct Message {
     pub level: Level,
-    pub place: Option<Place>,
+    pub spot: Option<Spot>,
     pub text: Seq<u8>,
     pub value: Seq<u8>,
-    pub calls: Seq<Place>,
+    pub calls: Seq<Spot>,
 }
 
-/// A call: the place of the operation, and that of what it calls.
+/// A call: the spot of the operation, and that of what it calls.
 #[derive(Clone, Copy, Debug, PartialEq, Eq)]
 pub struct Link {
-    pub from: Place,
-    pub to: Place,
+    pub from: Spot,
+    pub to: Spot,
 }

@@ -12,7 +12,7 @@ use Rattle.ja_graph.specs.Program.{node_at}
 use Rattle.ja_rows.specs.declared.table.Edge.{Edge}
 use Rattle.ja_rows.specs.Table.{Table}
 use Rattle.ja_rules.specs.declared.table.CallEdge.{CallEdge}
-use Rattle.ja_show.specs.declared.message.Link.{Link}
+use Rattle.ja_lint_top.specs.declared.links.Link.{Link}
 use Rattle.ja_lint_top.specs.Calls.{place_of, IsOfText, Leads}
 
 -- ---- the functions that lead to one, marked by their numbers

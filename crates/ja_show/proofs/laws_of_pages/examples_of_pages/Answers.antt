@@ -7,15 +7,20 @@ use Rattle.ja_lex.specs.Spots.{ends_line}
 use Rattle.ja_prim.specs.Characters.{is_part, is_terminator}
 use Rattle.ja_texts.specs.Texts.{place_text}
 use Rattle.ja_show.specs.Lines.{shown}
-use Rattle.ja_show.specs.Page.{escaped, hint, line_start, links_text, mark_start, place_link, source_text}
+use Rattle.ja_show.specs.Page.{call_link, escaped, hint, line_start, link_start, links_text, mark_start, source_text}
 use Rattle.ja_show.proofs.laws_of_pages.examples_of_pages.Goals as goal
 
 pub returns-clause-call : goal.returns-clause-call
-unfolding char_width digits ends_line escaped hint is_part is_terminator line_start links_text
-    mark_start place_link place_text shown source_text encode
+unfolding call_link char_width digits ends_line escaped hint is_part is_terminator line_start
+    link_start links_text mark_start place_text shown source_text encode
 returns-clause-call c = refl
 
 pub returns-clause-property : goal.returns-clause-property
-unfolding char_width digits ends_line escaped hint is_part is_terminator line_start links_text
-    mark_start place_link place_text shown source_text encode
+unfolding call_link char_width digits ends_line escaped hint is_part is_terminator line_start
+    link_start links_text mark_start place_text shown source_text encode
 returns-clause-property c = refl
+
+pub returns-clause-elsewhere : goal.returns-clause-elsewhere
+unfolding call_link char_width digits ends_line escaped hint is_part is_terminator line_start
+    link_start links_text mark_start place_text shown source_text encode
+returns-clause-elsewhere c = refl

@@ -1,5 +1,5 @@
-use Rattle.ja_show.proofs.Tags.{page_left}
+use Rattle.ja_show.proofs.Tags.{lines_left}
 use Rattle.ja_show.proofs.laws_of_pages.marks_are_tags.Goals as goal
 
 pub returns : goal.returns
-returns c = λ messages cs small. page_left messages cs small
+returns c = λ names messages file text few small. lines_left names messages file text few small

@@ -11,7 +11,7 @@ use Rattle.ja_show.proofs.page.links_from.Goals as goal
 pub returns : goal.returns
 returns c =
     let xs = c.args.links.now in
-    let p = λ (link : Link). is_passed c.args.place (Some link.from) in
+    let p = λ (link : Link). is_passed c.args.spot (Some link.from) in
     take_rest xs c.count-passed.result
     ∙ ap (λ (n : ℕ). drop n xs)
     (count_from_yields_List c.take_while.result _ c.count-passed.ensures.ran

@@ -9,7 +9,7 @@ use Rattle.ja_show.proofs.page.messages_at.Goals as goal
 pub returns : goal.returns
 returns c =
     let xs = c.args.messages.now in
-    let p = is_about c.args.place in
+    let p = is_about c.args.spot in
     ap (λ (n : ℕ). take n xs)
     (count_from_yields_List c.take_while.result _ c.count-here.ensures.ran
     (YieldsList-from_take_while _ p (YieldsList-from_slice xs cc) c.take_while.ensures.closure

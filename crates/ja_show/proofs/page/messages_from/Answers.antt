@@ -11,7 +11,7 @@ use Rattle.ja_show.proofs.page.messages_from.Goals as goal
 pub returns : goal.returns
 returns c =
     let xs = c.args.messages.now in
-    let p = λ (m : Message). is_passed c.args.place m.place in
+    let p = λ (m : Message). is_passed c.args.spot m.spot in
     take_rest xs c.count-passed.result
     ∙ ap (λ (n : ℕ). drop n xs)
     (count_from_yields_List c.take_while.result _ c.count-passed.ensures.ran

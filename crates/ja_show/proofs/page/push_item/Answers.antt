@@ -1,5 +1,7 @@
 use Rattle.std.proofs.Common.{ap, codes}
-use Rattle.ja_show.specs.Page.{calls_links, escaped, item_place, level_class, message_item}
+use Rattle.ja_show.specs.Messages.{others, standing}
+use Rattle.ja_show.specs.Page.{calls_links, escaped, item_spot, level_class, message_item}
+use Rattle.ja_show.specs.code.Kept.{lists_in}
 use Rattle.ja_show.proofs.Parts.{adds, adds_as, none_yet}
 use Rattle.ja_show.proofs.page.push_item.Goals as goal
 
@@ -7,6 +9,7 @@ pub returns : goal.returns
 unfolding message_item
 returns c =
     let m = c.args.message.now in
+    let names = lists_in c.args.names.now in
     let start =
     adds (codes "<li class=\"") (none_yet c.args.out.now.items)
     c.in_ok-extend_from_slice.ensures.items in
@@ -14,15 +17,17 @@ returns c =
     adds_as (level_class m.level) start c.in_ok-extend_from_slice-2.ensures.items
     c.level_class.ensures in
     let closed = adds (codes "\">") level c.in_ok-extend_from_slice-3.ensures.items in
-    let place = adds (item_place m.place) closed c.in_ok-push_item_place.ensures in
+    let spot =
+    adds_as (item_spot names (standing m.spot m.calls)) closed c.in_ok-push_item_spot.ensures
+    (ap (item_spot names) c.standing.ensures) in
     let text =
-    adds_as (escaped m.text) place c.in_ok-push_escaped.ensures (ap escaped c.as_slice.ensures) in
+    adds_as (escaped m.text) spot c.in_ok-push_escaped.ensures (ap escaped c.as_slice.ensures) in
     let calls =
-    adds_as (calls_links m.calls) text c.in_ok-push_calls.ensures
-    (ap calls_links c.as_slice-2.ensures) in
+    adds_as (calls_links names (others m.spot m.calls)) text c.in_ok-push_calls.ensures
+    (ap (calls_links names) c.others.ensures) in
     let code = adds (codes " <code>") calls c.in_ok-extend_from_slice-4.ensures.items in
     let value =
     adds_as (escaped m.value) code c.in_ok-push_escaped-2.ensures
-    (ap escaped c.as_slice-3.ensures) in
+    (ap escaped c.as_slice-2.ensures) in
     let item = adds (codes "</code></li>\n") value c.in_ok-extend_from_slice-5.ensures.items in
     item.is

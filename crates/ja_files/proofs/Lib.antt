@@ -1,0 +1,10 @@
+pub mod Begun
+pub mod Counted
+pub mod Counting
+pub mod Found
+pub mod Kept
+pub mod Listed
+pub mod Marks
+pub mod Pasts
+pub mod Placed
+pub mod Texts

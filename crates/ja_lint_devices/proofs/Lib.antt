@@ -1,0 +1,5 @@
+mod Words
+mod Found
+mod Refusing
+mod Examples
+mod Once

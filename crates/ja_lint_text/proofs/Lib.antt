@@ -1,0 +1,5 @@
+pub mod Alternatives
+pub mod Examples
+pub mod Rulesets
+pub mod SiteLists
+pub mod ValueWords

@@ -1,0 +1,13 @@
+pub mod NoFaults
+pub mod Lexed
+pub mod Rows
+pub mod Holding
+pub mod Steps
+pub mod Known
+pub mod Asking
+pub mod PartSteps
+pub mod Lines
+pub mod Said
+pub mod Whole
+pub mod Examples
+pub mod MatchLemmas

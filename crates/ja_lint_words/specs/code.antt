@@ -1,0 +1,3 @@
+-- What clauses of the code cite, and no believed statement.
+pub mod Answers
+pub mod App

@@ -1,0 +1,3 @@
+var user = null;
+if (input()) { user = {name: "Ann"}; }
+print(user.name);
