@@ -96,7 +96,7 @@ nodes_words = codes "more than " ++ decimal max_size ++ codes " nodes"
 abbrev pub spent_words : List ℕ
 spent_words = codes "not closed after " ++ decimal default_budget ++ codes " visits"
 
--- why and where a text is no program
+-- why and where a text is no program; want of memory has no place, and refuses none
 abbrev pub fault_place : ParseFault → Option Place
 fault_place (fault.Syntax place) = Some place
 fault_place (fault.Scope kind place) = Some place
@@ -119,17 +119,17 @@ IsAlone file = (statements : List Statement) × IsTextOf (bytes_of file) stateme
 -- a file that is no program by itself
 abbrev pub RefusesOne : List File → Reply → Type 0
 RefusesOne files r =
-    (number : ℕ) × (file : File) × (why : ParseFault) × (slice_get files number ≡ Some file)
-    × IsNone (bytes_of file) why
-    × Refuses files (option_map (spot_at number) (fault_place why)) (fault_words why) r
+    (number : ℕ) × (file : File) × (why : ParseFault) × (place : Place)
+    × (slice_get files number ≡ Some file) × IsNone (bytes_of file) why
+    × (fault_place why ≡ Some place)
+    × Refuses files (Some (spot_at number place)) (fault_words why) r
 
 -- the files together are no program, or pass a limit
 abbrev pub RefusesAll : List Signature → List File → Reply → Type 0
 RefusesAll signatures files r =
     let text = text_of files in
-    ((why : ParseFault) × IsNone text why
-    × Refuses files (option_map (spot_of (lines_of files)) (fault_place why))
-    (fault_words why) r)
+    ((why : ParseFault) × (place : Place) × IsNone text why × (fault_place why ≡ Some place)
+    × Refuses files (Some (spot_of (lines_of files) place)) (fault_words why) r)
     ⊎ ((HasManyFunctions text × Refuses files None functions_words r)
     ⊎ ((HasManyNodes text signatures × Refuses files None nodes_words r)
     ⊎ ((p : Program) × IsProgramOf text signatures p

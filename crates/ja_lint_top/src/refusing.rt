@@ -1,7 +1,8 @@
 //! Why files aren't analysed.
 
-ghost use Rattle.std.specs.Prelude.{◌≡◌, ◌<◌, ◌^◌, ◌++◌, ℕ, codes, Contains, IfOk, IfSome, List, None, length, option_map};
+ghost use Rattle.std.specs.Prelude.{◌≡◌, ◌<◌, ◌^◌, ◌++◌, ℕ, codes, Contains, IfOk, IfSome, List, None, Some, length};
 ghost use Rattle.std.specs.List.{AllByRecursion};
+ghost use Rattle.ja_base.specs.declared.ids.Place.{Place};
 ghost use Rattle.ja_files.specs.Files.{spot_of};
 ghost use Rattle.ja_load.specs.Loading.{HasNone};
 ghost use Rattle.ja_prim.specs.declared.signature.Signature.{Signature};
@@ -184,9 +185,11 @@ pub(crate) fn refuse_one(
     requires { IsRefusedAlone files.now file fault }
     ensures { IfOk result (λ r. RefusesOne files.now (reply_of r)) }
 {
-    let spot = fault_place(fault).map(|place| Spot { file, place });
+    let Some(place) = fault_place(fault) else {
+        return Err(Memory);
+    };
     let words = fault_words(alloc, fault)?;
-    refuse(alloc, files, spot, &words)
+    refuse(alloc, files, Some(Spot { file, place }), &words)
 }
 
 // The refusal of files whose one text is no program.
@@ -198,13 +201,15 @@ fn refuse_joined(
 ) -> Result<Reply, Memory>
     requires few { length first_lines.now < 2 ^ 32 }
     requires lines { first_lines.now ≡ lines_of files.now }
-    ensures { IfOk result (λ r. Refuses files.now
-        (option_map (spot_of (lines_of files.now)) (spec.fault_place fault))
-        (spec.fault_words fault) (reply_of r)) }
+    ensures { IfOk result (λ r. (place : Place) × (spec.fault_place fault ≡ Some place)
+        × Refuses files.now (Some (spot_of (lines_of files.now) place)) (spec.fault_words fault)
+        (reply_of r)) }
 {
-    let spot = fault_place(fault).map(|place| spot_of(first_lines, place));
+    let Some(place) = fault_place(fault) else {
+        return Err(Memory);
+    };
     let words = fault_words(alloc, fault)?;
-    refuse(alloc, files, spot, &words)
+    refuse(alloc, files, Some(spot_of(first_lines, place)), &words)
 }
 
 // Says why the one text of files has no program.

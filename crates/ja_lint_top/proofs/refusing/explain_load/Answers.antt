@@ -11,7 +11,13 @@ pub returns-in-Parse : goal.returns-in-Parse
 returns-in-Parse c =
     let text = text_of c.args.files.now in
     IfOk-weaker c.refuse_joined.result _ _ (λ r refuses signatures none.
-    inl (c.in-Parse.fault, subst (HasNone text signatures) c.in-Parse.is none, refuses))
+    inl (
+      c.in-Parse.fault,
+      refuses.0,
+      subst (HasNone text signatures) c.in-Parse.is none,
+      refuses.1,
+      refuses.2,
+    ))
     c.refuse_joined.ensures
 
 pub returns-in-Functions : goal.returns-in-Functions
