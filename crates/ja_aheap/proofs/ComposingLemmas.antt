@@ -82,6 +82,14 @@ composing_put names first later objects next mask n label o x is within put h co
       long = ap length put ∙ length-set objects n o ∙ h.long;
     }
 
+-- one turn, where the object of a label is known to stay
+pub composing_known : (names : ℕ) (first later objects : List AObject) (mask : ℕ → Mask) (n : ℕ)
+    → Composing names first later mask objects n
+    → IsComposed names first later mask (label_at n) None
+    → Composing names first later mask objects (n + 1)
+composing_known names first later objects mask n h composed =
+    composing_kept names first later objects mask n (label_at n) None refl h composed refl
+
 -- ---- what the heaps show
 
 -- .. of an object of the program at a key of it, and of no object
@@ -157,6 +165,42 @@ nothing_resolved mask f l none news olds =
     pick false m none = ap (λ (m : Mask). join_properties (known_part entry_property) (join_all (map
         (λ (m : Label). entry_property)
         (if m.none then new l.site ∷ [] else [])))) none
+
+-- the composed object of a label that is as at entry in both, of a site at which nothing is made,
+-- is the one that is there
+pub untouched_composed : (names : ℕ) (first later : List AObject) (mask : ℕ → Mask) (l : Label)
+    → label_number (old l.site) < length first → label_number (old l.site) < length later
+    → mask l.site.0 ≡ exactly_none
+    → ((m : Label) (k : Key) → l.site.0 ≤ m.site.0 → m.site.0 < l.site.0 + 1
+    → property_at first names m k ≡ entry_property)
+    → ((m : Label) (k : Key) → l.site.0 ≤ m.site.0 → m.site.0 < l.site.0 + 1
+    → property_at later names m k ≡ entry_property)
+    → IsComposed names first later mask l None
+untouched_composed names first later mask l among among_later none firsts laters k key =
+    seen first among firsts l.old
+    ∙ sym (ap (λ (qs : List AbstractProperty). join_properties (known_part entry_property)
+    (join_all qs)) (map_after g (renamed mask) (λ (m : Label). renamed mask (g m)) (λ m. refl)
+    (origins mask l))
+    ∙ nothing_resolved mask g l none (seen first among firsts false) (seen first among firsts true))
+    ∙ ap (λ (q : AbstractProperty). composed_property mask q (map g (origins mask l)))
+    (sym (seen later among_later laters l.old))
+  where
+    g : Label → AbstractProperty
+    g m = read_at (λ (o : AObject). object_of o k) first m
+
+    at_most : (b : Bool) → (if b then 1 else 0) ≤ 1
+    at_most true = omega arith
+    at_most false = omega arith
+
+    seen : (objects : List AObject) → label_number (old l.site) < length objects
+        → ((m : Label) (k : Key) → l.site.0 ≤ m.site.0 → m.site.0 < l.site.0 + 1
+        → property_at objects names m k ≡ entry_property) → (b : Bool)
+        → read_at (λ (o : AObject). object_of o k) objects (record { site = l.site; old = b })
+        ≡ entry_property
+    seen objects within all b =
+        sym (shown_here objects names (record { site = l.site; old = b }) k key
+        (omega (arith, within, at_most b)))
+        ∙ all (record { site = l.site; old = b }) k (omega arith) (omega arith)
 
 -- ---- masks
 

@@ -1,14 +1,14 @@
-ghost use Rattle.std.specs.Prelude.{◌≡◌, ◌==◌, ◌||◌, ◌*◌, ◌++◌, ℕ, ◌<◌, ◌+◌, IfOk, IfSome, IsTrue, is_some, length, slice_index_or};
+ghost use Rattle.std.specs.Prelude.{◌≡◌, ◌==◌, ◌||◌, ◌*◌, ◌/◌, ◌++◌, ℕ, ◌<◌, ◌+◌, None, true, IfOk, IfSome, IsTrue, is_some, length, slice_index_or};
 ghost use Rattle.std.specs.Option.{option_map_or};
 ghost use Rattle.std.specs.Ordering.{nat_cmp};
 ghost use Rattle.std.specs.BTreeMap.{get};
 ghost use Rattle.ja_abstract.specs.AbstractValue.{AbstractProperty};
 ghost use Rattle.ja_abstract.specs.AbstractState.{label_number};
 ghost use Rattle.ja_abstract.specs.Composed.{composed_mask, renamed_value};
-ghost use Rattle.ja_value.specs.Labels.{mask_in};
+ghost use Rattle.ja_value.specs.Labels.{label_at, mask_in};
 ghost use Rattle.ja_value.specs.Value.{labels_in, value_of};
 ghost use Rattle.ja_aheap.specs.declared.object.AObject.{AObject};
-ghost use Rattle.ja_aheap.specs.Heap.{composed_in, AreAlike, has_label};
+ghost use Rattle.ja_aheap.specs.Heap.{composed_in, AreAlike, AreUntouched, has_label};
 ghost use Rattle.ja_aheap.specs.Objects.{at};
 ghost use Rattle.ja_aheap.specs.code.Composed.{property_list, read_at, origins_at, HasMoved, IsComposed, Composing};
 ghost use Rattle.ja_aheap.specs.code.Masks.{AreMasks, both_masks};
@@ -18,7 +18,7 @@ use crate::maps::put;
 use crate::sources::Sources;
 use crate::{AHeap, AObject};
 use ja_abstract::Mask;
-use ja_base::{Label, Memory};
+use ja_base::{Label, Memory, Site};
 use ja_trie::{Shared, Steps};
 use ja_value::{AValue, LabelSet, label_at, label_number, mask_at};
 use std::alloc::Global;
@@ -177,7 +177,41 @@ impl AHeap {
         Ok(())
     }
 
-    /// The composed objects of all labels, which share with this heap what stays.
+    /// The site up to which each label from a site on is as at entry in both heaps, as far as runs
+    /// tell it; the site itself where one isn't.
+    fn both_untouched_to(&self, later: &AHeap, site: Site) -> u32
+        ensures first { AreUntouched (heap_of self.now) site.0 result }
+        ensures later { AreUntouched (heap_of later.now) site.0 result }
+    {
+        let first = self.untouched_to(site);
+        let later = later.untouched_to(site);
+        first.0.min(later.0)
+    }
+
+    /// Whether the object of the label of a number is known to stay as it is: it is as at entry in
+    /// both heaps, which are so from its site up to another one, and nothing is made at its site.
+    fn is_untouched_in(
+        &self,
+        later: &AHeap,
+        moved: &LabelSet,
+        number: u32,
+        untouched_to: u32,
+    ) -> bool
+        requires within { number < 2 * self.now.sites }
+        requires alike { AreAlike (heap_of self.now) (heap_of later.now) }
+        requires moved { HasMoved later.now.sites (mask_in later.now.masks.value)
+            (labels_in moved.now) }
+        requires first { AreUntouched (heap_of self.now) (number / 2) untouched_to }
+        requires later { AreUntouched (heap_of later.now) (number / 2) untouched_to }
+        ensures { result ≡ true → IsComposed self.now.names self.now.objects later.now.objects
+            (mask_in later.now.masks.value) (label_at number) None }
+    {
+        let site = Site(number / 2);
+        site.0 < untouched_to && !moved.contains(Label { site, old: false })
+    }
+
+    /// The composed objects of all labels, which share with this heap what stays. Where neither
+    /// heap has a label touched, no object is looked at.
     fn composed_objects<L: Ledger>(
         &self,
         alloc: Global,
@@ -191,8 +225,14 @@ impl AHeap {
     {
         let moved = later.moved(alloc)?;
         let mut objects = self.objects.fork()?;
+        let mut untouched_to = 0;
         for number in 0..2 * self.sites {
-            self.put_composed(alloc, later, &moved, number, &mut objects, steps)?;
+            if untouched_to <= number / 2 {
+                untouched_to = self.both_untouched_to(later, Site(number / 2));
+            }
+            if !self.is_untouched_in(later, &moved, number, untouched_to) {
+                self.put_composed(alloc, later, &moved, number, &mut objects, steps)?;
+            }
         }
         Ok(objects)
     }

@@ -12,7 +12,7 @@ ghost use Rattle.ja_aheap.specs.code.Own.{own_below, join_owns, LeqOwn};
 
 use crate::keys::key_number;
 use crate::maps::{all_listed, fill, put};
-use crate::properties::{aged_shared, has_new_label, is_entry, joined, joined_shared};
+use crate::properties::{aged_shared, has_entry, has_new_label, is_entry, joined, joined_shared};
 use ja_abstract::Key;
 use ja_base::{Memory, Site};
 use ja_value::AProp;
@@ -106,8 +106,14 @@ impl AObject {
         ensures { IsTrue result ↔ ((q : ℕ) → IsSome (get nat_cmp other.now.listed q)
             → q < end → LeqProperty (at self.now q) (at other.now q)) }
     {
+        let plain = self.is_plain();
         all_listed(&other.listed, |number: u64, property: &Rc<AProp>| {
-            number >= end || self.at(number).leq(property)
+            number >= end
+                || if plain {
+                    has_entry(property)
+                } else {
+                    self.at(number).leq(property)
+                }
         })
     }
 

@@ -1,6 +1,7 @@
 ghost use Rattle.std.specs.Prelude.{◌≡◌, ◌↔◌, IfOk, IsTrue};
 ghost use Rattle.ja_abstract.specs.AbstractValue.{entry_property, join_properties};
 ghost use Rattle.ja_abstract.specs.AbstractState.{new, aged_property};
+ghost use Rattle.ja_abstract.specs.Order.{LeqProperty};
 ghost use Rattle.ja_value.specs.Value.{property_of};
 ghost use Rattle.ja_aheap.specs.Objects.{shared_property};
 
@@ -74,4 +75,11 @@ pub fn is_entry(property: &AProp) -> bool
         & matches!(property.value.text, TextPart::Nothing)
         & property.value.labels.is_empty()
         & same_attrs(property.attrs, unknown_attrs())
+}
+
+/// Whether a property has each part of one that is exactly as at entry.
+pub fn has_entry(property: &AProp) -> bool
+    ensures { IsTrue result ↔ LeqProperty entry_property (property_of property.now) }
+{
+    property.value.flags.entry
 }

@@ -13,7 +13,7 @@ use ja_base::NodeId;
 use ja_graph::Program;
 use ja_load::{LoadFault, load};
 use ja_rows::Item;
-use ja_rules::{SolveFault, solve};
+use ja_solve::{SolveFault, solve};
 use std::alloc::Global;
 
 /// The program of a text, which is well formed.

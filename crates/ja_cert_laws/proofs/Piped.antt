@@ -15,6 +15,7 @@ use Rattle.ja_rows.specs.declared.table.Item.{Item}
 use Rattle.ja_rows.specs.declared.table.Warning.{Warning}
 use Rattle.ja_rules.specs.Tables.{table_of}
 use Rattle.ja_cert_read.specs.declared.certificate.Certificate.{Certificate}
+use Rattle.ja_words.specs.declared.command.Budget.{Budget}
 use Rattle.ja_words.specs.declared.command.Command.{Command}
 use Rattle.ja_words.specs.declared.command.Command.TheVariants as command
 use Rattle.ja_words.proofs.Given.{one_command}
@@ -37,7 +38,7 @@ judged ws = if has_fault ws then Warned else Done
 
 -- ---- of a text
 
-module _ (bytes : List ℕ) (signatures : List Signature) (p : Program) (budget : ℕ)
+module _ (bytes : List ℕ) (signatures : List Signature) (p : Program) (budget : Budget)
     (certificate : List ℕ) (ws : List Warning)
     (a : IsAnalysed (request_of true budget) p certificate ws) (short : length bytes ≤ max_bytes)
     (fits : length certificate ≤ max_bytes) (devices : AreSignatures signatures)
@@ -121,12 +122,12 @@ module _ (bytes : List ℕ) (signatures : List Signature) (p : Program) (budget 
 -- ---- of two calls
 
 -- what `check` says of a certificate that was written with this status
-abbrev Answers : ℕ → List ℕ → List Signature → Status → List ℕ → Type 0
+abbrev Answers : Budget → List ℕ → List Signature → Status → List ℕ → Type 0
 Answers budget bytes signatures s certificate =
     length certificate ≤ max_bytes → (r : Status) (text : List ℕ) → Checks certificate r text
     → (r ≡ s) × Analyses (request_of false budget) bytes signatures s text
 
-module _ (budget : ℕ) (bytes : List ℕ) (signatures : List Signature) (certificate : List ℕ)
+module _ (budget : Budget) (bytes : List ℕ) (signatures : List Signature) (certificate : List ℕ)
     (short : length bytes ≤ max_bytes) (devices : AreSignatures signatures) where
   by_warnings : (s : Status) (p : Program) (ws : List Warning) → judged ws ≡ s
       → IsProgramOf bytes signatures p → IsAnalysed (request_of true budget) p certificate ws
@@ -165,7 +166,7 @@ all_written : (w : Written) (text : List ℕ) → w.written ≡ Some []
 all_written w text empty appends =
     appends ∙ ap (option_map (λ (before : List ℕ). before ++ text)) empty
 
-module _ (c d : Call) (w v : Written) (words : List (String Global)) (budget : ℕ)
+module _ (c d : Call) (w v : Written) (words : List (String Global)) (budget : Budget)
     (devices : AreSignatures (signatures_of c.devices))
     (certifies : Asks c.words (command.Analyse true budget)) (checks : Asks d.words command.Check)
     (plain : Asks words (command.Analyse false budget)) (passed : IsPassedOn w d) where

@@ -59,7 +59,7 @@ use Rattle.ja_rows.proofs.StepEdges.{IsFrom, edges_from_node}
 use Rattle.ja_rows.proofs.TablesInProgram as in_program
 use Rattle.ja_rows.proofs.Views.{same_context-true, with_view_by}
 use Rattle.ja_rules.specs.Tables.{table_of, IsContext}
-use Rattle.ja_rules.proofs.EdgesInProgram.{IsInto, edges_into}
+use Rattle.ja_height.proofs.EdgesInProgram.{IsInto, edges_into}
 use Rattle.ja_rules.proofs.Opened.{find_at}
 use Rattle.ja_rules.proofs.Places.{edges_order}
 use Rattle.ja_rules.proofs.TableLemmas.{root_is_context}

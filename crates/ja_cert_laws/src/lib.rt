@@ -24,6 +24,7 @@ ghost use Rattle.ja_top.specs.Answers.{Asks, Call, IsAnswered, Written, request_
 ghost use Rattle.ja_top.specs.Checks.{Checks};
 ghost use Rattle.ja_top.specs.Runs.{signatures_of};
 ghost use Rattle.ja_top.specs.declared.status.Status.{Status};
+ghost use Rattle.ja_words.specs.declared.command.Budget.{Budget};
 ghost use Rattle.ja_words.specs.declared.command.Command.TheVariants.{Analyse, Check};
 
 /// What is written of a program that is loaded from its text, a table of it and visits is their
@@ -57,14 +58,14 @@ pub fn certificates_are_read_back()
 /// devices does, with its status and its text; or the source, the sink or memory failed, or the
 /// certificate is longer than a text may be.
 pub fn certificates_are_accepted()
-    ensures accepted { (bytes : List ℕ) (signatures : List Signature) (p : Program) (budget : ℕ)
+    ensures accepted { (bytes : List ℕ) (signatures : List Signature) (p : Program) (budget : Budget)
         (certificate : List ℕ) (ws : List Warning)
         (a : IsAnalysed (request_of true budget) p certificate ws) (status : Status)
         (text : List ℕ) → length bytes ≤ max_bytes → length certificate ≤ max_bytes
         → AreSignatures signatures → IsProgramOf bytes signatures p
         → (Checks certificate status text
         ↔ IsReported p (table_of a.table) a.visits ws status text) }
-    ensures answered { (c d : Call) (w v : Written) (words : List (String Global)) (budget : ℕ)
+    ensures answered { (c d : Call) (w v : Written) (words : List (String Global)) (budget : Budget)
         (s r : Status) → AreSignatures (signatures_of c.devices)
         → Asks c.words (Analyse true budget) → Asks d.words Check
         → Asks words (Analyse false budget)

@@ -127,7 +127,7 @@ front_start p f all right have = record {
 pub front_more : (p : Program) (f : FnId) (all : List PointAt) (x : PointAt) (rest : List PointAt)
     (nodes filled more : List NodeTable) (t : NodeTable) → IsFront p f all (x ∷ rest) nodes
     → filled ≡ nodes ++ no_nodes (x.node.0 - length nodes)
-    → t ≡ record { state = Some x.state; changed = 0; stepped = 0 } → more ≡ filled ++ t ∷ []
+    → t ≡ record { state = Some x.state } → more ≡ filled ++ t ∷ []
     → IsFront p f all rest more
 front_more p f all x rest nodes filled more t was filling is adding =
     let s : AState = x.state in

@@ -12,7 +12,6 @@ ghost use Rattle.ja_cert_read.specs.code.Contexts.{is_among, is_between};
 ghost use Rattle.ja_cert_parts.specs.code.Reading.{Reads};
 
 use crate::contexts::{ContextAt, context_numbers, is_less};
-use crate::tables::NEVER;
 use ja_base::{Context, FnId, NodeId};
 use ja_cert_json::Json;
 use ja_cert_parts::{
@@ -133,10 +132,6 @@ impl<'a> Member<Among<'a>> for CallEdge {
         let edge = read_edge(rule.alloc, rule.program, value)?;
         here_unless(rule.alloc, is_behind(before, edge))?;
         here_unless(rule.alloc, is_between(rule, edge))?;
-        Ok(CallEdge {
-            edge,
-            filled: NEVER,
-            given_back: NEVER,
-        })
+        Ok(CallEdge { edge })
     }
 }

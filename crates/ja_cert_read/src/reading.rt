@@ -21,7 +21,7 @@ use crate::devices::Devices;
 use crate::edges::Among;
 use crate::items::Visits;
 use crate::places::told;
-use crate::tables::{NEVER, tables_of};
+use crate::tables::tables_of;
 use ja_base::Memory;
 use ja_cert_json::{Json, JsonFault, read as read_text};
 use ja_cert_parts::{Fault, InProgram, here, here_unless, read_list, six_members, under};
@@ -151,7 +151,7 @@ fn read_body(alloc: Global, program: &Program, head: &Head<'_>) -> Result<Body, 
     })
 }
 
-/// The table of contexts and edges. Nothing says when it changed.
+/// The table of contexts and edges.
 fn table_with(
     alloc: Global,
     program: &Program,
@@ -164,12 +164,7 @@ fn table_with(
     ensures edges { IfOk result (λ t. t.edges ≡ edges) }
 {
     let contexts = tables_of(alloc, program, contexts)?;
-    Ok(ATable {
-        contexts,
-        edges,
-        clock: NEVER,
-        opened: NEVER,
-    })
+    Ok(ATable { contexts, edges })
 }
 
 /// Reads a certificate: its program, and the table and the visits that are listed. Nothing is

@@ -13,25 +13,10 @@ ghost use Rattle.ja_cert_read.specs.code.Contexts.{listed_data, own_data, point_
 use crate::contexts::ContextAt;
 use crate::points::PointAt;
 use crate::states::entries_of_parts;
-use ja_astate::AState;
 use ja_base::{FnId, Memory};
 use ja_graph::Program;
-use ja_rules::{Changes, ContextTable, NodeTable};
+use ja_rules::{ContextTable, NodeTable};
 use std::alloc::Global;
-
-/// The time before any visit.
-pub(crate) const NEVER: u64 = 0;
-
-/// A node with this state, if any.
-fn node(state: Option<AState>) -> NodeTable
-    ensures { result ≡ record { state = state; changed = 0; stepped = 0 } }
-{
-    NodeTable {
-        state,
-        changed: NEVER,
-        stepped: NEVER,
-    }
-}
 
 /// How many nodes a function has.
 fn node_count(program: &Program, function: FnId) -> usize
@@ -50,7 +35,7 @@ fn fill_up(nodes: &mut Vec<NodeTable>, count: usize) -> Result<(), Memory>
 {
     let missing = count.saturating_sub(nodes.len());
     for _ in 0..missing {
-        nodes.push(node(None))?;
+        nodes.push(NodeTable::new(None))?;
     }
     Ok(())
 }
@@ -71,7 +56,7 @@ fn nodes_of(
     let mut nodes = Vec::new(alloc);
     for point in points {
         fill_up(&mut nodes, point.node.0 as usize)?;
-        nodes.push(node(Some(point.state)))?;
+        nodes.push(NodeTable::new(Some(point.state)))?;
     }
     fill_up(&mut nodes, node_count(program, function))?;
     Ok(nodes)
@@ -93,11 +78,6 @@ fn table_at(alloc: Global, program: &Program, listed: ContextAt) -> Result<Conte
         context,
         nodes,
         entries,
-        changes: Changes {
-            valued: NEVER,
-            demanded: NEVER,
-            left: NEVER,
-        },
     })
 }
 

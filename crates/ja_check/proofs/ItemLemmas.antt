@@ -6,6 +6,7 @@ use Rattle.std.proofs.Common.{refl, sym, ap, ◌∙◌, subst, inl, inr, arith}
 use Rattle.std.proofs.lemmas.Bool.{cases_Bool, cond_both, false≢true}
 use Rattle.std.proofs.lemmas.List.Elements.{All-from_recursion, recursion_from_All}
 use Rattle.std.proofs.lemmas.List.Folds.{flat_map-map}
+use Rattle.std.proofs.lemmas.Map.Keys.{any_passes_from_place}
 use Rattle.ja_base.specs.declared.ids.Context.{Context}
 use Rattle.ja_base.specs.declared.ids.NodeId.{NodeId}
 use Rattle.ja_base.proofs.Lists.{all_append, map_after, within_from_some}
@@ -19,6 +20,7 @@ use Rattle.ja_rows.specs.declared.table.Item.{Item}
 use Rattle.ja_rows.specs.declared.table.Item.TheVariants.{Open, Step, Fill, Back}
 use Rattle.ja_rows.specs.Listed.{contexts_of, edges_of}
 use Rattle.ja_rows.specs.Table.{Table, node_numbers, same_edge, visited, HasOpening, IsClosed, IsItem}
+use Rattle.ja_rows.proofs.Applied.{same_edge-self}
 use Rattle.ja_rules.specs.declared.table.ATable.{ATable}
 use Rattle.ja_rules.specs.declared.table.CallEdge.{CallEdge}
 use Rattle.ja_rules.specs.declared.table.ContextTable.{ContextTable}
@@ -26,7 +28,6 @@ use Rattle.ja_rules.specs.Tables.{table_of, Fits}
 use Rattle.ja_rules.proofs.Found.{found_state, unreached_state}
 use Rattle.ja_rules.proofs.NodeFacts.{node_there}
 use Rattle.ja_rules.proofs.Places.{edges_order}
-use Rattle.ja_rules.proofs.Rounds.{edge_there}
 use Rattle.ja_rules.proofs.TableUpdates.{own_found}
 use Rattle.ja_rules.proofs.Ascending.{first_kept, flat_map_each, listed, number_listed, of_member}
 use Rattle.ja_rules.proofs.ListedContexts.{contexts_listed, kept_is_reached}
@@ -36,6 +37,13 @@ use Rattle.ja_check.specs.declared.fault.CheckFault.TheVariants.{NotOpen, NotClo
 use Rattle.ja_check.specs.Check.{items_of, step_at, steps_at, steps_of, Explains, IsFirstAmong}
 use Rattle.ja_check.specs.code.Checking.{steps_in, StopsAt}
 use Rattle.ja_check.proofs.Lists.{all_flat_map, parted}
+
+-- an edge of a table is one of its items
+edge_there : (t : ATable) (k : ℕ) (d : CallEdge) → slice_get t.edges.items k ≡ Some d
+    → IsTrue ((table_of t).edge d.edge)
+edge_there t k d is =
+    any_passes_from_place (λ (c : CallEdge). same_edge c.edge d.edge) t.edges.items k d is
+    (same_edge-self d.edge)
 
 -- ---- the list
 

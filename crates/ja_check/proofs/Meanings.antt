@@ -20,7 +20,7 @@ use Rattle.ja_rules.specs.declared.table.ContextTable.{ContextTable}
 use Rattle.ja_rules.specs.declared.table.NodeTable.{NodeTable}
 use Rattle.ja_rules.specs.Tables.{find_context, no_entries, states_in, table_of, Fits, FitsContext}
 use Rattle.ja_rules.proofs.Found.{found_entry, found_state}
-use Rattle.ja_rules.proofs.Rounds.{same_at}
+use Rattle.ja_check.proofs.Lists.{same_at}
 use Rattle.ja_rules.proofs.TableLemmas.{table_in}
 use Rattle.ja_rules.proofs.TableUpdates.{own_found}
 use Rattle.ja_rules.proofs.ListedContexts.{contexts_listed}

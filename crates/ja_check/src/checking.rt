@@ -2,7 +2,7 @@ ghost use Rattle.std.specs.Prelude.{◌≡◌, ◌↔◌, All, IfErr, IfOk, IsTr
 ghost use Rattle.ja_graph.specs.WellFormed.{IsWellFormed};
 ghost use Rattle.ja_rows.specs.Table.{HasOpening, IsClosed, IsItem};
 ghost use Rattle.ja_rules.specs.Tables.{table_of, Fits};
-ghost use Rattle.ja_rules.specs.code.Rounds.{IsSettled};
+ghost use Rattle.ja_rules.specs.code.Settled.{IsSettled};
 ghost use Rattle.ja_check.specs.Check.{Explains, FitsListed};
 ghost use Rattle.ja_check.specs.code.Checking.{StopsAt};
 

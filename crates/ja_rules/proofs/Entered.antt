@@ -29,8 +29,8 @@ use Rattle.ja_rows.proofs.TablesInProgram.{has_length}
 use Rattle.ja_flow.specs.Flow.{IsCallerAt, IsEnteredBy}
 use Rattle.ja_rules.specs.declared.visits.Entry.{Entry}
 use Rattle.ja_rules.specs.code.Stepping.{with_entered, AreEntered, FitsEntered}
-use Rattle.ja_rules.proofs.DemandsInProgram.{entry_of, IsPairOf}
-use Rattle.ja_rules.proofs.EdgesInProgram.{edges_into, IsInto}
+use Rattle.ja_height.proofs.DemandsInProgram.{entry_of, IsPairOf}
+use Rattle.ja_height.proofs.EdgesInProgram.{edges_into, IsInto}
 use Rattle.ja_rules.proofs.VisitEffects.{edge_entered, edges_more, of_edges}
 
 module _ (p : Program) (good : IsWellFormed p) (w : View) (in_program : w.program ≡ p)

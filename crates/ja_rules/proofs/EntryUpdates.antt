@@ -14,7 +14,6 @@ use Rattle.ja_flow.specs.code.Pairs.{with_set}
 use Rattle.ja_flow.specs.declared.values.EntryValue.{EntryValue}
 use Rattle.ja_aheap.specs.declared.entries.DemandedEntries.{DemandedEntries}
 use Rattle.ja_aheap.specs.Entries.{entries_of}
-use Rattle.ja_rules.specs.declared.table.Changes.{Changes}
 use Rattle.ja_rules.specs.declared.table.ContextTable.{ContextTable}
 use Rattle.ja_rules.specs.Tables.{FitsContext}
 use Rattle.ja_rules.specs.code.Entries.{demanded}
@@ -32,10 +31,9 @@ pub fits_pairs : (p : Program) (c : ContextTable) → FitsContext p c
     → ArePairsOf p (entries_of c.entries)
 fits_pairs p c fits l k h = (fits.labels l k h, fits.keys l k h)
 
-pub fits_entries : (p : Program) (c : ContextTable) (e : DemandedEntries) (changes : Changes)
-    → FitsContext p c → ArePairsOf p (entries_of e)
-    → FitsContext p (record c { entries = e; changes = changes })
-fits_entries p c e changes fits pairs = record {
+pub fits_entries : (p : Program) (c : ContextTable) (e : DemandedEntries) → FitsContext p c
+    → ArePairsOf p (entries_of e) → FitsContext p (record c { entries = e })
+fits_entries p c e fits pairs = record {
   context = fits.context;
   nodes = fits.nodes;
   states = fits.states;

@@ -48,7 +48,7 @@ use Rattle.ja_rules.proofs.ContextOrder.{place_found}
 use Rattle.ja_rules.proofs.Found.{found_context, found_entry, found_fits, found_kept, found_no_state, found_state, missing_state}
 use Rattle.ja_rules.proofs.NodeFacts.{given_fit, given_nodes, leads, node_there}
 use Rattle.ja_rules.proofs.Tables.{root_found}
-use Rattle.ja_rules.proofs.Targets.{exits_below, AreBelow, LeadsBelow}
+use Rattle.ja_height.proofs.Targets.{exits_below, AreBelow, LeadsBelow}
 use Rattle.ja_rules.proofs.Places.{edges_order}
 
 -- an edge of a table that fits the program does so
@@ -240,20 +240,6 @@ has_first p t fits =
     (is_some_from (slice_get t.contexts.items 0) fits.first fits.first_is) in
     let long = t.contexts.ok.0 in
     omega (arith, within, long)
-
--- a table fits a program whatever its times are
-pub fits_later : (p : Program) (t : ATable) (clock : ℕ) → Fits p t
-    → Fits p (record t { clock = clock })
-fits_later p t clock fits = record {
-  each = fits.each;
-  ordered = fits.ordered;
-  edges = λ k d h. let f = fits.edges k d h in
-      record { caller = f.caller; node = f.node; callee = f.callee };
-  edges_ordered = fits.edges_ordered;
-  first = fits.first;
-  first_is = fits.first_is;
-  first_is_root = fits.first_is_root;
-}
 
 -- ---- the items of a context
 

@@ -2,12 +2,9 @@ pub mod Applied
 pub mod Ascending
 pub mod ContextOrder
 pub mod Demands
-pub mod DemandsInProgram
-pub mod EdgesInProgram
 pub mod Entered
 pub mod EntryUpdates
 pub mod Found
-pub mod Grows
 pub mod JoinedStates
 pub mod KeyOrders
 pub mod Lent
@@ -21,7 +18,6 @@ pub mod OrderedParts
 pub mod Places
 pub mod ProfileLemmas
 pub mod ReachedContexts
-pub mod Rounds
 pub mod SameMeaning
 pub mod SettledItems
 pub mod Settling
@@ -31,7 +27,6 @@ pub mod Steps
 pub mod TableLemmas
 pub mod TableUpdates
 pub mod Tables
-pub mod Targets
 pub mod Told
 pub mod VisitEffects
 pub mod Visiting

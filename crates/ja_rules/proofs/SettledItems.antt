@@ -25,7 +25,7 @@ use Rattle.ja_rules.specs.code.Exits.{IsGivenBack}
 use Rattle.ja_rules.specs.code.Filling.{IsFilled}
 use Rattle.ja_rules.specs.code.Growing.{with_demands_at, with_entries_at, with_states_at}
 use Rattle.ja_rules.specs.code.Stepping.{with_entered, IsStep}
-use Rattle.ja_rules.proofs.Grows.{grows_both}
+use Rattle.ja_height.proofs.Grows.{grows_both}
 use Rattle.ja_rules.proofs.Settling.{demands_grow, entries_grow, none_left, states_grow, told_next, told_unchanged, told_visit}
 use Rattle.ja_rules.proofs.Steps.{step_is}
 use Rattle.ja_rules.proofs.VisitEffects.{back_visited, fill_visited}

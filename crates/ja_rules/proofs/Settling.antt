@@ -44,7 +44,7 @@ use Rattle.ja_rules.specs.code.Growing.{with_context, with_demands_at, with_edge
 use Rattle.ja_rules.specs.code.Stepping.{with_entered}
 use Rattle.ja_rules.proofs.Applied.{context_applied, demands_applied, edge_applied, of_context, of_demands, of_edge, of_given, of_state, state_applied, states_applied}
 use Rattle.ja_rules.proofs.Demands.{demands_of_list}
-use Rattle.ja_rules.proofs.Grows.{applied_grows, grows_both, grows_equal, grows_same, Grows}
+use Rattle.ja_height.proofs.Grows.{applied_grows, grows_both, grows_equal, grows_same, Grows}
 use Rattle.ja_rules.proofs.StateOrder.{state_by_join}
 use Rattle.ja_rules.proofs.TableLemmas.{context_there, edge_there}
 use Rattle.ja_rules.proofs.Told.{told_both, told_by}

@@ -39,12 +39,12 @@ use Rattle.ja_rules.specs.code.Exits.{IsGivenBack}
 use Rattle.ja_rules.specs.code.Filling.{IsFilled}
 use Rattle.ja_rules.specs.code.Growing.{with_demands_at, with_entries_at, with_states_at, AreDemandsOf}
 use Rattle.ja_rules.specs.code.Stepping.{view_in, with_entered, FitsEntered, IsStep}
-use Rattle.ja_rules.proofs.DemandsInProgram.{calling_of, fill_of, node_of}
-use Rattle.ja_rules.proofs.EdgesInProgram.{IsInto}
+use Rattle.ja_height.proofs.DemandsInProgram.{calling_of, fill_of, node_of}
+use Rattle.ja_height.proofs.EdgesInProgram.{IsInto}
 use Rattle.ja_rules.proofs.Entered.{entries_applied, entries_fit, steps_are, AreSteps}
-use Rattle.ja_rules.proofs.Grows.{grown_both, grown_by}
+use Rattle.ja_height.proofs.Grows.{grown_both, grown_by}
 use Rattle.ja_rules.proofs.NodeFacts.{given_fit, given_nodes, known_name, leads}
-use Rattle.ja_rules.proofs.Targets.{targets_below, AreBelow}
+use Rattle.ja_height.proofs.Targets.{targets_below, AreBelow}
 use Rattle.ja_rules.proofs.VisitEffects.{back_nothing, back_visited, fill_visited, of_edges, step_visited}
 use Rattle.ja_rules.proofs.Visiting.{demands_grown, states_grown, values_grown, visit_is, visit_nothing}
 

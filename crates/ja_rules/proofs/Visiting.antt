@@ -35,7 +35,7 @@ use Rattle.ja_rules.specs.code.Growing.{with_context, with_demands_at, with_edge
 use Rattle.ja_rules.specs.code.Stepping.{with_entered, FitsEntered}
 use Rattle.ja_rules.proofs.VisitEffects.{of_parts, parts_applied}
 use Rattle.ja_rules.proofs.Applied.{context_applied, demands_applied, edge_applied, of_context, of_demands, of_edge, of_given, of_state, of_values, state_applied, states_applied, values_applied}
-use Rattle.ja_rules.proofs.Grows.{grown_by, IsGrown}
+use Rattle.ja_height.proofs.Grows.{grown_by, IsGrown}
 use Rattle.ja_rules.proofs.Places.{edges_order}
 
 -- ---- what each part tells

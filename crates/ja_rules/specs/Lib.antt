@@ -1,7 +1,6 @@
 pub mod Order
 pub mod Parts
 pub mod Profile
-pub mod Solving
 pub mod Tables
 pub mod Visits
 pub mod code

@@ -6,5 +6,5 @@ pub mod Filling
 pub mod Growing
 pub mod Opened
 pub mod Places
-pub mod Rounds
+pub mod Settled
 pub mod Stepping

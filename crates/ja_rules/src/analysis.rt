@@ -1,6 +1,7 @@
 ghost use Rattle.std.proofs.Props.{props};
 ghost use Rattle.ja_keys.specs.Keys.{IsKeysOf};
 
+use crate::changes::Changes;
 use crate::settled::is_settled;
 use crate::table::ATable;
 use crate::visits::visit;
@@ -52,7 +53,28 @@ impl<'a> Analysis<'a> {
         ensures edges { HasSameEdges item table.old table.new }
         ensures fits { OnOk result (Fits self.now.program.now table.new) }
     {
-        visit(self.alloc, self.program, &self.keys, table, item)
+        let mut changes = Changes::new(self.alloc);
+        self.visit_with(table, item, &mut changes)
+    }
+
+    /// Joins in what an item of the table gives, tells whether the table changed, and adds what
+    /// changed, and what was read, to `changes`. After `Memory` some of it may have been joined in,
+    /// and the table is of no use.
+    pub fn visit_with(
+        &self,
+        table: &mut ATable,
+        item: Item,
+        changes: &mut Changes,
+    ) -> Result<bool, Memory>
+        requires program { IsWellFormed self.now.program.now }
+        requires fits { Fits self.now.program.now table.old }
+        requires item { IsItem self.now.program.now (table_of table.old) item }
+        ensures visited { IfOk result (IsVisited self.now.program.now item (table_of table.old)
+            (table_of table.new)) }
+        ensures edges { HasSameEdges item table.old table.new }
+        ensures fits { OnOk result (Fits self.now.program.now table.new) }
+    {
+        visit(self.alloc, self.program, &self.keys, table, item, changes)
     }
 
     /// Tests whether an item of the table is settled: its visit wouldn't change the table, which

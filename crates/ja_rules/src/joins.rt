@@ -17,8 +17,9 @@ ghost use Rattle.ja_rules.specs.Order.{AreContextsOrdered};
 ghost use Rattle.ja_rules.specs.Tables.{states_in, table_of, Fits, FitsContext};
 ghost use Rattle.ja_rules.specs.code.Growing.{with_demands_at, with_entries_at, with_given, with_state_at, with_states_at, AreDemandsOf, AreValuesOf, HasSameKeys};
 
+use crate::changes::Changes;
 use crate::entries::demand_all;
-use crate::table::{ATable, ContextTable, node_info};
+use crate::table::{ATable, ContextTable};
 use ja_aheap::DemandList;
 use ja_astate::AState;
 use ja_base::{Context, Memory, NodeId};
@@ -53,11 +54,6 @@ pub(crate) fn is_exit(node: &Node) -> bool
     matches!(node, Node::Return { .. } | Node::Escape)
 }
 
-// When something changed last, if it changes now or not.
-fn last_change(changed: bool, now: u64, before: u64) -> u64 {
-    if changed { now } else { before }
-}
-
 // Joins a state in at a node of a context, and tells whether the states changed.
 fn join_at(
     alloc: Global,
@@ -65,7 +61,6 @@ fn join_at(
     own: &mut ContextTable,
     node: NodeId,
     state: AState,
-    now: u64,
 ) -> Result<bool, Memory>
     requires program { IsWellFormed program.now }
     requires fits { FitsContext program.now own.old }
@@ -82,20 +77,12 @@ fn join_at(
     ensures entries { own.new.entries ≡ own.old.entries }
     ensures fits { OnOk result (FitsContext program.now own.new) }
 {
-    let is_left = is_exit(&node_info(program, own.context.function, node).node);
     let at = &mut own.nodes[node.0 as usize];
     let changed = join_kept(alloc, &mut at.state, state)?;
-    at.changed = last_change(changed, now, at.changed);
-    own.changes.left = last_change(changed & is_left, now, own.changes.left);
     Ok(changed)
 }
 
 impl ATable {
-    // The time of what this visit changes.
-    fn next_time(&self) -> u64 {
-        self.clock.saturating_add(1)
-    }
-
     /// Joins a state in at a node of a context that is reached, and tells whether that changes the
     /// table.
     pub(crate) fn join_state(
@@ -119,9 +106,8 @@ impl ATable {
         ensures kept { HasSameKeys self.old self.new }
         ensures fits { OnOk result (Fits program.now self.new) }
     {
-        let now = self.next_time();
         match self.place_of(context) {
-            Some(place) => join_at(alloc, program, &mut self.contexts[place], node, state, now),
+            Some(place) => join_at(alloc, program, &mut self.contexts[place], node, state),
             None => unreachable!(),
         }
     }
@@ -134,6 +120,7 @@ impl ATable {
         program: &Program,
         context: Context,
         states: Vec<(NodeId, AState)>,
+        changes: &mut Changes,
     ) -> Result<bool, Memory>
         requires program { IsWellFormed program.now }
         requires fits { Fits program.now self.old }
@@ -152,6 +139,7 @@ impl ATable {
         let mut changed = false;
         for (node, state) in states {
             let joined = self.join_state(alloc, program, context, node, state)?;
+            changes.note_state(context, node, joined)?;
             changed = changed | joined;
         }
         Ok(changed)
@@ -164,6 +152,7 @@ impl ATable {
         alloc: Global,
         context: Context,
         demands: DemandList,
+        changes: &mut Changes,
     ) -> Result<bool, Memory>
         requires ordered { AreContextsOrdered self.old.contexts.items }
         requires context { IsTrue ((table_of self.old).context context) }
@@ -175,13 +164,13 @@ impl ATable {
         ensures fits { OnOk result ((p : Program) → AreDemandsOf p (demands_in demands)
             → Fits p self.old → Fits p self.new) }
     {
-        let now = self.next_time();
+        changes.note_reads(&demands)?;
         let Some(place) = self.place_of(context) else {
             unreachable!();
         };
         let own = &mut self.contexts[place];
         let changed = demand_all(alloc, &mut own.entries, demands)?;
-        own.changes.demanded = last_change(changed, now, own.changes.demanded);
+        changes.is_demanded = changes.is_demanded | changed;
         Ok(changed)
     }
 
@@ -192,6 +181,7 @@ impl ATable {
         alloc: Global,
         context: Context,
         values: Vec<EntryValue>,
+        changes: &mut Changes,
     ) -> Result<bool, Memory>
         requires ordered { AreContextsOrdered self.old.contexts.items }
         requires context { IsTrue ((table_of self.old).context context) }
@@ -203,13 +193,12 @@ impl ATable {
         ensures fits { OnOk result ((p : Program) → AreValuesOf p values.items
             → Fits p self.old → Fits p self.new) }
     {
-        let now = self.next_time();
+        changes.note_values(&values)?;
         let Some(place) = self.place_of(context) else {
             unreachable!();
         };
         let own = &mut self.contexts[place];
         let changed = set_values(alloc, &mut own.entries, values)?;
-        own.changes.valued = last_change(changed, now, own.changes.valued);
         Ok(changed)
     }
 }

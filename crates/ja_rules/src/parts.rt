@@ -4,7 +4,7 @@ ghost use Rattle.std.specs.Prelude.{◌≡◌, ◌↔◌, All, IfSome, IsSome, I
 ghost use Rattle.ja_rules.specs.Order.{AreContextsOrdered, AreEdgesOrdered};
 ghost use Rattle.ja_rules.specs.Parts.{AreParts, HasEnds};
 
-use crate::table::{ATable, CallEdge, ContextTable, NEVER, START, is_below, is_edge_below};
+use crate::table::{ATable, CallEdge, ContextTable, is_below, is_edge_below};
 
 // Whether contexts are in order, and none twice.
 fn are_contexts_ordered(contexts: &[ContextTable]) -> bool
@@ -68,12 +68,7 @@ impl ATable {
         if !are_edges_ordered(&edges) {
             return None;
         }
-        let table = ATable {
-            contexts,
-            edges,
-            clock: START,
-            opened: NEVER,
-        };
+        let table = ATable { contexts, edges };
         if !are_ended(&table, &table.edges) {
             return None;
         }

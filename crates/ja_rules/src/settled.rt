@@ -14,7 +14,7 @@ ghost use Rattle.ja_transfer.specs.Outcomes.{given_by};
 ghost use Rattle.ja_rules.specs.Order.{AreContextsOrdered};
 ghost use Rattle.ja_rules.specs.Tables.{table_of, Fits};
 ghost use Rattle.ja_rules.specs.code.Growing.{with_demands_at, with_state_at, with_states_at};
-ghost use Rattle.ja_rules.specs.code.Rounds.{IsSettled};
+ghost use Rattle.ja_rules.specs.code.Settled.{IsSettled};
 ghost use Rattle.ja_rules.specs.code.Stepping.{with_entered, FitsEntered};
 
 use crate::entries::are_demanded;

@@ -17,22 +17,10 @@ use ja_rows::Edge;
 use ja_value::label_number;
 use std::alloc::Global;
 
-/// The abstract state of a context at a node, if it has one, when it changed last, and when the
-/// node's step was taken last.
+/// The abstract state of a context at a node, if it has one.
 #[derive(Drop)]
 pub struct NodeTable {
     pub state: Option<AState>,
-    pub changed: u64,
-    pub stepped: u64,
-}
-
-/// When a value at a context's entry changed last, when a pair was demanded there last, and when
-/// the state at an exit changed last.
-#[derive(Clone, Copy)]
-pub struct Changes {
-    pub valued: u64,
-    pub demanded: u64,
-    pub left: u64,
 }
 
 /// The abstract states of a context by node, and the values that are demanded at its entry.
@@ -41,56 +29,36 @@ pub struct ContextTable {
     pub context: Context,
     pub nodes: Vec<NodeTable>,
     pub entries: DemandedEntries,
-    pub changes: Changes,
 }
 
-/// A call edge, and when it was filled and given back last.
+/// A call edge, as it is kept.
 #[derive(Clone, Copy)]
 pub struct CallEdge {
     pub edge: Edge,
-    pub filled: u64,
-    pub given_back: u64,
 }
 
-/// The contexts that are reached and the call edges between them, each in order. Times are counted
-/// by the visits that changed the table: `clock` is one more than these, and `opened` when the
-/// values of the opening heap were joined in last.
+/// The contexts that are reached and the call edges between them, each in order.
 #[derive(Drop)]
 pub struct ATable {
     pub contexts: Vec<ContextTable>,
     pub edges: Vec<CallEdge>,
-    pub clock: u64,
-    pub opened: u64,
 }
 
-/// The time before any other, and that in which the solver begins.
-pub(crate) const NEVER: u64 = 0;
-
-pub(crate) const START: u64 = 1;
-
 impl NodeTable {
-    /// A node with this state, if it has one, whose step was never taken.
+    /// A node with this state, if it has one.
     pub fn new(state: Option<AState>) -> NodeTable
-        ensures { result ≡ record { state = state; changed = 0; stepped = 0 } }
+        ensures { result ≡ record { state = state } }
     {
-        NodeTable {
-            state,
-            changed: NEVER,
-            stepped: NEVER,
-        }
+        NodeTable { state }
     }
 }
 
 impl CallEdge {
-    /// An edge that was never filled and never given back.
+    /// An edge, as it is kept.
     pub fn new(edge: Edge) -> CallEdge
-        ensures { result ≡ record { edge = edge; filled = 0; given_back = 0 } }
+        ensures { result ≡ record { edge = edge } }
     {
-        CallEdge {
-            edge,
-            filled: NEVER,
-            given_back: NEVER,
-        }
+        CallEdge { edge }
     }
 }
 
@@ -181,11 +149,6 @@ impl ContextTable {
             context,
             nodes,
             entries,
-            changes: Changes {
-                valued: NEVER,
-                demanded: NEVER,
-                left: NEVER,
-            },
         }
     }
 
@@ -227,8 +190,8 @@ impl ATable {
             .partition_point(|own| is_below(own.context, context))
     }
 
-    // How many edges come before one.
-    fn edges_below(&self, edge: Edge) -> usize
+    /// How many edges come before one.
+    pub fn edges_below(&self, edge: Edge) -> usize
         ensures place { AreEdgesOrdered self.now.edges.items
             → IsPlaceOfEdge edge self.now.edges.items result }
         ensures within { result ≤ vec_len self.now.edges }
@@ -341,8 +304,6 @@ fn opening_context(alloc: Global, program: &Program) -> Result<ContextTable, Mem
     let mut own = ContextTable::new(alloc, program, own_context())?;
     own.nodes[0] = NodeTable {
         state: Some(AState::opening(alloc, program)?),
-        changed: START,
-        stepped: NEVER,
     };
     Ok(own)
 }
@@ -359,7 +320,5 @@ pub fn opening(alloc: Global, program: &Program) -> Result<ATable, Memory>
     Ok(ATable {
         contexts,
         edges: Vec::new(alloc),
-        clock: START,
-        opened: NEVER,
     })
 }

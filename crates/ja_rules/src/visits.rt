@@ -16,6 +16,7 @@ ghost use Rattle.ja_rules.specs.code.Filling.{IsFilled, IsOpened};
 ghost use Rattle.ja_rules.specs.code.Growing.{HasSameEdges, HasSameKeys};
 ghost use Rattle.ja_rules.specs.code.Stepping.{with_entered, AreEntered, FitsEntered, IsCallerOf, IsStep};
 
+use crate::changes::Changes;
 use crate::entries::OpeningHeap;
 use crate::joins::is_exit;
 use crate::table::{ATable, ContextTable, node_info, own_context};
@@ -54,7 +55,12 @@ pub(crate) fn opened_by(
 }
 
 // Joins the contents of the opening heap into the values at entry of the program's own context.
-fn visit_open(alloc: Global, program: &Program, table: &mut ATable) -> Result<bool, Memory>
+fn visit_open(
+    alloc: Global,
+    program: &Program,
+    table: &mut ATable,
+    changes: &mut Changes,
+) -> Result<bool, Memory>
     requires program { IsWellFormed program.now }
     requires fits { Fits program.now table.old }
     ensures visited { IfOk result (IsVisited program.now items.Open (table_of table.old)
@@ -63,7 +69,7 @@ fn visit_open(alloc: Global, program: &Program, table: &mut ATable) -> Result<bo
     ensures fits { OnOk result (Fits program.now table.new) }
 {
     let values = opened_by(alloc, program, table)?;
-    table.set_values(alloc, own_context(), values)
+    table.set_values(alloc, own_context(), values, changes)
 }
 
 // ---- Step
@@ -143,6 +149,7 @@ fn take_entry(
     program: &Program,
     table: &mut ATable,
     entry: Entry,
+    changes: &mut Changes,
 ) -> Result<bool, Memory>
     requires program { IsWellFormed program.now }
     requires fits { Fits program.now table.old }
@@ -157,8 +164,10 @@ fn take_entry(
     let Entered { state, demands } = entered;
     let is_reached = table.add_context(alloc, program, edge.callee)?;
     let is_joined = table.join_state(alloc, program, edge.callee, NodeId(0), state)?;
-    let is_demanded = table.demand(alloc, edge.caller, demands)?;
+    changes.note_state(edge.callee, NodeId(0), is_joined)?;
+    let is_demanded = table.demand(alloc, edge.caller, demands, changes)?;
     let is_called = table.add_edge(program, edge)?;
+    changes.note_edge(edge, is_called)?;
     Ok(is_reached | is_joined | is_demanded | is_called)
 }
 
@@ -168,6 +177,7 @@ fn take_entries(
     program: &Program,
     table: &mut ATable,
     entries: Vec<Entry>,
+    changes: &mut Changes,
 ) -> Result<bool, Memory>
     requires program { IsWellFormed program.now }
     requires fits { Fits program.now table.old }
@@ -180,7 +190,7 @@ fn take_entries(
 {
     let mut changed = false;
     for entry in entries {
-        let taken = take_entry(alloc, program, table, entry)?;
+        let taken = take_entry(alloc, program, table, entry, changes)?;
         changed = changed | taken;
     }
     Ok(changed)
@@ -194,6 +204,7 @@ fn visit_step(
     table: &mut ATable,
     context: Context,
     node: NodeId,
+    changes: &mut Changes,
 ) -> Result<bool, Memory>
     requires program { IsWellFormed program.now }
     requires keys { IsKeysOf program.now keys.now }
@@ -210,9 +221,9 @@ fn visit_step(
         return Ok(false);
     };
     let Step { outcome, entries } = step_of(alloc, program, keys, own, node, state)?;
-    let is_joined = table.join_states(alloc, program, context, outcome.states.list)?;
-    let is_demanded = table.demand(alloc, context, outcome.demands)?;
-    let is_taken = take_entries(alloc, program, table, entries)?;
+    let is_joined = table.join_states(alloc, program, context, outcome.states.list, changes)?;
+    let is_demanded = table.demand(alloc, context, outcome.demands, changes)?;
+    let is_taken = take_entries(alloc, program, table, entries, changes)?;
     Ok(is_joined | is_demanded | is_taken)
 }
 
@@ -280,6 +291,7 @@ fn visit_fill(
     keys: &ProgramKeys,
     table: &mut ATable,
     edge: Edge,
+    changes: &mut Changes,
 ) -> Result<bool, Memory>
     requires program { IsWellFormed program.now }
     requires keys { IsKeysOf program.now keys.now }
@@ -293,8 +305,8 @@ fn visit_fill(
     let Some(Filled { values, demands }) = filled_by(alloc, program, keys, table, edge)? else {
         return Ok(false);
     };
-    let is_filled = table.set_values(alloc, edge.callee, values)?;
-    let is_demanded = table.demand(alloc, edge.caller, demands)?;
+    let is_filled = table.set_values(alloc, edge.callee, values, changes)?;
+    let is_demanded = table.demand(alloc, edge.caller, demands, changes)?;
     Ok(is_filled | is_demanded)
 }
 
@@ -404,6 +416,7 @@ fn visit_back(
     keys: &ProgramKeys,
     table: &mut ATable,
     edge: Edge,
+    changes: &mut Changes,
 ) -> Result<bool, Memory>
     requires program { IsWellFormed program.now }
     requires keys { IsKeysOf program.now keys.now }
@@ -417,20 +430,22 @@ fn visit_back(
     let Some(Given { states, demands }) = given_by(alloc, program, keys, table, edge)? else {
         return Ok(false);
     };
-    let is_joined = table.join_states(alloc, program, edge.caller, states.list)?;
-    let is_demanded = table.demand(alloc, edge.caller, demands)?;
+    let is_joined = table.join_states(alloc, program, edge.caller, states.list, changes)?;
+    let is_demanded = table.demand(alloc, edge.caller, demands, changes)?;
     Ok(is_joined | is_demanded)
 }
 
 // ---- each of them
 
-// Joins in what an item gives.
-fn take(
+// Joins in what an item of the table gives, tells whether the table changed, and adds what changed
+// and what was read.
+pub(crate) fn visit(
     alloc: Global,
     program: &Program,
     keys: &ProgramKeys,
     table: &mut ATable,
     item: Item,
+    changes: &mut Changes,
 ) -> Result<bool, Memory>
     requires program { IsWellFormed program.now }
     requires keys { IsKeysOf program.now keys.now }
@@ -442,34 +457,11 @@ fn take(
     ensures fits { OnOk result (Fits program.now table.new) }
 {
     match item {
-        Item::Open => visit_open(alloc, program, table),
-        Item::Step { context, node } => { visit_step(alloc, program, keys, table, context, node) }
-        Item::Fill(edge) => visit_fill(alloc, program, keys, table, edge),
-        Item::Back(edge) => visit_back(alloc, program, keys, table, edge),
+        Item::Open => visit_open(alloc, program, table, changes),
+        Item::Step { context, node } => {
+            visit_step(alloc, program, keys, table, context, node, changes)
+        }
+        Item::Fill(edge) => visit_fill(alloc, program, keys, table, edge, changes),
+        Item::Back(edge) => visit_back(alloc, program, keys, table, edge, changes),
     }
-}
-
-// Joins in what an item of the table gives, and tells whether the table changed.
-pub(crate) fn visit(
-    alloc: Global,
-    program: &Program,
-    keys: &ProgramKeys,
-    table: &mut ATable,
-    item: Item,
-) -> Result<bool, Memory>
-    requires program { IsWellFormed program.now }
-    requires keys { IsKeysOf program.now keys.now }
-    requires fits { Fits program.now table.old }
-    requires item { IsItem program.now (table_of table.old) item }
-    ensures visited { IfOk result (IsVisited program.now item (table_of table.old)
-        (table_of table.new)) }
-    ensures edges { HasSameEdges item table.old table.new }
-    ensures fits { OnOk result (Fits program.now table.new) }
-{
-    table.set_visited(item);
-    let changed = take(alloc, program, keys, table, item)?;
-    if changed {
-        table.clock = table.clock.saturating_add(1);
-    }
-    Ok(changed)
 }

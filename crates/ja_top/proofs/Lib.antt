@@ -1,3 +1,5 @@
+pub mod Complete
+pub mod Enough
 pub mod Judging
 pub mod FoundLemmas
 pub mod Reporting

@@ -29,6 +29,7 @@ use Rattle.ja_top.specs.code.Solutions.{IsRefusal}
 use Rattle.ja_top.specs.code.Statuses.{status_of, status_of_refusal}
 use Rattle.ja_base.specs.Streams.{Appends, TurnsTo}
 use Rattle.ja_device.specs.Devices.{AllSeen}
+use Rattle.ja_words.specs.declared.command.Budget.{Budget}
 use Rattle.ja_words.specs.declared.command.Command.{Command}
 use Rattle.ja_words.specs.declared.command.Command.TheVariants as command
 
@@ -89,7 +90,7 @@ module _ (r : Refusal) (a : Answer) (is : IsRefusal a r) (bytes : List ℕ)
   refuses fault.Names of h = absurd (cc of)
 
 -- an analysis as the words ask for it
-module _ (asked : Command) (cert : Bool) (budget : ℕ) (request : Request) (bytes : List ℕ)
+module _ (asked : Command) (cert : Bool) (budget : Budget) (request : Request) (bytes : List ℕ)
     (before after : AllSeen) where
   pub analysed : (r : Result Answer NoMemory) → asked ≡ command.Analyse cert budget
       → request ≡ request_of cert budget → after ≡ before

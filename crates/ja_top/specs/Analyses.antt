@@ -16,7 +16,8 @@ use Rattle.ja_report.specs.declared.refusals.Refusal.TheVariants as refusal
 use Rattle.ja_report.specs.Refusals.{refusal_text}
 use Rattle.ja_report.specs.Report.{report_text, spent_text, summary_text}
 use Rattle.ja_cert.specs.Certificate.{certificate_text}
-use Rattle.ja_rules.specs.Solving.{WasSpent}
+use Rattle.ja_height.specs.Height.{height}
+use Rattle.ja_solve.specs.Solving.{WasSpent}
 use Rattle.ja_rules.specs.Tables.{table_of, Fits}
 use Rattle.ja_rules.specs.declared.table.ATable.{ATable}
 use Rattle.ja_top.specs.Promises.{IsSound}
@@ -27,12 +28,19 @@ use Rattle.ja_top.specs.declared.request.Request.{Request}
 use Rattle.ja_top.specs.declared.status.Status.{Status}
 use Rattle.ja_top.specs.declared.status.Status.TheVariants.{Done, Warned, NotText, Syntax, Scope}
 use Rattle.ja_top.specs.declared.status.Status.TheVariants.{Limit, Spent}
+use Rattle.ja_words.specs.declared.command.Budget.{Budget}
+use Rattle.ja_words.specs.declared.command.Budget.TheVariants.{Height, Visits}
 
 -- what is printed of a table that these visits build: its report, its certificate, or its counts
 abbrev pub result_text : Form → Program → Table → List Item → List Warning → List ℕ
 result_text form.Report p t visits warnings = report_text p t visits true warnings
 result_text form.Certificate p t visits warnings = certificate_text p t visits
 result_text (form.Summary number) p t visits warnings = summary_text number p t warnings
+
+-- how many visits a budget allows the analysis of a program
+abbrev pub visits_of : Program → Budget → ℕ
+visits_of p (Visits number) = number
+visits_of p Height = height p
 
 -- What is printed of a program, which is well formed, with these warnings: a table that the printed
 -- visits build, and of which all is promised.
@@ -44,8 +52,14 @@ pub record IsAnalysed (request : Request) (p : Program) (text : List ℕ) (warni
   pub visits : List Item
   pub printed : text ≡ result_text request.form p (table_of table) visits warnings
   pub built : IsBuilt p visits (table_of table)
-  pub few : length visits ≤ request.budget
+  pub few : length visits ≤ visits_of p request.budget
   pub sound : IsSound p (table_of table) warnings
+
+-- what is written of a program, which is well formed, whose budget is spent
+abbrev pub IsSpent : Request → Program → List ℕ → Type 0
+IsSpent request p text =
+    (visits : List Item) × IsWellFormed p × WasSpent p (visits_of p request.budget) visits
+    × (text ≡ spent_text p visits)
 
 -- what is written of a program, by the status
 abbrev pub Reports : Request → Program → Status → List ℕ → Type 0
@@ -53,8 +67,7 @@ Reports request p Done text =
     (ws : List Warning) × (has_fault ws ≡ false) × IsAnalysed request p text ws
 Reports request p Warned text =
     (ws : List Warning) × (has_fault ws ≡ true) × IsAnalysed request p text ws
-Reports request p Spent text =
-    (visits : List Item) × WasSpent p request.budget visits × (text ≡ spent_text p visits)
+Reports request p Spent text = IsSpent request p text
 Reports request p status text = ⊥
 
 abbrev pub ReportsOnText : Request → List ℕ → List Signature → Status → List ℕ → Type 0

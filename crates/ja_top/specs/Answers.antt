@@ -21,7 +21,9 @@ use Rattle.ja_top.specs.declared.status.Status.TheVariants.{Memory}
 use Rattle.ja_top.specs.Runs.{MayBeLeftByText, Runs, signatures_of}
 use Rattle.ja_words.specs.declared.command.Command.{Command}
 use Rattle.ja_words.specs.declared.command.Command.TheVariants as command
-use Rattle.ja_words.specs.Words.{IsCommandLine, default_budget}
+use Rattle.ja_words.specs.declared.command.Budget.{Budget}
+use Rattle.ja_words.specs.declared.command.Budget.TheVariants.{Height}
+use Rattle.ja_words.specs.Words.{IsCommandLine}
 
 -- What a call meets: its words; what is left of the source and how many faults it has counted,
 -- before and after; and the devices that are handed in and that come back.
@@ -67,6 +69,12 @@ abbrev pub IsReading : Command → Type 0
 IsReading (command.Generate number) = ⊥
 IsReading asked = Unit {0}
 
+-- a command whose budget is the height of the program that it analyses
+abbrev pub IsByHeight : Command → Type 0
+IsByHeight (command.Analyse cert budget) = budget ≡ Height
+IsByHeight (command.Generate number) = Unit {0}
+IsByHeight asked = ⊥
+
 -- what bytes are analysed, checked or run: of `generate` those of its own program, and nothing is
 -- read; of the others all that was left
 abbrev pub IsGiven : Command → Call → List ℕ → Type 0
@@ -75,12 +83,12 @@ IsGiven (command.Generate number) c bytes =
 IsGiven asked c bytes = IsInput c bytes
 
 -- what an analysis is asked for, and in how many visits at most
-abbrev pub request_of : Bool → ℕ → Request
+abbrev pub request_of : Bool → Budget → Request
 request_of cert budget =
     record { form = if cert then form.Certificate else form.Report; budget = budget }
 
 abbrev pub summing : ℕ → Request
-summing number = record { form = form.Summary number; budget = default_budget }
+summing number = record { form = form.Summary number; budget = Height }
 
 -- the answer of a command to bytes, with the devices that are handed in and that come back
 abbrev pub Follows : Command → List ℕ → AllSeen → AllSeen → Status → List ℕ → Type 0

@@ -2,6 +2,7 @@
 pub mod Answers
 pub mod Analyses
 pub mod Checks
+pub mod Complete
 pub mod Findings
 pub mod Promises
 pub mod Runs

@@ -4,8 +4,9 @@ ghost use Rattle.std.specs.Prelude.{◌≡◌, ◌≤◌, IfOk, length};
 ghost use Rattle.ja_lex.specs.Spots.{max_bytes};
 ghost use Rattle.ja_device.specs.Signatures.{AreSignatures};
 ghost use Rattle.ja_graph.specs.WellFormed.{IsWellFormed};
+ghost use Rattle.ja_solve.specs.Solving.{WasSpent};
 ghost use Rattle.ja_rules.specs.Tables.{table_of, Fits};
-ghost use Rattle.ja_top.specs.Analyses.{result_text, Analyses, Reports};
+ghost use Rattle.ja_top.specs.Analyses.{result_text, visits_of, Analyses, Reports};
 ghost use Rattle.ja_top.specs.Runs.{signatures_of};
 ghost use Rattle.ja_top.specs.Statuses.{has_fault, is_fault};
 ghost use Rattle.ja_top.specs.code.Statuses.{status_of};
@@ -15,17 +16,19 @@ use crate::answer::Answer;
 use crate::refusing::{explain, refuse};
 use crate::request::{Form, Request};
 use crate::status::Status;
-use ja_base::Memory;
+use ja_base::{Memory, Seq};
 use ja_cert::write;
 use ja_device::{Device, Devices};
 use ja_graph::Program;
+use ja_height::height;
 use ja_load::load;
 use ja_machine::never_stuck;
 use ja_prim::Signature;
 use ja_report::{Refusal, report, spent_text, summary_text};
-use ja_rows::{Warning, WarningKind};
-use ja_rules::{SolveFault, Solved, solve};
+use ja_rows::{Item, Warning, WarningKind};
+use ja_solve::{SolveFault, Solved, solve};
 use ja_warn::warnings;
+use ja_words::Budget;
 use std::alloc::Global;
 use std::str;
 
@@ -85,10 +88,12 @@ fn report_of(
     program: &Program,
     solved: &Solved,
     request: Request,
+    budget: u128,
 ) -> Result<Answer, Memory>
     requires program { IsWellFormed program.now }
     requires devices { AreSignatures program.now.signatures }
-    requires solved { IsSolved program.now request.budget solved.now }
+    requires budget { budget ≡ visits_of program.now request.budget }
+    requires solved { IsSolved program.now budget solved.now }
     ensures { IfOk result (λ a. Reports request program.now a.status a.text.items) }
 {
     let warnings = warnings(alloc, program, &solved.table)?;
@@ -98,21 +103,48 @@ fn report_of(
     Ok(Answer { status, text })
 }
 
+// The answer of a program whose budget is spent, with these visits.
+fn spent_of(
+    alloc: Global,
+    program: &Program,
+    visits: &Seq<Item>,
+    request: Request,
+    budget: u128,
+) -> Result<Answer, Memory>
+    requires program { IsWellFormed program.now }
+    requires devices { AreSignatures program.now.signatures }
+    requires budget { budget ≡ visits_of program.now request.budget }
+    requires spent { WasSpent program.now budget visits.now }
+    ensures { IfOk result (λ a. Reports request program.now a.status a.text.items) }
+{
+    let text = spent_text(alloc, program, visits.as_slice())?;
+    Ok(Answer {
+        status: Status::Spent,
+        text,
+    })
+}
+
+// How many visits a budget allows the analysis of a program.
+fn visits_of(program: &Program, budget: Budget) -> u128
+    requires { IsWellFormed program.now }
+    ensures { result ≡ visits_of program.now budget }
+{
+    match budget {
+        Budget::Visits(number) => number,
+        Budget::Height => height(program),
+    }
+}
+
 // Solves a program, and reports on it.
 fn solve_and_report(alloc: Global, program: &Program, request: Request) -> Result<Answer, Memory>
     requires program { IsWellFormed program.now }
     requires devices { AreSignatures program.now.signatures }
     ensures { IfOk result (λ a. Reports request program.now a.status a.text.items) }
 {
-    match solve(alloc, program, request.budget) {
-        Ok(solved) => report_of(alloc, program, &solved, request),
-        Err(SolveFault::Spent { visits }) => {
-            let text = spent_text(alloc, program, visits.as_slice())?;
-            Ok(Answer {
-                status: Status::Spent,
-                text,
-            })
-        }
+    let budget = visits_of(program, request.budget);
+    match solve(alloc, program, budget) {
+        Ok(solved) => report_of(alloc, program, &solved, request, budget),
+        Err(SolveFault::Spent { visits }) => spent_of(alloc, program, &visits, request, budget),
         Err(SolveFault::Memory) => Err(Memory),
     }
 }

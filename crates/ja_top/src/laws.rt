@@ -1,6 +1,7 @@
-//! What the refusals' texts come to. The functions do nothing; their contracts are the laws.
+//! What the refusals' texts come to, and what no answer is. The functions do nothing; their
+//! contracts are the laws.
 
-ghost use Rattle.std.specs.Prelude.{◌≡◌, ◌++◌};
+ghost use Rattle.std.specs.Prelude.{◌≡◌, ◌++◌, List, ℕ};
 ghost use Rattle.std.specs.Fmt.{decimal};
 ghost use lib.Chars.{codes};
 ghost use Rattle.ja_grammar.specs.Language.{max_levels};
@@ -8,6 +9,11 @@ ghost use Rattle.ja_lex.specs.Spots.{max_bytes};
 ghost use Rattle.ja_lower.specs.Limits.{max_functions, max_size};
 ghost use Rattle.ja_report.specs.Refusals.{refusal_text};
 ghost use Rattle.ja_report.specs.declared.refusals.Refusal.TheVariants as refusal;
+ghost use Rattle.ja_top.specs.Answers.{Asks, Call, HasCause, IsAnswered, IsByHeight, Written};
+ghost use Rattle.ja_top.specs.Complete.{HasAll, IsComplete};
+ghost use Rattle.ja_top.specs.declared.status.Status.{Status};
+ghost use Rattle.ja_top.specs.declared.status.Status.TheVariants.{Spent};
+ghost use Rattle.ja_words.specs.declared.command.Command.{Command};
 
 /// The limits that refusals tell are those that texts are held to.
 pub fn limits_are_told()
@@ -19,4 +25,17 @@ pub fn limits_are_told()
         ≡ codes "limit functions " ++ decimal max_functions ++ codes "\n" }
     ensures nodes { refusal_text refusal.Nodes ≡ codes "limit nodes " ++ decimal max_size
         ++ codes "\n" }
+{}
+
+/// Where the budget is the height of the program, that it is spent has no cause.
+pub fn heights_are_never_spent()
+    ensures { (c : Call) (asked : Command) (text : List ℕ) → Asks c.words asked
+        → IsByHeight asked → HasCause c Spent text → ⊥ }
+{}
+
+/// An analysis within the height of its program is complete: of a text that has a program, where
+/// neither the source nor the sink fails, it answers with the result, or for want of memory.
+pub fn answers_are_complete()
+    ensures { (c : Call) (w : Written) (status : Status) → HasAll c w → IsAnswered c w status
+        → IsComplete status }
 {}

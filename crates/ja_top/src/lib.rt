@@ -13,7 +13,8 @@
 //!   begins no character; 7, 8 and 9 exactly where the text isn't in the language, with the kind and
 //!   the place that `ja_grammar` determines; 9 also exactly where it is in the language and has more
 //!   than 4,096 functions, or else its graph and parameters are more than 65,536 nodes; 10 only where
-//!   the budget's visits, which are printed, each changed the table and the last one isn't closed; 11
+//!   the budget's visits, which are printed, each changed the table and the last one isn't closed,
+//!   so never where the budget is the height of the program (`answers_are_complete`); 11
 //!   only of `check`, with why the bytes are no certificate (`ja_cert_read/specs/Certified.antt`), or
 //!   why its table isn't closed; 12 to 15 only of a run, by its end.
 //! - **what was written**: after every status but 4 and 16 the text of that answer, whole, and the
@@ -60,7 +61,7 @@ pub use analysis::{analyse, is_fault};
 pub use answer::Answer;
 pub use checking::check;
 pub use finding::{FindFault, Findings, find};
-pub use laws::limits_are_told;
+pub use laws::{answers_are_complete, heights_are_never_spent, limits_are_told};
 pub use request::{Form, Request};
 pub use running::run;
 pub use status::Status;
@@ -76,3 +77,4 @@ pub use ja_prim::{Int, Kinds, Num, Primitive, Signature, Text16};
 pub use ja_rows::{Item, Warning, WarningKind};
 pub use ja_rules::ATable;
 pub use ja_warn::Told;
+pub use ja_words::Budget;

@@ -1,3 +1,5 @@
+use ja_words::Budget;
+
 /// What is written of a program that was analysed.
 #[derive(Clone, Copy, Debug, PartialEq, Eq)]
 pub enum Form {
@@ -13,6 +15,6 @@ pub enum Form {
 #[derive(Clone, Copy, Debug, PartialEq, Eq)]
 pub struct Request {
     pub form: Form,
-    /// The greatest number of visits.
-    pub budget: u128,
+    /// How many visits are made at most.
+    pub budget: Budget,
 }

@@ -24,7 +24,7 @@ use ja_base::{Failed, Memory, ReadFault, Sink, Source, read_all, write_all};
 use ja_device::{Device, Devices};
 use ja_gen::generate;
 use ja_report::Refusal;
-use ja_words::{Command, DEFAULT_BUDGET, asked};
+use ja_words::{Budget, Command, asked};
 use std::alloc::Global;
 
 /// The greatest number of bytes of a text.
@@ -40,13 +40,13 @@ fn summarise<D: Device>(alloc: Global, number: u32, devices: &Devices<D>) -> Res
     let text = generate(alloc, number)?;
     let request = Request {
         form: Form::Summary { number },
-        budget: DEFAULT_BUDGET,
+        budget: Budget::Height,
     };
     analyse(alloc, text.as_bytes(), devices, request)
 }
 
 // What an analysis is asked for by the words.
-fn request_of(cert: bool, budget: u128) -> Request
+fn request_of(cert: bool, budget: Budget) -> Request
     ensures { result ≡ request_of cert budget }
 {
     let form = if cert {
@@ -148,6 +148,10 @@ pub fn write_answer<K: Sink>(sink: &mut K, text: &[u8]) -> Result<(), Failed>
 /// it (`analyse`, `run`), or reads a certificate and checks it (`check`), or analyses a program that
 /// it generates (`generate`), and writes the answer whole to the sink, which is finished last. The
 /// status says which answer it was.
+///
+/// With the height of the program for a budget, which `generate` always has, the budget is never
+/// spent: of a text that has a program, where neither the source nor the sink fails, the result is
+/// written, or memory was refused (`answers_are_complete`).
 ///
 /// A program finds a device under its name, as a function of the global object; only a run asks it,
 /// where the program calls it. The devices come back in their order; one that failed, which ends

@@ -1,17 +1,18 @@
 -- Command lines that are written out, and one of each command.
 use Rattle.std.proofs.Common.{◌≡◌, ◌≤◌, ◌<◌, ◌∙◌, ℕ, Bool, true, false, List, [], ◌∷◌, refl}
-use Rattle.std.proofs.Common.{sym, ap, inl, inr, arith, codes, decimal, length}
+use Rattle.std.proofs.Common.{sym, ap, subst, inl, inr, arith, codes, decimal, length}
 use Rattle.std.specs.Fmt.{digits}
-use Rattle.std.specs.Str.Parse.{digits_value}
+use Rattle.std.specs.Str.Parse.{digits_value, IsNumeral}
 use Rattle.std.proofs.lemmas.Fmt.{decimal_digit, decimal_is_IsNumeral_wide}
 use Rattle.ja_gen.specs.Generated.{max_number}
 use Rattle.ja_words.specs.Words.{IsCommandLine, Word, max_budget, max_steps}
 use Rattle.ja_words.specs.code.Answers.{Spells}
+use Rattle.ja_words.specs.declared.command.Budget.TheVariants.{Height, Visits}
 use Rattle.ja_words.specs.declared.command.Command.{Command}
 use Rattle.ja_words.specs.declared.command.Command.TheVariants.{Analyse, Check, Generate, Run}
 
 pub attached : IsCommandLine (codes "analyse" ∷ codes "--budget=5" ∷ codes "--cert" ∷ [])
-    (Analyse true 5)
+    (Analyse true (Visits 5))
 unfolding digits
 attached = (
   codes "--budget=5" ∷ codes "--cert" ∷ [],
@@ -26,7 +27,7 @@ attached = (
 )
 
 pub apart : IsCommandLine (codes "analyse" ∷ codes "--cert" ∷ codes "--budget" ∷ codes "5" ∷ [])
-    (Analyse true 5)
+    (Analyse true (Visits 5))
 unfolding digits
 apart = (
   codes "--cert" ∷ codes "--budget" ∷ codes "5" ∷ [],
@@ -40,8 +41,24 @@ apart = (
   ),
 )
 
-pub alone : IsCommandLine (codes "analyse" ∷ []) (Analyse false 1000000)
+pub alone : IsCommandLine (codes "analyse" ∷ []) (Analyse false (Visits 1000000))
 alone = ([], refl, ([], [], refl, inl (refl, refl), inl refl))
+
+pub height : IsCommandLine (codes "analyse" ∷ codes "--budget" ∷ codes "height" ∷ [])
+    (Analyse false Height)
+height = (
+  codes "--budget" ∷ codes "height" ∷ [],
+  refl,
+  ([], codes "--budget" ∷ codes "height" ∷ [], refl, inl refl, inl refl),
+)
+
+pub height_attached : IsCommandLine (codes "analyse" ∷ codes "--budget=height" ∷ [])
+    (Analyse false Height)
+height_attached = (
+  codes "--budget=height" ∷ [],
+  refl,
+  ([], codes "--budget=height" ∷ [], refl, inr refl, inl refl),
+)
 
 pub seven_steps : IsCommandLine (codes "run" ∷ codes "--steps" ∷ codes "7" ∷ []) (Run 7)
 unfolding digits
@@ -104,6 +121,16 @@ zero_of_steps (Run steps) line =
     no_zero max_steps steps (omega arith) (steps_spelled (codes "0") steps line)
 zero_of_steps command line = cc
 
+-- the word `height` is no number
+pub height_of_steps : (command : Command)
+    → IsCommandLine (codes "run" ∷ codes "--steps" ∷ codes "height" ∷ []) command → ⊥
+height_of_steps (Run steps) line =
+    let is = steps_spelled (codes "height") steps line in
+    let numeral = (decimal_is_IsNumeral_wide steps (omega (arith, is.2))).0 in
+    let digits = subst (IsNumeral 10) (sym is.0) numeral in
+    absurd (omega (arith, digits.1.0))
+height_of_steps command line = cc
+
 pub leading_zero_of_number : (command : Command)
     → IsCommandLine (codes "generate" ∷ codes "--number" ∷ codes "01" ∷ []) command → ⊥
 leading_zero_of_number (Generate number) line =
@@ -127,7 +154,7 @@ past_number command line = cc
 -- ---- one of each command
 
 pub some_analyse : (cert : Bool) (budget : ℕ) → 1 ≤ budget → budget ≤ max_budget
-    → (words : List Word) × IsCommandLine words (Analyse cert budget)
+    → (words : List Word) × IsCommandLine words (Analyse cert (Visits budget))
 some_analyse true budget low high = (
   codes "analyse" ∷ codes "--cert" ∷ codes "--budget" ∷ decimal budget ∷ [],
   (
@@ -154,6 +181,30 @@ some_analyse false budget low high = (
       inr (low, high, inl refl),
       inl refl,
     ),
+  ),
+)
+
+pub some_height : (cert : Bool) → (words : List Word) × IsCommandLine words (Analyse cert Height)
+some_height true = (
+  codes "analyse" ∷ codes "--cert" ∷ codes "--budget" ∷ codes "height" ∷ [],
+  (
+    codes "--cert" ∷ codes "--budget" ∷ codes "height" ∷ [],
+    refl,
+    (
+      codes "--cert" ∷ [],
+      codes "--budget" ∷ codes "height" ∷ [],
+      refl,
+      inl refl,
+      inl refl,
+    ),
+  ),
+)
+some_height false = (
+  codes "analyse" ∷ codes "--budget" ∷ codes "height" ∷ [],
+  (
+    codes "--budget" ∷ codes "height" ∷ [],
+    refl,
+    ([], codes "--budget" ∷ codes "height" ∷ [], refl, inl refl, inl refl),
   ),
 )
 

@@ -4,19 +4,22 @@ use Rattle.std.proofs.Common.{◌∷◌, ◌≤◌, Option, Some, None, refl, sy
 use Rattle.std.proofs.Common.{codes}
 use Rattle.std.proofs.Common.{decimal}
 use Rattle.std.proofs.lemmas.Fmt.{decimal_is_IsNumeral_wide}
-use Rattle.std.specs.Str.Parse.{digits_value}
+use Rattle.std.specs.Str.Parse.{digits_value, IsNumeral}
+use Rattle.std.proofs.lemmas.Option.{same_Some}
 use Rattle.clap.specs.Values.{bool_text}
 use Rattle.clap.specs.Walk.{Held, Row, Text, finished, first_of, idle, one_of, option, rows_after}
 use Rattle.clap.specs.Simple.{Shape, subcommand_of}
 use Rattle.clap.specs.Kinds.{Kinds, or_else}
 use Rattle.clap.specs.Faults.{fault_of}
 use Rattle.clap.proofs.OnLiterals.{clap_on_literals}
-use Rattle.ja_words.specs.Words.{AreBoth, IsCommandLine, IsFlag, IsNumber, IsOption, Word}
+use Rattle.ja_words.specs.Words.{AreBoth, IsBudget, IsCommandLine, IsFlag, IsNumber, IsOption, Word}
 use Rattle.ja_gen.specs.Generated.{max_number}
 use Rattle.ja_words.specs.Words.{default_budget, default_steps, max_budget, max_steps}
-use Rattle.ja_words.specs.code.Answers.{SaysBudget, SaysClasses, SaysFlag, SaysGiven, SaysIfMet}
+use Rattle.ja_words.specs.code.Answers.{MeansBudget, SaysBudget, SaysClasses, SaysFlag, SaysGiven, SaysIfMet}
 use Rattle.ja_words.specs.code.Answers.{SaysNumber, SaysSteps}
 use Rattle.ja_words.specs.code.Apps.{has_dashes, tajs_app}
+use Rattle.ja_words.specs.declared.command.Budget.{Budget}
+use Rattle.ja_words.specs.declared.command.Budget.TheVariants.{Height, Visits}
 use Rattle.ja_words.specs.declared.command.Command.{Command}
 use Rattle.ja_words.specs.declared.command.Command.TheVariants.{Analyse, Check, Generate, Run}
 use Rattle.ja_words.proofs.Leaves.{end_held, held, left_fault, standing, value_held, value_left}
@@ -137,6 +140,32 @@ value_of name default most number words small (inr h) = record {
   is_value = h.2;
   says = (refl, h.0, h.1);
   is_no_option = decimal_is_no_option most number small h.1;
+}
+
+-- .. and that means a budget
+record HasBudget (budget : Budget) (words : List Word) : Type 0 where
+  value : Option Text
+  is_value : IsValue (codes "--budget") value words
+  means : MeansBudget value budget
+  is_no_option : IsNoOptionIfGiven value
+
+height_is_no_option : IsNoOption (codes "height")
+height_is_no_option = record { long = refl; short = refl; dashes = refl }
+
+budget_of : (budget : Budget) (words : List Word) → IsBudget budget words → HasBudget budget words
+budget_of (Visits number) words is =
+    let value = value_of (codes "--budget") default_budget max_budget number words (omega arith) is
+    in record {
+      value = value.value;
+      is_value = value.is_value;
+      means = value.says;
+      is_no_option = value.is_no_option;
+    }
+budget_of Height words is = record {
+  value = Some (codes "height");
+  is_value = is;
+  means = refl;
+  is_no_option = height_is_no_option;
 }
 
 both_are : (words a b x y : List Text) → AreBoth words a b → a ≡ x → b ≡ y → AreBoth words x y
@@ -265,8 +294,7 @@ pub taken : (words : List Word) (command : Command) → IsCommandLine words comm
     → IsTaken words command
 taken words (Analyse cert budget) line =
     let options = line.0 in
-    let value = value_of (codes "--budget") default_budget max_budget budget line.2.1
-    (omega arith) line.2.3 in
+    let value = budget_of budget line.2.1 line.2.3 in
     let gives = gives_analyse options cert value.value line.2.0 line.2.1 line.2.2 value.is_value
     value.is_no_option line.2.4 in
     let enters = enters_analyse options in
@@ -277,9 +305,7 @@ taken words (Analyse cert budget) line =
           (sym enters.subcommand) (
             refl,
             gives.says_cert,
-            subst
-                (λ (o : Option Text). SaysNumber default_budget max_budget o budget)
-                (sym gives.says_budget) value.says,
+            subst (λ (o : Option Text). MeansBudget o budget) (sym gives.says_budget) value.means,
           );
     })
 taken words Check line =
@@ -361,13 +387,32 @@ number_said : (default most : ℕ) (value : Option Text) (a b : ℕ) → most < 
 number_said default most None a b small p q = p ∙ sym q
 number_said default most (Some v) a b small p q = given_said most (Some v) a b small p q
 
+-- the word `height` is no number
+no_number : (default most : ℕ) (value : Option Text) (number : ℕ) → most < 10 ^ 64
+    → value ≡ Some (codes "height") → SaysNumber default most value number → ⊥
+no_number default most None number small is says = cc
+no_number default most (Some v) number small is says =
+    let numeral = (decimal_is_IsNumeral_wide number (omega (arith, says.2))).0 in
+    let word : v ≡ codes "height" = same_Some v (codes "height") is in
+    let digits = subst (IsNumeral 10) (sym says.0 ∙ word) numeral in
+    absurd (omega (arith, digits.1.0))
+
+budget_said : (value : Option Text) (a b : Budget) → MeansBudget value a → MeansBudget value b
+    → a ≡ b
+budget_said value (Visits a) (Visits b) p q =
+    ap Visits (number_said default_budget max_budget value a b (omega arith) p q)
+budget_said value (Visits a) Height p q =
+    absurd (no_number default_budget max_budget value a (omega arith) q p)
+budget_said value Height (Visits b) p q =
+    absurd (no_number default_budget max_budget value b (omega arith) p q)
+budget_said value Height Height p q = refl
+
 said_once : (sub : Option (Text × List Row)) (c d : Command) → SaysExactly sub c → SaysExactly sub d
     → c ≡ d
 said_once None c d p q = absurd p
 said_once (Some sub) (Analyse cert budget) (Analyse cert' budget') p q =
     ap₂ Analyse (bool_said (one_of (codes "cert") sub.1) cert cert' p.1 q.1)
-    (number_said default_budget max_budget (first_of (codes "budget") sub.1) budget budget'
-    (omega arith) p.2 q.2)
+    (budget_said (first_of (codes "budget") sub.1) budget budget' p.2 q.2)
 said_once (Some sub) Check Check p q = refl
 said_once (Some sub) (Run steps) (Run steps') p q =
     ap Run (number_said default_steps max_steps (first_of (codes "steps") sub.1) steps steps'

@@ -7,21 +7,22 @@ use Rattle.clap.specs.Words.{one_text, rows_of}
 use Rattle.clap.specs.declared.parser.matches.Found.{Found}
 use Rattle.clap.proofs.WalkLemmas.{first_value-rows, one_text-rows}
 use Rattle.ja_gen.specs.Generated.{max_number}
-use Rattle.ja_words.specs.Words.{default_budget, default_steps, max_budget, max_steps}
-use Rattle.ja_words.specs.code.Answers.{ReadsAnalyse, ReadsGenerate, ReadsNumber, ReadsRun}
-use Rattle.ja_words.specs.code.Answers.{SaysGiven, SaysNumber}
+use Rattle.ja_words.specs.Words.{default_steps, max_steps}
+use Rattle.ja_words.specs.code.Answers.{MeansBudget, ReadsAnalyse, ReadsBudget, ReadsGenerate}
+use Rattle.ja_words.specs.code.Answers.{ReadsNumber, ReadsRun, SaysGiven, SaysNumber}
+use Rattle.ja_words.specs.declared.command.Budget.{Budget}
 use Rattle.ja_words.specs.declared.command.Command.TheVariants.{Analyse, Generate, Run}
 
 pub no_budget : (f : Found) (value : Option Text) → value ≡ first_value f (codes "budget")
-    → ReadsNumber default_budget max_budget value None → ReadsAnalyse (rows_of f) None
+    → ReadsBudget value None → ReadsAnalyse (rows_of f) None
 no_budget f value is none (Analyse cert budget) says =
-    none budget (subst (λ (o : Option Text). SaysNumber default_budget max_budget o budget)
+    none budget (subst (λ (o : Option Text). MeansBudget o budget)
     (sym (is ∙ first_value-rows f (codes "budget"))) says.2)
 no_budget f value is none command says = cc
 
-pub analyse_read : (f : Found) (value : Option Text) (budget : ℕ) (cert : Bool)
+pub analyse_read : (f : Found) (value : Option Text) (budget : Budget) (cert : Bool)
     → value ≡ first_value f (codes "budget")
-    → SaysNumber default_budget max_budget value budget
+    → MeansBudget value budget
     → (one_text f (codes "cert") ≡ Some (codes "true") → cert ≡ true)
     → (one_text f (codes "cert") ≡ Some (codes "false") → cert ≡ false)
     → ReadsAnalyse (rows_of f) (Some (Analyse cert budget))
@@ -32,7 +33,7 @@ analyse_read f value budget cert is says yes_cert no_cert = (
     λ e. no_cert
         (one_text-rows f (codes "cert") ∙ e),
   ),
-  subst (λ (o : Option Text). SaysNumber default_budget max_budget o budget)
+  subst (λ (o : Option Text). MeansBudget o budget)
       (is ∙ first_value-rows f (codes "budget")) says,
 )
 

@@ -7,11 +7,14 @@ use Rattle.clap.specs.Walk.{Row, Text, one_of, rows_after}
 use Rattle.clap.specs.Simple.{Shape}
 use Rattle.clap.specs.declared.parser.matches.ArgMatches.{ArgMatches}
 use Rattle.ja_base.proofs.Tests.{or_left_false, or_right_false}
-use Rattle.ja_words.specs.Words.{AsksFor, IsCommandLine, IsFlag, IsNumber, IsOption, Word}
+use Rattle.ja_words.specs.Words.{AsksFor, IsBudget, IsCommandLine, IsFlag, IsNumber, IsOption, Word}
 use Rattle.ja_words.specs.Words.{default_budget}
 use Rattle.ja_gen.specs.Generated.{max_number}
 use Rattle.ja_words.specs.Words.{default_steps, max_budget, max_steps}
-use Rattle.ja_words.specs.code.Answers.{IsClapAnswer, ReadsCommand, Says, SaysFlag, SaysIfMet}
+use Rattle.ja_words.specs.code.Answers.{IsClapAnswer, MeansBudget, ReadsCommand, Says, SaysFlag}
+use Rattle.ja_words.specs.code.Answers.{SaysIfMet}
+use Rattle.ja_words.specs.declared.command.Budget.{Budget}
+use Rattle.ja_words.specs.declared.command.Budget.TheVariants.{Height, Visits}
 use Rattle.ja_words.specs.code.Answers.{SaysGiven, SaysNumber}
 use Rattle.ja_words.specs.code.Apps.{has_dashes, is_dashes, tajs_app}
 use Rattle.ja_words.specs.declared.command.Command.{Command}
@@ -39,22 +42,27 @@ number_is name default most None number words is says = inl (is, says)
 number_is name default most (Some v) number words is says =
     inr (says.1, says.2, subst (λ (t : Text). IsOption name t words) says.0 is)
 
+budget_is : (value : Option Text) (budget : Budget) (words : List Word)
+    → IsValue (codes "--budget") value words → MeansBudget value budget → IsBudget budget words
+budget_is value (Visits number) words is says =
+    number_is (codes "--budget") default_budget max_budget value number words is says
+budget_is value Height words is says =
+    subst (λ (o : Option Text). IsValue (codes "--budget") o words) says is
+
 -- ---- by the command that the first word names
 
 analyse_line : (rest : List Word) (rows : List Row) (command : Command) → ReadsAnalyse rest rows
     → Says (codes "analyse", rows) command → IsCommandLine (codes "analyse" ∷ rest) command
 analyse_line rest rows (Analyse cert budget) read says =
     let same = flag_is (one_of (codes "cert") rows) read.cert cert read.says_cert says.1 in
-    let number = subst (λ (o : Option Text). SaysNumber default_budget max_budget o budget)
-    read.says_budget says.2 in (
+    let means = subst (λ (o : Option Text). MeansBudget o budget) read.says_budget says.2 in (
       rest,
       refl,
       (
         read.cert_words,
         read.budget_words,
         subst (λ (b : Bool). IsFlag (codes "--cert") b read.cert_words) (sym same) read.is_cert,
-        number_is (codes "--budget") default_budget max_budget read.budget budget read.budget_words
-            read.is_budget number,
+        budget_is read.budget budget read.budget_words read.is_budget means,
         read.are_both,
       ),
     )

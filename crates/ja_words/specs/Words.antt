@@ -4,6 +4,8 @@ use Rattle.std.specs.Prelude.{Option, Some, None}
 use lib.Chars.{codes}
 use Rattle.std.specs.Fmt.{decimal}
 use Rattle.ja_gen.specs.Generated.{max_number}
+use Rattle.ja_words.specs.declared.command.Budget.{Budget}
+use Rattle.ja_words.specs.declared.command.Budget.TheVariants.{Height, Visits}
 use Rattle.ja_words.specs.declared.command.Command.{Command}
 use Rattle.ja_words.specs.declared.command.Command.TheVariants.{Analyse, Check, Generate, Run}
 
@@ -44,8 +46,10 @@ default_steps = 1000000
 abbrev pub max_steps : ℕ
 max_steps = 10000000
 
-abbrev pub IsBudget : ℕ → List Word → Type 0
-IsBudget = IsNumber (codes "--budget") default_budget max_budget
+-- the words of a budget: a number of visits, or the word `height` for the height of the program
+abbrev pub IsBudget : Budget → List Word → Type 0
+IsBudget (Visits number) words = IsNumber (codes "--budget") default_budget max_budget number words
+IsBudget Height words = IsOption (codes "--budget") (codes "height") words
 
 abbrev pub IsSteps : ℕ → List Word → Type 0
 IsSteps = IsNumber (codes "--steps") default_steps max_steps
@@ -55,7 +59,7 @@ abbrev pub AreBoth : List Word → List Word → List Word → Type 0
 AreBoth words a b = (words ≡ a ++ b) ⊎ (words ≡ b ++ a)
 
 -- the words are options of the analysis, in any order, each at most once
-abbrev pub IsAnalyseOptions : List Word → Bool → ℕ → Type 0
+abbrev pub IsAnalyseOptions : List Word → Bool → Budget → Type 0
 IsAnalyseOptions words cert budget =
     (a : List Word) × (b : List Word) × IsFlag (codes "--cert") cert a × IsBudget budget b
     × AreBoth words a b

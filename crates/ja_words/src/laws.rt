@@ -6,6 +6,7 @@ ghost use Rattle.std.specs.Prelude.{Some, None};
 ghost use Rattle.ja_gen.specs.Generated.{max_number};
 ghost use Rattle.ja_words.specs.Words.{AsksFor, IsCommandLine, Word, max_budget};
 ghost use Rattle.ja_words.specs.Words.{max_steps};
+ghost use Rattle.ja_words.specs.declared.command.Budget.TheVariants.{Height, Visits};
 ghost use Rattle.ja_words.specs.declared.command.Command.{Command};
 ghost use Rattle.ja_words.specs.declared.command.Command.TheVariants.{Analyse, Check, Generate};
 ghost use Rattle.ja_words.specs.declared.command.Command.TheVariants.{Run};
@@ -19,7 +20,9 @@ pub fn words_ask_for_one_command()
 /// Each command has a command line, where its number is in range.
 pub fn commands_have_words()
     ensures analyse { (cert : Bool) (budget : ℕ) → 1 ≤ budget → budget ≤ max_budget
-        → (words : List Word) × IsCommandLine words (Analyse cert budget) }
+        → (words : List Word) × IsCommandLine words (Analyse cert (Visits budget)) }
+    ensures height { (cert : Bool)
+        → (words : List Word) × IsCommandLine words (Analyse cert Height) }
     ensures check { (words : List Word) × IsCommandLine words Check }
     ensures run { (steps : ℕ) → 1 ≤ steps → steps ≤ max_steps
         → (words : List Word) × IsCommandLine words (Run steps) }
@@ -28,18 +31,24 @@ pub fn commands_have_words()
 {}
 
 /// `analyse --budget=5 --cert` and `analyse --cert --budget 5` ask for a certificate and a budget
-/// of 5, `analyse` for neither, and `run --steps 7` for 7 steps. `run --steps 07`, `run --steps 0`,
-/// `analyse --cert --cert` and `check --cert` ask for nothing.
+/// of 5, `analyse` for neither, `analyse --budget height` and `analyse --budget=height` for the
+/// program's height, and `run --steps 7` for 7 steps. `run --steps 07`, `run --steps 0`,
+/// `run --steps height`, `analyse --cert --cert` and `check --cert` ask for nothing.
 pub fn examples_of_words()
     ensures attached { AsksFor (codes "analyse" ∷ codes "--budget=5" ∷ codes "--cert" ∷ [])
-        (Some (Analyse true 5)) }
+        (Some (Analyse true (Visits 5))) }
     ensures apart { AsksFor
         (codes "analyse" ∷ codes "--cert" ∷ codes "--budget" ∷ codes "5" ∷ [])
-        (Some (Analyse true 5)) }
-    ensures alone { AsksFor (codes "analyse" ∷ []) (Some (Analyse false 1000000)) }
+        (Some (Analyse true (Visits 5))) }
+    ensures alone { AsksFor (codes "analyse" ∷ []) (Some (Analyse false (Visits 1000000))) }
+    ensures height { AsksFor (codes "analyse" ∷ codes "--budget" ∷ codes "height" ∷ [])
+        (Some (Analyse false Height)) }
+    ensures height_attached { AsksFor (codes "analyse" ∷ codes "--budget=height" ∷ [])
+        (Some (Analyse false Height)) }
     ensures steps { AsksFor (codes "run" ∷ codes "--steps" ∷ codes "7" ∷ []) (Some (Run 7)) }
     ensures leading_zero { AsksFor (codes "run" ∷ codes "--steps" ∷ codes "07" ∷ []) None }
     ensures zero { AsksFor (codes "run" ∷ codes "--steps" ∷ codes "0" ∷ []) None }
+    ensures height_of_steps { AsksFor (codes "run" ∷ codes "--steps" ∷ codes "height" ∷ []) None }
     ensures twice { AsksFor (codes "analyse" ∷ codes "--cert" ∷ codes "--cert" ∷ []) None }
     ensures of_another { AsksFor (codes "check" ∷ codes "--cert" ∷ []) None }
 {}

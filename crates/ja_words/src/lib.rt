@@ -14,7 +14,7 @@ mod numbers;
 mod reading;
 mod words;
 
-pub use command::Command;
+pub use command::{Budget, Command};
 pub use laws::{
     commands_have_words, examples_of_numbers, examples_of_words, words_ask_for_one_command,
 };

@@ -1,11 +1,11 @@
 //! The command that clap's matches say.
 
-ghost use Rattle.std.specs.Prelude.{◌≡◌};
+ghost use Rattle.std.specs.Prelude.{◌≡◌, option_map};
 ghost use Rattle.clap.specs.Words.{found_of, rows_of, subcommand_rows_of};
-ghost use Rattle.ja_words.specs.code.Answers.{ReadsAnalyse, ReadsCommand, ReadsGenerate};
+ghost use Rattle.ja_words.specs.code.Answers.{ReadsAnalyse, ReadsBudget, ReadsCommand, ReadsGenerate};
 ghost use Rattle.ja_words.specs.code.Answers.{ReadsNamed, ReadsRun};
 
-use crate::command::Command;
+use crate::command::{Budget, Command};
 use crate::numbers::{number_in, number_of};
 use clap::ArgMatches;
 
@@ -23,11 +23,25 @@ const MAX_STEPS: u128 = 10_000_000;
 /// The greatest number of classes of a generated program.
 const MAX_NUMBER: u128 = 200;
 
+// The budget that is meant by the value that was given, if any. `None` where the value is neither a
+// number of visits nor the word `height`.
+fn budget_of(value: Option<&str>) -> Option<Budget>
+    ensures { ReadsBudget (option_map (λ word. word.now) value.entry) result }
+{
+    match value {
+        Some("height") => Some(Budget::Height),
+        _ => {
+            let visits = number_of(value, DEFAULT_BUDGET, MAX_BUDGET)?;
+            Some(Budget::Visits(visits))
+        }
+    }
+}
+
 // The analysis with these options.
 fn analyse(options: &ArgMatches<'_>) -> Option<Command>
     ensures { ReadsAnalyse (rows_of (found_of options.now)) result }
 {
-    let budget = number_of(options.get_str("budget"), DEFAULT_BUDGET, MAX_BUDGET)?;
+    let budget = budget_of(options.get_str("budget"))?;
     let cert = options.get_flag("cert");
     Some(Command::Analyse { cert, budget })
 }

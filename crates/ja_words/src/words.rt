@@ -43,8 +43,9 @@ fn matches_of<'a>(alloc: Global, words: &'a [String]) -> Result<Option<ArgMatche
 /// command in any order, each at most once: `--cert` and `--budget N` of `analyse`, `--steps N` of
 /// `run`, and `--number N` of `generate`, which is always there. N is the next word, or follows `=`
 /// in the same word; it is in decimal digits without a zero before them, for `--budget` from 1 to
-/// 2^128 - 1, for `--steps` from 1 to 10,000,000, for `--number` from 1 to 200. The first two are
-/// 1,000,000 where they aren't given. No help is offered, and no text about the version.
+/// 2^128 - 1, for `--steps` from 1 to 10,000,000, for `--number` from 1 to 200. That of `--budget`
+/// may be the word `height` instead. The first two are 1,000,000 where they aren't given. No help
+/// is offered, and no text about the version.
 ///
 /// `Err` comes only where memory is refused.
 pub fn asked(alloc: Global, words: &[String]) -> Result<Option<Command>, Memory>

@@ -17,12 +17,11 @@ use Rattle.ja_rules.specs.declared.table.ATable.{ATable}
 use Rattle.ja_rules.specs.declared.table.CallEdge.{CallEdge}
 use Rattle.ja_rules.specs.declared.table.ContextTable.{ContextTable}
 use Rattle.ja_rules.specs.declared.table.NodeTable.{NodeTable}
-use Rattle.ja_rules.specs.Tables.{table_of}
 use Rattle.ja_rules.specs.code.Entries.{demanded}
 
 -- no state at any of so many nodes
 abbrev pub no_nodes : ℕ → List NodeTable
-no_nodes count = replicate count (record { state = None; changed = 0; stepped = 0 })
+no_nodes count = replicate count (record { state = None })
 
 -- a context more, an edge more
 abbrev pub with_context : Table → Context → Table
@@ -73,8 +72,3 @@ pub record HasSameKeys (before after : ATable) : Type 0 where
 abbrev pub HasSameEdges : Item → ATable → ATable → Type 0
 HasSameEdges (Step x n) before after = Unit {0}
 HasSameEdges item before after = HasSameKeys before after
-
--- only times differ
-pub record HasSameMeaning (before after : ATable) : Type 0 where
-  pub keys : HasSameKeys before after
-  pub table : table_of after ≡ table_of before

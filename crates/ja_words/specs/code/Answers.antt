@@ -9,6 +9,8 @@ use Rattle.ja_gen.specs.Generated.{max_number}
 use Rattle.ja_words.specs.Words.{default_budget, default_steps, max_budget}
 use Rattle.ja_words.specs.Words.{max_steps}
 use Rattle.ja_words.specs.code.Apps.{tajs_app}
+use Rattle.ja_words.specs.declared.command.Budget.{Budget}
+use Rattle.ja_words.specs.declared.command.Budget.TheVariants.{Height, Visits}
 use Rattle.ja_words.specs.declared.command.Command.{Command}
 use Rattle.ja_words.specs.declared.command.Command.TheVariants.{Analyse, Check, Generate, Run}
 
@@ -40,8 +42,17 @@ abbrev pub SaysFlag : Option Text → Bool → Type 0
 SaysFlag text asked =
     (text ≡ Some (codes "true") → asked ≡ true) × (text ≡ Some (codes "false") → asked ≡ false)
 
-abbrev pub SaysBudget : List Row → ℕ → Type 0
-SaysBudget rows = SaysNumber default_budget max_budget (first_of (codes "budget") rows)
+-- the budget of an option, with the value that it was given, if any
+abbrev pub MeansBudget : Option Text → Budget → Type 0
+MeansBudget value (Visits number) = SaysNumber default_budget max_budget value number
+MeansBudget value Height = value ≡ Some (codes "height")
+
+abbrev pub ReadsBudget : Option Text → Option Budget → Type 0
+ReadsBudget value None = (budget : Budget) → MeansBudget value budget → ⊥
+ReadsBudget value (Some budget) = MeansBudget value budget
+
+abbrev pub SaysBudget : List Row → Budget → Type 0
+SaysBudget rows = MeansBudget (first_of (codes "budget") rows)
 
 abbrev pub SaysSteps : List Row → ℕ → Type 0
 SaysSteps rows = SaysNumber default_steps max_steps (first_of (codes "steps") rows)

@@ -10,7 +10,6 @@ returns-clause-fits c =
       context = c.args.own.now.context;
       nodes = c.args.own.now.nodes;
       entries = c.set.new.self;
-      changes = c.args.own.now.changes;
     })) c.set.result
     (λ _ e. record {
       context = c.requires.fits.context;

@@ -18,7 +18,7 @@ loop-point-preserved c =
     (front_next c.args.program.now c.args.function c.args.points.items _ c.in-Some.point
     (into_iter_items c.next.new.self) c.loop-point.nodes.items c.loop-point.invariant
     c.in-Some.ensures.steps.0)
-    c.in_ok-fill_up.ensures c.node.ensures c.in_ok-push.ensures.items
+    c.in_ok-fill_up.ensures c.new.ensures c.in_ok-push.ensures.items
 
 pub returns : goal.returns
 returns c =

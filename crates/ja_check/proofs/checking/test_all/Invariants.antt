@@ -2,7 +2,7 @@
 use Rattle.std.proofs.Common.{take}
 use Rattle.std.specs.Prelude.{All}
 use Rattle.ja_rules.specs.Tables.{table_of}
-use Rattle.ja_rules.specs.code.Rounds.{IsSettled}
+use Rattle.ja_rules.specs.code.Settled.{IsSettled}
 use Rattle.ja_check.proofs.checking.test_all.Given as goal
 
 abbrev pub invariant-loop-item : goal.invariant-loop-item

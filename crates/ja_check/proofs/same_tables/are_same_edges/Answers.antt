@@ -4,7 +4,7 @@ use Rattle.std.proofs.lemmas.Option.{slice_get-get_or}
 use Rattle.ja_base.specs.declared.ids.Context.{Context}
 use Rattle.ja_rows.specs.declared.table.Edge.{Edge}
 use Rattle.ja_rules.specs.declared.table.CallEdge.{CallEdge}
-use Rattle.ja_rules.proofs.Rounds.{same_at}
+use Rattle.ja_check.proofs.Lists.{same_at}
 use Rattle.ja_rules.proofs.Told.{told_none, told_some}
 use Rattle.ja_check.proofs.Lists.{same_all, same_next}
 use Rattle.ja_check.proofs.same_tables.are_same_edges.Goals as goal
@@ -21,8 +21,6 @@ no_context = record {
 abbrev no_edge : CallEdge
 no_edge = record {
   edge = record { caller = no_context; node = record { 0 = 0 }; callee = no_context };
-  filled = 0;
-  given_back = 0;
 }
 
 pub returns-then-not-is_same_edge : goal.returns-then-not-is_same_edge

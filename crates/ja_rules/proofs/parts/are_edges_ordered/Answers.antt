@@ -18,8 +18,6 @@ no_context = record {
 abbrev no_edge : CallEdge
 no_edge = record {
   edge = record { caller = no_context; node = record { 0 = 0 }; callee = no_context };
-  filled = 0;
-  given_back = 0;
 }
 
 pub loop-place-init : goal.loop-place-init

@@ -5,7 +5,7 @@ use Rattle.ja_rows.specs.Table.{Table}
 use Rattle.ja_rules.specs.declared.visits.Entry.{Entry}
 use Rattle.ja_rules.specs.Tables.{table_of}
 use Rattle.ja_rules.specs.code.Stepping.{with_entered, FitsEntered}
-use Rattle.ja_rules.proofs.Grows.{grown_both, grown_none}
+use Rattle.ja_height.proofs.Grows.{grown_both, grown_none}
 use Rattle.ja_rules.proofs.Visiting.{entered_grown, entries_keep}
 use Rattle.ja_rules.proofs.visits.take_entries.Goals as goal
 

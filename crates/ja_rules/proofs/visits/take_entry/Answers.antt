@@ -5,7 +5,7 @@ use Rattle.ja_aheap.specs.Objects.{demands_in}
 use Rattle.ja_astate.specs.State.{state_of}
 use Rattle.ja_rules.specs.Tables.{table_of}
 use Rattle.ja_rules.specs.code.Growing.{with_demands_at, with_edge, with_state_at}
-use Rattle.ja_rules.proofs.Grows.{grown_both, IsGrown}
+use Rattle.ja_height.proofs.Grows.{grown_both, IsGrown}
 use Rattle.ja_rules.proofs.NodeFacts.{first_node}
 use Rattle.ja_rules.proofs.Visiting.{context_grown, demands_grown, edge_grown, reached_more, reached_there, state_grown}
 use Rattle.ja_rules.proofs.visits.take_entry.Goals as goal
@@ -70,7 +70,7 @@ returns-clause-taken c =
     ∙ ap (λ (t : Table). with_demands_at t e.caller d) (c.in_ok-is_joined.ensures.joined
     ∙ ap (λ (t : Table). with_state_at t e.callee 0 a) c.in_ok-is_reached.ensures.added))
 
-grown : (c : goal.In_ok-is_called) → IsGrown (table_of c.args.table.now)
+grown : (c : goal.In_ok-note_edge) → IsGrown (table_of c.args.table.now)
     (table_of c.add_edge.new.self) (((c.in_ok-is_reached.is_reached
     || c.in_ok-is_joined.is_joined) || c.in_ok-is_demanded.is_demanded)
     || c.in_ok-is_called.is_called)

@@ -1,46 +1,34 @@
-use Rattle.std.proofs.Common.{subst, sym}
-use Rattle.ja_rows.specs.Table.{IsItem, Table}
-use Rattle.ja_rules.specs.Tables.{table_of}
-use Rattle.ja_rules.specs.Visits.{IsVisited}
-use Rattle.ja_rules.proofs.Lent.{fits_later}
-use Rattle.ja_rules.proofs.Rounds.{edges_after, edges_later}
 use Rattle.ja_rules.proofs.visits.visit.Goals as goal
 
-pub take-requires-clause-fits : goal.take-requires-clause-fits
-take-requires-clause-fits c = c.set_visited.ensures.fits c.args.program.now c.requires.fits
+pub visit_step-requires-clause-item : goal.visit_step-requires-clause-item
+visit_step-requires-clause-item c = rw c.in-Step.is at c.requires.item
 
-pub take-requires-clause-item : goal.take-requires-clause-item
-take-requires-clause-item c =
-    subst (λ (t : Table). IsItem c.args.program.now t c.args.item)
-    (sym c.set_visited.ensures.meaning.table) c.requires.item
+pub visit_fill-requires-clause-item : goal.visit_fill-requires-clause-item
+visit_fill-requires-clause-item c = rw c.in-Fill.is at c.requires.item
 
-pub returns-in_err-changed-clause-edges : goal.returns-in_err-changed-clause-edges
-returns-in_err-changed-clause-edges c =
-    edges_after c.args.item c.args.table.now c.set_visited.new.self c.take.new.table
-    c.set_visited.ensures.meaning.keys c.take.ensures.edges
+pub visit_back-requires-clause-item : goal.visit_back-requires-clause-item
+visit_back-requires-clause-item c = rw c.in-Back.is at c.requires.item
 
-pub returns-then-changed-clause-visited : goal.returns-then-changed-clause-visited
-returns-then-changed-clause-visited c =
-    subst (λ (t : Table). IsVisited c.args.program.now c.args.item t (table_of c.take.new.table)
-    c.in_ok-changed.changed) c.set_visited.ensures.meaning.table c.in_ok-changed.ensures.visited
+pub returns-in-Open-clause-visited : goal.returns-in-Open-clause-visited
+returns-in-Open-clause-visited c = rw c.in-Open.is c.visit_open.ensures.visited
 
-pub returns-then-changed-clause-edges : goal.returns-then-changed-clause-edges
-returns-then-changed-clause-edges c =
-    edges_later c.args.item c.args.table.now c.take.new.table c.saturating_add-table.result
-    (edges_after c.args.item c.args.table.now c.set_visited.new.self c.take.new.table
-    c.set_visited.ensures.meaning.keys c.take.ensures.edges)
+pub returns-in-Open-clause-edges : goal.returns-in-Open-clause-edges
+returns-in-Open-clause-edges c = rw c.in-Open.is c.visit_open.ensures.kept
 
-pub returns-then-changed-clause-fits : goal.returns-then-changed-clause-fits
-returns-then-changed-clause-fits c =
-    fits_later c.args.program.now c.take.new.table c.saturating_add-table.result
-    c.in_ok-changed.ensures.fits
+pub returns-in-Step-clause-visited : goal.returns-in-Step-clause-visited
+returns-in-Step-clause-visited c = rw c.in-Step.is c.visit_step.ensures.visited
 
-pub returns-else-changed-clause-visited : goal.returns-else-changed-clause-visited
-returns-else-changed-clause-visited c =
-    subst (λ (t : Table). IsVisited c.args.program.now c.args.item t (table_of c.take.new.table)
-    c.in_ok-changed.changed) c.set_visited.ensures.meaning.table c.in_ok-changed.ensures.visited
+pub returns-in-Step-clause-edges : goal.returns-in-Step-clause-edges
+returns-in-Step-clause-edges c = rw c.in-Step.is tt
 
-pub returns-else-changed-clause-edges : goal.returns-else-changed-clause-edges
-returns-else-changed-clause-edges c =
-    edges_after c.args.item c.args.table.now c.set_visited.new.self c.take.new.table
-    c.set_visited.ensures.meaning.keys c.take.ensures.edges
+pub returns-in-Fill-clause-visited : goal.returns-in-Fill-clause-visited
+returns-in-Fill-clause-visited c = rw c.in-Fill.is c.visit_fill.ensures.visited
+
+pub returns-in-Fill-clause-edges : goal.returns-in-Fill-clause-edges
+returns-in-Fill-clause-edges c = rw c.in-Fill.is c.visit_fill.ensures.kept
+
+pub returns-in-Back-clause-visited : goal.returns-in-Back-clause-visited
+returns-in-Back-clause-visited c = rw c.in-Back.is c.visit_back.ensures.visited
+
+pub returns-in-Back-clause-edges : goal.returns-in-Back-clause-edges
+returns-in-Back-clause-edges c = rw c.in-Back.is c.visit_back.ensures.kept

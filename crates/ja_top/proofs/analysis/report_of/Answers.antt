@@ -1,4 +1,4 @@
-use Rattle.std.proofs.Common.{◌≡◌, subst}
+use Rattle.std.proofs.Common.{◌≡◌, ◌≤◌, length, subst}
 use Rattle.ja_top.specs.declared.status.Status.{Status}
 use Rattle.ja_top.specs.Analyses.{IsAnalysed, Reports}
 use Rattle.ja_top.specs.code.Statuses.{status_of}
@@ -17,7 +17,9 @@ returns c =
       visits = c.args.solved.now.visits;
       printed = cc (c.in_ok-text.ensures, c.as_slice.ensures);
       built = c.requires.solved.built;
-      few = c.requires.solved.few;
+      few =
+          subst (λ n. length c.args.solved.now.visits ≤ n) c.requires.budget
+          c.requires.solved.few;
       sound = record {
         closed = c.requires.solved.closed;
         exact = c.in_ok-warnings.ensures.warnings;

@@ -1,5 +1,6 @@
 -- Computed, and what a number is written as.
-use Rattle.ja_words.proofs.Examples.{alone, apart, attached, leading_zero, seven_steps}
+use Rattle.ja_words.proofs.Examples.{alone, apart, attached, height, height_attached, height_of_steps}
+use Rattle.ja_words.proofs.Examples.{leading_zero, seven_steps}
 use Rattle.ja_words.proofs.Examples.{zero_of_steps}
 use Rattle.ja_words.proofs.laws.examples_of_words.Goals as goal
 
@@ -11,6 +12,15 @@ returns-clause-apart c = apart
 
 pub returns-clause-alone : goal.returns-clause-alone
 returns-clause-alone c = alone
+
+pub returns-clause-height : goal.returns-clause-height
+returns-clause-height c = height
+
+pub returns-clause-height_attached : goal.returns-clause-height_attached
+returns-clause-height_attached c = height_attached
+
+pub returns-clause-height_of_steps : goal.returns-clause-height_of_steps
+returns-clause-height_of_steps c = λ command line. height_of_steps command line
 
 pub returns-clause-steps : goal.returns-clause-steps
 returns-clause-steps c = seven_steps

@@ -11,11 +11,11 @@ returns-in_err-budget c =
     let found = found_of c.args.options.now in
     subst (λ (r : Option Command). ReadsAnalyse (rows_of found) r) (sym c.from_residual.ensures)
     (no_budget found (option_map (λ (s : Bor (List ℕ)). s.now) c.get_str.result) c.get_str.ensures
-    c.in_err-budget.ensures.number)
+    c.in_err-budget.ensures)
 
 pub returns : goal.returns
 returns c =
     analyse_read (found_of c.args.options.now)
     (option_map (λ (s : Bor (List ℕ)). s.now) c.get_str.result)
-    c.in_ok-budget.budget c.get_flag-cert.result c.get_str.ensures c.in_ok-budget.ensures.number
+    c.in_ok-budget.budget c.get_flag-cert.result c.get_str.ensures c.in_ok-budget.ensures
     c.get_flag-cert.ensures.value c.get_flag-cert.ensures.other

@@ -11,7 +11,7 @@ use Rattle.ja_transfer.specs.Outcomes.{given_by}
 use Rattle.ja_rules.specs.Tables.{table_of}
 use Rattle.ja_rules.specs.code.Growing.{with_states_at}
 use Rattle.ja_rules.proofs.Demands.{rose, stayed}
-use Rattle.ja_rules.proofs.Grows.{Grows, grows_both, grows_equal, grows_same}
+use Rattle.ja_height.proofs.Grows.{Grows, grows_both, grows_equal, grows_same}
 use Rattle.ja_rules.proofs.SameMeaning.{grows_state, keys_both, keys_same}
 use Rattle.ja_rules.proofs.table.ATable.join_states.Goals as goal
 
@@ -36,6 +36,11 @@ loop-node-init c =
       changed = λ e. absurd (false≢true e);
       same = λ e. refl;
     }
+
+pub returns-in_err-note_state-clause-kept : goal.returns-in_err-note_state-clause-kept
+returns-in_err-note_state-clause-kept c =
+    keys_both c.args.self.now c.loop-node.self c.join_state.new.self c.loop-node.invariant.kept
+    c.join_state.ensures.kept
 
 pub loop-node-preserved : goal.loop-node-preserved
 loop-node-preserved c =

@@ -9,7 +9,7 @@ use Rattle.ja_astate.specs.State.{IsStateOf}
 use Rattle.ja_transfer.specs.Outcomes.{given_by}
 use Rattle.ja_rules.specs.Tables.{table_of, Fits}
 use Rattle.ja_rules.specs.code.Growing.{with_states_at, HasSameKeys}
-use Rattle.ja_rules.proofs.Grows.{Grows}
+use Rattle.ja_height.proofs.Grows.{Grows}
 use Rattle.ja_rules.proofs.table.ATable.join_states.Given as goal
 
 abbrev pub invariant-loop-node : goal.invariant-loop-node

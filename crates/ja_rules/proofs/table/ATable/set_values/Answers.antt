@@ -4,12 +4,16 @@ use Rattle.ja_flow.specs.code.Pairs.{with_set}
 use Rattle.ja_rules.specs.Tables.{table_of}
 use Rattle.ja_rules.proofs.EntryUpdates.{fits_entries, fits_pairs, set_pairs}
 use Rattle.ja_rules.proofs.ReachedContexts.{unreached, own_entry, own_fits, other_keys, other_fits, entries_set}
+use Rattle.ja_rules.proofs.SameMeaning.{keys_same}
 use Rattle.ja_rules.proofs.table.ATable.set_values.Goals as goal
 
 pub unreachable-requires : goal.unreachable-requires
 unreachable-requires c =
     unreached c.args.self.now c.args.context c.requires.ordered c.requires.context
     c.in_default.ensures.found
+
+pub returns-in_err-note_values-clause-kept : goal.returns-in_err-note_values-clause-kept
+returns-in_err-note_values-clause-kept c = keys_same c.args.self.now
 
 pub returns-in_err-changed-clause-kept : goal.returns-in_err-changed-clause-kept
 returns-in_err-changed-clause-kept c =
@@ -44,6 +48,6 @@ returns-clause-fits c p are fits =
     c.index_mut-own.ensures.value p fits in
     other_fits c.args.self.now c.args.context c.in-Some.place c.index_mut-own.result.now
     c.requires.ordered c.in-Some.ensures.found c.in-Some.ensures.within
-    c.index_mut-own.ensures.value _ refl p _ refl refl fits (fits_entries p own c.set_values.new.entries _ own_fit
+    c.index_mut-own.ensures.value _ refl p _ refl refl fits (fits_entries p own c.set_values.new.entries own_fit
     (set_pairs p (entries_of own.entries) (entries_of c.set_values.new.entries)
     c.args.values.items c.in_ok-changed.ensures.set (fits_pairs p own own_fit) are))

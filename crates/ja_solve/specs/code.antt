@@ -1,0 +1,2 @@
+-- What clauses of the code cite, and no believed statement.
+pub mod Sweeps

@@ -1,0 +1,6 @@
+-- By the cause of each status.
+use Rattle.ja_top.proofs.Complete.{complete}
+use Rattle.ja_top.proofs.laws.answers_are_complete.Goals as goal
+
+pub returns : goal.returns
+returns c = λ call w status all is. complete call w all status is
